@@ -56,3 +56,9 @@ blank Alphanumeric = 0x40
 -- the storage of a record before the first move
 abbrev pub initial_storage : List Item → List ℕ
 initial_storage items = flat_map (λ item. replicate item.length (blank item.category)) items
+
+-- a plan: a conversion, the storage that its output records begin from, and how many bytes its input records have
+pub record IsPrepared (conversion : Conversion) (image : List ℕ) (size : ℕ) : Type 0 where
+  pub sound : IsConversion conversion
+  pub begins : image ≡ initial_storage conversion.out_items
+  pub comes : size ≡ record_length conversion.in_items
