@@ -1,5 +1,5 @@
 -- The two tables of the code are the published table in its two directions.
-use Rattle.std.proofs.Common.{◌≡◌, ◌≢◌, ◌⊎◌, inl, inr, ℕ, ◌+◌, ◌<◌, ◌&&◌, ◌||◌, ◌==◌, nat_lt, ◌∙◌, sym, ap, subst, Bool, true, false, IsTrue, List, [], ◌∷◌, length, get_or, refl, arith, zero, suc}
+use Rattle.std.proofs.Common.{◌≡◌, ◌⊎◌, inl, inr, ℕ, ◌+◌, ◌<◌, ◌&&◌, ◌||◌, ◌==◌, nat_lt, ◌∙◌, sym, ap, Bool, true, false, List, [], ◌∷◌, get_or, refl, arith, zero, suc}
 use Rattle.std.proofs.lemmas.Bool.Decides.{nat_tests}
 use Rattle.std.specs.List.{list_all}
 use Rattle.cob_cp037.specs.Table.{table, IsPairOf, IsCoded, TableIsOneToOne}

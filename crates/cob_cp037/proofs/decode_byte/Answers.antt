@@ -1,4 +1,4 @@
-use Rattle.std.proofs.Common.{◌≡◌, ◌<◌, ap, Some, arith}
+use Rattle.std.proofs.Common.{ap, Some, arith}
 use Rattle.cob_cp037.proofs.decode_byte.Goals as goal
 
 pub returns-in-0-clause-only : goal.returns-in-0-clause-only

@@ -1,4 +1,4 @@
-use Rattle.std.proofs.Common.{◌≡◌, ◌≢◌, ◌<◌, ℕ, length, IsTrue, true, refl, arith, below_more, get_or, get_or-set_other, get_or-set_same}
+use Rattle.std.proofs.Common.{◌≢◌, ◌<◌, length, refl, arith, below_more, get_or-set_other, get_or-set_same}
 use Rattle.cob_cp037.specs.Table.{HaveCodes}
 use Rattle.cob_cp037.proofs.encode_into.Goals as goal
 

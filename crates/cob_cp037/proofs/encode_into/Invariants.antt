@@ -1,4 +1,4 @@
-use Rattle.std.proofs.Common.{ℕ, ◌≡◌, ◌<◌, get_or, length}
+use Rattle.std.proofs.Common.{ℕ, ◌<◌, get_or}
 use Rattle.cob_cp037.specs.Table.{IsCoded}
 use Rattle.cob_cp037.proofs.encode_into.Given as goal
 

@@ -1,5 +1,4 @@
-use Rattle.std.proofs.Common.{◌≡◌, ◌<◌, ℕ, length, IsTrue, false, arith, below_more, refl, get_or}
-use Rattle.cob_cp037.specs.Table.{HaveCodes}
+use Rattle.std.proofs.Common.{◌<◌, length, arith, below_more, refl}
 use Rattle.cob_cp037.proofs.have_codes.Goals as goal
 
 pub returns-then-byte_of-eq0 : goal.returns-then-byte_of-eq0
