@@ -26,8 +26,9 @@ fn move_characters(sent: &[u8], received: &mut [u8])
     ensures { received.new ≡ characters (length received.old) sent.now }
 {
     let count = sent.len().min(received.len());
-    received[..count].copy_from_slice(&sent[..count]);
-    received[count..].fill(SPACE);
+    let (front, tail) = received.split_at_mut(count);
+    front.copy_from_slice(&sent[..count]);
+    tail.fill(SPACE);
 }
 
 /// Moves a number: its digits aligned by the point, in zone F.

@@ -107,6 +107,7 @@ impl Plan {
     }
 
     /// How many bytes an output record has.
+    #[tactic(auto, using(crate::proofs::RecordLemmas::initial_length))]
     pub fn out_length(&self) -> u16
         ensures value { result ≡ record_length self.now.out_items }
         ensures some { 0 < result }

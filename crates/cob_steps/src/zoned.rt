@@ -1,6 +1,6 @@
 //! Unsigned whole numbers in zoned form: a byte for each digit, with the digit in its low half and a zone in its high half.
 
-ghost use Rattle.std.specs.Prelude.{◌≡◌, ◌≢◌, ℕ, ◌+◌, ◌*◌, ◌<◌, ◌≤◌, List, length, IfSome, IfNone};
+ghost use Rattle.std.specs.Prelude.{◌≡◌, ◌≢◌, ℕ, ◌+◌, ◌*◌, ◌<◌, ◌≤◌, List, length, IsTrue, ◌↔◌, IfSome, IfNone};
 ghost use Rattle.cob_decimal.specs.Decimal.{IsDigits};
 ghost use Rattle.cob_steps.specs.Steps.{IsUnsignedZone, Represents, zoned};
 
@@ -20,15 +20,24 @@ fn front_digit(byte: u8) -> Option<u8>
     }
 }
 
+/// Whether an unsigned item may have this zone in its last byte.
+#[tactic(auto, using(crate::proofs::ZonedLemmas::zone_is, crate::proofs::ZonedLemmas::is_zone))]
+fn is_unsigned_zone(zone: u8) -> bool
+    ensures { IsTrue result ↔ IsUnsignedZone zone }
+{
+    matches!(zone, 0xA | 0xC | 0xE | 0xF)
+}
+
 /// The digit of the last byte: its zone is one of those that an unsigned item may have.
 fn last_digit(byte: u8) -> Option<u8>
     ensures found { IfSome result (λ digit. (zone : ℕ) × IsUnsignedZone zone × (digit < 10) × (byte ≡ 16 * zone + digit)) }
     ensures only { IfNone result ((zone digit : ℕ) → IsUnsignedZone zone → digit < 10 → byte ≢ 16 * zone + digit) }
 {
     let digit = byte % 16;
-    match byte / 16 {
-        0xA | 0xC | 0xE | 0xF if digit < 10 => Some(digit),
-        _ => None,
+    if digit < 10 && is_unsigned_zone(byte / 16) {
+        Some(digit)
+    } else {
+        None
     }
 }
 

@@ -1,0 +1,3 @@
+pub mod ZonedLemmas
+pub mod RecordLemmas
+pub mod MoveLemmas
