@@ -1,5 +1,5 @@
 -- Streams are cut into records in one way.
-use Rattle.std.proofs.Common.{◌≡◌, ℕ, ◌+◌, ◌/◌, ◌%◌, ◌<◌, ◌≤◌, ◌⊎◌, inl, inr, false, List, [], ◌∷◌, ◌++◌, length, take, None, Some, Option, Ok, Err, Result, refl, sym, ap, ◌∙◌, arith}
+use Rattle.std.proofs.Common.{◌≡◌, ℕ, ◌+◌, ◌/◌, ◌%◌, ◌<◌, ◌≤◌, ◌⊎◌, inl, inr, false, List, [], ◌∷◌, ◌++◌, length, take, None, Some, Ok, Err, refl, sym, ap, ◌∙◌, arith}
 use Rattle.std.proofs.Math.ListN.{length-append}
 use Rattle.std.proofs.Math.Seq.{take-append_seam}
 use Rattle.std.proofs.lemmas.Bool.Decides.{nat_tests}
@@ -9,7 +9,7 @@ use Rattle.cob_records.specs.declared.records.Form.TheVariants.{Fixed, Variable}
 use Rattle.cob_records.specs.declared.records.RecordFault.{RecordFault}
 use Rattle.cob_records.specs.declared.records.RecordFault.TheVariants.{Truncated, Descriptor, Spanned, Length, ReadFailed}
 use Rattle.cob_records.specs.Frame.{framed, IsRecord, IsCut, Reads, Refuses, descriptor, refusal, is_read_failure}
-use Rattle.cob_records.specs.Unique.{FramesAreOne, FramesReadBack, ReadingIsOne, record_in}
+use Rattle.cob_records.specs.Unique.{FramesAreOne, FramesReadBack, ReadingIsOne}
 
 -- two lists of one length that begin the same list are one
 pub same_fronts : (a b xs ys : List ℕ) → length a ≡ length b → a ++ xs ≡ b ++ ys → (a ≡ b) × (xs ≡ ys)

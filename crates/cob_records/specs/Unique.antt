@@ -1,5 +1,5 @@
 -- A stream is cut into records in one way: its bytes decide each answer of a reader, as long as no read fails.
-use Rattle.std.specs.Prelude.{◌≡◌, ℕ, ◌<◌, ◌≤◌, false, List, [], ◌++◌, length, take, None, Some, Option, Ok, Err, Result}
+use Rattle.std.specs.Prelude.{◌≡◌, ℕ, ◌<◌, ◌≤◌, false, List, [], ◌++◌, length, take, Some, Option, Ok, Result}
 use Rattle.cob_records.specs.declared.records.Form.{Form}
 use Rattle.cob_records.specs.declared.records.RecordFault.{RecordFault}
 use Rattle.cob_records.specs.Frame.{framed, IsRecord, Reads, is_read_failure}

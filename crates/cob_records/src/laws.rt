@@ -5,19 +5,16 @@ ghost use Rattle.cob_records.specs.Unique.{FramesAreOne, FramesReadBack, Reading
 /// a stream is cut into records in one way.
 pub fn frames_are_one()
     ensures { FramesAreOne }
-{
-}
+{}
 
 /// The bytes of a stream decide what is read from them: where no read failed, two calls of
 /// `next_record` on the same bytes have one answer, leave one record, and stop at one place.
 pub fn reading_is_one()
     ensures { ReadingIsOne }
-{
-}
+{}
 
 /// What `put_record` wrote, `next_record` reads back: where a record's frame comes first, it is the
 /// record that is read, unless a read failed.
 pub fn frames_read_back()
     ensures { FramesReadBack }
-{
-}
+{}

@@ -1,0 +1,6 @@
+-- An interrupted flush changed nothing that the writer holds.
+use Rattle.std.specs.Io.KnownBytes.{Keeps}
+use Rattle.cob_records.proofs.streams.flush_retrying.Given as goal
+
+abbrev pub invariant-loop : goal.invariant-loop
+invariant-loop g l = Keeps (g.W.Write.contents l.initial.writer) (g.W.Write.contents l.writer)
