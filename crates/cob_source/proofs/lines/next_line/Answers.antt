@@ -1,0 +1,17 @@
+use Rattle.std.proofs.Common.{◌≡◌, ℕ, List, ◌∷◌, length, take, drop, sym, ap, subst, ◌∙◌}
+use Rattle.std.specs.List.{AllByRecursion}
+use Rattle.std.proofs.lemmas.List.{nil_from_length}
+use Rattle.cob_source.specs.Lines.{lines, cut_return}
+use Rattle.cob_source.proofs.LineLemmas.{first_line, only_line}
+use Rattle.cob_source.proofs.lines.next_line.Goals as goal
+
+pub returns-in-Some-clause-line : goal.returns-in-Some-clause-line
+returns-in-Some-clause-line c =
+    first_line c.args.text.now c.line_len.result _ _ c.line_len.ensures.none c.line_len.ensures.feed (sym c.split_at.ensures.back ∙ c.in-Some.ensures.cases.0)
+    ∙ ap (λ (l : List ℕ). l ∷ lines c.in-Some.more.now) (sym (c.without_return.ensures ∙ ap cut_return c.split_at.ensures.front))
+
+pub returns-in-None-clause-line : goal.returns-in-None-clause-line
+returns-in-None-clause-line c =
+    only_line c.args.text.now c.line_len.result c.line_len.ensures.none (sym c.split_at.ensures.back ∙ nil_from_length _ c.in-None.ensures.cases) c.requires
+    ∙ ap (λ (l : List ℕ). l ∷ lines (drop c.line_len.result c.args.text.now)) (sym c.split_at.ensures.front)
+    ∙ ap (λ (l : List ℕ). c.split_at.result.0.now ∷ lines l) (sym c.split_at.ensures.back)

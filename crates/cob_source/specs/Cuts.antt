@@ -1,0 +1,117 @@
+-- How a joined text is cut into words, literals and stops.
+use Rattle.std.specs.Prelude.{◌≡◌, ◌≢◌, ℕ, ◌-◌, ◌<◌, Bool, true, false, not, ◌==◌, ◌||◌, if◌then◌else◌, List, [], ◌∷◌, ◌++◌, length, map, take, slice_index_or, Option, Some, None}
+use Rattle.std.specs.List.{AllByRecursion}
+use Rattle.std.specs.Char.{to_ascii_uppercase}
+use Rattle.cob_source.specs.declared.token.Cell.{Cell}
+use Rattle.cob_source.specs.declared.token.Kind.TheVariants.{Word, Literal, Stop}
+use Rattle.cob_source.specs.Tokens.{Lexeme}
+
+-- a quotation mark or an apostrophe
+abbrev pub is_quote : ℕ → Bool
+is_quote b = (b == 34) || (b == 39)
+
+-- a space or the end of a line
+abbrev pub is_gap : ℕ → Bool
+is_gap b = (b == 32) || (b == 10)
+
+-- a character of a word: neither a space, nor a line's end, nor a quote
+abbrev pub is_plain : ℕ → Bool
+is_plain b = not (is_gap b || is_quote b)
+
+abbrev pub IsPlain : Cell → Type 0
+IsPlain c = is_plain c.byte ≡ true
+
+-- the quote of the literal that is open behind one more character, if one is: a quote opens a literal, and the same quote
+-- closes it, so that a doubled quote closes and opens it again
+abbrev pub open_with : Option ℕ → ℕ → Option ℕ
+open_with None b = if is_quote b then Some b else None
+open_with (Some q) b = if b == q then None else Some q
+
+abbrev pub open_from : Option ℕ → List Cell → Option ℕ
+open_from q [] = q
+open_from q (c ∷ cells) = open_from (open_with q c.byte) cells
+
+-- the quote of the literal that is open at the end of these characters, if one is
+abbrev pub open_quote : List Cell → Option ℕ
+open_quote cells = open_from None cells
+
+-- this quote doesn't come first
+abbrev pub NotFirst : ℕ → List Cell → Type 0
+NotFirst q [] = Unit {0}
+NotFirst q (c ∷ rest) = c.byte ≢ q
+
+-- what stands behind an opening quote up to the closing one, and the characters that it means: a doubled quote is one
+pub data Body : ℕ → List Cell → List ℕ → Type 0 where
+  Close : {q : ℕ} {cells : List Cell} {text : List ℕ} (c : Cell) → cells ≡ c ∷ [] → c.byte ≡ q → text ≡ [] → Body q cells text
+  One : {q : ℕ} {cells rest : List Cell} {text more : List ℕ} (c : Cell) → cells ≡ c ∷ rest → c.byte ≢ q → text ≡ c.byte ∷ more → Body q rest more → Body q cells text
+  Two : {q : ℕ} {cells rest : List Cell} {text more : List ℕ} (c d : Cell) → cells ≡ c ∷ (d ∷ rest) → c.byte ≡ q → d.byte ≡ q → text ≡ q ∷ more → Body q rest more → Body q cells text
+
+-- a piece of a text: a space or a line's end, characters between these and quotes, or a literal: its quote, what is behind it,
+-- and the characters that it means
+pub data Piece : Type 0 where
+  Gap : Cell → Piece
+  Chunk : List Cell → Piece
+  Quoted : Cell → List Cell → List ℕ → Piece
+
+abbrev pub spelled : Piece → List Cell
+spelled (Gap c) = c ∷ []
+spelled (Chunk cs) = cs
+spelled (Quoted o inside text) = o ∷ inside
+
+abbrev pub IsPiece : Piece → Type 0
+IsPiece (Gap c) = is_gap c.byte ≡ true
+IsPiece (Chunk cs) = (0 < length cs) × AllByRecursion IsPlain cs
+IsPiece (Quoted o inside text) = (is_quote o.byte ≡ true) × Body o.byte inside text
+
+abbrev pub plain_first : List Cell → Bool
+plain_first [] = false
+plain_first (c ∷ rest) = is_plain c.byte
+
+abbrev pub quote_first : List Cell → Bool
+quote_first [] = false
+quote_first (c ∷ rest) = is_quote c.byte
+
+-- a piece goes as far as it can
+abbrev pub Follows : Piece → List Cell → Type 0
+Follows (Gap c) rest = Unit {0}
+Follows (Chunk cs) rest = plain_first rest ≡ false
+Follows (Quoted o inside text) rest = NotFirst o.byte rest
+
+-- a word is read in capitals
+abbrev pub word_text : List Cell → List ℕ
+word_text cells = map (λ c. to_ascii_uppercase c.byte) cells
+
+-- the word of these characters, if there are any
+abbrev pub word : List Cell → List Lexeme
+word [] = []
+word (c ∷ cs) = record { kind = Word; text = word_text (c ∷ cs); line = c.line; column = c.column } ∷ []
+
+abbrev pub stop : Cell → List Lexeme
+stop c = record { kind = Stop; text = c.byte ∷ []; line = c.line; column = c.column } ∷ []
+
+-- a literal is its characters without quotes, as they stand
+abbrev pub literal : Cell → List ℕ → List Lexeme
+literal o text = record { kind = Literal; text = text; line = o.line; column = o.column } ∷ []
+
+-- before a space or a line's end one sign is taken off a word: a comma or a semicolon separates, a period is a stop
+abbrev pub with_sign : List Cell → Cell → List Lexeme
+with_sign front last =
+    if (last.byte == 44) || (last.byte == 59) then word front else
+    if last.byte == 46 then word front ++ stop last else word (front ++ last ∷ [])
+
+abbrev pub nowhere : Cell
+nowhere = record { byte = 0; line = 0; column = 0 }
+
+abbrev pub signed : List Cell → List Lexeme
+signed cs = with_sign (take (length cs - 1) cs) (slice_index_or cs (length cs - 1) nowhere)
+
+-- what a piece means, before this rest: a word that a quote ends keeps its last sign
+abbrev pub lexemes_of : Piece → List Cell → List Lexeme
+lexemes_of (Gap c) rest = []
+lexemes_of (Chunk cs) rest = if quote_first rest then word cs else signed cs
+lexemes_of (Quoted o inside text) rest = literal o text
+
+-- the text is cut into these words, literals and stops
+pub data Cuts : List Cell → List Lexeme → Type 0 where
+  End : {cells : List Cell} {ts : List Lexeme} → cells ≡ [] → ts ≡ [] → Cuts cells ts
+  Then : {cells rest : List Cell} {ts more : List Lexeme} (p : Piece) → IsPiece p → Follows p rest → cells ≡ spelled p ++ rest → ts ≡ lexemes_of p rest ++ more → Cuts rest more → Cuts cells ts

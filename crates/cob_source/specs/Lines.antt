@@ -1,0 +1,154 @@
+-- The lines of a text, and the one text that they are joined to.
+use Rattle.std.specs.Prelude.{◌≡◌, ◌≢◌, ℕ, ◌+◌, ◌-◌, ◌<◌, ◌≤◌, Bool, true, false, ◌==◌, ◌||◌, ◌&&◌, not, nat_lt, if◌then◌else◌, List, [], ◌∷◌, ◌++◌, length, take, drop, replicate, slice_index_or, codes, Option, Some, None, is_some}
+use Rattle.std.specs.List.{list_all, list_any, prefix_len}
+use Rattle.std.specs.Char.{to_ascii_uppercase}
+use Rattle.cob_source.specs.declared.token.Cell.{Cell}
+use Rattle.cob_source.specs.declared.lines.LineKind.{LineKind}
+use Rattle.cob_source.specs.declared.lines.LineKind.TheVariants.{Skipped, Plain, Continuation}
+use Rattle.cob_source.specs.Cuts.{is_quote, open_quote}
+
+abbrev pub feed_first : List ℕ → Bool
+feed_first [] = false
+feed_first (b ∷ bs) = b == 10
+
+-- the lines with this character before their first one
+abbrev pub led_by : ℕ → List (List ℕ) → List (List ℕ)
+led_by b [] = (b ∷ []) ∷ []
+led_by b (line ∷ more) = (b ∷ line) ∷ more
+
+-- the lines of a text without their ends: a line feed ends a line, one carriage return directly before it belongs to the end,
+-- and the last line may lack its end
+abbrev pub lines : List ℕ → List (List ℕ)
+lines [] = []
+lines (b ∷ bs) =
+    let more = lines bs in
+    if b == 10 then [] ∷ more else
+    if (b == 13) && feed_first bs then more else led_by b more
+
+-- nothing is left, or a line feed comes first
+abbrev pub FeedFirst : List ℕ → Type 0
+FeedFirst [] = Unit {0}
+FeedFirst (b ∷ bs) = b ≡ 10
+
+abbrev pub is_empty : List ℕ → Bool
+is_empty [] = true
+is_empty (b ∷ bs) = false
+
+-- without one carriage return at the end
+abbrev pub cut_return : List ℕ → List ℕ
+cut_return [] = []
+cut_return (b ∷ bs) = if (b == 13) && is_empty bs then [] else b ∷ cut_return bs
+
+-- what is written in columns 8 to 72
+abbrev pub written : List ℕ → List ℕ
+written line = drop 7 (take 72 line)
+
+-- the 65 columns from 8 to 72: a line that is shorter is filled with spaces
+abbrev pub area : List ℕ → List ℕ
+area line = written line ++ replicate (65 - length (written line)) 32
+
+-- column 7; a line that doesn't reach it has a space there
+abbrev pub indicator : List ℕ → ℕ
+indicator line = slice_index_or line 6 32
+
+-- an asterisk, a slash, or D in either case makes a comment of a line
+abbrev pub is_comment : ℕ → Bool
+is_comment i = (i == 42) || (i == 47) || (i == 68) || (i == 100)
+
+abbrev pub is_blank : List ℕ → Bool
+is_blank bs = list_all (λ b. b == 32) bs
+
+-- how many spaces stand in front
+abbrev pub spaces : List ℕ → ℕ
+spaces bs = prefix_len (λ b. b == 32) bs
+
+abbrev pub behind_spaces : List ℕ → List ℕ
+behind_spaces bs = drop (spaces bs) bs
+
+-- the same letters, where the second are capitals
+abbrev pub same_letters : List ℕ → List ℕ → Bool
+same_letters [] [] = true
+same_letters [] (c ∷ cs) = false
+same_letters (b ∷ bs) [] = false
+same_letters (b ∷ bs) (c ∷ cs) = (to_ascii_uppercase b == c) && same_letters bs cs
+
+-- a word that only arranges a printed listing
+abbrev pub is_listing_word : List ℕ → Bool
+is_listing_word w = same_letters w (codes "EJECT") || same_letters w (codes "SKIP1") || same_letters w (codes "SKIP2") || same_letters w (codes "SKIP3")
+
+-- nothing, or one period
+abbrev pub is_period_or_nothing : List ℕ → Bool
+is_period_or_nothing [] = true
+is_period_or_nothing (b ∷ bs) = (b == 46) && is_blank bs
+
+-- only such a word, with or without a period
+abbrev pub is_listing : List ℕ → Bool
+is_listing bs = let w = behind_spaces bs in is_listing_word (take 5 w) && is_period_or_nothing (behind_spaces (drop 5 w))
+
+-- the kind of a line by its indicator and what is written in columns 8 to 72
+abbrev pub kind_by : ℕ → List ℕ → LineKind
+kind_by i text =
+    if is_comment i || is_blank text then Skipped else
+    if i == 45 then Continuation else
+    if (i == 32) && not (is_listing text) then Plain else Skipped
+
+abbrev pub kind_of : List ℕ → LineKind
+kind_of line = kind_by (indicator line) (written line)
+
+-- characters with their places, from this line and column on
+abbrev pub cells_from : ℕ → ℕ → List ℕ → List Cell
+cells_from n k [] = []
+cells_from n k (b ∷ bs) = record { byte = b; line = n; column = k } ∷ cells_from n (k + 1) bs
+
+-- columns 8 to 72 of line n without the first k of them
+abbrev pub cells_behind : ℕ → ℕ → List ℕ → List Cell
+cells_behind n k line = cells_from n (8 + k) (drop k (area line))
+
+-- the line's end that stands before line n in the joined text
+abbrev pub line_end : ℕ → Cell
+line_end n = record { byte = 10; line = n; column = 7 }
+
+abbrev pub is_nil : List Cell → Bool
+is_nil [] = true
+is_nil (c ∷ cells) = false
+
+-- without the spaces at the end
+abbrev pub trim_end : List Cell → List Cell
+trim_end [] = []
+trim_end (c ∷ cells) = let rest = trim_end cells in if (c.byte == 32) && is_nil rest then [] else c ∷ rest
+
+-- a continuation line joined: in an open literal all columns to 72 belong to the literal, which goes on behind the quote that the
+-- continuation begins with; else its first character that is no space follows the last one before directly
+abbrev pub continued : Option ℕ → ℕ → List Cell → List ℕ → List Cell
+continued None n joined line = trim_end joined ++ cells_behind n (spaces (written line)) line
+continued (Some q) n joined line = joined ++ cells_behind n (spaces (written line) + 1) line
+
+-- line n joined to the text of the lines before it
+abbrev pub join_by : LineKind → ℕ → List Cell → List ℕ → List Cell
+join_by Skipped n joined line = joined
+join_by Plain n joined line = joined ++ line_end n ∷ cells_behind n 0 line
+join_by Continuation n joined line = continued (open_quote joined) n joined line
+
+abbrev pub join : ℕ → List Cell → List ℕ → List Cell
+join n joined line = join_by (kind_of line) n joined line
+
+abbrev pub joined_from : ℕ → List Cell → List (List ℕ) → List Cell
+joined_from n joined [] = joined
+joined_from n joined (line ∷ more) = joined_from (n + 1) (join n joined line) more
+
+-- the one text that these lines are joined to: columns 8 to 72 of their plain and continuation lines
+abbrev pub joined_of : List (List ℕ) → List Cell
+joined_of ls = joined_from 1 [] ls
+
+-- the number of the last line that is joined
+abbrev pub last_by : LineKind → ℕ → ℕ → ℕ
+last_by Skipped n k = k
+last_by Plain n k = n
+last_by Continuation n k = n
+
+abbrev pub last_from : ℕ → ℕ → List (List ℕ) → ℕ
+last_from n k [] = k
+last_from n k (line ∷ more) = last_from (n + 1) (last_by (kind_of line) n k) more
+
+abbrev pub last_joined : List (List ℕ) → ℕ
+last_joined ls = last_from 1 0 ls

@@ -1,0 +1,30 @@
+/// One character of a joined text, and where it stands.
+#[derive(Clone, Copy, Debug, PartialEq, Eq, Default)]
+pub struct Cell {
+    pub byte: u8,
+    pub line: u32,
+    pub column: u8,
+}
+
+/// What a token is.
+#[derive(Clone, Copy, Debug, PartialEq, Eq)]
+pub enum Kind {
+    /// A word, in capitals.
+    Word,
+    /// A literal between quotes.
+    Literal,
+    /// A period that ends a sentence.
+    Stop,
+}
+
+/// A word, a literal or a stop of a source text.
+#[derive(Debug, Drop)]
+pub struct Token {
+    pub kind: Kind,
+    /// The characters, in ASCII: a word in capitals, a literal as it stands and without its quotes, a stop's period.
+    pub text: Vec<u8>,
+    /// The line of the first character, from 1.
+    pub line: u32,
+    /// The column of the first character, from 8 to 72.
+    pub column: u8,
+}
