@@ -1,1 +1,4 @@
 pub mod LineLemmas
+pub mod Literals
+pub mod CutLemmas
+pub mod CutOnce

@@ -1,6 +1,7 @@
 //! The words of a source text.
 #![tactic(auto)]
 
+mod cut;
 mod fault;
 mod lines;
 mod token;

@@ -1,0 +1,185 @@
+-- A text is cut in one way.
+use Rattle.std.proofs.Common.{◌≡◌, ◌≢◌, ℕ, zero, suc, ◌+◌, ◌-◌, ◌<◌, ◌≤◌, Bool, true, false, List, [], ◌∷◌, ◌++◌, length, refl, sym, ap, subst, ◌∙◌, append_assoc, arith}
+use Rattle.std.specs.Prelude.{◌==◌, ◌||◌, not}
+use Rattle.std.specs.List.{AllByRecursion}
+use Rattle.std.proofs.lemmas.List.{append-nil}
+use Rattle.cob_source.specs.declared.token.Cell.{Cell}
+use Rattle.cob_source.specs.Tokens.{Lexeme}
+use Rattle.cob_source.specs.Cuts.{Piece, Gap, Chunk, Quoted, Body, Close, One, Two, NotFirst, is_quote, is_gap, is_plain, spelled, IsPiece, Follows, IsPlain, plain_first, quote_first, lexemes_of, Cuts, End, Then}
+use Rattle.cob_source.proofs.CutLemmas.{plain_no_quote, gap_no_quote}
+
+pub record SamePiece (p q : Piece) (x y : List Cell) : Type 0 where
+  pub piece : p ≡ q
+  pub rest : x ≡ y
+
+-- chunks end where a plain character doesn't follow
+same_chunk : (a b x y : List Cell) → AllByRecursion IsPlain a → AllByRecursion IsPlain b → plain_first x ≡ false → plain_first y ≡ false → a ++ x ≡ b ++ y → (a ≡ b) × (x ≡ y)
+same_chunk [] [] x y pa pb fx fy e = (refl, e)
+same_chunk [] (d ∷ b) x y pa pb fx fy e = absurd (let h : plain_first x ≡ is_plain d.byte = ap plain_first e in let t : is_plain d.byte ≡ true = pb.0 in cc)
+same_chunk (c ∷ a) [] x y pa pb fx fy e = absurd (let h : plain_first y ≡ is_plain c.byte = ap plain_first (sym e) in let t : is_plain c.byte ≡ true = pa.0 in cc)
+same_chunk (c ∷ a) (d ∷ b) x y pa pb fx fy e =
+    let tails : a ++ x ≡ b ++ y = cc in
+    let heads : c ≡ d = cc in
+    let r = same_chunk a b x y pa.1 pb.1 fx fy tails in
+    let fronts : a ≡ b = r.0 in
+    (cc, r.1)
+
+pub record SameBody (a b : List Cell) (t u : List ℕ) (x y : List Cell) : Type 0 where
+  pub inside : a ≡ b
+  pub text : t ≡ u
+  pub rest : x ≡ y
+
+-- what doesn't begin with this quote
+first_is : {q : ℕ} (rest : List Cell) (c : Cell) (more : List Cell) → rest ≡ c ∷ more → NotFirst q rest → c.byte ≡ q → ⊥
+first_is {q} rest c more e f is = let h : NotFirst q (c ∷ more) = subst (NotFirst q) e f in h is
+
+-- a literal ends in one place
+same_body : {q : ℕ} {a b : List Cell} {t u : List ℕ} (x y : List Cell) → Body q a t → Body q b u → NotFirst q x → NotFirst q y → a ++ x ≡ b ++ y → SameBody a b t u x y
+same_body {q} x y (Close c ea qa ta) (Close d eb qb tb) fx fy e =
+    let h : c ∷ x ≡ d ∷ y = ap (λ (l : List Cell). l ++ x) (sym ea) ∙ e ∙ ap (λ (l : List Cell). l ++ y) eb in
+    let heads : c ≡ d = cc in
+    record { inside = ea ∙ ap (λ (k : Cell). k ∷ []) heads ∙ sym eb; text = ta ∙ sym tb; rest = cc }
+same_body {q} x y (Close c ea qa ta) (One {rest = rb} d eb qb tb w) fx fy e =
+    let h : c ∷ x ≡ d ∷ (rb ++ y) = ap (λ (l : List Cell). l ++ x) (sym ea) ∙ e ∙ ap (λ (l : List Cell). l ++ y) eb in
+    let heads : c ≡ d = cc in absurd (qb (ap (λ (k : Cell). k.byte) (sym heads) ∙ qa))
+same_body {q} x y (Close c ea qa ta) (Two {rest = rb} d k eb qb kb tb w) fx fy e =
+    let h : c ∷ x ≡ d ∷ (k ∷ (rb ++ y)) = ap (λ (l : List Cell). l ++ x) (sym ea) ∙ e ∙ ap (λ (l : List Cell). l ++ y) eb in
+    let tails : x ≡ k ∷ (rb ++ y) = cc in absurd (first_is x k (rb ++ y) tails fx kb)
+same_body {q} x y (One {rest = ra} c ea qa ta v) (Close d eb qb tb) fx fy e =
+    let h : c ∷ (ra ++ x) ≡ d ∷ y = ap (λ (l : List Cell). l ++ x) (sym ea) ∙ e ∙ ap (λ (l : List Cell). l ++ y) eb in
+    let heads : c ≡ d = cc in absurd (qa (ap (λ (k : Cell). k.byte) heads ∙ qb))
+same_body {q} x y (One {rest = ra} {more = ma} c ea qa ta v) (One {rest = rb} {more = mb} d eb qb tb w) fx fy e =
+    let h : c ∷ (ra ++ x) ≡ d ∷ (rb ++ y) = ap (λ (l : List Cell). l ++ x) (sym ea) ∙ e ∙ ap (λ (l : List Cell). l ++ y) eb in
+    let heads : c ≡ d = cc in
+    let tails : ra ++ x ≡ rb ++ y = cc in
+    let s = same_body x y v w fx fy tails in
+    let inner : ra ≡ rb = s.inside in
+    let texts : ma ≡ mb = s.text in
+    let bytes : c.byte ≡ d.byte = ap (λ (k : Cell). k.byte) heads in
+    let i : c ∷ ra ≡ d ∷ rb = cc in
+    let t : c.byte ∷ ma ≡ d.byte ∷ mb = cc in
+    record { inside = ea ∙ i ∙ sym eb; text = ta ∙ t ∙ sym tb; rest = s.rest }
+same_body {q} x y (One {rest = ra} c ea qa ta v) (Two {rest = rb} d k eb qb kb tb w) fx fy e =
+    let h : c ∷ (ra ++ x) ≡ d ∷ (k ∷ (rb ++ y)) = ap (λ (l : List Cell). l ++ x) (sym ea) ∙ e ∙ ap (λ (l : List Cell). l ++ y) eb in
+    let heads : c ≡ d = cc in absurd (qa (ap (λ (k : Cell). k.byte) heads ∙ qb))
+same_body {q} x y (Two {rest = ra} c k ea qa ka ta v) (Close d eb qb tb) fx fy e =
+    let h : c ∷ (k ∷ (ra ++ x)) ≡ d ∷ y = ap (λ (l : List Cell). l ++ x) (sym ea) ∙ e ∙ ap (λ (l : List Cell). l ++ y) eb in
+    let tails : y ≡ k ∷ (ra ++ x) = cc in absurd (first_is y k (ra ++ x) tails fy ka)
+same_body {q} x y (Two {rest = ra} c k ea qa ka ta v) (One {rest = rb} d eb qb tb w) fx fy e =
+    let h : c ∷ (k ∷ (ra ++ x)) ≡ d ∷ (rb ++ y) = ap (λ (l : List Cell). l ++ x) (sym ea) ∙ e ∙ ap (λ (l : List Cell). l ++ y) eb in
+    let heads : c ≡ d = cc in absurd (qb (ap (λ (k : Cell). k.byte) (sym heads) ∙ qa))
+same_body {q} x y (Two {rest = ra} {more = ma} c k ea qa ka ta v) (Two {rest = rb} {more = mb} d j eb qb jb tb w) fx fy e =
+    let h : c ∷ (k ∷ (ra ++ x)) ≡ d ∷ (j ∷ (rb ++ y)) = ap (λ (l : List Cell). l ++ x) (sym ea) ∙ e ∙ ap (λ (l : List Cell). l ++ y) eb in
+    let heads : c ≡ d = cc in
+    let seconds : k ≡ j = cc in
+    let tails : ra ++ x ≡ rb ++ y = cc in
+    let s = same_body x y v w fx fy tails in
+    let inner : ra ≡ rb = s.inside in
+    let texts : ma ≡ mb = s.text in
+    let i : c ∷ (k ∷ ra) ≡ d ∷ (j ∷ rb) = cc in
+    let t : q ∷ ma ≡ q ∷ mb = cc in
+    record { inside = ea ∙ i ∙ sym eb; text = ta ∙ t ∙ sym tb; rest = s.rest }
+
+-- a gap, a character of a word and a quote are three things
+gap_not_plain : (b : ℕ) → is_gap b ≡ true → is_plain b ≡ true → ⊥
+gap_not_plain b g p = let t : is_plain b ≡ false = rw g refl in let h : true ≡ false = sym p ∙ t in cc
+
+quote_not_plain : (b : ℕ) → is_quote b ≡ true → is_plain b ≡ true → ⊥
+quote_not_plain b q p = let t = plain_no_quote b p in let h : true ≡ false = sym q ∙ t in cc
+
+quote_not_gap : (b : ℕ) → is_quote b ≡ true → is_gap b ≡ true → ⊥
+quote_not_gap b q g = let t = gap_no_quote b g in let h : true ≡ false = sym q ∙ t in cc
+
+abbrev byte : Cell → ℕ
+byte c = c.byte
+
+same_piece : (p q : Piece) (x y : List Cell) → IsPiece p → IsPiece q → Follows p x → Follows q y → spelled p ++ x ≡ spelled q ++ y → SamePiece p q x y
+same_piece (Gap c) (Gap d) x y ip iq fp fq e = let h : c ≡ d = cc in record { piece = ap Gap h; rest = cc }
+same_piece (Gap c) (Chunk []) x y ip iq fp fq e = absurd (omega (arith, iq.0))
+same_piece (Gap c) (Chunk (d ∷ b)) x y ip iq fp fq e = let h : d ≡ c = cc in absurd (gap_not_plain c.byte ip (subst IsPlain h iq.1.0))
+same_piece (Gap c) (Quoted o inside text) x y ip iq fp fq e = let h : c ≡ o = cc in absurd (quote_not_gap o.byte iq.0 (ap (λ (k : Cell). is_gap k.byte) (sym h) ∙ ip))
+same_piece (Chunk []) q x y ip iq fp fq e = absurd (omega (arith, ip.0))
+same_piece (Chunk (c ∷ a)) (Gap d) x y ip iq fp fq e = let h : c ≡ d = cc in absurd (gap_not_plain d.byte iq (subst IsPlain h ip.1.0))
+same_piece (Chunk (c ∷ a)) (Chunk b) x y ip iq fp fq e = let r = same_chunk (c ∷ a) b x y ip.1 iq.1 fp fq e in record { piece = ap Chunk r.0; rest = r.1 }
+same_piece (Chunk (c ∷ a)) (Quoted o inside text) x y ip iq fp fq e = let h : c ≡ o = cc in absurd (quote_not_plain o.byte iq.0 (subst IsPlain h ip.1.0))
+same_piece (Quoted o inside text) (Gap d) x y ip iq fp fq e = let h : d ≡ o = cc in absurd (quote_not_gap o.byte ip.0 (ap (λ (k : Cell). is_gap k.byte) (sym h) ∙ iq))
+same_piece (Quoted o inside text) (Chunk []) x y ip iq fp fq e = absurd (omega (arith, iq.0))
+same_piece (Quoted o inside text) (Chunk (d ∷ b)) x y ip iq fp fq e = let h : d ≡ o = cc in absurd (quote_not_plain o.byte ip.0 (subst IsPlain h iq.1.0))
+same_piece (Quoted o inside text) (Quoted k inner other) x y ip iq fp fq e =
+    let heads : k ≡ o = cc in
+    let tails : inside ++ x ≡ inner ++ y = cc in
+    let bytes : k.byte ≡ o.byte = ap (λ (c : Cell). c.byte) heads in
+    let s = same_body x y ip.1 (subst (λ (q : ℕ). Body q inner other) bytes iq.1) fp (subst (λ (q : ℕ). NotFirst q y) bytes fq) tails in
+    let a : o ≡ k = sym heads in
+    let b = s.inside in
+    let t = s.text in
+    record { piece = cc; rest = s.rest }
+
+spelled_some : (p : Piece) (x : List Cell) → IsPiece p → spelled p ++ x ≡ [] → ⊥
+spelled_some (Gap c) x ip e = cc
+spelled_some (Chunk []) x ip e = omega (arith, ip.0)
+spelled_some (Chunk (c ∷ cs)) x ip e = cc
+spelled_some (Quoted o inside text) x ip e = cc
+
+-- what is cut behind a piece
+behind : {cells : List Cell} {ts : List Lexeme} (p : Piece) (rest : List Cell) → IsPiece p → Follows p rest → cells ≡ spelled p ++ rest → Cuts cells ts → (more : List Lexeme) × Cuts rest more × (ts ≡ lexemes_of p rest ++ more)
+behind p rest ip fp e (End nothing none_left) = absurd (spelled_some p rest ip (sym e ∙ nothing))
+behind {cells} {ts} p rest ip fp e (Then {rest = y} {more = more} q iq fq e' t c) =
+    let s = same_piece p q rest y ip iq fp fq (sym e ∙ e') in (
+      more,
+      subst (λ (z : List Cell). Cuts z more) (sym s.rest) c,
+      t ∙ ap (λ (q : Piece). lexemes_of q y ++ more) (sym s.piece) ∙ ap (λ (z : List Cell). lexemes_of p z ++ more) (sym s.rest),
+    )
+
+
+nothing_cut : {rest : List Cell} {ts : List Lexeme} → rest ≡ [] → Cuts rest ts → ts ≡ []
+nothing_cut e (End nothing none_left) = none_left
+nothing_cut e (Then {rest = y} q iq fq e' t c) = absurd (spelled_some q y iq (sym e' ∙ e))
+
+pub cut_once : {cells : List Cell} {a b : List Lexeme} → Cuts cells a → Cuts cells b → a ≡ b
+cut_once (End nothing none_left) other = none_left ∙ sym (nothing_cut nothing other)
+cut_once (Then {rest = y} {more = more} p ip fp e t c) other =
+    let b = behind p y ip fp e other in
+    t ∙ ap (λ (l : List Lexeme). lexemes_of p y ++ l) (cut_once c b.1) ∙ sym b.2
+
+-- a line's end or nothing comes first
+abbrev pub EndFirst : List Cell → Type 0
+EndFirst [] = Unit {0}
+EndFirst (c ∷ rest) = c.byte ≡ 10
+
+plain_before : (x y : List Cell) → EndFirst y → plain_first x ≡ false → plain_first (x ++ y) ≡ false
+plain_before [] [] f h = refl
+plain_before [] (c ∷ y) f h = ap is_plain f
+plain_before (c ∷ x) y f h = h
+
+quote_before : (x y : List Cell) → EndFirst y → quote_first (x ++ y) ≡ quote_first x
+quote_before [] [] f = refl
+quote_before [] (c ∷ y) f = ap is_quote f
+quote_before (c ∷ x) y f = refl
+
+other_quote : (q : ℕ) → is_quote q ≡ true → 10 ≡ q → ⊥
+other_quote q e h = let k : is_quote 10 ≡ true = ap is_quote h ∙ e in cc
+
+free_before : (q : ℕ) (x y : List Cell) → is_quote q ≡ true → EndFirst y → NotFirst q x → NotFirst q (x ++ y)
+free_before q [] [] iq f n = tt
+free_before q [] (c ∷ y) iq f n = λ e. other_quote q iq (sym f ∙ e)
+free_before q (c ∷ x) y iq f n = n
+
+follows_before : (p : Piece) (x y : List Cell) → IsPiece p → EndFirst y → Follows p x → Follows p (x ++ y)
+follows_before (Gap c) x y ip f fp = tt
+follows_before (Chunk cs) x y ip f fp = plain_before x y f fp
+follows_before (Quoted o inside text) x y ip f fp = free_before o.byte x y ip.0 f fp
+
+lexemes_before : (p : Piece) (x y : List Cell) → EndFirst y → lexemes_of p (x ++ y) ≡ lexemes_of p x
+lexemes_before (Gap c) x y f = refl
+lexemes_before (Chunk cs) x y f = rw (quote_before x y f) refl
+lexemes_before (Quoted o inside text) x y f = refl
+
+-- two texts one behind the other are cut one behind the other, where a line's end stands between them
+pub cut_both : {x y : List Cell} {a b : List Lexeme} → EndFirst y → Cuts x a → Cuts y b → Cuts (x ++ y) (a ++ b)
+cut_both {x} {y} {a} {b} f (End nothing none_left) other =
+    subst (λ (l : List Cell). Cuts (l ++ y) (a ++ b)) (sym nothing) (subst (λ (l : List Lexeme). Cuts y (l ++ b)) (sym none_left) other)
+cut_both {x} {y} {a} {b} f (Then {rest = r} {more = more} p ip fp e t c) other =
+    Then p ip (follows_before p r y ip f fp) (ap (λ (l : List Cell). l ++ y) e ∙ append_assoc (spelled p) r y)
+    (ap (λ (l : List Lexeme). l ++ b) t ∙ append_assoc (lexemes_of p r) more b ∙ ap (λ (l : List Lexeme). l ++ (more ++ b)) (sym (lexemes_before p r y f)))
+    (cut_both f c other)
