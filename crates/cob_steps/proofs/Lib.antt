@@ -1,3 +1,4 @@
 pub mod ZonedLemmas
 pub mod RecordLemmas
 pub mod MoveLemmas
+pub mod DecidedLemmas

@@ -8,8 +8,8 @@ use Rattle.cob_steps.specs.declared.plan.Item.{Item}
 use Rattle.cob_steps.specs.declared.plan.Move.{Move}
 use Rattle.cob_steps.specs.declared.plan.Category.{Category}
 use Rattle.cob_steps.specs.declared.plan.Category.TheVariants.{Alphanumeric, Numeric}
-use Rattle.cob_steps.specs.Records.{Conversion, IsConversion, IsMove, AreRecord, AreLaid, HasSize, record_length, initial_storage, blank}
-use Rattle.cob_steps.specs.Moving.{HasRoom, IsPossible}
+use Rattle.cob_steps.specs.Records.{Conversion, IsConversion, IsMove, AreRecord, AreLaid, HasSize, MostDigits, record_length, initial_storage, blank}
+use Rattle.cob_steps.specs.Moving.{IsPossible}
 
 pub record_more : (item : Item) (items : List Item) → record_length (item ∷ items) ≡ item.length + record_length items
 record_more item items =
@@ -42,9 +42,9 @@ item_sized [] item sized (k, lt, e) = elim lt [ ]
 item_sized (first ∷ items) item sized (zero, lt, e) = rw (← e) sized.0
 item_sized (first ∷ items) item sized (suc k, lt, e) = item_sized items item sized.1 (k, omega arith, e)
 
-room_of : (category : Category) (item : Item) → item.category ≡ category → HasSize item → HasRoom category item.length
+room_of : (category : Category) (item : Item) → item.category ≡ category → HasSize item → MostDigits category item.length
 room_of Alphanumeric item e sized = tt
-room_of Numeric item e sized = let most : (0 < item.length) × HasRoom Numeric item.length = rw e at sized in most.1
+room_of Numeric item e sized = let most : (0 < item.length) × MostDigits Numeric item.length = rw e at sized in most.1
 
 pub move_at : (conversion : Conversion) (moves : List Move) (i : ℕ) (d : Move) → AllByRecursion (IsMove conversion) moves → i < length moves → IsMove conversion (get_or moves i d)
 move_at conversion [] i d h lt = elim lt [ ]

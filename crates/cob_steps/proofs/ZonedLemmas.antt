@@ -123,30 +123,3 @@ represents_one bytes xs ys p q =
   where
     last_one : (a b x y : ℕ) → x < 10 → y < 10 → 16 * a + x ≡ 16 * b + y → x ≡ y
     last_one a b x y hx hy e = omega arith
-
--- digits of one length and one number are one list
-pub number_small : (ds : List ℕ) → IsDigits ds → number_of ds < 10 ^ length ds
-number_small [] h = omega arith
-number_small (d ∷ ds) h =
-    rw pow-suc (omega (arith, number_small ds h.1, mul-le-mul_right (10 ^ length ds) (nine d h.0)))
-  where
-    nine : (n : ℕ) → n < 10 → n ≤ 9
-    nine n small = omega arith
-
-pub digits_same : (xs ys : List ℕ) → IsDigits xs → IsDigits ys → length xs ≡ length ys → number_of xs ≡ number_of ys → xs ≡ ys
-digits_same [] [] p q n e = refl
-digits_same [] (y ∷ ys) p q n e = absurd (omega arith)
-digits_same (x ∷ xs) [] p q n e = absurd (omega arith)
-digits_same (x ∷ xs) (y ∷ ys) p q n e =
-    let count : length xs ≡ length ys = omega arith in
-    let unit : 10 ^ length xs ≡ 10 ^ length ys = ap (λ k. 10 ^ k) count in
-    let whole : x * 10 ^ length xs + number_of xs ≡ y * 10 ^ length xs + number_of ys = e ∙ ap (λ m. y * m + number_of ys) (sym unit) in
-    let small : number_of ys < 10 ^ length xs = rw unit (number_small ys q.1) in
-    let head : x ≡ y =
-    sym (div-mul-add x (10 ^ length xs) (number_of xs) (number_small xs p.1))
-    ∙ ap (λ m. m / 10 ^ length xs) whole
-    ∙ div-mul-add y (10 ^ length xs) (number_of ys) small
-    in
-    let values : number_of xs ≡ number_of ys = omega (arith, whole, ap (λ d. d * 10 ^ length xs) head) in
-    let rest : xs ≡ ys = digits_same xs ys p.1 q.1 count values in
-    cc

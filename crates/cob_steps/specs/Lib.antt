@@ -1,3 +1,4 @@
 pub mod Records
 pub mod Steps
 pub mod Moving
+pub mod Decided

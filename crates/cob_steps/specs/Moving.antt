@@ -1,24 +1,19 @@
 -- What one move needs and does.
-use Rattle.std.specs.Prelude.{◌≡◌, ℕ, ◌+◌, ◌<◌, ◌≤◌, List, length, ⊤}
-use Rattle.cob_decimal.specs.declared.TheConstants.{MAX_DIGITS}
+use Rattle.std.specs.Prelude.{◌≡◌, ℕ, ◌+◌, ◌≤◌, List}
 use Rattle.cob_steps.specs.declared.plan.Category.{Category}
-use Rattle.cob_steps.specs.declared.plan.Category.TheVariants.{Alphanumeric, Numeric}
+use Rattle.cob_steps.specs.declared.plan.Category.TheVariants.{Numeric}
 use Rattle.cob_steps.specs.declared.plan.Move.{Move}
 use Rattle.cob_steps.specs.declared.plan.StopCause.{StopCause}
 use Rattle.cob_steps.specs.declared.plan.StopCause.TheVariants.{NoValue}
+use Rattle.cob_steps.specs.Records.{MostDigits}
 use Rattle.cob_steps.specs.Steps.{Represents, Receives, bytes_at, replaced}
 
--- an item of this category may have so many bytes: a numeric one no more than a number has digits
-abbrev pub HasRoom : Category → ℕ → Type 0
-HasRoom Numeric n = n ≤ MAX_DIGITS
-HasRoom Alphanumeric n = ⊤
-
--- both items of a move lie within their records, and they are of one category
+-- both items of a move lie within their records, and where it is numeric neither has more digits than a number
 pub record IsPossible (in_size out_size : ℕ) (move : Move) : Type 0 where
   pub from : move.from.offset + move.from.length ≤ in_size
   pub to : move.to.offset + move.to.length ≤ out_size
-  pub sent : HasRoom move.to.category move.from.length
-  pub received : HasRoom move.to.category move.to.length
+  pub sent : MostDigits move.to.category move.from.length
+  pub received : MostDigits move.to.category move.to.length
 
 -- a move takes the output record from one storage to another
 abbrev pub IsMoved : Move → List ℕ → List ℕ → List ℕ → Type 0

@@ -22,13 +22,14 @@ abbrev pub AreLaid : ℕ → List Item → Type 0
 AreLaid at [] = ⊤
 AreLaid at (item ∷ items) = (item.offset ≡ at) × AreLaid (at + item.length) items
 
+-- a numeric item has no more digits than a number
+abbrev pub MostDigits : Category → ℕ → Type 0
+MostDigits Numeric n = n ≤ MAX_DIGITS
+MostDigits Alphanumeric n = ⊤
+
 -- an item has at least one byte, and a numeric one no more digits than a number
 abbrev pub HasSize : Item → Type 0
 HasSize item = (0 < item.length) × MostDigits item.category item.length
-  where
-    MostDigits : Category → ℕ → Type 0
-    MostDigits Numeric n = n ≤ MAX_DIGITS
-    MostDigits Alphanumeric n = ⊤
 
 -- items that are a record's description: laid end to end, at most 32,752 bytes
 pub record AreRecord (items : List Item) : Type 0 where
@@ -43,6 +44,7 @@ pub record IsMove (conversion : Conversion) (move : Move) : Type 0 where
   pub to : Contains conversion.out_items move.to
   pub category : move.from.category ≡ move.to.category
 
+-- both records are described, and each move goes from the one to the other
 pub record IsConversion (conversion : Conversion) : Type 0 where
   pub input : AreRecord conversion.in_items
   pub output : AreRecord conversion.out_items

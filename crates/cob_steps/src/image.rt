@@ -35,9 +35,10 @@ fn push_blanks(image: &mut Vec<u8>, item: &Item) -> Result<(), AllocError>
 
 /// The storage of a record of these items before the first move.
 pub fn initial_image(alloc: Global, items: &[Item]) -> Result<Vec<u8>, AllocError>
+    requires { record_length items.now ≤ 32752 }
     ensures { IfOk result (λ image. image.items ≡ initial_storage items.now) }
 {
-    let mut image = Vec::new(alloc);
+    let mut image = Vec::with_capacity(alloc, total_length(items) as usize)?;
     for item in items {
         push_blanks(&mut image, item)?;
     }

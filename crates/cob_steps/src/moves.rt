@@ -2,7 +2,8 @@
 
 ghost use Rattle.std.specs.Prelude.{◌≡◌, ◌+◌, ◌<◌, ◌≤◌, length, IfErr, OnOk};
 ghost use Rattle.cob_decimal.specs.declared.TheConstants.{MAX_DIGITS};
-ghost use Rattle.cob_steps.specs.Moving.{IsPossible, IsMoved, HasRoom, Lacks};
+ghost use Rattle.cob_steps.specs.Moving.{IsPossible, IsMoved, Lacks};
+ghost use Rattle.cob_steps.specs.Records.{MostDigits};
 ghost use Rattle.cob_steps.specs.Steps.{bytes_at, characters, IsStored, Represents, Receives, HasNoValue};
 
 use crate::plan::{Category, Item, Move, Side, Stop, StopCause};
@@ -56,8 +57,8 @@ fn move_number(sent: &[u8], received: &mut [u8]) -> Result<(), StopCause>
 ///
 /// The sender's bytes represent no value.
 fn receive(category: Category, sent: &[u8], received: &mut [u8]) -> Result<(), StopCause>
-    requires sent { HasRoom category (length sent.now) }
-    requires received { HasRoom category (length received.old) }
+    requires sent { MostDigits category (length sent.now) }
+    requires received { MostDigits category (length received.old) }
     ensures moved { OnOk result (Receives category (length received.old) sent.now received.new) }
     ensures lacks { IfErr result (Lacks category sent.now) }
 {

@@ -127,7 +127,7 @@ impl Plan {
     ///
     /// # Errors
     ///
-    /// The first move whose sender has no value stops the conversion. The output then holds what the moves before it made.
+    /// The first move whose sender has no value stops the conversion, at the sender. Nothing is said of the output then.
     pub fn convert(&self, input: &[u8], output: &mut [u8]) -> Result<(), Stop>
         requires input { length input.now ≡ record_length self.now.in_items }
         requires output { length output.old ≡ record_length self.now.out_items }

@@ -1,0 +1,12 @@
+//! Laws of the definitions.
+
+ghost use Rattle.cob_steps.specs.Decided.{ConversionsAreDecided};
+
+use cob_decimal::laws::one_list_of_digits;
+
+/// What becomes of one record is determined: its output or its stop.
+pub fn conversions_are_decided()
+    ensures { ConversionsAreDecided }
+{
+    one_list_of_digits();
+}
