@@ -1,5 +1,5 @@
 -- What becomes of one record is determined.
-use Rattle.std.proofs.Common.{◌≡◌, ℕ, List, [], ◌∷◌, ◌++◌, refl, sym, ◌∙◌, ap, subst, arith, pos}
+use Rattle.std.proofs.Common.{◌≡◌, ℕ, List, [], ◌∷◌, ◌++◌, sym, ◌∙◌, ap, subst, pos}
 use Rattle.cob_decimal.specs.Decimal.{aligned, number_of}
 use Rattle.cob_decimal.specs.Laws.{OneList}
 use Rattle.cob_steps.specs.declared.plan.Category.{Category}

@@ -1,5 +1,5 @@
 -- Lemmas on the items of a record.
-use Rattle.std.proofs.Common.{◌≡◌, ℕ, ◌+◌, ◌-◌, ◌<◌, ◌≤◌, List, [], ◌∷◌, ◌++◌, length, get_or, sum, map, refl, ap, sym, ◌∙◌, arith, zero, suc, flat_map, replicate, length-append}
+use Rattle.std.proofs.Common.{◌≡◌, ℕ, ◌+◌, ◌<◌, ◌≤◌, List, [], ◌∷◌, length, get_or, refl, ap, sym, ◌∙◌, arith, zero, suc, replicate, length-append}
 use Rattle.std.proofs.lemmas.List.{length-replicate}
 use Rattle.std.proofs.lemmas.List.Sums.{sum-map, sum_by-cons}
 use Rattle.std.proofs.lemmas.List.Concat.{flat_map-cons}
@@ -8,7 +8,7 @@ use Rattle.cob_steps.specs.declared.plan.Item.{Item}
 use Rattle.cob_steps.specs.declared.plan.Move.{Move}
 use Rattle.cob_steps.specs.declared.plan.Category.{Category}
 use Rattle.cob_steps.specs.declared.plan.Category.TheVariants.{Alphanumeric, Numeric}
-use Rattle.cob_steps.specs.Records.{Conversion, IsConversion, IsMove, AreRecord, AreLaid, HasSize, MostDigits, record_length, initial_storage, blank}
+use Rattle.cob_steps.specs.Records.{Conversion, IsConversion, IsMove, AreLaid, HasSize, MostDigits, record_length, initial_storage, blank}
 use Rattle.cob_steps.specs.Moving.{IsPossible}
 
 pub record_more : (item : Item) (items : List Item) → record_length (item ∷ items) ≡ item.length + record_length items

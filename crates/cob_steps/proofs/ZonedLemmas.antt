@@ -1,11 +1,7 @@
 -- Lemmas on zoned bytes and the digits that they represent.
-use Rattle.std.proofs.Common.{◌≡◌, ◌≢◌, ℕ, ◌+◌, ◌-◌, ◌*◌, ◌/◌, ◌%◌, ◌^◌, ◌<◌, ◌≤◌, List, [], ◌∷◌, ◌++◌, length, get_or, take, map, refl, ap, sym, ◌∙◌, arith, zero, suc, set, inl, inr, ◌⊎◌, length-append}
-use Rattle.std.proofs.Math.Nat.{pow-suc, one-le-pow, mul-le-mul_right}
-use Rattle.std.proofs.Math.ListN.{get_or-append}
-use Rattle.std.proofs.Math.Seq.{get_or-append_seam}
-use Rattle.std.proofs.lemmas.List.{take_more, take_more_set, map-append, length-map, get_or-map, take-map}
-use Rattle.std.proofs.lemmas.Nat.{div-mul-add}
-use Rattle.cob_decimal.specs.Decimal.{IsDigits, number_of}
+use Rattle.std.proofs.Common.{◌≡◌, ◌≢◌, ℕ, ◌+◌, ◌*◌, ◌<◌, List, [], ◌∷◌, ◌++◌, length, get_or, take, refl, ap, sym, ◌∙◌, arith, zero, suc, set, inl, inr, ◌⊎◌, length-append}
+use Rattle.std.proofs.lemmas.List.{take_more, take_more_set, map-append, length-map, get_or-map}
+use Rattle.cob_decimal.specs.Decimal.{IsDigits}
 use Rattle.cob_steps.specs.Steps.{IsUnsignedZone, Represents, zoned}
 
 -- the zones, one by one

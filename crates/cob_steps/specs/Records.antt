@@ -1,5 +1,5 @@
 -- Records of elementary items: where they lie, and what storage holds before the first move.
-use Rattle.std.specs.Prelude.{◌≡◌, ℕ, ◌+◌, ◌<◌, ◌≤◌, List, [], ◌∷◌, ◌⊎◌, flat_map, replicate, length, sum, map, ⊤}
+use Rattle.std.specs.Prelude.{◌≡◌, ℕ, ◌+◌, ◌<◌, ◌≤◌, List, [], ◌∷◌, flat_map, replicate, sum, map, ⊤}
 use Rattle.std.specs.List.{AllByRecursion, Contains}
 use Rattle.cob_decimal.specs.declared.TheConstants.{MAX_DIGITS}
 use Rattle.cob_steps.specs.declared.plan.Category.{Category}

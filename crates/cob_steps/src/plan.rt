@@ -135,7 +135,7 @@ impl Plan {
         ensures stops { IfErr result (λ stop. Stops self.now input.now stop) }
     {
         output.copy_from_slice(self.image.as_slice());
-        for step in self.moves.as_slice() {
+        for step in self.moves() {
             make_move(step, input, output)?;
         }
         Ok(())

@@ -1,4 +1,4 @@
-use Rattle.std.proofs.Common.{rules, ◌≡◌, ℕ, List, ◌+◌, ◌-◌, length, arith, ◌∙◌, subst, refl}
+use Rattle.std.proofs.Common.{rules, ◌≡◌, ℕ, List, ◌+◌, ◌-◌, arith, ◌∙◌, subst, refl}
 use borrow.Rule.Slice.PartMut.{mid_len}
 use Rattle.cob_steps.specs.Steps.{Represents}
 use Rattle.cob_steps.proofs.MoveLemmas.{moved_to}

@@ -1,6 +1,5 @@
-use Rattle.std.proofs.Common.{◌≡◌, List, length, ap, sym, ◌∙◌, subst}
+use Rattle.std.proofs.Common.{◌≡◌, length, ap, sym, ◌∙◌, subst}
 use Rattle.std.proofs.lemmas.Result.{err_from_is_err_and}
-use Rattle.cob_steps.specs.declared.plan.Move.{Move}
 use Rattle.cob_steps.specs.Records.{IsConversion, record_length, initial_storage}
 use Rattle.cob_steps.proofs.RecordLemmas.{initial_length, possible_at}
 use Rattle.cob_steps.proofs.MoveLemmas.{moves_next, stops_at, converts_all}
@@ -18,19 +17,19 @@ loop-step-init c =
 pub make_move-requires : goal.make_move-requires
 make_move-requires c =
     let sound : IsConversion c.args.self.now = subst IsConversion c.self.view_is c.self.invariant.sound in
-    let moves : c.as_slice-step-items.result.now ≡ c.args.self.now.moves = c.as_slice-step-items.ensures.value ∙ ap (λ p. p.moves) c.self.view_is in
-    possible_at c.args.self.now c.as_slice-step-items.result.now c.loop-step.step-index _ _ _ sound moves c.loop-step-test.true c.requires.input (c.loop-step.auto.output ∙ c.copy_from_slice.ensures.len ∙ c.requires.output)
+    let moves : c.moves-step-items.result.now ≡ c.args.self.now.moves = c.moves-step-items.ensures in
+    possible_at c.args.self.now c.moves-step-items.result.now c.loop-step.step-index _ _ _ sound moves c.loop-step-test.true c.requires.input (c.loop-step.auto.output ∙ c.copy_from_slice.ensures.len ∙ c.requires.output)
 
 pub loop-step-preserved : goal.loop-step-preserved
-loop-step-preserved c = moves_next c.as_slice-step-items.result.now c.loop-step.step-index _ c.args.input.now _ _ _ c.loop-step-test.true c.loop-step.invariant c.in_ok-make_move.ensures.moved
+loop-step-preserved c = moves_next c.moves-step-items.result.now c.loop-step.step-index _ c.args.input.now _ _ _ c.loop-step-test.true c.loop-step.invariant c.in_ok-make_move.ensures.moved
 
 pub returns-in_err-make_move-clause-stops : goal.returns-in_err-make_move-clause-stops
 returns-in_err-make_move-clause-stops c =
-    let moves : c.as_slice-step-items.result.now ≡ c.args.self.now.moves = c.as_slice-step-items.ensures.value ∙ ap (λ p. p.moves) c.self.view_is in
+    let moves : c.moves-step-items.result.now ≡ c.args.self.now.moves = c.moves-step-items.ensures in
     let p = err_from_is_err_and c.from_residual.result c.from_residual.ensures.1 in
-    rw (p.1, p.2) (stops_at c.args.self.now c.as_slice-step-items.result.now c.args.input.now c.loop-step.output c.loop-step.step-index _ c.in_err-make_move.field-0.0 moves c.loop-step-test.true c.loop-step.invariant c.in_err-make_move.ensures.stopped)
+    rw (p.1, p.2) (stops_at c.args.self.now c.moves-step-items.result.now c.args.input.now c.loop-step.output c.loop-step.step-index _ c.in_err-make_move.field-0.0 moves c.loop-step-test.true c.loop-step.invariant c.in_err-make_move.ensures.stopped)
 
 pub returns-clause-converts : goal.returns-clause-converts
 returns-clause-converts c =
-    let moves : c.as_slice-step-items.result.now ≡ c.args.self.now.moves = c.as_slice-step-items.ensures.value ∙ ap (λ p. p.moves) c.self.view_is in
-    converts_all c.args.self.now c.as_slice-step-items.result.now c.args.input.now c.loop-step.output c.loop-step.step-index moves c.loop-step-test.false c.loop-step.invariant
+    let moves : c.moves-step-items.result.now ≡ c.args.self.now.moves = c.moves-step-items.ensures in
+    converts_all c.args.self.now c.moves-step-items.result.now c.args.input.now c.loop-step.output c.loop-step.step-index moves c.loop-step-test.false c.loop-step.invariant
