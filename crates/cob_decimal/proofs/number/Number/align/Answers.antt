@@ -1,4 +1,4 @@
-use Rattle.std.proofs.Common.{◌+◌, ◌∙◌, ap, arith}
+use Rattle.std.proofs.Common.{arith}
 use Rattle.std.proofs.lemmas.List.{length_push}
 use Rattle.std.proofs.lemmas.Int.{ints}
 use Rattle.cob_decimal.proofs.DecimalLemmas.{align_more}
@@ -7,6 +7,6 @@ use Rattle.cob_decimal.proofs.number.Number.align.Goals as goal
 pub loop-place-preserved : goal.loop-place-preserved
 loop-place-preserved c =
     record {
-      count = rw c.push.ensures (length_push c.loop-place.moved c.digit-digit.result ∙ ap (λ n. n + 1) c.loop-place.invariant.count);
+      count = grind (arith, length_push);
       value = rw c.push.ensures (align_more _ _ _ _ _ _ _ c.loop-place-test.true c.loop-place.invariant.value c.digit-digit.ensures.value (omega (arith, ints)));
     }
