@@ -1,0 +1,2 @@
+-- The spelling of books and paragraphs.
+use Rattle.std.specs.Prelude.{ℕ}

@@ -1,0 +1,4 @@
+//! To be written.
+#![tactic(auto)]
+
+mod words;
