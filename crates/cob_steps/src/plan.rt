@@ -128,6 +128,7 @@ impl Plan {
     /// # Errors
     ///
     /// The first move whose sender has no value stops the conversion, at the sender. Nothing is said of the output then.
+    #[tactic(auto, using(crate::proofs::RecordLemmas::initial_length))]
     pub fn convert(&self, input: &[u8], output: &mut [u8]) -> Result<(), Stop>
         requires input { length input.now ≡ record_length self.now.in_items }
         requires output { length output.old ≡ record_length self.now.out_items }

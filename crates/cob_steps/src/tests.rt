@@ -144,3 +144,39 @@ fn records(rt: HostRuntime) -> Result<(), Fail> {
     );
     Ok(())
 }
+
+/// From `X(1)` to `9(2)`, `X(2)`, of which no item is moved to.
+fn unmoved(alloc: Global) -> Result<Plan, AllocError> {
+    let code = Item {
+        category: Category::Alphanumeric,
+        offset: 0,
+        length: 1,
+    };
+    let count = Item {
+        category: Category::Numeric,
+        offset: 0,
+        length: 2,
+    };
+    let name = Item {
+        category: Category::Alphanumeric,
+        offset: 2,
+        length: 2,
+    };
+    Plan::new(
+        alloc,
+        Vec::from_slice(alloc, &[code])?,
+        Vec::from_slice(alloc, &[count, name])?,
+        Vec::new(alloc),
+    )
+}
+
+#[test]
+fn items_that_nothing_is_moved_to(rt: HostRuntime) -> Result<(), Fail> {
+    let plan = unmoved(rt.alloc())?;
+    let mut output = [0x5A; 4];
+    assert_eq!(rt; plan.in_length(), 1);
+    assert_eq!(rt; plan.out_length(), 4);
+    assert_eq!(rt; plan.convert(b"\xC1", &mut output), Ok(()));
+    assert_eq!(rt; output.as_slice(), b"\xF0\xF0\x40\x40".as_slice());
+    Ok(())
+}

@@ -1,14 +1,9 @@
-use Rattle.std.proofs.Common.{◌≡◌, length, ap, sym, ◌∙◌, subst}
+use Rattle.std.proofs.Common.{◌≡◌, ap, ◌∙◌, subst}
 use Rattle.std.proofs.lemmas.Result.{err_from_is_err_and}
-use Rattle.cob_steps.specs.Records.{IsConversion, record_length, initial_storage}
-use Rattle.cob_steps.proofs.RecordLemmas.{initial_length, possible_at}
+use Rattle.cob_steps.specs.Records.{IsConversion, initial_storage}
+use Rattle.cob_steps.proofs.RecordLemmas.{possible_at}
 use Rattle.cob_steps.proofs.MoveLemmas.{moves_next, stops_at, converts_all}
 use Rattle.cob_steps.proofs.plan.Plan.convert.Goals as goal
-
-pub copy_from_slice-requires : goal.copy_from_slice-requires
-copy_from_slice-requires c =
-    let image : length c.as_slice.result.now ≡ length (initial_storage c.self.inside.out_items.items) = ap length (c.as_slice.ensures.value ∙ c.self.invariant.begins) in
-    c.requires.output ∙ ap (λ p. record_length p.out_items) (sym c.self.view_is) ∙ sym (image ∙ initial_length c.self.inside.out_items.items)
 
 pub loop-step-init : goal.loop-step-init
 loop-step-init c =
