@@ -2,3 +2,6 @@ pub mod LineLemmas
 pub mod Literals
 pub mod CutLemmas
 pub mod CutOnce
+pub mod Trims
+pub mod Opens
+pub mod ReadingLemmas

@@ -2,3 +2,4 @@ pub mod Tokens
 pub mod Cuts
 pub mod Lines
 pub mod Words
+pub mod Reading

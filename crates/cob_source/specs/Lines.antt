@@ -43,9 +43,13 @@ cut_return (b ∷ bs) = if (b == 13) && is_empty bs then [] else b ∷ cut_retur
 abbrev pub written : List ℕ → List ℕ
 written line = drop 7 (take 72 line)
 
+-- filled with spaces to 65 columns
+abbrev pub filled : List ℕ → List ℕ
+filled bs = bs ++ replicate (65 - length bs) 32
+
 -- the 65 columns from 8 to 72: a line that is shorter is filled with spaces
 abbrev pub area : List ℕ → List ℕ
-area line = written line ++ replicate (65 - length (written line)) 32
+area line = filled (written line)
 
 -- column 7; a line that doesn't reach it has a space there
 abbrev pub indicator : List ℕ → ℕ
@@ -117,11 +121,20 @@ abbrev pub trim_end : List Cell → List Cell
 trim_end [] = []
 trim_end (c ∷ cells) = let rest = trim_end cells in if (c.byte == 32) && is_nil rest then [] else c ∷ rest
 
--- a continuation line joined: in an open literal all columns to 72 belong to the literal, which goes on behind the quote that the
--- continuation begins with; else its first character that is no space follows the last one before directly
+-- what a continuation line is joined to: an open literal with all its columns to 72, else the text to its last character that is
+-- no space
+abbrev pub continued_text : Option ℕ → List Cell → List Cell
+continued_text None joined = trim_end joined
+continued_text (Some q) joined = joined
+
+-- how many columns from 8 on a continuation line leaves out: its spaces in front, and in an open literal the quote behind them
+abbrev pub left_out : Option ℕ → List ℕ → ℕ
+left_out None text = spaces text
+left_out (Some q) text = spaces text + 1
+
+-- a continuation line joined directly behind a text at whose end this quote's literal is open, or none
 abbrev pub continued : Option ℕ → ℕ → List Cell → List ℕ → List Cell
-continued None n joined line = trim_end joined ++ cells_behind n (spaces (written line)) line
-continued (Some q) n joined line = joined ++ cells_behind n (spaces (written line) + 1) line
+continued q n joined line = continued_text q joined ++ cells_behind n (left_out q (written line)) line
 
 -- line n joined to the text of the lines before it
 abbrev pub join_by : LineKind → ℕ → List Cell → List ℕ → List Cell

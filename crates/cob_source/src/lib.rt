@@ -3,8 +3,13 @@
 
 mod cut;
 mod fault;
+mod joined;
+mod laws;
 mod lines;
+mod reader;
 mod token;
 
 pub use fault::{MAX_TEXT_BYTES, SourceFault, SourceRule};
+pub use laws::words_are_one;
+pub use reader::tokens;
 pub use token::{Kind, Token};

@@ -54,7 +54,7 @@ pub fn next_line(text: &[u8]) -> (&[u8], &[u8])
 }
 
 /// The first columns, as far as they are written.
-fn front(line: &[u8], columns: usize) -> &[u8]
+pub fn front(line: &[u8], columns: usize) -> &[u8]
     ensures { result.now ≡ take columns line.now }
 {
     if line.len() > columns {

@@ -1,0 +1,58 @@
+-- The literal that is open at the end of a text.
+use Rattle.std.proofs.Common.{◌≡◌, ◌≢◌, ℕ, Bool, true, false, List, [], ◌∷◌, ◌++◌, length, drop, refl, sym, ap, subst, ◌∙◌}
+use Rattle.std.specs.Prelude.{Option, Some, None, is_some, ◌==◌, ◌&&◌, if◌then◌else◌}
+use Rattle.std.proofs.lemmas.Bool.{eqb-true}
+use Rattle.cob_source.specs.declared.token.Cell.{Cell}
+use Rattle.cob_source.specs.Cuts.{is_quote, open_with, open_from, open_quote}
+use Rattle.cob_source.specs.Lines.{is_nil, trim_end}
+
+pub open_from-append : (q : Option ℕ) (a b : List Cell) → open_from q (a ++ b) ≡ open_from (open_from q a) b
+open_from-append q [] b = refl
+open_from-append q (c ∷ a) b = open_from-append (open_with q c.byte) a b
+
+-- no literal, or one that a quote opened
+abbrev pub IsState : Option ℕ → Type 0
+IsState None = Unit {0}
+IsState (Some q) = is_quote q ≡ true
+
+state_with : (q : Option ℕ) (b : ℕ) → IsState q → IsState (open_with q b)
+state_with None b s = go (is_quote b) refl
+  where
+    go : (t : Bool) → is_quote b ≡ t → IsState (if is_quote b then Some b else None)
+    go true e = rw e e
+    go false e = rw e tt
+state_with (Some q) b s = go (b == q) refl
+  where
+    go : (t : Bool) → (b == q) ≡ t → IsState (if b == q then None else Some q)
+    go true e = rw e tt
+    go false e = rw e s
+
+-- a space leaves a literal open or closed
+open_space : (q : Option ℕ) (b : ℕ) → IsState q → b ≡ 32 → open_with q b ≡ q
+open_space None b s e = ap (open_with None) e
+open_space (Some q) b s e = go (b == q) refl
+  where
+    go : (t : Bool) → (b == q) ≡ t → (if b == q then None else Some q) ≡ Some q
+    go true h = absurd (let k : is_quote 32 ≡ true = ap is_quote (sym e ∙ eqb-true _ _ h) ∙ s in cc)
+    go false h = rw h refl
+
+trimmed_off : (t : List Cell) → is_nil t ≡ true → t ≡ []
+trimmed_off [] e = refl
+trimmed_off (c ∷ t) e = absurd cc
+
+pub open_trimmed : (q : Option ℕ) (cells : List Cell) → IsState q → open_from q (trim_end cells) ≡ open_from q cells
+open_trimmed q [] s = refl
+open_trimmed q (c ∷ cells) s = go (c.byte == 32) (is_nil (trim_end cells)) refl refl (open_trimmed (open_with q c.byte) cells (state_with q c.byte s))
+  where
+    go : (x y : Bool) → (c.byte == 32) ≡ x → is_nil (trim_end cells) ≡ y → open_from (open_with q c.byte) (trim_end cells) ≡ open_from (open_with q c.byte) cells
+        → open_from q (if (c.byte == 32) && is_nil (trim_end cells) then [] else c ∷ trim_end cells) ≡ open_from (open_with q c.byte) cells
+    go true true ex ey h = rw (ex, ey) (
+      let nothing : trim_end cells ≡ [] = trimmed_off (trim_end cells) ey in
+      let space : open_with q c.byte ≡ q = open_space q c.byte s (eqb-true _ _ ex) in
+      sym space ∙ ap (open_from (open_with q c.byte)) (sym nothing) ∙ h)
+    go true false ex ey h = rw (ex, ey) h
+    go false y ex ey h = rw ex h
+
+-- where none is open the spaces at the end make no difference
+pub open_trim_end : (cells : List Cell) → open_quote (trim_end cells) ≡ open_quote cells
+open_trim_end cells = open_trimmed None cells tt

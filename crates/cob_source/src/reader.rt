@@ -1,0 +1,79 @@
+ghost use Rattle.std.specs.Prelude.{◌≡◌, ℕ, ◌+◌, ◌<◌, ◌≤◌, List, [], ◌∷◌, ◌++◌, length, IfOk, IfErr, OnOk};
+ghost use Rattle.cob_source.specs.Tokens.{Lexeme, lexemes};
+ghost use Rattle.cob_source.specs.Cuts.{open_quote};
+ghost use Rattle.cob_source.specs.Words.{IsRefusal, AreWordsOf};
+ghost use Rattle.cob_source.specs.Reading.{HasRead, LineRefused};
+ghost use Rattle.cob_source.specs.declared.fault.SourceRule.TheVariants.{Memory};
+
+use crate::fault::{MAX_TEXT_BYTES, SourceFault, SourceRule};
+use crate::joined::{Joined, begin_line, continue_line, cut_joined};
+use crate::lines::{LineKind, character_fault, line_kind, next_line};
+use crate::token::Token;
+use std::alloc::Global;
+
+/// Reads one line.
+///
+/// # Errors
+/// The rule that the line breaks, T3 where a literal is left open before it, T9 where memory is refused.
+fn take_line(
+    alloc: Global,
+    number: u32,
+    line: &[u8],
+    joined: &mut Joined,
+    out: &mut Vec<Token>,
+) -> Result<(), SourceFault>
+    requires { joined.old.quote ≡ open_quote joined.old.cells.items }
+    ensures ok { (before : List (List ℕ)) → number ≡ length before + 1 → HasRead before joined.old.cells.items joined.old.quote joined.old.last (lexemes out.old.items) → OnOk result (HasRead (before ++ line.now ∷ []) joined.new.cells.items joined.new.quote joined.new.last (lexemes out.new.items)) }
+    ensures fault { (before : List (List ℕ)) → number ≡ length before + 1 → HasRead before joined.old.cells.items joined.old.quote joined.old.last (lexemes out.old.items) → IfErr result (λ f. LineRefused f.rule f.line before line.now) }
+{
+    if let Some(rule) = character_fault(line) {
+        return Err(SourceFault { rule, line: number });
+    }
+    match line_kind(line) {
+        LineKind::Skipped => Ok(()),
+        LineKind::Plain => {
+            cut_joined(alloc, joined, out)?;
+            begin_line(number, line, joined)?;
+            Ok(())
+        }
+        LineKind::Continuation => continue_line(number, line, joined),
+    }
+}
+
+/// The words, literals and stops of a text in reference format (ANSI X3.23-1985, section IV, 7.2), in order: words in
+/// capitals, literals as their characters without quotes, each with the line (from 1) and the column (8 to 72) of its first
+/// character.
+///
+/// # Errors
+/// A rule of the format that the text breaks, with the line that breaks it. T9, with line 0, only where memory is refused.
+pub fn tokens(alloc: Global, text: &[u8]) -> Result<Vec<Token>, SourceFault>
+    // What is read are the words of the text, which then breaks no rule.
+    ensures words { IfOk result (λ v. AreWordsOf text.now (lexemes v.items)) }
+    // A text that has words is read, memory aside.
+    ensures reads { (ts : List Lexeme) → AreWordsOf text.now ts → IfErr result (λ f. f.rule ≡ Memory) }
+    // A refused text breaks the rule that is named, on the line that is named.
+    ensures refused { IfErr result (λ f. IsRefusal f.rule f.line text.now) }
+{
+    if text.len() > MAX_TEXT_BYTES {
+        return Err(SourceFault {
+            rule: SourceRule::TooLong,
+            line: 1,
+        });
+    }
+    let mut joined = Joined {
+        cells: Vec::new(alloc),
+        quote: None,
+        last: 0,
+    };
+    let mut out = Vec::new(alloc);
+    let mut number: u32 = 1;
+    let mut rest = text;
+    while !rest.is_empty() {
+        let (line, more) = next_line(rest);
+        take_line(alloc, number, line, &mut joined, &mut out)?;
+        number += 1;
+        rest = more;
+    }
+    cut_joined(alloc, &joined, &mut out)?;
+    Ok(out)
+}
