@@ -1,0 +1,195 @@
+-- How often a symbol stands in a list.
+use Rattle.std.proofs.Common.{◌≡◌, ℕ, zero, suc, ◌+◌, ◌*◌, ◌^◌, ◌<◌, ◌≤◌, Bool, true, false, cond, eqb, List, [], ◌∷◌, ◌++◌, length, get_or, take, drop, replicate, Option, Some, None, refl, sym, ap, subst, ◌∙◌, append_assoc, arith}
+use Rattle.std.specs.List.{flat_map}
+use Rattle.std.proofs.lemmas.List.{take_more, append-nil, length-append, length-replicate}
+use Rattle.std.proofs.lemmas.List.Concat.{flat_map-append}
+use Rattle.std.proofs.lemmas.Bool.{eqb-true, eqb-false, eq-eqb, ne_eqb}
+use Rattle.cob_picture.specs.declared.symbol.Symbol.{Symbol}
+use Rattle.cob_picture.specs.declared.symbol.Symbol.TheVariants.{A, X, Nine, S, V, P, B, Zero, Slash, Comma, Point, Z, Star, Dollar, Plus, Minus, Credit, Debit}
+use Rattle.cob_picture.specs.declared.symbol.Run.{Run}
+use Rattle.cob_picture.specs.declared.numeric.NumericParts.{NumericParts}
+use Rattle.cob_picture.specs.Symbols.{first_of, symbol_with}
+use Rattle.cob_picture.specs.Numeric.{numeric_symbols, IsNumeric}
+use Rattle.cob_picture.specs.Positions.{is, times, written_out}
+use Rattle.cob_picture.specs.Categories.{IsOf}
+use Rattle.cob_picture.specs.declared.category.Category.{Category}
+use Rattle.cob_picture.specs.declared.category.Category.TheVariants.{Alphabetic, Numeric, Alphanumeric, AlphanumericEdited, NumericEdited}
+
+-- each symbol is the one with its first character
+with_first : (s : Symbol) → symbol_with (first_of s) ≡ Some s
+with_first A = refl
+with_first X = refl
+with_first Nine = refl
+with_first S = refl
+with_first V = refl
+with_first P = refl
+with_first B = refl
+with_first Zero = refl
+with_first Slash = refl
+with_first Comma = refl
+with_first Point = refl
+with_first Z = refl
+with_first Star = refl
+with_first Dollar = refl
+with_first Plus = refl
+with_first Minus = refl
+with_first Credit = refl
+with_first Debit = refl
+
+pub first_one : (s t : Symbol) → first_of s ≡ first_of t → s ≡ t
+first_one s t e =
+    let h : Some s ≡ Some t = sym (with_first s) ∙ ap symbol_with e ∙ with_first t in
+    cc
+
+pub is_same : (s t : Symbol) → t ≡ s → is s t ≡ true
+is_same s t e = eq-eqb (first_of t) (first_of s) (ap first_of e)
+
+pub is_other : (s t : Symbol) → (t ≡ s → ⊥) → is s t ≡ false
+is_other s t ne = ne_eqb (first_of t) (first_of s) (λ e. ne (first_one t s e))
+
+pub times-append : (s : Symbol) (ps qs : List Symbol) → times s (ps ++ qs) ≡ times s ps + times s qs
+times-append s [] qs = omega arith
+times-append s (t ∷ ps) qs = omega (arith, times-append s ps qs)
+
+pub times-replicate : (s t : Symbol) (n : ℕ) → t ≡ s → times s (replicate n t) ≡ n
+times-replicate s t zero e = refl
+times-replicate s t (suc n) e = rw (is_same s t e) (omega (arith, times-replicate s t n e))
+
+pub times-replicate_other : (s t : Symbol) (n : ℕ) → (t ≡ s → ⊥) → times s (replicate n t) ≡ 0
+times-replicate_other s t zero ne = refl
+times-replicate_other s t (suc n) ne = rw (is_other s t ne) (omega (arith, times-replicate_other s t n ne))
+
+pub one_more : (runs : List Run) (i : ℕ) (d : Run) → i < length runs → written_out (take (i + 1) runs) ≡ written_out (take i runs) ++ replicate (get_or runs i d).count (get_or runs i d).symbol
+one_more runs i d lt =
+    let r = get_or runs i d in
+    ap written_out (take_more runs i d lt) ∙ flat_map-append (λ (r : Run). replicate r.count r.symbol) (take i runs) (r ∷ []) ∙ ap (λ (t : List Symbol). written_out (take i runs) ++ t) (append-nil (replicate r.count r.symbol))
+
+pub times_more_yes : (s : Symbol) (runs : List Run) (i : ℕ) (d : Run) → i < length runs → (get_or runs i d).symbol ≡ s → times s (written_out (take (i + 1) runs)) ≡ times s (written_out (take i runs)) + (get_or runs i d).count
+times_more_yes s runs i d lt e =
+    let r = get_or runs i d in
+    omega (arith, ap (times s) (one_more runs i d lt), times-append s (written_out (take i runs)) (replicate r.count r.symbol), times-replicate s r.symbol r.count e)
+
+pub times_more_no : (s : Symbol) (runs : List Run) (i : ℕ) (d : Run) → i < length runs → ((get_or runs i d).symbol ≡ s → ⊥) → times s (written_out (take (i + 1) runs)) ≡ times s (written_out (take i runs))
+times_more_no s runs i d lt ne =
+    let r = get_or runs i d in
+    omega (arith, ap (times s) (one_more runs i d lt), times-append s (written_out (take i runs)) (replicate r.count r.symbol), times-replicate_other s r.symbol r.count ne)
+
+pub length_more : (runs : List Run) (i : ℕ) (d : Run) → i < length runs → length (written_out (take (i + 1) runs)) ≡ length (written_out (take i runs)) + (get_or runs i d).count
+length_more runs i d lt =
+    let r = get_or runs i d in
+    omega (arith, ap (length {A = Symbol}) (one_more runs i d lt), length-append (written_out (take i runs)) (replicate r.count r.symbol), length-replicate r.count r.symbol)
+
+pub two_times : (s t : Symbol) (ps : List Symbol) → (s ≡ t → ⊥) → times s ps + times t ps ≤ length ps
+two_times s t [] ne = omega arith
+two_times s t (p ∷ ps) ne = step (is s p) (is t p) refl refl (two_times s t ps ne)
+  where
+    step : (a b : Bool) → is s p ≡ a → is t p ≡ b → times s ps + times t ps ≤ length ps → times s (p ∷ ps) + times t (p ∷ ps) ≤ length (p ∷ ps)
+    step true true x y ih = absurd (ne (first_one s t (sym (eqb-true _ _ x) ∙ eqb-true _ _ y)))
+    step true false x y ih = rw (x, y) (omega arith)
+    step false true x y ih = rw (x, y) (omega arith)
+    step false false x y ih = rw (x, y) (omega arith)
+
+-- the counts of a numeric picture
+pub times_written : (s : Symbol) (n : NumericParts) → (S ≡ s → ⊥) → (V ≡ s → ⊥) → (P ≡ s → ⊥) → (Nine ≡ s → ⊥) → times s (numeric_symbols n) ≡ 0
+times_written s n a b c d =
+    let t6 = replicate n.fraction Nine in
+    let t5 = replicate n.after V ++ t6 in
+    let t4 = replicate n.right P ++ t5 in
+    let t3 = replicate n.nines Nine ++ t4 in
+    let t2 = replicate n.left P ++ t3 in
+    let t1 = replicate n.points V ++ t2 in
+    omega (
+      arith,
+      times-append s (replicate n.signs S) t1,
+      times-append s (replicate n.points V) t2,
+      times-append s (replicate n.left P) t3,
+      times-append s (replicate n.nines Nine) t4,
+      times-append s (replicate n.right P) t5,
+      times-append s (replicate n.after V) t6,
+      times-replicate_other s S n.signs a,
+      times-replicate_other s V n.points b,
+      times-replicate_other s P n.left c,
+      times-replicate_other s Nine n.nines d,
+      times-replicate_other s P n.right c,
+      times-replicate_other s V n.after b,
+      times-replicate_other s Nine n.fraction d,
+    )
+
+pub nines_written : (n : NumericParts) → n.nines ≤ times Nine (numeric_symbols n)
+nines_written n =
+    let t6 = replicate n.fraction Nine in
+    let t5 = replicate n.after V ++ t6 in
+    let t4 = replicate n.right P ++ t5 in
+    let t3 = replicate n.nines Nine ++ t4 in
+    let t2 = replicate n.left P ++ t3 in
+    let t1 = replicate n.points V ++ t2 in
+    omega (
+      arith,
+      times-append Nine (replicate n.signs S) t1,
+      times-append Nine (replicate n.points V) t2,
+      times-append Nine (replicate n.left P) t3,
+      times-append Nine (replicate n.nines Nine) t4,
+      times-replicate Nine Nine n.nines refl,
+    )
+
+-- the S and the Vs of a numeric picture
+pub signs_written : (n : NumericParts) → times S (numeric_symbols n) ≡ n.signs
+signs_written n =
+    let t6 = replicate n.fraction Nine in
+    let t5 = replicate n.after V ++ t6 in
+    let t4 = replicate n.right P ++ t5 in
+    let t3 = replicate n.nines Nine ++ t4 in
+    let t2 = replicate n.left P ++ t3 in
+    let t1 = replicate n.points V ++ t2 in
+    omega (
+      arith,
+      times-append S (replicate n.signs S) t1,
+      times-append S (replicate n.points V) t2,
+      times-append S (replicate n.left P) t3,
+      times-append S (replicate n.nines Nine) t4,
+      times-append S (replicate n.right P) t5,
+      times-append S (replicate n.after V) t6,
+      times-replicate S S n.signs refl,
+      times-replicate_other S V n.points (λ e. cc),
+      times-replicate_other S P n.left (λ e. cc),
+      times-replicate_other S Nine n.nines (λ e. cc),
+      times-replicate_other S P n.right (λ e. cc),
+      times-replicate_other S V n.after (λ e. cc),
+      times-replicate_other S Nine n.fraction (λ e. cc),
+    )
+
+pub points_written : (n : NumericParts) → times V (numeric_symbols n) ≡ n.points + n.after
+points_written n =
+    let t6 = replicate n.fraction Nine in
+    let t5 = replicate n.after V ++ t6 in
+    let t4 = replicate n.right P ++ t5 in
+    let t3 = replicate n.nines Nine ++ t4 in
+    let t2 = replicate n.left P ++ t3 in
+    let t1 = replicate n.points V ++ t2 in
+    omega (
+      arith,
+      times-append V (replicate n.signs S) t1,
+      times-append V (replicate n.points V) t2,
+      times-append V (replicate n.left P) t3,
+      times-append V (replicate n.nines Nine) t4,
+      times-append V (replicate n.right P) t5,
+      times-append V (replicate n.after V) t6,
+      times-replicate_other V S n.signs (λ e. cc),
+      times-replicate V V n.points refl,
+      times-replicate_other V P n.left (λ e. cc),
+      times-replicate_other V Nine n.nines (λ e. cc),
+      times-replicate_other V P n.right (λ e. cc),
+      times-replicate V V n.after refl,
+      times-replicate_other V Nine n.fraction (λ e. cc),
+    )
+
+-- a numeric picture is of no other category
+pub numeric_alone : (c : Category) (ps : List Symbol) (n : NumericParts) → IsNumeric n → ps ≡ numeric_symbols n → IsOf c ps → c ≡ Numeric
+numeric_alone Numeric ps n is e h = refl
+numeric_alone Alphabetic ps n is e h =
+    absurd (omega (arith, h.each, h.some, ap (times A) e, times_written A n (λ x. cc) (λ x. cc) (λ x. cc) (λ x. cc)))
+numeric_alone Alphanumeric ps n is e h =
+    absurd (omega (arith, h.each, h.not_digits, ap (times A) e, ap (times X) e, times_written A n (λ x. cc) (λ x. cc) (λ x. cc) (λ x. cc), times_written X n (λ x. cc) (λ x. cc) (λ x. cc) (λ x. cc)))
+numeric_alone AlphanumericEdited ps n is e h =
+    absurd (omega (arith, h.characters, ap (times A) e, ap (times X) e, times_written A n (λ x. cc) (λ x. cc) (λ x. cc) (λ x. cc), times_written X n (λ x. cc) (λ x. cc) (λ x. cc) (λ x. cc)))
+numeric_alone NumericEdited ps n is e h = absurd h

@@ -1,0 +1,9 @@
+use Rattle.std.proofs.Common.{◌≡◌, ℕ, ◌*◌, ◌≤◌, length, take}
+use Rattle.cob_picture.specs.Positions.{written_out}
+use Rattle.cob_picture.proofs.category.total.Given as goal
+
+abbrev pub invariant-loop-run : goal.invariant-loop-run
+invariant-loop-run l = record {
+  value : l.count ≡ length (written_out (take l.run-index l.runs));
+  bound : l.count ≤ 65535 * l.run-index;
+}

@@ -1,0 +1,6 @@
+use Rattle.std.proofs.Common.{◌≡◌, ℕ, sym, ap, ◌∙◌, arith}
+use Rattle.cob_picture.proofs.Limits.{shows_none}
+use Rattle.cob_picture.proofs.picture.Picture.signed.Goals as goal
+
+pub returns-clause-other : goal.returns-clause-other
+returns-clause-other c = rw (← c.self.view_is) (λ e. c.self.invariant.0.keeps_sign ∙ (shows_none _ _ e c.self.invariant.0.picture.order).sign)

@@ -1,0 +1,34 @@
+-- The categories of pictures, each by the symbols that its pictures have.
+use Rattle.std.specs.Prelude.{◌≡◌, ℕ, ◌+◌, ◌<◌, List, length}
+use Rattle.cob_picture.specs.declared.symbol.Symbol.{Symbol}
+use Rattle.cob_picture.specs.declared.symbol.Symbol.TheVariants.{A, X, Nine, B, Zero, Slash}
+use Rattle.cob_picture.specs.declared.numeric.NumericParts.{NumericParts}
+use Rattle.cob_picture.specs.declared.category.Category.{Category}
+use Rattle.cob_picture.specs.declared.category.Category.TheVariants.{Alphabetic, Numeric, Alphanumeric, AlphanumericEdited, NumericEdited}
+use Rattle.cob_picture.specs.Positions.{times}
+use Rattle.cob_picture.specs.Numeric.{IsNumeric, numeric_symbols}
+
+-- A alone
+pub record IsAlphabetic (symbols : List Symbol) : Type 0 where
+  pub some : 0 < length symbols
+  pub each : times A symbols ≡ length symbols
+
+-- A, X and 9, not all A and not all 9
+pub record IsAlphanumeric (symbols : List Symbol) : Type 0 where
+  pub each : times A symbols + times X symbols + times Nine symbols ≡ length symbols
+  pub not_letters : times A symbols < length symbols
+  pub not_digits : times Nine symbols < length symbols
+
+-- A, X, 9, B, 0 and the stroke, at least one A or X and one insertion
+pub record IsAlphanumericEdited (symbols : List Symbol) : Type 0 where
+  pub each : times A symbols + times X symbols + times Nine symbols + times B symbols + times Zero symbols + times Slash symbols ≡ length symbols
+  pub characters : 0 < times A symbols + times X symbols
+  pub insertions : 0 < times B symbols + times Zero symbols + times Slash symbols
+
+-- the symbols stand in the order of the category
+abbrev pub IsOf : Category → List Symbol → Type 0
+IsOf Alphabetic symbols = IsAlphabetic symbols
+IsOf Numeric symbols = (n : NumericParts) × IsNumeric n × (symbols ≡ numeric_symbols n)
+IsOf Alphanumeric symbols = IsAlphanumeric symbols
+IsOf AlphanumericEdited symbols = IsAlphanumericEdited symbols
+IsOf NumericEdited symbols = ⊥

@@ -1,0 +1,9 @@
+pub mod Symbols
+pub mod WrittenOut
+pub mod Positions
+pub mod Runs
+pub mod Counts
+pub mod Numeric
+pub mod Categories
+pub mod Pictures
+pub mod Measures

@@ -1,0 +1,38 @@
+-- What the counts over runs say of the positions.
+use Rattle.std.specs.Prelude.{◌≡◌, ℕ, ◌+◌, Bool, true, false, List, [], ◌∷◌, ℤ, count_by, if◌then◌else◌}
+use Rattle.cob_picture.specs.declared.symbol.Symbol.{Symbol}
+use Rattle.cob_picture.specs.declared.symbol.Symbol.TheVariants.{S, P}
+use Rattle.cob_picture.specs.declared.symbol.Run.{Run}
+use Rattle.cob_picture.specs.declared.position.Position.{Position}
+use Rattle.cob_picture.specs.declared.counts.Counts.{Counts}
+use Rattle.cob_picture.specs.declared.category.Category.{Category}
+use Rattle.cob_picture.specs.Positions.{is, positions}
+use Rattle.cob_picture.specs.Counts.{width, size, digits, decimal_places, is_scaling, whole_part, fraction_part, scale, signed}
+use Rattle.cob_picture.specs.Pictures.{IsPicture}
+
+-- the counts over positions
+pub record AreCountsOf (ps : List Position) (m : Counts) : Type 0 where
+  pub kept : m.digits ≡ digits ps
+  pub all : m.decimal_places ≡ decimal_places ps
+  pub behind : m.fraction ≡ decimal_places (fraction_part ps)
+  pub missing : m.missing ≡ count_by is_scaling (whole_part ps)
+  pub bytes : m.size ≡ size ps
+  pub sign : m.signed ≡ signed ps
+
+-- what a picture keeps beside its runs
+pub record IsKept (c : Category) (symbols : List Symbol) (bytes count : ℕ) (unit : ℤ) (sign : Bool) : Type 0 where
+  pub picture : IsPicture c symbols
+  pub takes : bytes ≡ size (positions c symbols)
+  pub shows : count ≡ digits (positions c symbols)
+  pub counts_in : unit ≡ scale (positions c symbols)
+  pub keeps_sign : sign ≡ signed (positions c symbols)
+
+-- a P at the left, behind an S at most, among runs
+abbrev pub run_leads : List Run → Bool
+run_leads [] = false
+run_leads (r ∷ runs) = if is S r.symbol then run_leads runs else is P r.symbol
+
+-- the bytes of symbols
+abbrev pub symbols_size : List Symbol → ℕ
+symbols_size [] = 0
+symbols_size (s ∷ symbols) = width s + symbols_size symbols

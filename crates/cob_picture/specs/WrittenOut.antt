@@ -1,0 +1,100 @@
+-- A picture's text as symbols and repeats.
+use Rattle.std.specs.Prelude.{◌≡◌, ◌≢◌, ℕ, ◌+◌, ◌-◌, ◌*◌, ◌<◌, ◌≤◌, ◌⊎◌, min, List, [], ◌∷◌, ◌++◌, length, replicate}
+use Rattle.std.specs.List.{fold, flat_map, AllByRecursion}
+use Rattle.cob_picture.specs.declared.TheConstants.{MANY}
+use Rattle.cob_picture.specs.declared.symbol.Symbol.{Symbol}
+use Rattle.cob_picture.specs.declared.symbol.Run.{Run}
+use Rattle.cob_picture.specs.declared.fault.PictureFault.{PictureFault}
+use Rattle.cob_picture.specs.declared.fault.PictureFault.TheVariants.{UnknownSymbol, BadRepeat, LeftOut, Empty, Order, Digits, TooLong}
+use Rattle.cob_picture.specs.Symbols.{chars, IsLeftOutSymbol}
+
+-- a character 0 to 9
+abbrev pub IsDigit : ℕ → Type 0
+IsDigit c = (48 ≤ c) × (c < 58)
+
+-- the number that digits spell
+abbrev pub number_of : List ℕ → ℕ
+number_of digits = fold (λ n c. n * 10 + (c - 48)) 0 digits
+
+-- a symbol, alone or with the digits of its repeat
+pub data Item : Type 0 where
+  Once : Symbol → Item
+  Times : Symbol → List ℕ → Item
+
+-- a repeat has digits, and its number isn't 0
+abbrev pub IsItem : Item → Type 0
+IsItem (Once s) = Unit {0}
+IsItem (Times s digits) = AllByRecursion IsDigit digits × (0 < number_of digits)
+
+-- the digits of a repeat and its closing bracket
+abbrev pub closed : List ℕ → List ℕ
+closed digits = digits ++ 41 ∷ []
+
+-- the characters of an item
+abbrev pub spelling : Item → List ℕ
+spelling (Once s) = chars s
+spelling (Times s digits) = chars s ++ (40 ∷ closed digits)
+
+abbrev pub symbol_in : Item → Symbol
+symbol_in (Once s) = s
+symbol_in (Times s digits) = s
+
+-- how often the symbol stands there
+abbrev pub times_in : Item → ℕ
+times_in (Once s) = 1
+times_in (Times s digits) = number_of digits
+
+-- the symbols that an item stands for
+abbrev pub symbols_in : Item → List Symbol
+symbols_in i = replicate (times_in i) (symbol_in i)
+
+-- The same, with a repeat of more than 40,000 counted as 40,000: no picture may have as many of any symbol.
+abbrev pub counted_in : Item → List Symbol
+counted_in i = replicate (min (times_in i) MANY) (symbol_in i)
+
+-- the run of an item
+abbrev pub run_of : Item → Run
+run_of i = record { symbol = symbol_in i; count = min (times_in i) MANY }
+
+-- no bracket opens here
+abbrev pub NotOpen : List ℕ → Type 0
+NotOpen [] = Unit {0}
+NotOpen (c ∷ more) = c ≢ 40
+
+-- what may follow these items: behind a symbol alone no bracket opens
+abbrev pub Ready : List Item → List ℕ → Type 0
+Ready [] rest = Unit {0}
+Ready (Once s ∷ []) rest = NotOpen rest
+Ready (Times s digits ∷ []) rest = Unit {0}
+Ready (i ∷ j ∷ items) rest = Ready (j ∷ items) rest
+
+-- the text spells the items
+pub record Reads (text : List ℕ) (items : List Item) : Type 0 where
+  pub each : AllByRecursion IsItem items
+  pub spelled : text ≡ flat_map spelling items
+
+-- the items stand at the front of the text, and the rest behind them
+pub record Front (text : List ℕ) (items : List Item) (rest : List ℕ) : Type 0 where
+  pub each : AllByRecursion IsItem items
+  pub spelled : text ≡ flat_map spelling items ++ rest
+  pub ready : Ready items rest
+
+-- a symbol and an opening bracket, behind which no closed number above 0 stands
+abbrev pub IsBadRepeat : List ℕ → Type 0
+IsBadRepeat text = (s : Symbol) × (more : List ℕ) × (text ≡ chars s ++ (40 ∷ more))
+    × ((digits after : List ℕ) → AllByRecursion IsDigit digits → 0 < number_of digits → more ≡ closed digits ++ after → ⊥)
+
+-- What is wrong at the front of a text: a character that begins no symbol of any picture, a repeat that is none or stands
+-- behind no symbol, or a symbol that is left out.
+abbrev pub IsItemFault : PictureFault → List ℕ → Type 0
+IsItemFault UnknownSymbol text = ((s : Symbol) (more : List ℕ) → text ≡ chars s ++ more → ⊥) × NotOpen text × ((c : ℕ) (more : List ℕ) → IsLeftOutSymbol c → text ≡ c ∷ more → ⊥)
+IsItemFault BadRepeat text = ((more : List ℕ) × (text ≡ 40 ∷ more)) ⊎ IsBadRepeat text
+IsItemFault LeftOut text = (c : ℕ) × (more : List ℕ) × IsLeftOutSymbol c × (text ≡ c ∷ more)
+IsItemFault Empty text = ⊥
+IsItemFault Order text = ⊥
+IsItemFault Digits text = ⊥
+IsItemFault TooLong text = ⊥
+
+-- behind some items something stands, and it is wrong
+abbrev pub IsBrokenAfter : PictureFault → List ℕ → Type 0
+IsBrokenAfter f text = (items : List Item) × (rest : List ℕ) × Front text items rest × (0 < length rest) × IsItemFault f rest

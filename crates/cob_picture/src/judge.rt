@@ -1,0 +1,51 @@
+ghost use Rattle.std.specs.Prelude.{◌≡◌, ℕ, ◌+◌, ◌<◌, ◌≤◌, ◌⊎◌, length, IfOk, IfErr, IsOkAnd, IsTrue, IsFalse};
+ghost use Rattle.cob_picture.specs.Positions.{written_out, positions, shows_number, is_edited};
+ghost use Rattle.cob_picture.specs.Runs.{ArePositive};
+ghost use Rattle.cob_picture.specs.Measures.{AreCountsOf};
+ghost use Rattle.cob_picture.specs.Pictures.{IsPicture, IsMisplaced};
+ghost use Rattle.cob_picture.specs.declared.category.Category.{Category};
+
+use crate::category::{Category, category_of};
+use crate::counts::{Counts, counted};
+use crate::fault::PictureFault;
+use crate::symbol::Run;
+use crate::{MAX_DIGITS, MAX_EDITED_SIZE, MAX_SIZE};
+
+/// Whether a picture of the category may show so many digits.
+pub fn digits_fit(category: Category, counts: Counts) -> bool
+    ensures some { IsTrue result → IsTrue (shows_number category) → 0 < counts.digits }
+    ensures few { IsTrue result → counts.decimal_places ≤ MAX_DIGITS }
+    ensures not { IsFalse result → (IsTrue (shows_number category) × (counts.digits ≡ 0)) ⊎ (MAX_DIGITS < counts.decimal_places) }
+{
+    (counts.digits > 0 || !category.shows_number()) && counts.decimal_places <= MAX_DIGITS
+}
+
+/// Whether a picture of the category may take so many bytes.
+pub fn size_fits(category: Category, size: u32) -> bool
+    ensures all { IsTrue result → size ≤ MAX_SIZE }
+    ensures edited { IsTrue result → IsTrue (is_edited category) → size ≤ MAX_EDITED_SIZE }
+    ensures not { IsFalse result → (MAX_SIZE < size) ⊎ (IsTrue (is_edited category) × (MAX_EDITED_SIZE < size)) }
+{
+    size <= MAX_SIZE && (size <= MAX_EDITED_SIZE || !category.is_edited())
+}
+
+/// The category of the runs of a picture, and what is counted over its positions.
+pub fn judged(runs: &[Run]) -> Result<(Category, Counts), PictureFault>
+    requires short { length runs.now ≤ 50 }
+    requires positive { ArePositive runs.now }
+    ensures found { IfOk result (λ r. IsPicture r.0 (written_out runs.now) × AreCountsOf (positions r.0 (written_out runs.now)) r.1) }
+    ensures only { (c : Category) → IsPicture c (written_out runs.now) → IsOkAnd result (λ r. r.0 ≡ c) }
+    ensures fault { IfErr result (λ f. IsMisplaced f (written_out runs.now)) }
+{
+    let Some(category) = category_of(runs) else {
+        return Err(PictureFault::Order);
+    };
+    let counts = counted(runs, category);
+    if !digits_fit(category, counts) {
+        return Err(PictureFault::Digits);
+    }
+    if !size_fits(category, counts.size) {
+        return Err(PictureFault::TooLong);
+    }
+    Ok((category, counts))
+}

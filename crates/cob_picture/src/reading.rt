@@ -1,0 +1,79 @@
+ghost use Rattle.std.specs.Prelude.{◌≡◌, ℕ, ◌<◌, ◌≤◌, min, List, [], ◌∷◌, ◌++◌, length, map, IfSome, IsSomeAnd, IfOk, IfErr, IsOkAnd};
+ghost use Rattle.std.specs.List.{AllByRecursion};
+ghost use Rattle.cob_picture.specs.Symbols.{chars};
+ghost use Rattle.cob_picture.specs.declared.symbol.Symbol.{Symbol};
+ghost use Rattle.cob_picture.specs.WrittenOut.{IsDigit, number_of, closed, Item, IsItem, spelling, run_of, NotOpen, Ready, Reads, Front, IsItemFault, IsBrokenAfter};
+
+use crate::MANY;
+use crate::fault::PictureFault;
+use crate::symbol::{Run, symbol_at};
+use arrayvec::ArrayVec;
+
+/// The number at the front, closed by a bracket, or `MANY` where it is more, and what follows.
+pub fn repeat_at(text: &[u8]) -> Option<(u16, &[u8])>
+    ensures found { IfSome result (λ r. (digits : List ℕ) × AllByRecursion IsDigit digits × (0 < number_of digits)
+        × (text.now ≡ closed digits ++ r.1.now) × (r.0 ≡ min (number_of digits) MANY)) }
+    ensures only { (digits more : List ℕ) → AllByRecursion IsDigit digits → 0 < number_of digits
+        → text.now ≡ closed digits ++ more → IsSomeAnd result (λ r. (r.0 ≡ min (number_of digits) MANY) × (r.1.now ≡ more)) }
+{
+    let mut number: u32 = 0;
+    for (i, c) in text.iter().enumerate() {
+        match *c {
+            b'0'..=b'9' => number = (number * 10 + u32::from(*c - b'0')).min(u32::from(MANY)),
+            b')' if number > 0 => return Some((number as u16, &text[i + 1..])),
+            _ => return None,
+        }
+    }
+    None
+}
+
+/// What is wrong with a text that begins with no symbol.
+pub fn unreadable(text: &[u8]) -> PictureFault
+    requires { (s : Symbol) (more : List ℕ) → text.now ≡ chars s ++ more → ⊥ }
+    ensures { IsItemFault result text.now }
+{
+    match text.first() {
+        Some(b'(') => PictureFault::BadRepeat,
+        Some(b'E' | b'G' | b'N' | b'U') => PictureFault::LeftOut,
+        _ => PictureFault::UnknownSymbol,
+    }
+}
+
+/// The symbol with its repeat at the front, and what follows.
+pub fn item_at(text: &[u8]) -> Result<(Run, &[u8]), PictureFault>
+    ensures found { IfOk result (λ r. (i : Item) × IsItem i × (text.now ≡ spelling i ++ r.1.now) × Ready (i ∷ []) r.1.now × (r.0 ≡ run_of i)) }
+    ensures only { (i : Item) (more : List ℕ) → IsItem i → NotOpen more → text.now ≡ spelling i ++ more
+        → IsOkAnd result (λ r. (r.0 ≡ run_of i) × (r.1.now ≡ more)) }
+    ensures fault { IfErr result (λ f. IsItemFault f text.now) }
+{
+    let Some((symbol, rest)) = symbol_at(text) else {
+        return Err(unreadable(text));
+    };
+    let Some((open, inside)) = rest.split_first() else {
+        return Ok((Run { symbol, count: 1 }, rest));
+    };
+    if *open != b'(' {
+        return Ok((Run { symbol, count: 1 }, rest));
+    }
+    let Some((count, more)) = repeat_at(inside) else {
+        return Err(PictureFault::BadRepeat);
+    };
+    Ok((Run { symbol, count }, more))
+}
+
+/// The runs of a text.
+pub fn runs_of(text: &[u8]) -> Result<ArrayVec<Run, 50>, PictureFault>
+    requires { length text.now ≤ 50 }
+    ensures found { IfOk result (λ v. (items : List Item) × Reads text.now items × (v.items ≡ map run_of items)) }
+    ensures only { (items : List Item) → Reads text.now items → IsOkAnd result (λ v. v.items ≡ map run_of items) }
+    ensures fault { IfErr result (λ f. IsBrokenAfter f text.now) }
+{
+    let mut runs = ArrayVec::new();
+    let mut rest = text;
+    while !rest.is_empty() {
+        let (run, more) = item_at(rest)?;
+        runs.push(run);
+        rest = more;
+    }
+    Ok(runs)
+}
