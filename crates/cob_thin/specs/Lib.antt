@@ -1,2 +1,5 @@
 pub mod Words
 pub mod Books
+pub mod Names
+pub mod Reading
+pub mod Views

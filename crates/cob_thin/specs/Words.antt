@@ -16,7 +16,7 @@ words_in text = filled (parts 32 text)
 
 -- columns 8 to 72 of a line
 abbrev pub area : List ℕ → List ℕ
-area line = take 65 (drop 7 line)
+area line = drop 7 (take 72 line)
 
 -- the words of each line that is not blank; a line ends at a line feed
 unfoldable pub words_of : List ℕ → List (List (List ℕ))

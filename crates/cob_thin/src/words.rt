@@ -1,14 +1,21 @@
 // Words of a line, read from the front.
-ghost use Rattle.std.specs.Prelude.{◌≡◌, ◌<◌, ℕ, [], ◌∷◌, ◌++◌, ◌⊎◌, length, IfSome, IfNone, IsTrue};
-ghost use Rattle.std.specs.Bool.{OnTrue};
+ghost use Rattle.std.specs.Prelude.{◌≡◌, ◌==◌, ◌<◌, ℕ, [], ◌∷◌, ◌++◌, ◌⊎◌, length, IfSome, IfNone, IsTrue, ◌↔◌};
+ghost use Rattle.std.specs.List.{position};
 ghost use Rattle.cob_thin.specs.Words.{IsCut, words_in, area};
+
+// Where the first mark stands.
+fn first_mark(text: &[u8], mark: u8) -> Option<usize>
+    ensures { result ≡ position (λ c. c == mark) text.now }
+{
+    text.iter().position(|byte| *byte == mark)
+}
 
 // The part before the first mark, and what follows the mark.
 pub(crate) fn front_part(text: &[u8], mark: u8) -> (&[u8], &[u8])
     ensures cut { IsCut mark text.now result.0.now result.1.now }
     ensures shorter { 0 < length text.now → length result.1.now < length text.now }
 {
-    match text.iter().position(|byte| *byte == mark) {
+    match first_mark(text, mark) {
         Some(at) => (&text[..at], &text[at + 1..]),
         None => (text, &text[text.len()..]),
     }
@@ -40,7 +47,7 @@ pub(crate) fn after_word<'a>(text: &'a [u8], word: &[u8]) -> Option<&'a [u8]>
 
 // Whether there is no word.
 pub(crate) fn is_blank(text: &[u8]) -> bool
-    ensures { OnTrue result (words_in text.now ≡ []) }
+    ensures { IsTrue result ↔ (words_in text.now ≡ []) }
 {
     front_word(text).is_none()
 }

@@ -1,0 +1,95 @@
+// The lines of a text.
+ghost use Rattle.std.specs.Prelude.{◌≡◌, ◌+◌, ◌<◌, ◌≤◌, ℕ, [], ◌∷◌, ◌++◌, length, IfOk, MatchOption, OnSome, IsTrue, ◌↔◌};
+ghost use Rattle.cob_thin.specs.Words.{IsCut, words_in, words_of, area};
+
+use crate::fault::{Text, ThinFault};
+use crate::words::{front_part, is_blank};
+
+// How many bytes a text may have.
+const MAX_BYTES: usize = 1_000_000;
+
+// The columns of a line that are read: from the one after FIRST to LAST.
+const FIRST: usize = 7;
+const LAST: usize = 72;
+
+// The lines of a text that are still to be read.
+#[derive(Drop)]
+pub(crate) struct Lines<'a> {
+    text: Text,
+    rest: &'a [u8],
+    // The number of the line that was read last, and how many bytes may follow it.
+    number: u32,
+    left: usize,
+    ghost few: { number + left ≤ 1000000 },
+}
+
+impl<'a> Lines<'a> {
+    // All lines of a text.
+    pub(crate) fn new(text: Text, bytes: &'a [u8]) -> Lines<'a>
+        ensures { result.rest.now ≡ bytes.now }
+    {
+        Lines {
+            text,
+            rest: bytes,
+            number: 0,
+            left: MAX_BYTES,
+        }
+    }
+
+    // That the line read last is at fault, or that more lines are wanting.
+    pub(crate) fn fault(&self) -> ThinFault {
+        ThinFault::NotYet {
+            text: self.text,
+            line: self.number.max(1),
+        }
+    }
+
+    // The next line that is not blank: its columns 8 to 72.
+    pub(crate) fn next_area(&mut self) -> Result<Option<&'a [u8]>, ThinFault>
+        ensures words { IfOk result (λ next. MatchOption next (words_of self.old.rest.now ≡ []) (λ line. words_of self.old.rest.now ≡ words_in line.now ∷ words_of self.new.rest.now)) }
+        ensures shorter { IfOk result (λ next. OnSome next (length self.new.rest.now < length self.old.rest.now)) }
+    {
+        while let Some(line) = self.next_line()? {
+            let columns = area_of(line);
+            if !is_blank(columns) {
+                return Ok(Some(columns));
+            }
+        }
+        Ok(None)
+    }
+
+    // The next line.
+    fn next_line(&mut self) -> Result<Option<&'a [u8]>, ThinFault>
+        ensures line { IfOk result (λ next. MatchOption next (length self.old.rest.now ≡ 0) (λ line. IsCut 10 self.old.rest.now line.now self.new.rest.now)) }
+        ensures shorter { IfOk result (λ next. OnSome next (length self.new.rest.now < length self.old.rest.now)) }
+    {
+        if self.rest.is_empty() {
+            return Ok(None);
+        }
+        let (line, rest) = front_part(self.rest, b'\n');
+        let taken = self.rest.len() - rest.len();
+        if taken > self.left || !is_plain(line) {
+            return Err(ThinFault::NotYet {
+                text: self.text,
+                line: self.number + 1,
+            });
+        }
+        self.number += 1;
+        self.left -= taken;
+        self.rest = rest;
+        Ok(Some(line))
+    }
+}
+
+// Columns 8 to 72.
+fn area_of(line: &[u8]) -> &[u8]
+    ensures { result.now ≡ area line.now }
+{
+    let front = &line[..line.len().min(LAST)];
+    &front[front.len().min(FIRST)..]
+}
+
+// Whether a line holds printing characters and spaces alone, and a space in column 7.
+fn is_plain(line: &[u8]) -> bool {
+    line.iter().all(|byte| matches!(*byte, b' '..=b'~')) && line.get(6).is_none_or(|byte| *byte == b' ')
+}
