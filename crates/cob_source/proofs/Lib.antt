@@ -5,3 +5,4 @@ pub mod CutOnce
 pub mod Trims
 pub mod Opens
 pub mod ReadingLemmas
+pub mod PieceLemmas

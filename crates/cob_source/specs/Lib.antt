@@ -3,3 +3,4 @@ pub mod Cuts
 pub mod Lines
 pub mod Words
 pub mod Reading
+pub mod Pieces
