@@ -1,0 +1,4 @@
+pub mod ZonedLemmas
+pub mod PackedLemmas
+pub mod BinaryLemmas
+pub mod SliceLemmas

@@ -1,0 +1,14 @@
+use Rattle.cob_codec.specs.ZonedLaws as zoned
+use Rattle.cob_codec.specs.SeparateLaws as separate
+use Rattle.cob_codec.specs.PackedLaws as packed
+use Rattle.cob_codec.specs.BinaryLaws as binary
+use Rattle.cob_codec.proofs.laws.bytes_represent_one_number.Goals as goal
+
+pub returns : goal.returns
+returns c = record {
+  zoned = λ count signed leading. zoned.one_number count signed leading;
+  separate = λ count leading. separate.one_number count leading;
+  packed = λ count signed. packed.one_number count signed;
+  binary = λ count signed. binary.one_number count signed;
+  whole = λ count signed. binary.one_whole count signed;
+}

@@ -1,0 +1,8 @@
+use Rattle.cob_codec.specs.SignLaws.{only_from}
+use Rattle.cob_codec.specs.ZonedLaws.{one_number}
+use Rattle.cob_codec.proofs.zoned.ZonedStorage.read.Goals as goal
+
+pub returns-clause-only : goal.returns-clause-only
+returns-clause-only c = λ negative digits it.
+    only_from c.read_zoned.result _ _ _ c.read_zoned.ensures.found c.read_zoned.ensures.none (λ none. none negative digits it)
+    (λ v found. one_number c.args.shape.now.digits c.args.shape.now.signed c.args.shape.now.leading c.args.bytes.now v.negative negative v.digits digits found it)

@@ -1,0 +1,33 @@
+ghost use Rattle.std.specs.Prelude.{◌<◌, ◌≤◌, ℕ, Bool, IsTrue};
+ghost use Rattle.cob_codec.specs.Binary.{IsBinary, IsWhole, binary_form};
+ghost use Rattle.cob_codec.specs.Laws.{OneNumber, OneValue, ReadsBack};
+ghost use Rattle.cob_codec.specs.Packed.{IsPacked, packed_form};
+ghost use Rattle.cob_codec.specs.Separate.{IsSeparate, separate_form};
+ghost use Rattle.cob_codec.specs.Zoned.{IsZoned, zoned_form};
+ghost use Rattle.cob_codec.specs.declared.binary.TheConstants.{MAX_BINARY_DIGITS};
+
+/// Bytes represent at most one number, in each kind of storage and in the reading of whole binary items.
+pub fn bytes_represent_one_number()
+    ensures zoned { (count : ℕ) (signed leading : Bool) → OneNumber (IsZoned count signed leading) }
+    ensures separate { (count : ℕ) (leading : Bool) → OneNumber (IsSeparate count leading) }
+    ensures packed { (count : ℕ) (signed : Bool) → OneNumber (IsPacked count signed) }
+    ensures binary { (count : ℕ) (signed : Bool) → OneNumber (IsBinary count signed) }
+    ensures whole { (count : ℕ) (signed : Bool) → OneNumber (IsWhole count signed) }
+{}
+
+/// What was stored reads back, in each kind of storage.
+pub fn stored_numbers_read_back()
+    ensures zoned { (count : ℕ) (signed leading : Bool) → 0 < count
+        → ReadsBack count signed (zoned_form signed leading) (IsZoned count signed leading) }
+    ensures separate { (count : ℕ) (signed leading : Bool)
+        → ReadsBack count signed (separate_form leading) (IsSeparate count leading) }
+    ensures packed { (count : ℕ) (signed : Bool)
+        → ReadsBack count signed (packed_form signed) (IsPacked count signed) }
+    ensures binary { (count : ℕ) (signed : Bool) → count ≤ MAX_BINARY_DIGITS
+        → ReadsBack count signed (binary_form count) (IsBinary count signed) }
+{}
+
+/// Where the picture's digits hold the number of a binary item's bytes, the item read whole is the same number.
+pub fn whole_reading_agrees()
+    ensures { (count : ℕ) (signed : Bool) → OneValue (IsBinary count signed) (IsWhole count signed) }
+{}

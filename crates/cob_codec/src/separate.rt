@@ -1,0 +1,108 @@
+ghost use Rattle.std.proofs.Common.{◌∙◌};
+ghost use Rattle.std.specs.Prelude.{◌≡◌, ◌≢◌, ◌+◌, ◌<◌, ℕ, List, [], ◌∷◌, ◌++◌, Bool, IsTrue, if◌then◌else◌, length, IfSome, IfNone};
+ghost use Rattle.cob_codec.specs.Separate.{IsSeparate, separate_form, sign_byte};
+ghost use Rattle.cob_codec.specs.SeparateLaws as laws;
+
+use crate::shape::Shape;
+use crate::storage::Storage;
+use crate::zoned::{put_digits, read_digits};
+use cob_decimal::Number;
+
+/// Zoned decimal with a separate sign: a byte of its own, before or behind the digits (SIGN SEPARATE).
+pub struct Separate;
+
+impl Storage for Separate {
+    ghost takes = { λ shape. IsTrue shape.signed };
+
+    ghost size = { λ shape. shape.digits + 1 };
+
+    ghost represents = { λ shape bytes negative digits.
+        IsSeparate shape.digits shape.leading bytes negative digits };
+
+    ghost stored = { λ shape negative digits. separate_form shape.leading negative digits };
+
+    ghost stored_length = { λ shape negative digits _ number.
+        laws.stored_length shape.digits shape.leading negative digits number.count_is };
+
+    ghost reads_back = { λ shape negative digits _ number.
+        laws.reads_back shape.digits shape.signed shape.leading negative digits number };
+
+    ghost one_number = { λ shape bytes a b ds es _ p q.
+        laws.one_number shape.digits shape.leading bytes a b ds es p q };
+
+    ghost held = { λ shape bytes negative digits signed p.
+        laws.held_separate shape.digits shape.signed shape.leading bytes negative digits signed p };
+
+    fn length(shape: &Shape) -> u16 {
+        u16::from(shape.digits) + 1
+    }
+
+    fn read(shape: &Shape, bytes: &[u8]) -> Option<Number> {
+        read_separate(shape, bytes)
+    }
+
+    fn store(shape: &Shape, number: &Number, bytes: &mut [u8]) {
+        let digits = number.digits().as_slice();
+        let sign = sign_written(number.negative());
+        if shape.leading {
+            bytes[0] = sign;
+            put_digits(&mut bytes[1..], digits);
+        } else {
+            put_digits(&mut bytes[..digits.len()], digits);
+            bytes[digits.len()] = sign;
+        }
+    }
+}
+
+/// The byte of a sign.
+fn sign_written(negative: bool) -> u8
+    ensures { result ≡ sign_byte negative }
+{
+    if negative { 0x60 } else { 0x4E }
+}
+
+/// Whether a sign's byte is a minus, if it is a sign.
+fn sign_read(byte: u8) -> Option<bool>
+    ensures found { IfSome result (λ minus. byte ≡ sign_byte minus) }
+    ensures none { IfNone result ((minus : Bool) → byte ≢ sign_byte minus) }
+{
+    match byte {
+        0x4E => Some(false),
+        0x60 => Some(true),
+        _ => None,
+    }
+}
+
+/// The byte of the sign and those of the digits.
+fn split_sign(leading: bool, bytes: &[u8]) -> (u8, &[u8])
+    requires { 0 < length bytes.now }
+    ensures parts { bytes.now
+        ≡ (if leading then result.0 ∷ result.1.now else result.1.now ++ result.0 ∷ []) }
+    ensures long { length bytes.now ≡ length result.1.now + 1 }
+{
+    if leading {
+        (bytes[0], &bytes[1..])
+    } else {
+        let last = bytes.len() - 1;
+        (bytes[last], &bytes[..last])
+    }
+}
+
+/// The number that bytes with a separate sign represent, if they do.
+fn read_separate(shape: &Shape, bytes: &[u8]) -> Option<Number>
+    requires { length bytes.now ≡ shape.now.digits + 1 }
+    ensures found { IfSome result (λ v.
+        IsSeparate shape.now.digits shape.now.leading bytes.now v.negative v.digits) }
+    ensures scale { IfSome result (λ v. v.scale ≡ shape.now.scale) }
+    ensures none { IfNone result ((negative : Bool) (digits : List ℕ)
+        → ¬ IsSeparate shape.now.digits shape.now.leading bytes.now negative digits) }
+{
+    let (sign, text) = split_sign(shape.leading, bytes);
+    match sign_read(sign) {
+        Some(negative) => match read_digits(text) {
+            Some(digits) => Some(Number::new(negative, digits, shape.scale)),
+            None => None,
+        },
+        None => None,
+    }
+}

@@ -1,0 +1,67 @@
+ghost use Rattle.std.specs.Prelude.{◌≡◌, ◌<◌, ℕ, List, Bool, length, IfSome, IsSomeAnd, IsTrue};
+ghost use Rattle.cob_codec.specs.Sign.{IsHeld};
+ghost use Rattle.cob_codec.specs.declared.shape.Shape.{Shape};
+
+use crate::shape::Shape;
+use cob_decimal::Number;
+
+/// A kind of storage of numbers.
+///
+/// Generic code proves what it needs from the members and the laws alone.
+pub trait Storage {
+    /// The shapes that this kind takes.
+    ghost takes: { Shape → Type 0 };
+
+    /// How many bytes an item has.
+    ghost size: { Shape → ℕ };
+
+    /// The bytes of an item represent the number of these digits, negative or not, at the shape's scale.
+    ghost represents: { Shape → List ℕ → Bool → List ℕ → Type 0 };
+
+    /// The bytes that are written for such a number.
+    ghost stored: { Shape → Bool → List ℕ → List ℕ };
+
+    /// How many bytes an item has.
+    fn length(shape: &Shape) -> u16
+        requires { takes shape.now }
+        ensures { result ≡ size shape.now };
+
+    /// The number that the bytes of an item represent, if they do.
+    fn read(shape: &Shape, bytes: &[u8]) -> Option<Number>
+        requires taken { takes shape.now }
+        requires long { length bytes.now ≡ size shape.now }
+        ensures found { IfSome result (λ v. represents shape.now bytes.now v.negative v.digits) }
+        ensures scale { IfSome result (λ v. v.scale ≡ shape.now.scale) }
+        ensures only { (negative : Bool) (digits : List ℕ) → represents shape.now bytes.now negative digits
+            → IsSomeAnd result (λ v. (v.negative ≡ negative) × (v.digits ≡ digits)) };
+
+    /// Writes a number of the shape's digits, scale and sign.
+    fn store(shape: &Shape, number: &Number, bytes: &mut [u8])
+        requires taken { takes shape.now }
+        requires long { length bytes.old ≡ size shape.now }
+        requires digits { length number.now.digits ≡ shape.now.digits }
+        requires scale { number.now.scale ≡ shape.now.scale }
+        requires sign { IsTrue number.now.negative → IsTrue shape.now.signed }
+        ensures bytes { bytes.new ≡ stored shape.now number.now.negative number.now.digits }
+        ensures held { IsHeld shape.now.digits shape.now.signed number.now.negative number.now.digits };
+
+    /// What was stored has the item's length.
+    ghost stored_length: { (shape : Shape) (negative : Bool) (digits : List ℕ)
+        → takes shape → IsHeld shape.digits shape.signed negative digits
+        → length (stored shape negative digits) ≡ size shape };
+
+    /// What was stored reads back.
+    ghost reads_back: { (shape : Shape) (negative : Bool) (digits : List ℕ)
+        → takes shape → IsHeld shape.digits shape.signed negative digits
+        → represents shape (stored shape negative digits) negative digits };
+
+    /// Bytes represent at most one number.
+    ghost one_number: { (shape : Shape) (bytes : List ℕ) (a b : Bool) (ds es : List ℕ)
+        → takes shape → represents shape bytes a ds → represents shape bytes b es
+        → (a ≡ b) × (ds ≡ es) };
+
+    /// What bytes represent is a number that the item can hold.
+    ghost held: { (shape : Shape) (bytes : List ℕ) (negative : Bool) (digits : List ℕ)
+        → takes shape → represents shape bytes negative digits
+        → IsHeld shape.digits shape.signed negative digits };
+}
