@@ -1,0 +1,23 @@
+-- A run whose ends all worked: the conversion of what came, record by record.
+use Rattle.std.specs.Prelude.{◌≡◌, ℕ, false, List, [], ◌++◌, length, Result}
+use Rattle.std.specs.List.{AllByRecursion}
+use Rattle.cob_convert.specs.declared.setup.Setup.{Setup}
+use Rattle.cob_convert.specs.declared.run.RunFault.{RunFault}
+use Rattle.cob_convert.specs.Run.{IsConverted, Ends, frames_in, frames_out, is_read_stop, is_write_stop}
+
+-- These bytes are the frames of records, one after another, up to a clean end, a stop or the limit; what is written are the
+-- frames of what these records become; and the answer says how it ended.
+pub record Converted (setup : Setup) (bytes written : List ℕ) (answer : Result ℕ RunFault) : Type 0 where
+  pub pairs : List (List ℕ × List ℕ)
+  pub left : List ℕ
+  pub rest : List ℕ
+  pub frames : bytes ≡ frames_in setup pairs ++ left
+  pub each : AllByRecursion (IsConverted setup) pairs
+  pub output : written ≡ frames_out setup pairs
+  pub ends : Ends setup (length pairs) (length (frames_out setup pairs)) left rest [] answer
+  pub read : is_read_stop answer ≡ false
+  pub wrote : is_write_stop answer ≡ false
+
+-- a sink that had taken `before` has now taken the conversion of these bytes too
+abbrev pub Writes : Setup → Result ℕ RunFault → List ℕ → List ℕ → List ℕ → Type 0
+Writes setup answer bytes before now = (written : List ℕ) × (now ≡ before ++ written) × Converted setup bytes written answer

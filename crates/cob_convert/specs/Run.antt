@@ -1,0 +1,113 @@
+-- A whole run: the records that came, what they became, and how the run ended.
+use Rattle.std.specs.Prelude.{◌≡◌, ℕ, ◌+◌, ◌-◌, ◌^◌, ◌<◌, Bool, false, min, List, [], ◌++◌, ◌⊎◌, length, flat_map, Ok, Err, Result}
+use Rattle.std.specs.List.{AllByRecursion}
+use Rattle.cob_records.specs.declared.records.RecordFault.{RecordFault}
+use Rattle.cob_records.specs.declared.records.RecordFault.TheVariants.{Length}
+use Rattle.cob_records.specs.Frame.{Reads, Puts, framed, IsRecord, is_read_failure, is_write_fault}
+use Rattle.cob_convert.specs.declared.setup.Setup.{Setup}
+use Rattle.cob_steps.specs.declared.plan.Stop.{Stop}
+use Rattle.cob_steps.specs.declared.plan.Side.{Side}
+use Rattle.cob_steps.specs.declared.plan.Side.TheVariants.{In, Out}
+use Rattle.cob_steps.specs.declared.plan.StopCause.{StopCause}
+use Rattle.cob_convert.specs.declared.run.Cause.{Cause}
+use Rattle.cob_convert.specs.declared.run.Cause.TheVariants.{NoValue, Count, Subscript, Limit, Record}
+use Rattle.cob_steps.specs.declared.plan.StopCause.TheVariants.{NoValue as StopNoValue, Count as StopCount, Subscript as StopSubscript}
+use Rattle.cob_convert.specs.declared.run.RunFault.{RunFault}
+use Rattle.cob_convert.specs.declared.setup.Misfit.{Misfit}
+use Rattle.cob_convert.specs.declared.setup.Misfit.TheVariants.{Count as Uncounted, Length as Unfitting}
+use Rattle.cob_convert.specs.Conversion.{in_length, Becomes, StopsAt, IsSized, IsMisfit}
+
+-- a record that came, and what it became
+pub record IsConverted (setup : Setup) (pair : List ℕ × List ℕ) : Type 0 where
+  pub whole : IsRecord setup.in_form (in_length setup) pair.0
+  pub sized : IsSized setup pair.0
+  pub converts : Becomes setup pair.0 pair.1
+
+-- the frames of the records that came
+abbrev pub frames_in : Setup → List (List ℕ × List ℕ) → List ℕ
+frames_in setup pairs = flat_map (λ pair. framed setup.in_form pair.0) pairs
+
+-- the frames of what they became
+abbrev pub frames_out : Setup → List (List ℕ × List ℕ) → List ℕ
+frames_out setup pairs = flat_map (λ pair. framed setup.out_form pair.1) pairs
+
+-- how many records a run converts at most
+abbrev pub most_records : ℕ
+most_records = 2 ^ 64 - 2
+
+-- a conversion's cause as a run's
+abbrev pub cause_from : StopCause → Cause
+cause_from StopNoValue = NoValue
+cause_from StopCount = Count
+cause_from StopSubscript = Subscript
+
+-- a record came whole and its conversion stopped so
+abbrev pub ConversionStops : Setup → List ℕ → List ℕ → List ℕ → Side → ℕ → Cause → Type 0
+ConversionStops setup left rest part side offset cause =
+    (input : List ℕ) × (stop : Stop) × IsRecord setup.in_form (in_length setup) input × (left ≡ framed setup.in_form input ++ rest)
+    × IsSized setup input × StopsAt setup input stop × (side ≡ stop.side) × (offset ≡ stop.offset) × (cause ≡ cause_from stop.cause) × (part ≡ [])
+
+-- a frame couldn't be read, or a record came, was converted and couldn't be written
+abbrev pub FrameStops : Setup → List ℕ → List ℕ → List ℕ → Side → RecordFault → Type 0
+FrameStops setup left rest part In fault = Reads setup.in_form (in_length setup) [] (Err fault) left rest × (part ≡ [])
+FrameStops setup left rest part Out fault =
+    (pair : List ℕ × List ℕ) × IsConverted setup pair × (left ≡ framed setup.in_form pair.0 ++ rest)
+    × Puts (framed setup.out_form pair.1) (Err fault) [] part
+
+-- what a layout's refusal is in a run
+abbrev pub offset_from : Misfit → ℕ
+offset_from (Uncounted offset) = offset
+offset_from Unfitting = 0
+
+abbrev pub refusal_from : Misfit → Cause
+refusal_from (Uncounted offset) = Count
+refusal_from Unfitting = Record Length
+
+-- a record came whole, and it isn't one of the layout
+abbrev pub LayoutStops : Setup → List ℕ → List ℕ → List ℕ → Side → ℕ → Cause → Type 0
+LayoutStops setup left rest part side offset cause =
+    (input : List ℕ) × (why : Misfit) × IsRecord setup.in_form (in_length setup) input × (left ≡ framed setup.in_form input ++ rest)
+    × IsMisfit setup input why × (side ≡ In) × (offset ≡ offset_from why) × (cause ≡ refusal_from why) × (part ≡ [])
+
+-- why a run stopped after n records
+abbrev pub StopsFor : Setup → ℕ → List ℕ → List ℕ → List ℕ → Side → ℕ → Cause → Type 0
+StopsFor setup n left rest part side offset Limit = (n ≡ most_records) × (side ≡ In) × (offset ≡ 0) × (rest ≡ left) × (part ≡ [])
+StopsFor setup n left rest part side offset (Record fault) = (n < most_records) × ((offset ≡ 0) × FrameStops setup left rest part side fault ⊎ LayoutStops setup left rest part side offset (Record fault))
+StopsFor setup n left rest part side offset cause = (n < most_records) × (ConversionStops setup left rest part side offset cause ⊎ LayoutStops setup left rest part side offset cause)
+
+-- How a run ends after n records and so many bytes written, where these bytes were left then: what is still to come, the part
+-- of a frame that went out, and the answer.
+abbrev pub Ends : Setup → ℕ → ℕ → List ℕ → List ℕ → List ℕ → Result ℕ RunFault → Type 0
+Ends setup n sent left rest part (Ok number) = (number ≡ n) × (n < most_records) × (left ≡ []) × (rest ≡ []) × (part ≡ [])
+Ends setup n sent left rest part (Err fault) =
+    (fault.number ≡ n + 1) × (fault.written ≡ min (sent + length part) (2 ^ 64 - 1))
+    × StopsFor setup n left rest part fault.side fault.offset fault.cause
+
+-- A run from these bytes, up to the rest, with this answer, by a sink that had taken `before` and has taken `now`: the records
+-- that came, what they became, and the end.
+pub record Ran (setup : Setup) (answer : Result ℕ RunFault) (bytes rest before now : List ℕ) : Type 0 where
+  pub pairs : List (List ℕ × List ℕ)
+  pub left : List ℕ
+  pub part : List ℕ
+  pub frames : bytes ≡ frames_in setup pairs ++ left
+  pub each : AllByRecursion (IsConverted setup) pairs
+  pub output : now ≡ before ++ (frames_out setup pairs ++ part)
+  pub ends : Ends setup (length pairs) (length (frames_out setup pairs)) left rest part answer
+
+-- the answer is that a read failed
+abbrev pub is_read_stop : Result ℕ RunFault → Bool
+is_read_stop (Ok number) = false
+is_read_stop (Err fault) = read_failed fault.cause
+  where
+    read_failed : Cause → Bool
+    read_failed (Record fault) = is_read_failure (Err fault)
+    read_failed _ = false
+
+-- the answer is that a write failed or took nothing
+abbrev pub is_write_stop : Result ℕ RunFault → Bool
+is_write_stop (Ok number) = false
+is_write_stop (Err fault) = write_failed fault.cause
+  where
+    write_failed : Cause → Bool
+    write_failed (Record fault) = is_write_fault fault
+    write_failed _ = false

@@ -1,0 +1,13 @@
+// Laws of whole runs, each proved as the contract of a function that only calls the laws below it.
+ghost use Rattle.cob_convert.specs.Unique.{ConversionIsOne};
+
+/// What is written for bytes, and what is answered, is determined: the records that they are cut into, what each
+/// becomes, and the end.
+pub fn conversion_is_one()
+    ensures { ConversionIsOne }
+{
+    cob_records::frames_are_one();
+    cob_records::frames_read_back();
+    cob_records::reading_is_one();
+    cob_steps::conversions_are_decided();
+}

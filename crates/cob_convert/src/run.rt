@@ -1,0 +1,150 @@
+ghost use Rattle.std.specs.Prelude.{◌≡◌, ◌+◌, ◌≤◌, length, IfOk, IfErr};
+ghost use Rattle.cob_records.specs.Device.{counted, Told};
+ghost use Rattle.cob_records.specs.Frame.{frame_size};
+ghost use Rattle.cob_steps.specs.Records.{record_length};
+ghost use Rattle.cob_convert.specs.Conversion.{in_length};
+ghost use Rattle.cob_convert.specs.Run.{Ran, cause_from, offset_from, refusal_from, is_read_stop, is_write_stop};
+
+use crate::setup::{Misfit, Setup, convert, measure, next_input};
+use cob_records::{Form, RecordFault, Sink, Source, put_record};
+use cob_steps::{Side, StopCause};
+
+/// Why a run stopped.
+#[derive(Clone, Copy, Debug, PartialEq, Eq)]
+pub enum Cause {
+    /// The sender's bytes represent no value.
+    NoValue,
+    /// The bytes of a count represent no number within its table's bounds.
+    Count,
+    /// A subscript is past its table's count.
+    Subscript,
+    /// The greatest number of records was converted.
+    Limit,
+    /// A record could not be read, or its frame not be written.
+    Record(RecordFault),
+}
+
+/// A run that stopped: at which record, counted from 1; on which side, and at which byte of the record, its
+/// descriptor apart (0 where a frame is at fault); why; and how many bytes the sink took in this run, up to
+/// the greatest `u64`.
+#[derive(Clone, Copy, Debug, PartialEq, Eq)]
+pub struct RunFault {
+    pub number: u64,
+    pub side: Side,
+    pub offset: u32,
+    pub cause: Cause,
+    pub written: u64,
+}
+
+/// How many records a run converts at most.
+const LIMIT: u64 = u64::MAX - 1;
+
+fn cause_of(cause: StopCause) -> Cause
+    ensures { result ≡ cause_from cause }
+{
+    match cause {
+        StopCause::NoValue => Cause::NoValue,
+        StopCause::Count => Cause::Count,
+        StopCause::Subscript => Cause::Subscript,
+    }
+}
+
+fn offset_of(why: Misfit) -> u32
+    ensures { result ≡ offset_from why }
+{
+    match why {
+        Misfit::Count { offset } => offset,
+        Misfit::Length => 0,
+    }
+}
+
+fn refusal_of(why: Misfit) -> Cause
+    ensures { result ≡ refusal_from why }
+{
+    match why {
+        Misfit::Count { .. } => Cause::Count,
+        Misfit::Length => Cause::Record(RecordFault::Length),
+    }
+}
+
+// How many bytes a record's frame has.
+fn frame_length(form: Form, length: usize) -> u64
+    requires { length ≤ 32752 }
+    ensures { result ≡ frame_size form length }
+{
+    match form {
+        Form::Fixed => length as u64,
+        Form::Variable => length as u64 + 4,
+    }
+}
+
+/// Converts the records of a source, one after another, up to its end or the first stop.
+pub fn run_over<R: Source, W: Sink>(
+    setup: &Setup,
+    input: &mut [u8],
+    output: &mut [u8],
+    r: &mut R,
+    w: &mut W,
+) -> Result<u64, RunFault>
+    requires input { length input.old ≡ in_length setup.now }
+    requires output { length output.old ≡ record_length setup.now.plan.out_items }
+    ensures ran { Told (R.coming r.old) (R.coming r.new) (λ bytes rest. Told (W.taken w.old) (W.taken w.new)
+        (Ran setup.now result bytes rest)) }
+    ensures reads { R.failures r.new ≡ counted (is_read_stop result) (R.failures r.old) }
+    ensures writes { W.failures w.new ≡ counted (is_write_stop result) (W.failures w.old) }
+{
+    let mut written: u64 = 0;
+    for done in 0..LIMIT {
+        let count = match next_input(setup, r, input) {
+            Ok(None) => return Ok(done),
+            Ok(Some(count)) => count,
+            Err(fault) => {
+                return Err(RunFault {
+                    number: done + 1,
+                    side: Side::In,
+                    offset: 0,
+                    cause: Cause::Record(fault),
+                    written,
+                });
+            }
+        };
+        if let Err(why) = measure(setup, &input[..count]) {
+            return Err(RunFault {
+                number: done + 1,
+                side: Side::In,
+                offset: offset_of(why),
+                cause: refusal_of(why),
+                written,
+            });
+        }
+        let made = match convert(setup, &input[..count], output) {
+            Ok(made) => made,
+            Err(stop) => {
+                return Err(RunFault {
+                    number: done + 1,
+                    side: stop.side,
+                    offset: stop.offset,
+                    cause: cause_of(stop.cause),
+                    written,
+                });
+            }
+        };
+        if let Err(fault) = put_record(w, setup.out_form, &output[..made]) {
+            return Err(RunFault {
+                number: done + 1,
+                side: Side::Out,
+                offset: 0,
+                cause: Cause::Record(fault),
+                written: written.saturating_add(fault.taken() as u64),
+            });
+        }
+        written = written.saturating_add(frame_length(setup.out_form, made));
+    }
+    Err(RunFault {
+        number: LIMIT + 1,
+        side: Side::In,
+        offset: 0,
+        cause: Cause::Limit,
+        written,
+    })
+}
