@@ -1,5 +1,5 @@
 -- Books read line by line.
-use Rattle.std.proofs.Common.{◌≡◌, ℕ, ◌+◌, ◌<◌, ◌≤◌, List, [], ◌∷◌, ◌++◌, map, length, get_or, sum, refl, ap, sym, ◌∙◌, subst, append_assoc, add-zero, add_assoc, zero-add, arith}
+use Rattle.std.proofs.Common.{◌≡◌, ℕ, ◌+◌, ◌<◌, List, [], ◌∷◌, ◌++◌, map, length, get_or, sum, refl, ap, sym, ◌∙◌, subst, append_assoc, add-zero, add_assoc, zero-add, arith}
 use Rattle.std.specs.List.{AllByRecursion, Contains}
 use Rattle.std.proofs.lemmas.List.{map-append, append-nil, length-map, get_or-map}
 use Rattle.std.proofs.lemmas.List.Sums.{sum_by-cons, sum_by_push}
@@ -7,7 +7,7 @@ use Rattle.std.proofs.lemmas.List.Elements.{Contains-get_or}
 use Rattle.cob_steps.specs.declared.plan.Item.{Item}
 use Rattle.cob_steps.specs.Records.{AreLaid, AreRecord, HasSize, record_length}
 use Rattle.cob_thin.specs.declared.entry.Entry.{Entry}
-use Rattle.cob_thin.specs.Words.{words_of}
+use Rattle.cob_thin.specs.Words.{ArePlain, words_of}
 use Rattle.cob_thin.specs.Books.{Named, Book, record_words, item_words, book_words, names_of, items_of}
 use Rattle.cob_thin.specs.Reading.{named_by, all_named_by, IsPlaced}
 
@@ -18,6 +18,7 @@ book_with name level entries = record { name = name; level = level; items = all_
 -- Some entries stand in the book, the line of another has been read, and the rest of the text is to come.
 pub record SoFar (text name level : List ℕ) (entries : List Entry) (entry : Entry) (rest : List ℕ) (before names : List (List ℕ)) : Type 0 where
   pub words : words_of text ≡ book_words (book_with name level entries) ++ item_words entry.level.now (named_by entry) ∷ words_of rest
+  pub plain : ArePlain rest → ArePlain text
   pub laid : AreLaid 0 (items_of (all_named_by entries))
   pub sized : AllByRecursion HasSize (items_of (all_named_by entries))
   pub placed : IsPlaced (record_length (items_of (all_named_by entries))) entry.item
@@ -26,6 +27,7 @@ pub record SoFar (text name level : List ℕ) (entries : List Entry) (entry : En
 -- The entries stand in the book, and the rest of the text is to come.
 pub record UpTo (text name level : List ℕ) (entries : List Entry) (rest : List ℕ) (before names : List (List ℕ)) : Type 0 where
   pub words : words_of text ≡ book_words (book_with name level entries) ++ words_of rest
+  pub plain : ArePlain rest → ArePlain text
   pub are : AreRecord (items_of (all_named_by entries))
   pub names_are : names ≡ before ++ names_of (book_with name level entries)
 
@@ -62,10 +64,11 @@ words-push name level entries entry =
 -- the first lines of a book: the record's, and that of its first item
 pub begins : (text later rest name : List ℕ) (entry : Entry) (before names : List (List ℕ)) →
     words_of text ≡ record_words name ∷ words_of later → words_of later ≡ item_words entry.level.now (named_by entry) ∷ words_of rest →
-    IsPlaced 0 entry.item → names ≡ before ++ name ∷ [] →
+    (ArePlain later → ArePlain text) → (ArePlain rest → ArePlain later) → IsPlaced 0 entry.item → names ≡ before ++ name ∷ [] →
     SoFar text name entry.level.now [] entry rest before names
-begins text later rest name entry before names first second placed are = record {
+begins text later rest name entry before names first second earlier more placed are = record {
   words = first ∙ ap (λ ws. record_words name ∷ ws) second;
+  plain = λ to_come. earlier (more to_come);
   laid = tt;
   sized = tt;
   placed = placed;
@@ -84,6 +87,7 @@ adds text name level entries entry rest before names more so_far same are =
       words = so_far.words ∙ ap (λ l. book_words (book_with name level entries) ++ item_words l (named_by entry) ∷ words_of rest) same
           ∙ sym (append_assoc (book_words (book_with name level entries)) (item_words level (named_by entry) ∷ []) (words_of rest))
           ∙ ap (λ ws. ws ++ words_of rest) (sym (words-push name level entries entry));
+      plain = so_far.plain;
       are = subst AreRecord (sym (items-push entries entry)) (record {
         laid = AreLaid-push 0 items entry.item so_far.laid (so_far.placed.begins ∙ sym (zero-add (record_length items)));
         sized = by_recursion_push HasSize items entry.item so_far.sized so_far.placed.sized;
@@ -104,15 +108,16 @@ added text name level entries all entry rest before names more so_far same are p
 -- the next line is that of an item
 pub goes_on : (text name level : List ℕ) (entries all : List Entry) (entry next : Entry) (rest later : List ℕ) (before names more : List (List ℕ)) →
     SoFar text name level entries entry rest before names → entry.level.now ≡ level → more ≡ names ++ entry.name.now ∷ [] →
-    words_of rest ≡ item_words next.level.now (named_by next) ∷ words_of later → IsPlaced (entry.item.offset + entry.item.length) next.item →
+    words_of rest ≡ item_words next.level.now (named_by next) ∷ words_of later → (ArePlain later → ArePlain rest) → IsPlaced (entry.item.offset + entry.item.length) next.item →
     all ≡ entries ++ entry ∷ [] → SoFar text name level all next later before more
-goes_on text name level entries all entry next rest later before names more so_far same are next_words placed pushed =
+goes_on text name level entries all entry next rest later before names more so_far same are next_words next_plain placed pushed =
     let up_to = adds text name level entries entry rest before names more so_far same are in
     let items = items_of (all_named_by entries) in
     let end : record_length (items_of (all_named_by (entries ++ entry ∷ []))) ≡ entry.item.offset + entry.item.length =
     ap record_length (items-push entries entry) ∙ record_length-push items entry.item ∙ ap (λ n. n + entry.item.length) (sym so_far.placed.begins) in
     subst (λ es. SoFar text name level es next later before more) (sym pushed) (record {
       words = up_to.words ∙ ap (λ ws. book_words (book_with name level (entries ++ entry ∷ [])) ++ ws) next_words;
+      plain = λ to_come. so_far.plain (next_plain to_come);
       laid = up_to.are.laid;
       sized = up_to.are.sized;
       placed = subst (λ n. IsPlaced n next.item) (sym end) placed;

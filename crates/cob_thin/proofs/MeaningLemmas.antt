@@ -1,11 +1,11 @@
 -- What three texts that were read say together.
-use Rattle.std.proofs.Common.{◌≡◌, ◌≢◌, ℕ, List, [], ◌∷◌, ◌++◌, map, length, get_or, refl, ap, sym, ◌∙◌, subst, arith}
+use Rattle.std.proofs.Common.{◌≡◌, ◌≢◌, ℕ, List, [], ◌∷◌, ◌++◌, map, ap, sym, ◌∙◌, subst, arith}
 use Rattle.std.specs.List.{AllByRecursion, AllPairs, Contains}
 use Rattle.std.proofs.lemmas.List.{length-map, get_or-map}
 use Rattle.cob_steps.specs.declared.plan.Item.{Item}
 use Rattle.cob_steps.specs.declared.plan.Move.{Move}
 use Rattle.cob_steps.specs.Records.{Conversion, IsConversion, IsMove, AreRecord}
-use Rattle.cob_thin.specs.Words.{words_of}
+use Rattle.cob_thin.specs.Words.{ArePlain, words_of}
 use Rattle.cob_thin.specs.Books.{Named, Book, Pair, IsBetween, Means, book_words, items_of, move_of, names_of}
 use Rattle.cob_thin.specs.Reading.{AreMoves}
 
@@ -24,7 +24,8 @@ are_moves input output conversion ins outs (pair ∷ pairs) between alike = (
     to = subst (λ items. Contains items pair.to.item) (sym outs) (Contains-items output.items pair.to between.0.to);
     category = alike.0;
   },
-  are_moves input output conversion ins outs pairs between.1 alike.1)
+  are_moves input output conversion ins outs pairs between.1 alike.1,
+)
 
 -- the items of two books, and the moves between them, are a conversion
 pub is_conversion : (input output : Book) (in_items out_items : List Item) (moves : List Move) (lines : List (List (List ℕ))) →
@@ -46,13 +47,16 @@ all_differ none first all inputs outputs nothing one two differ =
     subst (AllPairs (λ a b. a ≢ b)) is differ
 
 pub means : (in_book out_book moves : List ℕ) (conversion : Conversion) (input output : Book) (in_items out_items : List Item) (steps : List Move) →
-    words_of in_book ≡ book_words input → words_of out_book ≡ book_words output → AllPairs (λ a b. a ≢ b) (names_of input ++ names_of output) →
+    ArePlain in_book → ArePlain out_book → ArePlain moves → words_of in_book ≡ book_words input → words_of out_book ≡ book_words output → AllPairs (λ a b. a ≢ b) (names_of input ++ names_of output) →
     in_items ≡ items_of input.items → out_items ≡ items_of output.items → AreMoves input output (words_of moves) steps →
     conversion ≡ record { in_items = in_items; out_items = out_items; moves = steps } → Means in_book out_book moves conversion
-means in_book out_book moves conversion input output in_items out_items steps input_is output_is differ ins outs said is = record {
+means in_book out_book moves conversion input output in_items out_items steps input_plain output_plain moves_plain input_is output_is differ ins outs said is = record {
   input = input;
   output = output;
   pairs = said.pairs;
+  input_plain = input_plain;
+  output_plain = output_plain;
+  moves_plain = moves_plain;
   input_spelled = input_is;
   output_spelled = output_is;
   moves_spelled = said.spelled;

@@ -1,11 +1,9 @@
 -- Paragraphs read line by line.
-use Rattle.std.proofs.Common.{◌≡◌, ℕ, List, [], ◌∷◌, ◌++◌, map, refl, ap, sym, ◌∙◌, subst, append_assoc}
-use Rattle.std.specs.List.{AllByRecursion, Contains}
+use Rattle.std.proofs.Common.{◌≡◌, ℕ, List, [], ◌∷◌, ◌++◌, refl, ap, sym, ◌∙◌, subst, append_assoc}
 use Rattle.std.proofs.lemmas.List.{map-append, append-nil}
 use Rattle.cob_steps.specs.declared.plan.Move.{Move}
-use Rattle.cob_steps.specs.Records.{Conversion, IsMove}
-use Rattle.cob_thin.specs.Words.{words_of}
-use Rattle.cob_thin.specs.Books.{Named, Book, Pair, IsBetween, move_line, move_words, move_of, items_of}
+use Rattle.cob_thin.specs.Words.{ArePlain, words_of}
+use Rattle.cob_thin.specs.Books.{Named, Book, Pair, IsBetween, move_line, move_words, move_of}
 use Rattle.cob_thin.specs.Reading.{AreMoves, IsMoveOf}
 use Rattle.cob_thin.proofs.BookLemmas.{by_recursion_push}
 
@@ -13,12 +11,14 @@ use Rattle.cob_thin.proofs.BookLemmas.{by_recursion_push}
 pub record SoFar (input output : Book) (text rest : List ℕ) (moves : List Move) : Type 0 where
   pub done : List (List (List ℕ))
   pub words : words_of text ≡ done ++ words_of rest
+  pub plain : ArePlain rest → ArePlain text
   pub said : AreMoves input output done moves
 
 pub none_yet : (input output : Book) (text : List ℕ) → SoFar input output text text []
 none_yet input output text = record {
   done = [];
   words = refl;
+  plain = λ to_come. to_come;
   said = record { pairs = []; spelled = refl; between = tt; are = refl; alike = tt };
 }
 
@@ -37,11 +37,12 @@ said_more input output done moves from to step said is =
     }
 
 pub one_more : (input output : Book) (text rest later : List ℕ) (moves all : List Move) (from to : List ℕ) (step : Move) →
-    SoFar input output text rest moves → words_of rest ≡ move_line from to ∷ words_of later → IsMoveOf input output from to step →
+    SoFar input output text rest moves → words_of rest ≡ move_line from to ∷ words_of later → (ArePlain later → ArePlain rest) → IsMoveOf input output from to step →
     all ≡ moves ++ step ∷ [] → SoFar input output text later all
-one_more input output text rest later moves all from to step so_far line is pushed = record {
+one_more input output text rest later moves all from to step so_far line line_plain is pushed = record {
   done = so_far.done ++ move_line from to ∷ [];
   words = so_far.words ∙ ap (λ ws. so_far.done ++ ws) line ∙ sym (append_assoc so_far.done (move_line from to ∷ []) (words_of later));
+  plain = λ to_come. so_far.plain (line_plain to_come);
   said = subst (AreMoves input output (so_far.done ++ move_line from to ∷ [])) (sym pushed) (said_more input output so_far.done moves from to step so_far.said is);
 }
 

@@ -1,5 +1,5 @@
 -- Digits read from the left.
-use Rattle.std.proofs.Common.{◌≡◌, ℕ, ◌+◌, ◌*◌, ◌/◌, ◌%◌, ◌^◌, ◌-◌, ◌<◌, ◌≤◌, ◌⊎◌, List, [], ◌∷◌, ◌++◌, length, refl, ap, sym, ◌∙◌, inl, inr, arith}
+use Rattle.std.proofs.Common.{◌≡◌, ℕ, ◌+◌, ◌*◌, ◌/◌, ◌%◌, ◌^◌, ◌-◌, ◌<◌, ◌≤◌, ◌⊎◌, List, [], ◌∷◌, ◌++◌, ap, sym, ◌∙◌, inl, inr, arith}
 use Rattle.std.specs.Fmt.{decimal}
 use Rattle.std.proofs.lemmas.Fmt.{decimal_digit, decimal_step}
 
@@ -14,8 +14,11 @@ with_one_more digits n digit more small (inl (none, zero-is)) low high value som
 with_one_more digits n digit more small (inr (above, spelled)) low high value some =
     let whole : more / 10 ≡ n = omega arith in
     let last : 48 + more % 10 ≡ digit = omega arith in
-    inr (some, ap (λ ds. ds ++ digit ∷ []) spelled
-      ∙ sym (decimal_step more (omega arith) small ∙ ap (λ m. decimal m ++ (48 + more % 10) ∷ []) whole ∙ ap (λ d. decimal n ++ d ∷ []) last))
+    inr (
+      some,
+      ap (λ ds. ds ++ digit ∷ []) spelled
+          ∙ sym (decimal_step more (omega arith) small ∙ ap (λ m. decimal m ++ (48 + more % 10) ∷ []) whole ∙ ap (λ d. decimal n ++ d ∷ []) last),
+    )
 
 pub all_read : (digits : List ℕ) (n : ℕ) → IsRead digits n → 0 < n → digits ≡ decimal n
 all_read digits n (inl (none, zero-is)) some = absurd (omega arith)

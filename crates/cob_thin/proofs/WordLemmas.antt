@@ -1,12 +1,11 @@
 -- A text cut at its marks, and its words.
-use Rattle.std.proofs.Common.{◌≡◌, ◌≢◌, ◌==◌, ℕ, ◌+◌, ◌-◌, ◌<◌, ◌≤◌, ◌⊎◌, Bool, true, false, cond, nat_lt, List, [], ◌∷◌, ◌++◌, length, map, filter, take, drop, Option, Some, None, refl, ap, sym, ◌∙◌, inl, inr, subst, arith}
-use Rattle.std.specs.List.{position, position_or_len, slice_split, All}
+use Rattle.std.proofs.Common.{◌≡◌, ◌≢◌, ◌==◌, ℕ, ◌+◌, ◌<◌, ◌≤◌, Bool, true, false, cond, List, [], ◌∷◌, length, map, take, drop, Some, None, refl, ap, sym, ◌∙◌, inl, inr, subst, arith}
+use Rattle.std.specs.List.{AllByRecursion, position, position_or_len}
 use Rattle.std.proofs.lemmas.List.Splits.{slice_split_first, slice_split_none}
 use Rattle.std.proofs.lemmas.List.Sums.{fails_before_first}
 use Rattle.std.proofs.lemmas.Bool.{ltb-true, ltb-false, lt-ltb, le-ltb, eqb-true, eqb-false}
 use Rattle.std.proofs.lemmas.List.{nil_from_length}
-use Rattle.std.proofs.lemmas.List.Elements.{filter-append}
-use Rattle.cob_thin.specs.Words.{filled, parts, words_in, area, words_of, IsCut}
+use Rattle.cob_thin.specs.Words.{filled, parts, words_in, area, words_of, IsCut, IsPlain, ArePlain}
 
 -- what a test of emptiness says of a length
 pub not_empty : (n : ℕ) (empty : Bool) → empty ≡ (n == 0) → empty ≡ false → 0 < n
@@ -67,7 +66,6 @@ pub words_in-nil : (text : List ℕ) → length text ≡ 0 → words_in text ≡
 unfolding words_in
 words_in-nil text none = ap words_in (nil_from_length text none)
 
-
 cut_words : (text line rest : List ℕ) → IsCut 10 text line rest → words_of text ≡ filled (words_in (area line) ∷ map (λ l. words_in (area l)) (parts 10 rest))
 unfolding words_of words_in
 cut_words text line rest (inl e) = ap (λ ps. filled (map (λ l. words_in (area l)) ps)) e
@@ -89,6 +87,17 @@ pub words_of-blank : (text line rest columns : List ℕ) → IsCut 10 text line 
 unfolding words_of
 words_of-blank text line rest columns cut is none =
     cut_words text line rest cut ∙ filled_none (words_in (area line)) (map (λ l. words_in (area l)) (parts 10 rest)) (ap length (ap words_in (sym is) ∙ none))
+
+pub plain_front : (text line rest : List ℕ) → IsCut 10 text line rest → IsPlain line → ArePlain rest → ArePlain text
+unfolding ArePlain
+plain_front text line rest (inl e) here later = subst (AllByRecursion IsPlain) (sym e) (here, later)
+plain_front text line rest (inr (e, none)) here later = subst (AllByRecursion IsPlain) (sym e) (here, tt)
+
+pub plain_nil : (text : List ℕ) → length text ≡ 0 → ArePlain text
+unfolding ArePlain
+plain_nil text none =
+    let empty : IsPlain [] = record { printing = tt; indicator = λ reaches. absurd (omega arith) } in
+    subst ArePlain (sym (nil_from_length text none)) (empty, tt)
 
 pub words_of-nil : (text : List ℕ) → length text ≡ 0 → words_of text ≡ []
 unfolding words_of words_in

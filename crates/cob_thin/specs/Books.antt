@@ -7,7 +7,7 @@ use Rattle.cob_steps.specs.declared.plan.Category.TheVariants.{Alphanumeric, Num
 use Rattle.cob_steps.specs.declared.plan.Item.{Item}
 use Rattle.cob_steps.specs.declared.plan.Move.{Move}
 use Rattle.cob_steps.specs.Records.{Conversion}
-use Rattle.cob_thin.specs.Words.{words_of}
+use Rattle.cob_thin.specs.Words.{ArePlain, words_of}
 
 -- an item and its name
 pub record Named : Type 0 where
@@ -76,6 +76,9 @@ pub record Means (in_book out_book moves : List ℕ) (conversion : Conversion) :
   pub input : Book
   pub output : Book
   pub pairs : List Pair
+  pub input_plain : ArePlain in_book
+  pub output_plain : ArePlain out_book
+  pub moves_plain : ArePlain moves
   pub input_spelled : words_of in_book ≡ book_words input
   pub output_spelled : words_of out_book ≡ book_words output
   pub moves_spelled : words_of moves ≡ map move_words pairs

@@ -1,5 +1,5 @@
 -- What the parts of the reader say.
-use Rattle.std.specs.Prelude.{◌≡◌, ℕ, ◌+◌, ◌≤◌, List, [], ◌∷◌, ◌++◌, map, Contains}
+use Rattle.std.specs.Prelude.{◌≡◌, ℕ, ◌+◌, ◌≤◌, List, map, Contains}
 use Rattle.std.specs.List.{AllByRecursion}
 use Rattle.cob_steps.specs.declared.plan.Item.{Item}
 use Rattle.cob_steps.specs.declared.plan.Move.{Move}

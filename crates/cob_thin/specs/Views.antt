@@ -1,5 +1,4 @@
 -- What the reader holds, as the definitions see it.
-use Rattle.std.specs.Prelude.{List}
 use Rattle.cob_thin.specs.declared.book.Book as declared
 use Rattle.cob_thin.specs.Books.{Book}
 use Rattle.cob_thin.specs.Reading.{all_named_by}

@@ -2,7 +2,7 @@
 ghost use Rattle.std.specs.Prelude.{◌≡◌, ◌+◌, ◌<◌, ◌≤◌, ℕ, [], ◌∷◌, ◌++◌, length, map, IfOk, IfSome, OnSome, MatchOption};
 ghost use Rattle.std.specs.List.{Contains};
 ghost use Rattle.cob_steps.specs.Records.{AreRecord};
-ghost use Rattle.cob_thin.specs.Words.{words_of};
+ghost use Rattle.cob_thin.specs.Words.{ArePlain, words_of};
 ghost use Rattle.cob_thin.specs.Books.{record_words, item_words, book_words, names_of, items_of};
 ghost use Rattle.cob_thin.specs.Names.{listed};
 ghost use Rattle.cob_thin.specs.Reading.{named_by, all_named_by, IsPlaced};
@@ -33,6 +33,7 @@ impl<'a> Book<'a> {
         names: &mut Names<'a>,
     ) -> Result<Book<'a>, ThinFault>
         ensures spelled { IfOk result (λ book. words_of bytes.now ≡ book_words (book_of book)) }
+        ensures plain { IfOk result (λ book. ArePlain bytes.now) }
         ensures laid { IfOk result (λ book. AreRecord (items_of (book_of book).items)) }
         ensures names { IfOk result (λ book. listed names.new ≡ listed names.old ++ names_of (book_of book)) }
     {
@@ -84,6 +85,7 @@ impl<'a> Book<'a> {
 // The name of the record, of the first line.
 fn record_line<'a>(lines: &mut Lines<'a>, names: &mut Names<'a>) -> Result<&'a [u8], ThinFault>
     ensures words { IfOk result (λ name. words_of lines.old.rest.now ≡ record_words name.now ∷ words_of lines.new.rest.now) }
+    ensures plain { IfOk result (λ name. ArePlain lines.new.rest.now → ArePlain lines.old.rest.now) }
     ensures names { IfOk result (λ name. listed names.new ≡ listed names.old ++ name.now ∷ []) }
 {
     let Some(line) = lines.next_area()? else {
@@ -92,12 +94,17 @@ fn record_line<'a>(lines: &mut Lines<'a>, names: &mut Names<'a>) -> Result<&'a [
     let Some(name) = record_at(line) else {
         return Err(lines.fault());
     };
-    if names.add(name)? { Ok(name) } else { Err(lines.fault()) }
+    if names.add(name)? {
+        Ok(name)
+    } else {
+        Err(lines.fault())
+    }
 }
 
 // The next line, which describes an item at this offset.
 fn next_entry<'a>(lines: &mut Lines<'a>, offset: u16) -> Result<Option<Entry<'a>>, ThinFault>
     ensures words { IfOk result (λ next. MatchOption next (words_of lines.old.rest.now ≡ []) (λ entry. words_of lines.old.rest.now ≡ item_words entry.level.now (named_by entry) ∷ words_of lines.new.rest.now)) }
+    ensures plain { IfOk result (λ next. MatchOption next (ArePlain lines.old.rest.now) (λ _. ArePlain lines.new.rest.now → ArePlain lines.old.rest.now)) }
     ensures placed { IfOk result (λ next. IfSome next (λ entry. IsPlaced offset entry.item)) }
     ensures shorter { IfOk result (λ next. OnSome next (length lines.new.rest.now < length lines.old.rest.now)) }
 {

@@ -41,7 +41,11 @@ pub(crate) fn move_at(line: &[u8]) -> Option<(&[u8], &[u8])>
     let (from, rest) = front_word(after_word(line, b"MOVE")?)?;
     let (last, rest) = front_word(after_word(rest, b"TO")?)?;
     let to = without_period(last)?;
-    if is_blank(rest) { Some((from, to)) } else { None }
+    if is_blank(rest) {
+        Some((from, to))
+    } else {
+        None
+    }
 }
 
 // A word without the period that ends it.

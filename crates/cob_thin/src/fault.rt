@@ -55,7 +55,7 @@ impl From<AllocError> for ThinFault {
 impl<T: Drop> From<AllocFailed<T>> for ThinFault {
     ghost from_gives = { λ _ fault. fault ≡ Memory };
 
-    fn from(_refused: AllocFailed<T>) -> ThinFault {
-        ThinFault::Memory
+    fn from(refused: AllocFailed<T>) -> ThinFault {
+        ThinFault::from(AllocError::from(refused))
     }
 }

@@ -1,6 +1,7 @@
 // The lines of a text.
-ghost use Rattle.std.specs.Prelude.{◌≡◌, ◌+◌, ◌<◌, ◌≤◌, ℕ, [], ◌∷◌, ◌++◌, length, IfOk, MatchOption, OnSome, IsTrue, ◌↔◌};
-ghost use Rattle.cob_thin.specs.Words.{IsCut, words_in, words_of, area};
+ghost use Rattle.std.specs.Prelude.{◌≡◌, ◌+◌, ◌<◌, ◌≤◌, ℕ, [], ◌∷◌, ◌++◌, length, IfOk, MatchOption, IfSome, OnSome, IsTrue, ◌↔◌};
+ghost use Rattle.std.specs.List.{AllByRecursion};
+ghost use Rattle.cob_thin.specs.Words.{IsCut, IsPlain, ArePlain, words_in, words_of, area};
 
 use crate::fault::{Text, ThinFault};
 use crate::words::{front_part, is_blank};
@@ -10,6 +11,7 @@ const MAX_BYTES: usize = 1_000_000;
 
 // The columns of a line that are read: from the one after FIRST to LAST.
 const FIRST: usize = 7;
+
 const LAST: usize = 72;
 
 // The lines of a text that are still to be read.
@@ -47,6 +49,7 @@ impl<'a> Lines<'a> {
     // The next line that is not blank: its columns 8 to 72.
     pub(crate) fn next_area(&mut self) -> Result<Option<&'a [u8]>, ThinFault>
         ensures words { IfOk result (λ next. MatchOption next (words_of self.old.rest.now ≡ []) (λ line. words_of self.old.rest.now ≡ words_in line.now ∷ words_of self.new.rest.now)) }
+        ensures plain { IfOk result (λ next. MatchOption next (ArePlain self.old.rest.now) (λ _. ArePlain self.new.rest.now → ArePlain self.old.rest.now)) }
         ensures shorter { IfOk result (λ next. OnSome next (length self.new.rest.now < length self.old.rest.now)) }
     {
         while let Some(line) = self.next_line()? {
@@ -61,6 +64,7 @@ impl<'a> Lines<'a> {
     // The next line.
     fn next_line(&mut self) -> Result<Option<&'a [u8]>, ThinFault>
         ensures line { IfOk result (λ next. MatchOption next (length self.old.rest.now ≡ 0) (λ line. IsCut 10 self.old.rest.now line.now self.new.rest.now)) }
+        ensures plain { IfOk result (λ next. IfSome next (λ line. IsPlain line.now)) }
         ensures shorter { IfOk result (λ next. OnSome next (length self.new.rest.now < length self.old.rest.now)) }
     {
         if self.rest.is_empty() {
@@ -89,7 +93,24 @@ fn area_of(line: &[u8]) -> &[u8]
     &front[front.len().min(FIRST)..]
 }
 
-// Whether a line holds printing characters and spaces alone, and a space in column 7.
-fn is_plain(line: &[u8]) -> bool {
-    line.iter().all(|byte| matches!(*byte, b' '..=b'~')) && line.get(6).is_none_or(|byte| *byte == b' ')
+// Whether a line is plain.
+fn is_plain(line: &[u8]) -> bool
+    ensures { IsTrue result → IsPlain line.now }
+{
+    if line.len() >= FIRST && line[FIRST - 1] != b' ' {
+        return false;
+    }
+    is_printing(line)
+}
+
+// Whether a line holds printing characters and spaces alone.
+fn is_printing(line: &[u8]) -> bool
+    ensures { IsTrue result → AllByRecursion (λ c. (32 ≤ c) × (c ≤ 126)) line.now }
+{
+    for byte in line {
+        if *byte < b' ' || *byte > b'~' {
+            return false;
+        }
+    }
+    true
 }

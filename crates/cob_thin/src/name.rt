@@ -88,7 +88,9 @@ static RESERVED: [&str; 77] = [
 // hyphen first or last, at most 30 characters, and not reserved.
 pub(crate) fn is_name(word: &[u8]) -> bool {
     word.len() <= MAX_NAME
-        && word.iter().all(|byte| matches!(*byte, b'A'..=b'Z' | b'0'..=b'9' | b'-'))
+        && word
+            .iter()
+            .all(|byte| matches!(*byte, b'A'..=b'Z' | b'0'..=b'9' | b'-'))
         && word.iter().any(|byte| byte.is_ascii_uppercase())
         && word.first().is_some_and(|byte| *byte != b'-')
         && word.last().is_some_and(|byte| *byte != b'-')

@@ -1,6 +1,6 @@
 // Paragraphs of moves.
 ghost use Rattle.std.specs.Prelude.{◌≡◌, ◌<◌, ℕ, [], ◌∷◌, length, IfOk, IfSome, OnSome, MatchOption};
-ghost use Rattle.cob_thin.specs.Words.{words_of};
+ghost use Rattle.cob_thin.specs.Words.{ArePlain, words_of};
 ghost use Rattle.cob_thin.specs.Books.{move_line};
 ghost use Rattle.cob_thin.specs.Reading.{AreMoves, IsMoveOf};
 ghost use Rattle.cob_thin.specs.Views.{book_of};
@@ -19,7 +19,8 @@ pub(crate) fn read_moves(
     input: &Book<'_>,
     output: &Book<'_>,
 ) -> Result<Vec<Move>, ThinFault>
-    ensures { IfOk result (λ moves. AreMoves (book_of input.now) (book_of output.now) (words_of bytes.now) moves.items) }
+    ensures plain { IfOk result (λ moves. ArePlain bytes.now) }
+    ensures said { IfOk result (λ moves. AreMoves (book_of input.now) (book_of output.now) (words_of bytes.now) moves.items) }
 {
     let mut lines = Lines::new(Text::Moves, bytes);
     let mut moves = Vec::new(alloc);
@@ -38,6 +39,7 @@ pub(crate) fn read_moves(
 // The names of sender and receiver, of the next line.
 fn next_move<'a>(lines: &mut Lines<'a>) -> Result<Option<(&'a [u8], &'a [u8])>, ThinFault>
     ensures words { IfOk result (λ next. MatchOption next (words_of lines.old.rest.now ≡ []) (λ names. words_of lines.old.rest.now ≡ move_line names.0.now names.1.now ∷ words_of lines.new.rest.now)) }
+    ensures plain { IfOk result (λ next. MatchOption next (ArePlain lines.old.rest.now) (λ _. ArePlain lines.new.rest.now → ArePlain lines.old.rest.now)) }
     ensures shorter { IfOk result (λ next. OnSome next (length lines.new.rest.now < length lines.old.rest.now)) }
 {
     let Some(line) = lines.next_area()? else {

@@ -1,6 +1,5 @@
-use Rattle.std.proofs.Common.{◌≡◌, ℕ, ◌+◌, ◌-◌, List, [], length, take, drop, ap, sym, ◌∙◌, subst, arith}
+use Rattle.std.proofs.Common.{◌≡◌, ◌-◌, [], length, take, drop, sym, ◌∙◌, arith}
 use Rattle.std.proofs.lemmas.List.{take_rest, drop_all}
-use Rattle.cob_thin.specs.Words.{IsCut}
 use Rattle.cob_thin.proofs.WordLemmas.{cut_at, cut_nowhere}
 use Rattle.cob_thin.proofs.words.front_part.Goals as goal
 

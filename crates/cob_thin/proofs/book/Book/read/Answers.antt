@@ -1,7 +1,6 @@
-use Rattle.std.proofs.Common.{◌≡◌, List, ℕ}
 use Rattle.std.proofs.lemmas.Option.{MatchOption-at_some, MatchOption-at_none}
 use Rattle.cob_thin.specs.Names.{listed}
-use Rattle.cob_thin.proofs.BookLemmas.{SoFar, UpTo, added, goes_on, spelled}
+use Rattle.cob_thin.proofs.BookLemmas.{UpTo, added, goes_on, spelled}
 use Rattle.cob_thin.proofs.NameLemmas.{same_unless}
 use Rattle.cob_thin.proofs.book.Book.read.Goals as goal
 
@@ -12,6 +11,9 @@ up_to c =
 
 pub returns-in_default-2-clause-spelled : goal.returns-in_default-2-clause-spelled
 returns-in_default-2-clause-spelled c = spelled _ _ _ _ _ _ _ (up_to c) (MatchOption-at_none _ _ c.in_default-2.is c.in_ok-next.ensures.words)
+
+pub returns-in_default-2-clause-plain : goal.returns-in_default-2-clause-plain
+returns-in_default-2-clause-plain c = (up_to c).plain (MatchOption-at_none _ _ c.in_default-2.is c.in_ok-next.ensures.plain)
 
 pub returns-in_default-2-clause-laid : goal.returns-in_default-2-clause-laid
 returns-in_default-2-clause-laid c = (up_to c).are
@@ -24,4 +26,4 @@ loop-name-preserved c =
     goes_on c.args.bytes.now c.in_ok-name.name.now c.in-Some.entry.level.now c.loop-name.entries.items c.push.new.self.items c.loop-name.entry c.in-Some-2.next c.loop-name.lines.rest.now c.next_entry-in-loop-name.new.lines.rest.now (listed c.args.names.now) (listed c.loop-name.names) (listed c.add.new.self)
     c.loop-name.invariant (same_unless _ _ _ c.ne.ensures c.if-ne.false) (c.in_ok-add.ensures c.if-not-branch.false)
     (MatchOption-at_some _ _ c.in-Some-2.next c.in-Some-2.is c.in_ok-next.ensures.words)
-    (MatchOption-at_some _ _ c.in-Some-2.next c.in-Some-2.is c.in_ok-next.ensures.placed) c.in_ok-push.ensures.items
+    (MatchOption-at_some _ _ c.in-Some-2.next c.in-Some-2.is c.in_ok-next.ensures.plain) (MatchOption-at_some _ _ c.in-Some-2.next c.in-Some-2.is c.in_ok-next.ensures.placed) c.in_ok-push.ensures.items

@@ -1,4 +1,3 @@
-use Rattle.std.proofs.Common.{◌≡◌, ◌≢◌, ℕ, ◌+◌, ◌<◌, List, [], ◌∷◌, ◌++◌, map, length, take, get_or}
 use Rattle.cob_thin.proofs.NameLemmas.{lacks_more, other_text, lacks_all}
 use Rattle.cob_thin.proofs.names.Names.contains.Goals as goal
 
