@@ -1,6 +1,6 @@
 //! The storage of a record before the first move.
 
-ghost use Rattle.std.specs.Prelude.{◌≡◌, ◌≤◌, ◌++◌, replicate, IfOk};
+ghost use Rattle.std.specs.Prelude.{◌≡◌, ◌≤◌, ◌++◌, length, replicate, IfOk};
 ghost use Rattle.cob_steps.specs.Records.{blank, record_length, initial_storage};
 
 use crate::plan::{Category, Item};
@@ -43,6 +43,15 @@ pub fn initial_image(alloc: Global, items: &[Item]) -> Result<Vec<u8>, AllocErro
         push_blanks(&mut image, item)?;
     }
     Ok(image)
+}
+
+/// Begins a record: nothing is left of what its storage held.
+pub fn begin_record(image: &[u8], storage: &mut [u8])
+    requires { length storage.old ≡ length image.now }
+    ensures after { storage.new ≡ image.now }
+    ensures len { length storage.new ≡ length storage.old }
+{
+    storage.copy_from_slice(image);
 }
 
 /// How many bytes a record of these items has.

@@ -135,7 +135,7 @@ impl Plan {
         ensures converts { OnOk result (Converts self.now input.now output.new) }
         ensures stops { IfErr result (λ stop. Stops self.now input.now stop) }
     {
-        output.copy_from_slice(self.image.as_slice());
+        image::begin_record(self.image.as_slice(), output);
         for step in self.moves() {
             make_move(step, input, output)?;
         }

@@ -7,13 +7,13 @@ use Rattle.cob_steps.proofs.plan.Plan.convert.Goals as goal
 
 pub loop-step-init : goal.loop-step-init
 loop-step-init c =
-    c.copy_from_slice.ensures.after ∙ c.as_slice.ensures.value ∙ c.self.invariant.begins ∙ ap (λ p. initial_storage p.out_items) c.self.view_is
+    c.begin_record.ensures.after ∙ c.as_slice.ensures.value ∙ c.self.invariant.begins ∙ ap (λ p. initial_storage p.out_items) c.self.view_is
 
 pub make_move-requires : goal.make_move-requires
 make_move-requires c =
     let sound : IsConversion c.args.self.now = subst IsConversion c.self.view_is c.self.invariant.sound in
     let moves : c.moves-step-items.result.now ≡ c.args.self.now.moves = c.moves-step-items.ensures in
-    possible_at c.args.self.now c.moves-step-items.result.now c.loop-step.step-index _ _ _ sound moves c.loop-step-test.true c.requires.input (c.loop-step.auto.output ∙ c.copy_from_slice.ensures.len ∙ c.requires.output)
+    possible_at c.args.self.now c.moves-step-items.result.now c.loop-step.step-index _ _ _ sound moves c.loop-step-test.true c.requires.input (c.loop-step.auto.output ∙ c.begin_record.ensures.len ∙ c.requires.output)
 
 pub loop-step-preserved : goal.loop-step-preserved
 loop-step-preserved c = moves_next c.moves-step-items.result.now c.loop-step.step-index _ c.args.input.now _ _ _ c.loop-step-test.true c.loop-step.invariant c.in_ok-make_move.ensures.moved

@@ -1,0 +1,13 @@
+use Rattle.std.proofs.Common.{rules, ◌≡◌, ◌++◌, ◌-◌, ◌∙◌, ap, arith, List, ℕ, length, take, replicate, min}
+use Rattle.cob_steps.proofs.MoveLemmas.{characters_are}
+use Rattle.cob_steps.proofs.moves.move_characters.Goals as goal
+
+pub returns : goal.returns
+returns c =
+    let n : ℕ = length c.args.received.now in
+    let k : ℕ = c.min-count.result in
+    let sent : List ℕ = c.args.sent.now in
+    let front : c.copy_from_slice.new.self ≡ take k sent = search rules in
+    let tail : c.fill.new.self ≡ replicate (n - k) 0x40 = search rules in
+    let least : k ≡ min (length sent) n = search rules in
+    ap (λ t. t ++ c.fill.new.self) front ∙ ap (λ t. take k sent ++ t) tail ∙ characters_are n k sent least
