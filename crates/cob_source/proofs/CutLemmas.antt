@@ -1,12 +1,12 @@
 -- A text cut piece by piece.
-use Rattle.std.proofs.Common.{◌≡◌, ◌≢◌, ℕ, zero, suc, ◌+◌, ◌-◌, ◌<◌, ◌≤◌, Bool, true, false, List, [], ◌∷◌, ◌++◌, length, take, drop, refl, sym, ap, subst, ◌∙◌, append_assoc, arith}
-use Rattle.std.specs.Prelude.{◌==◌, ◌||◌, not, Option, Some, None}
+use Rattle.std.proofs.Common.{◌≡◌, ℕ, zero, suc, ◌<◌, Bool, true, false, List, [], ◌∷◌, ◌++◌, drop, refl, sym, ap, ◌∙◌, append_assoc, arith}
+use Rattle.std.specs.Prelude.{◌==◌, Some}
 use Rattle.std.specs.List.{AllByRecursion}
-use Rattle.std.proofs.lemmas.Bool.{eqb-true, eqb-false}
+use Rattle.std.proofs.lemmas.Bool.{eqb-true}
 use Rattle.std.proofs.lemmas.List.{append-nil}
 use Rattle.cob_source.specs.declared.token.Cell.{Cell}
 use Rattle.cob_source.specs.Tokens.{Lexeme}
-use Rattle.cob_source.specs.Cuts.{Piece, is_quote, is_gap, is_plain, IsPlain, spelled, IsPiece, Follows, plain_first, lexemes_of, Cuts, End, Then, open_from, open_with, open_quote}
+use Rattle.cob_source.specs.Cuts.{Piece, is_quote, is_gap, is_plain, IsPlain, spelled, IsPiece, Follows, plain_first, lexemes_of, Cuts, End, Then, open_from, open_quote}
 
 -- whatever the rest is cut into, behind what is cut so far, is what the whole is cut into
 abbrev pub SoFar : List Cell → List Cell → List Lexeme → List Lexeme → Type 0

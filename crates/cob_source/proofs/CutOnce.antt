@@ -1,8 +1,6 @@
 -- A text is cut in one way.
-use Rattle.std.proofs.Common.{◌≡◌, ◌≢◌, ℕ, zero, suc, ◌+◌, ◌-◌, ◌<◌, ◌≤◌, Bool, true, false, List, [], ◌∷◌, ◌++◌, length, refl, sym, ap, subst, ◌∙◌, append_assoc, arith}
-use Rattle.std.specs.Prelude.{◌==◌, ◌||◌, not}
+use Rattle.std.proofs.Common.{◌≡◌, ℕ, true, false, List, [], ◌∷◌, ◌++◌, refl, sym, ap, subst, ◌∙◌, append_assoc, arith}
 use Rattle.std.specs.List.{AllByRecursion}
-use Rattle.std.proofs.lemmas.List.{append-nil}
 use Rattle.cob_source.specs.declared.token.Cell.{Cell}
 use Rattle.cob_source.specs.Tokens.{Lexeme}
 use Rattle.cob_source.specs.Cuts.{Piece, Gap, Chunk, Quoted, Body, Close, One, Two, NotFirst, is_quote, is_gap, is_plain, spelled, IsPiece, Follows, IsPlain, plain_first, quote_first, lexemes_of, Cuts, End, Then}
@@ -130,7 +128,6 @@ behind {cells} {ts} p rest ip fp e (Then {rest = y} {more = more} q iq fq e' t c
       subst (λ (z : List Cell). Cuts z more) (sym s.rest) c,
       t ∙ ap (λ (q : Piece). lexemes_of q y ++ more) (sym s.piece) ∙ ap (λ (z : List Cell). lexemes_of p z ++ more) (sym s.rest),
     )
-
 
 nothing_cut : {rest : List Cell} {ts : List Lexeme} → rest ≡ [] → Cuts rest ts → ts ≡ []
 nothing_cut e (End nothing none_left) = none_left

@@ -1,10 +1,10 @@
 -- A text's lines, one at a time.
-use Rattle.std.proofs.Common.{◌≡◌, ◌≢◌, ℕ, suc, ◌+◌, ◌<◌, ◌≤◌, Bool, true, false, eqb, List, [], ◌∷◌, ◌++◌, length, take, drop, refl, sym, ap, subst, ◌∙◌, arith}
-use Rattle.std.specs.Prelude.{◌==◌, ◌&&◌, if◌then◌else◌}
+use Rattle.std.proofs.Common.{◌≡◌, ◌≢◌, ℕ, ◌<◌, ◌≤◌, Bool, true, false, List, [], ◌∷◌, ◌++◌, length, take, drop, refl, sym, ap, subst, ◌∙◌, arith}
+use Rattle.std.specs.Prelude.{◌==◌}
 use Rattle.std.specs.List.{AllByRecursion}
-use Rattle.std.proofs.lemmas.Bool.{ne_eqb, eq-eqb, eqb-true, eqb-false}
-use Rattle.std.proofs.lemmas.List.{append-nil, take-append-drop, nil_from_length, length-drop, length-take}
-use Rattle.cob_source.specs.Lines.{lines, led_by, feed_first, is_empty, cut_return, FeedFirst, same_letters}
+use Rattle.std.proofs.lemmas.Bool.{ne_eqb}
+use Rattle.std.proofs.lemmas.List.{append-nil, take-append-drop, length-drop, length-take}
+use Rattle.cob_source.specs.Lines.{lines, led_by, cut_return, FeedFirst, same_letters}
 
 abbrev Within : List ℕ → Type 0
 Within line = AllByRecursion (λ b. b ≢ 10) line

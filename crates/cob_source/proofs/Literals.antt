@@ -1,10 +1,10 @@
 -- Behind an opening quote.
-use Rattle.std.proofs.Common.{◌≡◌, ◌≢◌, ℕ, ◌+◌, ◌<◌, ◌≤◌, Bool, true, false, List, [], ◌∷◌, ◌++◌, length, refl, sym, ap, subst, ◌∙◌, append_assoc}
-use Rattle.std.specs.Prelude.{Option, Some, None, ◌==◌}
+use Rattle.std.proofs.Common.{◌≡◌, ◌≢◌, ℕ, true, false, List, [], ◌∷◌, ◌++◌, refl, sym, ap, subst, ◌∙◌, append_assoc}
+use Rattle.std.specs.Prelude.{Some, None, ◌==◌}
 use Rattle.std.proofs.lemmas.List.{append-nil}
 use Rattle.std.proofs.lemmas.Bool.{ne_eqb, eq-eqb}
 use Rattle.cob_source.specs.declared.token.Cell.{Cell}
-use Rattle.cob_source.specs.Cuts.{Body, Close, One, Two, NotFirst, is_quote, open_from, open_with}
+use Rattle.cob_source.specs.Cuts.{Body, Close, One, Two, NotFirst, is_quote, open_from}
 
 -- whatever closes the rest closes the whole
 abbrev pub Within : ℕ → List Cell → List Cell → List ℕ → Type 0

@@ -1,6 +1,6 @@
 -- The literal that is open at the end of a text.
-use Rattle.std.proofs.Common.{◌≡◌, ◌≢◌, ℕ, Bool, true, false, List, [], ◌∷◌, ◌++◌, length, drop, refl, sym, ap, subst, ◌∙◌}
-use Rattle.std.specs.Prelude.{Option, Some, None, is_some, ◌==◌, ◌&&◌, if◌then◌else◌}
+use Rattle.std.proofs.Common.{◌≡◌, ℕ, Bool, true, false, List, [], ◌∷◌, ◌++◌, refl, sym, ap, ◌∙◌}
+use Rattle.std.specs.Prelude.{Option, Some, None, ◌==◌, ◌&&◌, if◌then◌else◌}
 use Rattle.std.proofs.lemmas.Bool.{eqb-true}
 use Rattle.cob_source.specs.declared.token.Cell.{Cell}
 use Rattle.cob_source.specs.Cuts.{is_quote, open_with, open_from, open_quote}
@@ -47,9 +47,9 @@ open_trimmed q (c ∷ cells) s = go (c.byte == 32) (is_nil (trim_end cells)) ref
     go : (x y : Bool) → (c.byte == 32) ≡ x → is_nil (trim_end cells) ≡ y → open_from (open_with q c.byte) (trim_end cells) ≡ open_from (open_with q c.byte) cells
         → open_from q (if (c.byte == 32) && is_nil (trim_end cells) then [] else c ∷ trim_end cells) ≡ open_from (open_with q c.byte) cells
     go true true ex ey h = rw (ex, ey) (
-      let nothing : trim_end cells ≡ [] = trimmed_off (trim_end cells) ey in
-      let space : open_with q c.byte ≡ q = open_space q c.byte s (eqb-true _ _ ex) in
-      sym space ∙ ap (open_from (open_with q c.byte)) (sym nothing) ∙ h)
+        let nothing : trim_end cells ≡ [] = trimmed_off (trim_end cells) ey in
+        let space : open_with q c.byte ≡ q = open_space q c.byte s (eqb-true _ _ ex) in
+        sym space ∙ ap (open_from (open_with q c.byte)) (sym nothing) ∙ h)
     go true false ex ey h = rw (ex, ey) h
     go false y ex ey h = rw ex h
 

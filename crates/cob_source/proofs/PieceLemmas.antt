@@ -1,11 +1,10 @@
 -- The pieces of a word.
-use Rattle.std.proofs.Common.{◌≡◌, ◌≢◌, ℕ, zero, suc, ◌+◌, ◌<◌, ◌≤◌, Bool, true, false, List, [], ◌∷◌, ◌++◌, length, map, take, drop, refl, sym, ap, subst, ◌∙◌, append_assoc, arith}
-use Rattle.std.specs.Prelude.{◌==◌, ◌||◌}
+use Rattle.std.proofs.Common.{◌≡◌, ◌≢◌, ℕ, zero, suc, ◌<◌, Bool, true, false, List, [], ◌∷◌, ◌++◌, take, drop, refl, sym, ap, ◌∙◌, arith}
+use Rattle.std.specs.Prelude.{◌==◌}
 use Rattle.std.specs.List.{AllByRecursion}
-use Rattle.std.proofs.lemmas.Bool.{eqb-true, eq-eqb, ne_eqb}
+use Rattle.std.proofs.lemmas.Bool.{eq-eqb, ne_eqb}
 use Rattle.std.proofs.lemmas.List.{take-append-drop}
-use Rattle.cob_source.specs.Tokens.{Lexeme}
-use Rattle.cob_source.specs.Pieces.{is_bracket, is_cut, cut_first, led_by, piece_before, pieces, piece_of}
+use Rattle.cob_source.specs.Pieces.{is_bracket, is_cut, cut_first, led_by, piece_before, pieces}
 
 -- what isn't cut is neither a comma nor a bracket
 uncut_comma : (b : ℕ) → is_cut b ≡ false → (b == 44) ≡ false

@@ -1,14 +1,12 @@
 -- Spaces at the ends, and cells with their columns.
-use Rattle.std.proofs.Common.{◌≡◌, ◌≢◌, ℕ, zero, suc, ◌+◌, ◌-◌, ◌<◌, ◌≤◌, Bool, true, false, eqb, List, [], ◌∷◌, ◌++◌, length, get_or, take, drop, replicate, refl, sym, ap, subst, ◌∙◌, append_assoc, arith}
-use Rattle.std.specs.List.{AllByRecursion}
-use Rattle.std.specs.Prelude.{◌&&◌, ◌||◌, ◌==◌, not, if◌then◌else◌}
-use Rattle.std.proofs.lemmas.List.{append-nil, take_more, drop_more, take_all, take-append-drop, get_or_append_left, get_or-append_right, get_or-replicate, get_or-drop, length-append, length-replicate, length-drop}
+use Rattle.std.proofs.Common.{◌≡◌, ◌≢◌, ℕ, suc, ◌+◌, ◌-◌, ◌<◌, ◌≤◌, Bool, true, false, eqb, List, [], ◌∷◌, ◌++◌, length, get_or, take, drop, replicate, refl, sym, ap, ◌∙◌, arith}
+use Rattle.std.specs.Prelude.{◌&&◌, ◌==◌}
+use Rattle.std.proofs.lemmas.List.{take_more, take_all, get_or_append_left, get_or-append_right, get_or-replicate, get_or-drop, length-append, length-replicate, length-drop}
 use Rattle.std.proofs.lemmas.Grind.{common_steps}
 use Rattle.std.proofs.lemmas.Bool.{ne_eqb, eq-eqb}
 use Rattle.cob_source.specs.declared.token.Cell.{Cell}
-use Rattle.cob_source.specs.declared.lines.LineKind.{LineKind}
-use Rattle.cob_source.specs.declared.lines.LineKind.TheVariants.{Skipped, Plain, Continuation}
-use Rattle.cob_source.specs.Lines.{filled, cells_from, trim_end, is_nil, is_comment, is_blank, is_listing, spaces, kind_by}
+use Rattle.cob_source.specs.declared.lines.LineKind.TheVariants.{Skipped, Continuation}
+use Rattle.cob_source.specs.Lines.{filled, cells_from, trim_end, is_comment, is_blank, spaces, kind_by}
 
 pub cells_push : (n k : ℕ) (xs : List ℕ) (b : ℕ) → cells_from n k (xs ++ b ∷ []) ≡ cells_from n k xs ++ record { byte = b; line = n; column = k + length xs } ∷ []
 cells_push n k [] b = let e : k + 0 ≡ k = omega arith in rw e refl

@@ -1,5 +1,5 @@
 -- The words of a paragraph: each word of a text cut again at brackets and commas.
-use Rattle.std.specs.Prelude.{◌≡◌, ℕ, Bool, true, false, ◌==◌, ◌||◌, if◌then◌else◌, List, [], ◌∷◌, ◌++◌, map}
+use Rattle.std.specs.Prelude.{ℕ, Bool, true, ◌==◌, ◌||◌, if◌then◌else◌, List, [], ◌∷◌, map}
 use Rattle.std.specs.List.{flat_map}
 use Rattle.cob_source.specs.declared.token.Kind.{Kind}
 use Rattle.cob_source.specs.declared.token.Kind.TheVariants.{Word, Literal, Stop}

@@ -1,9 +1,9 @@
 -- What has been read of a text at the end of a line.
-use Rattle.std.specs.Prelude.{◌≡◌, ℕ, ◌+◌, Bool, true, false, List, [], ◌∷◌, ◌++◌, length, Option, Some, None, is_some}
+use Rattle.std.specs.Prelude.{◌≡◌, ℕ, ◌+◌, true, false, List, [], ◌∷◌, ◌++◌, length, Option, None, is_some}
 use Rattle.cob_source.specs.declared.token.Cell.{Cell}
-use Rattle.cob_source.specs.declared.lines.LineKind.TheVariants.{Skipped, Plain, Continuation}
+use Rattle.cob_source.specs.declared.lines.LineKind.TheVariants.{Plain}
 use Rattle.cob_source.specs.declared.fault.SourceRule.{SourceRule}
-use Rattle.cob_source.specs.declared.fault.SourceRule.TheVariants.{NotAscii, Tab, OpenLiteral, BadContinuation, TooLong, UnknownIndicator, Memory}
+use Rattle.cob_source.specs.declared.fault.SourceRule.TheVariants.{OpenLiteral, BadContinuation, TooLong, Memory}
 use Rattle.cob_source.specs.Tokens.{Lexeme}
 use Rattle.cob_source.specs.Cuts.{open_quote, Cuts}
 use Rattle.cob_source.specs.Lines.{kind_of, join, joined_of, last_joined, continued}

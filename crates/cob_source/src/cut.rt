@@ -120,11 +120,7 @@ fn push_chunk(
 }
 
 /// The characters of a literal behind its quote, and what follows it.
-fn literal_at(
-    alloc: Global,
-    cells: &[Cell],
-    quote: u8,
-) -> Result<(Vec<u8>, &[Cell]), AllocError>
+fn literal_at(alloc: Global, cells: &[Cell], quote: u8) -> Result<(Vec<u8>, &[Cell]), AllocError>
     requires quote { is_quote quote ≡ true }
     requires closed { open_from (Some quote) cells.now ≡ None }
     ensures found { IfOk result (λ r. (inside : List Cell) × Body quote inside r.0.items × NotFirst quote r.1.now × (cells.now ≡ inside ++ r.1.now)) }

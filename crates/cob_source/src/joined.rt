@@ -183,11 +183,7 @@ pub fn continue_line(number: u32, line: &[u8], joined: &mut Joined) -> Result<()
 ///
 /// # Errors
 /// T3 where a literal is open at its end, T9 where memory is refused.
-pub fn cut_joined(
-    alloc: Global,
-    joined: &Joined,
-    out: &mut Vec<Token>,
-) -> Result<(), SourceFault>
+pub fn cut_joined(alloc: Global, joined: &Joined, out: &mut Vec<Token>) -> Result<(), SourceFault>
     requires { joined.now.quote ≡ open_quote joined.now.cells.items }
     ensures closed { OnOk result (joined.now.quote ≡ None) }
     ensures found { OnOk result ((ts : List Lexeme) × Cuts joined.now.cells.items ts × (lexemes out.old.items ++ ts ≡ lexemes out.new.items)) }

@@ -8,6 +8,8 @@ mod laws;
 mod lines;
 mod paragraph;
 mod reader;
+#[cfg(test)]
+mod tests;
 mod token;
 
 pub use fault::{MAX_TEXT_BYTES, SourceFault, SourceRule};

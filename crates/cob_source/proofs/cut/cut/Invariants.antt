@@ -1,4 +1,4 @@
-use Rattle.std.proofs.Common.{◌≡◌, ℕ, List, length}
+use Rattle.std.proofs.Common.{◌≡◌, length}
 use Rattle.std.specs.Prelude.{None}
 use Rattle.cob_source.specs.Tokens.{lexemes}
 use Rattle.cob_source.specs.Cuts.{open_quote}

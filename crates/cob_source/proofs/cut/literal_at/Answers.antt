@@ -1,9 +1,8 @@
-use Rattle.std.proofs.Common.{◌≡◌, ◌≢◌, ◌≤◌, ℕ, List, [], ◌∷◌, ◌++◌, length, refl, sym, ap, subst, ◌∙◌, arith}
-use Rattle.std.specs.Prelude.{Option, Some, None}
+use Rattle.std.proofs.Common.{◌≡◌, ◌≢◌, ◌≤◌, ℕ, List, ◌∷◌, length, sym, ap, subst, ◌∙◌, arith}
 use Rattle.std.proofs.lemmas.List.{nil_from_length}
 use Rattle.cob_source.specs.declared.token.Cell.{Cell}
 use Rattle.cob_source.specs.Cuts.{NotFirst}
-use Rattle.cob_source.proofs.Literals.{Within, within, takes_one, takes_two, closes, open_past, open_past_two}
+use Rattle.cob_source.proofs.Literals.{within, takes_one, takes_two, closes, open_past, open_past_two}
 use Rattle.cob_source.proofs.cut.literal_at.Goals as goal
 
 none_first : (q : ℕ) (after : List Cell) → length after ≡ 0 → NotFirst q after

@@ -1,4 +1,4 @@
-use Rattle.std.proofs.Common.{◌≡◌, ℕ, length, ◌≤◌}
+use Rattle.std.proofs.Common.{◌≡◌, length, ◌≤◌}
 use Rattle.std.specs.Prelude.{Some, None}
 use Rattle.cob_source.specs.Cuts.{open_from}
 use Rattle.cob_source.proofs.Literals.{Within}

@@ -1,4 +1,4 @@
-use Rattle.std.proofs.Common.{◌≡◌, ◌≤◌, ◌+◌, ◌-◌, ◌++◌, take, drop}
+use Rattle.std.proofs.Common.{◌≡◌, ◌+◌, ◌-◌, ◌++◌, take, drop}
 use Rattle.cob_source.specs.Lines.{cells_from, filled}
 use Rattle.cob_source.proofs.joined.push_columns.Given as goal
 

@@ -1,4 +1,4 @@
-use Rattle.std.proofs.Common.{◌≡◌, ℕ, List, [], ◌∷◌, ◌++◌, sym, ap, ◌∙◌}
+use Rattle.std.proofs.Common.{ℕ, [], ◌∷◌, ◌++◌, sym, ap, ◌∙◌}
 use Rattle.cob_source.specs.Lines.{cut_return}
 use Rattle.cob_source.proofs.LineLemmas.{cut_return-return, cut_return-other}
 use Rattle.cob_source.proofs.lines.without_return.Goals as goal

@@ -1,4 +1,3 @@
-use Rattle.std.proofs.Common.{◌≤◌, ℕ, List, length, subst}
 use Rattle.cob_source.proofs.LineLemmas.{written_short}
 use Rattle.cob_source.proofs.lines.written_in.Goals as goal
 

@@ -1,5 +1,4 @@
-use Rattle.std.proofs.Common.{◌≡◌, ℕ, ◌<◌, ◌≤◌, List, [], ◌∷◌, ◌++◌, map, take, drop, length, max, sym, ap, ◌∙◌, append_assoc, arith}
-use Rattle.std.proofs.lemmas.List.{length-take}
+use Rattle.std.proofs.Common.{◌≡◌, ℕ, List, [], ◌∷◌, ◌++◌, map, take, drop, sym, ap, ◌∙◌, append_assoc, arith}
 use Rattle.cob_source.specs.Tokens.{Lexeme, lexeme, lexemes}
 use Rattle.cob_source.specs.Pieces.{pieces, piece_of}
 use Rattle.cob_source.proofs.PieceLemmas.{pieces-first}

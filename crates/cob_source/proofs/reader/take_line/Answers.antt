@@ -1,8 +1,7 @@
-use Rattle.std.proofs.Common.{◌≡◌, ℕ, ◌+◌, List, [], ◌∷◌, ◌++◌, length, refl, sym, ap, subst, ◌∙◌, arith}
-use Rattle.std.specs.Prelude.{Result, Ok, Err, IfErr, OnOk}
+use Rattle.std.proofs.Common.{sym, ◌∙◌}
+use Rattle.std.specs.Prelude.{Result, Ok, Err, IfErr}
 use Rattle.std.proofs.lemmas.Result.{err_from_is_err_and, on_ok_weaker}
 use Rattle.cob_source.specs.Tokens.{lexemes}
-use Rattle.cob_source.specs.Reading.{HasRead, LineRefused}
 use Rattle.cob_source.proofs.ReadingLemmas.{skips, starts, continues, open_refused, continuation_refused}
 use Rattle.cob_source.proofs.reader.take_line.Goals as goal
 

@@ -1,11 +1,9 @@
-use Rattle.std.proofs.Common.{◌≡◌, ℕ, ◌+◌, ◌≤◌, List, [], ◌∷◌, ◌++◌, length, refl, sym, ap, subst, ◌∙◌, arith}
+use Rattle.std.proofs.Common.{◌≡◌, ℕ, List, [], ◌++◌, length, refl, ap, ◌∙◌, arith}
 use Rattle.std.proofs.lemmas.Result.{err_from_is_err_and}
 use Rattle.std.proofs.lemmas.List.{nil_from_length, append-nil}
 use Rattle.std.proofs.lemmas.Grind.{common_steps}
-use Rattle.cob_source.specs.declared.fault.SourceRule.TheVariants.{TooLong, Memory}
-use Rattle.cob_source.specs.Tokens.{lexemes}
+use Rattle.cob_source.specs.declared.fault.SourceRule.TheVariants.{TooLong}
 use Rattle.cob_source.specs.Lines.{lines}
-use Rattle.cob_source.specs.Reading.{HasRead}
 use Rattle.cob_source.proofs.ReadingLemmas.{nothing_read, finishes, refusal_at, refusal_end, not_refused}
 use Rattle.cob_source.proofs.reader.tokens.Goals as goal
 
