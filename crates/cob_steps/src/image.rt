@@ -10,7 +10,7 @@ use std::alloc::{AllocError, Global};
 const ZERO: u8 = 0xF0;
 
 /// A space, as code page 037 has it.
-const SPACE: u8 = 0x40;
+pub const SPACE: u8 = 0x40;
 
 /// The byte that fills an item before the first move.
 fn blank_byte(category: Category) -> u8

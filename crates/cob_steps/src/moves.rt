@@ -6,12 +6,10 @@ ghost use Rattle.cob_steps.specs.Moving.{IsPossible, IsMoved, Lacks};
 ghost use Rattle.cob_steps.specs.Records.{MostDigits};
 ghost use Rattle.cob_steps.specs.Steps.{bytes_at, characters, IsStored, Represents, Receives, HasNoValue};
 
+use crate::image::SPACE;
 use crate::plan::{Category, Item, Move, Side, Stop, StopCause};
 use crate::zoned::{read_zoned, write_zoned};
 use cob_decimal::Number;
-
-/// A space, as code page 037 has it.
-const SPACE: u8 = 0x40;
 
 /// The bytes of an item in a record.
 fn bytes_of<'a>(item: &Item, bytes: &'a [u8]) -> &'a [u8]

@@ -1,4 +1,4 @@
-use Rattle.std.proofs.Common.{rules, ◌≡◌, ◌++◌, ◌-◌, ◌∙◌, ap, arith, List, ℕ, length, take, replicate, min}
+use Rattle.std.proofs.Common.{rules, ◌≡◌, ◌++◌, ◌-◌, ◌∙◌, ap, List, ℕ, length, take, replicate, min}
 use Rattle.cob_steps.proofs.MoveLemmas.{characters_are}
 use Rattle.cob_steps.proofs.moves.move_characters.Goals as goal
 
