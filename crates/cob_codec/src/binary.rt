@@ -37,7 +37,10 @@ static POWERS_OF_TEN: [u64; 19] = [
     1_000_000_000_000_000_000,
 ];
 
-/// Binary: the number itself, the highest byte first, in two's complement where it is signed (COMP, COMP-4, BINARY).
+/// Binary (BINARY, COMP, COMP-4): the number itself, the highest byte first, in two's complement where it is signed.
+///
+/// 2 bytes hold up to 4 digits, 4 bytes up to 9, 8 bytes up to 18. A number past the picture's digits is none that the bytes
+/// represent, as under TRUNC(STD) of IBM Enterprise COBOL for z/OS; [`Binary::read_whole`] reads it too.
 pub struct Binary;
 
 impl Storage for Binary {

@@ -1,4 +1,4 @@
-//! Numbers in storage: which bytes of a numeric item represent which number, and which are written.
+//! Numbers in storage: which bytes of a numeric item represent which number, and which bytes are written for a number.
 //!
 //! The trait [`Storage`] is a kind of storage, and [`Zoned`], [`Separate`], [`Packed`] and [`Binary`] are the four kinds of the
 //! USAGE and SIGN clauses (ANSI X3.23-1985, with the storage of IBM Enterprise COBOL for z/OS). A [`Shape`] says how an item lies:

@@ -11,7 +11,9 @@ use crate::sign::{code_of, sign_of};
 use crate::storage::Storage;
 use cob_decimal::{Digits, Number};
 
-/// Packed decimal: a digit in each half byte, the sign in the last (COMP-3, PACKED-DECIMAL).
+/// Packed decimal (PACKED-DECIMAL, COMP-3): a digit in each half byte, and the sign's code in the last.
+///
+/// n digits have `n / 2 + 1` bytes; where n is even the first half byte is 0. The codes are those of [`crate::Zoned`].
 pub struct Packed;
 
 impl Storage for Packed {

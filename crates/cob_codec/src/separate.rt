@@ -8,7 +8,10 @@ use crate::storage::Storage;
 use crate::zoned::{put_digits, read_digits};
 use cob_decimal::Number;
 
-/// Zoned decimal with a separate sign: a byte of its own, before or behind the digits (SIGN SEPARATE).
+/// Zoned decimal with a separate sign (SIGN SEPARATE): a byte for each digit, and one for the sign.
+///
+/// The digits are F0 to F9. The sign is 4E, a plus, or 60, a minus, behind them or with SIGN LEADING before them. Signed shapes alone
+/// are taken.
 pub struct Separate;
 
 impl Storage for Separate {

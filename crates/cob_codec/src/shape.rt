@@ -5,16 +5,19 @@ ghost use Rattle.cob_picture.specs.declared.category.Category.TheVariants.{Numer
 
 use cob_picture::Picture;
 
-/// How a numeric item lies in storage.
+/// How a numeric item lies in storage, by its PICTURE and SIGN clauses.
+///
+/// The digits of an item that are `d` together stand for the number `d * 10^-scale`.
 #[derive(Copy, Clone)]
 pub struct Shape {
     /// How many digits the item has, each 9 of the picture: 1 to 31.
     pub digits: u8,
-    /// How many of the digits stand behind the point; below zero, how many zeros stand between the last digit and the point.
+    /// How many decimal places lie right of the point, P among them; below zero, how many P lie between the last 9 and the point. -30
+    /// to 31.
     pub scale: i8,
     /// Whether the picture has an S.
     pub signed: bool,
-    /// Whether the sign leads. It ends the item where this is false.
+    /// Whether the sign leads (SIGN LEADING); else it trails. Packed and binary items look at it in no way.
     pub leading: bool,
     pub ghost some: { 0 < digits },
     pub ghost most: { digits ≤ MAX_DIGITS },
@@ -23,7 +26,7 @@ pub struct Shape {
 }
 
 impl Shape {
-    /// The shape of an item with a numeric picture.
+    /// The shape of an item with this picture, which the caller knows to be numeric, and with a leading or a trailing sign.
     pub fn of(picture: &Picture, leading: bool) -> Shape
         requires { picture.now.category ≡ Numeric }
         ensures digits { result.digits ≡ digits picture.now.positions }

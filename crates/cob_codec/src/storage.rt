@@ -5,9 +5,12 @@ ghost use Rattle.cob_codec.specs.declared.shape.Shape.{Shape};
 use crate::shape::Shape;
 use cob_decimal::Number;
 
-/// A kind of storage of numbers.
+/// A kind of storage of numbers: what the USAGE clause and SIGN SEPARATE choose.
 ///
-/// Generic code proves what it needs from the members and the laws alone.
+/// The caller hands a shape that the kind takes, and bytes of exactly the item's length. Code that is generic over the kind proves
+/// what it needs from the members and from the laws below the calls: what was stored has the item's length and reads back, bytes
+/// represent at most one number, and that number is one that the item holds. The stored form of a number is one, since `stored` is
+/// a function of it.
 pub trait Storage {
     /// The shapes that this kind takes.
     ghost takes: { Shape → Type 0 };
@@ -21,12 +24,13 @@ pub trait Storage {
     /// The bytes that are written for such a number.
     ghost stored: { Shape → Bool → List ℕ → List ℕ };
 
-    /// How many bytes an item has.
+    /// How many bytes an item has: 1 to 32.
     fn length(shape: &Shape) -> u16
         requires { takes shape.now }
         ensures { result ≡ size shape.now };
 
-    /// The number that the bytes of an item represent, if they do.
+    /// The number that the bytes of an item represent: exactly the shape's digits, at its scale. None exactly where they represent no
+    /// number.
     fn read(shape: &Shape, bytes: &[u8]) -> Option<Number>
         requires taken { takes shape.now }
         requires long { length bytes.now ≡ size shape.now }
@@ -35,7 +39,9 @@ pub trait Storage {
         ensures only { (negative : Bool) (digits : List ℕ) → represents shape.now bytes.now negative digits
             → IsSomeAnd result (λ v. (v.negative ≡ negative) × (v.digits ≡ digits)) };
 
-    /// Writes a number of the shape's digits, scale and sign.
+    /// Writes the stored form of a number into all bytes of an item.
+    ///
+    /// The number has exactly the shape's digits and scale, as `Number::align` makes it, and is negative only where the shape is signed.
     fn store(shape: &Shape, number: &Number, bytes: &mut [u8])
         requires taken { takes shape.now }
         requires long { length bytes.old ≡ size shape.now }

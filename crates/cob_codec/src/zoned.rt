@@ -11,7 +11,11 @@ use crate::sign::{code_of, sign_of};
 use crate::storage::Storage;
 use cob_decimal::{Digits, Number};
 
-/// Zoned decimal: a byte for each digit, and the sign in a zone (USAGE DISPLAY).
+/// Zoned decimal (USAGE DISPLAY): a byte for each digit.
+///
+/// The low half of a byte is the digit, the high half its zone: F, but in the sign's place, the last byte or with SIGN LEADING the
+/// first. There A, C, E and F are plus, and B and D minus where the item is signed; C, D and, where it is not signed, F are
+/// written. IBM Enterprise COBOL for z/OS has these bytes under NUMPROC(NOPFD).
 pub struct Zoned;
 
 impl Storage for Zoned {
