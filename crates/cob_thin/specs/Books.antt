@@ -25,10 +25,11 @@ pub record Pair : Type 0 where
   pub from : Named
   pub to : Named
 
--- the word that ends a line
+-- a word with the period that ends its line
 abbrev pub ended : List ℕ → List ℕ
 ended word = word ++ codes "."
 
+-- the symbol of a category: `X` or `9`
 abbrev pub symbol : Category → ℕ
 symbol Alphanumeric = 88
 symbol Numeric = 57
@@ -53,6 +54,7 @@ book_words book = record_words book.name ∷ map (item_words book.level) book.it
 abbrev pub move_line : List ℕ → List ℕ → List (List ℕ)
 move_line from to = codes "MOVE" ∷ from ∷ codes "TO" ∷ ended to ∷ []
 
+-- the line of the move of a pair
 abbrev pub move_words : Pair → List (List ℕ)
 move_words pair = move_line pair.from.name pair.to.name
 
@@ -60,9 +62,11 @@ move_words pair = move_line pair.from.name pair.to.name
 abbrev pub names_of : Book → List (List ℕ)
 names_of book = book.name ∷ map (λ named. named.name) book.items
 
+-- the items without their names
 abbrev pub items_of : List Named → List Item
 items_of nameds = map (λ named. named.item) nameds
 
+-- the move of a pair, without the names
 abbrev pub move_of : Pair → Move
 move_of pair = record { from = pair.from.item; to = pair.to.item }
 
@@ -71,7 +75,8 @@ pub record IsBetween (input output : Book) (pair : Pair) : Type 0 where
   pub from : Contains input.items pair.from
   pub to : Contains output.items pair.to
 
--- The texts say this conversion: the two books spell its items, the paragraph spells its moves, and each name means one thing.
+-- The texts say this conversion: their lines are plain, the two books spell its items, the paragraph spells its moves, and each name
+-- means one thing.
 pub record Means (in_book out_book moves : List ℕ) (conversion : Conversion) : Type 0 where
   pub input : Book
   pub output : Book

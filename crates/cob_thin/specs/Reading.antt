@@ -11,6 +11,7 @@ use Rattle.cob_thin.specs.Books.{Named, Book, Pair, IsBetween, move_words, move_
 abbrev pub named_by : Entry → Named
 named_by entry = record { name = entry.name.now; item = entry.item }
 
+-- the items that entries describe, in order
 abbrev pub all_named_by : List Entry → List Named
 all_named_by entries = map named_by entries
 

@@ -1,5 +1,5 @@
 // Books: the descriptions of records.
-ghost use Rattle.std.specs.Prelude.{◌≡◌, ◌+◌, ◌<◌, ◌≤◌, ℕ, [], ◌∷◌, ◌++◌, length, map, IfOk, IfSome, OnSome, MatchOption};
+ghost use Rattle.std.specs.Prelude.{◌≡◌, ◌<◌, [], ◌∷◌, ◌++◌, length, map, IfOk, IfSome, MatchOption, OnSome};
 ghost use Rattle.std.specs.List.{Contains};
 ghost use Rattle.cob_steps.specs.Records.{AreRecord};
 ghost use Rattle.cob_thin.specs.Words.{ArePlain, words_of};

@@ -1,5 +1,5 @@
 // The lines of books and paragraphs, one at a time.
-ghost use Rattle.std.specs.Prelude.{◌≡◌, ◌+◌, ◌<◌, ◌≤◌, ℕ, [], ◌∷◌, ◌++◌, IfSome};
+ghost use Rattle.std.specs.Prelude.{◌≡◌, ℕ, IfSome};
 ghost use Rattle.cob_thin.specs.Words.{words_in};
 ghost use Rattle.cob_thin.specs.Books.{ended, symbol, picture, record_words, move_line};
 ghost use Rattle.cob_steps.specs.Records.{HasSize};

@@ -1,5 +1,5 @@
 // The lines of a text.
-ghost use Rattle.std.specs.Prelude.{◌≡◌, ◌+◌, ◌<◌, ◌≤◌, ℕ, [], ◌∷◌, ◌++◌, length, IfOk, MatchOption, IfSome, OnSome, IsTrue, ◌↔◌};
+ghost use Rattle.std.specs.Prelude.{◌≡◌, ◌+◌, ◌<◌, ◌≤◌, [], ◌∷◌, length, IfOk, IfSome, IsTrue, MatchOption, OnSome};
 ghost use Rattle.std.specs.List.{AllByRecursion};
 ghost use Rattle.cob_thin.specs.Words.{IsCut, IsPlain, ArePlain, words_in, words_of, area};
 
@@ -9,8 +9,8 @@ use crate::words::{front_part, is_blank};
 // How many bytes a text may have.
 const MAX_BYTES: usize = 1_000_000;
 
-// The columns of a line that are read: from the one after FIRST to LAST.
-const FIRST: usize = 7;
+// The column that is a space in a plain line. The words stand behind it, up to LAST.
+const INDICATOR: usize = 7;
 
 const LAST: usize = 72;
 
@@ -90,14 +90,14 @@ fn area_of(line: &[u8]) -> &[u8]
     ensures { result.now ≡ area line.now }
 {
     let front = &line[..line.len().min(LAST)];
-    &front[front.len().min(FIRST)..]
+    &front[front.len().min(INDICATOR)..]
 }
 
 // Whether a line is plain.
 fn is_plain(line: &[u8]) -> bool
     ensures { IsTrue result → IsPlain line.now }
 {
-    if line.len() >= FIRST && line[FIRST - 1] != b' ' {
+    if line.len() >= INDICATOR && line[INDICATOR - 1] != b' ' {
         return false;
     }
     is_printing(line)

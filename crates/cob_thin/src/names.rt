@@ -1,5 +1,5 @@
 // The names that the texts have given so far.
-ghost use Rattle.std.specs.Prelude.{◌≡◌, ◌≢◌, ℕ, [], ◌∷◌, ◌++◌, map, false, AllPairs, All, IfOk, IsTrue};
+ghost use Rattle.std.specs.Prelude.{◌≡◌, ◌≢◌, [], ◌∷◌, ◌++◌, map, false, All, AllPairs, IfOk, IsTrue};
 
 use std::alloc::{AllocError, Global};
 

@@ -1,5 +1,5 @@
 // Lengths, as decimal digits.
-ghost use Rattle.std.specs.Prelude.{◌≡◌, ◌+◌, ◌*◌, ◌-◌, ◌<◌, ◌≤◌, ℕ, IfSome};
+ghost use Rattle.std.specs.Prelude.{◌≡◌, ◌+◌, ◌*◌, ◌-◌, ◌<◌, ◌≤◌, IfSome};
 ghost use Rattle.std.specs.Fmt.{decimal};
 
 // The number that digits spell, where it is above 0, has no leading zero and fits.

@@ -1,5 +1,5 @@
 // Paragraphs of moves.
-ghost use Rattle.std.specs.Prelude.{◌≡◌, ◌<◌, ℕ, [], ◌∷◌, length, IfOk, IfSome, OnSome, MatchOption};
+ghost use Rattle.std.specs.Prelude.{◌≡◌, ◌<◌, [], ◌∷◌, length, IfOk, IfSome, MatchOption, OnSome};
 ghost use Rattle.cob_thin.specs.Words.{ArePlain, words_of};
 ghost use Rattle.cob_thin.specs.Books.{move_line};
 ghost use Rattle.cob_thin.specs.Reading.{AreMoves, IsMoveOf};

@@ -1,7 +1,7 @@
 // Words of a line, read from the front.
-ghost use Rattle.std.specs.Prelude.{◌≡◌, ◌==◌, ◌<◌, ℕ, [], ◌∷◌, ◌++◌, ◌⊎◌, length, IfSome, IfNone, IsTrue, ◌↔◌};
+ghost use Rattle.std.specs.Prelude.{◌≡◌, ◌==◌, ◌<◌, ◌↔◌, [], ◌∷◌, length, IfNone, IfSome, IsTrue};
 ghost use Rattle.std.specs.List.{position};
-ghost use Rattle.cob_thin.specs.Words.{IsCut, words_in, area};
+ghost use Rattle.cob_thin.specs.Words.{IsCut, words_in};
 
 // Where the first mark stands.
 fn first_mark(text: &[u8], mark: u8) -> Option<usize>
