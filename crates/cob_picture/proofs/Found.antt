@@ -97,12 +97,12 @@ broken_order TooLong text runs h m = inr (misplaced_in TooLong text runs h m)
 broken_order Empty text runs h m = absurd m
 broken_order UnknownSymbol text runs h m = absurd m
 broken_order BadRepeat text runs h m = absurd m
-broken_order LeftOut text runs h m = absurd m
+broken_order LeftOut text runs h m = inr (misplaced_in LeftOut text runs h m)
 
 pub broken_item : (f : PictureFault) (text : List ℕ) → IsBrokenAfter f text → IsBroken f text
 broken_item UnknownSymbol text h = h
 broken_item BadRepeat text h = h
-broken_item LeftOut text h = h
+broken_item LeftOut text h = inl h
 broken_item Empty text (items, rest, front, some, h) = absurd h
 broken_item Order text (items, rest, front, some, h) = absurd h
 broken_item Digits text (items, rest, front, some, h) = absurd h

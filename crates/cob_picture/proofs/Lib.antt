@@ -4,5 +4,7 @@ pub mod Loop
 pub mod Fronts
 pub mod Times
 pub mod Placed
+pub mod EditedFacts
 pub mod Limits
 pub mod Found
+pub mod Parts

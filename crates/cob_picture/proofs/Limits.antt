@@ -22,6 +22,7 @@ use Rattle.cob_picture.specs.Numeric.{IsNumeric, numeric_symbols}
 use Rattle.cob_picture.specs.Categories.{IsOf}
 use Rattle.cob_picture.specs.Pictures.{IsPicture, IsWithinLimits}
 use Rattle.cob_picture.proofs.Times.{is_other, is_same, times-append, signs_written, points_written}
+use Rattle.cob_picture.proofs.EditedFacts.{edited_none}
 use Rattle.cob_picture.proofs.Placed.{one_if, seen_after, seen_runs, placed-append, digits-append, size-placed, symbols_placed, signed_runs, is_plain, MayFloat, is_true, floating_may, scaling-placed, decimal-placed, digits-cons, decimal-cons, IsParted, parted, leads_runs, any_placed}
 
 -- ---- pictures that show no number
@@ -344,7 +345,7 @@ once_at_most Numeric xs (n, is_one, e) = (omega (arith, ap (times S) e, signs_wr
 once_at_most Alphabetic xs o = let all = are_plain Alphabetic xs refl o in (omega (arith, plain_times_of S xs refl all.0), omega (arith, plain_times_of V xs refl all.0))
 once_at_most Alphanumeric xs o = let all = are_plain Alphanumeric xs refl o in (omega (arith, plain_times_of S xs refl all.0), omega (arith, plain_times_of V xs refl all.0))
 once_at_most AlphanumericEdited xs o = let all = are_plain AlphanumericEdited xs refl o in (omega (arith, plain_times_of S xs refl all.0), omega (arith, plain_times_of V xs refl all.0))
-once_at_most NumericEdited xs o = absurd o
+once_at_most NumericEdited xs o = let n = edited_none xs o in (omega (arith, n.no_s), n.one_v)
 
 pub times_fit : (c : Category) (xs : List Symbol) → IsPicture c xs → (s : Symbol) → times s xs ≤ 32752
 times_fit c xs p A = omega (arith, times_le A xs (omega arith), size-placed c (floating xs) false xs, p.limits.fits)

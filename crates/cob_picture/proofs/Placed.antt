@@ -143,7 +143,7 @@ any-replicate f zero s lt = absurd (omega arith)
 any-replicate f (suc zero) s lt = or_false (f s)
 any-replicate f (suc (suc n)) s lt = ap (λ (x : Bool). f s || x) (any-replicate f (suc n) s (omega arith)) ∙ or_self (f s)
 
-any_runs : (f : Symbol → Bool) (runs : List Run) → ArePositive runs → list_any f (written_out runs) ≡ list_any (λ r. f r.symbol) runs
+pub any_runs : (f : Symbol → Bool) (runs : List Run) → ArePositive runs → list_any f (written_out runs) ≡ list_any (λ r. f r.symbol) runs
 any_runs f [] pos = refl
 any_runs f (r ∷ runs) pos =
     any-append f (replicate r.count r.symbol) (written_out runs)

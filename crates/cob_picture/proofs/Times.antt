@@ -183,13 +183,77 @@ points_written n =
       times-replicate_other V Nine n.fraction (λ e. cc),
     )
 
--- a numeric picture is of no other category
-pub numeric_alone : (c : Category) (ps : List Symbol) (n : NumericParts) → IsNumeric n → ps ≡ numeric_symbols n → IsOf c ps → c ≡ Numeric
-numeric_alone Numeric ps n is e h = refl
-numeric_alone Alphabetic ps n is e h =
-    absurd (omega (arith, h.each, h.some, ap (times A) e, times_written A n (λ x. cc) (λ x. cc) (λ x. cc) (λ x. cc)))
-numeric_alone Alphanumeric ps n is e h =
-    absurd (omega (arith, h.each, h.not_digits, ap (times A) e, ap (times X) e, times_written A n (λ x. cc) (λ x. cc) (λ x. cc) (λ x. cc), times_written X n (λ x. cc) (λ x. cc) (λ x. cc) (λ x. cc)))
-numeric_alone AlphanumericEdited ps n is e h =
-    absurd (omega (arith, h.characters, ap (times A) e, ap (times X) e, times_written A n (λ x. cc) (λ x. cc) (λ x. cc) (λ x. cc), times_written X n (λ x. cc) (λ x. cc) (λ x. cc) (λ x. cc)))
-numeric_alone NumericEdited ps n is e h = absurd h
+pub digits_written : (n : NumericParts) → times Nine (numeric_symbols n) ≡ n.nines + n.fraction
+digits_written n =
+    let t6 = replicate n.fraction Nine in
+    let t5 = replicate n.after V ++ t6 in
+    let t4 = replicate n.right P ++ t5 in
+    let t3 = replicate n.nines Nine ++ t4 in
+    let t2 = replicate n.left P ++ t3 in
+    let t1 = replicate n.points V ++ t2 in
+    omega (
+      arith,
+      times-append Nine (replicate n.signs S) t1,
+      times-append Nine (replicate n.points V) t2,
+      times-append Nine (replicate n.left P) t3,
+      times-append Nine (replicate n.nines Nine) t4,
+      times-append Nine (replicate n.right P) t5,
+      times-append Nine (replicate n.after V) t6,
+      times-replicate_other Nine S n.signs (λ e. cc),
+      times-replicate_other Nine V n.points (λ e. cc),
+      times-replicate_other Nine P n.left (λ e. cc),
+      times-replicate Nine Nine n.nines refl,
+      times-replicate_other Nine P n.right (λ e. cc),
+      times-replicate_other Nine V n.after (λ e. cc),
+      times-replicate Nine Nine n.fraction refl,
+    )
+
+pub scaling_written : (n : NumericParts) → times P (numeric_symbols n) ≡ n.left + n.right
+scaling_written n =
+    let t6 = replicate n.fraction Nine in
+    let t5 = replicate n.after V ++ t6 in
+    let t4 = replicate n.right P ++ t5 in
+    let t3 = replicate n.nines Nine ++ t4 in
+    let t2 = replicate n.left P ++ t3 in
+    let t1 = replicate n.points V ++ t2 in
+    omega (
+      arith,
+      times-append P (replicate n.signs S) t1,
+      times-append P (replicate n.points V) t2,
+      times-append P (replicate n.left P) t3,
+      times-append P (replicate n.nines Nine) t4,
+      times-append P (replicate n.right P) t5,
+      times-append P (replicate n.after V) t6,
+      times-replicate_other P S n.signs (λ e. cc),
+      times-replicate_other P V n.points (λ e. cc),
+      times-replicate P P n.left refl,
+      times-replicate_other P Nine n.nines (λ e. cc),
+      times-replicate P P n.right refl,
+      times-replicate_other P V n.after (λ e. cc),
+      times-replicate_other P Nine n.fraction (λ e. cc),
+    )
+
+pub length_written : (n : NumericParts) → length (numeric_symbols n) ≡ n.signs + n.points + n.left + n.nines + n.right + n.after + n.fraction
+length_written n =
+    let t6 = replicate n.fraction Nine in
+    let t5 = replicate n.after V ++ t6 in
+    let t4 = replicate n.right P ++ t5 in
+    let t3 = replicate n.nines Nine ++ t4 in
+    let t2 = replicate n.left P ++ t3 in
+    let t1 = replicate n.points V ++ t2 in
+    omega (
+      arith,
+      length-append (replicate n.signs S) t1,
+      length-append (replicate n.points V) t2,
+      length-append (replicate n.left P) t3,
+      length-append (replicate n.nines Nine) t4,
+      length-append (replicate n.right P) t5,
+      length-append (replicate n.after V) t6,
+      length-replicate n.signs S,
+      length-replicate n.points V,
+      length-replicate n.left P,
+      length-replicate n.nines Nine,
+      length-replicate n.right P,
+      length-replicate n.after V,
+      length-replicate n.fraction Nine,
+    )

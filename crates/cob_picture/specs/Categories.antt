@@ -7,6 +7,7 @@ use Rattle.cob_picture.specs.declared.category.Category.{Category}
 use Rattle.cob_picture.specs.declared.category.Category.TheVariants.{Alphabetic, Numeric, Alphanumeric, AlphanumericEdited, NumericEdited}
 use Rattle.cob_picture.specs.Positions.{times}
 use Rattle.cob_picture.specs.Numeric.{IsNumeric, numeric_symbols}
+use Rattle.cob_picture.specs.Edited.{IsNumericEdited}
 
 -- A alone
 pub record IsAlphabetic (symbols : List Symbol) : Type 0 where
@@ -31,4 +32,4 @@ IsOf Alphabetic symbols = IsAlphabetic symbols
 IsOf Numeric symbols = (n : NumericParts) × IsNumeric n × (symbols ≡ numeric_symbols n)
 IsOf Alphanumeric symbols = IsAlphanumeric symbols
 IsOf AlphanumericEdited symbols = IsAlphanumericEdited symbols
-IsOf NumericEdited symbols = ⊥
+IsOf NumericEdited symbols = IsNumericEdited symbols

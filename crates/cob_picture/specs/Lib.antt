@@ -4,6 +4,8 @@ pub mod Positions
 pub mod Runs
 pub mod Counts
 pub mod Numeric
+pub mod Edited
+pub mod Parted
 pub mod Categories
 pub mod Pictures
 pub mod Measures

@@ -10,6 +10,7 @@ use Rattle.cob_picture.specs.declared.category.Category.{Category}
 use Rattle.cob_picture.specs.WrittenOut.{Item, Reads, symbols_in, counted_in, IsBrokenAfter}
 use Rattle.cob_picture.specs.Positions.{Seen, positions, shows_number, is_edited}
 use Rattle.cob_picture.specs.Counts.{size, digits, decimal_places}
+use Rattle.cob_picture.specs.Edited.{IsLeftOut}
 use Rattle.cob_picture.specs.Categories.{IsOf}
 
 -- The limits. A picture of a number has a digit at least, and at most 31 digits, kept or not. It takes at most 32,752 bytes,
@@ -39,13 +40,13 @@ pub record IsPictureOf (text : List ℕ) (seen : Seen) : Type 0 where
 
 -- Which rule on order or limits the symbols break.
 abbrev pub IsMisplaced : PictureFault → List Symbol → Type 0
-IsMisplaced Order symbols = (c : Category) → IsOf c symbols → ⊥
+IsMisplaced Order symbols = ((c : Category) → IsOf c symbols → ⊥) × (IsLeftOut symbols → ⊥)
 IsMisplaced Digits symbols = (c : Category) × IsOf c symbols × ((IsTrue (shows_number c) × (digits (positions c symbols) ≡ 0)) ⊎ (MAX_DIGITS < decimal_places (positions c symbols)))
 IsMisplaced TooLong symbols = (c : Category) × IsOf c symbols × ((MAX_SIZE < size (positions c symbols)) ⊎ (IsTrue (is_edited c) × (MAX_EDITED_SIZE < size (positions c symbols))))
 IsMisplaced Empty symbols = ⊥
 IsMisplaced UnknownSymbol symbols = ⊥
 IsMisplaced BadRepeat symbols = ⊥
-IsMisplaced LeftOut symbols = ⊥
+IsMisplaced LeftOut symbols = ((c : Category) → IsOf c symbols → ⊥) × IsLeftOut symbols
 
 -- The text has symbols, with repeats counted up to 40,000, which is past every limit, and these break the rule.
 abbrev pub IsMisplacedIn : PictureFault → List ℕ → Type 0
@@ -59,4 +60,4 @@ IsBroken BadRepeat text = IsBrokenAfter BadRepeat text
 IsBroken Order text = IsMisplacedIn Order text
 IsBroken Digits text = IsMisplacedIn Digits text
 IsBroken TooLong text = (MAX_TEXT < length text) ⊎ IsMisplacedIn TooLong text
-IsBroken LeftOut text = IsBrokenAfter LeftOut text
+IsBroken LeftOut text = IsBrokenAfter LeftOut text ⊎ IsMisplacedIn LeftOut text

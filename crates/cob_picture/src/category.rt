@@ -4,6 +4,7 @@ ghost use Rattle.cob_picture.specs.Runs.{ArePositive};
 ghost use Rattle.cob_picture.specs.Categories.{IsOf};
 ghost use Rattle.cob_picture.specs.declared.category.Category.{Category};
 
+use crate::edited::is_numeric_edited;
 use crate::numeric::numeric;
 use crate::symbol::{Run, Symbol};
 
@@ -91,6 +92,9 @@ pub fn category_of(runs: &[Run]) -> Option<Category>
         + count_of(runs, Symbol::Slash);
     if characters + digits + insertions == all && characters > 0 && insertions > 0 {
         return Some(Category::AlphanumericEdited);
+    }
+    if is_numeric_edited(runs) {
+        return Some(Category::NumericEdited);
     }
     None
 }

@@ -2,11 +2,13 @@ ghost use Rattle.std.specs.Prelude.{◌≡◌, ℕ, ◌+◌, ◌<◌, ◌≤◌,
 ghost use Rattle.cob_picture.specs.Positions.{written_out, positions, shows_number, is_edited};
 ghost use Rattle.cob_picture.specs.Runs.{ArePositive};
 ghost use Rattle.cob_picture.specs.Measures.{AreCountsOf};
+ghost use Rattle.cob_picture.specs.Categories.{IsOf};
 ghost use Rattle.cob_picture.specs.Pictures.{IsPicture, IsMisplaced};
 ghost use Rattle.cob_picture.specs.declared.category.Category.{Category};
 
 use crate::category::{Category, category_of};
 use crate::counts::{Counts, counted};
+use crate::edited::is_left_out;
 use crate::fault::PictureFault;
 use crate::symbol::Run;
 use crate::{MAX_DIGITS, MAX_EDITED_SIZE, MAX_SIZE};
@@ -29,6 +31,20 @@ pub fn size_fits(category: Category, size: u32) -> bool
     size <= MAX_SIZE && (size <= MAX_EDITED_SIZE || !category.is_edited())
 }
 
+/// Why the runs are of no category.
+pub fn misplaced(runs: &[Run]) -> PictureFault
+    requires short { length runs.now ≤ 50 }
+    requires positive { ArePositive runs.now }
+    requires none { (c : Category) → IsOf c (written_out runs.now) → ⊥ }
+    ensures { IsMisplaced result (written_out runs.now) }
+{
+    if is_left_out(runs) {
+        PictureFault::LeftOut
+    } else {
+        PictureFault::Order
+    }
+}
+
 /// The category of the runs of a picture, and what is counted over its positions.
 pub fn judged(runs: &[Run]) -> Result<(Category, Counts), PictureFault>
     requires short { length runs.now ≤ 50 }
@@ -38,7 +54,7 @@ pub fn judged(runs: &[Run]) -> Result<(Category, Counts), PictureFault>
     ensures fault { IfErr result (λ f. IsMisplaced f (written_out runs.now)) }
 {
     let Some(category) = category_of(runs) else {
-        return Err(PictureFault::Order);
+        return Err(misplaced(runs));
     };
     let counts = counted(runs, category);
     if !digits_fit(category, counts) {

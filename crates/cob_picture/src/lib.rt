@@ -3,6 +3,7 @@
 
 pub mod category;
 mod counts;
+mod edited;
 pub mod fault;
 mod judge;
 mod numeric;

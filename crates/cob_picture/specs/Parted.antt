@@ -1,0 +1,71 @@
+-- Runs, part by part.
+use Rattle.std.specs.Prelude.{◌≡◌, ℕ, ◌≤◌, List, ◌++◌, length, Option}
+use Rattle.cob_picture.specs.declared.symbol.Symbol.{Symbol}
+use Rattle.cob_picture.specs.declared.symbol.Run.{Run}
+use Rattle.cob_picture.specs.declared.edited.Part.TheVariants.{Lead, Currency, Front, Whole, PointPart, Fraction, Trail}
+use Rattle.cob_picture.specs.Positions.{written_out}
+use Rattle.cob_picture.specs.Runs.{ArePositive}
+use Rattle.cob_picture.specs.Edited.{AreOf, Stops, Edited}
+
+-- a part of the runs, taken as far as it goes from the symbols, and the symbols behind it
+pub record IsTaken (q : Option Symbol) (symbols : List Symbol) (taken : List Run) (rest : List Symbol) : Type 0 where
+  pub parts : symbols ≡ written_out taken ++ rest
+  pub short : length taken ≤ 50
+  pub positive : ArePositive taken
+
+-- the seven parts one behind the other, each as long as may be, and what is left
+pub record IsSplit (q : Option Symbol) (symbols : List Symbol) (lead currency front whole point fraction trail rest : List Run) : Type 0 where
+  pub s1 : List Symbol
+  pub s2 : List Symbol
+  pub s3 : List Symbol
+  pub s4 : List Symbol
+  pub s5 : List Symbol
+  pub s6 : List Symbol
+  pub p1 : IsTaken q symbols lead s1
+  pub p2 : IsTaken q s1 currency s2
+  pub p3 : IsTaken q s2 front s3
+  pub p4 : IsTaken q s3 whole s4
+  pub p5 : IsTaken q s4 point s5
+  pub p6 : IsTaken q s5 fraction s6
+  pub p7 : IsTaken q s6 trail (written_out rest)
+  pub of1 : AreOf Lead q (written_out lead)
+  pub of2 : AreOf Currency q (written_out currency)
+  pub of3 : AreOf Front q (written_out front)
+  pub of4 : AreOf Whole q (written_out whole)
+  pub of5 : AreOf PointPart q (written_out point)
+  pub of6 : AreOf Fraction q (written_out fraction)
+  pub of7 : AreOf Trail q (written_out trail)
+  pub not1 : Stops Lead q s1
+  pub not2 : Stops Currency q s2
+  pub not3 : Stops Front q s3
+  pub not4 : Stops Whole q s4
+  pub not5 : Stops PointPart q s5
+  pub not6 : Stops Fraction q s6
+  pub not7 : Stops Trail q (written_out rest)
+  pub left : ArePositive rest
+
+-- the parts of a picture, from their runs
+abbrev pub edited_of : (lead currency front whole point fraction trail : List Run) → Edited
+edited_of lead currency front whole point fraction trail = record {
+  lead = written_out lead;
+  currency = written_out currency;
+  front = written_out front;
+  whole = written_out whole;
+  point = written_out point;
+  fraction = written_out fraction;
+  trail = written_out trail;
+}
+
+-- a part has few runs, none of them of nothing
+abbrev pub IsShort : List Run → Type 0
+IsShort runs = (length runs ≤ 50) × ArePositive runs
+
+-- each part has few runs
+pub record AreShort (lead currency front whole point fraction trail : List Run) : Type 0 where
+  pub r1 : IsShort lead
+  pub r2 : IsShort currency
+  pub r3 : IsShort front
+  pub r4 : IsShort whole
+  pub r5 : IsShort point
+  pub r6 : IsShort fraction
+  pub r7 : IsShort trail
