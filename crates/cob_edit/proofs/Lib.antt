@@ -1,0 +1,3 @@
+pub mod EditingLemmas
+pub mod ExtractLemmas
+pub mod OneValueLemmas

@@ -1,0 +1,170 @@
+//! The places of an edited item.
+
+ghost use Rattle.std.specs.Prelude.{◌≡◌};
+ghost use Rattle.cob_edit.specs.Places.{mark_byte, tells, fill_byte, is_digit, is_run, is_run_or_insertion, is_point, has_byte, is_nine, is_star, is_asterisk, is_fixed_sign, is_floating_sign};
+
+/// A byte that may depend on the sign of the value.
+#[derive(Clone, Copy, Debug, PartialEq, Eq)]
+pub enum Mark {
+    /// `$`, whatever the sign.
+    Currency,
+    /// `+`, or `-` for a negative value.
+    PlusOrMinus,
+    /// A space, or `-` for a negative value.
+    SpaceOrMinus,
+    /// The C of CR, for a negative value.
+    CreditC,
+    /// The R of CR, for a negative value.
+    CreditR,
+    /// The D of DB, for a negative value.
+    DebitD,
+    /// The B of DB, for a negative value.
+    DebitB,
+}
+
+/// What stands for a suppressed zero.
+#[derive(Clone, Copy, Debug, PartialEq, Eq)]
+pub enum Fill {
+    /// A space, for Z.
+    Space,
+    /// An asterisk.
+    Asterisk,
+}
+
+/// What a place of an edited item is for.
+#[derive(Clone, Copy, Debug, PartialEq, Eq)]
+pub enum Place {
+    /// A byte that prints itself, for B, 0, the stroke and the comma.
+    Inserted(u8),
+    /// A point that prints.
+    Point,
+    /// A digit that always shows, for 9.
+    Digit,
+    /// A digit whose leading zeros are suppressed.
+    Suppressed(Fill),
+    /// A digit that a floating symbol may take the place of.
+    Floating,
+    /// The first floating symbol, which holds no digit.
+    First(Mark),
+    /// A sign or currency sign in its place.
+    Fixed(Mark),
+    /// A point that prints nothing, for V.
+    AssumedPoint,
+}
+
+impl Default for Place {
+    fn default() -> Place {
+        Place::Inserted(0)
+    }
+}
+
+impl Mark {
+    /// The byte for a value that is negative or not.
+    pub fn byte(self, negative: bool) -> u8
+        ensures { result ≡ mark_byte self negative }
+    {
+        match (self, negative) {
+            (Mark::Currency, _) => 0x5B,
+            (Mark::PlusOrMinus, false) => 0x4E,
+            (Mark::PlusOrMinus | Mark::SpaceOrMinus, true) => 0x60,
+            (Mark::CreditC, true) => 0xC3,
+            (Mark::CreditR, true) => 0xD9,
+            (Mark::DebitD, true) => 0xC4,
+            (Mark::DebitB, true) => 0xC2,
+            _ => 0x40,
+        }
+    }
+
+    /// Whether it tells the sign.
+    pub fn tells(self) -> bool
+        ensures { result ≡ tells self }
+    {
+        !matches!(self, Mark::Currency)
+    }
+}
+
+impl Fill {
+    /// Its byte.
+    pub fn byte(self) -> u8
+        ensures { result ≡ fill_byte self }
+    {
+        match self {
+            Fill::Space => 0x40,
+            Fill::Asterisk => 0x5C,
+        }
+    }
+}
+
+impl Place {
+    /// Whether it holds a digit.
+    pub fn is_digit(&self) -> bool
+        ensures { result ≡ is_digit self.now }
+    {
+        matches!(self, Place::Digit | Place::Suppressed(_) | Place::Floating)
+    }
+
+    /// Whether it is of the run.
+    pub fn is_run(&self) -> bool
+        ensures { result ≡ is_run self.now }
+    {
+        matches!(
+            self,
+            Place::First(_) | Place::Suppressed(_) | Place::Floating
+        )
+    }
+
+    /// Whether it is of the run or an insertion.
+    pub fn is_run_or_insertion(&self) -> bool
+        ensures { result ≡ is_run_or_insertion self.now }
+    {
+        self.is_run() || matches!(self, Place::Inserted(_))
+    }
+
+    /// Whether it is the point.
+    pub fn is_point(&self) -> bool
+        ensures { result ≡ is_point self.now }
+    {
+        matches!(self, Place::Point | Place::AssumedPoint)
+    }
+
+    /// Whether it holds a byte.
+    pub fn has_byte(&self) -> bool
+        ensures { result ≡ has_byte self.now }
+    {
+        !matches!(self, Place::AssumedPoint)
+    }
+
+    /// Whether it holds a digit that always shows.
+    pub fn is_nine(&self) -> bool
+        ensures { result ≡ is_nine self.now }
+    {
+        matches!(self, Place::Digit)
+    }
+
+    /// Whether an asterisk stands for its suppressed zero.
+    pub fn is_star(&self) -> bool
+        ensures { result ≡ is_star self.now }
+    {
+        matches!(self, Place::Suppressed(Fill::Asterisk))
+    }
+
+    /// Whether it is a sign in its place.
+    pub fn is_fixed_sign(&self) -> bool
+        ensures { result ≡ is_fixed_sign self.now }
+    {
+        match self {
+            Place::Fixed(mark) => mark.tells(),
+            _ => false,
+        }
+    }
+
+    /// Whether it is the first of a floating sign.
+    pub fn is_floating_sign(&self) -> bool
+        ensures { result ≡ is_floating_sign self.now }
+    {
+        match self {
+            Place::First(mark) => mark.tells(),
+            _ => false,
+        }
+    }
+}
