@@ -342,3 +342,21 @@ fn refused_memory(rt: HostRuntime) {
         ),
     }
 }
+
+/// What a fault prints.
+#[test]
+fn printed_rules(rt: HostRuntime) -> Result<(), Fail> {
+    for (rule, want) in [
+        (SourceRule::NotAscii, "T1 line 7"),
+        (SourceRule::Tab, "T2 line 7"),
+        (SourceRule::OpenLiteral, "T3 line 7"),
+        (SourceRule::BadContinuation, "T4 line 7"),
+        (SourceRule::TooLong, "T5 line 7"),
+        (SourceRule::UnknownIndicator, "T6 line 7"),
+        (SourceRule::Memory, "T9 line 7"),
+    ] {
+        let fault = SourceFault { rule, line: 7 };
+        assert_eq!(rt; format!(in rt.alloc(); "{fault}")?.as_str(), want);
+    }
+    Ok(())
+}
