@@ -41,7 +41,7 @@ fit_counted most (i ∷ items) lt all =
     let own : times s (counted_in i) ≡ min (times_in i) 40000 = times-replicate s s (min (times_in i) 40000) refl in
     (omega (arith, here, split, own), fit_counted most items lt (λ t. omega (arith, all t, times-append t (counted_in i) (flat_map counted_in items))))
 
-fit_written : (most : ℕ) (items : List Item) → most < 40000 → ((s : Symbol) → times s (flat_map symbols_in items) ≤ most) → AllByRecursion (λ i. times_in i < 40000) items
+pub fit_written : (most : ℕ) (items : List Item) → most < 40000 → ((s : Symbol) → times s (flat_map symbols_in items) ≤ most) → AllByRecursion (λ i. times_in i < 40000) items
 fit_written most [] lt all = tt
 fit_written most (i ∷ items) lt all =
     let s = symbol_in i in
@@ -50,7 +50,7 @@ fit_written most (i ∷ items) lt all =
     let own : times s (symbols_in i) ≡ times_in i = times-replicate s s (times_in i) refl in
     (omega (arith, here, split, own), fit_written most items lt (λ t. omega (arith, all t, times-append t (symbols_in i) (flat_map symbols_in items))))
 
-same_count : (items : List Item) → AllByRecursion (λ i. times_in i < 40000) items → flat_map counted_in items ≡ flat_map symbols_in items
+pub same_count : (items : List Item) → AllByRecursion (λ i. times_in i < 40000) items → flat_map counted_in items ≡ flat_map symbols_in items
 same_count [] all = refl
 same_count (i ∷ items) all =
     let n : min (times_in i) 40000 ≡ times_in i = omega (arith, all.0) in

@@ -8,3 +8,5 @@ pub mod EditedFacts
 pub mod Limits
 pub mod Found
 pub mod Parts
+pub mod OnePicture
+pub mod RunLaws

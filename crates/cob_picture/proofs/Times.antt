@@ -16,7 +16,7 @@ use Rattle.cob_picture.specs.declared.category.Category.{Category}
 use Rattle.cob_picture.specs.declared.category.Category.TheVariants.{Alphabetic, Numeric, Alphanumeric, AlphanumericEdited, NumericEdited}
 
 -- each symbol is the one with its first character
-with_first : (s : Symbol) → symbol_with (first_of s) ≡ Some s
+pub with_first : (s : Symbol) → symbol_with (first_of s) ≡ Some s
 with_first A = refl
 with_first X = refl
 with_first Nine = refl

@@ -9,3 +9,4 @@ pub mod Parted
 pub mod Categories
 pub mod Pictures
 pub mod Measures
+pub mod Laws

@@ -40,7 +40,7 @@ impl Category {
 }
 
 /// How often the symbol stands there.
-pub fn count_of(runs: &[Run], symbol: Symbol) -> u32
+pub(crate) fn count_of(runs: &[Run], symbol: Symbol) -> u32
     requires { length runs.now ≤ 50 }
     ensures value { result ≡ times symbol (written_out runs.now) }
     ensures bound { result ≤ 65535 * 50 }
@@ -55,7 +55,7 @@ pub fn count_of(runs: &[Run], symbol: Symbol) -> u32
 }
 
 /// How many positions there are.
-pub fn total(runs: &[Run]) -> u32
+pub(crate) fn total(runs: &[Run]) -> u32
     requires { length runs.now ≤ 50 }
     ensures value { result ≡ length (written_out runs.now) }
     ensures bound { result ≤ 65535 * 50 }
@@ -68,7 +68,7 @@ pub fn total(runs: &[Run]) -> u32
 }
 
 /// The category of the runs.
-pub fn category_of(runs: &[Run]) -> Option<Category>
+pub(crate) fn category_of(runs: &[Run]) -> Option<Category>
     requires short { length runs.now ≤ 50 }
     requires positive { ArePositive runs.now }
     ensures found { IfSome result (λ c. IsOf c (written_out runs.now)) }

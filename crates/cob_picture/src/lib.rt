@@ -6,6 +6,7 @@ mod counts;
 mod edited;
 pub mod fault;
 mod judge;
+mod laws;
 mod numeric;
 pub mod picture;
 pub mod position;
@@ -16,6 +17,7 @@ mod tests;
 
 pub use category::Category;
 pub use fault::PictureFault;
+pub use laws::{breaks_no_rule, first_leads, one_picture, one_run};
 pub use picture::Picture;
 pub use position::{Position, Role};
 pub use symbol::{Run, Symbol};

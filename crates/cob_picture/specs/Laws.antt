@@ -1,0 +1,46 @@
+-- What follows from the definitions, said as laws.
+use Rattle.std.specs.Prelude.{◌≡◌, ℕ, Bool, true, false, List, ◌∷◌, ◌++◌}
+use Rattle.std.specs.List.{AllByRecursion}
+use Rattle.cob_picture.specs.declared.fault.PictureFault.{PictureFault}
+use Rattle.cob_picture.specs.declared.category.Category.TheVariants.{NumericEdited}
+use Rattle.cob_picture.specs.declared.position.Position.{Position}
+use Rattle.cob_picture.specs.declared.position.Role.{Role}
+use Rattle.cob_picture.specs.declared.position.Role.TheVariants.{Character, Insertion, DecimalPoint, Digit, Suppressed, Floating, FirstFloating, FixedSign, FixedCurrency, NoByte}
+use Rattle.cob_picture.specs.Positions.{Seen, is_that, symbols_of}
+use Rattle.cob_picture.specs.Counts.{is_point}
+use Rattle.cob_picture.specs.Edited.{run_symbol}
+use Rattle.cob_picture.specs.Pictures.{IsPictureOf, IsBroken}
+
+-- a text is one picture at most
+abbrev pub IsOnePicture : Type 0
+IsOnePicture = (text : List ℕ) (p q : Seen) → IsPictureOf text p → IsPictureOf text q → p ≡ q
+
+-- a text that is a picture breaks no rule
+abbrev pub BreaksNoRule : Type 0
+BreaksNoRule = (text : List ℕ) (p : Seen) (f : PictureFault) → IsPictureOf text p → IsBroken f text → ⊥
+
+-- a place of the run
+abbrev pub is_run_role : Role → Bool
+is_run_role Suppressed = true
+is_run_role Floating = true
+is_run_role FirstFloating = true
+is_run_role Character = false
+is_run_role Insertion = false
+is_run_role DecimalPoint = false
+is_run_role Digit = false
+is_run_role FixedSign = false
+is_run_role FixedCurrency = false
+is_run_role NoByte = false
+
+-- the places of a run have one symbol
+abbrev pub IsOneRun : Type 0
+IsOneRun =
+    (text : List ℕ) (p : Seen) → IsPictureOf text p → p.category ≡ NumericEdited
+    → AllByRecursion (λ x. is_run_role x.role ≡ true → is_that (run_symbol (symbols_of p.positions)) x.symbol ≡ true) p.positions
+
+-- before the first floating symbol stands no place of the run, and no point
+abbrev pub FirstLeads : Type 0
+FirstLeads =
+    (text : List ℕ) (p : Seen) (before after : List Position) (first : Position) → IsPictureOf text p → p.category ≡ NumericEdited
+    → p.positions ≡ before ++ first ∷ after → first.role ≡ FirstFloating
+    → AllByRecursion (λ x. (is_run_role x.role ≡ false) × (is_point x.symbol ≡ false)) before

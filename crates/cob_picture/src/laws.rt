@@ -1,0 +1,21 @@
+ghost use Rattle.cob_picture.specs.Laws.{IsOnePicture, BreaksNoRule, IsOneRun, FirstLeads};
+
+/// A text is one picture at most.
+pub fn one_picture()
+    ensures { IsOnePicture }
+{}
+
+/// A text that is a picture breaks none of the rules that are named for others.
+pub fn breaks_no_rule()
+    ensures { BreaksNoRule }
+{}
+
+/// The places of a run, those that suppress zeros or float, have one symbol.
+pub fn one_run()
+    ensures { IsOneRun }
+{}
+
+/// The first floating symbol is the first place of the run, and stands before the point.
+pub fn first_leads()
+    ensures { FirstLeads }
+{}
