@@ -19,8 +19,15 @@ const INPUT: &[u8; 10] = b"\xC1\xC2\xC3\xF0\xF7\xC4\xC5\xC6\xF9\xF9";
 const OUTPUT: &[u8; 18] =
     b"\xF0\xF0\xF0\xF7\xC1\xC2\xC3\x40\x40\xF0\xF0\xF9\xF9\xC4\xC5\xC6\x40\x40";
 
+/// A converter. Where a request for memory is refused, as `rt try --test --fail-alloc` has it, the answer is `Memory`,
+/// and the next call succeeds.
 fn prepared(alloc: Global, in_form: Form, out_form: Form) -> Result<Converter, PrepareFault> {
-    Converter::prepare(alloc, IN_BOOK, OUT_BOOK, MOVES, in_form, out_form)
+    match Converter::prepare(alloc, IN_BOOK, OUT_BOOK, MOVES, in_form, out_form) {
+        Err(PrepareFault::Memory) => {
+            Converter::prepare(alloc, IN_BOOK, OUT_BOOK, MOVES, in_form, out_form)
+        }
+        answer => answer,
+    }
 }
 
 fn stopped(number: u64, side: Side, fault: RecordFault, written: u64) -> Result<u64, RunFault> {
@@ -197,5 +204,29 @@ fn longest_job(rt: HostRuntime) -> Result<(), Fail> {
         );
         assert_eq!(rt; sink.taken(), printed);
     }
+    Ok(())
+}
+
+/// Where one request for memory is refused, a job prints `memory`, and the same job is done when it is tried again;
+/// a run that follows `prepare` makes no request.
+#[test]
+fn memory_is_refused(rt: HostRuntime) -> Result<(), Fail> {
+    let mut refused = 0;
+    for _ in 0..3 {
+        let mut room = [0u8; 40];
+        let mut sink = MemSink::new(&mut room);
+        if job(rt.alloc(), &mut MemSource::new(JOB), &mut sink) == 5 {
+            assert_eq!(rt; sink.taken(), b"memory\n".as_slice());
+            refused += 1;
+        } else {
+            assert_eq!(rt; sink.taken(), PRINTED);
+        }
+    }
+    assert!(rt; refused <= 1);
+    let mut converter = prepared(rt.alloc(), Form::Fixed, Form::Fixed)?;
+    let mut room = [0u8; 18];
+    let mut sink = MemSink::new(&mut room);
+    assert_eq!(rt; converter.run(&mut MemSource::new(INPUT), &mut sink), Ok(2));
+    assert_eq!(rt; sink.taken(), OUTPUT.as_slice());
     Ok(())
 }
