@@ -2,7 +2,7 @@ ghost use Rattle.std.specs.Prelude.{◌≡◌, ℕ, ◌+◌, ◌<◌, ◌≤◌,
 ghost use Rattle.cob_picture.specs.Positions.{Seen, written_out, positions, symbols_of, shows_number, is_edited};
 ghost use Rattle.cob_picture.specs.Runs.{ArePositive};
 ghost use Rattle.cob_picture.specs.Counts.{size, digits, scale, signed};
-ghost use Rattle.cob_picture.specs.Pictures.{IsPictureOf, IsBroken};
+ghost use Rattle.cob_picture.specs.Pictures.{IsPictureOf, IsPicture, IsBroken};
 ghost use Rattle.cob_picture.specs.Measures.{IsKept};
 ghost use Rattle.cob_picture.specs.declared.category.Category.{Category};
 
@@ -112,6 +112,8 @@ impl Picture {
     pub fn runs(&self) -> &[Run]
         ensures positions { self.now.positions ≡ positions self.now.category (written_out result.now) }
         ensures symbols { symbols_of self.now.positions ≡ written_out result.now }
+        // What was read is in the order of its category, and within the limits.
+        ensures picture { IsPicture self.now.category (written_out result.now) }
         ensures positive { ArePositive result.now }
         ensures few { length result.now ≤ MAX_TEXT }
     {
