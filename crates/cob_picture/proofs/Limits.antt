@@ -21,7 +21,7 @@ use Rattle.cob_picture.specs.Measures.{AreCountsOf, run_leads, symbols_size}
 use Rattle.cob_picture.specs.Numeric.{IsNumeric, numeric_symbols}
 use Rattle.cob_picture.specs.Categories.{IsOf}
 use Rattle.cob_picture.specs.Pictures.{IsPicture, IsWithinLimits}
-use Rattle.cob_picture.proofs.Times.{is_other, is_same, times-append, signs_written, points_written}
+use Rattle.cob_picture.proofs.Times.{is_other, is_same, times-append, signs_written, points_written, digits_written, scaling_written, length_written}
 use Rattle.cob_picture.proofs.EditedFacts.{edited_none}
 use Rattle.cob_picture.proofs.Placed.{one_if, seen_after, seen_runs, placed-append, digits-append, size-placed, symbols_placed, signed_runs, is_plain, MayFloat, is_true, floating_may, scaling-placed, decimal-placed, digits-cons, decimal-cons, IsParted, parted, leads_runs, any_placed}
 
@@ -435,3 +435,59 @@ counts_are c runs k before behind missing added bytes sign pos here eb ef em ea 
           ap (λ (b : Bool). decimal_places (if b then ps else after_point ps)) leads ∙ two.after ∙ ap (λ (b : Bool). decimal_places (placed c q b fx)) seen,
           ap (λ (b : Bool). scaling_count (if b then [] else before_point ps)) leads ∙ ap scaling_count two.before ∙ scaling-placed c q false wx,
         )
+
+-- ---- how many positions a picture of a number has
+
+length_size : (xs : List Symbol) → length xs ≤ symbols_size xs + times S xs + times V xs + times P xs
+length_size [] = omega arith
+length_size (s ∷ xs) = omega (arith, one_wide s, length_size xs)
+  where
+    one_wide : (s : Symbol) → 1 ≤ width s + one_if (is S s) + one_if (is V s) + one_if (is P s)
+    one_wide A = omega arith
+    one_wide X = omega arith
+    one_wide Nine = omega arith
+    one_wide S = omega arith
+    one_wide V = omega arith
+    one_wide P = omega arith
+    one_wide B = omega arith
+    one_wide Zero = omega arith
+    one_wide Slash = omega arith
+    one_wide Comma = omega arith
+    one_wide Point = omega arith
+    one_wide Z = omega arith
+    one_wide Star = omega arith
+    one_wide Dollar = omega arith
+    one_wide Plus = omega arith
+    one_wide Minus = omega arith
+    one_wide Credit = omega arith
+    one_wide Debit = omega arith
+
+nines_le : (c : Category) (q : Option Symbol) (seen : Bool) (xs : List Symbol) → shows_number c ≡ true → MayFloat q → times Nine xs ≤ digits (placed c q seen xs)
+nines_le c q seen [] e may = omega arith
+nines_le c q seen (s ∷ xs) e may = at (is Nine s) refl (nines_le c q (seen || is_that q s) xs e may)
+  where
+    ps : List Position
+    ps = placed c q (seen || is_that q s) xs
+
+    at : (b : Bool) → is Nine s ≡ b → times Nine xs ≤ digits ps → times Nine (s ∷ xs) ≤ digits (placed c q seen (s ∷ xs))
+    at true h more =
+        let nine : s ≡ Nine = is_true Nine s h in
+        let settled : is_that q s ≡ false = ap (is_that q) nine ∙ may.not_plain Nine refl in
+        let digit : one_if (is_digit_place (role_at c (is_that q s) seen s)) ≡ 1 =
+        ap (λ (f : Bool). one_if (is_digit_place (role_at c f seen s))) settled ∙ ap (λ (t : Symbol). one_if (is_digit_place (settled_role c t))) nine ∙ ap (λ (b : Bool). one_if (is_digit_place (settled_nine b))) e in
+        let one : one_if (is Nine s) ≡ 1 = ap one_if h in
+        omega (arith, digits-cons (position_at c q seen s) ps, digit, one, more)
+    at false h more = let none : one_if (is Nine s) ≡ 0 = ap one_if h in omega (arith, digits-cons (position_at c q seen s) ps, none, more)
+
+pub few_positions : (c : Category) (xs : List Symbol) → shows_number c ≡ true → IsPicture c xs → length xs ≤ 250
+few_positions NumericEdited xs e p =
+    let none = edited_none xs p.order in
+    omega (arith, length_size xs, none.no_s, none.one_v, none.no_p, size-placed NumericEdited (floating xs) false xs, p.limits.edited_fits refl)
+few_positions Numeric xs e p =
+    let n = (p.order).0 in
+    let is_one = (p.order).1 in
+    let w = (p.order).2 in
+    omega (arith, ap (length {A = Symbol}) w, length_written n, ap (times Nine) w, digits_written n, ap (times P) w, scaling_written n, is_one.signs, is_one.points, nines_le Numeric (floating xs) false xs refl (floating_may xs), decimal-placed Numeric (floating xs) false xs (floating_may xs).no_scaling, p.limits.few_digits)
+few_positions Alphabetic xs e p = absurd cc
+few_positions Alphanumeric xs e p = absurd cc
+few_positions AlphanumericEdited xs e p = absurd cc

@@ -2,7 +2,7 @@
 use Rattle.std.proofs.Common.{◌≡◌, ℕ, zero, suc, ◌+◌, ◌-◌, ◌*◌, ◌<◌, ◌≤◌, Bool, true, false, cond, ◌||◌, not, List, [], ◌∷◌, ◌++◌, length, get_or, take, drop, map, replicate, Option, Some, None, refl, sym, ap, subst, ◌∙◌, append_assoc, arith}
 use Rattle.std.specs.Prelude.{count_by, nat_le, if◌then◌else◌}
 use Rattle.std.specs.List.{AllByRecursion, flat_map, list_any, position_or_len, prefix_len, sum_by}
-use Rattle.std.proofs.lemmas.List.{drop_more, append-nil, take-append-drop}
+use Rattle.std.proofs.lemmas.List.{drop_more, append-nil, take-append-drop, length-append}
 use Rattle.std.proofs.lemmas.List.Concat.{flat_map-append}
 use Rattle.std.proofs.lemmas.List.Sums.{sum_by-cons, sum_by-append}
 use Rattle.std.proofs.lemmas.Bool.{eqb-true}
@@ -17,7 +17,7 @@ use Rattle.cob_picture.specs.Positions.{is, times, written_out, shows_number, se
 use Rattle.cob_picture.specs.Runs.{ArePositive}
 use Rattle.cob_picture.specs.Counts.{is_digit_place, width, size, digits, is_scaling, is_decimal_place, decimal_places, is_point, point_leads, before_point, after_point, whole_part, fraction_part, scale, is_sign_symbol, signed}
 use Rattle.cob_picture.specs.Measures.{run_leads, symbols_size}
-use Rattle.cob_picture.proofs.Times.{first_one, is_other, is_same, times-append, one_more}
+use Rattle.cob_picture.proofs.Times.{first_one, is_other, is_same, times-append, one_more, length_more}
 
 abbrev pub one_if : Bool → ℕ
 one_if b = cond b 1 0
@@ -49,7 +49,7 @@ seen_replicate q seen zero s lt = absurd (omega arith)
 seen_replicate q seen (suc zero) s lt = refl
 seen_replicate q seen (suc (suc n)) s lt = seen_replicate q (seen || is_that q s) (suc n) s (omega arith) ∙ or_again seen (is_that q s)
 
-seen_after-append : (q : Option Symbol) (seen : Bool) (a b : List Symbol) → seen_after q seen (a ++ b) ≡ seen_after q (seen_after q seen a) b
+pub seen_after-append : (q : Option Symbol) (seen : Bool) (a b : List Symbol) → seen_after q seen (a ++ b) ≡ seen_after q (seen_after q seen a) b
 seen_after-append q seen [] b = refl
 seen_after-append q seen (s ∷ a) b = seen_after-append q (seen || is_that q s) a b
 
@@ -338,3 +338,36 @@ pub size_more : (runs : List Run) (i : ℕ) (d : Run) → i < length runs → sy
 size_more runs i d lt =
     let r = get_or runs i d in
     ap symbols_size (one_more runs i d lt) ∙ symbols_size-append (written_out (take i runs)) (replicate r.count r.symbol) ∙ ap (λ (n : ℕ). symbols_size (written_out (take i runs)) + n) (symbols_size-replicate r.count r.symbol)
+
+-- ---- positions, one by one
+
+replicate_less : (n i : ℕ) (s : Symbol) → i < n → replicate (n - i) s ≡ s ∷ replicate (n - (i + 1)) s
+replicate_less n i s lt = ap (λ (m : ℕ). replicate m s) (let e : n - i ≡ suc (n - (i + 1)) = omega arith in e)
+
+pub push_step : (old : List Position) (c : Category) (q : Option Symbol) (seen : Bool) (s : Symbol) (n i : ℕ) → i < n
+    → (old ++ position_at c q seen s ∷ []) ++ placed c q (seen || is_that q s) (replicate (n - (i + 1)) s) ≡ old ++ placed c q seen (replicate (n - i) s)
+push_step old c q seen s n i lt =
+    append_assoc old (position_at c q seen s ∷ []) (placed c q (seen || is_that q s) (replicate (n - (i + 1)) s))
+    ∙ ap (λ (t : List Symbol). old ++ placed c q seen t) (sym (replicate_less n i s lt))
+
+pub push_end : (old : List Position) (c : Category) (q : Option Symbol) (seen : Bool) (s : Symbol) (n i : ℕ) → n ≤ i → old ++ placed c q seen (replicate (n - i) s) ≡ old
+push_end old c q seen s n i le = ap (λ (m : ℕ). old ++ placed c q seen (replicate m s)) (let e : n - i ≡ 0 = omega arith in e) ∙ append-nil old
+
+pub length_placed : (c : Category) (q : Option Symbol) (seen : Bool) (xs : List Symbol) → length (placed c q seen xs) ≡ length xs
+length_placed c q seen [] = refl
+length_placed c q seen (s ∷ xs) = omega (arith, length_placed c q (seen || is_that q s) xs)
+
+pub length_taken : (runs : List Run) (i : ℕ) (d : Run) → i < length runs → length (written_out (take i runs)) + (get_or runs i d).count ≤ length (written_out runs)
+length_taken runs i d lt =
+    let whole : written_out runs ≡ written_out (take (i + 1) runs) ++ written_out (drop (i + 1) runs) = ap written_out (sym (take-append-drop (i + 1) runs)) ∙ flat_map-append (λ (r : Run). replicate r.count r.symbol) (take (i + 1) runs) (drop (i + 1) runs) in
+    omega (arith, length_more runs i d lt, ap (length {A = Symbol}) whole, length-append (written_out (take (i + 1) runs)) (written_out (drop (i + 1) runs)))
+
+pub placed_more : (c : Category) (q : Option Symbol) (seen : Bool) (runs : List Run) (i : ℕ) (d : Run) → i < length runs → placed c q seen (written_out (take (i + 1) runs)) ≡ placed c q seen (written_out (take i runs)) ++ placed c q (seen_after q seen (written_out (take i runs))) (replicate (get_or runs i d).count (get_or runs i d).symbol)
+placed_more c q seen runs i d lt =
+    let r = get_or runs i d in
+    ap (placed c q seen) (one_more runs i d lt) ∙ placed-append c q seen (written_out (take i runs)) (replicate r.count r.symbol)
+
+pub seen_more : (q : Option Symbol) (seen : Bool) (runs : List Run) (i : ℕ) (d : Run) → i < length runs → 0 < (get_or runs i d).count → seen_after q seen (written_out (take (i + 1) runs)) ≡ (seen_after q seen (written_out (take i runs)) || is_that q (get_or runs i d).symbol)
+seen_more q seen runs i d lt pos =
+    let r = get_or runs i d in
+    ap (seen_after q seen) (one_more runs i d lt) ∙ seen_after-append q seen (written_out (take i runs)) (replicate r.count r.symbol) ∙ seen_replicate q (seen_after q seen (written_out (take i runs))) r.count r.symbol pos

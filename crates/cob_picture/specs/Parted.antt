@@ -8,7 +8,7 @@ use Rattle.cob_picture.specs.Runs.{ArePositive}
 use Rattle.cob_picture.specs.Edited.{AreOf, Stops, Edited}
 
 -- a part of the runs, taken as far as it goes from the symbols, and the symbols behind it
-pub record IsTaken (q : Option Symbol) (symbols : List Symbol) (taken : List Run) (rest : List Symbol) : Type 0 where
+pub record IsTaken (symbols : List Symbol) (taken : List Run) (rest : List Symbol) : Type 0 where
   pub parts : symbols ≡ written_out taken ++ rest
   pub short : length taken ≤ 50
   pub positive : ArePositive taken
@@ -21,13 +21,13 @@ pub record IsSplit (q : Option Symbol) (symbols : List Symbol) (lead currency fr
   pub s4 : List Symbol
   pub s5 : List Symbol
   pub s6 : List Symbol
-  pub p1 : IsTaken q symbols lead s1
-  pub p2 : IsTaken q s1 currency s2
-  pub p3 : IsTaken q s2 front s3
-  pub p4 : IsTaken q s3 whole s4
-  pub p5 : IsTaken q s4 point s5
-  pub p6 : IsTaken q s5 fraction s6
-  pub p7 : IsTaken q s6 trail (written_out rest)
+  pub p1 : IsTaken symbols lead s1
+  pub p2 : IsTaken s1 currency s2
+  pub p3 : IsTaken s2 front s3
+  pub p4 : IsTaken s3 whole s4
+  pub p5 : IsTaken s4 point s5
+  pub p6 : IsTaken s5 fraction s6
+  pub p7 : IsTaken s6 trail (written_out rest)
   pub of1 : AreOf Lead q (written_out lead)
   pub of2 : AreOf Currency q (written_out currency)
   pub of3 : AreOf Front q (written_out front)

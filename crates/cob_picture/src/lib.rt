@@ -1,4 +1,19 @@
-//! Pictures of COBOL items, as a PICTURE clause gives them.
+//! Pictures of COBOL items, as a PICTURE clause gives them (ANSI X3.23-1985, VI-5.9, the PICTURE clause).
+//!
+//! A picture describes an elementary item: what kind it is, how many bytes it takes, and for a number its digits, its scale and
+//! whether it has a sign. `Picture::read` reads the text of a PICTURE clause. Contracts see a picture as its category and its list
+//! of positions, each with a symbol and a role (`specs/Positions.antt`); `size`, `digits`, `scale` and `signed` are counts over
+//! that list (`specs/Counts.antt`).
+//!
+//! What it promises: a text that is read is that picture (`found`), a text that is a picture is read (`only`), and a text is
+//! refused only by a rule that it breaks (`fault`). The grammar is stated by what it generates: a text is spelled by symbols and
+//! repeats (`specs/WrittenOut.antt`), the written out symbols stand in the order of one of five categories
+//! (`specs/Categories.antt`, `specs/Numeric.antt`, `specs/Edited.antt`), and the positions keep the limits
+//! (`specs/Pictures.antt`). The laws say that a text is one picture at most (`one_picture`), that a picture's text breaks no rule
+//! (`breaks_no_rule`), that the places of a run have one symbol (`one_run`), and that the first floating symbol begins the run
+//! and stands before the point (`first_leads`).
+//!
+//! It takes no memory. It stands on `arrayvec` for the runs that a picture keeps, and on `thiserror` for the printed codes.
 #![tactic(auto)]
 
 pub mod category;

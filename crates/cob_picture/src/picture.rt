@@ -9,6 +9,7 @@ ghost use Rattle.cob_picture.specs.declared.category.Category.{Category};
 use crate::category::Category;
 use crate::fault::PictureFault;
 use crate::judge::judged;
+use crate::position::{Position, positions_of};
 use crate::reading::runs_of;
 use crate::symbol::Run;
 use crate::{MAX_DIGITS, MAX_EDITED_SIZE, MAX_SIZE, MAX_TEXT};
@@ -118,6 +119,14 @@ impl Picture {
         ensures few { length result.now ≤ MAX_TEXT }
     {
         self.runs.as_slice()
+    }
+
+    /// Its positions in order, each with its role: what editing goes by. The caller hands a picture that shows a number.
+    pub fn positions(&self) -> ArrayVec<Position, 250>
+        requires { IsTrue (shows_number self.now.category) }
+        ensures { result.items ≡ self.now.positions }
+    {
+        positions_of(self.runs.as_slice(), self.category)
     }
 
     /// The same picture once more. It takes no memory.

@@ -290,3 +290,23 @@ fn clones(rt: HostRuntime) -> Result<(), Fail> {
     assert!(rt; same.runs().len() == 9 && same.runs()[2].symbol == Symbol::Comma);
     Ok(())
 }
+
+#[test]
+fn tells_each_position(rt: HostRuntime) -> Result<(), Fail> {
+    let picture = Picture::read(b"+$B$9.9")?;
+    let roles = [
+        Role::FixedSign,
+        Role::FirstFloating,
+        Role::Insertion,
+        Role::Floating,
+        Role::Digit,
+        Role::DecimalPoint,
+        Role::Digit,
+    ];
+    let positions = picture.positions();
+    assert!(rt; positions.len() == roles.len());
+    for (i, role) in roles.iter().enumerate() {
+        assert!(rt; positions.as_slice()[i].role == *role);
+    }
+    Ok(())
+}
