@@ -1,3 +1,7 @@
+pub mod CharacterLemmas
+pub mod CodePageLemmas
 pub mod EditingLemmas
 pub mod ExtractLemmas
 pub mod OneValueLemmas
+pub mod PicturedLemmas
+pub mod PlaceLemmas

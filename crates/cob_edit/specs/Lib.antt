@@ -1,2 +1,5 @@
+pub mod Characters
+pub mod CodePage
 pub mod Editing
+pub mod Pictured
 pub mod Places

@@ -1,0 +1,49 @@
+-- Characters moved to an edited item that holds characters.
+use Rattle.std.specs.Prelude.{◌≡◌, ℕ, ◌<◌, Bool, true, false, List, [], ◌∷◌, length, take, drop, slice_index, slice_index_or, count_by, if◌then◌else◌}
+use Rattle.cob_picture.specs.declared.symbol.Symbol.TheVariants.{A}
+use Rattle.cob_picture.specs.declared.position.Role.{Role}
+use Rattle.cob_picture.specs.declared.position.Role.TheVariants.{Character, Insertion, DecimalPoint, Digit, Suppressed, Floating, FirstFloating, FixedSign, FixedCurrency, NoByte}
+use Rattle.cob_picture.specs.declared.position.Position.{Position}
+use Rattle.cob_edit.specs.Pictured.{insertion_byte}
+
+-- a place that holds any character
+abbrev pub is_character : Role → Bool
+is_character Character = true
+is_character Insertion = false
+is_character DecimalPoint = false
+is_character Digit = false
+is_character Suppressed = false
+is_character Floating = false
+is_character FirstFloating = false
+is_character FixedSign = false
+is_character FixedCurrency = false
+is_character NoByte = false
+
+-- the position with this number
+abbrev pub position : List Position → ℕ → Position
+position ps j = slice_index_or ps j (record { symbol = A; role = Character })
+
+-- The byte of place j: at a character place the sender's byte whose number is the count of character places before, or a space where the
+-- sender has none left; at every other place the insertion.
+abbrev pub character_at : List Position → List ℕ → ℕ → ℕ
+character_at ps sender j =
+    if is_character (position ps j).role
+    then slice_index_or sender (count_by (λ p. is_character p.role) (take j ps)) 0x40
+    else insertion_byte (position ps j).symbol
+
+-- each place of the item holds its byte
+pub record HasCharacters (ps : List Position) (sender bytes : List ℕ) : Type 0 where
+  pub one_length : length bytes ≡ length ps
+  pub each : (j : ℕ) → j < length ps → slice_index bytes j ≡ character_at ps sender j
+
+-- the same from the front on, place by place
+abbrev pub spelled : List Position → List ℕ → List ℕ
+spelled [] sender = []
+spelled (p ∷ ps) sender =
+    if is_character p.role
+    then slice_index_or sender 0 0x40 ∷ spelled ps (drop 1 sender)
+    else insertion_byte p.symbol ∷ spelled ps sender
+
+-- characters have one text
+abbrev pub OneSpelling : Type 0
+OneSpelling = (ps : List Position) (sender x y : List ℕ) → HasCharacters ps sender x → HasCharacters ps sender y → x ≡ y
