@@ -265,8 +265,22 @@ numeric_few xs p =
     let n = p.order.0 in
     let e = p.order.2 in
     let nines : times Nine xs ≤ digits (positions Numeric xs) = nines_digits Numeric (floating xs) false xs refl (λ s h. (floating_may xs).not_plain s (nine_plain s h)) in
-    omega (arith, ap length e, length_written n, ap (times S) e, signs_written n, ap (times V) e, points_written n, ap (times P) e, scaling_written n, ap (times Nine) e, digits_written n,
-    once_at_most Numeric xs p.order, scaling_few Numeric xs p, nines)
+    omega (
+      arith,
+      ap length e,
+      length_written n,
+      ap (times S) e,
+      signs_written n,
+      ap (times V) e,
+      points_written n,
+      ap (times P) e,
+      scaling_written n,
+      ap (times Nine) e,
+      digits_written n,
+      once_at_most Numeric xs p.order,
+      scaling_few Numeric xs p,
+      nines,
+    )
 
 edited_few : (c : Category) (xs : List Symbol) → IsPicture c xs → IsTrue (is_edited c) → length xs ≤ 288
 edited_few c xs p e =

@@ -23,13 +23,13 @@ mod positions;
 mod reading;
 mod region;
 mod spelling;
-mod text;
 #[cfg(test)]
 mod tests;
+mod text;
 
-pub use crate::spelling::edit_text;
-pub use crate::numbers::{deedit, edit};
 pub use crate::laws::{one_spelling, one_text, one_value, prints_characters, some_text};
+pub use crate::numbers::{deedit, edit};
+pub use crate::spelling::edit_text;
 
 /// No picture of a number or of an edited item has more symbols than this.
 pub(crate) const MAX_SYMBOLS: usize = 288;

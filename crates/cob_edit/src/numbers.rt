@@ -24,7 +24,13 @@ pub fn edit(picture: &Picture, blank: bool, number: &Number, out: &mut [u8])
     let places = places_of(picture);
     let places = places.as_slice();
     let kept = number.align(picture.digits(), picture.scale(), shows_sign(places));
-    write_text(places, blank, kept.negative(), kept.digits().as_slice(), out);
+    write_text(
+        places,
+        blank,
+        kept.negative(),
+        kept.digits().as_slice(),
+        out,
+    );
 }
 
 /// The number whose text the bytes are, and `None` where they are no number's text.

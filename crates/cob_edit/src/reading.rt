@@ -5,10 +5,10 @@ ghost use Rattle.cob_decimal.specs.Decimal.{IsDigits};
 ghost use Rattle.cob_edit.specs.Places.{is_digit, bytes_of};
 ghost use Rattle.cob_edit.specs.Editing.{IsText, Fits, shown_digit, extract, OneReading};
 
+use crate::MAX_PLACES;
 use crate::place::Place;
 use crate::region::shows_sign;
 use crate::text::{are_zero, write_text};
-use crate::MAX_PLACES;
 use cob_decimal::{Digits, MAX_DIGITS};
 
 /// The digit that a byte shows, and 0 for a byte that shows none.

@@ -38,7 +38,14 @@ fn shown(place: &Place, negative: bool, digit: u8) -> Option<u8>
 
 /// The byte of a place, if it holds one.
 #[tactic(auto, using(crate::proofs::EditingLemmas::region_bytes))]
-fn cell(places: &[Place], start: usize, cut: usize, negative: bool, at: usize, digit: u8) -> Option<u8>
+fn cell(
+    places: &[Place],
+    start: usize,
+    cut: usize,
+    negative: bool,
+    at: usize,
+    digit: u8,
+) -> Option<u8>
     requires start { start ≡ region_start places.now }
     requires inside { at < length places.now }
     requires cut { cut ≤ region_end places.now }
