@@ -287,7 +287,14 @@ fn clones(rt: HostRuntime) -> Result<(), Fail> {
     let picture = Picture::read(b"$$,$$9.99")?;
     let same = picture.clone();
     assert!(rt; same.category() == Category::NumericEdited && same.size() == 9);
-    assert!(rt; same.runs().len() == 9 && same.runs()[2].symbol == Symbol::Comma);
+    assert!(rt; same.runs().len() == 9);
+    assert!(rt;
+        same.runs()
+            .iter()
+            .filter(|run| run.symbol == Symbol::Dollar)
+            .count()
+            == 4
+    );
     Ok(())
 }
 
@@ -303,6 +310,7 @@ fn tells_each_position(rt: HostRuntime) -> Result<(), Fail> {
         Role::DecimalPoint,
         Role::Digit,
     ];
+    assert!(rt; picture.category().shows_number());
     let positions = picture.positions();
     assert!(rt; positions.len() == roles.len());
     for (i, role) in roles.iter().enumerate() {
