@@ -1,5 +1,5 @@
 -- Lemmas on the region, the cut and the text.
-use Rattle.std.proofs.Common.{cond, count_by, ◌≡◌, ℕ, ◌+◌, ◌-◌, ◌<◌, ◌≤◌, List, [], ◌∷◌, ◌++◌, length, take, drop, get_or, refl, ap, sym, ◌∙◌, arith, Bool, true, false, not, ◌||◌, ◌⊎◌, inl, inr, zero, suc, IsTrue, MatchBool, subst}
+use Rattle.std.proofs.Common.{cond, count_by, ◌≡◌, ℕ, ◌+◌, ◌-◌, ◌<◌, ◌≤◌, List, length, take, drop, get_or, refl, ap, sym, ◌∙◌, arith, Bool, true, false, not, ◌||◌, ◌⊎◌, inl, inr, zero, suc, IsTrue, MatchBool, subst}
 use Rattle.std.proofs.lemmas.List.{get_or-drop, length-drop}
 use Rattle.std.proofs.lemmas.List.Sums.{prefix_len_passes, prefix_len-le-length, sum_by_more, sum_by-take-le}
 use Rattle.std.specs.List.{prefix_len, flat_map}

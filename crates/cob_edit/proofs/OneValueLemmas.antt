@@ -1,5 +1,5 @@
 -- Each text is that of one sign and one list of digits at most.
-use Rattle.std.proofs.Common.{◌≡◌, ℕ, ◌+◌, ◌-◌, ◌<◌, ◌≤◌, List, [], ◌∷◌, ◌++◌, length, take, get_or, refl, ap, sym, ◌∙◌, arith, Bool, true, false, IsTrue, count_by, not, inl, inr, zero, suc, MatchBool, subst, cond, ◌⊎◌, zero-add}
+use Rattle.std.proofs.Common.{◌≡◌, ℕ, ◌+◌, ◌-◌, ◌<◌, ◌≤◌, List, [], ◌∷◌, ◌++◌, length, take, get_or, refl, ap, sym, ◌∙◌, arith, Bool, true, false, count_by, inl, inr, zero, suc, MatchBool, subst, cond, ◌⊎◌, zero-add}
 use Rattle.std.specs.Prelude.{◌==◌, ◌&&◌, ◌||◌, if◌then◌else◌, drop}
 use Rattle.std.specs.List.{list_any, list_all, flat_map, prefix_len}
 use Rattle.std.proofs.lemmas.Bool.{cases_lt}

@@ -1,7 +1,5 @@
 -- Numbers in the range of a picture and their texts.
-use Rattle.std.proofs.Common.{◌≡◌, ℕ, ◌+◌, ◌*◌, ◌/◌, ◌%◌, ◌^◌, ◌<◌, Bool, true, false, List, length, refl, sym, ap, subst, ◌∙◌, arith, IsTrue, ◌↔◌, inl, inr, ℤ, pos, ◌-ℤ◌, count_by}
-use Rattle.std.specs.Prelude.{◌==◌}
-use Rattle.std.specs.List.{list_all}
+use Rattle.std.proofs.Common.{◌≡◌, ℕ, ◌*◌, ◌%◌, ◌^◌, ◌<◌, Bool, true, false, List, length, refl, sym, ap, subst, ◌∙◌, arith, IsTrue, ◌↔◌, inl, inr, ℤ, pos, ◌-ℤ◌}
 use Rattle.std.proofs.lemmas.Bool.{cases_lt}
 use Rattle.std.proofs.lemmas.Int.{ints}
 use Rattle.std.proofs.Math.Nat.{mod-eq_of_lt}

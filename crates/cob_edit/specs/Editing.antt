@@ -1,10 +1,10 @@
 -- How a number is edited: the text that the places of an item give its digits and its sign.
-use Rattle.std.specs.Prelude.{◌≡◌, ℕ, ◌+◌, ◌-◌, ◌<◌, ◌≤◌, Bool, true, false, ◌&&◌, ◌||◌, not, nat_le, nat_lt, ◌==◌, if◌then◌else◌, List, [], ◌∷◌, ◌++◌, length, take, drop, slice_index, slice_index_or, count_by, IsTrue, MatchBool, ◌⊎◌}
+use Rattle.std.specs.Prelude.{◌≡◌, ℕ, ◌+◌, ◌-◌, ◌<◌, ◌≤◌, Bool, false, ◌&&◌, ◌||◌, not, nat_le, nat_lt, ◌==◌, if◌then◌else◌, List, [], ◌∷◌, ◌++◌, length, take, drop, slice_index, slice_index_or, count_by, IsTrue, MatchBool, ◌⊎◌}
 use Rattle.std.specs.List.{prefix_len, list_all, list_any, flat_map}
 use Rattle.cob_decimal.specs.Decimal.{IsDigits}
 use Rattle.cob_edit.specs.declared.place.Place.{Place}
 use Rattle.cob_edit.specs.declared.place.Place.TheVariants.{Inserted, Point, Digit, Suppressed, Floating, First, Fixed, AssumedPoint}
-use Rattle.cob_edit.specs.Places.{mark_byte, fill_byte, is_digit, is_run, is_run_or_insertion, is_point, has_byte, is_nine, is_star, is_fixed_sign, is_floating_sign, bytes_of}
+use Rattle.cob_edit.specs.Places.{mark_byte, fill_byte, is_digit, is_run, is_run_or_insertion, is_point, has_byte, is_nine, is_star, is_fixed_sign, is_floating_sign}
 
 abbrev pub place_at : List Place → ℕ → Place
 place_at ps j = slice_index_or ps j (Inserted 0)

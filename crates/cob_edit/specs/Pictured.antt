@@ -3,7 +3,7 @@ use Rattle.std.specs.Prelude.{◌≡◌, ℕ, ◌<◌, Bool, ◌↔◌, List, []
 use Rattle.std.specs.List.{flat_map}
 use Rattle.cob_decimal.specs.Decimal.{IsDigits, number_of, aligned}
 use Rattle.cob_picture.specs.declared.symbol.Symbol.{Symbol}
-use Rattle.cob_picture.specs.declared.symbol.Symbol.TheVariants.{A, X, Nine, S, V, P, B, Zero, Slash, Comma, Point, Z, Star, Dollar, Plus, Minus, Credit, Debit}
+use Rattle.cob_picture.specs.declared.symbol.Symbol.TheVariants.{V, Zero, Slash, Comma, Star, Plus, Minus, Credit, Debit}
 use Rattle.cob_picture.specs.declared.position.Role.{Role}
 use Rattle.cob_picture.specs.declared.position.Role.TheVariants as role
 use Rattle.cob_picture.specs.declared.position.Position.{Position}

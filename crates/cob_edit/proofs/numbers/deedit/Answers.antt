@@ -2,7 +2,6 @@ use Rattle.std.proofs.Common.{◌≡◌, ◌∙◌, rules, w8}
 use Rattle.std.proofs.lemmas.Int.{to_z-of_z}
 use mir.Val.{SFits}
 use Rattle.cob_picture.specs.Counts.{scale}
-use Rattle.cob_edit.specs.Pictured.{places}
 use Rattle.cob_edit.proofs.PicturedLemmas.{made_found, made_only, range_places}
 use Rattle.cob_edit.proofs.numbers.deedit.Goals as goal
 

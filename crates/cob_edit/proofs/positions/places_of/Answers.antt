@@ -1,8 +1,6 @@
-use Rattle.std.proofs.Common.{◌≡◌, ◌+◌, ◌≤◌, ◌∙◌, ap, subst, sym, inl, length, take, count_by, arith}
+use Rattle.std.proofs.Common.{◌≡◌, ◌+◌, ◌≤◌, ◌∙◌, ap, subst, sym, inl, length, take, count_by}
 use Rattle.cob_picture.specs.Positions.{written_out, positions}
-use Rattle.cob_picture.specs.Counts.{size, digits}
-use Rattle.cob_picture.specs.declared.position.Position.{Position}
-use Rattle.std.specs.Prelude.{List}
+use Rattle.cob_picture.specs.Counts.{size}
 use Rattle.cob_edit.specs.Places.{is_digit, bytes_of}
 use Rattle.cob_edit.specs.Pictured.{places}
 use Rattle.cob_edit.proofs.PlaceLemmas.{positions_same, few_symbols, few_places, bytes_same, digits_same, few_digits}

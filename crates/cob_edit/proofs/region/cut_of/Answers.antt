@@ -1,4 +1,4 @@
-use Rattle.std.proofs.Common.{◌≡◌, ◌∙◌, ◌<◌, sym, arith, take, count_by}
+use Rattle.std.proofs.Common.{◌∙◌, ◌<◌, sym, arith, take, count_by}
 use Rattle.cob_edit.specs.Places.{is_digit}
 use Rattle.cob_edit.proofs.EditingLemmas.{digit_inside}
 use Rattle.cob_edit.proofs.region.cut_of.Goals as goal

@@ -1,4 +1,4 @@
-use Rattle.std.proofs.Common.{◌≡◌, ◌+◌, ◌≤◌, ◌∙◌, ap, subst, sym, inr, IsTrue, refl, length, take, List, ℕ, arith}
+use Rattle.std.proofs.Common.{◌≡◌, ◌∙◌, ap, subst, sym, inr, IsTrue, length, take}
 use Rattle.cob_picture.specs.declared.category.Category.TheVariants.{AlphanumericEdited}
 use Rattle.cob_picture.specs.Positions.{written_out, positions, is_edited}
 use Rattle.cob_picture.specs.Counts.{size}
