@@ -1,4 +1,4 @@
-pub mod ZonedLemmas
 pub mod RecordLemmas
 pub mod MoveLemmas
 pub mod DecidedLemmas
+pub mod ReadLemmas

@@ -56,6 +56,8 @@ pub possible : (conversion : Conversion) (move : Move) → IsConversion conversi
 possible conversion move sound is_move = record {
   from = omega (arith, item_within 0 conversion.in_items move.from sound.input.laid is_move.from);
   to = omega (arith, item_within 0 conversion.out_items move.to sound.output.laid is_move.to);
+  some_sent = (item_sized conversion.in_items move.from sound.input.sized is_move.from).0;
+  some_received = (item_sized conversion.out_items move.to sound.output.sized is_move.to).0;
   sent = room_of move.to.category move.from is_move.category (item_sized conversion.in_items move.from sound.input.sized is_move.from);
   received = room_of move.to.category move.to refl (item_sized conversion.out_items move.to sound.output.sized is_move.to);
 }

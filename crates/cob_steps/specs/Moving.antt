@@ -1,5 +1,5 @@
 -- What one move needs and does.
-use Rattle.std.specs.Prelude.{◌≡◌, ℕ, ◌+◌, ◌≤◌, List}
+use Rattle.std.specs.Prelude.{◌≡◌, ℕ, ◌+◌, ◌<◌, ◌≤◌, List}
 use Rattle.cob_steps.specs.declared.plan.Category.{Category}
 use Rattle.cob_steps.specs.declared.plan.Category.TheVariants.{Numeric}
 use Rattle.cob_steps.specs.declared.plan.Move.{Move}
@@ -8,10 +8,12 @@ use Rattle.cob_steps.specs.declared.plan.StopCause.TheVariants.{NoValue}
 use Rattle.cob_steps.specs.Records.{MostDigits}
 use Rattle.cob_steps.specs.Steps.{Represents, Receives, bytes_at, replaced}
 
--- both items of a move lie within their records, and where it is numeric neither has more digits than a number
+-- both items of a move have bytes and lie within their records, and where it is numeric neither has more digits than a number
 pub record IsPossible (in_size out_size : ℕ) (move : Move) : Type 0 where
   pub from : move.from.offset + move.from.length ≤ in_size
   pub to : move.to.offset + move.to.length ≤ out_size
+  pub some_sent : 0 < move.from.length
+  pub some_received : 0 < move.to.length
   pub sent : MostDigits move.to.category move.from.length
   pub received : MostDigits move.to.category move.to.length
 

@@ -1,7 +1,7 @@
 -- What the moves make of one record.
-use Rattle.std.specs.Prelude.{◌≡◌, ℕ, ◌+◌, ◌*◌, pos, List, [], ◌∷◌, ◌++◌, length, take, drop, map, replicate}
-use Rattle.std.specs.List.{Contains}
+use Rattle.std.specs.Prelude.{◌≡◌, ℕ, ◌+◌, pos, Bool, false, List, [], ◌∷◌, ◌++◌, length, take, drop, replicate}
 use Rattle.cob_decimal.specs.Decimal.{IsDigits, number_of, aligned}
+use Rattle.cob_codec.specs.Zoned.{IsZoned, zoned_form}
 use Rattle.cob_steps.specs.declared.plan.Category.{Category}
 use Rattle.cob_steps.specs.declared.plan.Category.TheVariants.{Alphanumeric, Numeric}
 use Rattle.cob_steps.specs.declared.plan.Item.{Item}
@@ -11,23 +11,9 @@ use Rattle.cob_steps.specs.declared.plan.Stop.{Stop}
 use Rattle.cob_steps.specs.declared.plan.StopCause.TheVariants.{NoValue}
 use Rattle.cob_steps.specs.Records.{Conversion, initial_storage}
 
--- the zoned bytes of digits: zone F, and the digit in the low half
-abbrev pub zoned : List ℕ → List ℕ
-zoned digits = map (λ digit. 0xF0 + digit) digits
-
--- the zones that an unsigned item may have in its last byte
-abbrev pub IsUnsignedZone : ℕ → Type 0
-IsUnsignedZone zone = Contains (0xA ∷ 0xC ∷ 0xE ∷ 0xF ∷ []) zone
-
--- The bytes of an unsigned zoned item represent these digits: zone F everywhere but in the last byte.
-pub record Represents (bytes digits : List ℕ) : Type 0 where
-  pub front : List ℕ
-  pub last : ℕ
-  pub zone : ℕ
-  pub digits_are : digits ≡ front ++ last ∷ []
-  pub valid : IsDigits digits
-  pub unsigned : IsUnsignedZone zone
-  pub bytes_are : bytes ≡ zoned front ++ (16 * zone + last) ∷ []
+-- The bytes of an unsigned zoned item represent the number of these digits.
+abbrev pub Represents : List ℕ → List ℕ → Type 0
+Represents bytes digits = (negative : Bool) × IsZoned (length bytes) false false bytes negative digits
 
 -- characters in an item of n bytes: left aligned, cut at the right, padded with spaces
 abbrev pub characters : ℕ → List ℕ → List ℕ
@@ -43,7 +29,7 @@ pub record IsStored (n : ℕ) (sent bytes : List ℕ) : Type 0 where
   pub valid : IsDigits digits
   pub count : length digits ≡ n
   pub value : number_of digits ≡ aligned (number_of sent) (pos 0) (pos 0) n
-  pub bytes_are : bytes ≡ zoned digits
+  pub bytes_are : bytes ≡ zoned_form false false false digits
 
 -- what a receiver of n bytes holds after these bytes were moved to it
 abbrev pub Receives : Category → ℕ → List ℕ → List ℕ → Type 0

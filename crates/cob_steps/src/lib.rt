@@ -15,7 +15,8 @@
 //! - What becomes of a record is determined: [`conversions_are_decided`] says that one input has one output or one stop, never both.
 //! - Memory is taken once, by [`Plan::new`]. [`Plan::convert`] takes none.
 //!
-//! It stands on the crate `cob_decimal`, which has the digits and the alignment of numbers.
+//! It stands on `cob_decimal`, which has the alignment of numbers, and on `cob_codec`, which says what zoned bytes represent and how a
+//! number is stored.
 #![tactic(auto)]
 
 mod image;
@@ -24,7 +25,6 @@ mod moves;
 mod plan;
 #[cfg(test)]
 mod tests;
-mod zoned;
 
 pub use laws::conversions_are_decided;
 pub use plan::{Category, Item, Move, Plan, Side, Stop, StopCause};

@@ -1,6 +1,6 @@
 //! A MOVE of an item of one record to an item of another.
 
-ghost use Rattle.std.specs.Prelude.{◌≡◌, ◌+◌, ◌<◌, ◌≤◌, length, IfErr, OnOk};
+ghost use Rattle.std.specs.Prelude.{◌≡◌, ◌+◌, ◌<◌, ◌≤◌, pos, false, ℕ, List, length, IfErr, IfNone, IfSome, OnOk};
 ghost use Rattle.cob_decimal.specs.declared.TheConstants.{MAX_DIGITS};
 ghost use Rattle.cob_steps.specs.Moving.{IsPossible, IsMoved, Lacks};
 ghost use Rattle.cob_steps.specs.Records.{MostDigits};
@@ -8,8 +8,8 @@ ghost use Rattle.cob_steps.specs.Steps.{bytes_at, characters, IsStored, Represen
 
 use crate::image::SPACE;
 use crate::plan::{Category, Item, Move, Side, Stop, StopCause};
-use crate::zoned::{read_zoned, write_zoned};
-use cob_decimal::Number;
+use cob_codec::{Shape, Storage, Zoned};
+use cob_decimal::{MAX_DIGITS, Number};
 
 /// The bytes of an item in a record.
 fn bytes_of<'a>(item: &Item, bytes: &'a [u8]) -> &'a [u8]
@@ -30,22 +30,52 @@ fn move_characters(sent: &[u8], received: &mut [u8])
     tail.fill(SPACE);
 }
 
+/// The shape of an unsigned whole number in zoned form.
+fn unsigned(count: usize) -> Shape
+    requires some { 0 < count }
+    requires most { count ≤ MAX_DIGITS }
+    ensures digits { result.digits ≡ count }
+    ensures scale { result.scale ≡ pos 0 }
+    ensures signed { result.signed ≡ false }
+    ensures leading { result.leading ≡ false }
+{
+    Shape {
+        digits: count as u8,
+        scale: 0,
+        signed: false,
+        leading: false,
+    }
+}
+
+/// The number that the bytes of an unsigned item represent, if they do.
+fn read_unsigned(bytes: &[u8]) -> Option<Number>
+    requires some { 0 < length bytes.now }
+    requires most { length bytes.now ≤ MAX_DIGITS }
+    ensures found { IfSome result (λ number. Represents bytes.now number.digits) }
+    ensures scale { IfSome result (λ number. number.scale ≡ pos 0) }
+    ensures only { IfNone result ((digits : List ℕ) → Represents bytes.now digits → ⊥) }
+{
+    Zoned::read(&unsigned(bytes.len()), bytes)
+}
+
 /// Moves a number: its digits aligned by the point, in zone F.
 ///
 /// # Errors
 ///
 /// The sender's bytes represent no number.
 fn move_number(sent: &[u8], received: &mut [u8]) -> Result<(), StopCause>
+    requires some_sent { 0 < length sent.now }
+    requires some_received { 0 < length received.old }
     requires sent { length sent.now ≤ MAX_DIGITS }
     requires received { length received.old ≤ MAX_DIGITS }
     ensures moved { OnOk result (Receives Category.Numeric (length received.old) sent.now received.new) }
     ensures lacks { IfErr result (Lacks Category.Numeric sent.now) }
 {
-    let Some(digits) = read_zoned(sent) else {
+    let Some(number) = read_unsigned(sent) else {
         return Err(StopCause::NoValue);
     };
-    let aligned = Number::new(false, digits, 0).align(received.len() as u8, 0, false);
-    write_zoned(aligned.digits().as_slice(), received);
+    let aligned = number.align(received.len() as u8, 0, false);
+    Zoned::store(&unsigned(received.len()), &aligned, received);
     Ok(())
 }
 
@@ -55,6 +85,8 @@ fn move_number(sent: &[u8], received: &mut [u8]) -> Result<(), StopCause>
 ///
 /// The sender's bytes represent no value.
 fn receive(category: Category, sent: &[u8], received: &mut [u8]) -> Result<(), StopCause>
+    requires some_sent { 0 < length sent.now }
+    requires some_received { 0 < length received.old }
     requires sent { MostDigits category (length sent.now) }
     requires received { MostDigits category (length received.old) }
     ensures moved { OnOk result (Receives category (length received.old) sent.now received.new) }
