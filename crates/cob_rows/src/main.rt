@@ -5,10 +5,8 @@
 use cob_convert::{Status, job};
 use cob_records::{ReadSource, WriteSink};
 use std::alloc::Global;
-use std::env;
-use std::fs;
-use std::io;
 use std::rt::{Env, Files};
+use std::{env, fs, io};
 
 /// Does the job of one file, and answers its status.
 fn status_of<R: AllocGlobal + Files + Print>(rt: &R, name: &str) -> io::Result<u8> {

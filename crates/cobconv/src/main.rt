@@ -9,7 +9,11 @@ use std::process::ExitCode;
 
 fn main(rt: HostRuntime) -> ExitCode {
     let Ok(writer) = BufWriter::new(rt.alloc(), io::writer(&rt)) else {
-        let _ = put_record(&mut WriteSink::new(io::writer(&rt)), Form::Fixed, b"memory\n");
+        let _ = put_record(
+            &mut WriteSink::new(io::writer(&rt)),
+            Form::Fixed,
+            b"memory\n",
+        );
         return ExitCode::from(Status::Memory.code());
     };
     let mut sink = WriteSink::new(writer);
