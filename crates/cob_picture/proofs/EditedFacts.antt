@@ -1,15 +1,14 @@
 -- What stands in no numeric edited picture, so that it is of no other category.
 use Rattle.std.proofs.Common.{◌≡◌, ℕ, zero, suc, ◌+◌, ◌<◌, ◌≤◌, Bool, true, false, ◌||◌, not, List, [], ◌∷◌, ◌++◌, length, replicate, take, get_or, Option, Some, None, refl, sym, ap, subst, ◌∙◌, arith}
-use Rattle.std.specs.Prelude.{IsTrue, IsFalse, nat_le, if◌then◌else◌}
-use Rattle.std.specs.List.{AllByRecursion, list_any, flat_map, filter}
+use Rattle.std.specs.Prelude.{IsTrue, nat_le, if◌then◌else◌}
 use Rattle.std.proofs.lemmas.List.Concat.{flat_map-append}
-use Rattle.std.proofs.lemmas.List.{append-nil, take_more, length-append, length-replicate}
+use Rattle.std.proofs.lemmas.List.{append-nil, take_more}
 use Rattle.cob_picture.specs.declared.symbol.Symbol.{Symbol}
-use Rattle.cob_picture.specs.declared.symbol.Symbol.TheVariants.{A, X, Nine, S, V, P, B, Zero, Slash, Comma, Point, Z, Star, Dollar, Plus, Minus, Credit, Debit}
+use Rattle.cob_picture.specs.declared.symbol.Symbol.TheVariants.{A, X, Nine, S, V, P, Z, Star, Dollar, Plus, Minus}
 use Rattle.cob_picture.specs.declared.symbol.Run.{Run}
 use Rattle.cob_picture.specs.declared.numeric.NumericParts.{NumericParts}
 use Rattle.cob_picture.specs.declared.edited.Kind.{Kind}
-use Rattle.cob_picture.specs.declared.edited.Kind.TheVariants.{OfRun, OfInsertion, OfNine, OfPoint, OfSign, OfCurrency, OfCredit, OfNone}
+use Rattle.cob_picture.specs.declared.edited.Kind.TheVariants.{OfRun, OfPoint, OfNone}
 use Rattle.cob_picture.specs.declared.edited.Part.{Part}
 use Rattle.cob_picture.specs.declared.edited.Part.TheVariants.{Lead, Currency, Front, Whole, PointPart, Fraction, Trail}
 use Rattle.cob_picture.specs.declared.category.Category.{Category}
@@ -17,10 +16,10 @@ use Rattle.cob_picture.specs.declared.category.Category.TheVariants.{Alphabetic,
 use Rattle.cob_picture.specs.Positions.{is, times, written_out, is_that}
 use Rattle.cob_picture.specs.Runs.{ArePositive, is_mark, runs_end_in_mark}
 use Rattle.cob_picture.specs.Numeric.{IsNumeric, numeric_symbols}
-use Rattle.cob_picture.specs.Edited.{run_symbol, settled_kind, kind_of, belongs, AreOf, Stops, Edited, edited_symbols, HasKinds, counts_in, AreAllowed, IsNumericEdited, ends_in_mark, unscaled, is_sign_run, CurrencyLeads}
+use Rattle.cob_picture.specs.Edited.{run_symbol, settled_kind, kind_of, belongs, AreOf, Edited, edited_symbols, HasKinds, counts_in, AreAllowed, IsNumericEdited, ends_in_mark, unscaled, is_sign_run, CurrencyLeads}
 use Rattle.cob_picture.specs.Categories.{IsOf}
-use Rattle.cob_picture.proofs.Times.{is_other, is_same, first_one, times-append, times-replicate, times-replicate_other, one_more, signs_written, points_written, digits_written, scaling_written, length_written, times_written}
-use Rattle.cob_picture.proofs.Placed.{one_if, is_true}
+use Rattle.cob_picture.proofs.Times.{is_other, is_same, times-append, times-replicate, one_more, signs_written, points_written, digits_written, scaling_written, length_written, times_written}
+use Rattle.cob_picture.proofs.Placed.{one_if}
 
 -- ---- the run's symbol
 

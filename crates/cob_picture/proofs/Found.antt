@@ -1,6 +1,5 @@
 -- From the runs of a text to its picture.
-use Rattle.std.proofs.Common.{◌≡◌, ℕ, zero, suc, ◌+◌, ◌*◌, ◌<◌, ◌≤◌, min, List, [], ◌∷◌, ◌++◌, length, map, replicate, refl, sym, ap, subst, ◌∙◌, arith}
-use Rattle.std.specs.Prelude.{◌⊎◌}
+use Rattle.std.proofs.Common.{◌≡◌, ℕ, ◌<◌, ◌≤◌, min, List, [], ◌∷◌, ◌++◌, length, map, refl, sym, ap, subst, ◌∙◌, arith}
 use Rattle.std.proofs.Common.{inl, inr}
 use Rattle.std.specs.List.{AllByRecursion, flat_map}
 use Rattle.cob_picture.specs.declared.symbol.Symbol.{Symbol}
@@ -8,7 +7,7 @@ use Rattle.cob_picture.specs.declared.symbol.Run.{Run}
 use Rattle.cob_picture.specs.declared.category.Category.{Category}
 use Rattle.cob_picture.specs.declared.fault.PictureFault.{PictureFault}
 use Rattle.cob_picture.specs.declared.fault.PictureFault.TheVariants.{Empty, UnknownSymbol, BadRepeat, Order, Digits, TooLong, LeftOut}
-use Rattle.cob_picture.specs.WrittenOut.{Item, Once, Times, IsItem, Reads, run_of, symbols_in, counted_in, times_in, symbol_in, IsBrokenAfter, IsItemFault}
+use Rattle.cob_picture.specs.WrittenOut.{Item, Once, Times, IsItem, Reads, run_of, symbols_in, counted_in, times_in, symbol_in, IsBrokenAfter}
 use Rattle.cob_picture.specs.Positions.{Seen, times, written_out, positions}
 use Rattle.cob_picture.specs.Runs.{ArePositive}
 use Rattle.cob_picture.specs.Pictures.{IsPicture, IsPictureOf, IsMisplaced, IsMisplacedIn, IsBroken}

@@ -1,29 +1,27 @@
 -- Limits that follow from what a picture is.
-use Rattle.std.proofs.Common.{◌≡◌, ℕ, zero, suc, ◌+◌, ◌-◌, ◌*◌, ◌<◌, ◌≤◌, min, Bool, true, false, cond, ◌||◌, List, [], ◌∷◌, ◌++◌, length, get_or, take, drop, map, replicate, Option, Some, None, refl, sym, ap, subst, ◌∙◌, arith}
-use Rattle.std.specs.Prelude.{count_by, IsTrue, IsFalse, if◌then◌else◌}
-use Rattle.std.specs.List.{AllByRecursion, flat_map, list_any, position_or_len, sum_by}
+use Rattle.std.proofs.Common.{◌≡◌, ℕ, zero, suc, ◌+◌, ◌<◌, ◌≤◌, Bool, true, false, cond, ◌||◌, List, [], ◌∷◌, ◌++◌, length, take, drop, replicate, Option, refl, sym, ap, subst, ◌∙◌, arith}
+use Rattle.std.specs.Prelude.{count_by, if◌then◌else◌}
+use Rattle.std.specs.List.{AllByRecursion, list_any, position_or_len}
 use Rattle.std.proofs.lemmas.List.{take-append-drop}
 use Rattle.std.proofs.lemmas.List.Concat.{flat_map-append}
-use Rattle.std.proofs.lemmas.List.Sums.{sum_by-cons, sum_by-append}
+use Rattle.std.proofs.lemmas.List.Sums.{sum_by-cons}
 use Rattle.cob_picture.specs.declared.symbol.Symbol.{Symbol}
 use Rattle.cob_picture.specs.declared.symbol.Symbol.TheVariants.{A, X, Nine, S, V, P, B, Zero, Slash, Comma, Point, Z, Star, Dollar, Plus, Minus, Credit, Debit}
 use Rattle.cob_picture.specs.declared.symbol.Run.{Run}
 use Rattle.cob_picture.specs.declared.position.Position.{Position}
 use Rattle.cob_picture.specs.declared.position.Role.{Role}
 use Rattle.cob_picture.specs.declared.position.Role.TheVariants.{Digit, Character}
-use Rattle.cob_picture.specs.declared.numeric.NumericParts.{NumericParts}
 use Rattle.cob_picture.specs.declared.category.Category.{Category}
 use Rattle.cob_picture.specs.declared.category.Category.TheVariants.{Alphabetic, Numeric, Alphanumeric, AlphanumericEdited, NumericEdited}
-use Rattle.cob_picture.specs.Positions.{is, times, written_out, shows_number, is_edited, settled_role, floating, is_that, role_at, position_at, placed, positions}
+use Rattle.cob_picture.specs.Positions.{is, times, written_out, shows_number, settled_role, floating, is_that, role_at, position_at, placed, positions}
 use Rattle.cob_picture.specs.Runs.{ArePositive}
-use Rattle.cob_picture.specs.Counts.{is_digit_place, width, size, digits, is_scaling, is_decimal_place, decimal_places, is_point, point_leads, before_point, after_point, whole_part, fraction_part, scale, is_sign_symbol, signed}
+use Rattle.cob_picture.specs.Counts.{is_digit_place, width, size, digits, is_scaling, decimal_places, is_point, point_leads, before_point, after_point, whole_part, fraction_part, is_sign_symbol, signed}
 use Rattle.cob_picture.specs.Measures.{AreCountsOf, run_leads, symbols_size}
-use Rattle.cob_picture.specs.Numeric.{IsNumeric, numeric_symbols}
 use Rattle.cob_picture.specs.Categories.{IsOf}
-use Rattle.cob_picture.specs.Pictures.{IsPicture, IsWithinLimits}
-use Rattle.cob_picture.proofs.Times.{is_other, is_same, times-append, signs_written, points_written, digits_written, scaling_written, length_written}
+use Rattle.cob_picture.specs.Pictures.{IsPicture}
+use Rattle.cob_picture.proofs.Times.{is_other, times-append, signs_written, points_written, digits_written, scaling_written, length_written}
 use Rattle.cob_picture.proofs.EditedFacts.{edited_none}
-use Rattle.cob_picture.proofs.Placed.{one_if, seen_after, seen_runs, placed-append, digits-append, size-placed, symbols_placed, signed_runs, is_plain, MayFloat, is_true, floating_may, scaling-placed, decimal-placed, digits-cons, decimal-cons, IsParted, parted, leads_runs, any_placed}
+use Rattle.cob_picture.proofs.Placed.{one_if, seen_after, seen_runs, placed-append, digits-append, size-placed, signed_runs, is_plain, MayFloat, is_true, floating_may, scaling-placed, decimal-placed, digits-cons, decimal-cons, IsParted, parted, leads_runs, any_placed}
 
 -- ---- pictures that show no number
 

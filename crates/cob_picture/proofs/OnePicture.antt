@@ -1,15 +1,13 @@
 -- A text is one picture, and then it breaks no rule.
-use Rattle.std.proofs.Common.{◌≡◌, ℕ, zero, suc, ◌+◌, ◌*◌, ◌<◌, ◌≤◌, min, Bool, true, false, List, [], ◌∷◌, ◌++◌, length, map, replicate, Option, Some, None, refl, sym, ap, subst, ◌∙◌, append_assoc, arith, inl, inr}
-use Rattle.std.specs.Prelude.{◌⊎◌, IsTrue}
+use Rattle.std.proofs.Common.{◌≡◌, ℕ, ◌<◌, ◌≤◌, List, [], ◌∷◌, ◌++◌, length, Some, None, refl, sym, ap, subst, ◌∙◌, append_assoc, arith, inl, inr}
+use Rattle.std.specs.Prelude.{◌⊎◌}
 use Rattle.std.specs.List.{AllByRecursion, flat_map}
-use Rattle.std.proofs.lemmas.List.{length-append}
 use Rattle.cob_picture.specs.declared.symbol.Symbol.{Symbol}
 use Rattle.cob_picture.specs.declared.category.Category.{Category}
-use Rattle.cob_picture.specs.declared.position.Position.{Position}
 use Rattle.cob_picture.specs.declared.fault.PictureFault.{PictureFault}
 use Rattle.cob_picture.specs.declared.fault.PictureFault.TheVariants.{Empty, UnknownSymbol, BadRepeat, Order, Digits, TooLong, LeftOut}
 use Rattle.cob_picture.specs.Symbols.{first_of, rest_of, chars, symbol_with, IsLeftOutSymbol}
-use Rattle.cob_picture.specs.WrittenOut.{IsDigit, number_of, closed, Item, Once, Times, IsItem, spelling, symbol_in, symbols_in, counted_in, NotOpen, Ready, Reads, Front, IsItemFault, IsBrokenAfter}
+use Rattle.cob_picture.specs.WrittenOut.{IsDigit, closed, Item, Once, Times, IsItem, spelling, symbol_in, symbols_in, counted_in, NotOpen, Ready, Reads, IsItemFault, IsBrokenAfter}
 use Rattle.cob_picture.specs.Positions.{Seen, times, positions, shows_number, is_edited}
 use Rattle.cob_picture.specs.Counts.{size, digits, decimal_places}
 use Rattle.cob_picture.specs.Categories.{IsOf}

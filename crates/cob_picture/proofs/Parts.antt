@@ -1,5 +1,5 @@
 -- The parts of a numeric edited picture: there is one way to part its symbols.
-use Rattle.std.proofs.Common.{◌≡◌, ℕ, zero, suc, ◌+◌, ◌<◌, ◌≤◌, Bool, true, false, ◌||◌, List, [], ◌∷◌, ◌++◌, length, get_or, take, drop, replicate, Option, Some, None, refl, sym, ap, subst, ◌∙◌, append_assoc, arith}
+use Rattle.std.proofs.Common.{◌≡◌, ℕ, zero, suc, ◌+◌, ◌<◌, Bool, true, false, ◌||◌, List, [], ◌∷◌, ◌++◌, length, get_or, take, drop, replicate, Option, refl, sym, ap, subst, ◌∙◌, arith}
 use Rattle.std.specs.Prelude.{IsTrue, IsFalse}
 use Rattle.std.specs.List.{AllByRecursion, list_any}
 use Rattle.std.proofs.lemmas.List.{append-nil, take-append-drop, drop_more}
@@ -7,16 +7,16 @@ use Rattle.std.proofs.lemmas.List.Concat.{flat_map-append}
 use Rattle.cob_picture.specs.declared.symbol.Symbol.{Symbol}
 use Rattle.cob_picture.specs.declared.symbol.Run.{Run}
 use Rattle.cob_picture.specs.declared.edited.Kind.{Kind}
-use Rattle.cob_picture.specs.declared.edited.Kind.TheVariants.{OfRun, OfInsertion, OfNine, OfPoint, OfSign, OfCurrency, OfCredit, OfNone}
+use Rattle.cob_picture.specs.declared.edited.Kind.TheVariants.{OfRun, OfInsertion, OfNine, OfPoint, OfSign, OfCurrency, OfCredit}
 use Rattle.cob_picture.specs.declared.edited.Part.{Part}
 use Rattle.cob_picture.specs.declared.edited.Part.TheVariants.{Lead, Currency, Front, Whole, PointPart, Fraction, Trail}
 use Rattle.cob_picture.specs.declared.symbol.Symbol.TheVariants.{Nine, V}
 use Rattle.cob_picture.specs.declared.edited.EditedCounts.{EditedCounts}
-use Rattle.cob_picture.specs.Positions.{written_out, is_that, times}
+use Rattle.cob_picture.specs.Positions.{written_out, times}
 use Rattle.cob_picture.specs.Runs.{ArePositive}
 use Rattle.cob_picture.specs.Edited.{kind_of, belongs, AreOf, Stops, Edited, edited_symbols, HasKinds, counts_in, AreAllowed, run_symbol, IsNumericEdited, ends_in_mark}
 use Rattle.cob_picture.proofs.Times.{one_more}
-use Rattle.cob_picture.specs.Parted.{IsTaken, IsSplit, edited_of, AreShort}
+use Rattle.cob_picture.specs.Parted.{IsSplit, edited_of, AreShort}
 
 -- ---- which kinds stand in one part and not in another
 

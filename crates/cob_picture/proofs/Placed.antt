@@ -1,7 +1,7 @@
 -- Positions, symbol by symbol and run by run.
-use Rattle.std.proofs.Common.{◌≡◌, ℕ, zero, suc, ◌+◌, ◌-◌, ◌*◌, ◌<◌, ◌≤◌, Bool, true, false, cond, ◌||◌, not, List, [], ◌∷◌, ◌++◌, length, get_or, take, drop, map, replicate, Option, Some, None, refl, sym, ap, subst, ◌∙◌, append_assoc, arith}
+use Rattle.std.proofs.Common.{◌≡◌, ℕ, zero, suc, ◌+◌, ◌-◌, ◌*◌, ◌<◌, ◌≤◌, Bool, true, false, cond, ◌||◌, not, List, [], ◌∷◌, ◌++◌, length, get_or, take, drop, replicate, Option, Some, None, refl, sym, ap, subst, ◌∙◌, append_assoc, arith}
 use Rattle.std.specs.Prelude.{count_by, nat_le, if◌then◌else◌}
-use Rattle.std.specs.List.{AllByRecursion, flat_map, list_any, position_or_len, prefix_len, sum_by}
+use Rattle.std.specs.List.{list_any, position_or_len}
 use Rattle.std.proofs.lemmas.List.{drop_more, append-nil, take-append-drop, length-append}
 use Rattle.std.proofs.lemmas.List.Concat.{flat_map-append}
 use Rattle.std.proofs.lemmas.List.Sums.{sum_by-cons, sum_by-append}
@@ -10,14 +10,12 @@ use Rattle.cob_picture.specs.declared.symbol.Symbol.{Symbol}
 use Rattle.cob_picture.specs.declared.symbol.Symbol.TheVariants.{A, X, Nine, S, V, P, B, Zero, Slash, Comma, Point, Z, Star, Dollar, Plus, Minus, Credit, Debit}
 use Rattle.cob_picture.specs.declared.symbol.Run.{Run}
 use Rattle.cob_picture.specs.declared.position.Position.{Position}
-use Rattle.cob_picture.specs.declared.position.Role.{Role}
 use Rattle.cob_picture.specs.declared.category.Category.{Category}
-use Rattle.cob_picture.specs.Symbols.{first_of}
-use Rattle.cob_picture.specs.Positions.{is, times, written_out, shows_number, settled_role, floating, is_that, role_at, position_at, placed, positions, symbols_of}
+use Rattle.cob_picture.specs.Positions.{is, times, written_out, settled_role, floating, is_that, role_at, position_at, placed, symbols_of}
 use Rattle.cob_picture.specs.Runs.{ArePositive}
-use Rattle.cob_picture.specs.Counts.{is_digit_place, width, size, digits, is_scaling, is_decimal_place, decimal_places, is_point, point_leads, before_point, after_point, whole_part, fraction_part, scale, is_sign_symbol, signed}
+use Rattle.cob_picture.specs.Counts.{is_digit_place, width, size, digits, is_scaling, is_decimal_place, decimal_places, is_point, point_leads, before_point, after_point, is_sign_symbol, signed}
 use Rattle.cob_picture.specs.Measures.{run_leads, symbols_size}
-use Rattle.cob_picture.proofs.Times.{first_one, is_other, is_same, times-append, one_more, length_more}
+use Rattle.cob_picture.proofs.Times.{first_one, is_other, one_more, length_more}
 
 abbrev pub one_if : Bool → ℕ
 one_if b = cond b 1 0

@@ -1,5 +1,5 @@
 -- The categories of pictures, each by the symbols that its pictures have.
-use Rattle.std.specs.Prelude.{◌≡◌, ℕ, ◌+◌, ◌<◌, List, length}
+use Rattle.std.specs.Prelude.{◌≡◌, ◌+◌, ◌<◌, List, length}
 use Rattle.cob_picture.specs.declared.symbol.Symbol.{Symbol}
 use Rattle.cob_picture.specs.declared.symbol.Symbol.TheVariants.{A, X, Nine, B, Zero, Slash}
 use Rattle.cob_picture.specs.declared.numeric.NumericParts.{NumericParts}

@@ -1,5 +1,5 @@
 -- What the counts over runs say of the positions.
-use Rattle.std.specs.Prelude.{◌≡◌, ℕ, ◌+◌, Bool, true, false, List, [], ◌∷◌, ℤ, count_by, if◌then◌else◌}
+use Rattle.std.specs.Prelude.{◌≡◌, ℕ, ◌+◌, Bool, false, List, [], ◌∷◌, ℤ, count_by, if◌then◌else◌}
 use Rattle.cob_picture.specs.declared.symbol.Symbol.{Symbol}
 use Rattle.cob_picture.specs.declared.symbol.Symbol.TheVariants.{S, P}
 use Rattle.cob_picture.specs.declared.symbol.Run.{Run}

@@ -1,5 +1,5 @@
 -- Which text is which picture, and which rule a text breaks.
-use Rattle.std.specs.Prelude.{◌≡◌, ℕ, ◌+◌, ◌<◌, ◌≤◌, ◌⊎◌, List, [], ◌∷◌, length, IsTrue}
+use Rattle.std.specs.Prelude.{◌≡◌, ℕ, ◌<◌, ◌≤◌, ◌⊎◌, List, length, IsTrue}
 use Rattle.std.specs.List.{flat_map}
 use Rattle.cob_picture.specs.declared.TheConstants.{MAX_TEXT, MAX_DIGITS, MAX_SIZE, MAX_EDITED_SIZE}
 use Rattle.cob_picture.specs.declared.symbol.Symbol.{Symbol}

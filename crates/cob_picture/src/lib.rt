@@ -1,4 +1,4 @@
-//! Pictures of COBOL items, as a PICTURE clause gives them (ANSI X3.23-1985, VI-5.9, the PICTURE clause).
+//! Pictures of COBOL items, as a PICTURE clause gives them (ANSI X3.23-1985, the PICTURE clause).
 //!
 //! A picture describes an elementary item: what kind it is, how many bytes it takes, and for a number its digits, its scale and
 //! whether it has a sign. `Picture::read` reads the text of a PICTURE clause. Contracts see a picture as its category and its list

@@ -1,4 +1,4 @@
-use Rattle.std.proofs.Common.{◌≡◌, ℕ, ◌*◌, ◌≤◌, take}
+use Rattle.std.proofs.Common.{◌≡◌, ◌*◌, ◌≤◌, take}
 use Rattle.cob_picture.specs.Positions.{written_out}
 use Rattle.cob_picture.specs.Positions.{times}
 use Rattle.cob_picture.proofs.category.count_of.Given as goal

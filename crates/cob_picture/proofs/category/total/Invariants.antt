@@ -1,4 +1,4 @@
-use Rattle.std.proofs.Common.{◌≡◌, ℕ, ◌*◌, ◌≤◌, length, take}
+use Rattle.std.proofs.Common.{◌≡◌, ◌*◌, ◌≤◌, length, take}
 use Rattle.cob_picture.specs.Positions.{written_out}
 use Rattle.cob_picture.proofs.category.total.Given as goal
 

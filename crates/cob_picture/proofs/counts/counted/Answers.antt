@@ -1,7 +1,3 @@
-use Rattle.std.proofs.Common.{◌≡◌, ℕ, ◌+◌, ◌≤◌, List, Bool, length, take, drop, refl, sym, ap, subst, ◌∙◌, arith}
-use Rattle.cob_picture.specs.Positions.{written_out, placed, floating, is_that}
-use Rattle.cob_picture.specs.Runs.{ArePositive}
-use Rattle.cob_picture.specs.declared.symbol.Run.{Run}
 use Rattle.cob_picture.proofs.Limits.{counts_are}
 use Rattle.cob_picture.proofs.counts.counted.Goals as goal
 

@@ -1,5 +1,4 @@
-use Rattle.std.proofs.Common.{◌≡◌, ℕ, ◌+◌, Bool, true, false, sym, ap, ◌∙◌, arith}
-use Rattle.cob_picture.specs.Positions.{placed}
+use Rattle.std.proofs.Common.{sym, ap, ◌∙◌, arith}
 use Rattle.cob_picture.specs.Counts.{is_digit_place}
 use Rattle.cob_picture.proofs.Placed.{run_floats, run_begins, run_settled_yes, run_settled_no}
 use Rattle.cob_picture.proofs.counts.digits_in.Goals as goal

@@ -1,4 +1,4 @@
-use Rattle.std.proofs.Common.{◌≡◌, ℕ, ◌*◌, ◌≤◌, take}
+use Rattle.std.proofs.Common.{◌≡◌, ◌*◌, ◌≤◌, take}
 use Rattle.cob_picture.specs.Positions.{written_out}
 use Rattle.cob_picture.specs.Measures.{symbols_size}
 use Rattle.cob_picture.proofs.counts.size_of.Given as goal

@@ -1,5 +1,5 @@
-use Rattle.std.proofs.Common.{◌≡◌, ℕ, Bool, true, false, List, [], ◌∷◌, sym, ap, subst, ◌∙◌, arith}
-use denote.Enum.Bare.{differs_true, differs_false}
+use Rattle.std.proofs.Common.{◌≡◌, true, false, List, sym, ap, subst, ◌∙◌}
+use denote.Enum.Bare.{differs_false}
 use Rattle.cob_picture.specs.contracts.symbol.Symbol.{the_type}
 use Rattle.cob_picture.specs.declared.symbol.Symbol.TheVariants.{Dollar}
 use Rattle.cob_picture.specs.declared.symbol.Run.{Run}

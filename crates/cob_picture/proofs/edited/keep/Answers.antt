@@ -1,4 +1,4 @@
-use Rattle.std.proofs.Common.{◌≡◌, ℕ, ◌++◌, sym, ap, ◌∙◌, arith}
+use Rattle.std.proofs.Common.{sym, ◌∙◌}
 use denote.Enum.Bare.{differs_true, differs_false}
 use Rattle.cob_picture.specs.contracts.symbol.Symbol.{the_type}
 use Rattle.cob_picture.proofs.EditedFacts.{kept_not, kept_too}

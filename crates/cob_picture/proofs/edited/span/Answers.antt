@@ -1,4 +1,4 @@
-use Rattle.std.proofs.Common.{◌≡◌, ℕ, length, take, drop, sym, ap, ◌∙◌, arith}
+use Rattle.std.proofs.Common.{sym, ◌∙◌}
 use Rattle.std.proofs.lemmas.List.{take_rest}
 use Rattle.cob_picture.specs.declared.symbol.Symbol.TheVariants.{A}
 use Rattle.cob_picture.specs.declared.symbol.Run.{Run}

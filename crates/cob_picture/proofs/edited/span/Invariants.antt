@@ -1,6 +1,5 @@
-use Rattle.std.proofs.Common.{take, drop}
+use Rattle.std.proofs.Common.{take}
 use Rattle.cob_picture.specs.Positions.{written_out}
-use Rattle.cob_picture.specs.Runs.{ArePositive}
 use Rattle.cob_picture.specs.Edited.{AreOf}
 use Rattle.cob_picture.proofs.edited.span.Given as goal
 

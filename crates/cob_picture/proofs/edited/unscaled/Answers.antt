@@ -1,8 +1,6 @@
-use Rattle.std.proofs.Common.{◌≡◌, ℕ, ◌+◌, ◌++◌, List, sym, ap, ◌∙◌, arith}
-use Rattle.cob_picture.specs.declared.symbol.Symbol.{Symbol}
+use Rattle.std.proofs.Common.{sym, arith}
 use Rattle.cob_picture.specs.declared.symbol.Symbol.TheVariants.{A}
 use Rattle.cob_picture.specs.declared.symbol.Run.{Run}
-use Rattle.cob_picture.specs.Edited.{unscaled}
 use Rattle.cob_picture.proofs.EditedFacts.{unscaled_more, positive_at}
 use Rattle.cob_picture.proofs.edited.unscaled.Goals as goal
 

@@ -1,10 +1,7 @@
-use Rattle.std.proofs.Common.{◌≡◌, ℕ, ◌+◌, ◌-◌, ◌<◌, List, length, take, drop, refl, sym, ap, subst, ◌∙◌, arith}
+use Rattle.std.proofs.Common.{sym, ◌∙◌, arith}
 use denote.Enum.Bare.{differs_true, differs_false}
 use Rattle.std.proofs.lemmas.List.{take_rest}
 use Rattle.cob_picture.specs.contracts.symbol.Symbol.{the_type}
-use Rattle.cob_picture.specs.Positions.{written_out}
-use Rattle.cob_picture.specs.Runs.{NotFirst}
-use Rattle.cob_picture.specs.declared.symbol.Run.{Run}
 use Rattle.cob_picture.proofs.Fronts.{fronts_step, fronts_stop}
 use Rattle.cob_picture.proofs.numeric.front.Goals as goal
 

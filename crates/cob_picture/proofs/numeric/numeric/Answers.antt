@@ -1,7 +1,6 @@
-use Rattle.std.proofs.Common.{◌≡◌, ℕ, ◌+◌, ◌-◌, ◌<◌, List, Some, length, refl, sym, ap, ◌∙◌, arith}
+use Rattle.std.proofs.Common.{◌≡◌, Some, length, ap, arith}
 use Rattle.std.proofs.lemmas.Grind.{common_steps}
 use Rattle.cob_picture.specs.Positions.{written_out}
-use Rattle.cob_picture.specs.Numeric.{IsNumeric}
 use Rattle.cob_picture.specs.declared.numeric.NumericParts.{NumericParts}
 use Rattle.cob_picture.proofs.Fronts.{Peeled, must, places_nil}
 use Rattle.cob_picture.proofs.numeric.numeric.Goals as goal

@@ -1,11 +1,10 @@
-use Rattle.std.proofs.Common.{◌≡◌, ℕ, ◌+◌, ◌++◌, ◌<◌, ◌≤◌, Bool, false, ◌||◌, List, length, take, sym, ap, ◌∙◌, arith}
-use Rattle.std.proofs.lemmas.List.{take_all}
+use Rattle.std.proofs.Common.{false, length, take, sym, ap, arith}
 use Rattle.cob_picture.specs.declared.symbol.Symbol.TheVariants.{A}
 use Rattle.cob_picture.specs.declared.symbol.Run.{Run}
 use Rattle.cob_picture.specs.declared.position.Position.{Position}
-use Rattle.cob_picture.specs.Positions.{written_out, floating, placed, is_that}
+use Rattle.cob_picture.specs.Positions.{written_out, floating}
 use Rattle.cob_picture.proofs.EditedFacts.{positive_at}
-use Rattle.cob_picture.proofs.Placed.{length_placed, length_taken, placed_more, seen_more, seen_after}
+use Rattle.cob_picture.proofs.Placed.{length_placed, length_taken, placed_more, seen_more}
 use Rattle.cob_picture.proofs.position.positions_of.Goals as goal
 
 pub push_run-requires : goal.push_run-requires

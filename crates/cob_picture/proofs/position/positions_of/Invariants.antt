@@ -1,4 +1,4 @@
-use Rattle.std.proofs.Common.{◌≡◌, ◌≤◌, false, length, take}
+use Rattle.std.proofs.Common.{◌≡◌, false, take}
 use Rattle.cob_picture.specs.Positions.{written_out, floating, placed}
 use Rattle.cob_picture.proofs.Placed.{seen_after}
 use Rattle.cob_picture.proofs.position.positions_of.Given as goal

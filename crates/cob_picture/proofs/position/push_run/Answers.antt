@@ -1,5 +1,4 @@
-use Rattle.std.proofs.Common.{◌≡◌, ℕ, ◌+◌, ◌-◌, ◌++◌, ◌<◌, ◌≤◌, Bool, ◌||◌, List, length, replicate, sym, ap, ◌∙◌, arith}
-use Rattle.cob_picture.specs.Positions.{placed, position_at, is_that}
+use Rattle.std.proofs.Common.{sym, ◌∙◌, arith}
 use Rattle.cob_picture.proofs.Placed.{push_step, push_end}
 use Rattle.cob_picture.proofs.position.push_run.Goals as goal
 

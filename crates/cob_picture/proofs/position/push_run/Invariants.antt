@@ -1,4 +1,4 @@
-use Rattle.std.proofs.Common.{◌≡◌, ◌+◌, ◌-◌, ◌≤◌, ◌++◌, length, replicate}
+use Rattle.std.proofs.Common.{◌≡◌, ◌+◌, ◌-◌, ◌++◌, length, replicate}
 use Rattle.cob_picture.specs.Positions.{placed}
 use Rattle.cob_picture.proofs.position.push_run.Given as goal
 

@@ -1,5 +1,4 @@
-use Rattle.std.proofs.Common.{◌≡◌, ℕ, ◌≤◌, sym, ap, ◌∙◌, arith}
-use Rattle.cob_picture.specs.Positions.{written_out}
+use Rattle.std.proofs.Common.{◌∙◌, arith}
 use Rattle.cob_picture.proofs.Limits.{bounded, shows_none}
 use Rattle.cob_picture.proofs.picture.Picture.digits.Goals as goal
 

@@ -1,6 +1,5 @@
-use Rattle.std.proofs.Common.{◌≡◌, ℕ, ◌≤◌, length, sym, ap, ◌∙◌, arith}
+use Rattle.std.proofs.Common.{◌≡◌, ap, ◌∙◌}
 use Rattle.std.specs.Prelude.{true}
-use Rattle.cob_picture.specs.declared.category.Category.{Category}
 use Rattle.cob_picture.specs.Positions.{Seen, written_out, shows_number}
 use Rattle.cob_picture.proofs.Limits.{few_positions}
 use Rattle.cob_picture.proofs.picture.Picture.positions.Goals as goal

@@ -1,13 +1,12 @@
-use Rattle.std.proofs.Common.{◌≡◌, ℕ, ◌+◌, ◌<◌, ◌≤◌, List, length, refl, sym, ap, subst, ◌∙◌, arith}
+use Rattle.std.proofs.Common.{List, sym, subst, arith}
 use Rattle.std.proofs.lemmas.Grind.{common_steps}
 use Rattle.std.proofs.lemmas.Int.{ints}
 use Rattle.std.proofs.lemmas.Result.{err_from_is_err_and}
 use Rattle.cob_picture.specs.declared.symbol.Run.{Run}
-use Rattle.cob_picture.specs.declared.category.Category.{Category}
-use Rattle.cob_picture.specs.Positions.{Seen, written_out, positions}
-use Rattle.cob_picture.specs.Pictures.{IsPicture, IsPictureOf, IsBroken}
+use Rattle.cob_picture.specs.Positions.{written_out}
+use Rattle.cob_picture.specs.Pictures.{IsPicture}
 use Rattle.cob_picture.proofs.Limits.{bounded}
-use Rattle.cob_picture.proofs.Found.{positive_is, is_found, is_only, same_seen, broken_order, broken_item}
+use Rattle.cob_picture.proofs.Found.{positive_is, is_found, is_only, same_seen, broken_order}
 use Rattle.cob_picture.proofs.picture.Picture.read.Goals as goal
 
 pub judged-requires-clause-positive : goal.judged-requires-clause-positive

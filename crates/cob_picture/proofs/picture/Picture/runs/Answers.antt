@@ -1,4 +1,4 @@
-use Rattle.std.proofs.Common.{◌≡◌, ℕ, false, sym, ap, ◌∙◌, arith}
+use Rattle.std.proofs.Common.{false}
 use Rattle.cob_picture.specs.Positions.{written_out, floating}
 use Rattle.cob_picture.proofs.Placed.{symbols_placed}
 use Rattle.cob_picture.proofs.picture.Picture.runs.Goals as goal

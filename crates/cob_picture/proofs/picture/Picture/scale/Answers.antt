@@ -1,6 +1,5 @@
-use Rattle.std.proofs.Common.{◌≡◌, ℕ, ◌≤◌, ◌≤ℤ◌, ◌-ℤ◌, pos, negsuc, sym, ap, ◌∙◌, arith}
+use Rattle.std.proofs.Common.{arith}
 use Rattle.std.proofs.lemmas.Int.{ints}
-use Rattle.cob_picture.specs.Positions.{written_out}
 use Rattle.cob_picture.proofs.Limits.{bounded, scale_none}
 use Rattle.cob_picture.proofs.picture.Picture.scale.Goals as goal
 

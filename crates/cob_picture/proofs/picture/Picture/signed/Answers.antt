@@ -1,4 +1,4 @@
-use Rattle.std.proofs.Common.{◌≡◌, ℕ, sym, ap, ◌∙◌, arith}
+use Rattle.std.proofs.Common.{◌∙◌}
 use Rattle.cob_picture.proofs.Limits.{shows_none}
 use Rattle.cob_picture.proofs.picture.Picture.signed.Goals as goal
 

@@ -1,4 +1,4 @@
-use Rattle.std.proofs.Common.{◌≡◌, ℕ, ◌<◌, sym, ap, ◌∙◌, arith}
+use Rattle.std.proofs.Common.{arith}
 use Rattle.cob_picture.proofs.Limits.{bounded}
 use Rattle.cob_picture.proofs.picture.Picture.size.Goals as goal
 
