@@ -15,7 +15,7 @@ use Rattle.cob_picture.specs.Positions.{Seen, times, is_that, floating, settled_
 use Rattle.cob_picture.specs.Counts.{is_point}
 use Rattle.cob_picture.specs.Edited.{run_symbol, is_floating_run, settled_kind, kind_of, belongs, AreOf, Edited, edited_symbols, HasKinds, counts_in, AreAllowed, IsNumericEdited}
 use Rattle.cob_picture.specs.Categories.{IsOf}
-use Rattle.cob_picture.specs.Pictures.{IsPictureOf}
+use Rattle.cob_picture.specs.Pictures.{IsPicture}
 use Rattle.cob_picture.specs.Laws.{is_run_role}
 use Rattle.cob_picture.proofs.Placed.{symbols_placed}
 
@@ -107,29 +107,10 @@ run_places q fl seen (s ∷ xs) same kinds = (run_place q fl seen s (same s) kin
 same_that : (xs : List Symbol) (s : Symbol) → is_that (floating xs) s ≡ true → is_that (run_symbol xs) s ≡ true
 same_that xs s h = ap (λ (q : Option Symbol). is_that q s) (sym (floating_is_run xs s h)) ∙ h
 
--- the symbols of a picture that is numeric edited
-record Has (p : Seen) : Type 0 where
-  pub symbols : List Symbol
-  pub edited : IsNumericEdited symbols
-  pub are : p.positions ≡ positions NumericEdited symbols
-
-has : (text : List ℕ) (p : Seen) → IsPictureOf text p → p.category ≡ NumericEdited → Has p
-has text p h e = record {
-  symbols = h.symbols;
-  edited = subst (λ (c : Category). IsOf c h.symbols) e h.is.order;
-  are = h.positions ∙ ap (λ (c : Category). positions c h.symbols) e;
-}
-
-pub one_run : (text : List ℕ) (p : Seen) → IsPictureOf text p → p.category ≡ NumericEdited
-    → AllByRecursion (λ x. is_run_role x.role ≡ true → is_that (run_symbol (symbols_of p.positions)) x.symbol ≡ true) p.positions
-one_run text p h e =
-    let n = has text p h e in
-    let xs = n.symbols in
-    let kinds = subst (HaveKinds (run_symbol xs)) (sym n.edited.written) (all_kinds (run_symbol xs) n.edited.parts n.edited.kinds) in
-    let all = run_places (run_symbol xs) (floating xs) false xs (same_that xs) kinds in
-    let symbols : symbols_of (positions NumericEdited xs) ≡ xs = symbols_placed NumericEdited (floating xs) false xs in
-    subst (λ (ps : List Position). AllByRecursion (λ x. is_run_role x.role ≡ true → is_that (run_symbol (symbols_of ps)) x.symbol ≡ true) ps) (sym n.are)
-    (subst (λ (ys : List Symbol). AllByRecursion (λ x. is_run_role x.role ≡ true → is_that (run_symbol ys) x.symbol ≡ true) (positions NumericEdited xs)) (sym symbols) all)
+pub one_run : (xs : List Symbol) → IsPicture NumericEdited xs → AllByRecursion (λ x. is_run_role x.role ≡ true → is_that (run_symbol xs) x.symbol ≡ true) (positions NumericEdited xs)
+one_run xs p =
+    let kinds = subst (HaveKinds (run_symbol xs)) (sym p.order.written) (all_kinds (run_symbol xs) p.order.parts p.order.kinds) in
+    run_places (run_symbol xs) (floating xs) false xs (same_that xs) kinds
 
 -- ---- the first floating symbol
 
@@ -292,25 +273,24 @@ settled_places q (s ∷ xs) none kinds points =
     not_point false e g = e
     not_point true e g = absurd (points.0 (point_kind q s e g))
 
-pub first_leads : (text : List ℕ) (p : Seen) (before after : List Position) (first : Position) → IsPictureOf text p → p.category ≡ NumericEdited
-    → p.positions ≡ before ++ first ∷ after → first.role ≡ FirstFloating
+pub first_leads : (xs : List Symbol) (before after : List Position) (first : Position) → IsPicture NumericEdited xs
+    → positions NumericEdited xs ≡ before ++ first ∷ after → first.role ≡ FirstFloating
     → AllByRecursion (λ x. (is_run_role x.role ≡ false) × (is_point x.symbol ≡ false)) before
-first_leads text p before after first h e parted role =
-    let n = has text p h e in
-    let xs = n.symbols in
-    let m = begins_at (floating xs) xs before after first (sym n.are ∙ parted) role in
+first_leads xs before after first p parted role =
+    let edited : IsNumericEdited xs = p.order in
+    let m = begins_at (floating xs) xs before after first parted role in
     let q-is : floating xs ≡ run_symbol xs = floating_is_run xs first.symbol m.floats in
-    let ed = n.edited.parts in
-    let kinds = subst (λ (q : Option Symbol). HasKinds q ed) (sym q-is) n.edited.kinds in
-    let allowed = subst (λ (q : Option Symbol). AreAllowed q (counts_in q ed)) (sym q-is) n.edited.allowed in
+    let ed = edited.parts in
+    let kinds = subst (λ (q : Option Symbol). HasKinds q ed) (sym q-is) edited.kinds in
+    let allowed = subst (λ (q : Option Symbol). AreAllowed q (counts_in q ed)) (sym q-is) edited.allowed in
     let q = floating xs in
-    let all = subst (HaveKinds q) (sym n.edited.written) (all_kinds q ed kinds) in
+    let all = subst (HaveKinds q) (sym edited.written) (all_kinds q ed kinds) in
     let begun : list_any (is_that q) ed.front ≡ true = allowed.run.begins (floating_floats xs first.symbol m.floats) in
     let front = ed.lead ++ (ed.currency ++ ed.front) in
     let rest = ed.whole ++ (ed.point ++ (ed.fraction ++ ed.trail)) in
     let some : list_any (is_that q) front ≡ true = any-behind (is_that q) ed.lead (ed.currency ++ ed.front) (any-behind (is_that q) ed.currency ed.front begun) in
     let points : AllByRecursion (NotPoint q) front = all-append (NotPoint q) ed.lead (ed.currency ++ ed.front) (no_points Lead q ed.lead refl kinds.lead) (all-append (NotPoint q) ed.currency ed.front (no_points Currency q ed.currency refl kinds.currency) (no_points Front q ed.front refl kinds.front)) in
-    let joined : front ++ rest ≡ m.front ++ m.behind = append_assoc ed.lead (ed.currency ++ ed.front) rest ∙ ap (λ (t : List Symbol). ed.lead ++ t) (append_assoc ed.currency ed.front rest) ∙ sym n.edited.written ∙ m.parts in
+    let joined : front ++ rest ≡ m.front ++ m.behind = append_assoc ed.lead (ed.currency ++ ed.front) rest ∙ ap (λ (t : List Symbol). ed.lead ++ t) (append_assoc ed.currency ed.front rest) ∙ sym edited.written ∙ m.parts in
     let none = shorter_front (NotPoint q) (is_that q) front rest m.front m.behind points some m.others joined in
     let have = kinds_front q m.front m.behind (subst (HaveKinds q) m.parts all) in
     subst (λ (ps : List Position). AllByRecursion (λ x. (is_run_role x.role ≡ false) × (is_point x.symbol ≡ false)) ps) (sym m.are) (settled_places q m.front m.others have none)

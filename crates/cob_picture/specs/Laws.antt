@@ -6,10 +6,11 @@ use Rattle.cob_picture.specs.declared.category.Category.TheVariants.{NumericEdit
 use Rattle.cob_picture.specs.declared.position.Position.{Position}
 use Rattle.cob_picture.specs.declared.position.Role.{Role}
 use Rattle.cob_picture.specs.declared.position.Role.TheVariants.{Character, Insertion, DecimalPoint, Digit, Suppressed, Floating, FirstFloating, FixedSign, FixedCurrency, NoByte}
-use Rattle.cob_picture.specs.Positions.{Seen, is_that, symbols_of}
+use Rattle.cob_picture.specs.declared.symbol.Symbol.{Symbol}
+use Rattle.cob_picture.specs.Positions.{Seen, is_that, positions}
 use Rattle.cob_picture.specs.Counts.{is_point}
 use Rattle.cob_picture.specs.Edited.{run_symbol}
-use Rattle.cob_picture.specs.Pictures.{IsPictureOf, IsBroken}
+use Rattle.cob_picture.specs.Pictures.{IsPicture, IsPictureOf, IsBroken}
 
 -- a text is one picture at most
 abbrev pub IsOnePicture : Type 0
@@ -35,12 +36,12 @@ is_run_role NoByte = false
 -- the places of a run have one symbol
 abbrev pub IsOneRun : Type 0
 IsOneRun =
-    (text : List ℕ) (p : Seen) → IsPictureOf text p → p.category ≡ NumericEdited
-    → AllByRecursion (λ x. is_run_role x.role ≡ true → is_that (run_symbol (symbols_of p.positions)) x.symbol ≡ true) p.positions
+    (symbols : List Symbol) → IsPicture NumericEdited symbols
+    → AllByRecursion (λ x. is_run_role x.role ≡ true → is_that (run_symbol symbols) x.symbol ≡ true) (positions NumericEdited symbols)
 
 -- before the first floating symbol stands no place of the run, and no point
 abbrev pub FirstLeads : Type 0
 FirstLeads =
-    (text : List ℕ) (p : Seen) (before after : List Position) (first : Position) → IsPictureOf text p → p.category ≡ NumericEdited
-    → p.positions ≡ before ++ first ∷ after → first.role ≡ FirstFloating
+    (symbols : List Symbol) (before after : List Position) (first : Position) → IsPicture NumericEdited symbols
+    → positions NumericEdited symbols ≡ before ++ first ∷ after → first.role ≡ FirstFloating
     → AllByRecursion (λ x. (is_run_role x.role ≡ false) × (is_point x.symbol ≡ false)) before

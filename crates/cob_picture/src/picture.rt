@@ -124,7 +124,9 @@ impl Picture {
     /// Its positions in order, each with its role: what editing goes by. The caller hands a picture that shows a number.
     pub fn positions(&self) -> ArrayVec<Position, 250>
         requires { IsTrue (shows_number self.now.category) }
-        ensures { result.items ≡ self.now.positions }
+        ensures value { result.items ≡ self.now.positions }
+        ensures picture { IsPicture self.now.category (symbols_of result.items) }
+        ensures roles { result.items ≡ positions self.now.category (symbols_of result.items) }
     {
         positions_of(self.runs.as_slice(), self.category)
     }
