@@ -1,4 +1,25 @@
-//! Conversions: from three texts to a converter, and from records to records.
+//! Conversions of record files: three texts make a converter, and a converter turns a stream of records of one layout into a stream
+//! of records of another.
+//!
+//! [`Converter::prepare`] reads the copybooks of both records and the paragraph of MOVE statements; [`Converter::run`] goes from record
+//! to record; [`job`] does both for one text that holds everything, and prints what comes of it.
+//!
+//! What is promised:
+//!
+//! - What is prepared is what the texts mean (`means`), with the record forms that were handed in (`forms`).
+//! - Where both ends tell their bytes and no call of them failed, what a run writes is, record by record, the framed storage that the
+//!   moves give from the initial values and the values that the input's bytes represent; and a run that stops names the first record
+//!   and offset where its fault stands, having written just the records before it: the clause `headline`, by `Converted` of
+//!   specs/Converted.antt.
+//! - Where a call failed, the records before are written, and the answer names the end that failed (`ran`, `reads`, `writes`). Nothing
+//!   past the frame of the record that stopped was read.
+//! - A run takes no memory, and leaves the converter as `prepare` made it (`same`).
+//! - Bytes have one conversion: [`conversion_is_one`].
+//!
+//! What a job prints, and its status, is shown by tests.
+//!
+//! It stands on `cob_records` for the frames, on `cob_thin` for the texts, on `cob_steps` for what becomes of one record, on `arrayvec`
+//! for lines without memory and on `thiserror` for what faults print.
 #![tactic(auto)]
 
 mod converter;
