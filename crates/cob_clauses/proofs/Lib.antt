@@ -1,0 +1,4 @@
+pub mod Terms
+pub mod NameLemmas
+pub mod TableLemmas
+pub mod KeyLemmas

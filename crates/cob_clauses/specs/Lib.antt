@@ -1,0 +1,6 @@
+pub mod Terms
+pub mod Names
+pub mod Written
+pub mod Clauses
+pub mod Entries
+pub mod Reading
