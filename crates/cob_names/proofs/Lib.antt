@@ -1,0 +1,4 @@
+pub mod Branches
+pub mod Qualifiers
+pub mod OnlyOnes
+pub mod Counting

@@ -1,0 +1,10 @@
+use Rattle.std.proofs.Common.{◌≡◌, List, ℕ, ◌++◌, map, drop}
+use Rattle.cob_names.specs.Counts.{AreCounts}
+use Rattle.cob_names.specs.Listed.{bearer_of, entry_of}
+use Rattle.cob_names.proofs.count.counts_of.Given as goal
+
+abbrev pub invariant-loop-number : goal.invariant-loop-number
+invariant-loop-number l = record {
+  left : (cs : List ℕ) → AreCounts (map bearer_of l.bearers) l.number (map entry_of (drop l.number l.bearers)) cs → AreCounts (map bearer_of l.bearers) 0 (map entry_of l.bearers) (l.counts.items ++ cs);
+  whole : (cs : List ℕ) → AreCounts (map bearer_of l.bearers) 0 (map entry_of l.bearers) cs → (more : List ℕ) × (cs ≡ l.counts.items ++ more) × AreCounts (map bearer_of l.bearers) l.number (map entry_of (drop l.number l.bearers)) more;
+}

@@ -1,0 +1,100 @@
+ghost use Rattle.std.specs.Prelude.{◌≡◌, ℕ, ◌≤◌, List, [], ◌∷◌, map, IsTrue, IfOk, IfErr, IfSome, IsSomeAnd, IsOkAnd};
+ghost use Rattle.cob_entries.specs.Described.{described};
+ghost use Rattle.cob_entries.specs.declared.fault.BookRule.TheVariants.{Memory, Count};
+ghost use Rattle.cob_tree.specs.Forests.{Forest, entries_in};
+ghost use Rattle.cob_tree.specs.Branches.{forest_of};
+ghost use Rattle.cob_entries.specs.Described.{Described};
+ghost use Rattle.cob_names.specs.Counts.{IsWholeNumber, MayCount, IsCount, IsCountOf, AreCounts, AreCountsOf, IsRefusedAmong, IsRefused};
+ghost use Rattle.cob_names.specs.Listed.{bearer_of, entry_of};
+
+use crate::bearer::{Bearer, list_bearers};
+use crate::lookup::only_named;
+use cob_entries::{BookFault, BookRule, Entry, Occurs, Qualified};
+use cob_picture::{Category, Picture};
+use cob_tree::Branch;
+use std::alloc::Global;
+use std::slice;
+
+/// Whether it is the picture of a whole number.
+fn is_whole_number(picture: &Picture) -> bool
+    ensures yes { IsTrue result → IsWholeNumber picture.now }
+    ensures must { IsWholeNumber picture.now → IsTrue result }
+{
+    picture.category() == Category::Numeric && picture.scale() == 0
+}
+
+/// Whether the entry may be a count.
+fn may_count(bearer: &Bearer) -> bool
+    ensures yes { IsTrue result → MayCount (bearer_of bearer.now) }
+    ensures must { MayCount (bearer_of bearer.now) → IsTrue result }
+{
+    match &bearer.entry.picture {
+        Some(picture) => is_whole_number(picture) && !bearer.in_table && !bearer.entry.blank,
+        None => false,
+    }
+}
+
+/// The number of the count that table `number` names.
+fn named_count(bearers: &[Bearer], number: usize, count: &Qualified) -> Option<usize>
+    ensures found { IfSome result (λ c. IsCount (map bearer_of bearers.now) number count.now.name count.now.qualifiers.items c) }
+    ensures only { (c : ℕ) → IsCount (map bearer_of bearers.now) number count.now.name count.now.qualifiers.items c → IsSomeAnd result (λ d. d ≡ c) }
+{
+    let bearer = only_named(bearers, count.name.as_bytes(), count.qualifiers.as_slice())?;
+    if may_count(bearer) && bearer.number < number {
+        Some(bearer.number)
+    } else {
+        None
+    }
+}
+
+/// The number of the count of entry `number`: 0 for one that doesn't vary.
+fn count_of(bearers: &[Bearer], number: usize, entry: &Entry) -> Result<usize, BookFault>
+    ensures found { IfOk result (λ c. IsCountOf (map bearer_of bearers.now) number (described entry.now).occurs c) }
+    ensures only { (c : ℕ) → IsCountOf (map bearer_of bearers.now) number (described entry.now).occurs c → IsOkAnd result (λ d. d ≡ c) }
+    ensures fault { IfErr result (λ f. f.rule ≡ Count) }
+{
+    match &entry.occurs {
+        Some(Occurs::Varying { count, .. }) => match named_count(bearers, number, count) {
+            Some(count) => Ok(count),
+            None => Err(BookFault {
+                rule: BookRule::Count,
+                line: entry.line,
+            }),
+        },
+        _ => Ok(0),
+    }
+}
+
+/// The number of each entry's count, in order.
+fn counts_of(alloc: Global, bearers: &[Bearer]) -> Result<Vec<usize>, BookFault>
+    ensures found { IfOk result (λ v. AreCounts (map bearer_of bearers.now) 0 (map entry_of bearers.now) v.items) }
+    ensures fault { IfErr result (λ f. IsRefusedAmong (map bearer_of bearers.now) f.rule (map entry_of bearers.now)) }
+{
+    let mut counts = Vec::new(alloc);
+    for (number, bearer) in bearers.iter().enumerate() {
+        let count = count_of(bearers, number, bearer.entry)?;
+        counts.push(count)?;
+    }
+    Ok(counts)
+}
+
+/// The number of each table's count, at the table's own number; 0 for the other entries.
+///
+/// # Errors
+///
+/// B9 on the line of a table whose count is none, B19 where memory is refused.
+pub fn counts(alloc: Global, root: &Branch) -> Result<Vec<usize>, BookFault>
+    requires few { entries_in (forest_of (root.now ∷ [])) ≤ 65535 }
+    ensures found { IfOk result (λ v. AreCountsOf (forest_of (root.now ∷ [])) v.items) }
+    ensures only { (cs : List ℕ) → AreCountsOf (forest_of (root.now ∷ [])) cs → IfOk result (λ v. v.items ≡ cs) × IfErr result (λ f. f.rule ≡ Memory) }
+    ensures fault { IfErr result (λ f. IsRefused f.rule (forest_of (root.now ∷ []))) }
+{
+    let mut bearers = Vec::new(alloc);
+    list_bearers(alloc, &[], false, slice::from_ref(root), &mut bearers)?;
+    counts_of(alloc, bearers.as_slice())
+}
+
+/// A law: a tree has its counts in one way.
+pub fn one_list_of_counts()
+    ensures { (t : Forest Described) → (a b : List ℕ) → AreCountsOf t a → AreCountsOf t b → a ≡ b }
+{}

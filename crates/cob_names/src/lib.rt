@@ -1,0 +1,8 @@
+//! The counts that tables depend on.
+#![tactic(auto)]
+
+mod bearer;
+mod count;
+mod lookup;
+
+pub use count::{counts, one_list_of_counts};
