@@ -1,0 +1,6 @@
+pub mod BranchLemmas
+pub mod NodeLemmas
+pub mod Unique
+pub mod StandsForLemmas
+pub mod ResolvedLemmas
+pub mod LengthLemmas

@@ -1,0 +1,6 @@
+pub mod Forests
+pub mod Branches
+pub mod Nodes
+pub mod Resolving
+pub mod Lengths
+pub mod Laws
