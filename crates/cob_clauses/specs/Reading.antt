@@ -1,6 +1,7 @@
 -- What the readers of words say of the words that they leave; no public clause names it.
 use Rattle.std.specs.Prelude.{◌≡◌, ◌≢◌, ℕ, Bool, true, List, [], ◌∷◌, ◌++◌, Option, Some, None}
 use Rattle.cob_source.specs.Tokens.{Lexeme, lexemes}
+use Rattle.cob_source.specs.declared.token.Kind.TheVariants as kind
 use Rattle.cob_clauses.specs.declared.term.Term.{Term}
 use Rattle.cob_clauses.specs.declared.term.Term.TheVariants as term
 use Rattle.cob_clauses.specs.declared.clause.ClauseKind.{ClauseKind}
@@ -64,3 +65,8 @@ clause_of phrase.Blank = Blank
 -- the clause stands at the front of the words, before these
 abbrev pub Stands : Clause → List Lexeme → List Lexeme → Type 0
 Stands c words more = (ws : List Lexeme) × Spells c ws × (words ≡ ws ++ more)
+
+-- nothing is left, or a Stop comes first
+abbrev pub StopFirst : List Lexeme → Type 0
+StopFirst [] = Unit {0}
+StopFirst (w ∷ ws) = w.kind ≡ kind.Stop

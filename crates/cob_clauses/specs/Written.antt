@@ -4,12 +4,12 @@ use Rattle.cob_source.specs.Tokens.{Lexeme, lexemes}
 use Rattle.cob_clauses.specs.declared.kinds.Usage.{Usage}
 use Rattle.cob_clauses.specs.declared.kinds.Sign.{Sign}
 use Rattle.cob_clauses.specs.declared.kinds.Figurative.{Figurative}
-use Rattle.cob_clauses.specs.declared.written.Constant.{Constant}
-use Rattle.cob_clauses.specs.declared.written.Constant.TheVariants as constant
-use Rattle.cob_clauses.specs.declared.written.Count.{Count}
-use Rattle.cob_clauses.specs.declared.written.Table.{Table}
-use Rattle.cob_clauses.specs.declared.written.Clauses.{Clauses}
-use Rattle.cob_clauses.specs.declared.written.Written.{Written}
+use Rattle.cob_clauses.specs.declared.parts.Constant.{Constant}
+use Rattle.cob_clauses.specs.declared.parts.Constant.TheVariants as constant
+use Rattle.cob_clauses.specs.declared.parts.Count.{Count}
+use Rattle.cob_clauses.specs.declared.parts.Table.{Table}
+use Rattle.cob_clauses.specs.declared.parts.Clauses.{Clauses}
+use Rattle.cob_clauses.specs.declared.parts.Written.{Written}
 
 -- the constant of a VALUE clause: a word, a literal's characters, a figurative constant, or ALL and a literal's characters
 pub data WrittenConstant : Type 0 where

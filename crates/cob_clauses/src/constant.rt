@@ -8,7 +8,7 @@ ghost use Rattle.std.specs.Prelude.{◌++◌, ◌∷◌, ◌≡◌, IfSome, IsSo
 use crate::kinds::Figurative;
 use crate::term::{Term, term_of};
 use crate::words::{behind, free_at, is_literal};
-use crate::written::Constant;
+use crate::parts::Constant;
 use cob_source::Token;
 
 /// The figurative constant that a word is.

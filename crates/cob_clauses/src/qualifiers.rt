@@ -8,7 +8,7 @@ ghost use Rattle.std.specs.Prelude.{◌++◌, ◌∷◌, ◌≡◌, IfSome, IsSo
 
 use crate::term::Term;
 use crate::words::{behind, is_name_word, other_word_at, skip};
-use crate::written::Count;
+use crate::parts::Count;
 use cob_source::Token;
 
 /// The words behind the name in front.

@@ -12,7 +12,7 @@ ghost use Rattle.std.specs.Prelude.{
 use crate::qualifiers::{count_at, names_at};
 use crate::term::Term;
 use crate::words::{behind, free_at, skip};
-use crate::written::{Count, Table};
+use crate::parts::{Count, Table};
 use cob_source::Token;
 
 /// ASCENDING or DESCENDING KEY IS and names: what is behind them.
