@@ -1,0 +1,3 @@
+pub mod AreaLemmas
+pub mod FittingLemmas
+pub mod NodeLemmas

@@ -1,0 +1,5 @@
+pub mod Areas
+pub mod Fitting
+pub mod Rules
+pub mod Short
+pub mod Values
