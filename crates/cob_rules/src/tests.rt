@@ -2,18 +2,19 @@
 
 use crate::judged;
 use cob_clauses::{Sign, Usage};
-use cob_entries::{BookFault, BookRule, Entry, Occurs};
+use cob_entries::{BookFault, BookRule, Entry, Name, Occurs, Qualified};
 use cob_picture::Picture;
 use cob_tree::Branch;
 use std::alloc::Global;
 use std::test::Fail;
 
-/// Some clauses of an entry. An empty picture is none.
+/// Some clauses of an entry. An empty picture is none. A table with a least number varies from that.
 #[derive(Clone, Copy)]
 struct Clauses {
     picture: &'static [u8],
     usage: Option<Usage>,
     sign: Option<Sign>,
+    least: Option<u32>,
     occurs: Option<u32>,
     justified: bool,
     blank: bool,
@@ -24,6 +25,7 @@ const GROUP: Clauses = Clauses {
     picture: b"",
     usage: None,
     sign: None,
+    least: None,
     occurs: None,
     justified: false,
     blank: false,
@@ -48,8 +50,29 @@ fn used(picture: &'static [u8], usage: Usage) -> Clauses {
     }
 }
 
+/// The OCCURS clause.
+fn occurs(alloc: Global, clauses: Clauses) -> Option<Occurs> {
+    let most = clauses.occurs?;
+    Some(match clauses.least {
+        None => Occurs::Fixed(most),
+        Some(least) => Occurs::Varying {
+            least,
+            most,
+            count: Qualified {
+                name: Name::from_characters(b"N"),
+                qualifiers: Vec::new(alloc),
+            },
+        },
+    })
+}
+
 /// An entry that stands on the line `level`, with those beneath it.
-fn branch(level: u8, clauses: Clauses, children: Vec<Branch>) -> Result<Branch, Fail> {
+fn branch(
+    alloc: Global,
+    level: u8,
+    clauses: Clauses,
+    children: Vec<Branch>,
+) -> Result<Branch, Fail> {
     let picture = if clauses.picture.is_empty() {
         None
     } else {
@@ -63,7 +86,7 @@ fn branch(level: u8, clauses: Clauses, children: Vec<Branch>) -> Result<Branch, 
         picture,
         usage: clauses.usage,
         sign: clauses.sign,
-        occurs: clauses.occurs.map(Occurs::Fixed),
+        occurs: occurs(alloc, clauses),
         value: None,
         justified: clauses.justified,
         blank: clauses.blank,
@@ -76,11 +99,16 @@ fn chain(alloc: Global, entries: &[Clauses]) -> Result<Branch, Fail> {
     let mut level = u8::try_from(entries.len()).unwrap_or(u8::MAX);
     let mut children = Vec::new(alloc);
     for clauses in entries.iter().skip(1).rev() {
-        let child = branch(level, *clauses, children)?;
+        let child = branch(alloc, level, *clauses, children)?;
         children = vec![in alloc; child]?;
         level = level.saturating_sub(1);
     }
-    branch(1, entries.first().copied().unwrap_or(GROUP), children)
+    branch(
+        alloc,
+        1,
+        entries.first().copied().unwrap_or(GROUP),
+        children,
+    )
 }
 
 /// What is wrong with such a record: the rule that it breaks, and the line.
@@ -203,6 +231,43 @@ fn tables(rt: HostRuntime) -> Result<(), Fail> {
 }
 
 #[test]
+fn tables_that_vary(rt: HostRuntime) -> Result<(), Fail> {
+    let alloc = rt.alloc();
+    let varying = Clauses {
+        least: Some(0),
+        occurs: Some(1),
+        ..item(b"X")
+    };
+    let fixed = Clauses {
+        least: Some(2),
+        occurs: Some(2),
+        ..item(b"X")
+    };
+    let table = Clauses {
+        picture: b"",
+        ..varying
+    };
+    assert!(rt; fault(alloc, &[GROUP, varying])? == None);
+    assert!(rt; fault(alloc, &[GROUP, fixed])? == at(BookRule::Table, 2));
+    assert!(rt; fault(alloc, &[varying])? == at(BookRule::Table, 1));
+    assert!(rt;
+        fault(
+            alloc,
+            &[GROUP, table, table, table, table, table, table, varying]
+        )? == None
+    );
+    assert!(rt;
+        fault(
+            alloc,
+            &[
+                GROUP, table, table, table, table, table, table, table, varying
+            ]
+        )? == at(BookRule::Table, 9)
+    );
+    Ok(())
+}
+
+#[test]
 fn tables_side_by_side(rt: HostRuntime) -> Result<(), Fail> {
     let alloc = rt.alloc();
     let mut tables = Vec::new(alloc);
@@ -211,9 +276,9 @@ fn tables_side_by_side(rt: HostRuntime) -> Result<(), Fail> {
             occurs: Some(2),
             ..item(b"X")
         };
-        tables.push(branch(level, clauses, Vec::new(alloc))?)?;
+        tables.push(branch(alloc, level, clauses, Vec::new(alloc))?)?;
     }
-    assert!(rt; judged(&branch(1, GROUP, tables)?) == Ok(()));
+    assert!(rt; judged(&branch(alloc, 1, GROUP, tables)?) == Ok(()));
     Ok(())
 }
 

@@ -1,17 +1,17 @@
 use Rattle.std.proofs.Common.{sym, subst, arith, refl}
 use Rattle.cob_rules.specs.Tables.{AreTables}
-use Rattle.cob_rules.proofs.Branches.{forest_at}
+use Rattle.cob_rules.proofs.Branches.{forest_from}
 use Rattle.cob_rules.proofs.tables.+wrong_table.Goals as goal
 
 pub returns-in-Some-clause-must : goal.returns-in-Some-clause-must
 returns-in-Some-clause-must t c = λ h.
-    let at = forest_at c.args.branches.now c.loop-branch.branch-index c.branch-item.result (omega arith) c.branch-item.is in
+    let at = forest_from c.args.branches.now c.loop-branch.branch-index c.branch-item.result (omega arith) c.branch-item.is in
     let all = subst (AreTables c.args.dimensions) at (c.loop-branch.invariant.whole h) in
     c.in-Some.ensures.must (rw (c.as_slice.ensures.value, c.dimension.ensures.value) all.3)
 
 pub loop-branch-preserved : goal.loop-branch-preserved
 loop-branch-preserved t c =
-    let at = forest_at c.args.branches.now c.loop-branch.branch-index c.branch-item.result (omega arith) c.branch-item.is in
+    let at = forest_from c.args.branches.now c.loop-branch.branch-index c.branch-item.result (omega arith) c.branch-item.is in
     record {
       left = λ h. c.loop-branch.invariant.left (subst (AreTables c.args.dimensions) (sym at) (
         c.is_possible.ensures.yes c.if-not-is_possible.false,
