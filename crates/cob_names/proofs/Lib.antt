@@ -1,4 +1,6 @@
 pub mod Branches
-pub mod Qualifiers
+pub mod Qualifying
 pub mod OnlyOnes
 pub mod Counting
+pub mod Links
+pub mod Walks

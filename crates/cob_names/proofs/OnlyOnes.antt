@@ -1,10 +1,6 @@
 -- The only one of a list that is so.
-use Rattle.std.proofs.Common.{◌≡◌, ℕ, ◌+◌, List, [], ◌∷◌, Option, Some, None, is_some, IfSome, true, refl, sym, ap, subst, ◌∙◌, inl, inr}
-use Rattle.std.specs.Borrow.{Bor}
-use Rattle.std.specs.Option.{option_map}
+use Rattle.std.proofs.Common.{◌≡◌, ℕ, ◌+◌, List, [], ◌∷◌, Option, Some, None, sym, ap, ◌∙◌, inl, inr}
 use Rattle.cob_entries.specs.Described.{Described, Times, Fixed, Varying}
-use Rattle.cob_names.specs.declared.bearer.Bearer.{Bearer as Listed}
-use Rattle.cob_names.specs.Listed.{bearer_of}
 use Rattle.cob_names.specs.Bearers.{Bearer, Names, NoneIs, IsOnlyOne}
 use Rattle.cob_names.specs.Counts.{IsCount, IsCountOf, AreCounts}
 
@@ -38,33 +34,3 @@ one_list all n (e ∷ es) a b x y =
 abbrev pub OnlyWith : (Bearer → Type 0) → Option Bearer → List Bearer → Bearer → Type 0
 OnlyWith is None rest b = IsOnlyOne is rest b
 OnlyWith is (Some c) rest b = (c ≡ b) × is c × NoneIs is rest
-
--- the next one isn't so
-pub pass : (is : Bearer → Type 0) (found : Option Bearer) (c : Bearer) (rest : List Bearer) (b : Bearer) → (is c → ⊥) → OnlyWith is found rest b → OnlyWith is found (c ∷ rest) b
-pass is None c rest b ne h = inr (ne, h)
-pass is (Some d) c rest b ne h = (h.0, h.1, (ne, h.2))
-
-pub passed : (is : Bearer → Type 0) (found : Option Bearer) (c : Bearer) (rest : List Bearer) (b : Bearer) → (is c → ⊥) → OnlyWith is found (c ∷ rest) b → OnlyWith is found rest b
-passed is None c rest b ne h = elim h [ inl w ↦ absurd (ne w.1) | inr w ↦ w.1 ]
-passed is (Some d) c rest b ne h = (h.0, h.1, h.2.1)
-
--- the next one is so, and none was before
-pub meet : (is : Bearer → Type 0) (found : Option Bearer) (c : Bearer) (rest : List Bearer) (b : Bearer) → found ≡ None → OnlyWith is (Some c) rest b → OnlyWith is found (c ∷ rest) b
-meet is None c rest b e h = inl h
-meet is (Some d) c rest b e h = absurd cc
-
-pub met : (is : Bearer → Type 0) (found : Option Bearer) (c : Bearer) (rest : List Bearer) (b : Bearer) → found ≡ None → is c → OnlyWith is found (c ∷ rest) b → OnlyWith is (Some c) rest b
-met is None c rest b e i h = elim h [ inl w ↦ w | inr w ↦ absurd (w.0 i) ]
-met is (Some d) c rest b e i h = absurd cc
-
--- the next one is so, and one was before
-pub second : (is : Bearer → Type 0) (found : Option Bearer) (c : Bearer) (rest : List Bearer) (b : Bearer) → is_some found ≡ true → is c → OnlyWith is found (c ∷ rest) b → ⊥
-second is None c rest b e i h = absurd cc
-second is (Some d) c rest b e i h = h.2.0 i
-
--- nothing is left to look at
-pub all_looked : (is : Bearer → Type 0) (all : List Bearer) (found : Option (Bor Listed)) (rest : List Bearer) → rest ≡ []
-    → ((b : Bearer) → OnlyWith is (option_map (λ (r : Bor Listed). bearer_of r.now) found) rest b → IsOnlyOne is all b)
-    → IfSome found (λ r. is (bearer_of r.now)) → IfSome found (λ r. IsOnlyOne is all (bearer_of r.now))
-all_looked is all None rest e h i = tt
-all_looked is all (Some r) rest e h i = h (bearer_of r.now) (refl, i, subst (NoneIs is) (sym e) tt)

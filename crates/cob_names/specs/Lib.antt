@@ -1,3 +1,4 @@
 pub mod Bearers
 pub mod Listed
+pub mod Links
 pub mod Counts

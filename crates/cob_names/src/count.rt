@@ -8,7 +8,7 @@ ghost use Rattle.cob_names.specs.Counts.{IsWholeNumber, MayCount, IsCount, IsCou
 ghost use Rattle.cob_names.specs.Listed.{bearer_of, entry_of};
 
 use crate::bearer::{Bearer, list_bearers};
-use crate::lookup::only_named;
+use crate::directory::Directory;
 use cob_entries::{BookFault, BookRule, Entry, Occurs, Qualified};
 use cob_picture::{Category, Picture};
 use cob_tree::Branch;
@@ -35,11 +35,11 @@ fn may_count(bearer: &Bearer) -> bool
 }
 
 /// The number of the count that table `number` names.
-fn named_count(bearers: &[Bearer], number: usize, count: &Qualified) -> Option<usize>
-    ensures found { IfSome result (λ c. IsCount (map bearer_of bearers.now) number count.now.name count.now.qualifiers.items c) }
-    ensures only { (c : ℕ) → IsCount (map bearer_of bearers.now) number count.now.name count.now.qualifiers.items c → IsSomeAnd result (λ d. d ≡ c) }
+fn named_count(directory: &Directory, number: usize, count: &Qualified) -> Option<usize>
+    ensures found { IfSome result (λ c. IsCount (map bearer_of directory.now.bearers.now) number count.now.name count.now.qualifiers.items c) }
+    ensures only { (c : ℕ) → IsCount (map bearer_of directory.now.bearers.now) number count.now.name count.now.qualifiers.items c → IsSomeAnd result (λ d. d ≡ c) }
 {
-    let bearer = only_named(bearers, count.name.as_bytes(), count.qualifiers.as_slice())?;
+    let bearer = directory.only_named(count.name.as_bytes(), count.qualifiers.as_slice())?;
     if may_count(bearer) && bearer.number < number {
         Some(bearer.number)
     } else {
@@ -48,13 +48,13 @@ fn named_count(bearers: &[Bearer], number: usize, count: &Qualified) -> Option<u
 }
 
 /// The number of the count of entry `number`: 0 for one that doesn't vary.
-fn count_of(bearers: &[Bearer], number: usize, entry: &Entry) -> Result<usize, BookFault>
-    ensures found { IfOk result (λ c. IsCountOf (map bearer_of bearers.now) number (described entry.now).occurs c) }
-    ensures only { (c : ℕ) → IsCountOf (map bearer_of bearers.now) number (described entry.now).occurs c → IsOkAnd result (λ d. d ≡ c) }
+fn count_of(directory: &Directory, number: usize, entry: &Entry) -> Result<usize, BookFault>
+    ensures found { IfOk result (λ c. IsCountOf (map bearer_of directory.now.bearers.now) number (described entry.now).occurs c) }
+    ensures only { (c : ℕ) → IsCountOf (map bearer_of directory.now.bearers.now) number (described entry.now).occurs c → IsOkAnd result (λ d. d ≡ c) }
     ensures fault { IfErr result (λ f. f.rule ≡ Count) }
 {
     match &entry.occurs {
-        Some(Occurs::Varying { count, .. }) => match named_count(bearers, number, count) {
+        Some(Occurs::Varying { count, .. }) => match named_count(directory, number, count) {
             Some(count) => Ok(count),
             None => Err(BookFault {
                 rule: BookRule::Count,
@@ -66,13 +66,13 @@ fn count_of(bearers: &[Bearer], number: usize, entry: &Entry) -> Result<usize, B
 }
 
 /// The number of each entry's count, in order.
-fn counts_of(alloc: Global, bearers: &[Bearer]) -> Result<Vec<usize>, BookFault>
-    ensures found { IfOk result (λ v. AreCounts (map bearer_of bearers.now) 0 (map entry_of bearers.now) v.items) }
-    ensures fault { IfErr result (λ f. IsRefusedAmong (map bearer_of bearers.now) f.rule (map entry_of bearers.now)) }
+fn counts_of(alloc: Global, directory: &Directory) -> Result<Vec<usize>, BookFault>
+    ensures found { IfOk result (λ v. AreCounts (map bearer_of directory.now.bearers.now) 0 (map entry_of directory.now.bearers.now) v.items) }
+    ensures fault { IfErr result (λ f. IsRefusedAmong (map bearer_of directory.now.bearers.now) f.rule (map entry_of directory.now.bearers.now)) }
 {
     let mut counts = Vec::new(alloc);
-    for (number, bearer) in bearers.iter().enumerate() {
-        let count = count_of(bearers, number, bearer.entry)?;
+    for (number, bearer) in directory.bearers.iter().enumerate() {
+        let count = count_of(directory, number, bearer.entry)?;
         counts.push(count)?;
     }
     Ok(counts)
@@ -91,7 +91,8 @@ pub fn counts(alloc: Global, root: &Branch) -> Result<Vec<usize>, BookFault>
 {
     let mut bearers = Vec::new(alloc);
     list_bearers(alloc, &[], false, slice::from_ref(root), &mut bearers)?;
-    counts_of(alloc, bearers.as_slice())
+    let directory = Directory::new(alloc, bearers.as_slice())?;
+    counts_of(alloc, &directory)
 }
 
 /// A law: a tree has its counts in one way.

@@ -3,6 +3,7 @@
 
 mod bearer;
 mod count;
-mod lookup;
+mod directory;
+mod qualifiers;
 
 pub use count::{counts, one_list_of_counts};

@@ -5,6 +5,6 @@ use Rattle.cob_names.proofs.count.counts_of.Given as goal
 
 abbrev pub invariant-loop-number : goal.invariant-loop-number
 invariant-loop-number l = record {
-  left : (cs : List ℕ) → AreCounts (map bearer_of l.bearers) l.number (map entry_of (drop l.number l.bearers)) cs → AreCounts (map bearer_of l.bearers) 0 (map entry_of l.bearers) (l.counts.items ++ cs);
-  whole : (cs : List ℕ) → AreCounts (map bearer_of l.bearers) 0 (map entry_of l.bearers) cs → (more : List ℕ) × (cs ≡ l.counts.items ++ more) × AreCounts (map bearer_of l.bearers) l.number (map entry_of (drop l.number l.bearers)) more;
+  left : (cs : List ℕ) → AreCounts (map bearer_of l.directory.bearers.now) l.number (map entry_of (drop l.number l.directory.bearers.now)) cs → AreCounts (map bearer_of l.directory.bearers.now) 0 (map entry_of l.directory.bearers.now) (l.counts.items ++ cs);
+  whole : (cs : List ℕ) → AreCounts (map bearer_of l.directory.bearers.now) 0 (map entry_of l.directory.bearers.now) cs → (more : List ℕ) × (cs ≡ l.counts.items ++ more) × AreCounts (map bearer_of l.directory.bearers.now) l.number (map entry_of (drop l.number l.directory.bearers.now)) more;
 }

@@ -1,7 +1,7 @@
 use Rattle.std.proofs.Common.{drop}
 use Rattle.cob_names.specs.Bearers.{Qualify}
 use Rattle.cob_names.specs.Listed.{texts}
-use Rattle.cob_names.proofs.lookup.qualify.Given as goal
+use Rattle.cob_names.proofs.qualifiers.qualify.Given as goal
 
 abbrev pub invariant-loop-name : goal.invariant-loop-name
 invariant-loop-name l = record {

@@ -1,8 +1,8 @@
 use Rattle.std.proofs.Common.{◌≡◌, ap, length, eq-eqb, ◌∙◌}
 use Rattle.std.proofs.lemmas.List.{drop_all}
 use Rattle.cob_names.specs.Listed.{texts}
-use Rattle.cob_names.proofs.Qualifiers.{none_left}
-use Rattle.cob_names.proofs.lookup.qualify.Goals as goal
+use Rattle.cob_names.proofs.Qualifying.{none_left}
+use Rattle.cob_names.proofs.qualifiers.qualify.Goals as goal
 
 pub returns-clause-must : goal.returns-clause-must
 returns-clause-must c = λ h.

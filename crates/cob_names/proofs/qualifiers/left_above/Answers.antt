@@ -1,6 +1,6 @@
 use Rattle.std.proofs.Common.{◌≡◌, true, false, refl}
-use Rattle.cob_names.proofs.Qualifiers.{below, take_enough, take_must, skip_must}
-use Rattle.cob_names.proofs.lookup.left_above.Goals as goal
+use Rattle.cob_names.proofs.Qualifying.{below, take_enough, take_must, skip_must}
+use Rattle.cob_names.proofs.qualifiers.left_above.Goals as goal
 
 pub returns-then-is_text : goal.returns-then-is_text
 returns-then-is_text c = record {
