@@ -1,0 +1,5 @@
+pub mod ForestLemmas
+pub mod PlaceLemmas
+pub mod BoundLemmas
+pub mod CoverLemmas
+pub mod CoverLaw

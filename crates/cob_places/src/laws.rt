@@ -1,0 +1,17 @@
+ghost use Rattle.std.specs.Prelude.{ℕ, List};
+ghost use Rattle.cob_tree.specs.Lengths.{most};
+ghost use Rattle.cob_places.specs.Lengths.{times};
+ghost use Rattle.cob_places.specs.Places.{EndInRecord};
+ghost use Rattle.cob_places.specs.Cover.{Covering, IsTimes};
+
+/// A place that is found ends within the record's greatest length.
+pub fn places_end_in_record()
+    ensures { EndInRecord }
+{}
+
+/// Each byte of a record is in exactly one occurrence of an item that stands in no redefinition.
+pub fn covering()
+    ensures covered { Covering }
+    ensures counted { (counts : List ℕ) → IsTimes (times counts) }
+    ensures greatest { IsTimes most }
+{}
