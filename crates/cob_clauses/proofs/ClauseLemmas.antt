@@ -1,13 +1,12 @@
 -- One clause: its words, and which clause begins with which word.
-use Rattle.std.proofs.Common.{◌≡◌, ◌≢◌, ℕ, Bool, true, false, List, [], ◌∷◌, ◌++◌, refl, sym, ap, ◌∙◌, subst, append_assoc, Option, Some, None}
+use Rattle.std.proofs.Common.{◌≡◌, ◌≢◌, ℕ, List, [], ◌∷◌, ◌++◌, refl, sym, ap, ◌∙◌, subst, append_assoc, Some, None}
 use Rattle.cob_source.specs.Tokens.{Lexeme}
-use Rattle.cob_clauses.specs.declared.clause.ClauseKind.{ClauseKind}
 use Rattle.cob_clauses.specs.declared.clause.ClauseKind.TheVariants as kind
 use Rattle.cob_clauses.specs.declared.kinds.Usage.{Usage}
 use Rattle.cob_clauses.specs.declared.kinds.Sign.{Sign}
 use Rattle.cob_clauses.specs.declared.term.Term.{Term}
 use Rattle.cob_clauses.specs.declared.term.Term.TheVariants as term
-use Rattle.cob_clauses.specs.Terms.{term_of, term_of_kind}
+use Rattle.cob_clauses.specs.Terms.{term_of_kind}
 use Rattle.cob_clauses.specs.Written.{WrittenConstant, Word, Quoted, Figure, Repeated, WrittenTable}
 use Rattle.cob_clauses.specs.Clauses.{IsConstant, figurative_of, Clause, Redefines, Picture, Stored, Signed, Occurs, Value, Justified, Blank}
 use Rattle.cob_clauses.specs.Reading.{NotFirst, kind_of}

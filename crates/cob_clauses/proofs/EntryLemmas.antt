@@ -1,5 +1,5 @@
 -- The loop over the clauses of an entry.
-use Rattle.std.proofs.Common.{◌≡◌, ◌≢◌, ℕ, ◌<◌, Bool, true, false, List, [], ◌∷◌, ◌++◌, length, refl, sym, ap, ◌∙◌, subst, arith, Option, Some, None, is_some}
+use Rattle.std.proofs.Common.{◌≡◌, ℕ, ◌<◌, Bool, true, List, [], ◌∷◌, ◌++◌, length, refl, sym, ap, ◌∙◌, subst, arith, Option, Some}
 use Rattle.std.proofs.lemmas.List.{length-append, length-map}
 use Rattle.cob_source.specs.declared.token.Token.{Token}
 use Rattle.cob_source.specs.Tokens.{Lexeme, lexeme, lexemes}
@@ -10,7 +10,7 @@ use Rattle.cob_clauses.specs.Terms.{term_of}
 use Rattle.cob_clauses.specs.Written.{WrittenClauses, WrittenEntry}
 use Rattle.cob_clauses.specs.Clauses.{usage_of, leading_of, Clause, Redefines, Picture, Stored, Signed, Occurs, Value, Justified, Blank, Spells}
 use Rattle.cob_clauses.specs.Entries.{IsAbsent, put, Says, End, Then, starts_clause}
-use Rattle.cob_clauses.specs.Reading.{ClauseFirst, Stands, kind_at}
+use Rattle.cob_clauses.specs.Reading.{ClauseFirst, Stands}
 
 -- what the rest says is what the whole says
 pub record SoFar (words rest : List Lexeme) (start now : WrittenClauses) : Type 0 where

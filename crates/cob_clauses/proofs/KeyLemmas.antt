@@ -1,14 +1,13 @@
 -- The keys and indexes of a table, and its parts.
-use Rattle.std.proofs.Common.{◌≡◌, ◌≢◌, ℕ, Bool, true, false, List, [], ◌∷◌, ◌++◌, refl, sym, ap, ◌∙◌, subst, append_assoc, inl, inr, Option, Some, None}
+use Rattle.std.proofs.Common.{◌≡◌, ◌≢◌, ℕ, true, false, List, [], ◌∷◌, ◌++◌, refl, sym, ap, ◌∙◌, subst, append_assoc, inl, inr, Option, Some, None}
 use Rattle.cob_source.specs.Tokens.{Lexeme}
 use Rattle.cob_clauses.specs.declared.term.Term.{Term}
 use Rattle.cob_clauses.specs.declared.term.Term.TheVariants as term
 use Rattle.cob_clauses.specs.Terms.{term_of}
 use Rattle.cob_clauses.specs.Written.{WrittenName, WrittenTable}
-use Rattle.cob_clauses.specs.Clauses.{Noise, AreNames, AreKeys, AreIndexes, Indexes, Keyed, IsTable, IsVaried, IsCount, IsLeast, IsFree}
+use Rattle.cob_clauses.specs.Clauses.{Noise, AreNames, AreKeys, Indexes, Keyed, IsTable, IsVaried, IsLeast, IsFree}
 use Rattle.cob_clauses.specs.Entries.{starts_clause}
 use Rattle.cob_clauses.specs.Reading.{NotFirst, ClauseFirst}
-use Rattle.cob_clauses.proofs.TableLemmas.{names_first}
 
 -- a word that begins no clause doesn't come first where one may begin
 pub clause_not_first : (t : Term) (ws : List Lexeme) → starts_clause t ≡ false → ClauseFirst ws → NotFirst t ws
@@ -74,8 +73,8 @@ pub ordered_goes : (words rest more : List Lexeme) → OrderedSoFar words rest
 ordered_goes words rest more so (k, key, is, names, ik, n1, n2, are, e) only = record {
   found = λ ws after keys f. so.found (k ∷ (key ++ (is ++ (names ++ ws)))) after (Keyed k key is names ik n1 n2 are refl keys) (key_words k rest key is names more ws after e f);
   only = λ ws after keys first f.
-    let (vs, kv, g) = so.only ws after keys first f in
-    ordered_left k rest (key ++ (is ++ (names ++ more))) more vs after ik e only first g kv;
+      let (vs, kv, g) = so.only ws after keys first f in
+      ordered_left k rest (key ++ (is ++ (names ++ more))) more vs after ik e only first g kv;
 }
 
 pub ordered_begins : (words : List Lexeme) → OrderedSoFar words words
@@ -158,12 +157,20 @@ table_assoc least times count keys more most =
 
 pub table_parts : (t : WrittenTable) (words ws more : List Lexeme) → IsTable t ws → ClauseFirst more → words ≡ ws ++ more → TableParts t words more
 table_parts t words ws more is first e = record {
-  least = is.least; most = is.most; times = is.times; count = is.count; keys = is.keys;
-  least_is = is.least_is; most_is = is.most_is; noise = is.noise; varied = is.varied; keyed = is.keyed;
+  least = is.least;
+  most = is.most;
+  times = is.times;
+  count = is.count;
+  keys = is.keys;
+  least_is = is.least_is;
+  most_is = is.most_is;
+  noise = is.noise;
+  varied = is.varied;
+  keyed = is.keyed;
   words_are = e ∙ ap (λ t. t ++ more) is.words ∙ table_assoc is.least is.times is.count is.keys more is.most;
   no_to = noise_not_first term.To term.Times is.times (is.count ++ (is.keys ++ more)) is.noise (λ h. cc)
       (count_not_first term.To t.count t.least is.count (is.keys ++ more) (λ h. cc) is.varied
-        (keys_not_first term.To is.keys more (record { no_clause = refl; no_order = λ h. cc; no_index = λ h. cc }) is.keyed first));
+      (keys_not_first term.To is.keys more (record { no_clause = refl; no_order = λ h. cc; no_index = λ h. cc }) is.keyed first));
   no_times = count_not_first term.Times t.count t.least is.count (is.keys ++ more) (λ h. cc) is.varied
       (keys_not_first term.Times is.keys more (record { no_clause = refl; no_order = λ h. cc; no_index = λ h. cc }) is.keyed first);
   no_depending = keys_not_first term.Depending is.keys more (record { no_clause = refl; no_order = λ h. cc; no_index = λ h. cc }) is.keyed first;

@@ -5,3 +5,4 @@ pub mod KeyLemmas
 pub mod ClauseLemmas
 pub mod EntryLemmas
 pub mod SentenceLemmas
+pub mod CutLemmas

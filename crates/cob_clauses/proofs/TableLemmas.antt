@@ -1,5 +1,5 @@
 -- Names, qualifiers and keys one after another.
-use Rattle.std.proofs.Common.{◌≡◌, ◌≢◌, ℕ, ◌+◌, ◌<◌, ◌≤◌, ◌-◌, Bool, true, false, List, [], ◌∷◌, ◌++◌, length, take, refl, sym, ap, ◌∙◌, subst, append_assoc, append-nil, arith, inl, inr}
+use Rattle.std.proofs.Common.{◌≡◌, ◌≢◌, ℕ, ◌+◌, ◌≤◌, ◌-◌, List, [], ◌∷◌, ◌++◌, length, take, refl, sym, ap, ◌∙◌, subst, append_assoc, append-nil, arith}
 use Rattle.std.proofs.lemmas.List.{take-map, length-map, length-append}
 use Rattle.std.proofs.Math.Seq.{take-append_seam}
 use Rattle.std.specs.List.{AllByRecursion}
@@ -9,9 +9,8 @@ use Rattle.cob_clauses.specs.declared.term.Term.{Term}
 use Rattle.cob_clauses.specs.declared.term.Term.TheVariants as term
 use Rattle.cob_clauses.specs.Terms.{term_of, term_of_kind}
 use Rattle.cob_clauses.specs.Written.{WrittenName}
-use Rattle.cob_clauses.specs.Clauses.{Noise, IsNameWord, AreNames, AreQualifiers, AreKeys, AreIndexes, Indexes, Keyed}
-use Rattle.cob_clauses.specs.Entries.{starts_clause}
-use Rattle.cob_clauses.specs.Reading.{NotFirst, ClauseFirst}
+use Rattle.cob_clauses.specs.Clauses.{IsNameWord, AreNames, AreQualifiers}
+use Rattle.cob_clauses.specs.Reading.{NotFirst}
 
 -- a name isn't reserved
 pub name_plain : (w : Lexeme) → IsNameWord w → term_of w ≡ term.Plain
@@ -84,9 +83,9 @@ qualified_goes words rest more so (k, n, is, named, e) = record {
   are = qualifiers_more so.done (k ∷ (n ∷ [])) so.are (is, named, tt);
   words_are = so.words_are ∙ ap (λ t. so.done ++ t) e ∙ sym (append_assoc so.done (k ∷ (n ∷ [])) more);
   only = λ qs after all nf f.
-    let (left, al, g, h) = so.only qs after all nf f in
-    let (l, are, tail, is_left) = qualified_left k n more left after is nf (sym e ∙ g) al in
-    (l, are, tail, h ∙ ap (λ t. so.done ++ t) is_left ∙ sym (append_assoc so.done (k ∷ (n ∷ [])) l));
+      let (left, al, g, h) = so.only qs after all nf f in
+      let (l, are, tail, is_left) = qualified_left k n more left after is nf (sym e ∙ g) al in
+      (l, are, tail, h ∙ ap (λ t. so.done ++ t) is_left ∙ sym (append_assoc so.done (k ∷ (n ∷ [])) l));
 }
 
 none_left : (rest left after done : List Lexeme) → ((k n : Lexeme) (more : List Lexeme) → term_of k ≡ term.Of → IsNameWord n → rest ≡ k ∷ (n ∷ more) → ⊥) → rest ≡ left ++ after → AreQualifiers left → (rest ≡ after) × (done ≡ done ++ left)

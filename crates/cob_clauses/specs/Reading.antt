@@ -1,6 +1,6 @@
 -- What the readers of words say of the words that they leave; no public clause names it.
-use Rattle.std.specs.Prelude.{◌≡◌, ◌≢◌, ℕ, Bool, true, List, [], ◌∷◌, ◌++◌, Option, Some, None}
-use Rattle.cob_source.specs.Tokens.{Lexeme, lexemes}
+use Rattle.std.specs.Prelude.{◌≡◌, ◌≢◌, true, List, [], ◌∷◌, ◌++◌, Option, Some, None}
+use Rattle.cob_source.specs.Tokens.{Lexeme}
 use Rattle.cob_source.specs.declared.token.Kind.TheVariants as kind
 use Rattle.cob_clauses.specs.declared.term.Term.{Term}
 use Rattle.cob_clauses.specs.declared.term.Term.TheVariants as term

@@ -1,5 +1,5 @@
 -- Entries as they are written, without where their texts lie in memory.
-use Rattle.std.specs.Prelude.{ℕ, Bool, List, [], ◌∷◌, Option, Some, None, option_map}
+use Rattle.std.specs.Prelude.{ℕ, Bool, List, [], ◌∷◌, Option, option_map}
 use Rattle.cob_source.specs.Tokens.{Lexeme, lexemes}
 use Rattle.cob_clauses.specs.declared.kinds.Usage.{Usage}
 use Rattle.cob_clauses.specs.declared.kinds.Sign.{Sign}
@@ -66,14 +66,14 @@ written_table t = record { least = option_map (λ b. b.now) t.least; most = t.mo
 
 abbrev pub written_clauses : Clauses → WrittenClauses
 written_clauses c = record {
-    redefines = option_map (λ b. b.now) c.redefines;
-    picture = option_map (λ b. b.now) c.picture;
-    usage = c.usage;
-    sign = c.sign;
-    occurs = option_map written_table c.occurs;
-    value = option_map written_constant c.value;
-    justified = c.justified;
-    blank = c.blank;
+  redefines = option_map (λ b. b.now) c.redefines;
+  picture = option_map (λ b. b.now) c.picture;
+  usage = c.usage;
+  sign = c.sign;
+  occurs = option_map written_table c.occurs;
+  value = option_map written_constant c.value;
+  justified = c.justified;
+  blank = c.blank;
 }
 
 abbrev pub written_entry : Written → WrittenEntry

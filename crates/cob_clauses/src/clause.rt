@@ -1,20 +1,39 @@
 ghost use Rattle.cob_clauses.specs.Clauses.{
-    Blank, Clause, IsSeparate, Justified, Occurs, Picture, Redefines, Signed, Spells, Stored,
-    Value, leading_of, usage_of,
+  Blank,
+  Clause,
+  IsSeparate,
+  Justified,
+  Occurs,
+  Picture,
+  Redefines,
+  Signed,
+  Spells,
+  Stored,
+  Value,
+  leading_of,
+  usage_of,
 };
 ghost use Rattle.cob_clauses.specs.Reading.{ClauseFirst, Stands, clause_of, kind_at, kind_of};
 ghost use Rattle.cob_clauses.specs.Written.{WrittenConstant, WrittenTable};
 ghost use Rattle.cob_source.specs.Tokens.{Lexeme, lexemes};
 ghost use Rattle.std.specs.Prelude.{
-    ◌++◌, ◌∷◌, ◌≡◌, Bool, IfSome, IsSomeAnd, List, Some, ℕ,
+  ◌++◌,
+  ◌∷◌,
+  ◌≡◌,
+  Bool,
+  IfSome,
+  IsSomeAnd,
+  List,
+  Some,
+  ℕ,
 };
 
 use crate::constant::constant_at;
 use crate::kinds::{Sign, Usage};
+use crate::parts::{Constant, Table};
 use crate::table::table_at;
 use crate::term::{Term, term_of};
 use crate::words::{behind, other_word_at, skip, skip_is_or_are, skip_prefix, word_at};
-use crate::parts::{Constant, Table};
 use cob_source::Token;
 
 /// The kind of a clause.

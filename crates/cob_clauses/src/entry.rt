@@ -1,21 +1,41 @@
 ghost use Rattle.cob_clauses.specs.Clauses.{IsWord};
 ghost use Rattle.cob_clauses.specs.Entries.{
-    AreNamed, IsAbsent, IsWritten, Says, bare, put, starts_clause,
+  AreNamed,
+  IsAbsent,
+  IsWritten,
+  Says,
+  bare,
+  put,
+  starts_clause,
 };
 ghost use Rattle.cob_clauses.specs.Reading.{ClauseFirst, clause_of};
 ghost use Rattle.cob_clauses.specs.Terms.{term_of};
 ghost use Rattle.cob_clauses.specs.Written.{
-    WrittenClauses, WrittenEntry, written_clauses, written_entry,
+  WrittenClauses,
+  WrittenEntry,
+  written_clauses,
+  written_entry,
 };
 ghost use Rattle.cob_source.specs.Tokens.{Lexeme, lexeme, lexemes};
 ghost use Rattle.std.specs.Prelude.{
-    ◌++◌, ◌∷◌, ◌≡◌, ◌↔◌, IfSome, IsSomeAnd, IsTrue, List, Option, option_map, true, ℕ,
+  ◌++◌,
+  ◌∷◌,
+  ◌≡◌,
+  ◌↔◌,
+  IfSome,
+  IsSomeAnd,
+  IsTrue,
+  List,
+  Option,
+  option_map,
+  true,
+  ℕ,
 };
 
 use crate::clause::{Phrase, clause_at, kind_at};
+use crate::parts::{Clauses, Written};
 use crate::term::{Term, term_of};
 use crate::words::{is_term, is_word, word_at};
-use crate::parts::{Clauses, Written};
 use cob_source::Token;
 
 /// No clauses.
@@ -113,5 +133,9 @@ pub fn written(sentence: &[Token]) -> Option<Written<'_>>
     let (level, named) = word_at(sentence)?;
     let (name, more) = name_at(named)?;
     let clauses = clauses_of(more)?;
-    Some(Written { level, name, clauses })
+    Some(Written {
+        level,
+        name,
+        clauses,
+    })
 }

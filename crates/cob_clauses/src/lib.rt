@@ -1,20 +1,41 @@
-//! The clauses of record description entries, as they are written.
+//! The clauses of record description entries, as they are written (ANSI X3.23-1985, "Data description entry"; IBM
+//! Enterprise COBOL for z/OS, Language Reference, "Data division - data description entry").
+//!
+//! An entry of a copybook is the words between two periods: a level, a name or FILLER, and clauses in any order, each at
+//! most once. This crate says which words are reserved and what a name is, cuts a text's words into sentences, and reads
+//! one sentence into its clauses. What a picture, a number, a constant or a name means isn't looked at here.
+//!
+//! What is promised: `written` answers exactly the entry that the words of a sentence are (clause `found`), and `None` only
+//! for words that are no entry (`only`); so words are written as one entry at most. `condition` does the same for an entry
+//! of level 88, `is_condition` says which those are, and `left_out` names a word or a level that is left out by name
+//! (`found`), and `None` says that there is none (`none`); its answer fits 20 characters of ASCII (`short`, `ascii`).
+//! `sentence_at` cuts at the first Stop, and where it answers `None` there is no Stop (`none`); `sentences_cut` and
+//! `sentences_end` say that so all sentences of a text are found. `is_name` is true of exactly the names.
+//!
+//! The definitions stand in `specs/`: `Terms` has the tables of reserved words, `Names` what a name is, `Written` an entry
+//! without where its texts lie in memory, `Clauses` the words of each clause, `Entries` those of an entry, of level 88 and
+//! of what is left out, and the sentences of a text. `Reading` holds what the readers of words say to one another; no
+//! public clause names it. The crate stands on `cob_source` for its tokens.
 #![tactic(auto)]
 
 mod clause;
 mod constant;
 mod entry;
 mod kinds;
+mod laws;
 mod names;
 mod parts;
 mod qualifiers;
 mod sentence;
 mod table;
 mod term;
+#[cfg(test)]
+mod tests;
 mod words;
 
 pub use entry::written;
 pub use kinds::{Figurative, Sign, Usage};
+pub use laws::{sentences_cut, sentences_end};
 pub use names::{MAX_NAME, is_name};
 pub use parts::{Clauses, Constant, Count, Table, Written};
 pub use sentence::{condition, is_condition, left_out, sentence_at};

@@ -1,5 +1,9 @@
 ghost use Rattle.cob_clauses.specs.Names.{
-    IsName, BeginsAsName, EndsAsName, is_letter, is_name_character,
+  IsName,
+  BeginsAsName,
+  EndsAsName,
+  is_letter,
+  is_name_character,
 };
 ghost use Rattle.cob_clauses.specs.Terms.{term_of_word};
 ghost use Rattle.std.specs.List.{AllByRecursion, list_any};

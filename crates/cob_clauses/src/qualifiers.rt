@@ -6,9 +6,9 @@ ghost use Rattle.cob_source.specs.Tokens.{Lexeme, lexemes};
 ghost use Rattle.std.specs.List.{AllByRecursion};
 ghost use Rattle.std.specs.Prelude.{◌++◌, ◌∷◌, ◌≡◌, IfSome, IsSomeAnd, List, length, ◌≤◌};
 
+use crate::parts::Count;
 use crate::term::Term;
 use crate::words::{behind, is_name_word, other_word_at, skip};
-use crate::parts::Count;
 use cob_source::Token;
 
 /// The words behind the name in front.

@@ -1,13 +1,35 @@
 ghost use Rattle.cob_clauses.specs.Entries.{
-    HasNoStop, IsCondition, IsLeftOut, IsLeftOutLevel, IsLeftOutWord, is_condition, is_word_kind,
-    looked_at,
+  HasNoStop,
+  IsCondition,
+  IsLeftOut,
+  IsLeftOutLevel,
+  IsLeftOutWord,
+  is_condition,
+  is_word_kind,
+  looked_at,
 };
 ghost use Rattle.cob_clauses.specs.Reading.{StopFirst};
 ghost use Rattle.cob_source.specs.Tokens.{Lexeme, lexeme, lexemes};
 ghost use Rattle.cob_source.specs.declared.token.Kind.TheVariants as kind;
 ghost use Rattle.std.specs.List.{AllByRecursion};
 ghost use Rattle.std.specs.Prelude.{
-    ◌++◌, ◌∷◌, ◌≡◌, ◌↔◌, ◌<◌, ◌≤◌, ◌&&◌, IfNone, IfSome, IsSomeAnd, IsTrue, List, bytes_eq, drop, length, take, ℕ,
+  ◌++◌,
+  ◌∷◌,
+  ◌≡◌,
+  ◌↔◌,
+  ◌<◌,
+  ◌≤◌,
+  ◌&&◌,
+  IfNone,
+  IfSome,
+  IsSomeAnd,
+  IsTrue,
+  List,
+  bytes_eq,
+  drop,
+  length,
+  take,
+  ℕ,
 };
 
 use crate::term::Term;
@@ -79,7 +101,7 @@ pub fn condition(sentence: &[Token]) -> Option<&[u8]>
         return None;
     }
     let (name, more) = word_at(named)?;
-    let _values = behind(more, Term::Value)?;
+    behind(more, Term::Value)?;
     Some(name)
 }
 

@@ -1,18 +1,32 @@
 ghost use Rattle.cob_clauses.specs.Clauses.{
-    AreKeys, AreNames, IsFree, IsLeast, IsTable, IsVaried, Noise,
+  AreKeys,
+  AreNames,
+  IsFree,
+  IsLeast,
+  IsTable,
+  IsVaried,
+  Noise,
 };
 ghost use Rattle.cob_clauses.specs.Reading.{ClauseFirst, NotFirst};
 ghost use Rattle.cob_clauses.specs.Terms.{term_of};
 ghost use Rattle.cob_clauses.specs.Written.{WrittenName, WrittenTable, written_name, written_table};
 ghost use Rattle.cob_source.specs.Tokens.{Lexeme, lexemes};
 ghost use Rattle.std.specs.Prelude.{
-    ◌++◌, ◌∷◌, ◌≡◌, IfSome, IsSomeAnd, List, Option, option_map, ℕ,
+  ◌++◌,
+  ◌∷◌,
+  ◌≡◌,
+  IfSome,
+  IsSomeAnd,
+  List,
+  Option,
+  option_map,
+  ℕ,
 };
 
+use crate::parts::{Count, Table};
 use crate::qualifiers::{count_at, names_at};
 use crate::term::Term;
 use crate::words::{behind, free_at, skip};
-use crate::parts::{Count, Table};
 use cob_source::Token;
 
 /// ASCENDING or DESCENDING KEY IS and names: what is behind them.
@@ -64,7 +78,10 @@ fn limits_at(words: &[Token]) -> Option<(Option<&[u8]>, &[u8], &[Token])>
 }
 
 /// The count of a table that varies, and what is behind it; none for a table whose one number leaves none out.
-fn varied_at<'a>(words: &'a [Token], least: Option<&[u8]>) -> Option<(Option<Count<'a>>, &'a [Token])>
+fn varied_at<'a>(
+    words: &'a [Token],
+    least: Option<&[u8]>,
+) -> Option<(Option<Count<'a>>, &'a [Token])>
     ensures found { IfSome result (λ r. (ws : List Lexeme) × IsVaried (option_map written_name r.0) (option_map (λ b. b.now) least.entry) ws × (lexemes words.now ≡ ws ++ lexemes r.1.now)) }
     ensures only { (count : Option WrittenName) (ws more : List Lexeme) → IsVaried count (option_map (λ b. b.now) least.entry) ws → NotFirst Term.Depending more → NotFirst Term.Of more → lexemes words.now ≡ ws ++ more → IsSomeAnd result (λ r. (option_map written_name r.0 ≡ count) × (lexemes r.1.now ≡ more)) }
 {

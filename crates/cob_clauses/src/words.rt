@@ -1,11 +1,27 @@
 ghost use Rattle.cob_clauses.specs.Clauses.{
-    AreNames, AreQualifiers, IsFree, IsNameWord, IsOrAre, IsPrefix, IsWord, Noise,
+  AreNames,
+  AreQualifiers,
+  IsFree,
+  IsNameWord,
+  IsOrAre,
+  IsPrefix,
+  IsWord,
+  Noise,
 };
 ghost use Rattle.cob_clauses.specs.Reading.{NotFirst};
 ghost use Rattle.cob_clauses.specs.Terms.{term_of};
 ghost use Rattle.cob_source.specs.Tokens.{Lexeme, lexeme, lexemes};
 ghost use Rattle.std.specs.Prelude.{
-    ◌++◌, ◌∷◌, ◌≡◌, ◌≢◌, ◌↔◌, List, ℕ, IfSome, IsSomeAnd, IsTrue,
+  ◌++◌,
+  ◌∷◌,
+  ◌≡◌,
+  ◌≢◌,
+  ◌↔◌,
+  List,
+  ℕ,
+  IfSome,
+  IsSomeAnd,
+  IsTrue,
 };
 
 use crate::names::is_name;
@@ -46,7 +62,11 @@ pub fn behind(words: &[Token], term: Term) -> Option<&[Token]>
     ensures only { (w : Lexeme) (more : List Lexeme) → term_of w ≡ term → lexemes words.now ≡ w ∷ more → IsSomeAnd result (λ r. lexemes r.now ≡ more) }
 {
     let (first, more) = words.split_first()?;
-    if is_term(first, term) { Some(more) } else { None }
+    if is_term(first, term) {
+        Some(more)
+    } else {
+        None
+    }
 }
 
 /// The words without the optional one in front.

@@ -1,8 +1,5 @@
-use Rattle.std.proofs.Common.{◌∙◌, ap, refl, sym, List, [], ◌∷◌, ◌++◌, ℕ, Option}
-use Rattle.cob_source.specs.Tokens.{Lexeme, lexeme, lexemes}
-use Rattle.cob_clauses.specs.Clauses.{usage_of, leading_of, Clause, Redefines, Picture, Stored, Signed, Occurs, Value, Justified, Blank}
-use Rattle.cob_clauses.specs.Written.{written_table, written_constant}
-use Rattle.cob_clauses.proofs.ClauseLemmas.{last_words, three_words}
+use Rattle.std.proofs.Common.{◌∙◌, ap, refl, List, ◌∷◌}
+use Rattle.cob_source.specs.Tokens.{Lexeme}
 use Rattle.cob_clauses.proofs.clause.justified_at.Goals as goal
 
 pub returns-clause-found : goal.returns-clause-found

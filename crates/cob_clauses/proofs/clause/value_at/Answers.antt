@@ -1,8 +1,7 @@
-use Rattle.std.proofs.Common.{◌∙◌, ap, refl, sym, List, [], ◌∷◌, ◌++◌, append_assoc, ℕ, Option}
-use Rattle.cob_source.specs.Tokens.{Lexeme, lexeme, lexemes}
-use Rattle.cob_clauses.specs.Clauses.{usage_of, leading_of, Clause, Redefines, Picture, Stored, Signed, Occurs, Value, Justified, Blank}
-use Rattle.cob_clauses.specs.Written.{written_table, written_constant}
-use Rattle.cob_clauses.proofs.ClauseLemmas.{last_words, three_words, constant_not_first, no_is, no_are}
+use Rattle.std.proofs.Common.{◌∙◌, ap, refl, List, ◌∷◌, ◌++◌, append_assoc}
+use Rattle.cob_source.specs.Tokens.{Lexeme}
+use Rattle.cob_clauses.specs.Clauses.{Value}
+use Rattle.cob_clauses.proofs.ClauseLemmas.{three_words, constant_not_first, no_is, no_are}
 use Rattle.cob_clauses.proofs.clause.value_at.Goals as goal
 
 pub returns-clause-found : goal.returns-clause-found

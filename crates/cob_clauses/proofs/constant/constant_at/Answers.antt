@@ -1,5 +1,4 @@
-use Rattle.std.proofs.Common.{refl, ◌∷◌, [], ◌∙◌, ap, List}
-use Rattle.cob_source.specs.Tokens.{Lexeme}
+use Rattle.std.proofs.Common.{refl, ◌∷◌, []}
 use Rattle.cob_clauses.proofs.constant.constant_at.Goals as goal
 
 pub returns-in-Some-clause-found : goal.returns-in-Some-clause-found

@@ -1,5 +1,5 @@
-use Rattle.std.proofs.Common.{ap, sym, subst, List, ◌++◌, option_map}
-use Rattle.cob_source.specs.Tokens.{Lexeme, lexemes}
+use Rattle.std.proofs.Common.{sym, subst, List, ◌++◌, option_map}
+use Rattle.cob_source.specs.Tokens.{Lexeme}
 use Rattle.cob_clauses.specs.Written.{written_clauses}
 use Rattle.cob_clauses.specs.Entries.{Says, bare}
 use Rattle.cob_clauses.proofs.EntryLemmas.{says_first, same_entry}

@@ -1,4 +1,4 @@
-use Rattle.std.proofs.Common.{rules, ℕ, List, subst, sym}
+use Rattle.std.proofs.Common.{rules, subst, sym}
 use Rattle.cob_clauses.specs.Names.{EndsAsName}
 use Rattle.cob_clauses.proofs.NameLemmas.{ends, end_of}
 use Rattle.cob_clauses.proofs.names.ends_as_name.Goals as goal

@@ -1,5 +1,5 @@
-use Rattle.std.proofs.Common.{◌∙◌, refl, sym, ap, ◌∷◌, ◌++◌, List}
-use Rattle.cob_source.specs.Tokens.{Lexeme, lexemes}
+use Rattle.std.proofs.Common.{◌∙◌, refl, sym, ap, ◌∷◌, ◌++◌}
+use Rattle.cob_source.specs.Tokens.{lexemes}
 use Rattle.cob_clauses.specs.Written.{names_behind}
 use Rattle.cob_clauses.proofs.TableLemmas.{count_words, count_split, same_name}
 use Rattle.cob_clauses.proofs.qualifiers.count_at.Goals as goal
@@ -9,11 +9,23 @@ returns-clause-found c =
     let (d, is, e) = c.in_ok-depending.ensures.found in
     let (on, noise, f) = c.skip-on.ensures.found in
     let (w, named, not, g) = c.in_ok-name.ensures.found in
-    let qs = lexemes c.qualifiers_at.result.0.now in
-    (d ∷ (on ++ w ∷ qs), record {
-      depending = d; on = on; named = w; behind = qs;
-      depends = is; noise = noise; is = named; not_on = not; qualified = c.qualifiers_at.ensures.are; qualifiers = refl; words = refl;
-    }, count_words d w _ _ on _ _ qs _ e f g c.qualifiers_at.ensures.found)
+    let qs = lexemes c.qualifiers_at.result.0.now in (
+      d ∷ (on ++ w ∷ qs),
+      record {
+        depending = d;
+        on = on;
+        named = w;
+        behind = qs;
+        depends = is;
+        noise = noise;
+        is = named;
+        not_on = not;
+        qualified = c.qualifiers_at.ensures.are;
+        qualifiers = refl;
+        words = refl;
+      },
+      count_words d w _ _ on _ _ qs _ e f g c.qualifiers_at.ensures.found,
+    )
 
 pub returns-clause-only : goal.returns-clause-only
 returns-clause-only c = λ name ws more is nf e.

@@ -1,5 +1,5 @@
 use Rattle.std.proofs.Common.{◌∙◌, ap, List, ◌++◌, ◌∷◌, arith}
-use Rattle.cob_source.specs.Tokens.{Lexeme, lexemes}
+use Rattle.cob_source.specs.Tokens.{Lexeme}
 use Rattle.cob_clauses.proofs.TableLemmas.{first_name}
 use Rattle.cob_clauses.proofs.qualifiers.names_at.Goals as goal
 

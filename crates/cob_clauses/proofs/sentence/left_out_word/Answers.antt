@@ -1,4 +1,4 @@
-use Rattle.std.proofs.Common.{ap, sym, subst, inl, inr, ◌∙◌, ℕ, List, ◌+◌, ◌<◌, ◌≤◌, rules, length, arith, drop}
+use Rattle.std.proofs.Common.{ap, sym, subst, inl, inr, ℕ, List, ◌+◌, ◌<◌, ◌≤◌, rules, length, arith, drop}
 use Rattle.std.proofs.lemmas.List.{drop_all}
 use Rattle.std.specs.List.{AllByRecursion}
 use Rattle.cob_source.specs.Tokens.{lexeme, lexemes}

@@ -1,4 +1,4 @@
-use Rattle.std.proofs.Common.{ap, ◌∷◌, [], ◌∙◌, List}
+use Rattle.std.proofs.Common.{ap, ◌∷◌, ◌∙◌, List}
 use Rattle.cob_source.specs.Tokens.{Lexeme}
 use Rattle.cob_clauses.proofs.words.skip_prefix.Goals as goal
 

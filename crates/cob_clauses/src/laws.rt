@@ -1,0 +1,11 @@
+ghost use Rattle.cob_clauses.specs.Laws.{SentencesCut, SentencesEnd};
+
+/// Words without a Stop, a Stop and others are the sentence of the first and the sentences of the others.
+pub fn sentences_cut()
+    ensures { SentencesCut }
+{}
+
+/// Words without a Stop are no sentence.
+pub fn sentences_end()
+    ensures { SentencesEnd }
+{}
