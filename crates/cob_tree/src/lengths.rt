@@ -1,4 +1,4 @@
-ghost use Rattle.std.specs.Prelude.{◌≡◌, ◌*◌, ◌≤◌, min};
+ghost use Rattle.std.specs.Prelude.{◌≡◌, ◌*◌, min};
 ghost use Rattle.cob_tree.specs.declared.lengths.TheConstants.{MANY};
 ghost use Rattle.cob_tree.specs.Nodes.{node};
 ghost use Rattle.cob_tree.specs.Lengths.{binary_size, element, item_size, most, most_by, sign_byte, whole};

@@ -1,7 +1,6 @@
-ghost use Rattle.std.specs.Prelude.{◌≡◌, ℕ, ◌<◌, List, [], ◌∷◌, ◌++◌, map, IfOk, OnOk, IfSome};
+ghost use Rattle.std.specs.Prelude.{◌≡◌, ◌<◌, [], ◌∷◌, ◌++◌, map, IfOk, OnOk, IfSome};
 ghost use Rattle.std.specs.Option.{IsNone};
 ghost use Rattle.cob_entries.specs.Described.{described};
-ghost use Rattle.cob_tree.specs.declared.branch.Branch.{Branch};
 ghost use Rattle.cob_tree.specs.declared.branch.Branch.TheViews.{out-Branch};
 ghost use Rattle.cob_tree.specs.Forests.{flat, IsTree, AreDeeper, NotDeeper};
 ghost use Rattle.cob_tree.specs.Branches.{forest_of, level_of, AreLevels, StandsFor};

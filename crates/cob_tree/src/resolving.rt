@@ -1,9 +1,8 @@
-ghost use Rattle.std.specs.Prelude.{◌≡◌, ℕ, ◌+◌, ◌≤◌, List, [], ◌∷◌, slice_index, unwrap_or, Option, option_map, IfOk, OnOk};
-ghost use Rattle.std.specs.Prelude.{None};
+ghost use Rattle.std.specs.Prelude.{◌≡◌, ◌+◌, ◌≤◌, [], ◌∷◌, slice_index, None, unwrap_or, option_map, IfOk, OnOk};
 ghost use Rattle.cob_clauses.specs.declared.kinds.Usage.TheVariants.{Display};
 ghost use Rattle.cob_entries.specs.Described.{described, times};
 ghost use Rattle.cob_tree.specs.Forests.{entries_in};
-ghost use Rattle.cob_tree.specs.Branches.{branch, forest_of};
+ghost use Rattle.cob_tree.specs.Branches.{forest_of};
 ghost use Rattle.cob_tree.specs.Nodes.{node, forest};
 ghost use Rattle.cob_tree.specs.Resolving.{inherited, keeps_sign, kind_of, resolved, resolved_by, times_of};
 
@@ -98,11 +97,11 @@ fn node_of(entry: &Entry, number: usize, count: usize, own: Inherited, children:
         number,
         line: entry.line,
         level: entry.level,
-        name: entry.name.as_ref().map(|name| name.clone()),
+        name: entry.name.as_ref().map(Name::clone),
         kind: kind_of(entry, own),
         occurs: times_of(entry, count),
-        redefines: entry.redefines.as_ref().map(|name| name.clone()),
-        value: entry.value.as_ref().map(|value| value.clone()),
+        redefines: entry.redefines.as_ref().map(Name::clone),
+        value: entry.value.as_ref().map(Value::clone),
         children,
     }
 }
