@@ -1,0 +1,9 @@
+pub mod Numbers
+pub mod Constants
+pub mod Names
+pub mod Breaking
+pub mod Qualifiers
+pub mod Sentences
+pub mod Cuts
+pub mod Reading
+pub mod Endings

@@ -1,0 +1,7 @@
+use Rattle.std.proofs.Common.{◌≡◌, ◌≤◌, length, take, ◌^◌, ◌<◌}
+use Rattle.cob_decimal.specs.Decimal.{number_of}
+use Rattle.cob_decimal.specs.Literals.{AreDigits, digits_in}
+use Rattle.cob_entries.proofs.number.number_of.Given as goal
+
+abbrev pub invariant-loop-character : goal.invariant-loop-character
+invariant-loop-character l = l.number ≡ number_of (digits_in (take l.character-index l.text))

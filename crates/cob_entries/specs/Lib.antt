@@ -1,0 +1,7 @@
+pub mod Described
+pub mod Meaning
+pub mod Books
+pub mod Breaks
+pub mod Signs
+pub mod Short
+pub mod Adds
