@@ -41,24 +41,28 @@ fn at(level: u8, picture: &'static [u8]) -> Row {
 }
 
 impl Row {
+    /// With a USAGE clause.
     fn usage(self, usage: Usage) -> Row {
         let mut row = self;
         row.usage = Some(usage);
         row
     }
 
+    /// With a SIGN clause.
     fn sign(self, leading: bool, separate: bool) -> Row {
         let mut row = self;
         row.sign = Some(Sign { leading, separate });
         row
     }
 
+    /// With OCCURS so many TIMES.
     fn times(self, times: u32) -> Row {
         let mut row = self;
         row.times = times;
         row
     }
 
+    /// With OCCURS 1 TO so many TIMES DEPENDING ON an item.
     fn up_to(self, times: u32) -> Row {
         let mut row = self;
         row.times = times;
@@ -66,6 +70,7 @@ impl Row {
         row
     }
 
+    /// With a REDEFINES clause.
     fn redefines(self) -> Row {
         let mut row = self;
         row.redefines = true;
