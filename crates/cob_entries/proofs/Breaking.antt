@@ -1,9 +1,9 @@
 -- What a part of an entry breaks, the entry breaks.
-use Rattle.std.proofs.Common.{◌≡◌, ℕ, List, Option, Some, None, sym, subst, inl, inr, ◌⊎◌}
+use Rattle.std.proofs.Common.{◌≡◌, Option, Some, None, sym, subst, inl, inr, ◌⊎◌}
 use Rattle.cob_clauses.specs.Written.{WrittenConstant, WrittenTable, WrittenEntry}
 use Rattle.cob_entries.specs.declared.fault.BookRule.{BookRule}
 use Rattle.cob_entries.specs.declared.fault.BookRule.TheVariants as rule
-use Rattle.cob_entries.specs.Books.{BreaksNumber, BreaksNumbers, BreaksTable, BreaksConstant, BreaksValue, BreaksEntry, IsNoName, count_name}
+use Rattle.cob_entries.specs.Books.{BreaksNumbers, BreaksTable, BreaksConstant, BreaksValue, BreaksEntry, IsNoName, count_name}
 use Rattle.cob_entries.specs.Breaks.{IsTableFault, IsConstantFault, OfOption}
 
 -- memory was refused, or the entry breaks the rule

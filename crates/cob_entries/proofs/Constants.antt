@@ -1,11 +1,11 @@
 -- Lemmas on the constants of VALUE clauses.
-use Rattle.std.proofs.Common.{◌≡◌, ℕ, ◌+◌, ◌<◌, ◌≤◌, ℤ, List, [], ◌∷◌, ◌++◌, length, refl, ap, sym, ◌∙◌, subst, arith, rules, Bool, true, false, IsTrue, ◌↔◌, Option, Some, None}
-use Rattle.std.specs.Prelude.{is_some, ◌==◌, ◌||◌}
+use Rattle.std.proofs.Common.{◌≡◌, ℕ, ◌+◌, ◌<◌, ℤ, List, [], ◌∷◌, ◌++◌, refl, ap, sym, ◌∙◌, subst, arith, Bool, true, false, IsTrue, ◌↔◌, Option, Some, None}
+use Rattle.std.specs.Prelude.{is_some}
 use Rattle.std.proofs.lemmas.Bool.Decides.{nat_tests}
 use Rattle.cob_decimal.specs.Decimal.{number_of}
 use Rattle.cob_decimal.specs.Literals.{Literal, IsLiteral, IsValueOf, literal_text, sign_text, fraction_text, characters}
 use Rattle.cob_decimal.proofs.LiteralLemmas.{one_literal}
-use Rattle.cob_clauses.specs.Written.{WrittenConstant, Word, Quoted as QuotedText, Figure as FigureWord, Repeated as RepeatedText}
+use Rattle.cob_clauses.specs.Written.{Word}
 use Rattle.cob_entries.specs.Described.{Constant, Numeric, Quoted, Figure, Repeated}
 use Rattle.cob_entries.specs.Meaning.{IsConstantOf}
 use Rattle.cob_entries.specs.Signs.{begins_with_sign}

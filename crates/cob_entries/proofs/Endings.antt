@@ -1,27 +1,27 @@
 -- How the reading of the words ends, well or with a fault.
-use Rattle.std.proofs.Common.{◌≡◌, ◌⊎◌, ℕ, ◌+◌, ◌<◌, ◌≤◌, Bool, true, false, List, [], ◌∷◌, ◌++◌, length, map, Option, Some, None, refl, ap, sym, ◌∙◌, subst, inl, inr, arith, append-nil, length-append}
+use Rattle.std.proofs.Common.{◌≡◌, ◌⊎◌, ◌+◌, ◌<◌, ◌≤◌, Bool, true, false, List, [], ◌∷◌, ◌++◌, length, Option, Some, None, refl, ap, sym, ◌∙◌, subst, inl, inr, arith, append-nil, length-append}
 use Rattle.std.proofs.lemmas.Bool.{true≢false}
-use Rattle.std.proofs.lemmas.List.{length-map, nil_from_length}
+use Rattle.std.proofs.lemmas.List.{length-map}
 use Rattle.std.proofs.lemmas.List.Sums.{sum_by-cons}
 use Rattle.cob_source.specs.declared.token.Token.{Token}
 use Rattle.cob_source.specs.Tokens.{Lexeme, lexeme, lexemes}
 use Rattle.cob_source.specs.declared.token.Kind.TheVariants as kind
+use Rattle.cob_clauses.proofs.CutLemmas.{cut, ends}
 use Rattle.cob_clauses.specs.Entries.{Sentences, sentences, is_condition, HasNoStop}
 use Rattle.cob_entries.specs.declared.fault.BookRule.{BookRule}
 use Rattle.cob_entries.specs.declared.fault.BookRule.TheVariants as rule
 use Rattle.cob_entries.specs.declared.reader.TheConstants.{MAX_ENTRIES}
 use Rattle.cob_entries.specs.Described.{Described}
-use Rattle.cob_entries.specs.Books.{AreDescribed, AreEntriesOf, BeginsWithData, BeginsWithCondition, BreaksBy, BreaksSentence, IsBroken, OneBreaks, data_entries}
+use Rattle.cob_entries.specs.Books.{AreDescribed, AreEntriesOf, BeginsWithData, BeginsWithCondition, BreaksBy, IsBroken, OneBreaks, data_entries}
 use Rattle.cob_entries.specs.Adds.{Adds, IsAdded, IsPlaceFault, IsSentenceFault, listed}
-use Rattle.cob_entries.proofs.Cuts.{cut, sentences_cut, sentences_end}
-use Rattle.cob_entries.proofs.Reading.{SoFar, cut_ended, one, one_is, sentence_adds}
+use Rattle.cob_entries.proofs.Reading.{SoFar, IsFirst, one, one_is, sentence_adds}
 
 -- A sentence stands at the front of the words, and these are left behind it.
 abbrev pub IsFront : List Lexeme → List Lexeme → List Lexeme → Type 0
 IsFront rest s behind = (stop : Lexeme) × (stop.kind ≡ kind.Stop) × HasNoStop s × (rest ≡ s ++ stop ∷ behind)
 
-pub front_cut : (rest s behind : List Lexeme) → IsFront rest s behind → sentences rest ≡ cut (s ∷ (sentences behind).ended) (sentences behind).open_end
-front_cut rest s behind h = ap sentences h.3 ∙ sentences_cut s behind h.0 h.1 h.2
+pub front_cut : (rest s behind : List Lexeme) → IsFront rest s behind → IsFirst rest s behind
+front_cut rest s behind h = subst (λ (ws : List Lexeme). IsFirst ws s behind) (sym h.3) (cut s behind h.0 h.1 h.2)
 
 -- fewer words are left
 pub shorter : (ts ss bs : List Token) → IsFront (lexemes ts) (lexemes ss) (lexemes bs) → length bs < length ts
@@ -84,12 +84,12 @@ place_broken r ws rest behind s ds (Some d) far ended added (inr h) =
 
 -- a sentence's fault is one of the words
 pub sentence_broken : (r : BookRule) (ws rest behind s : List Lexeme) (ds : List Described) → SoFar ws rest ds
-    → sentences rest ≡ cut (s ∷ (sentences behind).ended) (sentences behind).open_end → IsSentenceFault r ds s → IsBroken r ws
+    → IsFirst rest s behind → IsSentenceFault r ds s → IsBroken r ws
 sentence_broken r ws rest behind s ds far is (inl m) = as_broken r rule.Memory ws m tt
 sentence_broken r ws rest behind s ds far is (inr (inl h)) =
-    one_broken r ws (far.breaks r (subst (OneBreaks r) (sym (cut_ended rest behind s is)) (inl h)))
+    one_broken r ws (far.breaks r (subst (OneBreaks r) (sym (is.0)) (inl h)))
 sentence_broken r ws rest behind s ds far is (inr (inr h)) =
-    place_broken r ws rest behind s ds h.0 far (cut_ended rest behind s is) h.1.1 h.2
+    place_broken r ws rest behind s ds h.0 far (is.0) h.1.1 h.2
 
 -- of words that are entries a sentence is refused for want of memory alone
 place_only : (r : BookRule) (ws rest behind s : List Lexeme) (ds all more : List Described) (d : Option Described) → SoFar ws rest ds
@@ -106,11 +106,11 @@ place_only r ws rest behind s ds all more (Some d) far ended data_first few adde
     absurd (omega (arith, total, few, h.1))
 
 pub sentence_only : (r : BookRule) (ws rest behind s : List Lexeme) (ds all : List Described) → SoFar ws rest ds
-    → sentences rest ≡ cut (s ∷ (sentences behind).ended) (sentences behind).open_end
+    → IsFirst rest s behind
     → ((d : Option Described) → Adds s d → (r ≡ rule.Memory) ⊎ IsPlaceFault r ds d)
     → AreEntriesOf ws all → r ≡ rule.Memory
 sentence_only r ws rest behind s ds all far is fault entries =
-    let ended = cut_ended rest behind s is in
+    let ended = is.0 in
     let back = far.only all entries.entries in
     let at : AreDescribed (s ∷ (sentences behind).ended) back.0 = subst (λ ss. AreDescribed ss back.0) ended back.1 in
     let added = sentence_adds (is_condition s) s back.0 at.1.0 refl at.1.1 in
@@ -121,7 +121,7 @@ sentence_only r ws rest behind s ds all far is fault entries =
 
 -- words behind the last period
 pub open_end : (ws rest : List Lexeme) (ds : List Described) → SoFar ws rest ds → HasNoStop rest → (sentences ws).open_end ≡ rest
-open_end ws rest ds far none = far.left ∙ ap (λ (ss : Sentences). ss.open_end) (sentences_end rest none)
+open_end ws rest ds far none = far.left ∙ ap (λ (ss : Sentences). ss.open_end) (ends rest none)
 
 pub not_empty : (ts : List Token) → (length ts ≡ 0 → ⊥) → lexemes ts ≡ [] → ⊥
 not_empty [] some e = some refl

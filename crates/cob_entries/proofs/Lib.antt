@@ -4,6 +4,5 @@ pub mod Names
 pub mod Breaking
 pub mod Qualifiers
 pub mod Sentences
-pub mod Cuts
 pub mod Reading
 pub mod Endings

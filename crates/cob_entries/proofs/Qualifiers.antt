@@ -1,8 +1,8 @@
 -- The qualifiers of a written entry's count are names, so that they fit where names are kept.
-use Rattle.std.proofs.Common.{◌≡◌, ℕ, List, [], ◌∷◌, Option, Some, None, sym, subst}
+use Rattle.std.proofs.Common.{ℕ, List, [], ◌∷◌, Option, Some, None, sym, subst}
 use Rattle.cob_source.specs.Tokens.{Lexeme}
-use Rattle.cob_clauses.specs.Written.{WrittenName, WrittenTable, WrittenClauses, WrittenEntry, names_behind}
-use Rattle.cob_clauses.specs.Clauses.{Clause, Redefines, Picture, Stored, Signed, Occurs, Value, Justified, Blank, Spells, AreQualifiers, IsVaried, IsTable}
+use Rattle.cob_clauses.specs.Written.{WrittenName, WrittenClauses, WrittenEntry, names_behind}
+use Rattle.cob_clauses.specs.Clauses.{Clause, Redefines, Picture, Stored, Signed, Occurs, Value, Justified, Blank, Spells, AreQualifiers, IsVaried}
 use Rattle.cob_clauses.specs.Entries.{Says, End, Then, put, bare, IsWritten}
 use Rattle.cob_entries.specs.Short.{AreShort, HasShortQualifiers, HasShortCount}
 

@@ -1,16 +1,15 @@
 -- What is read so far of the words, and what is left.
-use Rattle.std.proofs.Common.{◌≡◌, ℕ, ◌+◌, ◌<◌, ◌≤◌, Bool, true, false, cond, List, [], ◌∷◌, ◌++◌, length, Option, Some, None, refl, ap, sym, ◌∙◌, subst, inl, inr, arith, append_assoc, length-append}
-use Rattle.std.specs.Prelude.{not, count_by, IsSome}
+use Rattle.std.proofs.Common.{◌≡◌, ℕ, ◌+◌, ◌<◌, ◌≤◌, Bool, true, false, cond, List, [], ◌∷◌, ◌++◌, length, Option, Some, None, refl, ap, sym, ◌∙◌, subst, inr, arith, append_assoc, length-append}
+use Rattle.std.specs.Prelude.{not, IsSome}
 use Rattle.std.proofs.lemmas.Bool.{false≢true}
 use Rattle.std.proofs.lemmas.List.Sums.{sum_by-cons}
 use Rattle.cob_source.specs.Tokens.{Lexeme}
-use Rattle.cob_clauses.specs.Entries.{Sentences, sentences, is_condition}
+use Rattle.cob_clauses.specs.Entries.{sentences, is_condition}
 use Rattle.cob_entries.specs.declared.fault.BookRule.{BookRule}
 use Rattle.cob_entries.specs.declared.reader.TheConstants.{MAX_ENTRIES}
 use Rattle.cob_entries.specs.Described.{Described}
-use Rattle.cob_entries.specs.Books.{IsSentence, AreDescribed, BeginsWithData, OneBreaks, BreaksSentence, data_entries}
+use Rattle.cob_entries.specs.Books.{IsSentence, AreDescribed, BeginsWithData, OneBreaks, data_entries}
 use Rattle.cob_entries.specs.Adds.{Adds, IsAdded, listed}
-use Rattle.cob_entries.proofs.Cuts.{cut}
 
 -- These entries are read, and the words `rest` are left: what is in the rest is in all, and all is what is read and what is in the
 -- rest.
@@ -57,12 +56,9 @@ pub sentence_adds : (b : Bool) (s : List Lexeme) (ds more : List Described) → 
 sentence_adds true s ds more e h = (None, (e, h.0), h.1)
 sentence_adds false s ds more e h = (Some h.0, (e, h.1), h.2)
 
--- the sentences of the rest, where one is cut off
-pub cut_ended : (rest behind s : List Lexeme) → sentences rest ≡ cut (s ∷ (sentences behind).ended) (sentences behind).open_end → (sentences rest).ended ≡ s ∷ (sentences behind).ended
-cut_ended rest behind s e = ap (λ (ss : Sentences). ss.ended) e
-
-cut_open : (rest behind s : List Lexeme) → sentences rest ≡ cut (s ∷ (sentences behind).ended) (sentences behind).open_end → (sentences rest).open_end ≡ (sentences behind).open_end
-cut_open rest behind s e = ap (λ (ss : Sentences). ss.open_end) e
+-- the sentence is the first of the rest, and these words are left behind it
+abbrev pub IsFirst : List Lexeme → List Lexeme → List Lexeme → Type 0
+IsFirst rest s behind = ((sentences rest).ended ≡ s ∷ (sentences behind).ended) × ((sentences rest).open_end ≡ (sentences behind).open_end)
 
 begins_now : (ws rest behind s : List Lexeme) (ds : List Described) (d : Option Described) → SoFar ws rest ds
     → (sentences rest).ended ≡ s ∷ (sentences behind).ended → IsAdded s d → (ds ≡ [] → IsSome d) → BeginsWithData (sentences ws).ended
@@ -78,14 +74,14 @@ no_more (x ∷ ds) d some e = cc
 
 -- one more sentence is read
 pub goes_on : (ws rest behind s : List Lexeme) (ds now : List Described) → SoFar ws rest ds
-    → sentences rest ≡ cut (s ∷ (sentences behind).ended) (sentences behind).open_end
+    → IsFirst rest s behind
     → (d : Option Described) × Adds s d × (now ≡ ds ++ listed d) × (ds ≡ [] → IsSome d)
     → ((d : Option Described) → Adds s d → now ≡ ds ++ listed d)
     → length now ≤ MAX_ENTRIES
     → SoFar ws behind now
 goes_on ws rest behind s ds now far is h same few =
     let d = h.0 in
-    let ended = cut_ended rest behind s is in
+    let ended = is.0 in
     record {
       found = λ more rest_is.
           let all = far.found (listed d ++ more) (subst (λ ss. AreDescribed ss (listed d ++ more)) (sym ended) (described_found s (sentences behind).ended d more h.1 rest_is)) in
@@ -96,7 +92,7 @@ goes_on ws rest behind s ds now far is h same few =
           let more = at.1.0 in
           let added = sentence_adds (is_condition s) s back.0 more refl at.1.1 in
           (more, at.1.2, back.2 ∙ ap (λ t. ds ++ t) added.2 ∙ sym (append_assoc ds (listed added.0) more) ∙ ap (λ t. t ++ more) (sym (same added.0 (at.0, added.1))));
-      left = far.left ∙ cut_open rest behind s is;
+      left = far.left ∙ is.1;
       breaks = λ r later. far.breaks r (subst (OneBreaks r) (sym ended) (inr later));
       count =
           let total : data_entries (sentences rest).ended ≡ one s + data_entries (sentences behind).ended = ap data_entries ended ∙ sum_by-cons one s (sentences behind).ended in

@@ -1,12 +1,11 @@
 -- The entries that the words of a text are, and the rules on words that a text breaks.
 use Rattle.std.specs.Prelude.{◌≡◌, ◌≢◌, ◌⊎◌, ℕ, ◌<◌, ◌≤◌, Bool, true, false, not, List, [], ◌∷◌, length, count_by, nat_le, ◌&&◌, Option, Some, None, option_map}
 use Rattle.cob_source.specs.Tokens.{Lexeme}
-use Rattle.cob_picture.specs.declared.fault.PictureFault.{PictureFault}
 use Rattle.cob_picture.specs.Pictures.{IsBroken as IsBrokenPicture}
 use Rattle.cob_decimal.specs.declared.TheConstants.{MAX_DIGITS}
 use Rattle.cob_decimal.specs.Literals.{Literal, IsLiteral, literal_text, AreDigits}
 use Rattle.cob_clauses.specs.Names.{IsName}
-use Rattle.cob_clauses.specs.Written.{WrittenConstant, Word, Quoted, Figure, Repeated, WrittenName, WrittenTable, WrittenEntry}
+use Rattle.cob_clauses.specs.Written.{WrittenConstant, Word, Quoted, Repeated, WrittenTable, WrittenEntry}
 use Rattle.cob_clauses.specs.Entries.{IsWritten, IsCondition, is_condition, IsLeftOut, sentences}
 use Rattle.cob_entries.specs.declared.fault.BookRule.{BookRule}
 use Rattle.cob_entries.specs.declared.fault.BookRule.TheVariants as rule

@@ -1,5 +1,5 @@
 -- An entry without where it lies in memory, and without its line.
-use Rattle.std.specs.Prelude.{ℕ, ℤ, Bool, List, map, Option, option_map}
+use Rattle.std.specs.Prelude.{ℕ, ℤ, Bool, List, Option, option_map}
 use Rattle.cob_picture.specs.Positions.{Seen}
 use Rattle.cob_clauses.specs.declared.kinds.Usage.{Usage}
 use Rattle.cob_clauses.specs.declared.kinds.Sign.{Sign}

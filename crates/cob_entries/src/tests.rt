@@ -305,21 +305,17 @@ fn values(rt: HostRuntime) -> Result<(), Fail> {
     Ok(())
 }
 
-/// An entry with so long a literal, in continued lines.
+/// An entry with so long a literal, of which each line has 60 characters.
 fn long_value(alloc: Global, front: &str, count: usize) -> Result<String, Fail> {
     let mut text = String::new(alloc);
-    write!(text, "       {front} \"")?;
-    let mut column = text.len();
-    for _ in 0..count {
-        if column == 72 {
+    write!(text, "       {front}\n           \"")?;
+    for at in 0..count {
+        if at > 0 && at % 60 == 0 {
             text.push_str("\n      -    \"")?;
-            column = 12;
         }
         text.push('x')?;
-        column += 1;
     }
-    text.push_str("\"")?;
-    text.push_str("\n           .\n")?;
+    text.push_str("\"\n           .\n")?;
     Ok(text)
 }
 

@@ -1,6 +1,6 @@
-use Rattle.std.proofs.Common.{◌≡◌, ◌≤◌, length, take, ◌^◌, ◌<◌}
+use Rattle.std.proofs.Common.{◌≡◌, take}
 use Rattle.cob_decimal.specs.Decimal.{number_of}
-use Rattle.cob_decimal.specs.Literals.{AreDigits, digits_in}
+use Rattle.cob_decimal.specs.Literals.{digits_in}
 use Rattle.cob_entries.proofs.number.number_of.Given as goal
 
 abbrev pub invariant-loop-character : goal.invariant-loop-character

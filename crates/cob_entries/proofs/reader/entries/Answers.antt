@@ -1,7 +1,7 @@
-use Rattle.std.proofs.Common.{◌≡◌, List, [], length, map, refl, sym, ap, ◌∙◌, subst, inl, arith}
+use Rattle.std.proofs.Common.{◌≡◌, [], map, sym, ◌∙◌, subst, inl, arith}
 use Rattle.std.proofs.lemmas.Grind.{common_steps}
 use Rattle.std.proofs.lemmas.List.{length-map, nil_from_length}
-use Rattle.cob_source.specs.Tokens.{Lexeme, lexemes}
+use Rattle.cob_source.specs.Tokens.{lexemes}
 use Rattle.cob_entries.specs.declared.fault.BookRule.{BookRule}
 use Rattle.cob_entries.specs.Described.{described}
 use Rattle.cob_entries.specs.Books.{IsBroken}
