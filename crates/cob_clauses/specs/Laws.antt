@@ -2,7 +2,12 @@
 use Rattle.std.specs.Prelude.{◌≡◌, List, [], ◌∷◌, ◌++◌}
 use Rattle.cob_source.specs.Tokens.{Lexeme}
 use Rattle.cob_source.specs.declared.token.Kind.TheVariants as kind
-use Rattle.cob_clauses.specs.Entries.{HasNoStop, sentences}
+use Rattle.cob_clauses.specs.Written.{WrittenEntry}
+use Rattle.cob_clauses.specs.Entries.{HasNoStop, IsWritten, sentences}
+
+-- law: words are written as one entry at most
+abbrev pub OneEntry : Type 0
+OneEntry = (ws : List Lexeme) (a b : WrittenEntry) → IsWritten ws a → IsWritten ws b → a ≡ b
 
 -- law: words without a Stop, a Stop and others are the sentence of the first and the sentences of the others
 abbrev pub SentencesCut : Type 0

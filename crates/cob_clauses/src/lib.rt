@@ -6,7 +6,7 @@
 //! one sentence into its clauses. What a picture, a number, a constant or a name means isn't looked at here.
 //!
 //! What is promised: `written` answers exactly the entry that the words of a sentence are (clause `found`), and `None` only
-//! for words that are no entry (`only`); so words are written as one entry at most. `condition` does the same for an entry
+//! for words that are no entry (`only`); words are written as one entry at most (`one_entry`). `condition` does the same for an entry
 //! of level 88, `is_condition` says which those are, and `left_out` names a word or a level that is left out by name
 //! (`found`), and `None` says that there is none (`none`); its answer fits 20 characters of ASCII (`short`, `ascii`).
 //! `sentence_at` cuts at the first Stop, and where it answers `None` there is no Stop (`none`); `sentences_cut` and
@@ -35,7 +35,7 @@ mod words;
 
 pub use entry::written;
 pub use kinds::{Figurative, Sign, Usage};
-pub use laws::{sentences_cut, sentences_end};
+pub use laws::{one_entry, sentences_cut, sentences_end};
 pub use names::{MAX_NAME, is_name};
 pub use parts::{Clauses, Constant, Count, Table, Written};
 pub use sentence::{condition, is_condition, left_out, sentence_at};
