@@ -3,3 +3,6 @@ pub mod PlaceLemmas
 pub mod BoundLemmas
 pub mod CoverLemmas
 pub mod CoverLaw
+pub mod CountLemmas
+pub mod AgreeLaw
+pub mod PlaceLaw

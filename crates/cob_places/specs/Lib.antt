@@ -1,3 +1,5 @@
 pub mod Lengths
 pub mod Places
 pub mod Cover
+pub mod Counts
+pub mod Agree

@@ -43,13 +43,13 @@ abbrev pub also : Bool → Option Found → Option Found
 also b None = None
 also b (Some f) = Some record { offset = f.offset; length = f.length; within = b && f.within }
 
--- the first place that is found
-abbrev pub or_else : Option Found → Option Found → Option Found
+-- the first one that is found
+abbrev pub or_else : {A : Type 0} → Option A → Option A → Option A
 or_else None other = other
-or_else (Some f) other = Some f
+or_else (Some a) other = Some a
 
--- this place where the entry is the one that is looked for, else the other
-abbrev pub choose : Bool → Found → Option Found → Option Found
+-- this one where the entry is the one that is looked for, else the other
+abbrev pub choose : {A : Type 0} → Bool → A → Option A → Option A
 choose true found other = Some found
 choose false found other = other
 

@@ -2,6 +2,8 @@ ghost use Rattle.std.specs.Prelude.{ℕ, List};
 ghost use Rattle.cob_tree.specs.Lengths.{most};
 ghost use Rattle.cob_places.specs.Lengths.{times};
 ghost use Rattle.cob_places.specs.Places.{EndInRecord};
+ghost use Rattle.cob_places.specs.Counts.{OneOutcome};
+ghost use Rattle.cob_places.specs.Agree.{OnePlace, SameCounts};
 ghost use Rattle.cob_places.specs.Cover.{Covering, IsTimes};
 
 /// A place that is found ends within the record's greatest length.
@@ -14,4 +16,19 @@ pub fn covering()
     ensures covered { Covering }
     ensures counted { (counts : List ℕ) → IsTimes (times counts) }
     ensures greatest { IsTimes most }
+{}
+
+/// Bytes say one thing of the tables of a record: the counts, or the first fault.
+pub fn one_outcome()
+    ensures { OneOutcome }
+{}
+
+/// Storages of one length that agree where the counts of tables stand have the same counts, or the same fault.
+pub fn same_counts()
+    ensures { SameCounts }
+{}
+
+/// Counts that agree on what the place of an entry needs give it one place.
+pub fn one_place()
+    ensures { OnePlace }
 {}
