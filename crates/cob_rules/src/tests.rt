@@ -128,7 +128,7 @@ fn items_and_groups(rt: HostRuntime) -> Result<(), Fail> {
     assert!(rt; fault(alloc, &[GROUP, item(b"X")])? == None);
     assert!(rt; fault(alloc, &[GROUP])? == at(BookRule::Level, 1));
     assert!(rt; fault(alloc, &[GROUP, GROUP])? == at(BookRule::Level, 2));
-    assert!(rt; fault(alloc, &[item(b"X"), item(b"X")])? == at(BookRule::Level, 1));
+    assert!(rt; fault(alloc, &[item(b"X"), item(b"X")])? == at(BookRule::Level, 2));
     Ok(())
 }
 

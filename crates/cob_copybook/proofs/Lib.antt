@@ -1,0 +1,4 @@
+pub mod Texts
+pub mod Trees
+pub mod Storages
+pub mod Books

@@ -1,0 +1,34 @@
+//! The record that a tree of entries describes.
+
+ghost use Rattle.std.specs.Prelude.{◌≡◌, ◌≤◌, [], ◌∷◌, IfOk, IfErr};
+ghost use Rattle.cob_entries.specs.Described.{Described};
+ghost use Rattle.cob_entries.specs.declared.fault.BookRule.TheVariants.{Memory};
+ghost use Rattle.cob_tree.specs.Forests.{Forest, entries_in};
+ghost use Rattle.cob_tree.specs.Branches.{forest_of};
+ghost use Rattle.cob_tree.specs.Nodes.{Resolved, forest};
+ghost use Rattle.cob_rules.specs.Rules.{AgreeAll};
+ghost use Rattle.cob_copybook.specs.Records.{IsStored, IsStorageRefusal};
+
+use cob_areas::{breaks_no_rule, judged};
+use cob_entries::BookFault;
+use cob_names::counts;
+use cob_tree::{Branch, Node, resolve};
+use std::alloc::Global;
+
+/// The record that a tree of entries whose clauses agree describes.
+///
+/// # Errors
+/// A rule on counts or lengths that the tree breaks; want of memory.
+pub(crate) fn storage_of(alloc: Global, tree: &Branch) -> Result<Node, BookFault>
+    requires few { entries_in (forest_of (tree.now ∷ [])) ≤ 65535 }
+    requires agree { AgreeAll (forest_of (tree.now ∷ [])) }
+    ensures found { IfOk result (λ n. IsStored (forest_of (tree.now ∷ [])) (forest (n ∷ []))) }
+    ensures only { (t : Forest Resolved) → IsStored (forest_of (tree.now ∷ [])) t → IfOk result (λ n. forest (n ∷ []) ≡ t) × IfErr result (λ f. f.rule ≡ Memory) }
+    ensures fault { IfErr result (λ f. IsStorageRefusal f.rule (forest_of (tree.now ∷ []))) }
+{
+    breaks_no_rule();
+    let counts = counts(alloc, tree)?;
+    let record = resolve(alloc, tree, &counts)?;
+    judged(&record)?;
+    Ok(record)
+}

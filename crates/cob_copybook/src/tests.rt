@@ -1,0 +1,268 @@
+mod accepted;
+mod refused;
+
+use crate::{Book, Role};
+use accepted::ACCEPTED;
+use cob_clauses::{Sign, Usage};
+use cob_entries::{BookFault, BookRule};
+use cob_tree::{Kind, Node, Times};
+use refused::REFUSED;
+use std::alloc::Global;
+use std::fmt::Write;
+use std::test::Fail;
+
+/// Entries that are parted by bars, one a line, from column 8 on.
+fn lines_of(alloc: Global, entries: &str) -> Result<Vec<u8>, Fail> {
+    let mut text = Vec::new(alloc);
+    text.extend_from_slice(b"       ")?;
+    for byte in entries.as_bytes() {
+        if *byte == b'|' {
+            text.extend_from_slice(b"\n       ")?;
+        } else {
+            text.push(*byte)?;
+        }
+    }
+    Ok(text)
+}
+
+/// The names of a node and of those beneath it.
+fn push_names(out: &mut String, node: &Node) -> Result<(), Fail> {
+    match &node.name {
+        Some(name) => write!(out, "{name}")?,
+        None => out.push_str("FILLER")?,
+    }
+    for (place, child) in node.children.iter().enumerate() {
+        out.push(if place == 0 { '[' } else { ' ' })?;
+        push_names(out, child)?;
+    }
+    if !node.children.is_empty() {
+        out.push(']')?;
+    }
+    Ok(())
+}
+
+/// The tree of a text, or its fault.
+fn shown(alloc: Global, text: &[u8]) -> Result<String, Fail> {
+    match Book::read(alloc, Role::In, text) {
+        Ok(book) => {
+            let mut out = format!(in alloc; "{} ", book.greatest())?;
+            push_names(&mut out, book.root())?;
+            Ok(out)
+        }
+        Err(fault) => Ok(format!(in alloc; "{fault}")?),
+    }
+}
+
+/// Well-formed record descriptions.
+#[test]
+fn accepted_books(rt: HostRuntime) -> Result<(), Fail> {
+    for (entries, greatest, tree) in ACCEPTED {
+        let text = lines_of(rt.alloc(), entries)?;
+        let want = format!(in rt.alloc(); "{greatest} {tree}")?;
+        assert_eq!(rt;
+            shown(rt.alloc(), text.as_slice())?.as_str(),
+            want.as_str(),
+            "of {entries}"
+        );
+    }
+    Ok(())
+}
+
+/// A rule of copybooks broken, and the line.
+#[test]
+fn refused_books(rt: HostRuntime) -> Result<(), Fail> {
+    for (entries, want) in REFUSED {
+        let text = lines_of(rt.alloc(), entries)?;
+        assert_eq!(rt;
+            shown(rt.alloc(), text.as_slice())?.as_str(),
+            want,
+            "of {entries}"
+        );
+    }
+    Ok(())
+}
+
+/// Faults of the reference format come through as themselves, and a continued picture is one.
+#[test]
+fn reference_format(rt: HostRuntime) -> Result<(), Fail> {
+    for (text, want) in [
+        ("      - 01 R PIC X.", "T4 line 1"),
+        ("       01 R PIC X VALUE 'A", "T3 line 1"),
+        ("      # 01 R PIC X.", "T6 line 1"),
+        ("\t      01 R PIC X.", "T2 line 1"),
+        ("      * 01 R PIC X.", "B1 line 1"),
+        (
+            "       01  IN-REC.\n           05  X1 PIC X(3).\n           05  N1 PIC 9(\n      -        2).\n",
+            "5 IN-REC[X1 N1]",
+        ),
+        ("      * A\n\n       01 R.\n       05 A.\n", "B3 line 4"),
+    ] {
+        assert_eq!(rt;
+            shown(rt.alloc(), text.as_bytes())?.as_str(),
+            want,
+            "of {text}"
+        );
+    }
+    Ok(())
+}
+
+/// As many entries as a book may have, and one more.
+#[test]
+fn most_entries(rt: HostRuntime) -> Result<(), Fail> {
+    let mut text = Vec::new(rt.alloc());
+    text.extend_from_slice(b"       01 R.\n")?;
+    for _ in 1..2_000 {
+        text.extend_from_slice(b"       05 A PIC X.\n")?;
+    }
+    let book = Book::read(rt.alloc(), Role::In, text.as_slice())?;
+    assert_eq!(rt; book.greatest(), 1_999);
+    text.extend_from_slice(b"       88 B VALUE 'X'.\n")?;
+    let with_condition = Book::read(rt.alloc(), Role::In, text.as_slice())?;
+    assert_eq!(rt; with_condition.greatest(), 1_999);
+    text.extend_from_slice(b"       05 A PIC X.\n")?;
+    assert_eq!(rt;
+        shown(rt.alloc(), text.as_slice())?.as_str(),
+        "B15 line 2002"
+    );
+    Ok(())
+}
+
+/// 2,000 entries and one more, one a line; an implied record isn't counted.
+#[test]
+fn implied_record_is_not_counted(rt: HostRuntime) -> Result<(), Fail> {
+    let mut text = Vec::new(rt.alloc());
+    for _ in 0..2_000 {
+        text.extend_from_slice(b"       05 A PIC X.\n")?;
+    }
+    let book = Book::read(rt.alloc(), Role::Out, text.as_slice())?;
+    assert_eq!(rt; book.greatest(), 2_000);
+    text.extend_from_slice(b"       05 A PIC X.\n")?;
+    assert_eq!(rt;
+        shown(rt.alloc(), text.as_slice())?.as_str(),
+        "B15 line 2001"
+    );
+    Ok(())
+}
+
+/// Levels 01 to 49, each in the one before.
+#[test]
+fn nested_levels(rt: HostRuntime) -> Result<(), Fail> {
+    let mut text = Vec::new(rt.alloc());
+    for level in 1..49 {
+        let line = format!(in rt.alloc(); "       {level} A.\n")?;
+        text.extend_from_slice(line.as_bytes())?;
+    }
+    text.extend_from_slice(b"       49 B PIC X(7).\n")?;
+    let book = Book::read(rt.alloc(), Role::In, text.as_slice())?;
+    assert_eq!(rt; book.greatest(), 7);
+    let mut node = book.root();
+    let mut depth = 1;
+    while let Some(child) = node.children.first() {
+        node = child;
+        depth += 1;
+        assert_eq!(rt; node.number + 1, depth);
+    }
+    assert_eq!(rt; depth, 49);
+    assert_eq!(rt; node.line, 49);
+    Ok(())
+}
+
+/// An item's usage and sign, its own or its groups'.
+fn usage_and_sign(node: &Node) -> Option<(Usage, Option<Sign>)> {
+    match &node.kind {
+        Kind::Group => None,
+        Kind::Item(item) => Some((item.usage, item.sign)),
+    }
+}
+
+/// Items have the usage and the sign of the groups that hold them.
+#[test]
+fn inherited_clauses(rt: HostRuntime) -> Result<(), Fail> {
+    let text = lines_of(
+        rt.alloc(),
+        "01 R SIGN LEADING SEPARATE.|05 G COMP-3.|10 A PIC S9.|05 B PIC S9.|05 C PIC S9 TRAILING.|05 D PIC X.",
+    )?;
+    let book = Book::read(rt.alloc(), Role::In, text.as_slice())?;
+    let leading = Sign {
+        leading: true,
+        separate: true,
+    };
+    let trailing = Sign {
+        leading: false,
+        separate: false,
+    };
+    let [group, b, c, d] = book.root().children.as_slice() else {
+        return Err(Fail::new("four entries"));
+    };
+    assert_eq!(rt; usage_and_sign(group), None);
+    assert_eq!(rt;
+        group.children.first().and_then(usage_and_sign),
+        Some((Usage::Packed, None))
+    );
+    assert_eq!(rt; usage_and_sign(b), Some((Usage::Display, Some(leading))));
+    assert_eq!(rt; usage_and_sign(c), Some((Usage::Display, Some(trailing))));
+    assert_eq!(rt; usage_and_sign(d), Some((Usage::Display, None)));
+    assert_eq!(rt; (d.number, d.line, d.level), (5, 6, 5));
+    Ok(())
+}
+
+/// A table that varies has the number of its count.
+#[test]
+fn numbers_of_counts(rt: HostRuntime) -> Result<(), Fail> {
+    let text = lines_of(
+        rt.alloc(),
+        "05 G.|10 N PIC 9.|05 N PIC 9.|05 T PIC X OCCURS 2 TO 7 DEPENDING ON N OF G.|05 U PIC X OCCURS 4.",
+    )?;
+    let book = Book::read(rt.alloc(), Role::In, text.as_slice())?;
+    let [_, _, varying, fixed] = book.root().children.as_slice() else {
+        return Err(Fail::new("four entries"));
+    };
+    assert_eq!(rt;
+        varying.occurs,
+        Times::Varying {
+            least: 2,
+            most: 7,
+            count: 2
+        }
+    );
+    assert_eq!(rt; fixed.occurs, Times::Fixed(4));
+    Ok(())
+}
+
+/// A record that its text doesn't name is named by its role.
+#[test]
+fn named_by_role(rt: HostRuntime) -> Result<(), Fail> {
+    for (role, want) in [(Role::In, "IN-RECORD"), (Role::Out, "OUT-RECORD")] {
+        let text = lines_of(rt.alloc(), "05 A PIC X(2).")?;
+        let book = Book::read(rt.alloc(), role, text.as_slice())?;
+        let root = book.root();
+        assert_eq!(rt; (root.number, root.level, root.children.len()), (0, 1, 1));
+        match &root.name {
+            Some(name) => assert_eq!(rt; format!(in rt.alloc(); "{name}")?.as_str(), want),
+            None => return Err(Fail::new("a name")),
+        }
+    }
+    Ok(())
+}
+
+/// Where memory is refused, the answer is T9 or B19 with line 0; nothing else changes.
+#[test]
+fn refused_memory(rt: HostRuntime) {
+    let text =
+        b"       05 G.\n       10 N PIC 9.\n       05 T PIC X OCCURS 2 TO 7 DEPENDING ON N OF G.\n";
+    match Book::read(rt.alloc(), Role::In, text) {
+        Ok(book) => assert_eq!(rt; book.greatest(), 8),
+        Err(fault) => assert!(rt;
+            fault
+                == BookFault {
+                    rule: BookRule::Memory,
+                    line: 0
+                }
+                || fault
+                    == BookFault {
+                        rule: BookRule::Source(cob_source::SourceRule::Memory),
+                        line: 0
+                    }
+        ),
+    }
+}

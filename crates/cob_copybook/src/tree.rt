@@ -1,0 +1,55 @@
+//! The tree of a record's entries.
+
+ghost use Rattle.std.specs.Prelude.{◌≡◌, ℕ, ◌≤◌, List, [], ◌∷◌, map, IfOk, IfErr, IsNone};
+ghost use Rattle.cob_entries.specs.Described.{Described, described};
+ghost use Rattle.cob_tree.specs.Forests.{Forest};
+ghost use Rattle.cob_tree.specs.Branches.{AreLevels, StandsFor, forest_of};
+ghost use Rattle.cob_rules.specs.Rules.{AgreeAll};
+ghost use Rattle.cob_copybook.specs.Records.{IsTreeRefusal};
+ghost use Rattle.cob_entries.specs.declared.fault.BookRule.TheVariants.{Memory};
+
+use cob_entries::{BookFault, BookRule, Entry};
+use cob_rules::{breaks_no_rule, judged};
+use cob_tree::{Branch, one_tree, planted};
+use std::alloc::Global;
+
+/// The line of an entry whose level is not allowed: 01 for the record, 02 to 49 for the others.
+fn wrong_level(entries: &[Entry]) -> Option<u32>
+    ensures fine { IsNone result → AreLevels (map described entries.now) }
+    ensures must { AreLevels (map described entries.now) → IsNone result }
+{
+    let Some((first, others)) = entries.split_first() else {
+        return Some(1);
+    };
+    if first.level != 1 {
+        return Some(first.line);
+    }
+    for entry in others {
+        if entry.level < 2 || entry.level > 49 {
+            return Some(entry.line);
+        }
+    }
+    None
+}
+
+/// The tree that entries stand for, where their clauses agree.
+///
+/// # Errors
+/// A rule on levels or clauses that the entries break; want of memory.
+pub(crate) fn tree_of(alloc: Global, entries: Vec<Entry>) -> Result<Branch, BookFault>
+    ensures found { IfOk result (λ b. StandsFor (map described entries.items) (forest_of (b ∷ [])) × AgreeAll (forest_of (b ∷ []))) }
+    ensures only { (t : Forest Described) → StandsFor (map described entries.items) t → AgreeAll t → IfOk result (λ b. forest_of (b ∷ []) ≡ t) × IfErr result (λ f. f.rule ≡ Memory) }
+    ensures fault { IfErr result (λ f. IsTreeRefusal f.rule (map described entries.items)) }
+{
+    one_tree();
+    breaks_no_rule();
+    if let Some(line) = wrong_level(&entries) {
+        return Err(BookFault {
+            rule: BookRule::Level,
+            line,
+        });
+    }
+    let tree = planted(alloc, entries)?;
+    judged(&tree)?;
+    Ok(tree)
+}
