@@ -1,5 +1,5 @@
 -- The forest of a list of branches.
-use Rattle.std.proofs.Common.{◌≡◌, ℕ, ◌+◌, ◌<◌, Bool, ◌||◌, is_some, List, [], ◌∷◌, ◌++◌, length, drop, get_or, sym, ap, ◌∙◌, append_assoc}
+use Rattle.std.proofs.Common.{refl, ◌≡◌, ℕ, ◌+◌, ◌<◌, Bool, ◌||◌, is_some, List, [], ◌∷◌, ◌++◌, length, drop, get_or, sym, ap, ◌∙◌, append_assoc, arith}
 use Rattle.std.proofs.lemmas.List.{at_drop_more}
 use Rattle.cob_entries.specs.Described.{Described, described}
 use Rattle.cob_tree.specs.declared.branch.Branch.{Branch}
@@ -29,3 +29,14 @@ pub step_names : (all m m1 m2 : List Bearer) (above beneath : List (List ℕ)) (
     → all ≡ m2 ++ bearers above tab n2 more
 step_names all m m1 m2 above beneath tab inside n n1 n2 d kids more e eb ei e1 e2 f g =
     regroup all m m1 m2 (bearers beneath inside n1 kids) (bearers above tab n2 more) (bearer_at above inside n d) (rw (eb, ei, e2, e1) e) f g
+
+-- the names beneath matter only where there are children
+pub step_kids : (all m m1 m2 : List Bearer) (above beneath : List (List ℕ)) (tab inside : Bool) (n n1 n2 : ℕ) (d : Described) (kids : List Branch) (more : Forest Described)
+    → all ≡ m ++ bearers above tab n (Grows d (forest_of kids) more)
+    → (0 < length kids → beneath ≡ with_name d.name above) → inside ≡ (tab || is_some d.occurs) → n1 ≡ n + 1 → n2 ≡ n1 + entries_in (forest_of kids)
+    → m1 ≡ m ++ bearer_at above inside n d ∷ [] → m2 ≡ m1 ++ bearers beneath inside n1 (forest_of kids)
+    → all ≡ m2 ++ bearers above tab n2 more
+step_kids all m m1 m2 above beneath tab inside n n1 n2 d [] more e eb ei e1 e2 f g =
+    step_names all m m1 m2 above (with_name d.name above) tab inside n n1 n2 d (forest_of []) more e refl ei e1 e2 f g
+step_kids all m m1 m2 above beneath tab inside n n1 n2 d (k ∷ ks) more e eb ei e1 e2 f g =
+    step_names all m m1 m2 above beneath tab inside n n1 n2 d (forest_of (k ∷ ks)) more e (eb (omega arith)) ei e1 e2 f g

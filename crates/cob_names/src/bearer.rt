@@ -1,5 +1,6 @@
-ghost use Rattle.std.specs.Prelude.{◌≡◌, ℕ, ◌+◌, ◌≤◌, List, [], ◌∷◌, ◌++◌, map, length, IfOk, OnOk, Bool, ◌||◌, is_some};
+ghost use Rattle.std.specs.Prelude.{◌≡◌, ℕ, ◌+◌, ◌<◌, ◌≤◌, List, [], ◌∷◌, ◌++◌, map, length, IfOk, OnOk, Bool, ◌||◌, is_some};
 ghost use Rattle.cob_entries.specs.Described.{described};
+ghost use Rattle.cob_tree.specs.declared.branch.Branch.TheViews.{out-Branch};
 ghost use Rattle.cob_tree.specs.Forests.{flat, entries_in};
 ghost use Rattle.cob_tree.specs.Branches.{forest_of};
 ghost use Rattle.cob_names.specs.Bearers.{bearer_at, bearers, with_name};
@@ -21,16 +22,19 @@ pub struct Bearer<'a> {
     pub in_table: bool,
 }
 
-/// The names above the children of an entry, the nearest first.
+/// The names above the children of an entry, the nearest first; none are gathered where it has no children.
 fn names_beneath<'a>(
     alloc: Global,
-    entry: &'a Entry,
+    branch: &'a Branch,
     above: &[&'a [u8]],
 ) -> Result<Vec<&'a [u8]>, AllocError>
-    ensures { IfOk result (λ v. texts v.items ≡ with_name (described entry.now).name (texts above.now)) }
+    ensures { IfOk result (λ v. 0 < length (out-Branch branch.now).children.items → texts v.items ≡ with_name (described (out-Branch branch.now).entry).name (texts above.now)) }
 {
     let mut names = Vec::new(alloc);
-    if let Some(name) = &entry.name {
+    if branch.children.is_empty() {
+        return Ok(names);
+    }
+    if let Some(name) = &branch.entry.name {
         names.push(name.as_bytes())?;
     }
     names.extend_from_slice(above)?;
@@ -68,7 +72,12 @@ fn list_entry<'a>(
     Ok(())
 }
 
-/// Puts the entries of the branches behind those that are listed, in order.
+/// Puts the entries of the branches behind those that are listed, in order. The names `above` are those of the groups that the branches
+/// stand in, the nearest first.
+///
+/// # Errors
+///
+/// Memory for a list was refused.
 pub fn list_bearers<'a>(
     alloc: Global,
     above: &[&'a [u8]],
@@ -84,7 +93,7 @@ pub fn list_bearers<'a>(
     for branch in branches {
         let entry = &branch.entry;
         let inside = is_in_table(in_table, entry);
-        let beneath = names_beneath(alloc, entry, above)?;
+        let beneath = names_beneath(alloc, branch, above)?;
         list_entry(alloc, above, inside, entry, listed)?;
         list_bearers(
             alloc,

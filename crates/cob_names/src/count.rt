@@ -1,9 +1,8 @@
 ghost use Rattle.std.specs.Prelude.{◌≡◌, ℕ, ◌≤◌, List, [], ◌∷◌, map, IsTrue, IfOk, IfErr, IfSome, IsSomeAnd, IsOkAnd};
-ghost use Rattle.cob_entries.specs.Described.{described};
+ghost use Rattle.cob_entries.specs.Described.{Described, described};
 ghost use Rattle.cob_entries.specs.declared.fault.BookRule.TheVariants.{Memory, Count};
 ghost use Rattle.cob_tree.specs.Forests.{Forest, entries_in};
 ghost use Rattle.cob_tree.specs.Branches.{forest_of};
-ghost use Rattle.cob_entries.specs.Described.{Described};
 ghost use Rattle.cob_names.specs.Counts.{IsWholeNumber, MayCount, IsCount, IsCountOf, AreCounts, AreCountsOf, IsRefusedAmong, IsRefused};
 ghost use Rattle.cob_names.specs.Listed.{bearer_of, entry_of};
 
@@ -15,7 +14,7 @@ use cob_tree::Branch;
 use std::alloc::Global;
 use std::slice;
 
-/// Whether it is the picture of a whole number.
+/// Whether it is the picture of a number without a fraction, and without P.
 fn is_whole_number(picture: &Picture) -> bool
     ensures yes { IsTrue result → IsWholeNumber picture.now }
     ensures must { IsWholeNumber picture.now → IsTrue result }
@@ -23,7 +22,7 @@ fn is_whole_number(picture: &Picture) -> bool
     picture.category() == Category::Numeric && picture.scale() == 0
 }
 
-/// Whether the entry may be a count.
+/// Whether the entry may be a count: a whole number that is no table, stands in none, and isn't edited by BLANK WHEN ZERO.
 fn may_count(bearer: &Bearer) -> bool
     ensures yes { IsTrue result → MayCount (bearer_of bearer.now) }
     ensures must { MayCount (bearer_of bearer.now) → IsTrue result }
@@ -34,7 +33,7 @@ fn may_count(bearer: &Bearer) -> bool
     }
 }
 
-/// The number of the count that table `number` names.
+/// The number of the count that table `number` names: none where nothing may be its count.
 fn named_count(directory: &Directory, number: usize, count: &Qualified) -> Option<usize>
     ensures found { IfSome result (λ c. IsCount (map bearer_of directory.now.bearers.now) number count.now.name count.now.qualifiers.items c) }
     ensures only { (c : ℕ) → IsCount (map bearer_of directory.now.bearers.now) number count.now.name count.now.qualifiers.items c → IsSomeAnd result (λ d. d ≡ c) }
@@ -78,11 +77,12 @@ fn counts_of(alloc: Global, directory: &Directory) -> Result<Vec<usize>, BookFau
     Ok(counts)
 }
 
-/// The number of each table's count, at the table's own number; 0 for the other entries.
+/// The number of each table's count, at the table's own number; 0 for the other entries. Entries are numbered from 0, a parent before
+/// its children.
 ///
 /// # Errors
 ///
-/// B9 on the line of a table whose count is none, B19 where memory is refused.
+/// B9 on the line of the first table that has no count; B19 where memory is refused.
 pub fn counts(alloc: Global, root: &Branch) -> Result<Vec<usize>, BookFault>
     requires few { entries_in (forest_of (root.now ∷ [])) ≤ 65535 }
     ensures found { IfOk result (λ v. AreCountsOf (forest_of (root.now ∷ [])) v.items) }

@@ -13,6 +13,7 @@ use std::alloc::{AllocError, Global};
 /// The entries of a record, to be found by their names.
 #[derive(Drop)]
 pub struct Directory<'b, 'a> {
+    /// All entries, in order.
     pub bearers: &'b [Bearer<'a>],
     /// For each entry that has a name, the place of the last one before it of the same name.
     earlier: Vec<Option<usize>>,
@@ -24,7 +25,7 @@ pub struct Directory<'b, 'a> {
     ghost latest: { (name : List ℕ) → IsLast (names_of (map bearer_of bearers.now)) name (length bearers.now) (noted_for last name) },
 }
 
-/// Notes an entry as the last one of its name, and answers the one that was noted before.
+/// Notes an entry as the last one of its name, and answers the place of the one that was noted before. One without a name isn't noted.
 fn note<'a>(
     last: &mut IndexMap<&'a [u8], usize>,
     entry: &'a Entry,
@@ -42,6 +43,10 @@ fn note<'a>(
 
 impl<'b, 'a> Directory<'b, 'a> {
     /// A directory of these entries.
+    ///
+    /// # Errors
+    ///
+    /// Memory for a list was refused.
     pub fn new(alloc: Global, bearers: &'b [Bearer<'a>]) -> Result<Directory<'b, 'a>, AllocError>
         ensures { IfOk result (λ d. d.bearers.now ≡ bearers.now) }
     {

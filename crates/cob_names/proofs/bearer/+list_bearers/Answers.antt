@@ -1,4 +1,4 @@
-use Rattle.std.proofs.Common.{◌≡◌, List, ◌+◌, sym, ap, ◌∙◌, map, ◌++◌, arith, drop, length}
+use Rattle.std.proofs.Common.{◌≡◌, List, ◌+◌, ◌<◌, sym, subst, ap, ◌∙◌, map, ◌++◌, arith, drop, length}
 use Rattle.cob_tree.specs.Forests.{Forest, Grows, flat, entries_in}
 use Rattle.cob_tree.specs.Branches.{forest_of}
 use Rattle.cob_tree.specs.declared.branch.Branch.{Branch}
@@ -6,7 +6,7 @@ use Rattle.cob_entries.specs.Described.{Described, described}
 use Rattle.cob_tree.specs.declared.branch.Branch.TheViews.{out-Branch}
 use Rattle.cob_names.specs.Bearers.{bearers}
 use Rattle.cob_names.specs.Listed.{bearer_of, entry_of, texts}
-use Rattle.cob_names.proofs.Branches.{forest_at, regroup, step_names}
+use Rattle.cob_names.proofs.Branches.{forest_at, regroup, step_kids}
 use Rattle.cob_names.proofs.bearer.+list_bearers.Goals as goal
 
 pub loop-branch-preserved : goal.loop-branch-preserved
@@ -23,9 +23,9 @@ loop-branch-preserved t c =
     let n = length c.loop-branch.listed.items in
     record {
       room = c.loop-branch.invariant.room ∙ ap (λ (f : Forest Described). n + entries_in f) here ∙ omega (arith, one, some);
-      names = step_names _ _ _ _ above _ c.args.in_table _ n _ _ d (forest_of kids) more
+      names = step_kids _ _ _ _ above _ c.args.in_table _ n _ _ d kids more
           (c.loop-branch.invariant.names ∙ ap (λ (f : Forest Described). map bearer_of c.loop-branch.listed.items ++ bearers above c.args.in_table n f) here)
-          (ap texts c.as_slice.ensures.value ∙ c.in_ok-beneath.ensures) c.is_in_table-inside.ensures one some c.in_ok-list_entry.ensures.bearers c.in_ok-list_bearers.ensures.bearers;
+          (λ some. ap texts c.as_slice.ensures.value ∙ c.in_ok-beneath.ensures (subst (λ (bs : List Branch). 0 < length bs) c.as_slice-in-loop-branch.ensures.value some)) c.is_in_table-inside.ensures one some c.in_ok-list_entry.ensures.bearers c.in_ok-list_bearers.ensures.bearers;
       written = regroup _ _ _ _ (flat (forest_of kids)) (flat more) d
           (c.loop-branch.invariant.written ∙ ap (λ (f : Forest Described). map entry_of c.loop-branch.listed.items ++ flat f) here)
           c.in_ok-list_entry.ensures.entries c.in_ok-list_bearers.ensures.entries;
