@@ -8,6 +8,7 @@ use Rattle.cob_tree.specs.Forests.{Forest, Bare, Grows, Tree}
 use Rattle.cob_tree.specs.Nodes.{Resolved}
 use Rattle.cob_tree.specs.Lengths.{most, whole}
 
+-- a table with DEPENDING ON
 abbrev pub is_varying : Times → Bool
 is_varying Once = false
 is_varying (Fixed n) = false
@@ -39,6 +40,7 @@ pub record FitsArea (first t : Tree Resolved) : Type 0 where
   pub also_steady : IsSteady t
   pub fits : whole most t.top t.beneath ≤ whole most first.top first.beneath
 
+-- an entry may redefine the area of these, which the first of them began
 abbrev pub FitsFirst : List (Tree Resolved) → Tree Resolved → Type 0
 FitsFirst [] t = ⊥
 FitsFirst (first ∷ ts) t = FitsArea first t

@@ -3,8 +3,7 @@ use Rattle.std.specs.Prelude.{◌≡◌, ℕ, ◌+◌, ◌*◌, ◌^◌, ◌<◌
 use Rattle.cob_decimal.specs.Decimal.{number_of}
 use Rattle.cob_picture.specs.Positions.{Seen}
 use Rattle.cob_picture.specs.Counts as counts
-use Rattle.cob_clauses.specs.declared.kinds.Figurative.{Figurative}
-use Rattle.cob_clauses.specs.declared.kinds.Figurative.TheVariants.{Space, Zero, HighValue, LowValue, Quote}
+use Rattle.cob_clauses.specs.declared.kinds.Figurative.TheVariants.{Zero}
 use Rattle.cob_entries.specs.Described.{Constant, Numeric, Quoted, Figure, Repeated}
 use Rattle.cob_tree.specs.declared.node.Kind.{Kind}
 use Rattle.cob_tree.specs.declared.node.Kind.TheVariants.{Group, Item as ItemKind}
@@ -48,6 +47,7 @@ IsCharacterValue size (Repeated text) = Unit {0}
 abbrev pub is_number : Item → Bool
 is_number i = is_numeric i.picture.category && not i.blank
 
+-- an item takes a numeric value if it is a number, and characters if it isn't
 abbrev pub IsItemValue : Bool → Item → ℕ → Constant → Type 0
 IsItemValue true i size c = IsNumericValue i.picture c
 IsItemValue false i size c = IsCharacterValue size c

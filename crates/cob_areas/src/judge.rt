@@ -23,7 +23,7 @@ fn line_of(root: &Node) -> u32 {
     }
 }
 
-/// Whether a record isn't too long.
+/// Whether a record isn't too long. One that redefines takes no room of its own, and breaks the rule on areas.
 fn is_short(root: &Node) -> bool
     ensures { IsTrue result ↔ (sum_of most (forest (root.now ∷ [])) ≤ MAX_RECORD) }
 {

@@ -1,4 +1,4 @@
-use Rattle.std.proofs.Common.{◌≡◌, ◌≤◌, ◌<◌, ℕ, ◌+◌, sym, ap, subst, ◌∙◌, List, [], ◌∷◌, ◌++◌, drop, map, arith, rules, refl}
+use Rattle.std.proofs.Common.{◌≡◌, ◌≤◌, ℕ, ◌+◌, sym, ap, subst, ◌∙◌, List, [], drop, map, arith, refl}
 use Rattle.std.specs.Option.{is_some}
 use Rattle.cob_tree.specs.Forests.{Forest, Tree}
 use Rattle.cob_tree.specs.Nodes.{Resolved, node, forest}

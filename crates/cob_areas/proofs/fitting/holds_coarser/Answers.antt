@@ -1,7 +1,6 @@
-use Rattle.std.proofs.Common.{◌≡◌, ◌∙◌, ◌≤◌, length, take, drop, arith, sym, ap, subst, ℕ, List, IsTrue}
+use Rattle.std.proofs.Common.{◌≤◌, length, drop, sym, subst, ℕ, List, IsTrue}
 use Rattle.std.specs.Prelude.{◌==◌}
 use Rattle.std.specs.List.{list_all}
-use Rattle.cob_decimal.specs.Decimal.{IsDigits, number_of}
 use Rattle.cob_decimal.proofs.DecimalLemmas.{all_zero}
 use Rattle.cob_areas.proofs.FittingLemmas.{within, is_within, held_at, at_held}
 use Rattle.cob_areas.proofs.fitting.holds_coarser.Goals as goal

@@ -1,5 +1,4 @@
-use Rattle.std.proofs.Common.{◌≡◌, ◌+◌, sym, subst, drop, arith, refl, Bool, ◌||◌}
-use Rattle.std.specs.Option.{is_some}
+use Rattle.std.proofs.Common.{◌≡◌, sym, subst, arith, refl}
 use Rattle.cob_tree.specs.Nodes.{node, forest}
 use Rattle.cob_areas.specs.Values.{AreValues}
 use Rattle.cob_areas.proofs.NodeLemmas.{forest_at, beneath_out}
