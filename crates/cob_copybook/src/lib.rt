@@ -1,4 +1,18 @@
-//! Copybooks: the description of a record.
+//! Copybooks: the description of a record (ANSI X3.23-1985, Data Division: record description entries; IBM Enterprise COBOL for z/OS,
+//! Language Reference, "Data division--data description entry").
+//!
+//! A copybook is a text in reference format: entries with levels, each with its clauses, that stand for the tree of a record.
+//! [`Book::read`] reads one, or says which rule it breaks and on which line. A [`Book`] then answers the record with the entries beneath
+//! it ([`Book::root`]) and its greatest length ([`Book::greatest`]).
+//!
+//! What is promised of [`Book::read`]: what it answers is the tree of the text (clause `found`); every text that is a well-formed record
+//! description is read, but for want of memory (`only`); and a refusal names a rule that is broken (`fault`). The definitions: `IsBookOf`
+//! and `IsRefusal` of specs/Books.antt say it of texts, `IsRecordOf` of specs/Records.antt of entries. Which line is named, no clause
+//! says.
+//!
+//! The crate puts the stages of reading in order, and speaks of no word and no length itself: it stands on `cob_source` for the words of
+//! a text, on `cob_entries` for its entries, on `cob_tree` for the tree, and on `cob_rules`, `cob_names` and `cob_areas` for the rules, by
+//! their public contracts and laws.
 #![tactic(auto)]
 
 mod book;
