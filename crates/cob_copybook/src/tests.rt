@@ -107,14 +107,20 @@ fn reference_format(rt: HostRuntime) -> Result<(), Fail> {
     Ok(())
 }
 
-/// As many entries as a book may have, and one more.
-#[test]
-fn most_entries(rt: HostRuntime) -> Result<(), Fail> {
-    let mut text = Vec::new(rt.alloc());
+/// A record of so many entries, itself among them, one a line.
+fn long_record(alloc: Global, entries: u32) -> Result<Vec<u8>, Fail> {
+    let mut text = Vec::new(alloc);
     text.extend_from_slice(b"       01 R.\n")?;
-    for _ in 1..2_000 {
+    for _ in 1..entries {
         text.extend_from_slice(b"       05 A PIC X.\n")?;
     }
+    Ok(text)
+}
+
+/// As many entries as a book may have, and one more; level 88 isn't counted.
+#[test]
+fn most_entries(rt: HostRuntime) -> Result<(), Fail> {
+    let mut text = long_record(rt.alloc(), 2_000)?;
     let book = Book::read(rt.alloc(), Role::In, text.as_slice())?;
     assert_eq!(rt; book.greatest(), 1_999);
     text.extend_from_slice(b"       88 B VALUE 'X'.\n")?;
@@ -125,6 +131,13 @@ fn most_entries(rt: HostRuntime) -> Result<(), Fail> {
         shown(rt.alloc(), text.as_slice())?.as_str(),
         "B15 line 2002"
     );
+    for entries in [2_001, 2_500] {
+        let longer = long_record(rt.alloc(), entries)?;
+        assert_eq!(rt;
+            shown(rt.alloc(), longer.as_slice())?.as_str(),
+            "B15 line 2001"
+        );
+    }
     Ok(())
 }
 
