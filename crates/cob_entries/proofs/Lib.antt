@@ -6,3 +6,4 @@ pub mod Qualifiers
 pub mod Sentences
 pub mod Reading
 pub mod Endings
+pub mod OneList

@@ -5,3 +5,4 @@ pub mod Breaks
 pub mod Signs
 pub mod Short
 pub mod Adds
+pub mod Laws
