@@ -1,5 +1,5 @@
 -- Storages that agree have the same counts.
-use Rattle.std.proofs.Common.{◌≡◌, ℕ, ◌+◌, ◌<◌, ◌≤◌, List, [], ◌∷◌, length, refl, sym, ap, subst, ◌∙◌, arith, Option, Some, None, Bool, true, false, inl, inr, Ok, Err, Result, ◌*◌}
+use Rattle.std.proofs.Common.{◌≡◌, ℕ, ◌+◌, ◌<◌, ◌≤◌, List, [], ◌∷◌, length, refl, sym, subst, arith, Bool, true, false, inl, inr, Ok, Err, Result, ◌*◌}
 use Rattle.std.specs.Prelude.{slice_set, slice_index}
 use Rattle.cob_tree.specs.declared.node.Item.{Item}
 use Rattle.cob_tree.specs.Forests.{Forest, Bare, Grows, Tree, entries_in}
@@ -10,8 +10,8 @@ use Rattle.cob_places.specs.declared.places.Found.{Found}
 use Rattle.cob_places.specs.declared.varying.Table.{Table}
 use Rattle.cob_places.specs.Lengths.{times, times_by}
 use Rattle.cob_places.specs.Cover.{AreNumbered}
-use Rattle.cob_places.specs.Counts.{part_of, IsCount, IsFaulty, Says, IsCounted, Taken}
-use Rattle.cob_places.specs.Agree.{DoAgree, SameCounts, AgreeBelow}
+use Rattle.cob_places.specs.Counts.{part_of, IsCount, IsFaulty, Says, IsCounted}
+use Rattle.cob_places.specs.Agree.{DoAgree, SameCounts}
 
 same_faulty : (s : Bool) (i : Item) (x : Table) (f : Found) (a b : List ℕ) → length a ≡ length b → part_of f a ≡ part_of f b → IsFaulty s i x f a → IsFaulty s i x f b
 same_faulty true i x f a b n p h = omega (arith, n, h)
@@ -30,6 +30,10 @@ same_counts t a b [] c r n h k = k
 same_counts t a b (x ∷ xs) c r n h (inl k) =
     inl (k.0, same_counted t a b x xs c (Ok k.0) n h k.1, same_counts t a b xs (slice_set c x.number k.0) r n (h.1 k.0 k.1) k.2)
 same_counts t a b (x ∷ xs) c r n h (inr k) = inr (k.0, same_counted t a b x xs c (Err k.0) n h k.1, k.2)
+
+-- the counts agree on the tables before this number
+abbrev pub AgreeBelow : ℕ → List ℕ → List ℕ → Type 0
+AgreeBelow n c d = (k : ℕ) → k < n → slice_index c k ≡ slice_index d k
 
 -- counts that agree on the entries give them one length
 pub sum_same : (c d : List ℕ) (f : Forest Resolved) (n m : ℕ) → AreNumbered n f → n + entries_in f ≤ m → AgreeBelow m c d → sum_of (times c) f ≡ sum_of (times d) f

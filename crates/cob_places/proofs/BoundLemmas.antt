@@ -1,14 +1,13 @@
 -- A place that is found lies within the record.
-use Rattle.std.proofs.Common.{◌≡◌, ℕ, ◌+◌, ◌-◌, ◌*◌, ◌<◌, ◌≤◌, List, [], ◌∷◌, length, refl, sym, ap, subst, ◌∙◌, arith, Option, Some, None, Bool, true, false, ◌==◌}
-use Rattle.std.specs.Prelude.{IfSome}
+use Rattle.std.proofs.Common.{ℕ, ◌+◌, ◌*◌, ◌≤◌, List, arith, Option, Some, None, Bool, true, false}
 use Rattle.cob_tree.specs.Forests.{Forest, Bare, Grows, Tree}
 use Rattle.cob_tree.specs.Nodes.{Resolved}
-use Rattle.cob_tree.specs.Lengths.{most, room, sum_of, element, whole}
+use Rattle.cob_tree.specs.Lengths.{most, element, whole}
 use Rattle.cob_places.specs.declared.places.Found.{Found}
-use Rattle.cob_places.specs.Lengths.{times, ArePossible, AreInAreas, AreWithin, IsFit, alone}
-use Rattle.cob_places.specs.Places.{find, find_one, begins, or_else, also, choose, is_table, skipped, later, is_there, EndsBy, EndInRecord}
+use Rattle.cob_places.specs.Lengths.{times, alone}
+use Rattle.cob_places.specs.Places.{find, find_one, begins, or_else, also, choose, is_table, skipped, EndsBy, EndInRecord}
 use Rattle.cob_places.proofs.ForestLemmas.{element_le, within_always}
-use Rattle.cob_places.proofs.PlaceLemmas.{Left, Fits, fits, first_of, rest_of, element_fits, beneath_fits}
+use Rattle.cob_places.proofs.PlaceLemmas.{Left, Fits, first_of, rest_of, element_fits, beneath_fits}
 
 either_fits : (m : ℕ) (o p : Option Found) → EndsBy m o → EndsBy m p → EndsBy m (or_else o p)
 either_fits m None p h k = k

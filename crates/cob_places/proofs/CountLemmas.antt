@@ -1,27 +1,22 @@
 -- The counts of tables, one behind another.
 use Rattle.std.proofs.Common.{◌≡◌, ℕ, ◌+◌, ◌-◌, ◌*◌, ◌<◌, ◌≤◌, List, [], ◌∷◌, ◌++◌, length, get_or, take, drop, refl, sym, ap, subst, ◌∙◌, arith, Option, Some, None, Bool, true, false, Ok, Err, Result, inl, inr, ◌==◌, append-nil, append_assoc}
 use Rattle.std.specs.Prelude.{slice_set}
-use Rattle.std.specs.List.{AllByRecursion}
 use Rattle.std.proofs.lemmas.List.{drop_more, drop_all, take_more, take-append-drop}
 use Rattle.cob_decimal.specs.Decimal.{number_of}
 use Rattle.cob_decimal.proofs.DecimalLemmas.{number_of-push}
-use Rattle.cob_tree.specs.declared.node.Node.{Node}
-use Rattle.cob_tree.specs.declared.node.Node.TheViews.{out-Node}
 use Rattle.cob_tree.specs.declared.node.Item.{Item}
 use Rattle.cob_tree.specs.declared.node.Kind.{Kind}
-use Rattle.cob_tree.specs.declared.node.Kind.TheVariants.{Group, Item as ItemKind}
+use Rattle.cob_tree.specs.declared.node.Kind.TheVariants.{Item as ItemKind}
 use Rattle.cob_tree.specs.Forests.{Forest, Bare, Grows, Tree}
-use Rattle.cob_tree.specs.Nodes.{Resolved, resolved_entry, node}
-use Rattle.cob_tree.specs.Lengths.{one, sum_of, element, item_size}
-use Rattle.cob_items.specs.Items.{Represents}
+use Rattle.cob_tree.specs.Nodes.{Resolved}
+use Rattle.cob_tree.specs.Lengths.{one, sum_of, item_size}
 use Rattle.cob_items.proofs.ItemLemmas.{one_number}
 use Rattle.cob_places.specs.declared.counts.CountFault.{CountFault}
 use Rattle.cob_places.specs.declared.places.Found.{Found}
 use Rattle.cob_places.specs.declared.varying.Table.{Table}
-use Rattle.cob_places.specs.Lengths.{times, alone}
+use Rattle.cob_places.specs.Lengths.{times}
 use Rattle.cob_places.specs.Places.{find, find_one, or_else, choose, also}
-use Rattle.cob_places.specs.Counts.{tables_of, table_of, kind_in, kind_one, part_of, IsCount, IsFaulty, Says, IsCounted, Taken, OneOutcome}
-use Rattle.cob_places.proofs.ForestLemmas.{left, left_is, below, node_out}
+use Rattle.cob_places.specs.Counts.{kind_in, kind_one, part_of, IsCount, IsFaulty, Says, IsCounted, Taken, OneOutcome}
 
 -- ---- digits
 

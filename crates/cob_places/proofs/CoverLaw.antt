@@ -1,5 +1,5 @@
 -- Each offset is in the place of one occurrence.
-use Rattle.std.proofs.Common.{◌≡◌, ℕ, zero, suc, ◌+◌, ◌-◌, ◌*◌, ◌<◌, ◌≤◌, ◌==◌, ◌&&◌, nat_le, nat_lt, List, [], ◌∷◌, ◌++◌, length, map, refl, sym, ap, subst, ◌∙◌, arith, Option, Some, None, Bool, true, false, inl, inr}
+use Rattle.std.proofs.Common.{◌≡◌, ℕ, zero, suc, ◌+◌, ◌-◌, ◌*◌, ◌<◌, ◌≤◌, ◌==◌, nat_le, List, [], ◌∷◌, ◌++◌, map, refl, sym, ap, ◌∙◌, arith, Option, Some, None, Bool, true, false, inl, inr}
 use Rattle.std.specs.List.{AllByRecursion}
 use Rattle.std.specs.Prelude.{count_by, cond, min}
 use Rattle.std.proofs.lemmas.List.Sums.{sum_by-cons}
@@ -11,12 +11,12 @@ use Rattle.cob_tree.specs.declared.node.Kind.{Kind}
 use Rattle.cob_tree.specs.declared.node.Kind.TheVariants.{Group, Item as ItemKind}
 use Rattle.cob_tree.specs.declared.node.Times.{Times}
 use Rattle.cob_tree.specs.declared.node.Times.TheVariants.{Once, Fixed, Varying}
-use Rattle.cob_tree.specs.Forests.{Forest, Bare, Grows, Tree, entries_in}
+use Rattle.cob_tree.specs.Forests.{Forest, Bare, Grows, entries_in}
 use Rattle.cob_tree.specs.Nodes.{Resolved}
 use Rattle.cob_tree.specs.Lengths.{most, most_by, room, one, sum_of, element, whole}
 use Rattle.cob_places.specs.Lengths.{times, times_by}
 use Rattle.cob_places.specs.Places.{is_table, find, or_else, also, choose, begins, skipped, is_there, later}
-use Rattle.cob_places.specs.Cover.{Occurrence, several, under, each, unless, item_or, occurrences, holds, holds_in, IsCovered, AreNumbered, IsTimes, Covering}
+use Rattle.cob_places.specs.Cover.{Occurrence, several, under, each, unless, item_or, occurrences, holds, holds_in, AreNumbered, IsTimes, Covering}
 use Rattle.cob_places.proofs.CoverLemmas.{Piece, piece_under, pieces, Tiles, tiles}
 
 inside : (o a n : ℕ) → a ≤ o → o < a + n → holds o a n ≡ true

@@ -1,12 +1,12 @@
 -- The pieces of a record stand side by side.
-use Rattle.std.proofs.Common.{◌≡◌, ℕ, zero, suc, ◌+◌, ◌-◌, ◌*◌, ◌<◌, ◌≤◌, List, [], ◌∷◌, ◌++◌, length, map, refl, sym, ap, subst, ◌∙◌, arith, Option, Some, None, Bool, true, false}
+use Rattle.std.proofs.Common.{◌≡◌, ℕ, zero, suc, ◌+◌, ◌*◌, List, [], ◌∷◌, ◌++◌, map, refl, sym, subst, arith, Option, Some, None, Bool, true, false}
 use Rattle.cob_tree.specs.declared.node.Kind.{Kind}
 use Rattle.cob_tree.specs.declared.node.Kind.TheVariants.{Group, Item as ItemKind}
-use Rattle.cob_tree.specs.Forests.{Forest, Bare, Grows, Tree}
+use Rattle.cob_tree.specs.Forests.{Forest, Bare, Grows}
 use Rattle.cob_tree.specs.Nodes.{Resolved}
-use Rattle.cob_tree.specs.Lengths.{most, room, one, sum_of, element, whole}
+use Rattle.cob_tree.specs.Lengths.{room, one, sum_of, element, whole}
 use Rattle.cob_places.specs.Places.{is_table}
-use Rattle.cob_places.specs.Cover.{Occurrence, several, under, each, unless, item_or, occurrences, holds}
+use Rattle.cob_places.specs.Cover.{Occurrence, several, under, each, unless, item_or}
 
 -- an occurrence and where it stands
 pub record Piece : Type 0 where

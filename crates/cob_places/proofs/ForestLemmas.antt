@@ -1,5 +1,5 @@
 -- The equations of `node`, and bounds on lengths.
-use Rattle.std.proofs.Common.{◌≡◌, ℕ, ◌+◌, ◌*◌, ◌<◌, ◌≤◌, List, [], ◌∷◌, ◌++◌, length, map, get_or, take, drop, refl, sym, ap, subst, ◌∙◌, arith, Option, Some, None, is_some, Bool, true, false, ◌≢◌}
+use Rattle.std.proofs.Common.{◌≡◌, ℕ, ◌+◌, ◌*◌, ◌<◌, ◌≤◌, List, ◌∷◌, length, get_or, drop, refl, sym, ap, subst, ◌∙◌, arith, Option, Some, None, is_some, true, false}
 use Rattle.std.proofs.lemmas.List.{drop_more, drop_all}
 use Rattle.cob_tree.specs.declared.node.Node.{Node}
 use Rattle.cob_tree.specs.declared.node.Node.TheViews.{out-Node}

@@ -4,5 +4,7 @@ pub mod BoundLemmas
 pub mod CoverLemmas
 pub mod CoverLaw
 pub mod CountLemmas
+pub mod NeedLaw
+pub mod NeedLemmas
 pub mod AgreeLaw
 pub mod PlaceLaw

@@ -1,18 +1,32 @@
 -- Counts that agree on what a reference needs give it one place.
-use Rattle.std.proofs.Common.{◌≡◌, ℕ, ◌+◌, ◌-◌, ◌*◌, ◌<◌, ◌≤◌, ◌==◌, ◌&&◌, nat_le, nat_lt, List, [], ◌∷◌, refl, sym, ap, subst, ◌∙◌, arith, Option, Some, None, Bool, true, false, inl, inr}
+use Rattle.std.proofs.Common.{◌≡◌, ℕ, ◌+◌, ◌*◌, ◌<◌, ◌≤◌, ◌==◌, nat_le, List, refl, sym, ap, subst, ◌∙◌, arith, Option, Some, None, Bool, true, false, inl, inr}
 use Rattle.std.specs.Prelude.{slice_index, if◌then◌else◌, ◌||◌}
 use Rattle.std.proofs.lemmas.Bool.Decides.{nat_tests}
 use Rattle.std.proofs.lemmas.Bool.{cases_lt}
 use Rattle.cob_places.specs.declared.places.Found.{Found}
-use Rattle.cob_tree.specs.Forests.{Forest, Bare, Grows, Tree, entries_in}
+use Rattle.cob_tree.specs.Forests.{Forest, Bare, Grows, entries_in}
 use Rattle.cob_tree.specs.Nodes.{Resolved}
-use Rattle.cob_tree.specs.Lengths.{most, room, one, sum_of, element, whole}
+use Rattle.cob_tree.specs.Lengths.{most, room, one, element, whole}
 use Rattle.cob_places.specs.Lengths.{times, times_by}
 use Rattle.cob_places.specs.Places.{find, or_else, also, choose, begins, is_table, skipped, is_there, later}
 use Rattle.cob_places.specs.Cover.{AreNumbered}
-use Rattle.cob_places.specs.Agree.{AgreeBelow, OnePlace, limit}
+use Rattle.cob_places.specs.Needs.{reach}
+use Rattle.cob_places.specs.Agree.{OnePlace}
 use Rattle.cob_places.proofs.CoverLaw.{absent, differs, not_or}
-use Rattle.cob_places.proofs.AgreeLaw.{sum_same}
+use Rattle.cob_places.proofs.AgreeLaw.{AgreeBelow, sum_same}
+use Rattle.cob_places.proofs.NeedLaw.{has_number, below_needed, reach_le, high}
+
+-- the reach with tables
+abbrev limit : ℕ → Forest Resolved → ℕ
+limit r Bare = 0
+limit r (Grows e kids more) =
+    let end = e.number + 1 + entries_in kids in
+    if nat_le end r then limit r more else
+    if is_table e.occurs || e.number == r then end else limit r kids
+
+limit_reach : (r : ℕ) (f : Forest Resolved) → limit r f ≡ reach true r f
+limit_reach r Bare = refl
+limit_reach r (Grows e kids more) = λ j. if nat_le (e.number + 1 + entries_in kids) r then limit_reach r more j else if is_table e.occurs || (e.number == r) then e.number + 1 + entries_in kids else limit_reach r kids j
 
 le_true : (a b : ℕ) → a ≤ b → nat_le a b ≡ true
 le_true a b h = grind (arith, nat_tests)
@@ -90,9 +104,10 @@ limit_inner r i beneath rest h q = by_two (λ m. limit r beneath ≤ m) (nat_le 
 above : (n m r : ℕ) → m ≡ n → n ≤ r → (m ≡ r → ⊥) → n + 1 ≤ r
 above n m r e l ne = elim (cases_lt n r) [ inl lt ↦ omega arith | inr ge ↦ absurd (ne (omega arith)) ]
 
-pub one_place : OnePlace
-one_place c d Bare n r at area subs h l u g = absurd (omega arith)
-one_place c d (Grows i beneath rest) n r at area subs h l u g = elim (cases_lt r (n + 1 + entries_in beneath)) [
+place_by : (c d : List ℕ) (f : Forest Resolved) (n r at area : ℕ) (subscripts : List ℕ) → AreNumbered n f → n ≤ r → r < n + entries_in f → AgreeBelow (limit r f) c d
+    → find (times c) r f at area subscripts ≡ find (times d) r f at area subscripts
+place_by c d Bare n r at area subs h l u g = absurd (omega arith)
+place_by c d (Grows i beneath rest) n r at area subs h l u g = elim (cases_lt r (n + 1 + entries_in beneath)) [
   | inr ge ↦ (let behind = limit_behind r i beneath rest (omega (arith, h.0)) in
       let q = limit_more (n + 1 + entries_in beneath) r rest h.2 ge (omega arith) in
       let gr : AgreeBelow (limit r rest) c d = subst (λ m. AgreeBelow m c d) behind g in
@@ -103,7 +118,7 @@ one_place c d (Grows i beneath rest) n r at area subs h l u g = elim (cases_lt r
       let skip_c = not_or _ _ _ (find (times c) r rest (at + room i.redefines (whole (times c) i beneath)) (begins i.redefines at area) subs) _ (differs i.number r (omega (arith, h.0))) (absent (times c) r (n + 1) beneath _ _ _ h.1 ge) in
       let skip_d = not_or _ _ _ (find (times d) r rest (at + room i.redefines (whole (times d) i beneath)) (begins i.redefines at area) subs) _ (differs i.number r (omega (arith, h.0))) (absent (times d) r (n + 1) beneath _ _ _ h.1 ge) in
       skip_c ∙ ap (λ w. find (times c) r rest (at + room i.redefines w) (begins i.redefines at area) subs) e
-      ∙ one_place c d rest (n + 1 + entries_in beneath) r _ _ subs h.2 ge (omega arith) gr ∙ sym skip_d)
+      ∙ place_by c d rest (n + 1 + entries_in beneath) r _ _ subs h.2 ge (omega arith) gr ∙ sym skip_d)
   | inl lt ↦ (let none_c = absent_low (times c) r (n + 1 + entries_in beneath) rest (at + room i.redefines (whole (times c) i beneath)) (begins i.redefines at area) subs h.2 lt in
       let none_d = absent_low (times d) r (n + 1 + entries_in beneath) rest (at + room i.redefines (whole (times d) i beneath)) (begins i.redefines at area) subs h.2 lt in
       let same = head_same (i.number == r) (is_table i.occurs) (most i) (begins i.redefines at area) (element (times c) i beneath) (element (times d) i beneath) (times c i) (times d i) subs
@@ -116,6 +131,14 @@ one_place c d (Grows i beneath rest) n r at area subs h l u g = elim (cases_lt r
       (λ t o. let ab = above n i.number r h.0 l (same_not i.number r t) in
       let q = limit_more (n + 1) r beneath h.1 ab (omega arith) in
       let inner = limit_inner r i beneath rest (omega (arith, h.0)) (omega (arith, q.1, h.0)) in
-      one_place c d beneath (n + 1) r o o _ h.1 ab (omega arith) (λ k lk. g k (omega (arith, inner)))) in
+      place_by c d beneath (n + 1) r o o _ h.1 ab (omega arith) (λ k lk. g k (omega (arith, inner)))) in
       drop_rest _ _ none_c ∙ same ∙ sym (drop_rest _ _ none_d))
 ]
+
+pub one_place : OnePlace
+one_place c d f r subscripts h a agree =
+    place_by c d f 0 r 0 0 subscripts h (omega arith) (high 0 r f h a) (λ k lt.
+    let small : k < reach true r f = omega (arith, limit_reach r f, lt) in
+    let m = reach_le true 0 r f h in
+    let there = has_number 0 k f h (omega arith) (omega arith) in
+    agree k there (below_needed r k f h a there small))

@@ -1,8 +1,7 @@
 -- The equations of `find`, and bounds on places.
-use Rattle.std.proofs.Common.{◌≡◌, ℕ, ◌+◌, ◌-◌, ◌*◌, ◌<◌, ◌≤◌, List, [], ◌∷◌, ◌++◌, length, get_or, drop, refl, sym, ap, subst, ◌∙◌, arith, Option, Some, None, is_some, Bool, true, false, ◌≢◌, ◌==◌}
+use Rattle.std.proofs.Common.{◌≡◌, ℕ, ◌+◌, ◌*◌, ◌<◌, ◌≤◌, List, [], ◌∷◌, length, get_or, refl, sym, ap, subst, ◌∙◌, arith, Option, Some, None, Bool, true, false, ◌==◌}
 use Rattle.cob_tree.specs.declared.node.Node.{Node}
 use Rattle.cob_tree.specs.declared.node.Node.TheViews.{out-Node}
-use Rattle.cob_tree.specs.declared.node.Times.{Times}
 use Rattle.cob_tree.specs.declared.node.Kind.{Kind}
 use Rattle.cob_tree.specs.declared.node.Kind.TheVariants.{Group, Item as ItemKind}
 use Rattle.cob_tree.specs.Forests.{Forest, Bare, Grows, Tree}
@@ -11,7 +10,7 @@ use Rattle.cob_tree.specs.Lengths.{most, most_by, room, one, sum_of, element, wh
 use Rattle.cob_places.specs.declared.places.Found.{Found}
 use Rattle.cob_places.specs.Lengths.{times, area_by, ArePossible, AreInAreas, AreWithin, AreLeaves, IsLeaf, IsFit, alone}
 use Rattle.cob_places.specs.Places.{find, find_one, begins, or_else, also, choose, is_table, skipped, later, is_there}
-use Rattle.cob_places.proofs.ForestLemmas.{left, below, below_is, left_is, left_end, redefines_of, node_out, mul-le, element_le, within_always}
+use Rattle.cob_places.proofs.ForestLemmas.{left, below, below_is, left_is, redefines_of, node_out, mul-le, element_le, within_always}
 
 -- the elements that are skipped, and one more, are there at most
 pub skipped_less : (b : Bool) (n : ℕ) (subscripts : List ℕ) → 0 < n → skipped b n subscripts + 1 ≤ n

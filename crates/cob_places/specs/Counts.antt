@@ -5,7 +5,7 @@ use Rattle.cob_decimal.specs.Decimal.{number_of}
 use Rattle.cob_picture.specs.Counts.{scale}
 use Rattle.cob_tree.specs.declared.node.Item.{Item}
 use Rattle.cob_tree.specs.declared.node.Kind.{Kind}
-use Rattle.cob_tree.specs.declared.node.Kind.TheVariants.{Group, Item as ItemKind}
+use Rattle.cob_tree.specs.declared.node.Kind.TheVariants.{Item as ItemKind}
 use Rattle.cob_tree.specs.declared.node.Times.{Times}
 use Rattle.cob_tree.specs.declared.node.Times.TheVariants.{Once, Fixed, Varying}
 use Rattle.cob_tree.specs.Forests.{Forest, Bare, Grows, Tree}
@@ -14,7 +14,7 @@ use Rattle.cob_items.specs.Items.{IsNumberItem, Represents}
 use Rattle.cob_places.specs.declared.counts.CountFault.{CountFault}
 use Rattle.cob_places.specs.declared.places.Found.{Found}
 use Rattle.cob_places.specs.declared.varying.Table.{Table}
-use Rattle.cob_places.specs.Lengths.{times, alone}
+use Rattle.cob_places.specs.Lengths.{times}
 use Rattle.cob_places.specs.Places.{find_one, or_else, choose}
 
 -- an entry that varies is a table with a count

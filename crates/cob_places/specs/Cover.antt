@@ -1,10 +1,10 @@
 -- The occurrences of the items of a record, and that they cover it.
-use Rattle.std.specs.Prelude.{◌≡◌, ℕ, zero, suc, ◌+◌, ◌*◌, ◌<◌, ◌≤◌, Bool, true, false, ◌&&◌, nat_le, nat_lt, count_by, List, [], ◌∷◌, ◌++◌, map, Option, Some, None}
+use Rattle.std.specs.Prelude.{◌≡◌, ℕ, zero, suc, ◌+◌, ◌<◌, ◌≤◌, Bool, true, false, ◌&&◌, nat_le, nat_lt, count_by, List, [], ◌∷◌, ◌++◌, map, Option, Some, None}
 use Rattle.cob_tree.specs.declared.node.Kind.{Kind}
 use Rattle.cob_tree.specs.declared.node.Kind.TheVariants.{Group, Item as ItemKind}
 use Rattle.cob_tree.specs.Forests.{Forest, Bare, Grows, entries_in}
 use Rattle.cob_tree.specs.Nodes.{Resolved}
-use Rattle.cob_tree.specs.Lengths.{element, whole, room, most, sum_of, item_size}
+use Rattle.cob_tree.specs.Lengths.{most, sum_of}
 use Rattle.cob_places.specs.declared.places.Found.{Found}
 use Rattle.cob_places.specs.Lengths.{times}
 use Rattle.cob_places.specs.Places.{find, is_table}

@@ -1,5 +1,5 @@
 -- How often entries occur under counts, and what holds of the entries of every record.
-use Rattle.std.specs.Prelude.{◌≡◌, ℕ, ◌+◌, ◌*◌, ◌<◌, ◌≤◌, List, Option, Some, None, slice_index, min}
+use Rattle.std.specs.Prelude.{ℕ, ◌+◌, ◌<◌, ◌≤◌, List, Option, Some, None, slice_index, min}
 use Rattle.cob_tree.specs.declared.node.Times.{Times}
 use Rattle.cob_tree.specs.declared.node.Times.TheVariants.{Once, Fixed, Varying}
 use Rattle.cob_tree.specs.declared.node.Kind.{Kind}

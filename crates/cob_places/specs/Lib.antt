@@ -2,4 +2,5 @@ pub mod Lengths
 pub mod Places
 pub mod Cover
 pub mod Counts
+pub mod Needs
 pub mod Agree

@@ -1,10 +1,10 @@
 -- Where entries stand in a record.
-use Rattle.std.specs.Prelude.{◌≡◌, ℕ, ◌+◌, ◌-◌, ◌*◌, ◌<◌, ◌≤◌, Bool, true, false, ◌==◌, ◌&&◌, nat_le, min, List, [], ◌∷◌, Option, Some, None, IfSome}
+use Rattle.std.specs.Prelude.{ℕ, ◌+◌, ◌-◌, ◌*◌, ◌≤◌, Bool, true, false, ◌==◌, ◌&&◌, nat_le, min, List, [], ◌∷◌, Option, Some, None, IfSome}
 use Rattle.cob_tree.specs.declared.node.Times.{Times}
 use Rattle.cob_tree.specs.declared.node.Times.TheVariants.{Once, Fixed, Varying}
 use Rattle.cob_tree.specs.Forests.{Forest, Bare, Grows, Tree}
 use Rattle.cob_tree.specs.Nodes.{Resolved}
-use Rattle.cob_tree.specs.Lengths.{element, whole, room, most, most_by}
+use Rattle.cob_tree.specs.Lengths.{element, whole, room, most}
 use Rattle.cob_places.specs.declared.places.Found.{Found}
 use Rattle.cob_places.specs.Lengths.{times, IsFit}
 

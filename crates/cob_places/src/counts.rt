@@ -98,7 +98,12 @@ fn item_with(root: &Node, number: usize) -> Option<&Item>
 }
 
 /// What the bytes say of a table under the counts so far.
-fn count_of(root: &Node, table: Table, bytes: &[u8], counts: &[u32]) -> Result<u32, CountFault>
+pub(crate) fn count_of(
+    root: &Node,
+    table: Table,
+    bytes: &[u8],
+    counts: &[u32],
+) -> Result<u32, CountFault>
     requires fit { IsFit 0 (node root.now) }
     requires countable { IsCountable (node root.now) table }
     ensures ok { IfOk result (λ v. IsCounted (node root.now) bytes.now table counts.now (Ok v)) }

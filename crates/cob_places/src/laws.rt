@@ -1,6 +1,7 @@
 ghost use Rattle.std.specs.Prelude.{ℕ, List};
 ghost use Rattle.cob_tree.specs.Lengths.{most};
 ghost use Rattle.cob_places.specs.Lengths.{times};
+ghost use Rattle.cob_places.specs.Needs.{NeedsAreRead};
 ghost use Rattle.cob_places.specs.Places.{EndInRecord};
 ghost use Rattle.cob_places.specs.Counts.{OneOutcome};
 ghost use Rattle.cob_places.specs.Agree.{OnePlace, SameCounts};
@@ -31,4 +32,9 @@ pub fn same_counts()
 /// Counts that agree on what the place of an entry needs give it one place.
 pub fn one_place()
     ensures { OnePlace }
+{}
+
+/// The counts that are read for the place of an entry are those that it needs, but for those that it is spared where it receives.
+pub fn needs_are_read()
+    ensures { NeedsAreRead }
 {}

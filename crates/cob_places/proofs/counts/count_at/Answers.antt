@@ -1,4 +1,4 @@
-use Rattle.std.proofs.Common.{rules, ◌≡◌, ℕ, ◌+◌, ◌<◌, ◌≤◌, List, refl, sym, subst}
+use Rattle.std.proofs.Common.{ℕ, List, refl, sym, subst}
 use Rattle.cob_places.specs.Counts.{IsCount}
 use Rattle.cob_places.proofs.CountLemmas.{part_same}
 use Rattle.cob_places.proofs.counts.count_at.Goals as goal

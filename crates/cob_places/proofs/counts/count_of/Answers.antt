@@ -1,4 +1,4 @@
-use Rattle.std.proofs.Common.{rules, ◌≡◌, ℕ, ◌+◌, ◌<◌, ◌≤◌, List, [], refl, sym, ap, ◌∙◌}
+use Rattle.std.proofs.Common.{[], sym, ◌∙◌}
 use Rattle.cob_tree.specs.Nodes.{node}
 use Rattle.cob_places.specs.Lengths.{times}
 use Rattle.cob_places.specs.Places.{find_one}

@@ -1,4 +1,4 @@
-use Rattle.std.proofs.Common.{rules, ◌≡◌, ℕ, ◌+◌, ◌*◌, ◌<◌, ◌≤◌, List, length, take, get_or, refl, sym, ap, ◌∙◌, arith}
+use Rattle.std.proofs.Common.{◌+◌, arith}
 use Rattle.cob_places.proofs.CountLemmas.{digits_so_far, one_digit}
 use Rattle.cob_places.proofs.counts.whole.Goals as goal
 

@@ -1,10 +1,8 @@
-use Rattle.std.proofs.Common.{rules, ◌≡◌, ℕ, ◌<◌, ◌≤◌, List, [], ◌∷◌, length, ◌+◌, ◌*◌, refl, sym, ap, subst, ◌∙◌, arith}
-use Rattle.std.proofs.lemmas.Grind.{common_steps}
-use Rattle.cob_tree.specs.declared.node.Node.TheViews.{out-Node}
+use Rattle.std.proofs.Common.{◌≡◌, ◌*◌, refl, ap, arith}
 use Rattle.cob_tree.specs.Nodes.{node}
-use Rattle.cob_tree.specs.Lengths.{most, sum_of, element, whole}
-use Rattle.cob_places.specs.Lengths.{times, alone, ArePossible}
-use Rattle.cob_places.proofs.ForestLemmas.{left, below, below_possible, within_always, element_item, element_group, element_small, left_end, sum_le, next, Next}
+use Rattle.cob_tree.specs.Lengths.{most, sum_of, whole}
+use Rattle.cob_places.specs.Lengths.{times}
+use Rattle.cob_places.proofs.ForestLemmas.{left, below, below_possible, within_always, element_group, element_small, left_end, sum_le, next}
 use Rattle.cob_places.proofs.lengths.+element_of.Goals as goal
 
 pub loop-child-init : goal.loop-child-init

@@ -1,4 +1,4 @@
-use Rattle.std.proofs.Common.{◌≡◌, ℕ, ◌<◌, ◌≤◌, ◌+◌}
+use Rattle.std.proofs.Common.{◌≡◌, ◌≤◌, ◌+◌}
 use Rattle.cob_tree.specs.Lengths.{most, sum_of}
 use Rattle.cob_places.specs.Lengths.{times, ArePossible}
 use Rattle.cob_places.proofs.ForestLemmas.{left, below}

@@ -1,12 +1,12 @@
-use Rattle.std.proofs.Common.{rules, ◌≡◌, ℕ, ◌+◌, ◌*◌, ◌<◌, ◌≤◌, Bool, List, [], ◌∷◌, length, true, false, Option, Some, None, refl, sym, ap, subst, ◌∙◌, arith}
+use Rattle.std.proofs.Common.{◌≡◌, ◌*◌, None, refl, sym, ap, ◌∙◌, arith}
 use Rattle.std.proofs.lemmas.Grind.{common_steps}
 use Rattle.cob_tree.specs.declared.node.Node.TheViews.{out-Node}
 use Rattle.cob_tree.specs.Nodes.{node}
-use Rattle.cob_tree.specs.Lengths.{most, room, element, whole}
-use Rattle.cob_places.specs.Lengths.{times, alone, IsFit}
-use Rattle.cob_places.specs.Places.{find, find_one, also, or_else, begins, is_table, skipped, later, is_there}
-use Rattle.cob_places.proofs.ForestLemmas.{left, below, left_end}
-use Rattle.cob_places.proofs.PlaceLemmas.{Left, Fits, fits, entered, entries, one_is, left_first, left_rest, whole_small, further}
+use Rattle.cob_tree.specs.Lengths.{room, whole}
+use Rattle.cob_places.specs.Lengths.{times}
+use Rattle.cob_places.specs.Places.{find, also}
+use Rattle.cob_places.proofs.ForestLemmas.{left, left_end}
+use Rattle.cob_places.proofs.PlaceLemmas.{fits, entered, entries, one_is, left_first, left_rest, whole_small, further}
 use Rattle.cob_places.proofs.places.+seek.Goals as goal
 
 pub overflow_mul-offset : goal.overflow_mul-offset

@@ -1,4 +1,4 @@
-use Rattle.std.proofs.Common.{◌≡◌, ℕ, ◌<◌, ◌≤◌, ◌+◌}
+use Rattle.std.proofs.Common.{◌≡◌}
 use Rattle.cob_places.specs.Lengths.{times}
 use Rattle.cob_places.specs.Places.{find}
 use Rattle.cob_places.proofs.ForestLemmas.{left, below}
