@@ -2,14 +2,13 @@ mod accepted;
 mod refused;
 
 use crate::{Book, Role};
-use accepted::ACCEPTED;
 use cob_clauses::{Sign, Usage};
 use cob_entries::BookRule;
 use cob_source::SourceRule;
 use cob_tree::{Kind, Node, Times};
-use refused::REFUSED;
 use std::alloc::Global;
 use std::fmt::Write;
+use std::process::Abort;
 use std::test::Fail;
 
 /// Entries that are parted by bars, one a line, from column 8 on.
@@ -54,14 +53,13 @@ fn shown(alloc: Global, text: &[u8]) -> Result<String, Fail> {
     }
 }
 
-/// Well-formed record descriptions.
-#[test]
-fn accepted_books(rt: HostRuntime) -> Result<(), Fail> {
-    for (entries, greatest, tree) in ACCEPTED {
-        let text = lines_of(rt.alloc(), entries)?;
-        let want = format!(in rt.alloc(); "{greatest} {tree}")?;
+/// Whether each row's entries are read to its length and tree.
+fn are_accepted(rt: &impl Abort, alloc: Global, rows: &[(&str, u16, &str)]) -> Result<(), Fail> {
+    for (entries, greatest, tree) in rows {
+        let text = lines_of(alloc, entries)?;
+        let want = format!(in alloc; "{greatest} {tree}")?;
         assert_eq!(rt;
-            shown(rt.alloc(), text.as_slice())?.as_str(),
+            shown(alloc, text.as_slice())?.as_str(),
             want.as_str(),
             "of {entries}"
         );
@@ -69,18 +67,221 @@ fn accepted_books(rt: HostRuntime) -> Result<(), Fail> {
     Ok(())
 }
 
-/// A rule of copybooks broken, and the line.
-#[test]
-fn refused_books(rt: HostRuntime) -> Result<(), Fail> {
-    for (entries, want) in REFUSED {
-        let text = lines_of(rt.alloc(), entries)?;
+/// Whether each row's entries are refused by its rule on its line.
+fn are_refused(rt: &impl Abort, alloc: Global, rows: &[(&str, &str)]) -> Result<(), Fail> {
+    for (entries, want) in rows {
+        let text = lines_of(alloc, entries)?;
         assert_eq!(rt;
-            shown(rt.alloc(), text.as_slice())?.as_str(),
-            want,
+            shown(alloc, text.as_slice())?.as_str(),
+            *want,
             "of {entries}"
         );
     }
     Ok(())
+}
+
+/// Well-formed descriptions: Levels, groups and names.
+#[test]
+fn accepted_levels_1(rt: HostRuntime) -> Result<(), Fail> {
+    are_accepted(&rt, rt.alloc(), &accepted::LEVELS_1)
+}
+
+/// Well-formed descriptions: Levels, groups and names.
+#[test]
+fn accepted_levels_2(rt: HostRuntime) -> Result<(), Fail> {
+    are_accepted(&rt, rt.alloc(), &accepted::LEVELS_2)
+}
+
+/// Well-formed descriptions: PICTURE.
+#[test]
+fn accepted_pictures(rt: HostRuntime) -> Result<(), Fail> {
+    are_accepted(&rt, rt.alloc(), &accepted::PICTURES)
+}
+
+/// Well-formed descriptions: USAGE.
+#[test]
+fn accepted_usages_1(rt: HostRuntime) -> Result<(), Fail> {
+    are_accepted(&rt, rt.alloc(), &accepted::USAGES_1)
+}
+
+/// Well-formed descriptions: USAGE.
+#[test]
+fn accepted_usages_2(rt: HostRuntime) -> Result<(), Fail> {
+    are_accepted(&rt, rt.alloc(), &accepted::USAGES_2)
+}
+
+/// Well-formed descriptions: SIGN.
+#[test]
+fn accepted_signs(rt: HostRuntime) -> Result<(), Fail> {
+    are_accepted(&rt, rt.alloc(), &accepted::SIGNS)
+}
+
+/// Well-formed descriptions: REDEFINES.
+#[test]
+fn accepted_redefinitions(rt: HostRuntime) -> Result<(), Fail> {
+    are_accepted(&rt, rt.alloc(), &accepted::REDEFINITIONS)
+}
+
+/// Well-formed descriptions: OCCURS.
+#[test]
+fn accepted_tables(rt: HostRuntime) -> Result<(), Fail> {
+    are_accepted(&rt, rt.alloc(), &accepted::TABLES)
+}
+
+/// Well-formed descriptions: DEPENDING ON.
+#[test]
+fn accepted_counts_1(rt: HostRuntime) -> Result<(), Fail> {
+    are_accepted(&rt, rt.alloc(), &accepted::COUNTS_1)
+}
+
+/// Well-formed descriptions: DEPENDING ON.
+#[test]
+fn accepted_counts_2(rt: HostRuntime) -> Result<(), Fail> {
+    are_accepted(&rt, rt.alloc(), &accepted::COUNTS_2)
+}
+
+/// Well-formed descriptions: VALUE.
+#[test]
+fn accepted_values_1(rt: HostRuntime) -> Result<(), Fail> {
+    are_accepted(&rt, rt.alloc(), &accepted::VALUES_1)
+}
+
+/// Well-formed descriptions: VALUE.
+#[test]
+fn accepted_values_2(rt: HostRuntime) -> Result<(), Fail> {
+    are_accepted(&rt, rt.alloc(), &accepted::VALUES_2)
+}
+
+/// Well-formed descriptions: JUSTIFIED and BLANK WHEN ZERO.
+#[test]
+fn accepted_placements(rt: HostRuntime) -> Result<(), Fail> {
+    are_accepted(&rt, rt.alloc(), &accepted::PLACEMENTS)
+}
+
+/// Well-formed descriptions: Clauses in any order, and level 88.
+#[test]
+fn accepted_orders(rt: HostRuntime) -> Result<(), Fail> {
+    are_accepted(&rt, rt.alloc(), &accepted::ORDERS)
+}
+
+/// Well-formed descriptions: The greatest record.
+#[test]
+fn accepted_lengths(rt: HostRuntime) -> Result<(), Fail> {
+    are_accepted(&rt, rt.alloc(), &accepted::LENGTHS)
+}
+
+/// Refusals: B1: no data entry.
+#[test]
+fn refused_no_entry(rt: HostRuntime) -> Result<(), Fail> {
+    are_refused(&rt, rt.alloc(), &refused::NO_ENTRY)
+}
+
+/// Refusals: B2: the grammar.
+#[test]
+fn refused_grammar_1(rt: HostRuntime) -> Result<(), Fail> {
+    are_refused(&rt, rt.alloc(), &refused::GRAMMAR_1)
+}
+
+/// Refusals: B2: the grammar.
+#[test]
+fn refused_grammar_2(rt: HostRuntime) -> Result<(), Fail> {
+    are_refused(&rt, rt.alloc(), &refused::GRAMMAR_2)
+}
+
+/// Refusals: B2: the grammar.
+#[test]
+fn refused_grammar_3(rt: HostRuntime) -> Result<(), Fail> {
+    are_refused(&rt, rt.alloc(), &refused::GRAMMAR_3)
+}
+
+/// Refusals: B3: level numbers, items and groups.
+#[test]
+fn refused_levels(rt: HostRuntime) -> Result<(), Fail> {
+    are_refused(&rt, rt.alloc(), &refused::LEVELS)
+}
+
+/// Refusals: B4: pictures.
+#[test]
+fn refused_pictures(rt: HostRuntime) -> Result<(), Fail> {
+    are_refused(&rt, rt.alloc(), &refused::PICTURES)
+}
+
+/// Refusals: B5: USAGE.
+#[test]
+fn refused_usages(rt: HostRuntime) -> Result<(), Fail> {
+    are_refused(&rt, rt.alloc(), &refused::USAGES)
+}
+
+/// Refusals: B6: SIGN.
+#[test]
+fn refused_signs(rt: HostRuntime) -> Result<(), Fail> {
+    are_refused(&rt, rt.alloc(), &refused::SIGNS)
+}
+
+/// Refusals: B7: REDEFINES.
+#[test]
+fn refused_redefinitions_1(rt: HostRuntime) -> Result<(), Fail> {
+    are_refused(&rt, rt.alloc(), &refused::REDEFINITIONS_1)
+}
+
+/// Refusals: B7: REDEFINES.
+#[test]
+fn refused_redefinitions_2(rt: HostRuntime) -> Result<(), Fail> {
+    are_refused(&rt, rt.alloc(), &refused::REDEFINITIONS_2)
+}
+
+/// Refusals: B8: OCCURS.
+#[test]
+fn refused_tables(rt: HostRuntime) -> Result<(), Fail> {
+    are_refused(&rt, rt.alloc(), &refused::TABLES)
+}
+
+/// Refusals: B9: DEPENDING ON.
+#[test]
+fn refused_counts_1(rt: HostRuntime) -> Result<(), Fail> {
+    are_refused(&rt, rt.alloc(), &refused::COUNTS_1)
+}
+
+/// Refusals: B9: DEPENDING ON.
+#[test]
+fn refused_counts_2(rt: HostRuntime) -> Result<(), Fail> {
+    are_refused(&rt, rt.alloc(), &refused::COUNTS_2)
+}
+
+/// Refusals: B10: VALUE.
+#[test]
+fn refused_values_1(rt: HostRuntime) -> Result<(), Fail> {
+    are_refused(&rt, rt.alloc(), &refused::VALUES_1)
+}
+
+/// Refusals: B10: VALUE.
+#[test]
+fn refused_values_2(rt: HostRuntime) -> Result<(), Fail> {
+    are_refused(&rt, rt.alloc(), &refused::VALUES_2)
+}
+
+/// Refusals: B11: JUSTIFIED and BLANK WHEN ZERO.
+#[test]
+fn refused_placements(rt: HostRuntime) -> Result<(), Fail> {
+    are_refused(&rt, rt.alloc(), &refused::PLACEMENTS)
+}
+
+/// Refusals: B12: what is left out by name.
+#[test]
+fn refused_left_out(rt: HostRuntime) -> Result<(), Fail> {
+    are_refused(&rt, rt.alloc(), &refused::LEFT_OUT)
+}
+
+/// Refusals: B13: names.
+#[test]
+fn refused_names(rt: HostRuntime) -> Result<(), Fail> {
+    are_refused(&rt, rt.alloc(), &refused::NAMES)
+}
+
+/// Refusals: B14: the length of the record.
+#[test]
+fn refused_lengths(rt: HostRuntime) -> Result<(), Fail> {
+    are_refused(&rt, rt.alloc(), &refused::LENGTHS)
 }
 
 /// Faults of the reference format come through as themselves, and a continued picture is one.
@@ -170,14 +371,10 @@ fn nested_levels(rt: HostRuntime) -> Result<(), Fail> {
     let book = Book::read(rt.alloc(), Role::In, text.as_slice())?;
     assert_eq!(rt; book.greatest(), 7);
     let mut node = book.root();
-    let mut depth = 1;
     while let Some(child) = node.children.first() {
         node = child;
-        depth += 1;
-        assert_eq!(rt; node.number + 1, depth);
     }
-    assert_eq!(rt; depth, 49);
-    assert_eq!(rt; node.line, 49);
+    assert_eq!(rt; (node.number, node.line, node.level), (48, 49, 49));
     Ok(())
 }
 

@@ -1,7 +1,7 @@
 //! Books that are read: entries parted by bars, one a line, the record's greatest length, and its tree.
 
-pub(super) const ACCEPTED: [(&str, u16, &str); 98] = [
-    // Levels, groups and names.
+/// Levels, groups and names.
+pub(super) static LEVELS_1: [(&str, u16, &str); 12] = [
     ("01 R PIC X.", 1, "R"),
     ("05 A PIC X(2).", 2, "IN-RECORD[A]"),
     (
@@ -26,8 +26,17 @@ pub(super) const ACCEPTED: [(&str, u16, &str); 98] = [
         "R[ABCDEFGHIJKLMNOPQRSTUVWXYZ1234]",
     ),
     ("01 R.|05 1-A_ PIC X.", 1, "R[1-A_]"),
-    ("01 R.|05 A PIC X.|05 A PIC X.", 2, "R[A A]"),
-    // PICTURE.
+];
+
+/// Levels, groups and names.
+pub(super) static LEVELS_2: [(&str, u16, &str); 1] = [(
+    "01 R.|05 A PIC X.|05 A PIC X.",
+    2,
+    "R[A A]",
+)];
+
+/// PICTURE.
+pub(super) static PICTURES: [(&str, u16, &str); 8] = [
     ("01 R.|05 A PICTURE IS X(3).", 3, "R[A]"),
     ("01 R.|05 A PICTURE X(3).", 3, "R[A]"),
     ("01 R.|05 A PIC IS ZZ,ZZ9.99-.", 10, "R[A]"),
@@ -36,7 +45,10 @@ pub(super) const ACCEPTED: [(&str, u16, &str); 98] = [
     ("01 R.|05 A PIC 9(31).", 31, "R[A]"),
     ("01 R.|05 A PIC 9P(3).", 1, "R[A]"),
     ("01 R.|05 A PIC X(249).|05 B PIC X(248)/.", 498, "R[A B]"),
-    // USAGE.
+];
+
+/// USAGE.
+pub(super) static USAGES_1: [(&str, u16, &str); 12] = [
     ("01 R.|05 A PIC 9(3) DISPLAY.", 3, "R[A]"),
     ("01 R.|05 A PIC X USAGE DISPLAY.", 1, "R[A]"),
     ("01 R.|05 A PIC 9(4) COMP.", 2, "R[A]"),
@@ -49,6 +61,10 @@ pub(super) const ACCEPTED: [(&str, u16, &str); 98] = [
     ("01 R.|05 A PIC S9(3) USAGE COMP-3.", 2, "R[A]"),
     ("01 R.|05 A PIC 9(4) COMPUTATIONAL-3.", 3, "R[A]"),
     ("01 R.|05 A PIC S9(31) PACKED-DECIMAL.", 16, "R[A]"),
+];
+
+/// USAGE.
+pub(super) static USAGES_2: [(&str, u16, &str); 2] = [
     (
         "01 R COMP.|05 A PIC 9(4) COMP-4.|05 G BINARY.|10 B PIC 9.",
         4,
@@ -59,7 +75,10 @@ pub(super) const ACCEPTED: [(&str, u16, &str); 98] = [
         5,
         "R[G[H[A]] B]",
     ),
-    // SIGN.
+];
+
+/// SIGN.
+pub(super) static SIGNS: [(&str, u16, &str); 6] = [
     ("01 R.|05 A PIC S9(3) LEADING.", 3, "R[A]"),
     ("01 R.|05 A PIC S9(3) SIGN TRAILING.", 3, "R[A]"),
     ("01 R.|05 A PIC S9(3) SIGN IS LEADING SEPARATE.", 4, "R[A]"),
@@ -78,7 +97,10 @@ pub(super) const ACCEPTED: [(&str, u16, &str); 98] = [
         3,
         "R[G[A] B]",
     ),
-    // REDEFINES.
+];
+
+/// REDEFINES.
+pub(super) static REDEFINITIONS: [(&str, u16, &str); 7] = [
     (
         "01 R.|05 A PIC X(2).|05 B REDEFINES A PIC 9.|05 C REDEFINES A PIC X(2).|05 D REDEFINES C PIC X.",
         2,
@@ -114,7 +136,10 @@ pub(super) const ACCEPTED: [(&str, u16, &str); 98] = [
         5,
         "R[N T A B]",
     ),
-    // OCCURS.
+];
+
+/// OCCURS.
+pub(super) static TABLES: [(&str, u16, &str); 8] = [
     ("01 R.|05 A PIC X OCCURS 3.", 3, "R[A]"),
     ("01 R.|05 A PIC X OCCURS 003 TIMES.", 3, "R[A]"),
     (
@@ -147,7 +172,10 @@ pub(super) const ACCEPTED: [(&str, u16, &str); 98] = [
         8,
         "R[A[B] C[D]]",
     ),
-    // DEPENDING ON.
+];
+
+/// DEPENDING ON.
+pub(super) static COUNTS_1: [(&str, u16, &str); 12] = [
     (
         "01 R.|05 N PIC 9.|05 T PIC X OCCURS 0 TO 3 TIMES DEPENDING ON N.|05 Z PIC X.",
         5,
@@ -208,12 +236,17 @@ pub(super) const ACCEPTED: [(&str, u16, &str); 98] = [
         4,
         "R[A N T]",
     ),
-    (
-        "01 R.|05 G.|10 N PIC 9.|10 T PIC X OCCURS 0 TO 3 DEPENDING ON N.|05 H.|10 U PIC X OCCURS 1 TO 2 DEPENDING ON N.",
-        6,
-        "R[G[N T] H[U]]",
-    ),
-    // VALUE.
+];
+
+/// DEPENDING ON.
+pub(super) static COUNTS_2: [(&str, u16, &str); 1] = [(
+    "01 R.|05 G.|10 N PIC 9.|10 T PIC X OCCURS 0 TO 3 DEPENDING ON N.|05 H.|10 U PIC X OCCURS 1 TO 2 DEPENDING ON N.",
+    6,
+    "R[G[N T] H[U]]",
+)];
+
+/// VALUE.
+pub(super) static VALUES_1: [(&str, u16, &str); 12] = [
     ("01 R.|05 N PIC 9(2)V9 VALUE 12.30.", 3, "R[N]"),
     ("01 R.|05 N PIC 9(2) VALUE 012.", 2, "R[N]"),
     ("01 R.|05 N PIC 9P(2) VALUE IS 500.", 1, "R[N]"),
@@ -234,6 +267,10 @@ pub(super) const ACCEPTED: [(&str, u16, &str); 98] = [
     ),
     ("01 R.|05 A PIC X(3) VALUE 'AB'.", 3, "R[A]"),
     ("01 R.|05 A PIC X(3) VALUES ARE \"ABC\".", 3, "R[A]"),
+];
+
+/// VALUE.
+pub(super) static VALUES_2: [(&str, u16, &str); 9] = [
     ("01 R.|05 A PIC X VALUE ''.", 1, "R[A]"),
     ("01 R.|05 A PIC X(3) VALUE ALL 'ABCD'.", 3, "R[A]"),
     (
@@ -267,7 +304,10 @@ pub(super) const ACCEPTED: [(&str, u16, &str); 98] = [
         "R[N G[T]]",
     ),
     ("01 R.|05 A PIC X(2) OCCURS 3 VALUE 'AB'.", 6, "R[A]"),
-    // JUSTIFIED and BLANK WHEN ZERO.
+];
+
+/// JUSTIFIED and BLANK WHEN ZERO.
+pub(super) static PLACEMENTS: [(&str, u16, &str); 3] = [
     (
         "01 R.|05 A PIC X(3) JUST.|05 B PIC A(3) JUSTIFIED RIGHT.|05 C PIC X JUST RIGHT.",
         7,
@@ -279,7 +319,10 @@ pub(super) const ACCEPTED: [(&str, u16, &str); 98] = [
         "R[A B C]",
     ),
     ("01 R.|05 A PIC 9V9 BLANK WHEN ZERO DISPLAY.", 2, "R[A]"),
-    // Clauses in any order, and level 88.
+];
+
+/// Clauses in any order, and level 88.
+pub(super) static ORDERS: [(&str, u16, &str); 3] = [
     ("01 R.|05 A VALUE 'A' JUST OCCURS 2 PIC X.", 2, "R[A]"),
     (
         "01 R.|05 A PIC X(2).|05 COMP PIC 9 REDEFINES A.",
@@ -291,7 +334,10 @@ pub(super) const ACCEPTED: [(&str, u16, &str); 98] = [
         1,
         "R",
     ),
-    // The greatest record.
+];
+
+/// The greatest record.
+pub(super) static LENGTHS: [(&str, u16, &str); 2] = [
     ("01 R.|05 A PIC X(4094) OCCURS 8.", 32752, "R[A]"),
     ("01 R PIC X(32752).", 32752, "R"),
 ];

@@ -1,11 +1,14 @@
 //! Books that are refused: entries parted by bars, one a line, and the rule and the line that are named.
 
-pub(super) const REFUSED: [(&str, &str); 176] = [
-    // B1: no data entry.
+/// B1: no data entry.
+pub(super) static NO_ENTRY: [(&str, &str); 3] = [
     ("", "B1 line 1"),
     ("|", "B1 line 1"),
     ("|||", "B1 line 1"),
-    // B2: the grammar.
+];
+
+/// B2: the grammar.
+pub(super) static GRAMMAR_1: [(&str, &str); 12] = [
     ("R PIC X.", "B2 line 1"),
     ("01 R PIC X", "B2 line 1"),
     ("01 R.|05 A PIC X", "B2 line 2"),
@@ -18,6 +21,10 @@ pub(super) const REFUSED: [(&str, &str); 176] = [
     ("01 R.|05 A USAGE PIC X.", "B2 line 2"),
     ("01 R.|05 A PIC S9 SIGN.", "B2 line 2"),
     ("01 R.|05 A PIC S9 SEPARATE.", "B2 line 2"),
+];
+
+/// B2: the grammar.
+pub(super) static GRAMMAR_2: [(&str, &str); 12] = [
     ("01 R.|05 A PIC X OCCURS.", "B2 line 2"),
     ("01 R.|05 A PIC X OCCURS B.", "B2 line 2"),
     ("01 R.|05 A PIC X OCCURS 1 TO 3.", "B2 line 2"),
@@ -30,6 +37,10 @@ pub(super) const REFUSED: [(&str, &str); 176] = [
     ("01 R.|05 A PIC X VALUE ALL.", "B2 line 2"),
     ("01 R.|05 A PIC X VALUE ALL 1.", "B2 line 2"),
     ("01 R.|05 A PIC 9 BLANK.", "B2 line 2"),
+];
+
+/// B2: the grammar.
+pub(super) static GRAMMAR_3: [(&str, &str); 9] = [
     ("01 R.|05 A PIC 9 BLANK WHEN SPACE.", "B2 line 2"),
     ("01 R.|05 A PIC X B.", "B2 line 2"),
     ("01 R.|05 A PIC X 'B'.", "B2 line 2"),
@@ -39,7 +50,10 @@ pub(super) const REFUSED: [(&str, &str); 176] = [
     ("88 A VALUE 1.", "B2 line 1"),
     ("01 R PIC X.|88 A.", "B2 line 2"),
     ("01 R PIC X.|88 A 1.", "B2 line 2"),
-    // B3: level numbers, items and groups.
+];
+
+/// B3: level numbers, items and groups.
+pub(super) static LEVELS: [(&str, &str); 11] = [
     ("01 R.|05 A PIC X.|10 B PIC X.", "B3 line 3"),
     ("01 R PIC X.|05 A PIC X.", "B3 line 2"),
     ("01 R.", "B3 line 1"),
@@ -51,7 +65,10 @@ pub(super) const REFUSED: [(&str, &str); 176] = [
     ("01 R.|0 A PIC X.", "B3 line 2"),
     ("01 R.|00 A PIC X.", "B3 line 2"),
     ("49 A PIC X.|99 B PIC X.", "B3 line 2"),
-    // B4: pictures.
+];
+
+/// B4: pictures.
+pub(super) static PICTURES: [(&str, &str); 11] = [
     ("01 R.|05 A PIC X?.", "B4 P2 line 2"),
     ("01 R.|05 A PIC IS Q.", "B4 P2 line 2"),
     ("01 R.|05 A PIC 9(0).", "B4 P3 line 2"),
@@ -63,7 +80,10 @@ pub(super) const REFUSED: [(&str, &str); 176] = [
     ("01 R.|05 A PIC X(249)/.", "B4 P6 line 2"),
     ("01 R.|05 A PIC 9(3)E99.", "B4 P7 line 2"),
     ("01 R.|05 A PIC N(3).", "B4 P7 line 2"),
-    // B5: USAGE.
+];
+
+/// B5: USAGE.
+pub(super) static USAGES: [(&str, &str); 12] = [
     ("01 R.|05 A PIC X COMP-3.", "B5 line 2"),
     ("01 R.|05 A PIC X COMP.", "B5 line 2"),
     ("01 R.|05 A PIC ZZ9 BINARY.", "B5 line 2"),
@@ -76,13 +96,19 @@ pub(super) const REFUSED: [(&str, &str); 176] = [
     ("01 R.|05 A PIC 9(19) COMP.", "B5 line 2"),
     ("01 R.|05 A PIC 9(18)P COMP.", "B5 line 2"),
     ("01 R.|05 A PIC P(18)9 COMP.", "B5 line 2"),
-    // B6: SIGN.
+];
+
+/// B6: SIGN.
+pub(super) static SIGNS: [(&str, &str); 5] = [
     ("01 R.|05 A PIC X SIGN LEADING.", "B6 line 2"),
     ("01 R.|05 A PIC 9 TRAILING.", "B6 line 2"),
     ("01 R.|05 A PIC S9 COMP SIGN IS TRAILING.", "B6 line 2"),
     ("01 R COMP-3.|05 A PIC S9 LEADING.", "B6 line 2"),
     ("01 R.|05 A PIC -9 TRAILING SEPARATE.", "B6 line 2"),
-    // B7: REDEFINES.
+];
+
+/// B7: REDEFINES.
+pub(super) static REDEFINITIONS_1: [(&str, &str); 12] = [
     (
         "01 R.|05 A PIC X(2).|05 B PIC X.|05 C REDEFINES A PIC X.",
         "B7 line 4",
@@ -116,6 +142,10 @@ pub(super) const REFUSED: [(&str, &str); 176] = [
         "01 R.|05 N PIC 9.|05 A PIC X(2).|05 B REDEFINES A.|10 T PIC X OCCURS 0 TO 2 DEPENDING N.",
         "B7 line 4",
     ),
+];
+
+/// B7: REDEFINES.
+pub(super) static REDEFINITIONS_2: [(&str, &str); 3] = [
     (
         "01 R.|05 N PIC 9.|05 A PIC X(2).|05 T REDEFINES A PIC X OCCURS 0 TO 2 DEPENDING N.",
         "B7 line 4",
@@ -128,7 +158,10 @@ pub(super) const REFUSED: [(&str, &str); 176] = [
         "01 R.|05 A PIC X(4).|05 B REDEFINES A.|10 C PIC X.|10 D REDEFINES C PIC XX.",
         "B7 line 5",
     ),
-    // B8: OCCURS.
+];
+
+/// B8: OCCURS.
+pub(super) static TABLES: [(&str, &str); 10] = [
     ("01 R PIC X OCCURS 2.", "B8 line 1"),
     ("01 R OCCURS 2.|05 A PIC X.", "B8 line 1"),
     ("01 R.|05 A PIC X OCCURS 0.", "B8 line 2"),
@@ -154,7 +187,10 @@ pub(super) const REFUSED: [(&str, &str); 176] = [
         "01 R.|02 A OCCURS 1.|03 B OCCURS 1.|04 C OCCURS 1.|05 D OCCURS 1.|06 E OCCURS 1.|07 F OCCURS 1.|08 G OCCURS 1.|09 H PIC X OCCURS 1.",
         "B8 line 9",
     ),
-    // B9: DEPENDING ON.
+];
+
+/// B9: DEPENDING ON.
+pub(super) static COUNTS_1: [(&str, &str); 12] = [
     (
         "01 R.|05 T PIC X OCCURS 0 TO 3 DEPENDING ON N.|05 N PIC 9.",
         "B9 line 2",
@@ -203,6 +239,10 @@ pub(super) const REFUSED: [(&str, &str); 176] = [
         "01 R.|05 N PIC 9.|05 G.|10 N PIC 9.|05 T PIC X OCCURS 0 TO 3 DEPENDING ON N.",
         "B9 line 5",
     ),
+];
+
+/// B9: DEPENDING ON.
+pub(super) static COUNTS_2: [(&str, &str); 5] = [
     (
         "01 R.|05 N PIC 9.|05 T PIC X OCCURS 0 TO 3 DEPENDING ON N OF S.",
         "B9 line 3",
@@ -223,7 +263,10 @@ pub(super) const REFUSED: [(&str, &str); 176] = [
         "05 N PIC 9.|05 T PIC X OCCURS 0 TO 3 DEPENDING ON N OF OUT-RECORD.",
         "B9 line 2",
     ),
-    // B10: VALUE.
+];
+
+/// B10: VALUE.
+pub(super) static VALUES_1: [(&str, &str); 12] = [
     ("01 R.|05 N PIC 9(2)V9 VALUE 12.34.", "B10 line 2"),
     ("01 R.|05 N PIC 9(2) VALUE 100.", "B10 line 2"),
     ("01 R.|05 N PIC 9(2) VALUE 0.5.", "B10 line 2"),
@@ -236,6 +279,10 @@ pub(super) const REFUSED: [(&str, &str); 176] = [
     ("01 R.|05 N PIC 9 VALUE SPACE.", "B10 line 2"),
     ("01 R.|05 N PIC 9 VALUE ALL '1'.", "B10 line 2"),
     ("01 R.|05 N PIC 9 BLANK ZERO VALUE 0.", "B10 line 2"),
+];
+
+/// B10: VALUE.
+pub(super) static VALUES_2: [(&str, &str); 12] = [
     ("01 R.|05 N PIC Z9 VALUE 1.", "B10 line 2"),
     ("01 R.|05 A PIC X VALUE 1.", "B10 line 2"),
     ("01 R.|05 A PIC X VALUE 'AB'.", "B10 line 2"),
@@ -257,7 +304,10 @@ pub(super) const REFUSED: [(&str, &str); 176] = [
         "01 R.|05 N PIC 9(31) VALUE 12345678901234567890123456789012.",
         "B10 line 2",
     ),
-    // B11: JUSTIFIED and BLANK WHEN ZERO.
+];
+
+/// B11: JUSTIFIED and BLANK WHEN ZERO.
+pub(super) static PLACEMENTS: [(&str, &str); 11] = [
     ("01 R.|05 N PIC 9 JUST.", "B11 line 2"),
     ("01 R.|05 A PIC X/X JUSTIFIED RIGHT.", "B11 line 2"),
     ("01 R.|05 A PIC ZZ9 JUST.", "B11 line 2"),
@@ -269,7 +319,10 @@ pub(super) const REFUSED: [(&str, &str); 176] = [
     ("01 R.|05 A PIC 9 COMP BLANK ZERO.", "B11 line 2"),
     ("01 R COMP-3.|05 A PIC 9 BLANK ZERO.", "B11 line 2"),
     ("01 R.|05 G BLANK ZERO.|10 A PIC 9.", "B11 line 2"),
-    // B12: what is left out by name.
+];
+
+/// B12: what is left out by name.
+pub(super) static LEFT_OUT: [(&str, &str); 8] = [
     ("01 R.|05 A PIC S9(4) COMP SYNC.", "B12 SYNC line 2"),
     ("01 R.|05 A COMP-1.", "B12 COMP-1 line 2"),
     (
@@ -281,7 +334,10 @@ pub(super) const REFUSED: [(&str, &str); 176] = [
     ("77 A PIC X.", "B12 77 line 1"),
     ("COPY BOOK.|01 R PIC X.", "B12 COPY line 1"),
     ("01 R PIC X.|88 SYNC VALUE 1.", "B12 SYNC line 2"),
-    // B13: names.
+];
+
+/// B13: names.
+pub(super) static NAMES: [(&str, &str); 10] = [
     ("01 R.|05 A- PIC X.", "B13 line 2"),
     ("01 R.|05 -A PIC X.", "B13 line 2"),
     ("01 R.|05 _A PIC X.", "B13 line 2"),
@@ -298,7 +354,10 @@ pub(super) const REFUSED: [(&str, &str); 176] = [
         "01 R.|05 N PIC 9.|05 T PIC X OCCURS 2 DEPENDING ON 9.",
         "B13 line 3",
     ),
-    // B14: the length of the record.
+];
+
+/// B14: the length of the record.
+pub(super) static LENGTHS: [(&str, &str); 6] = [
     ("01 R.|05 A PIC X(4094) OCCURS 9.", "B14 line 1"),
     ("|05 A PIC X(4094) OCCURS 9.", "B14 line 2"),
     ("01 R.|05 A PIC X(32752).|05 B PIC X.", "B14 line 1"),
