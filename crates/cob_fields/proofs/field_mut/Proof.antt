@@ -6,7 +6,6 @@ use mathlib.Core.List.{List, [], ◌∷◌, ◌++◌}
 use lib.ListN.{length, take, drop as drop_list, take-append-drop, length-drop}
 use mir.Syntax.{named, w64}
 use mir.Val.{Val, vint}
-use base.Logic.{SProp}
 use base.Fml.{Lft, GName, Share, ftrue, flft}
 use prog.Wp.{WpFn, Tables}
 use contract.Running.{tables, tables_of}
@@ -44,7 +43,6 @@ stayed = (stay_dropped (mut_slice_of (0 ∷ []) tt (plain (λ _. u8))) no, (stay
 pub field_mut_spec : {M : Type 1} → stated.statement M
 unfolding tables_of
 field_mut_spec 𝓤 𝓛 𝓜 𝓡 wired =
-    let A = 𝓛.A in
     let 𝓣 : Tables 𝓤 𝓛.H = tables_of 𝓤 𝓛.H 𝓜 (tables 𝓤 𝓛.H 𝓜 𝓡 𝓡.env) in
     let clauses : Clauses 𝓤 field_mut.ended = field_mut.clauses 𝓛 𝓜.mem 𝓡.returns in
     entered 𝓤 𝓛.H (triple_of 𝓛 field_mut.ended.signature (field_mut.spec 𝓛 𝓜.mem 𝓡.returns)) 𝓣.C 𝓣.Λ field_mut.Key.name code.function (code.unfolded 𝓤 𝓛.H 𝓜 𝓡 wired)
@@ -84,7 +82,6 @@ field_mut_spec 𝓤 𝓛 𝓜 𝓡 wired =
     let field_room : Room u8 (length field) = (omega arith, omega arith) in
     let lends = lends_middle 𝓛 (named 0) κ share block first γ u8 elements front field back cut (offset + first) begins field_room (mut_slice_vals bytes) in
     let bound : (walk_of 𝓛 field_mut.ended stayed clauses).Ghost = ((κs, shares, bounds, args, (mut_slice_vals bytes, (place_vals, tt))), tt) in
-    let Post : Val → SProp 𝓤 = (walk_of 𝓛 field_mut.ended stayed clauses).post bound in
     qed 𝓛 ((‵ (flft κ share) ⊛ ‵ ftrue) ∷ ‵ (owns (MutSlice (named 0) κ u8 ∷ place_type.the_row ∷ []) (bytes, (place, tt)) (mut_slice_vals bytes, (place_vals, tt))) ∷ []) ∵
     enter ! 𝓣.C 𝓣.Λ code.function (slice_val (block, first) (length elements) ∷ place_vals) _ $
     alloc_all ! (λ l. pass_all ! refl ((tt, (tt, (record { fits = elements_fit }, tt))), ((tt, (record { fits = offset_small }, (record { fits = count_small }, tt))), tt)) $
