@@ -9,8 +9,8 @@
 //!
 //! Both ask of their caller that the place does not reach past the end of the record; an empty place may stand at the very
 //! end. Neither copies a byte, takes memory or can fail. Callers inside the product write inline on `&mut bytes[a..b]`, since
-//! provers of callers see through that, and learn nothing from a `writes_back` between two slices. The crate stands on std
-//! alone.
+//! provers of callers see through that, while of a write through [`field_mut`] they see only that the record keeps its
+//! length. The crate stands on std alone.
 #![tactic(auto)]
 
 ghost use Rattle.std.specs.Prelude.{◌≡◌, ◌≤◌, ◌+◌, length};
