@@ -14,7 +14,7 @@ use Rattle.cob_values.specs.Laws.{OneConstant}
 -- what a look in the table found
 pub byte_found : (character byte : ℕ) (o : Option ℕ) → IfSome o (λ b. IsCoded character b) → ((b : ℕ) → IsCoded character b → o ≡ Some b)
     → byte ≡ unwrap_or o 0x40 → IsByteOf character byte
-byte_found character byte None found only e = inr ((λ (coded : HasCode character). let no : None ≡ Some coded.0 = only coded.0 coded.1 in cc), e)
+byte_found character byte None found only e = inr ((λ (coded : HasCode character). let absent : None ≡ Some coded.0 = only coded.0 coded.1 in cc), e)
 byte_found character byte (Some b) found only e = inl (rw e found)
 
 in_table : (pairs : List (ℕ × ℕ)) (character : ℕ) → ((b : ℕ) × IsPairOf pairs character b) ⊎ ((b : ℕ) → IsPairOf pairs character b → ⊥)
@@ -71,10 +71,10 @@ some_bytes (c ∷ cs) =
 one_text : TableIsOneToOne → (text a b : List ℕ) → AreBytesOf text a → AreBytesOf text b → a ≡ b
 one_text law [] a b x y = x ∙ sym y
 one_text law (c ∷ cs) [] b x y = absurd x
-one_text law (c ∷ cs) (a ∷ as1) [] x y = absurd y
-one_text law (c ∷ cs) (a ∷ as1) (b ∷ bs) x y =
+one_text law (c ∷ cs) (a ∷ front) [] x y = absurd y
+one_text law (c ∷ cs) (a ∷ front) (b ∷ bs) x y =
     let head : a ≡ b = one_byte law c a b x.0 y.0 in
-    let tail : as1 ≡ bs = one_text law cs as1 bs x.1 y.1 in
+    let tail : front ≡ bs = one_text law cs front bs x.1 y.1 in
     cc
 
 -- one more place is written
