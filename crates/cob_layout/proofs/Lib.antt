@@ -1,0 +1,5 @@
+pub mod CopyLemmas
+pub mod GreatestLemmas
+pub mod RecordLemmas
+pub mod ReferenceLemmas
+pub mod NeedLemmas

@@ -1,0 +1,17 @@
+use Rattle.std.proofs.Common.{refl, sym, subst}
+use Rattle.cob_tree.specs.Forests.{entries_in}
+use Rattle.cob_places.specs.Lengths.{alone}
+use Rattle.cob_layout.proofs.RecordLemmas.{as_many}
+use Rattle.cob_tree.specs.Nodes.{node}
+use Rattle.cob_layout.specs.Counting.{AreGreatest}
+use Rattle.cob_layout.proofs.GreatestLemmas.{are_greatest}
+use Rattle.cob_layout.proofs.layout.Layout.greatest_counts.Goals as goal
+
+pub returns-clause-greatest : goal.returns-clause-greatest
+returns-clause-greatest c =
+    subst (λ t. AreGreatest t c.self.inside.counts) c.self.view_is
+    (are_greatest (node c.self.inside.root) c.self.inside.counts c.self.invariant.1.numbered c.self.invariant.3)
+
+pub returns-clause-room : goal.returns-clause-room
+returns-clause-room c =
+    sym (as_many (node c.self.inside.root) c.args.self.now c.self.inside.counts (entries_in (alone c.args.self.now)) c.self.invariant.1 c.self.view_is c.self.invariant.3 refl)

@@ -1,0 +1,27 @@
+use Rattle.std.proofs.Common.{subst, arith, ◌≤◌, ◌*◌}
+use Rattle.cob_tree.specs.Nodes.{node}
+use Rattle.cob_tree.specs.Lengths.{most, sum_of}
+use Rattle.cob_places.specs.Lengths.{alone, times}
+use Rattle.cob_places.specs.Cover.{IsCovered}
+use Rattle.cob_layout.proofs.RecordLemmas.{length_least, length_small}
+use Rattle.cob_layout.proofs.layout.Layout.length.Goals as goal
+
+pub overflow_mul-result : goal.overflow_mul-result
+overflow_mul-result c =
+    let h = length_small c.as_slice-counts.result.now (node c.self.inside.root) c.times_of.result c.element_of.result c.self.invariant.1 c.times_of.ensures c.element_of.ensures in
+    omega (arith, h)
+
+pub overflow_cast-result : goal.overflow_cast-result
+overflow_cast-result c =
+    let h = length_small c.as_slice-counts.result.now (node c.self.inside.root) c.times_of.result c.element_of.result c.self.invariant.1 c.times_of.ensures c.element_of.ensures in
+    omega (arith, h)
+
+pub returns-clause-most : goal.returns-clause-most
+returns-clause-most c =
+    subst (λ t. c.times_of.result * c.element_of.result ≤ sum_of most (alone t)) c.self.view_is
+    (length_least c.as_slice-counts.result.now (node c.self.inside.root) c.times_of.result c.element_of.result c.self.invariant.1 c.times_of.ensures c.element_of.ensures)
+
+pub returns-clause-covered : goal.returns-clause-covered
+returns-clause-covered c =
+    subst (λ t. IsCovered (times c.args.counts.now) (alone t)) c.self.view_is
+    (c.covering.ensures.covered (times c.args.counts.now) (alone (node c.self.inside.root)) (c.covering.ensures.counted c.args.counts.now) c.self.invariant.1.numbered)

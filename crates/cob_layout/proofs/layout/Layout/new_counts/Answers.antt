@@ -1,0 +1,11 @@
+use Rattle.std.proofs.Common.{refl, sym, ap, ◌∙◌, length}
+use Rattle.cob_tree.specs.Forests.{entries_in}
+use Rattle.cob_tree.specs.Nodes.{node}
+use Rattle.cob_places.specs.Lengths.{alone}
+use Rattle.cob_layout.proofs.RecordLemmas.{as_many, long_as}
+use Rattle.cob_layout.proofs.layout.Layout.new_counts.Goals as goal
+
+pub returns-clause-room : goal.returns-clause-room
+returns-clause-room c =
+    let many = as_many (node c.self.inside.root) c.args.self.now c.self.inside.counts (entries_in (alone c.args.self.now)) c.self.invariant.1 c.self.view_is c.self.invariant.3 refl in
+    long_as c.of.result c.as_slice.result.now (entries_in (alone c.args.self.now)) c.of.ensures (ap length c.as_slice.ensures ∙ sym many)

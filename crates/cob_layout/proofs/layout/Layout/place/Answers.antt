@@ -1,0 +1,15 @@
+use Rattle.std.proofs.Common.{sym, subst, ◌∙◌}
+use Rattle.cob_tree.specs.Nodes.{node}
+use Rattle.cob_places.specs.Lengths.{alone, times}
+use Rattle.cob_places.specs.Needs.{Has}
+use Rattle.cob_layout.proofs.ReferenceLemmas.{find_alone, found_there, refers_has}
+use Rattle.cob_layout.proofs.layout.Layout.place.Goals as goal
+
+pub returns-in-None-clause-value : goal.returns-in-None-clause-value
+returns-in-None-clause-value c =
+    let t = node c.self.inside.root in
+    let r = c.args.r.now.node in
+    let counts = times c.as_slice.result.now in
+    let subscripts = c.as_slice-2.result.now in
+    let has = subst (λ u. Has r (alone u)) (sym c.self.view_is) (refers_has r c.args.r.now.subscripts.items (alone c.args.self.now) c.requires.refers) in
+    absurd (found_there counts r (alone t) 0 0 subscripts has (find_alone counts r t subscripts ∙ sym c.seek.ensures ∙ c.in-None.is))

@@ -1,0 +1,41 @@
+-- The counts of a record.
+use Rattle.std.specs.Prelude.{◌≡◌, ℕ, Bool, List, [], ◌∷◌, ◌++◌, Result, replicate}
+use Rattle.cob_tree.specs.declared.node.Times.{Times}
+use Rattle.cob_tree.specs.declared.node.Times.TheVariants.{Once, Fixed, Varying}
+use Rattle.cob_tree.specs.Forests.{Forest, Bare, Grows, Tree, entries_in}
+use Rattle.cob_tree.specs.Nodes.{Resolved}
+use Rattle.cob_tree.specs.Lengths.{most, sum_of}
+use Rattle.cob_places.specs.declared.counts.CountFault.{CountFault}
+use Rattle.cob_places.specs.Lengths.{alone, times}
+use Rattle.cob_places.specs.Places.{find}
+use Rattle.cob_places.specs.Counts.{tables_of, Taken}
+use Rattle.cob_places.specs.Needs.{greatest, needed}
+
+-- the greatest counts of a record, by the numbers of its entries; entries that don't vary have 0
+abbrev pub greatest_counts : Tree Resolved → List ℕ
+greatest_counts t = greatest (tables_of (alone t)) (replicate (entries_in (alone t)) 0)
+
+-- the greatest count of an entry, and 0 where it doesn't vary
+abbrev pub varying : Times → ℕ
+varying Once = 0
+varying (Fixed n) = 0
+varying (Varying least most count) = most
+
+-- the same of entries, in their order
+abbrev pub in_order : Forest Resolved → List ℕ
+in_order Bare = []
+in_order (Grows e kids more) = varying e.occurs ∷ (in_order kids ++ in_order more)
+
+-- The counts of a storage: those that its bytes give to all tables that vary, one behind another, or the fault of the first that gives none.
+abbrev pub CountsOf : Tree Resolved → List ℕ → Result (List ℕ) CountFault → Type 0
+CountsOf t bytes r = Taken t bytes (tables_of (alone t)) (greatest_counts t) r
+
+-- The counts that a reference to an entry needs, which receives or not: those that the bytes give to the tables that it needs; the others have
+-- their greatest number.
+abbrev pub NeededOf : Tree Resolved → ℕ → Bool → List ℕ → Result (List ℕ) CountFault → Type 0
+NeededOf t r receiving bytes result = Taken t bytes (needed t r receiving (tables_of (alone t))) (greatest_counts t) result
+
+-- under these counts each entry occurs as often as at most: the lengths and places are the greatest ones
+pub record AreGreatest (t : Tree Resolved) (counts : List ℕ) : Type 0 where
+  pub length : sum_of (times counts) (alone t) ≡ sum_of most (alone t)
+  pub places : (number : ℕ) (subscripts : List ℕ) → find (times counts) number (alone t) 0 0 subscripts ≡ find most number (alone t) 0 0 subscripts

@@ -1,0 +1,28 @@
+-- References to entries, and where they stand.
+use Rattle.std.specs.Prelude.{◌≡◌, ◌⊎◌, ℕ, ◌<◌, ◌≤◌, Bool, true, false, if◌then◌else◌, List, [], ◌∷◌, Ok, Err, Result}
+use Rattle.cob_tree.specs.Forests.{Forest, Bare, Grows}
+use Rattle.cob_tree.specs.Nodes.{Resolved}
+use Rattle.cob_tree.specs.Lengths.{most}
+use Rattle.cob_fields.specs.declared.Place.{Place}
+use Rattle.cob_places.specs.declared.places.Found.{Found}
+use Rattle.cob_places.specs.Places.{is_table, later}
+use Rattle.cob_layout.specs.declared.reference.PlaceFault.{PlaceFault}
+
+-- a table asks for a subscript, from 1 to its greatest number
+abbrev pub IsSubscripted : Bool → ℕ → List ℕ → Type 0
+IsSubscripted false n subscripts = Unit {0}
+IsSubscripted true n [] = ⊥
+IsSubscripted true n (s ∷ subscripts) = (0 < s) × (s ≤ n)
+
+-- The entry with this number is one of these, and the subscripts are one for each table that holds it or that it is, the outermost first, each
+-- from 1 to its table's greatest number.
+abbrev pub Refers : ℕ → List ℕ → Forest Resolved → Type 0
+Refers r subscripts Bare = ⊥
+Refers r subscripts (Grows e kids more) =
+    (IsSubscripted (is_table e.occurs) (most e) subscripts
+    × (((e.number ≡ r) × (later (is_table e.occurs) subscripts ≡ [])) ⊎ Refers r (later (is_table e.occurs) subscripts) kids))
+    ⊎ Refers r subscripts more
+
+-- the answer where an element stands there: its place, or, where it isn't one of those that there are, the offset where it would begin
+abbrev pub placed : Found → Result Place PlaceFault
+placed f = if f.within then Ok record { offset = f.offset; length = f.length } else Err record { offset = f.offset }

@@ -1,0 +1,214 @@
+//! Layouts.
+
+ghost use Rattle.std.specs.Prelude.{◌≡◌, ◌≤◌, ◌+◌, length, Ok, Err, Some, OnOk, IfOk, IfErr, OnErr, option_map};
+ghost use Rattle.cob_tree.specs.Forests.{entries_in};
+ghost use Rattle.cob_tree.specs.Lengths.{most, sum_of};
+ghost use Rattle.cob_areas.specs.declared.judge.TheConstants.{MAX_RECORD};
+ghost use Rattle.cob_copybook.specs.Records.{IsRecord};
+ghost use Rattle.cob_places.specs.Lengths.{alone, times};
+ghost use Rattle.cob_places.specs.Places.{find};
+ghost use Rattle.cob_places.specs.Cover.{IsCovered};
+ghost use Rattle.cob_layout.specs.References.{Refers, placed};
+ghost use Rattle.cob_layout.specs.Counting.{greatest_counts, AreGreatest, CountsOf, NeededOf};
+
+use crate::copy::copied;
+use crate::counts::{Counts, greatest_in_order};
+use crate::reference::{PlaceFault, Ref};
+use cob_copybook::Book;
+use cob_fields::Place;
+use cob_places::{
+    CountFault, Found, Table, covering, element_of, places_end_in_record, seek, tables,
+    take_counts, take_needed, times_of,
+};
+use cob_sound::records_are_sound;
+use cob_tree::Node;
+use std::alloc::{AllocError, Global};
+use std::marker::Model;
+
+/// The layout of a record: where its entries stand, and how long it is, whatever the counts of its tables.
+///
+/// Contracts see its tree, the record with the entries beneath it.
+#[derive(Debug, Drop)]
+pub struct Layout {
+    root: Node,
+    tables: Vec<Table>,
+    counts: Counts,
+    greatest: u16,
+}
+
+impl Model for Layout {
+    ghost use Rattle.std.specs.Prelude.{◌≡◌};
+    ghost use Rattle.cob_tree.specs.Forests.{Tree};
+    ghost use Rattle.cob_tree.specs.Nodes.{Resolved, node};
+    ghost use Rattle.cob_tree.specs.Lengths.{most, sum_of};
+    ghost use Rattle.cob_copybook.specs.Records.{IsRecord};
+    ghost use Rattle.cob_places.specs.Lengths.{alone};
+    ghost use Rattle.cob_places.specs.Counts.{tables_of};
+    ghost use Rattle.cob_sound.specs.Sound.{IsSound};
+    ghost use Rattle.cob_layout.specs.Counting.{greatest_counts};
+    ghost use Rattle.std.specs.Coded.{codes};
+    ghost use Rattle.cob_copybook.specs.Codes.{coded_forest};
+
+    ghost Value = { Tree Resolved };
+
+    ghost coded = { Prim.hlevel (codes, coded_forest) };
+
+    ghost view = { λ l. node l.root };
+
+    ghost invariant = { λ l. IsRecord (alone (node l.root)) × IsSound (node l.root) × (l.tables.items ≡ tables_of (alone (node l.root))) × (l.counts ≡ greatest_counts (node l.root)) × (l.greatest ≡ sum_of most (alone (node l.root))) };
+}
+
+/// The place of an element, or the fault where it isn't one of those that there are.
+fn placed(found: Found) -> Result<Place, PlaceFault>
+    ensures { result ≡ placed found }
+{
+    if found.within {
+        Ok(Place {
+            offset: found.offset,
+            length: found.length,
+        })
+    } else {
+        Err(PlaceFault {
+            offset: found.offset,
+        })
+    }
+}
+
+impl Layout {
+    /// The layout of a record.
+    ///
+    /// # Errors
+    ///
+    /// Where no memory is left.
+    pub fn of(alloc: Global, book: &Book) -> Result<Layout, AllocError>
+        ensures { IfOk result (λ l. alone l ≡ book.now) }
+    {
+        records_are_sound();
+        let root = copied(alloc, book.root())?;
+        let tables = tables(alloc, &root)?;
+        let in_order = greatest_in_order(alloc, &root)?;
+        let counts = Counts::of(alloc, &in_order)?;
+        let greatest = book.greatest();
+        Ok(Layout {
+            root,
+            tables,
+            counts,
+            greatest,
+        })
+    }
+
+    /// The record's greatest length in bytes.
+    pub fn greatest(&self) -> u16
+        ensures value { result ≡ sum_of most (alone self.now) }
+        ensures most { result ≤ MAX_RECORD }
+        ensures record { IsRecord (alone self.now) }
+    {
+        self.greatest
+    }
+
+    /// The counts under which each table has its greatest number of elements.
+    pub fn greatest_counts(&self) -> &Counts
+        ensures value { result.now ≡ greatest_counts self.now }
+        ensures greatest { AreGreatest self.now result.now }
+        ensures room { length result.now ≡ entries_in (alone self.now) }
+    {
+        &self.counts
+    }
+
+    /// New counts, under which each table has its greatest number of elements.
+    ///
+    /// # Errors
+    ///
+    /// Where no memory is left.
+    pub fn new_counts(&self, alloc: Global) -> Result<Counts, AllocError>
+        ensures value { IfOk result (λ counts. counts ≡ greatest_counts self.now) }
+        ensures room { IfOk result (λ counts. length counts ≡ entries_in (alone self.now)) }
+    {
+        Counts::of(alloc, self.counts.as_slice())
+    }
+
+    /// The record's length in bytes under these counts.
+    pub fn length(&self, counts: &Counts) -> u16
+        ensures value { result ≡ sum_of (times counts.now) (alone self.now) }
+        ensures most { result ≤ sum_of most (alone self.now) }
+        // Each byte of the record is in the place of exactly one occurrence of an item that stands in no redefinition.
+        ensures covered { IsCovered (times counts.now) (alone self.now) }
+    {
+        covering();
+        let counts = counts.as_slice();
+        (times_of(&self.root, counts) * element_of(&self.root, counts)) as u16
+    }
+
+    /// Where a reference stands under these counts.
+    ///
+    /// # Errors
+    ///
+    /// A subscript is past the number of elements that its table has under these counts.
+    pub fn place(&self, r: &Ref, counts: &Counts) -> Result<Place, PlaceFault>
+        requires refers { Refers r.now.node r.now.subscripts.items (alone self.now) }
+        ensures value { option_map placed (find (times counts.now) r.now.node (alone self.now) 0 0 r.now.subscripts.items) ≡ Some result }
+        ensures fits { IfOk result (λ p. p.offset + p.length ≤ sum_of most (alone self.now)) }
+    {
+        places_end_in_record();
+        match seek(
+            &self.root,
+            r.node,
+            counts.as_slice(),
+            0,
+            r.subscripts.as_slice(),
+        ) {
+            Some(found) => placed(found),
+            None => Err(PlaceFault { offset: 0 }),
+        }
+    }
+
+    /// Takes the counts of all tables that vary from a record's bytes.
+    ///
+    /// # Errors
+    ///
+    /// The first count that gives no number within its table's bounds, or that ends past the bytes. The counts are as they were then.
+    pub fn counts_of(&self, bytes: &[u8], counts: &mut Counts) -> Result<(), CountFault>
+        requires room { length counts.old ≡ entries_in (alone self.now) }
+        ensures ok { OnOk result (CountsOf self.now bytes.now (Ok counts.new)) }
+        ensures err { IfErr result (λ e. CountsOf self.now bytes.now (Err e)) }
+        ensures same { OnErr result (counts.new ≡ counts.old) }
+        ensures room { length counts.new ≡ length counts.old }
+    {
+        counts.next.copy_from_slice(self.counts.as_slice());
+        take_counts(&self.root, &self.tables, bytes, &mut counts.next)?;
+        counts.taken.copy_from_slice(&counts.next);
+        Ok(())
+    }
+
+    /// Takes the counts that the place of a reference needs.
+    ///
+    /// # Errors
+    ///
+    /// The first of these counts that gives no number within its table's bounds, or that ends past the bytes. The counts are as they were then.
+    pub fn needed(
+        &self,
+        r: &Ref,
+        receiving: bool,
+        bytes: &[u8],
+        counts: &mut Counts,
+    ) -> Result<(), CountFault>
+        requires refers { Refers r.now.node r.now.subscripts.items (alone self.now) }
+        requires room { length counts.old ≡ entries_in (alone self.now) }
+        ensures ok { OnOk result (NeededOf self.now r.now.node receiving bytes.now (Ok counts.new)) }
+        ensures err { IfErr result (λ e. NeededOf self.now r.now.node receiving bytes.now (Err e)) }
+        ensures same { OnErr result (counts.new ≡ counts.old) }
+        ensures room { length counts.new ≡ length counts.old }
+    {
+        counts.next.fill(0);
+        take_needed(
+            &self.root,
+            &self.tables,
+            r.node,
+            receiving,
+            bytes,
+            &mut counts.next,
+        )?;
+        counts.taken.copy_from_slice(&counts.next);
+        Ok(())
+    }
+}

@@ -1,0 +1,44 @@
+//! Layouts of records: where each entry of a record stands, how long it is, and which counts that depends on (ANSI X3.23-1985, the OCCURS
+//! and REDEFINES clauses; IBM Enterprise COBOL for z/OS, Language Reference, "Data division--data description entry").
+//!
+//! A [`Layout`] is made once of a copybook's `Book` and then answers every question about places. It holds a copy of the record's tree, its
+//! tables that vary, and their greatest counts. A [`Counts`] says how often these tables occur in one record, and a [`Ref`] names one element
+//! of one entry: the entry by its number, and a subscript for each table that holds it or that it is.
+//!
+//! What is promised:
+//!
+//! - [`Layout::of`]: its tree is the book's.
+//! - [`Layout::greatest`] is the record's length where each table has its greatest number of elements (`value`), and no more than 32,752
+//!   bytes (`most`); the tree is that of a well-formed record description (`record`).
+//! - [`Layout::greatest_counts`] and [`Layout::new_counts`] are the counts under which each table has that number (`value`), one for each
+//!   entry of the record (`room`): under them lengths and places are the greatest ones (`greatest`).
+//! - [`Layout::length`] is the sum of the lengths of the entries that redefine none, each as often as it occurs (`value`), and no more than
+//!   the greatest one (`most`). Each byte of the record is in exactly one occurrence of an item that stands in no redefinition (`covered`).
+//! - [`Layout::place`] answers where the element stands, behind the entries before it and the elements before it, or where it would begin
+//!   when a subscript is past its table's count (`value`); a place that it answers ends within the greatest length (`fits`).
+//! - [`Layout::counts_of`] takes the counts of all tables from a record's bytes, one behind another, each a whole number from its table's least
+//!   to its greatest (`ok`), or answers the first fault (`err`) and leaves the counts as they were (`same`).
+//! - [`Layout::needed`] takes only the counts that the place of one entry needs, and for one that receives not those that it is spared; the
+//!   other tables have their greatest number (`ok`, `err`, `same`).
+//! - [`one_place_by_needs`] is the law that storages which agree on what a reference needs give it one place, whichever of the two calls took
+//!   the counts.
+//!
+//! The definitions: `CountsOf`, `NeededOf` and `AreGreatest` of specs/Counting.antt, `Refers` and `placed` of specs/References.antt, and what
+//! they name of `cob_places`, which has the arithmetic of lengths and places. `cob_fields` lends the bytes of a place ([`field`], [`field_mut`]).
+//! Only [`Layout::of`] and [`Layout::new_counts`] take memory.
+#![tactic(auto)]
+
+mod copy;
+mod counts;
+mod laws;
+mod layout;
+mod reference;
+#[cfg(test)]
+mod tests;
+
+pub use cob_fields::{Place, field, field_mut};
+pub use cob_places::CountFault;
+pub use counts::Counts;
+pub use laws::one_place_by_needs;
+pub use layout::Layout;
+pub use reference::{MAX_SUBSCRIPTS, PlaceFault, Ref};

@@ -1,0 +1,20 @@
+use arrayvec::ArrayVec;
+
+/// The most subscripts of a reference: the most tables that hold one another.
+pub const MAX_SUBSCRIPTS: usize = 7;
+
+/// A reference to an entry of a record.
+#[derive(Debug, Drop)]
+pub struct Ref {
+    /// The number of the entry: its place among all entries of the record, a parent before its children, from 0.
+    pub node: usize,
+    /// For each table that holds the entry or that it is, the outermost first, the number of the element, from 1.
+    pub subscripts: ArrayVec<u32, MAX_SUBSCRIPTS>,
+}
+
+/// A subscript is past its table's count.
+#[derive(Clone, Copy, Debug, PartialEq, Eq)]
+pub struct PlaceFault {
+    /// Where the element would begin, in bytes from the start of the record.
+    pub offset: u32,
+}
