@@ -1,0 +1,43 @@
+-- Entries that have a storage before the first move.
+use Rattle.std.proofs.Common.{◌≡◌, ℕ, ◌+◌, ◌*◌, ◌<◌, ◌≤◌, List, Option, None, Some, is_some, true, false, refl, ap, subst, arith}
+use Rattle.cob_tree.specs.declared.node.Kind.{Kind}
+use Rattle.cob_tree.specs.declared.node.Kind.TheVariants.{Group, Item as ItemKind}
+use Rattle.cob_tree.specs.Forests.{Forest, Bare, Grows, Tree}
+use Rattle.cob_tree.specs.Nodes.{Resolved}
+use Rattle.cob_tree.specs.Lengths.{most, room, one, sum_of, whole}
+use Rattle.cob_areas.specs.Values.{MayHaveValue, AreValues}
+use Rattle.cob_places.proofs.ForestLemmas.{factor_le}
+use Rattle.cob_move.specs.Ready.{AreReady, IsReady}
+
+-- an entry takes its length, and a redefinition nothing
+pub room_own : (o : Option (List ℕ)) (n : ℕ) → is_some o ≡ false → room o n ≡ n
+room_own None n own = refl
+room_own (Some name) n own = absurd cc
+
+pub room_shared : (o : Option (List ℕ)) (n : ℕ) → is_some o ≡ true → room o n ≡ 0
+room_shared None n shared = absurd cc
+room_shared (Some name) n shared = refl
+
+-- an entry that redefines nothing
+pub ready_first : (e : Resolved) (kids more : Forest Resolved) → is_some e.redefines ≡ false → AreReady (Grows e kids more) → IsReady (record { top = e; beneath = kids })
+ready_first e kids more own ready =
+    let whole_is : room e.redefines (whole most e kids) ≡ whole most e kids = room_own e.redefines (whole most e kids) own in
+    record {
+      occurs = ready.possible.0;
+      possible = ready.possible.1;
+      storable = ready.storable.0;
+      beneath = ready.storable.1;
+      value = rw own at ready.values.0;
+      values = rw own at ready.values.1;
+      short = omega (arith, whole_is, ready.short);
+    }
+
+-- those behind it
+pub ready_more : (e : Resolved) (kids more : Forest Resolved) → AreReady (Grows e kids more) → AreReady more
+ready_more e kids more ready = record { possible = ready.possible.2; storable = ready.storable.2; values = ready.values.2; short = omega (arith, ready.short) }
+
+-- those beneath a group without a value
+pub ready_beneath : (t : Tree Resolved) → t.top.kind ≡ Group → t.top.value ≡ None → IsReady t → AreReady t.beneath
+ready_beneath t group none ready =
+    let all : most t.top * sum_of most t.beneath ≤ 32752 = rw group at ready.short in
+    record { possible = ready.possible; storable = ready.beneath; values = rw none at ready.values; short = factor_le _ _ _ ready.occurs all }

@@ -1,0 +1,34 @@
+-- The storage of a record before the first move.
+use Rattle.std.specs.Prelude.{◌≡◌, ℕ, zero, suc, List, [], ◌++◌, Option, Some, None}
+use Rattle.cob_entries.specs.Described.{Constant}
+use Rattle.cob_tree.specs.declared.node.Kind.{Kind}
+use Rattle.cob_tree.specs.declared.node.Kind.TheVariants.{Group, Item as ItemKind}
+use Rattle.cob_tree.specs.Forests.{Forest, Bare, Grows}
+use Rattle.cob_tree.specs.Nodes.{Resolved}
+use Rattle.cob_tree.specs.Lengths.{most, sum_of}
+use Rattle.cob_values.specs.Values.{HoldCharacters, HoldsItem}
+
+-- so many parts, one behind another, each of which is so
+abbrev pub AreParts : (List ℕ → Type 0) → ℕ → List ℕ → Type 0
+AreParts IsPart zero bytes = bytes ≡ []
+AreParts IsPart (suc n) bytes = (first : List ℕ) × (rest : List ℕ) × (bytes ≡ first ++ rest) × IsPart first × AreParts IsPart n rest
+
+-- nothing stands in a record of its own for a redefinition
+abbrev pub Unless : Option (List ℕ) → (List ℕ → Type 0) → List ℕ → Type 0
+Unless None IsPart bytes = IsPart bytes
+Unless (Some name) IsPart bytes = bytes ≡ []
+
+-- one element holds what its item does; or, of a group, its VALUE, or the entries beneath it, which have so many bytes
+abbrev pub HoldsElement : Kind → Option Constant → ℕ → (List ℕ → Type 0) → List ℕ → Type 0
+HoldsElement (ItemKind i) value size AreBeneath bytes = HoldsItem i value bytes
+HoldsElement Group None size AreBeneath bytes = AreBeneath bytes
+HoldsElement Group (Some c) size AreBeneath bytes = HoldCharacters size c bytes
+
+-- The storage of entries side by side before the first move: in the record's order, for each entry that redefines nothing, as many elements as
+-- there are at most.
+abbrev pub IsInitial : Forest Resolved → List ℕ → Type 0
+IsInitial Bare bytes = bytes ≡ []
+IsInitial (Grows e kids more) bytes =
+    (first : List ℕ) × (rest : List ℕ) × (bytes ≡ first ++ rest)
+    × Unless e.redefines (AreParts (HoldsElement e.kind e.value (sum_of most kids) (IsInitial kids)) (most e)) first
+    × IsInitial more rest

@@ -1,0 +1,5 @@
+pub mod Initial
+pub mod Ready
+pub mod Begun
+pub mod AtPlaces
+pub mod Laws

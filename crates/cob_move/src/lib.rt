@@ -1,0 +1,27 @@
+//! What moves do to records (ANSI X3.23-1985, Nucleus: the MOVE statement; IBM Enterprise COBOL for z/OS, Language Reference, "VALUE clause").
+//! So far: the storage that a record begins from.
+//!
+//! What is promised:
+//!
+//! - [`initial`] writes the storage that a record has before the first move (clause `initial`; `IsInitial` of specs/Initial.antt): for each entry
+//!   that redefines nothing, as many elements as there are at most, one behind another, in the record's order; an element of an item holds the
+//!   item's VALUE, or without one what MOVE ZERO or MOVE SPACE leaves; an element of a group holds the group's VALUE, or the entries beneath it.
+//!   Nothing is written for a redefinition.
+//! - What it writes stands at the places of the layout under the greatest counts (clause `places`; `HoldAtPlaces` of specs/AtPlaces.antt): each
+//!   entry that stands in no redefinition and beneath no group with a VALUE is found, whatever the subscripts, and the bytes there hold what one
+//!   element of it does.
+//! - [`one_initial`] is the law that a record has one such storage.
+//!
+//! It takes no memory, and writes each byte of a record as often as tables hold it, at most: an element is written once and then copied.
+//!
+//! It stands on `cob_values` for what one item or a group with a VALUE holds, on `cob_tree` for lengths, on `cob_copybook` and `cob_layout` for
+//! the record and its layout, and on `cob_sound` for what holds of every record description.
+#![tactic(auto)]
+
+mod laws;
+mod storage;
+#[cfg(test)]
+mod tests;
+
+pub use laws::one_initial;
+pub use storage::initial;
