@@ -48,6 +48,17 @@ type Needed = (
     &'static str,
 );
 
+/// A count, its table, and an item after the table.
+const ONE_TABLE: &str = "01 R.|05 N PIC 9.|05 T PIC X(2) OCCURS 0 TO 3 DEPENDING ON N.|05 Z PIC X.";
+
+/// A table that varies in the elements of another.
+const TABLE_IN_TABLE: &str =
+    "01 R.|05 N PIC 9.|05 M PIC 9.|05 T OCCURS 1 TO 2 DEPENDING ON N.|10 A PIC X.|10 B PIC X OCCURS 0 TO 2 DEPENDING ON M.|05 Z PIC X.";
+
+/// Several tables: the second one's count stands behind the first table, and the third one has the first one's count.
+const THREE_TABLES: &str =
+    "01 R.|05 CA PIC 9.|05 TA PIC X OCCURS 0 TO 4 DEPENDING ON CA.|05 CB PIC 9(2).|05 TB PIC X(3) OCCURS 1 TO 12 DEPENDING ON CB.|05 TC PIC X(2) OCCURS 1 TO 9 DEPENDING ON CA.|05 Z PIC X.";
+
 /// Entries that are parted by bars, one a line, from column 8 on.
 fn lines_of(alloc: Global, entries: &str) -> Result<Vec<u8>, Fail> {
     let mut text = Vec::new(alloc);

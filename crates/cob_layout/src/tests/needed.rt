@@ -140,12 +140,7 @@ static IN_A_TABLE: [Needed; 11] = [
 
 #[test]
 fn in_a_table(rt: HostRuntime) -> Result<(), Fail> {
-    are_needed(
-        &rt,
-        rt.alloc(),
-        "01 R.|05 N PIC 9.|05 M PIC 9.|05 T OCCURS 1 TO 2 DEPENDING ON N.|10 A PIC X.|10 B PIC X OCCURS 0 TO 2 DEPENDING ON M.|05 Z PIC X.",
-        &IN_A_TABLE,
-    )
+    are_needed(&rt, rt.alloc(), TABLE_IN_TABLE, &IN_A_TABLE)
 }
 
 /// Tables after the one that is asked for aren't needed; those before are, in their order. TC has at least one element, as CA says.
@@ -166,12 +161,7 @@ static SEVERAL: [Needed; 12] = [
 
 #[test]
 fn among_several_tables(rt: HostRuntime) -> Result<(), Fail> {
-    are_needed(
-        &rt,
-        rt.alloc(),
-        "01 R.|05 CA PIC 9.|05 TA PIC X OCCURS 0 TO 4 DEPENDING ON CA.|05 CB PIC 9(2).|05 TB PIC X(3) OCCURS 1 TO 12 DEPENDING ON CB.|05 TC PIC X(2) OCCURS 1 TO 9 DEPENDING ON CA.|05 Z PIC X.",
-        &SEVERAL,
-    )
+    are_needed(&rt, rt.alloc(), THREE_TABLES, &SEVERAL)
 }
 
 /// As a receiver the last group has its greatest length whatever its count; a level 88 is no entry. As a sender it has its current length.

@@ -35,8 +35,6 @@ fn are_fields(
 /// An entry with its subscripts, and its bytes.
 type Field = (&'static str, &'static [u32], &'static [u8]);
 
-const SIMPLE: &str = "01 R.|05 N PIC 9.|05 T PIC X(2) OCCURS 0 TO 3 DEPENDING ON N.|05 Z PIC X.";
-
 static ONE: [Field; 4] = [
     ("R", &[], b"\xF1\xC1\xC2\xE9"),
     ("N", &[], b"\xF1"),
@@ -52,9 +50,6 @@ static TWO: [Field; 4] = [
     ("Z", &[], b"\xC2"),
 ];
 
-const NESTED: &str =
-    "01 R.|05 N PIC 9.|05 M PIC 9.|05 T OCCURS 1 TO 2 DEPENDING ON N.|10 A PIC X.|10 B PIC X OCCURS 0 TO 2 DEPENDING ON M.|05 Z PIC X.";
-
 static TWO_OF_ONE: [Field; 7] = [
     ("T", &[1], b"\xC1\xC2"),
     ("T", &[2], b"\xC3\xC4"),
@@ -68,18 +63,18 @@ static TWO_OF_ONE: [Field; 7] = [
 #[test]
 fn bytes_of_entries(rt: HostRuntime) -> Result<(), Fail> {
     let alloc = rt.alloc();
-    are_fields(&rt, alloc, SIMPLE, b"\xF1\xC1\xC2\xE9", &ONE)?;
+    are_fields(&rt, alloc, ONE_TABLE, b"\xF1\xC1\xC2\xE9", &ONE)?;
     are_fields(
         &rt,
         alloc,
-        SIMPLE,
+        ONE_TABLE,
         b"\xF2\x40\x40\xC1\x40\xC2\x40\x40",
         &TWO,
     )?;
     are_fields(
         &rt,
         alloc,
-        NESTED,
+        TABLE_IN_TABLE,
         b"\xF2\xF1\xC1\xC2\xC3\xC4\xE9",
         &TWO_OF_ONE,
     )
@@ -136,7 +131,7 @@ fn counts_stay_where_others_are_refused(rt: HostRuntime) -> Result<(), Fail> {
     are_kept(
         &rt,
         rt.alloc(),
-        NESTED,
+        TABLE_IN_TABLE,
         b"\xF2\xF1\xC1\xC2\xC3\xC4\xE9",
         (7, "6 1"),
         &REFUSED,
@@ -155,10 +150,7 @@ static AFTER_NEEDED: [(&str, &[u32], u16); 4] = [
 #[test]
 fn counts_that_are_not_needed(rt: HostRuntime) -> Result<(), Fail> {
     let alloc = rt.alloc();
-    let book = book_of(
-        alloc,
-        "01 R.|05 CA PIC 9.|05 TA PIC X OCCURS 0 TO 4 DEPENDING ON CA.|05 CB PIC 9(2).|05 TB PIC X(3) OCCURS 1 TO 12 DEPENDING ON CB.|05 TC PIC X(2) OCCURS 1 TO 9 DEPENDING ON CA.|05 Z PIC X.",
-    )?;
+    let book = book_of(alloc, THREE_TABLES)?;
     let layout = Layout::of(alloc, &book)?;
     for (name, subscripts, length) in &AFTER_NEEDED {
         let Some(reference) = reference(book.root(), name, subscripts) else {

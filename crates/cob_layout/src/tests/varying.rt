@@ -2,9 +2,6 @@
 
 use super::*;
 
-/// A count, its table, and an item after the table.
-const SIMPLE: &str = "01 R.|05 N PIC 9.|05 T PIC X(2) OCCURS 0 TO 3 DEPENDING ON N.|05 Z PIC X.";
-
 static GREATEST: [Row; 5] = [
     ("R", &[], "0 8"),
     ("N", &[], "0 1"),
@@ -33,13 +30,13 @@ static FOUR: [Row; 3] = [
 #[test]
 fn an_item_after_a_table(rt: HostRuntime) -> Result<(), Fail> {
     let alloc = rt.alloc();
-    are_places(&rt, alloc, SIMPLE, Greatest, b"", &GREATEST)?;
-    are_places(&rt, alloc, SIMPLE, All, b"\xF1\xC1\xC2\xE9", &ONE)?;
-    are_places(&rt, alloc, SIMPLE, All, b"\xF0\xE9", &NONE)?;
-    are_places(&rt, alloc, SIMPLE, All, b"\xF4\xC1\xC2\xE9", &FOUR)
+    are_places(&rt, alloc, ONE_TABLE, Greatest, b"", &GREATEST)?;
+    are_places(&rt, alloc, ONE_TABLE, All, b"\xF1\xC1\xC2\xE9", &ONE)?;
+    are_places(&rt, alloc, ONE_TABLE, All, b"\xF0\xE9", &NONE)?;
+    are_places(&rt, alloc, ONE_TABLE, All, b"\xF4\xC1\xC2\xE9", &FOUR)
 }
 
-static SIMPLE_LENGTHS: [(&[u8], &str); 10] = [
+static ONE_TABLE_LENGTHS: [(&[u8], &str); 10] = [
     (b"\xF0\xE9", "2"),
     (b"\xF1\xC1\xC2\xE9", "4"),
     (b"\xF2", "6"),
@@ -54,12 +51,8 @@ static SIMPLE_LENGTHS: [(&[u8], &str); 10] = [
 
 #[test]
 fn lengths_under_a_count(rt: HostRuntime) -> Result<(), Fail> {
-    are_lengths(&rt, rt.alloc(), SIMPLE, 8, &SIMPLE_LENGTHS)
+    are_lengths(&rt, rt.alloc(), ONE_TABLE, 8, &ONE_TABLE_LENGTHS)
 }
-
-/// A table that varies in the elements of another.
-const NESTED: &str =
-    "01 R.|05 N PIC 9.|05 M PIC 9.|05 T OCCURS 1 TO 2 DEPENDING ON N.|10 A PIC X.|10 B PIC X OCCURS 0 TO 2 DEPENDING ON M.|05 Z PIC X.";
 
 /// Two elements of 2 bytes.
 static TWO_OF_ONE: [Row; 12] = [
@@ -82,7 +75,7 @@ fn a_table_in_a_table(rt: HostRuntime) -> Result<(), Fail> {
     are_places(
         &rt,
         rt.alloc(),
-        NESTED,
+        TABLE_IN_TABLE,
         All,
         b"\xF2\xF1\xC1\xC2\xC3\xC4\xE9",
         &TWO_OF_ONE,
@@ -117,14 +110,21 @@ static ONE_OF_TWO: [Row; 4] = [
 #[test]
 fn a_table_in_a_table_of_other_lengths(rt: HostRuntime) -> Result<(), Fail> {
     let alloc = rt.alloc();
-    are_places(&rt, alloc, NESTED, Greatest, b"", &TWO_OF_TWO)?;
-    are_places(&rt, alloc, NESTED, All, b"\xF2\xF2", &TWO_OF_TWO)?;
-    are_places(&rt, alloc, NESTED, All, b"\xF1\xF0\xC1\xE9", &ONE_OF_NONE)?;
-    are_places(&rt, alloc, NESTED, All, b"\xF1\xF2", &ONE_OF_TWO)
+    are_places(&rt, alloc, TABLE_IN_TABLE, Greatest, b"", &TWO_OF_TWO)?;
+    are_places(&rt, alloc, TABLE_IN_TABLE, All, b"\xF2\xF2", &TWO_OF_TWO)?;
+    are_places(
+        &rt,
+        alloc,
+        TABLE_IN_TABLE,
+        All,
+        b"\xF1\xF0\xC1\xE9",
+        &ONE_OF_NONE,
+    )?;
+    are_places(&rt, alloc, TABLE_IN_TABLE, All, b"\xF1\xF2", &ONE_OF_TWO)
 }
 
 /// The first table's count is asked first; the inner table's lies behind it.
-static NESTED_LENGTHS: [(&[u8], &str); 11] = [
+static TABLE_IN_TABLE_LENGTHS: [(&[u8], &str); 11] = [
     (b"\xF2\xF1\xC1\xC2\xC3\xC4\xE9", "7"),
     (b"\xF1\xF0", "4"),
     (b"\xF1\xF1", "5"),
@@ -140,7 +140,7 @@ static NESTED_LENGTHS: [(&[u8], &str); 11] = [
 
 #[test]
 fn lengths_of_a_table_in_a_table(rt: HostRuntime) -> Result<(), Fail> {
-    are_lengths(&rt, rt.alloc(), NESTED, 9, &NESTED_LENGTHS)
+    are_lengths(&rt, rt.alloc(), TABLE_IN_TABLE, 9, &TABLE_IN_TABLE_LENGTHS)
 }
 
 /// A table that varies between two tables of a fixed number.
@@ -202,10 +202,6 @@ fn lengths_of_tables_between_tables(rt: HostRuntime) -> Result<(), Fail> {
     are_lengths(&rt, rt.alloc(), HOLLOW, 9, &HOLLOW_LENGTHS)
 }
 
-/// Several tables: the second one's count stands behind the first table, and the third one has the first one's count.
-const SEVERAL: &str =
-    "01 R.|05 CA PIC 9.|05 TA PIC X OCCURS 0 TO 4 DEPENDING ON CA.|05 CB PIC 9(2).|05 TB PIC X(3) OCCURS 1 TO 12 DEPENDING ON CB.|05 TC PIC X(2) OCCURS 1 TO 9 DEPENDING ON CA.|05 Z PIC X.";
-
 /// 1 + 2 + 2 + 3 + 2 * 2 + 1 bytes.
 static TWO_AND_ONE: [Row; 10] = [
     ("R", &[], "0 13"),
@@ -236,7 +232,7 @@ fn several_tables(rt: HostRuntime) -> Result<(), Fail> {
     are_places(
         &rt,
         alloc,
-        SEVERAL,
+        THREE_TABLES,
         All,
         b"\xF2\xC1\xC2\xF0\xF1\xC1\xC2\xC3\xD1\xD2\xD3\xD4\xE9",
         &TWO_AND_ONE,
@@ -244,7 +240,7 @@ fn several_tables(rt: HostRuntime) -> Result<(), Fail> {
     are_places(
         &rt,
         alloc,
-        SEVERAL,
+        THREE_TABLES,
         All,
         b"\xF1\xC1\xF1\xF2",
         &ONE_AND_TWELVE,
@@ -252,7 +248,7 @@ fn several_tables(rt: HostRuntime) -> Result<(), Fail> {
 }
 
 /// The count of the second table stands at 1 and as many bytes as the first table has. The third table has at least one element.
-static SEVERAL_LENGTHS: [(&[u8], &str); 12] = [
+static THREE_TABLES_LENGTHS: [(&[u8], &str); 12] = [
     (
         b"\xF2\xC1\xC2\xF0\xF1\xC1\xC2\xC3\xD1\xD2\xD3\xD4\xE9",
         "13",
@@ -272,7 +268,7 @@ static SEVERAL_LENGTHS: [(&[u8], &str); 12] = [
 
 #[test]
 fn lengths_of_several_tables(rt: HostRuntime) -> Result<(), Fail> {
-    are_lengths(&rt, rt.alloc(), SEVERAL, 62, &SEVERAL_LENGTHS)
+    are_lengths(&rt, rt.alloc(), THREE_TABLES, 62, &THREE_TABLES_LENGTHS)
 }
 
 /// Counts in a group before their tables: binary, packed, and with a sign of its own byte.
