@@ -9,7 +9,6 @@ use Rattle.cob_records.specs.declared.records.RecordFault.TheVariants.{WriteFail
 use Rattle.cob_records.specs.Frame.{framed, IsRecord, Reads, is_read_failure, is_write_fault}
 use Rattle.cob_records.specs.Unique.{FramesAreOne, FramesReadBack, ReadingIsOne}
 use Rattle.cob_steps.specs.Decided.{ConversionsAreDecided}
-use Rattle.cob_steps.specs.Records.{IsConversion}
 use Rattle.cob_steps.specs.declared.plan.Stop.{Stop}
 use Rattle.cob_steps.specs.declared.plan.Side.{Side}
 use Rattle.cob_steps.specs.declared.plan.Side.TheVariants.{In, Out}
@@ -21,7 +20,7 @@ use Rattle.cob_convert.specs.declared.run.Cause.TheVariants.{NoValue, Count, Sub
 use Rattle.cob_convert.specs.declared.run.RunFault.{RunFault}
 use Rattle.cob_convert.specs.Conversion.{in_length, Becomes, StopsAt, IsSized, IsMisfit, misfit_fact}
 use Rattle.cob_convert.specs.Run.{Ends, StopsFor, FrameStops, ConversionStops, LayoutStops, IsConverted, cause_from, offset_from, refusal_from, frames_in, frames_out, most_records, is_read_stop, is_write_stop}
-use Rattle.cob_convert.specs.Unique.{ConversionIsOne}
+use Rattle.cob_convert.specs.Unique.{HasBytes, ConversionIsOne}
 
 -- what is determined of frames, and of what becomes of one record
 record IsDecided (setup : Setup) : Type 0 where
@@ -45,10 +44,10 @@ fits_or_not_at : (came wanted : ℕ) (w : Misfit) → came ≡ wanted → misfit
 fits_or_not_at came wanted (Uncounted p) e b = b
 fits_or_not_at came wanted Unfitting e b = b e
 
-is_decided : FramesAreOne → FramesReadBack → ReadingIsOne → ConversionsAreDecided → (setup : Setup) → IsConversion setup.plan → IsDecided setup
-is_decided frames back reading decided setup conversion = record {
-  low = conversion.input.some;
-  high = conversion.input.most;
+is_decided : FramesAreOne → FramesReadBack → ReadingIsOne → ConversionsAreDecided → (setup : Setup) → HasBytes setup.plan.input → IsDecided setup
+is_decided frames back reading decided setup bytes = record {
+  low = bytes.some;
+  high = bytes.most;
   frames = frames;
   back = back;
   reading = reading;

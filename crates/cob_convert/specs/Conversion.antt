@@ -11,7 +11,7 @@ use Rattle.cob_convert.specs.declared.setup.Misfit.TheVariants.{Count, Length}
 
 -- the greatest length of an input record
 abbrev pub in_length : Setup → ℕ
-in_length setup = record_length setup.plan.in_items
+in_length setup = record_length setup.plan.input
 
 -- an input record becomes an output record, from the initial storage through all moves
 pub record Becomes (setup : Setup) (input output : List ℕ) : Type 0 where

@@ -1,11 +1,18 @@
 -- Bytes have one conversion: what is written and what is answered are determined.
-use Rattle.std.specs.Prelude.{◌≡◌, ℕ, List, Result}
-use Rattle.cob_steps.specs.Records.{IsConversion}
+use Rattle.std.specs.Prelude.{◌≡◌, ℕ, ◌<◌, ◌≤◌, List, Result}
+use Rattle.cob_tree.specs.Forests.{Forest}
+use Rattle.cob_tree.specs.Nodes.{Resolved}
+use Rattle.cob_steps.specs.Records.{record_length}
 use Rattle.cob_convert.specs.declared.setup.Setup.{Setup}
 use Rattle.cob_convert.specs.declared.run.RunFault.{RunFault}
 use Rattle.cob_convert.specs.Converted.{Converted}
 
+-- a record has from 1 to 32,752 bytes
+pub record HasBytes (f : Forest Resolved) : Type 0 where
+  pub some : 0 < record_length f
+  pub most : record_length f ≤ 32752
+
 -- two conversions of the same bytes have written the same bytes and have one answer
 abbrev pub ConversionIsOne : Type 0
-ConversionIsOne = (setup : Setup) (bytes written other : List ℕ) (answer second : Result ℕ RunFault) → IsConversion setup.plan
+ConversionIsOne = (setup : Setup) (bytes written other : List ℕ) (answer second : Result ℕ RunFault) → HasBytes setup.plan.input
     → Converted setup bytes written answer → Converted setup bytes other second → (written ≡ other) × (answer ≡ second)

@@ -6,7 +6,8 @@
 //!
 //! What is promised:
 //!
-//! - What is prepared is what the texts mean (`means`), with the record forms that were handed in (`forms`).
+//! - What is prepared is what the texts mean (`means`), with the record forms that were handed in (`forms`); a refusal names a text, and of a
+//!   copybook the rule that it breaks (`refused`).
 //! - Where both ends tell their bytes and no call of them failed, what a run writes is, record by record, the framed storage that the
 //!   moves give from the initial values and the values that the input's bytes represent; and a run that stops names the first record
 //!   and offset where its fault stands, having written just the records before it: the clause `headline`, by `Converted` of
@@ -18,10 +19,12 @@
 //!
 //! What a job prints, and its status, is shown by tests.
 //!
-//! It stands on `cob_records` for the frames, on `cob_thin` for the texts, on `cob_steps` for what becomes of one record, on `arrayvec`
+//! It stands on `cob_records` for the frames, on `cob_copybook` and `cob_layout` for the records, on `cob_thin` for the paragraph, on
+//! `cob_steps` for what becomes of one record, on `arrayvec`
 //! for lines without memory and on `thiserror` for what faults print.
 #![tactic(auto)]
 
+mod books;
 mod converter;
 mod fault;
 mod hex;
@@ -34,9 +37,8 @@ mod setup;
 mod tests;
 
 pub use cob_steps::Side;
-pub use cob_thin::Text;
 pub use converter::Converter;
-pub use fault::PrepareFault;
+pub use fault::{PrepareFault, Text};
 pub use jobs::{Status, job};
 pub use laws::conversion_is_one;
 pub use run::{Cause, RunFault};

@@ -87,7 +87,7 @@ pub fn run_over<R: Source, W: Sink>(
     w: &mut W,
 ) -> Result<u64, RunFault>
     requires input { length input.old ≡ in_length setup.now }
-    requires output { length output.old ≡ record_length setup.now.plan.out_items }
+    requires output { length output.old ≡ record_length setup.now.plan.output }
     ensures ran { Told (R.coming r.old) (R.coming r.new) (λ bytes rest. Told (W.taken w.old) (W.taken w.new)
         (Ran setup.now result bytes rest)) }
     ensures reads { R.failures r.new ≡ counted (is_read_stop result) (R.failures r.old) }

@@ -55,7 +55,7 @@ pub fn measure(setup: &Setup, input: &[u8]) -> Result<(), Misfit>
 /// Converts a record, and says how many bytes of the output storage are written.
 pub fn convert(setup: &Setup, input: &[u8], output: &mut [u8]) -> Result<usize, Stop>
     requires sized { IsSized setup.now input.now }
-    requires room { length output.old ≡ record_length setup.now.plan.out_items }
+    requires room { length output.old ≡ record_length setup.now.plan.output }
     ensures size { IfOk result (λ made. (0 < made) × (made ≤ length output.new) × (made ≤ 32752)) }
     ensures converts { IfOk result (λ made. Becomes setup.now input.now (take made output.new)) }
     ensures stops { IfErr result (λ stop. StopsAt setup.now input.now stop) }

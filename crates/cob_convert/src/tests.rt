@@ -1,7 +1,9 @@
 //! Worked examples of whole runs and jobs. What is expected was made by hand.
 
 use crate::{Cause, Converter, PrepareFault, RunFault, Side, Text, job};
+use cob_entries::{BookFault, BookRule};
 use cob_records::{Form, Limited, MemSink, MemSource, RecordFault};
+use cob_source::SourceRule;
 use std::alloc::Global;
 use std::test::Fail;
 
@@ -137,16 +139,37 @@ fn starts_anew(rt: HostRuntime) -> Result<(), Fail> {
     Ok(())
 }
 
+/// An entry that redefines an area with another between, on line 4.
+const REDEFINES: &[u8] = b"       01  R.\n           05  A PIC X(2).\n           05  B PIC X.\n           05  C REDEFINES A PIC X.\n";
+
+/// A table that varies, on line 3.
+const VARYING: &[u8] = b"       01  R.\n           05  N PIC 9.\n           05  T PIC X OCCURS 0 TO 3 DEPENDING ON N.\n";
+
+/// A tab on line 2.
+const TAB: &[u8] = b"       01  R.\n\t05  A PIC X.\n";
+
 #[test]
 fn refuses_texts(rt: HostRuntime) -> Result<(), Fail> {
-    let signed: &[u8] = b"       01  R.\n           05  N PIC S9(2).\n";
+    let redefinition = BookFault {
+        rule: BookRule::Redefinition,
+        line: 4,
+    };
+    let tab = BookFault {
+        rule: BookRule::Source(SourceRule::Tab),
+        line: 2,
+    };
+    let not_yet = |text: Text, line: u32| PrepareFault::NotYet { text, line };
     let rows = [
-        (signed, OUT_BOOK, MOVES, Text::InBook, 2),
-        (IN_BOOK, signed, MOVES, Text::OutBook, 2),
-        (IN_BOOK, OUT_BOOK, b"".as_slice(), Text::Moves, 1),
-        (signed, signed, MOVES, Text::InBook, 2),
+        (REDEFINES, OUT_BOOK, MOVES, PrepareFault::InBook(redefinition)),
+        (IN_BOOK, TAB, MOVES, PrepareFault::OutBook(tab)),
+        (REDEFINES, TAB, MOVES, PrepareFault::InBook(redefinition)),
+        (VARYING, TAB, MOVES, not_yet(Text::InBook, 3)),
+        (VARYING, OUT_BOOK, MOVES, not_yet(Text::InBook, 3)),
+        (IN_BOOK, VARYING, MOVES, not_yet(Text::OutBook, 3)),
+        (IN_BOOK, OUT_BOOK, b"".as_slice(), not_yet(Text::Moves, 1)),
+        (OUT_BOOK, IN_BOOK, MOVES, not_yet(Text::Moves, 1)),
     ];
-    for (in_book, out_book, moves, text, line) in rows {
+    for (in_book, out_book, moves, expected) in rows {
         let answer = Converter::prepare(
             rt.alloc(),
             in_book,
@@ -158,7 +181,7 @@ fn refuses_texts(rt: HostRuntime) -> Result<(), Fail> {
         let Err(fault) = answer else {
             return Err(Fail::new("a text was accepted"));
         };
-        assert_eq!(rt; fault, PrepareFault::NotYet { text, line });
+        assert_eq!(rt; fault, expected);
     }
     Ok(())
 }

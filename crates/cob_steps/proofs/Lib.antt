@@ -1,4 +1,5 @@
-pub mod RecordLemmas
+pub mod PlaceLemmas
+pub mod StepLemmas
 pub mod MoveLemmas
-pub mod DecidedLemmas
 pub mod ReadLemmas
+pub mod DecidedLemmas

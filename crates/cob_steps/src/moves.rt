@@ -2,23 +2,18 @@
 
 ghost use Rattle.std.specs.Prelude.{◌≡◌, ◌+◌, ◌<◌, ◌≤◌, pos, false, ℕ, List, length, IfErr, IfNone, IfSome, OnOk};
 ghost use Rattle.cob_decimal.specs.declared.TheConstants.{MAX_DIGITS};
-ghost use Rattle.cob_steps.specs.Moving.{IsPossible, IsMoved, Lacks};
-ghost use Rattle.cob_steps.specs.Records.{MostDigits};
-ghost use Rattle.cob_steps.specs.Steps.{bytes_at, characters, IsStored, Represents, Receives, HasNoValue};
+ghost use Rattle.cob_fields.specs.Fields.{field_of};
+ghost use Rattle.cob_steps.specs.Moving.{IsMoved, Lacks};
+ghost use Rattle.cob_steps.specs.Records.{IsPossible, MostDigits};
+ghost use Rattle.cob_steps.specs.Steps.{characters, Represents, Receives};
 
-use crate::image::SPACE;
-use crate::plan::{Category, Item, Move, Side, Stop, StopCause};
+use crate::plan::{Category, Side, Step, Stop, StopCause};
 use cob_codec::{Shape, Storage, Zoned};
 use cob_decimal::{MAX_DIGITS, Number};
+use cob_fields::field;
 
-/// The bytes of an item in a record.
-fn bytes_of<'a>(item: &Item, bytes: &'a [u8]) -> &'a [u8]
-    requires { item.now.offset + item.now.length ≤ length bytes.now }
-    ensures { result.now ≡ bytes_at item.now bytes.now }
-{
-    let offset = item.offset as usize;
-    &bytes[offset..offset + item.length as usize]
-}
+/// A space, as code page 037 has it.
+const SPACE: u8 = 0x40;
 
 /// Moves characters: left aligned, cut at the right, padded with spaces.
 fn move_characters(sent: &[u8], received: &mut [u8])
@@ -106,20 +101,20 @@ fn receive(category: Category, sent: &[u8], received: &mut [u8]) -> Result<(), S
 /// # Errors
 ///
 /// The sender's bytes in the input record represent no value.
-pub fn make_move(step: &Move, input: &[u8], storage: &mut [u8]) -> Result<(), Stop>
+pub fn make_move(step: &Step, input: &[u8], storage: &mut [u8]) -> Result<(), Stop>
     requires { IsPossible (length input.now) (length storage.old) step.now }
     ensures moved { OnOk result (IsMoved step.now input.now storage.old storage.new) }
-    ensures stopped { IfErr result (λ stop. HasNoValue step.now input.now
-        × (stop.side ≡ Side.In) × (stop.offset ≡ step.now.from.offset) × (stop.cause ≡ StopCause.NoValue)) }
+    ensures stopped { IfErr result (λ stop. Lacks step.now.category (field_of step.now.from input.now) stop.cause
+        × (stop.side ≡ Side.In) × (stop.offset ≡ step.now.from.offset)) }
 {
-    let sent = bytes_of(&step.from, input);
-    let offset = step.to.offset as usize;
-    let end = offset + step.to.length as usize;
-    match receive(step.to.category, sent, &mut storage[offset..end]) {
+    let sent = field(input, step.from);
+    let start = step.to.offset as usize;
+    let end = start + step.to.length as usize;
+    match receive(step.category, sent, &mut storage[start..end]) {
         Ok(()) => Ok(()),
         Err(cause) => Err(Stop {
             side: Side::In,
-            offset: u32::from(step.from.offset),
+            offset: step.from.offset,
             cause,
         }),
     }

@@ -1,30 +1,36 @@
 ghost use Rattle.std.specs.Prelude.{◌≡◌, ◌<◌, ◌≤◌, length, IfOk, IfErr, OnOk};
+ghost use Rattle.cob_places.specs.Lengths.{alone};
 
-use crate::image;
 use crate::moves::make_move;
+use crate::places::steps_of;
+use cob_copybook::Book;
+use cob_fields::Place;
+use cob_layout::Layout;
+use cob_move::initial;
 use std::alloc::{AllocError, Global};
 use std::marker::Model;
 
-/// What an elementary item holds: characters (`X`), or the digits of an unsigned whole number in zoned form (`9`).
+/// What an operand of a move holds: characters (`X`), or the digits of an unsigned whole number in zoned form (`9`).
 #[derive(Clone, Copy, Debug, PartialEq, Eq)]
 pub enum Category {
     Alphanumeric,
     Numeric,
 }
 
-/// An elementary item at its place in a record, in bytes.
-#[derive(Clone, Copy, Debug, PartialEq, Eq)]
-pub struct Item {
-    pub category: Category,
-    pub offset: u16,
-    pub length: u16,
-}
-
-/// A MOVE of an item of the input record to an item of the output record.
+/// A MOVE of an item of the input record to an item of the output record, both of one category, by the numbers of their entries.
 #[derive(Clone, Copy, Debug, PartialEq, Eq)]
 pub struct Move {
-    pub from: Item,
-    pub to: Item,
+    pub category: Category,
+    pub from: usize,
+    pub to: usize,
+}
+
+/// A move, with the places of its items.
+#[derive(Clone, Copy, Debug, PartialEq, Eq)]
+pub(crate) struct Step {
+    pub(crate) category: Category,
+    pub(crate) from: Place,
+    pub(crate) to: Place,
 }
 
 /// The record in which a fault stands.
@@ -50,70 +56,80 @@ pub struct Stop {
     pub cause: StopCause,
 }
 
-/// The conversion of a record, ready to be done: the items of both records and the moves between them.
+/// The conversion of a record, ready to be done: the layouts of both records, the moves between their items, and what follows from them once.
 #[derive(Drop)]
 pub struct Plan {
-    in_items: Vec<Item>,
-    out_items: Vec<Item>,
+    input: Layout,
+    output: Layout,
     moves: Vec<Move>,
+    steps: Vec<Step>,
     image: Vec<u8>,
-    in_length: u16,
 }
 
 impl Model for Plan {
-    ghost use Rattle.cob_steps.specs.Records.{Conversion};
+    ghost use Rattle.cob_places.specs.Lengths.{alone};
+    ghost use Rattle.cob_steps.specs.Records.{Conversion, IsPrepared};
+    ghost use Rattle.std.specs.Coded.{codes};
+    ghost use Rattle.cob_copybook.specs.Codes.{coded_forest};
 
     ghost Value = { Conversion };
 
-    ghost use Rattle.cob_steps.specs.Records.{IsPrepared};
+    ghost coded = { Prim.hlevel (codes, coded_forest) };
 
-    ghost view = { λ p. record { in_items = p.in_items.items; out_items = p.out_items.items; moves = p.moves.items } };
+    ghost view = { λ p. record { input = alone p.input; output = alone p.output; moves = p.moves.items } };
 
-    ghost invariant = { λ p. IsPrepared (record { in_items = p.in_items.items; out_items = p.out_items.items; moves = p.moves.items }) p.image.items p.in_length };
+    ghost invariant = { λ p. IsPrepared (record { input = alone p.input; output = alone p.output; moves = p.moves.items }) p.steps.items p.image.items };
 }
 
 impl Plan {
     ghost use Rattle.cob_steps.specs.Records.{IsConversion, record_length};
     ghost use Rattle.cob_steps.specs.Steps.{Converts, Stops};
 
-    /// The plan of these items and moves, with the storage that each output record begins from. Memory may be refused.
+    /// The plan of these layouts and moves, with the places of their items and the storage that each output record begins from. The book is that
+    /// of the output record.
+    ///
+    /// # Errors
+    ///
+    /// Where no memory is left.
     pub fn new(
         alloc: Global,
-        in_items: Vec<Item>,
-        out_items: Vec<Item>,
+        input: Layout,
+        output: Layout,
+        out_book: &Book,
         moves: Vec<Move>,
     ) -> Result<Plan, AllocError>
-        requires { IsConversion (record { in_items = in_items.items; out_items = out_items.items; moves = moves.items }) }
-        ensures { IfOk result (λ plan. plan ≡ record { in_items = in_items.items; out_items = out_items.items; moves = moves.items }) }
+        requires sound { IsConversion (record { input = alone input; output = alone output; moves = moves.items }) }
+        requires book { out_book.now ≡ alone output }
+        ensures { IfOk result (λ plan. plan ≡ record { input = alone input; output = alone output; moves = moves.items }) }
     {
-        let image = image::initial_image(alloc, out_items.as_slice())?;
-        let in_length = image::total_length(in_items.as_slice());
+        let steps = steps_of(alloc, &input, &output, moves.as_slice())?;
+        let mut image = vec![in alloc; 0u8; output.greatest() as usize]?;
+        initial(&output, out_book, image.as_mut_slice());
         Ok(Plan {
-            in_items,
-            out_items,
+            input,
+            output,
             moves,
+            steps,
             image,
-            in_length,
         })
     }
 
     /// How many bytes an input record has.
     pub fn in_length(&self) -> u16
-        ensures value { result ≡ record_length self.now.in_items }
+        ensures value { result ≡ record_length self.now.input }
         ensures some { 0 < result }
         ensures most { result ≤ 32752 }
     {
-        self.in_length
+        self.input.greatest()
     }
 
     /// How many bytes an output record has.
-    #[tactic(auto, using(crate::proofs::RecordLemmas::initial_length))]
     pub fn out_length(&self) -> u16
-        ensures value { result ≡ record_length self.now.out_items }
+        ensures value { result ≡ record_length self.now.output }
         ensures some { 0 < result }
         ensures most { result ≤ 32752 }
     {
-        self.image.len() as u16
+        self.output.greatest()
     }
 
     /// The moves, in the order in which they are made.
@@ -128,15 +144,14 @@ impl Plan {
     /// # Errors
     ///
     /// The first move whose sender has no value stops the conversion, at the sender. Nothing is said of the output then.
-    #[tactic(auto, using(crate::proofs::RecordLemmas::initial_length))]
     pub fn convert(&self, input: &[u8], output: &mut [u8]) -> Result<(), Stop>
-        requires input { length input.now ≡ record_length self.now.in_items }
-        requires output { length output.old ≡ record_length self.now.out_items }
+        requires input { length input.now ≡ record_length self.now.input }
+        requires output { length output.old ≡ record_length self.now.output }
         ensures converts { OnOk result (Converts self.now input.now output.new) }
         ensures stops { IfErr result (λ stop. Stops self.now input.now stop) }
     {
-        image::begin_record(self.image.as_slice(), output);
-        for step in self.moves() {
+        output.copy_from_slice(self.image.as_slice());
+        for step in self.steps.as_slice() {
             make_move(step, input, output)?;
         }
         Ok(())

@@ -1,6 +1,5 @@
 pub mod WordLemmas
-pub mod NumberLemmas
-pub mod NameLemmas
-pub mod BookLemmas
+pub mod BearerLemmas
+pub mod NodeLemmas
+pub mod OperandLemmas
 pub mod MoveLemmas
-pub mod MeaningLemmas

@@ -1,5 +1,3 @@
 pub mod Words
-pub mod Books
-pub mod Names
-pub mod Reading
-pub mod Views
+pub mod Paragraphs
+pub mod Bearers

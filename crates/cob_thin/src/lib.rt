@@ -1,35 +1,35 @@
-//! A reader of the three texts that say a conversion, in their thinnest form: two descriptions of records and a paragraph of
-//! moves. It stands in for the readers of whole copybooks and paragraphs, and gives way to them.
+//! A reader of the paragraph that says a conversion, in its thinnest form: the moves between the items of two records. It stands in for
+//! the reader of whole paragraphs (ANSI X3.23-1985, Procedure Division), and gives way to it.
 //!
-//! A text has at most 1,000,000 bytes, in lines that end at a line feed; the last may lack it. Its bytes are the printing
+//! A paragraph has at most 1,000,000 bytes, in lines that end at a line feed; the last may lack it. Its bytes are the printing
 //! characters and the space (20 to 7E). Columns 1 to 6 and from 73 on mean nothing, column 7 is a space, and the words stand in
-//! columns 8 to 72, parted by spaces and in capitals. Lines that are blank there are skipped.
+//! columns 8 to 72, parted by spaces and in capitals. Lines that are blank there are skipped. There are one or more lines
+//! `MOVE A TO B.`
 //!
-//! - A description is a line `01 NAME.`, and then one or more lines `05 NAME PIC X(n).` or `05 NAME PIC 9(n).`: one level of two
-//!   digits from 02 to 49, the same for all; n without a leading zero, at most 31 for `9`; at most 32,752 bytes in all.
-//! - A name has 1 to 30 capitals, digits and hyphens, among them a letter, and no hyphen first or last. It is not reserved, and
-//!   names one thing: no name stands twice in the two descriptions.
-//! - A paragraph is one or more lines `MOVE A TO B.`, where A is an item of the input record and B one of the output record, both
-//!   `X` or both `9`.
+//! - A is an item of the input record, B one of the output record. In the two records together one entry alone bears the name: records
+//!   and groups count, and the name of a record that its text doesn't name.
+//! - Each is an elementary item that is no table (OCCURS), and stands in none. A redefinition may be named.
+//! - Both are alphanumeric without JUSTIFIED, or both are unsigned DISPLAY numbers without V digits, P and BLANK WHEN ZERO.
 //!
-//! What is promised is the clause `means` of [`read`]: the plan is the one that the texts spell (`Means` of `specs/Books.antt`).
-//! Its items lie end to end in the order of the lines, each with the category and the length of its picture, and each move joins
-//! the items of its two names. That every text of this form is read, and at which line another one is refused, is shown by tests
-//! alone. The crate stands on `cob_steps`, which owns plans, and on `cob_decimal` for the limit of 31 digits.
+//! What is promised is the clause `means` of [`read_moves`]: the moves are those that the paragraph spells, between the items that its
+//! names mean (`IsParagraph` of specs/Paragraphs.antt). That every paragraph of this form is read, and at which line another one is
+//! refused, is shown by tests alone.
+//!
+//! The names of each record are looked up in a directory that is made once. The crate stands on `cob_copybook` for the records, on
+//! `cob_tree` and `cob_picture` for their entries and items, on `cob_steps`, which owns moves and says which are allowed, on
+//! `cob_decimal` for the limit of 31 digits, and on `indexmap` for the directory.
 #![tactic(auto)]
 
-mod book;
-mod entry;
+mod bearer;
+mod directory;
 mod fault;
 mod lines;
-mod name;
-mod names;
-mod number;
+mod operand;
 mod paragraph;
+mod statement;
 #[cfg(test)]
 mod tests;
-mod texts;
 mod words;
 
-pub use fault::{Text, ThinFault};
-pub use texts::read;
+pub use fault::ThinFault;
+pub use paragraph::read_moves;

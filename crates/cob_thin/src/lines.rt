@@ -1,52 +1,50 @@
-// The lines of a text.
+//! The lines of a paragraph.
+
 ghost use Rattle.std.specs.Prelude.{◌≡◌, ◌+◌, ◌<◌, ◌≤◌, [], ◌∷◌, length, IfOk, IfSome, IsTrue, MatchOption, OnSome};
 ghost use Rattle.std.specs.List.{AllByRecursion};
 ghost use Rattle.cob_thin.specs.Words.{IsCut, IsPlain, ArePlain, words_in, words_of, area};
 
-use crate::fault::{Text, ThinFault};
+use crate::fault::ThinFault;
 use crate::words::{front_part, is_blank};
 
-// How many bytes a text may have.
+/// How many bytes a text may have.
 const MAX_BYTES: usize = 1_000_000;
 
-// The column that is a space in a plain line. The words stand behind it, up to LAST.
+/// The column that is a space in a plain line. The words stand behind it, up to LAST.
 const INDICATOR: usize = 7;
 
 const LAST: usize = 72;
 
-// The lines of a text that are still to be read.
+/// The lines of a paragraph that are still to be read.
 #[derive(Drop)]
 pub(crate) struct Lines<'a> {
-    text: Text,
     rest: &'a [u8],
-    // The number of the line that was read last, and how many bytes may follow it.
+    /// The number of the line that was read last, and how many bytes may follow it.
     number: u32,
     left: usize,
     ghost few: { number + left ≤ 1000000 },
 }
 
 impl<'a> Lines<'a> {
-    // All lines of a text.
-    pub(crate) fn new(text: Text, bytes: &'a [u8]) -> Lines<'a>
-        ensures { result.rest.now ≡ bytes.now }
+    /// All lines of a text.
+    pub(crate) fn new(text: &'a [u8]) -> Lines<'a>
+        ensures { result.rest.now ≡ text.now }
     {
         Lines {
-            text,
-            rest: bytes,
+            rest: text,
             number: 0,
             left: MAX_BYTES,
         }
     }
 
-    // That the line read last is at fault, or that more lines are wanting.
+    /// That the line read last is at fault, or that more lines are wanting.
     pub(crate) fn fault(&self) -> ThinFault {
         ThinFault::NotYet {
-            text: self.text,
             line: self.number.max(1),
         }
     }
 
-    // The next line that is not blank: its columns 8 to 72.
+    /// The next line that is not blank: its columns 8 to 72.
     pub(crate) fn next_area(&mut self) -> Result<Option<&'a [u8]>, ThinFault>
         ensures words { IfOk result (λ next. MatchOption next (words_of self.old.rest.now ≡ []) (λ line. words_of self.old.rest.now ≡ words_in line.now ∷ words_of self.new.rest.now)) }
         ensures plain { IfOk result (λ next. MatchOption next (ArePlain self.old.rest.now) (λ _. ArePlain self.new.rest.now → ArePlain self.old.rest.now)) }
@@ -61,7 +59,7 @@ impl<'a> Lines<'a> {
         Ok(None)
     }
 
-    // The next line.
+    /// The next line.
     fn next_line(&mut self) -> Result<Option<&'a [u8]>, ThinFault>
         ensures line { IfOk result (λ next. MatchOption next (length self.old.rest.now ≡ 0) (λ line. IsCut 10 self.old.rest.now line.now self.new.rest.now)) }
         ensures plain { IfOk result (λ next. IfSome next (λ line. IsPlain line.now)) }
@@ -74,7 +72,6 @@ impl<'a> Lines<'a> {
         let taken = self.rest.len() - rest.len();
         if taken > self.left || !is_plain(line) {
             return Err(ThinFault::NotYet {
-                text: self.text,
                 line: self.number + 1,
             });
         }
@@ -85,7 +82,7 @@ impl<'a> Lines<'a> {
     }
 }
 
-// Columns 8 to 72.
+/// Columns 8 to 72.
 fn area_of(line: &[u8]) -> &[u8]
     ensures { result.now ≡ area line.now }
 {
@@ -93,7 +90,7 @@ fn area_of(line: &[u8]) -> &[u8]
     &front[front.len().min(INDICATOR)..]
 }
 
-// Whether a line is plain.
+/// Whether a line is plain.
 fn is_plain(line: &[u8]) -> bool
     ensures { IsTrue result → IsPlain line.now }
 {
@@ -103,7 +100,7 @@ fn is_plain(line: &[u8]) -> bool
     is_printing(line)
 }
 
-// Whether a line holds printing characters and spaces alone.
+/// Whether a line holds printing characters and spaces alone.
 fn is_printing(line: &[u8]) -> bool
     ensures { IsTrue result → AllByRecursion (λ c. (32 ≤ c) × (c ≤ 126)) line.now }
 {

@@ -1,42 +1,19 @@
-// Paragraphs of moves.
-ghost use Rattle.std.specs.Prelude.{◌≡◌, ◌<◌, [], ◌∷◌, length, IfOk, IfSome, MatchOption, OnSome};
-ghost use Rattle.cob_thin.specs.Words.{ArePlain, words_of};
-ghost use Rattle.cob_thin.specs.Books.{move_line};
-ghost use Rattle.cob_thin.specs.Reading.{AreMoves, IsMoveOf};
-ghost use Rattle.cob_thin.specs.Views.{book_of};
+//! Paragraphs of moves.
 
-use crate::book::Book;
-use crate::entry::move_at;
-use crate::fault::{Text, ThinFault};
+ghost use Rattle.std.specs.Prelude.{◌≡◌, ◌<◌, [], ◌∷◌, length, IfOk, MatchOption, OnSome};
+ghost use Rattle.cob_thin.specs.Words.{ArePlain, words_of};
+ghost use Rattle.cob_thin.specs.Paragraphs.{move_line, IsParagraph};
+
+use crate::directory::Directory;
+use crate::fault::ThinFault;
 use crate::lines::Lines;
+use crate::operand::move_between;
+use crate::statement::move_at;
+use cob_copybook::Book;
 use cob_steps::Move;
 use std::alloc::Global;
 
-// Reads the moves between the items of two books.
-pub(crate) fn read_moves(
-    alloc: Global,
-    bytes: &[u8],
-    input: &Book<'_>,
-    output: &Book<'_>,
-) -> Result<Vec<Move>, ThinFault>
-    ensures plain { IfOk result (λ moves. ArePlain bytes.now) }
-    ensures said { IfOk result (λ moves. AreMoves (book_of input.now) (book_of output.now) (words_of bytes.now) moves.items) }
-{
-    let mut lines = Lines::new(Text::Moves, bytes);
-    let mut moves = Vec::new(alloc);
-    while let Some((from, to)) = next_move(&mut lines)? {
-        let Some(step) = move_between(input, output, from, to) else {
-            return Err(lines.fault());
-        };
-        moves.push(step)?;
-    }
-    if moves.is_empty() {
-        return Err(lines.fault());
-    }
-    Ok(moves)
-}
-
-// The names of sender and receiver, of the next line.
+/// The names of sender and receiver, of the next line.
 fn next_move<'a>(lines: &mut Lines<'a>) -> Result<Option<(&'a [u8], &'a [u8])>, ThinFault>
     ensures words { IfOk result (λ next. MatchOption next (words_of lines.old.rest.now ≡ []) (λ names. words_of lines.old.rest.now ≡ move_line names.0.now names.1.now ∷ words_of lines.new.rest.now)) }
     ensures plain { IfOk result (λ next. MatchOption next (ArePlain lines.old.rest.now) (λ _. ArePlain lines.new.rest.now → ArePlain lines.old.rest.now)) }
@@ -51,15 +28,31 @@ fn next_move<'a>(lines: &mut Lines<'a>) -> Result<Option<(&'a [u8], &'a [u8])>, 
     }
 }
 
-// The move from the input item of one name to the output item of another, of the same category.
-fn move_between(input: &Book<'_>, output: &Book<'_>, from: &[u8], to: &[u8]) -> Option<Move>
-    ensures { IfSome result (λ step. IsMoveOf (book_of input.now) (book_of output.now) from.now to.now step) }
+/// The moves that a paragraph says between the items of two records.
+///
+/// # Errors
+///
+/// `NotYet` with the first line at which the text is no such paragraph. `Memory` where an allocation was refused.
+pub fn read_moves(
+    alloc: Global,
+    text: &[u8],
+    input: &Book,
+    output: &Book,
+) -> Result<Vec<Move>, ThinFault>
+    ensures means { IfOk result (λ moves. IsParagraph text.now input.now output.now moves.items) }
 {
-    let from = input.item_named(from)?;
-    let to = output.item_named(to)?;
-    if from.category == to.category {
-        Some(Move { from, to })
-    } else {
-        None
+    let senders = Directory::of(alloc, input)?;
+    let receivers = Directory::of(alloc, output)?;
+    let mut lines = Lines::new(text);
+    let mut moves = Vec::new(alloc);
+    while let Some((from, to)) = next_move(&mut lines)? {
+        let Some(step) = move_between(&senders, &receivers, from, to) else {
+            return Err(lines.fault());
+        };
+        moves.push(step)?;
     }
+    if moves.is_empty() {
+        return Err(lines.fault());
+    }
+    Ok(moves)
 }

@@ -1,0 +1,34 @@
+-- The moves of a paragraph between steady records are a conversion.
+use Rattle.std.proofs.Common.{◌≡◌, sym, subst, ℕ, ◌+◌, ◌<◌, List, [], ◌∷◌, length, arith}
+use Rattle.std.specs.List.{AllByRecursion}
+use Rattle.cob_tree.specs.Forests.{Forest}
+use Rattle.cob_tree.specs.Nodes.{Resolved}
+use Rattle.cob_steps.specs.declared.plan.Move.{Move}
+use Rattle.cob_steps.specs.Records.{IsSteady, IsMove, IsConversion}
+use Rattle.cob_thin.specs.Paragraphs.{Pair, AreMovesOf, IsParagraph}
+use Rattle.cob_copybook.specs.declared.role.Role.{Role}
+use Rattle.cob_copybook.specs.Books.{IsBookOf}
+use Rattle.cob_areas.specs.Areas.{hold_varying}
+use Rattle.std.specs.Prelude.{false}
+
+allowed : (input output : Forest Resolved) (pairs : List Pair) (moves : List Move) → AreMovesOf input output pairs moves → AllByRecursion (IsMove input output) moves
+allowed input output [] moves are = subst (λ (ms : List Move). AllByRecursion (IsMove input output) ms) (sym are) tt
+allowed input output (pair ∷ pairs) [] are = absurd are
+allowed input output (pair ∷ pairs) (move ∷ moves) are = (are.0.allowed, allowed input output pairs moves are.1)
+
+some_moves : (input output : Forest Resolved) (pairs : List Pair) (moves : List Move) → 0 < length pairs → AreMovesOf input output pairs moves → 0 < length moves
+some_moves input output [] moves some are = omega (arith, some)
+some_moves input output (pair ∷ pairs) [] some are = absurd are
+some_moves input output (pair ∷ pairs) (move ∷ moves) some are = omega arith
+
+pub planned : (text : List ℕ) (input output : Forest Resolved) (moves : List Move) → IsSteady input → IsSteady output → IsParagraph text input output moves
+    → IsConversion (record { input = input; output = output; moves = moves })
+planned text input output moves from to says = record {
+  input = from;
+  output = to;
+  any = some_moves input output says.pairs moves says.any says.are;
+  moves = allowed input output says.pairs moves says.are;
+}
+
+pub steady_of : (role : Role) (text : List ℕ) (t : Forest Resolved) → IsBookOf role text t → hold_varying t ≡ false → IsSteady t
+steady_of role text t is steady = record { described = (is.entries, is.is); steady = steady }

@@ -1,0 +1,117 @@
+//! The copybooks of a conversion.
+
+ghost use Rattle.std.specs.Prelude.{◌≡◌, ℕ, List, true, false, IfOk, IfErr, IfSome, IfNone};
+ghost use Rattle.cob_tree.specs.Nodes.{forest};
+ghost use Rattle.cob_areas.specs.Areas.{hold_varying};
+ghost use Rattle.cob_copybook.specs.Books.{IsBookOf, IsRefusal};
+ghost use Rattle.cob_steps.specs.Records.{IsSteady};
+ghost use Rattle.cob_convert.specs.Means.{IsInRefusal, IsOutRefusal};
+ghost use Rattle.cob_copybook.specs.declared.role.Role.TheVariants.{In, Out};
+
+use crate::fault::{PrepareFault, Text};
+use cob_copybook::{Book, Role};
+use cob_entries::{BookFault, BookRule};
+use cob_source::SourceRule;
+use cob_tree::{Node, Times};
+use std::alloc::Global;
+use std::slice;
+
+/// Whether a book is refused for want of memory.
+fn is_memory(rule: BookRule) -> bool {
+    matches!(
+        rule,
+        BookRule::Memory | BookRule::Source(SourceRule::Memory)
+    )
+}
+
+/// The line of the first entry among these and those beneath them that is a table that varies.
+fn first_varying(entries: &[Node]) -> Option<u32>
+    ensures varies { IfSome result (λ _. hold_varying (forest entries.now) ≡ true) }
+    ensures steady { IfNone result (hold_varying (forest entries.now) ≡ false) }
+{
+    for entry in entries {
+        if matches!(entry.occurs, Times::Varying { .. }) {
+            return Some(entry.line);
+        }
+        if let Some(line) = first_varying(entry.children.as_slice()) {
+            return Some(line);
+        }
+    }
+    None
+}
+
+/// The line of the first entry of a book that is a table that varies.
+fn varying(book: &Book) -> Option<u32>
+    ensures varies { IfSome result (λ _. hold_varying book.now ≡ true) }
+    ensures steady { IfNone result (hold_varying book.now ≡ false) }
+{
+    first_varying(slice::from_ref(book.root()))
+}
+
+/// The refusal of the copybook of the input record.
+fn in_refusal(fault: BookFault) -> PrepareFault
+    ensures { (text : List ℕ) → IsRefusal In fault.rule fault.line text → IsInRefusal result text }
+{
+    if is_memory(fault.rule) {
+        PrepareFault::Memory
+    } else {
+        PrepareFault::InBook(fault)
+    }
+}
+
+/// The copybook of the input record, in which no table varies.
+///
+/// # Errors
+///
+/// [`PrepareFault::InBook`], [`PrepareFault::NotYet`], [`PrepareFault::Memory`].
+pub fn in_book(alloc: Global, text: &[u8]) -> Result<Book, PrepareFault>
+    ensures found { IfOk result (λ b. IsBookOf In text.now b) }
+    ensures steady { IfOk result IsSteady }
+    ensures refused { IfErr result (λ f. IsInRefusal f text.now) }
+{
+    let book = match Book::read(alloc, Role::In, text) {
+        Ok(book) => book,
+        Err(fault) => return Err(in_refusal(fault)),
+    };
+    match varying(&book) {
+        None => Ok(book),
+        Some(line) => Err(PrepareFault::NotYet {
+            text: Text::InBook,
+            line,
+        }),
+    }
+}
+
+/// The refusal of the copybook of the output record.
+fn out_refusal(fault: BookFault) -> PrepareFault
+    ensures { (text : List ℕ) → IsRefusal Out fault.rule fault.line text → IsOutRefusal result text }
+{
+    if is_memory(fault.rule) {
+        PrepareFault::Memory
+    } else {
+        PrepareFault::OutBook(fault)
+    }
+}
+
+/// The copybook of the output record, in which no table varies.
+///
+/// # Errors
+///
+/// [`PrepareFault::OutBook`], [`PrepareFault::NotYet`], [`PrepareFault::Memory`].
+pub fn out_book(alloc: Global, text: &[u8]) -> Result<Book, PrepareFault>
+    ensures found { IfOk result (λ b. IsBookOf Out text.now b) }
+    ensures steady { IfOk result IsSteady }
+    ensures refused { IfErr result (λ f. IsOutRefusal f text.now) }
+{
+    let book = match Book::read(alloc, Role::Out, text) {
+        Ok(book) => book,
+        Err(fault) => return Err(out_refusal(fault)),
+    };
+    match varying(&book) {
+        None => Ok(book),
+        Some(line) => Err(PrepareFault::NotYet {
+            text: Text::OutBook,
+            line,
+        }),
+    }
+}
