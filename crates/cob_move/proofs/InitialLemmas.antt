@@ -1,9 +1,9 @@
 -- The storage of entries side by side, from the front.
-use Rattle.std.proofs.Common.{◌≡◌, ℕ, List, [], ◌∷◌, ◌++◌, length, take, Option, None, Some, is_some, true, false, refl, sym, ap, ◌∙◌}
+use Rattle.std.proofs.Common.{◌≡◌, ℕ, List, [], ◌++◌, length, take, Option, None, Some, is_some, true, false, refl, sym, ap, ◌∙◌}
 use Rattle.std.proofs.lemmas.List.{take_at}
 use Rattle.cob_tree.specs.declared.node.Node.{Node}
 use Rattle.cob_tree.specs.declared.node.Node.TheViews.{out-Node}
-use Rattle.cob_tree.specs.Forests.{Forest, Bare, Grows, Tree}
+use Rattle.cob_tree.specs.Forests.{Forest, Grows, Tree}
 use Rattle.cob_tree.specs.Nodes.{Resolved, node}
 use Rattle.cob_tree.specs.Lengths.{most, most_by, sum_of, element}
 use Rattle.cob_places.proofs.ForestLemmas.{node_out}

@@ -1,5 +1,5 @@
 -- What the storage before the first move asks of entries: that they have one.
-use Rattle.std.specs.Prelude.{ℕ, ◌<◌, ◌≤◌, false, is_some}
+use Rattle.std.specs.Prelude.{◌<◌, ◌≤◌, false, is_some}
 use Rattle.cob_tree.specs.Forests.{Forest, Tree}
 use Rattle.cob_tree.specs.Nodes.{Resolved}
 use Rattle.cob_tree.specs.Lengths.{most, sum_of, whole}

@@ -1,4 +1,4 @@
-use Rattle.std.proofs.Common.{◌≡◌, [], drop, sym, subst, ap, arith}
+use Rattle.std.proofs.Common.{sym, subst, ap, arith}
 use Rattle.std.proofs.lemmas.List.{drop_all}
 use Rattle.cob_tree.specs.Nodes.{node}
 use Rattle.cob_tree.specs.Lengths.{most, sum_of}
