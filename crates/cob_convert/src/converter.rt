@@ -29,7 +29,6 @@ impl Model for Converter {
     ghost use Rattle.cob_steps.specs.Records.{record_length};
     ghost use Rattle.cob_convert.specs.declared.setup.Setup.{Setup};
     ghost use Rattle.cob_convert.specs.Conversion.{in_length};
-
     ghost use Rattle.std.specs.Coded.{codes};
     ghost use Rattle.cob_convert.specs.contracts.setup.Setup as e;
 

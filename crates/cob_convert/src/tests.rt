@@ -140,10 +140,12 @@ fn starts_anew(rt: HostRuntime) -> Result<(), Fail> {
 }
 
 /// An entry that redefines an area with another between, on line 4.
-const REDEFINES: &[u8] = b"       01  R.\n           05  A PIC X(2).\n           05  B PIC X.\n           05  C REDEFINES A PIC X.\n";
+const REDEFINES: &[u8] =
+    b"       01  R.\n           05  A PIC X(2).\n           05  B PIC X.\n           05  C REDEFINES A PIC X.\n";
 
 /// A table that varies, on line 3.
-const VARYING: &[u8] = b"       01  R.\n           05  N PIC 9.\n           05  T PIC X OCCURS 0 TO 3 DEPENDING ON N.\n";
+const VARYING: &[u8] =
+    b"       01  R.\n           05  N PIC 9.\n           05  T PIC X OCCURS 0 TO 3 DEPENDING ON N.\n";
 
 /// A tab on line 2.
 const TAB: &[u8] = b"       01  R.\n\t05  A PIC X.\n";
@@ -160,7 +162,12 @@ fn refuses_texts(rt: HostRuntime) -> Result<(), Fail> {
     };
     let not_yet = |text: Text, line: u32| PrepareFault::NotYet { text, line };
     let rows = [
-        (REDEFINES, OUT_BOOK, MOVES, PrepareFault::InBook(redefinition)),
+        (
+            REDEFINES,
+            OUT_BOOK,
+            MOVES,
+            PrepareFault::InBook(redefinition),
+        ),
         (IN_BOOK, TAB, MOVES, PrepareFault::OutBook(tab)),
         (REDEFINES, TAB, MOVES, PrepareFault::InBook(redefinition)),
         (VARYING, TAB, MOVES, not_yet(Text::InBook, 3)),
