@@ -150,26 +150,32 @@ const VARYING: &[u8] =
 /// A tab on line 2.
 const TAB: &[u8] = b"       01  R.\n\t05  A PIC X.\n";
 
+/// The refusal of a copybook by this rule, on this line.
+fn broken(rule: BookRule, line: u32) -> BookFault {
+    BookFault { rule, line }
+}
+
+/// The refusal of a text that is not taken so far.
+fn not_yet(text: Text, line: u32) -> PrepareFault {
+    PrepareFault::NotYet { text, line }
+}
+
+/// The refusal of [`REDEFINES`] as the input's copybook.
+fn redefinition() -> PrepareFault {
+    PrepareFault::InBook(broken(BookRule::Redefinition, 4))
+}
+
+/// The refusal of [`TAB`] as the output's copybook.
+fn tab() -> PrepareFault {
+    PrepareFault::OutBook(broken(BookRule::Source(SourceRule::Tab), 2))
+}
+
 #[test]
 fn refuses_texts(rt: HostRuntime) -> Result<(), Fail> {
-    let redefinition = BookFault {
-        rule: BookRule::Redefinition,
-        line: 4,
-    };
-    let tab = BookFault {
-        rule: BookRule::Source(SourceRule::Tab),
-        line: 2,
-    };
-    let not_yet = |text: Text, line: u32| PrepareFault::NotYet { text, line };
     let rows = [
-        (
-            REDEFINES,
-            OUT_BOOK,
-            MOVES,
-            PrepareFault::InBook(redefinition),
-        ),
-        (IN_BOOK, TAB, MOVES, PrepareFault::OutBook(tab)),
-        (REDEFINES, TAB, MOVES, PrepareFault::InBook(redefinition)),
+        (REDEFINES, OUT_BOOK, MOVES, redefinition()),
+        (IN_BOOK, TAB, MOVES, tab()),
+        (REDEFINES, TAB, MOVES, redefinition()),
         (VARYING, TAB, MOVES, not_yet(Text::InBook, 3)),
         (VARYING, OUT_BOOK, MOVES, not_yet(Text::InBook, 3)),
         (IN_BOOK, VARYING, MOVES, not_yet(Text::OutBook, 3)),
