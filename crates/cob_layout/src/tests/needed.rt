@@ -45,7 +45,7 @@ fn before_a_table(rt: HostRuntime) -> Result<(), Fail> {
     )
 }
 
-/// Z moves with the count, which stands before the table, and so does M, which redefines it. C2 and E2 are the unsigned 2, too, D2 is no number.
+/// Z moves with the count, which stands before the table, and so does M, which redefines it. The bytes C2 and E2 represent an unsigned 2 too, and the byte D2 no number.
 static MOVED: [Needed; 10] = [
     (
         Receiver,
