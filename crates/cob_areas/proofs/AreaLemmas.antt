@@ -7,7 +7,7 @@ use Rattle.cob_tree.specs.declared.node.Kind.TheVariants.{Group, Item as ItemKin
 use Rattle.cob_tree.specs.Forests.{Forest, Bare, Grows, Tree}
 use Rattle.cob_tree.specs.Nodes.{Resolved}
 use Rattle.cob_tree.specs.Lengths.{most, room, one, sum_of, whole}
-use Rattle.cob_areas.specs.declared.judge.TheConstants.{MAX_RECORD}
+use Rattle.cob_tree.specs.declared.lengths.TheConstants.{MAX_RECORD}
 use Rattle.cob_areas.specs.Areas.{MayFollow, MayHold, joined}
 use Rattle.cob_areas.specs.Short.{IsShortArea}
 

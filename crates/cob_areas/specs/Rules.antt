@@ -5,7 +5,7 @@ use Rattle.cob_entries.specs.declared.fault.BookRule.TheVariants as rule
 use Rattle.cob_tree.specs.Forests.{Forest}
 use Rattle.cob_tree.specs.Nodes.{Resolved}
 use Rattle.cob_tree.specs.Lengths.{most, sum_of}
-use Rattle.cob_areas.specs.declared.judge.TheConstants.{MAX_RECORD}
+use Rattle.cob_tree.specs.declared.lengths.TheConstants.{MAX_RECORD}
 use Rattle.cob_areas.specs.Areas.{AreAreas}
 use Rattle.cob_areas.specs.Values.{AreValues}
 

@@ -3,7 +3,7 @@ use Rattle.std.specs.Prelude.{◌≤◌, List, [], ◌∷◌}
 use Rattle.cob_tree.specs.Forests.{Tree}
 use Rattle.cob_tree.specs.Nodes.{Resolved}
 use Rattle.cob_tree.specs.Lengths.{most, whole}
-use Rattle.cob_areas.specs.declared.judge.TheConstants.{MAX_RECORD}
+use Rattle.cob_tree.specs.declared.lengths.TheConstants.{MAX_RECORD}
 
 -- the first of the entries that share an area isn't longer than a record may be
 abbrev pub IsShortArea : List (Tree Resolved) → Type 0

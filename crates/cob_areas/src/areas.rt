@@ -5,7 +5,7 @@ ghost use Rattle.std.specs.Option.{IsNone};
 ghost use Rattle.cob_tree.specs.declared.node.Times.TheVariants.{Once};
 ghost use Rattle.cob_tree.specs.Nodes.{node, forest};
 ghost use Rattle.cob_tree.specs.Lengths.{most, sum_of, whole};
-ghost use Rattle.cob_areas.specs.declared.judge.TheConstants.{MAX_RECORD};
+ghost use Rattle.cob_tree.specs.declared.lengths.TheConstants.{MAX_RECORD};
 ghost use Rattle.cob_areas.specs.Areas.{hold_varying, is_varying, Bears, FitsArea, MayFollow, AreAreas, ArePossible};
 ghost use Rattle.cob_areas.specs.Short.{IsShortArea};
 

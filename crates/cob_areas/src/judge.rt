@@ -3,17 +3,15 @@
 ghost use Rattle.std.specs.Prelude.{◌≡◌, ◌≤◌, ◌↔◌, [], ◌∷◌, IsTrue, IfOk, IfErr};
 ghost use Rattle.cob_tree.specs.Nodes.{forest};
 ghost use Rattle.cob_tree.specs.Lengths.{most, sum_of};
+ghost use Rattle.cob_tree.specs.declared.lengths.TheConstants.{MAX_RECORD};
 ghost use Rattle.cob_areas.specs.Areas.{ArePossible};
 ghost use Rattle.cob_areas.specs.Rules.{IsFit, Breaks};
 
 use crate::areas::wrong_area;
 use crate::values::wrong_value;
 use cob_entries::{BookFault, BookRule};
-use cob_tree::{Node, whole_length};
+use cob_tree::{MAX_RECORD, Node, whole_length};
 use std::slice;
-
-/// The most bytes of a record.
-pub const MAX_RECORD: u32 = 32_752;
 
 /// The line of a record's own entry; of a record that the text doesn't name, that of its first entry.
 fn line_of(root: &Node) -> u32 {

@@ -1,7 +1,7 @@
 //! The rules of a record description that speak of lengths: the last ones that a record is judged by.
 //!
 //! Once the entries of a record are a tree, with what they inherit, this crate asks of it: is the record no longer than
-//! [`MAX_RECORD`] bytes (B14), does each REDEFINES name an entry whose area it may share, and keep within it (B7), and does each
+//! `MAX_RECORD` bytes (B14), does each REDEFINES name an entry whose area it may share, and keep within it (B7), and does each
 //! VALUE suit its entry, and stand where a value may (B10).
 //!
 //! What it promises of [`judged`]: a record that it accepts keeps these rules (clause `fine`), and a record that it refuses breaks
@@ -27,5 +27,6 @@ mod laws;
 mod tests;
 mod values;
 
-pub use judge::{MAX_RECORD, judged};
+pub use judge::judged;
 pub use laws::breaks_no_rule;
+pub use values::is_number;

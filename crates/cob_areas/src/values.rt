@@ -14,7 +14,7 @@ use cob_picture::{Category, Picture};
 use cob_tree::{Item, Kind, Node, element_length};
 
 /// Whether an item is a number that isn't edited.
-fn is_number(item: &Item) -> bool
+pub fn is_number(item: &Item) -> bool
     ensures { result ≡ is_number item.now }
 {
     matches!(item.picture.category(), Category::Numeric) && !item.blank

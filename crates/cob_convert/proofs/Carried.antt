@@ -19,7 +19,7 @@ use Rattle.cob_steps.specs.declared.plan.StopCause.TheVariants.{NoValue as StopN
 use Rattle.cob_convert.specs.declared.run.Cause.{Cause}
 use Rattle.cob_convert.specs.declared.run.Cause.TheVariants.{Record}
 use Rattle.cob_records.specs.declared.records.RecordFault.{RecordFault}
-use Rattle.cob_records.specs.declared.records.RecordFault.TheVariants.{WriteFailed, TookNothing}
+use Rattle.cob_records.specs.declared.records.RecordFault.TheVariants.{Truncated, Descriptor, Spanned, Length, ReadFailed, WriteFailed, TookNothing}
 use Rattle.cob_steps.specs.declared.plan.Side.TheVariants.{In}
 use Rattle.cob_convert.specs.declared.setup.Misfit.{Misfit}
 use Rattle.cob_convert.specs.declared.setup.Misfit.TheVariants.{Count as Uncounted, Length as Unfitting}
@@ -155,6 +155,29 @@ sized_of form size made room e h =
 told_same : (w : Option (List ℕ)) → Told w w (λ mid now. now ≡ mid)
 told_same None = tt
 told_same (Some xs) = refl
+
+-- what was refused says nothing of the caller's slice
+refused_reading : (form : Form) (greatest : ℕ) (slot left rest : List ℕ) (fault : RecordFault) → Reads form greatest slot (Err fault) left rest → Reads form greatest [] (Err fault) left rest
+refused_reading form greatest slot left rest (Truncated seen) reads = reads
+refused_reading form greatest slot left rest Descriptor reads = reads
+refused_reading form greatest slot left rest Spanned reads = reads
+refused_reading form greatest slot left rest Length reads = reads
+refused_reading form greatest slot left rest ReadFailed reads = reads
+refused_reading form greatest slot left rest (WriteFailed taken) reads = absurd reads
+refused_reading form greatest slot left rest (TookNothing taken) reads = absurd reads
+
+-- a run ends where a frame can't be read
+pub read_exit : (setup : Setup) (n written : ℕ) (fault : RecordFault) (slot : List ℕ) (r0 r1 r2 w0 w1 : Option (List ℕ))
+    → Carried setup n written r0 r1 w0 w1 → Told r1 r2 (Reads setup.in_form (in_length setup) slot (Err fault)) → n < most_records
+    → Told r0 r2 (λ bytes rest. Told w0 w1 (Ran setup (Err (record { number = n + 1; side = In; offset = 0; cause = Record fault; written = written })) bytes rest))
+read_exit setup n written fault slot r0 r1 r2 w0 w1 so_far read low =
+    finish setup n written (Err (record { number = n + 1; side = In; offset = 0; cause = Record fault; written = written }))
+    r0 r1 r2 w0 w1 w1 (Reads setup.in_form (in_length setup) slot (Err fault)) (λ mid now. now ≡ mid) so_far read (told_same w1)
+    (λ left rest mid now p q. (
+      [],
+      q ∙ sym (append-nil mid),
+      (refl, omega (arith, so_far.sum), (low, inl (refl, (refused_reading setup.in_form (in_length setup) slot left rest fault p, refl)))),
+    ))
 
 stops_for : (setup : Setup) (n offset : ℕ) (left rest part : List ℕ) (side : Side) (c : StopCause) → n < most_records
     → ConversionStops setup left rest part side offset (cause_from c) → StopsFor setup n left rest part side offset (cause_from c)

@@ -33,6 +33,13 @@ IsNotYet text.InBook in_book out_book = IsVarying In in_book
 IsNotYet text.OutBook in_book out_book = IsTaken In in_book × IsVarying Out out_book
 IsNotYet text.Moves in_book out_book = IsTaken In in_book × IsTaken Out out_book
 
+-- the text is named for a table that varies
+abbrev pub IsVaryingRefusal : Text → PrepareFault → Type 0
+IsVaryingRefusal text (InBook f) = ⊥
+IsVaryingRefusal text (OutBook f) = ⊥
+IsVaryingRefusal text (NotYet which line) = which ≡ text
+IsVaryingRefusal text Memory = ⊥
+
 -- the copybook of the input record is refused: it breaks a rule, a table of it varies, or memory was refused
 abbrev pub IsInRefusal : PrepareFault → List ℕ → Type 0
 IsInRefusal (InBook f) book = IsRefusal In f.rule f.line book

@@ -5,7 +5,7 @@ ghost use Rattle.cob_tree.specs.Nodes.{forest};
 ghost use Rattle.cob_areas.specs.Areas.{hold_varying};
 ghost use Rattle.cob_copybook.specs.Books.{IsBookOf, IsRefusal};
 ghost use Rattle.cob_steps.specs.Records.{IsSteady};
-ghost use Rattle.cob_convert.specs.Means.{IsInRefusal, IsOutRefusal};
+ghost use Rattle.cob_convert.specs.Means.{IsVaryingRefusal, IsInRefusal, IsOutRefusal};
 ghost use Rattle.cob_copybook.specs.declared.role.Role.TheVariants.{In, Out};
 
 use crate::fault::{PrepareFault, Text};
@@ -48,6 +48,22 @@ fn varying(book: &Book) -> Option<u32>
     first_varying(slice::from_ref(book.root()))
 }
 
+/// A book in which no table varies.
+///
+/// # Errors
+///
+/// [`PrepareFault::NotYet`] for the text, with the line of the first table that varies.
+fn steady(book: Book, text: Text) -> Result<Book, PrepareFault>
+    ensures same { IfOk result (λ b. b ≡ book) }
+    ensures steady { IfOk result (λ b. hold_varying b ≡ false) }
+    ensures refused { IfErr result (λ f. IsVaryingRefusal text f × (hold_varying book ≡ true)) }
+{
+    match varying(&book) {
+        None => Ok(book),
+        Some(line) => Err(PrepareFault::NotYet { text, line }),
+    }
+}
+
 /// The refusal of the copybook of the input record.
 fn in_refusal(fault: BookFault) -> PrepareFault
     ensures { (text : List ℕ) → IsRefusal In fault.rule fault.line text → IsInRefusal result text }
@@ -69,16 +85,9 @@ pub fn in_book(alloc: Global, text: &[u8]) -> Result<Book, PrepareFault>
     ensures steady { IfOk result IsSteady }
     ensures refused { IfErr result (λ f. IsInRefusal f text.now) }
 {
-    let book = match Book::read(alloc, Role::In, text) {
-        Ok(book) => book,
-        Err(fault) => return Err(in_refusal(fault)),
-    };
-    match varying(&book) {
-        None => Ok(book),
-        Some(line) => Err(PrepareFault::NotYet {
-            text: Text::InBook,
-            line,
-        }),
+    match Book::read(alloc, Role::In, text) {
+        Ok(book) => steady(book, Text::InBook),
+        Err(fault) => Err(in_refusal(fault)),
     }
 }
 
@@ -103,15 +112,8 @@ pub fn out_book(alloc: Global, text: &[u8]) -> Result<Book, PrepareFault>
     ensures steady { IfOk result IsSteady }
     ensures refused { IfErr result (λ f. IsOutRefusal f text.now) }
 {
-    let book = match Book::read(alloc, Role::Out, text) {
-        Ok(book) => book,
-        Err(fault) => return Err(out_refusal(fault)),
-    };
-    match varying(&book) {
-        None => Ok(book),
-        Some(line) => Err(PrepareFault::NotYet {
-            text: Text::OutBook,
-            line,
-        }),
+    match Book::read(alloc, Role::Out, text) {
+        Ok(book) => steady(book, Text::OutBook),
+        Err(fault) => Err(out_refusal(fault)),
     }
 }

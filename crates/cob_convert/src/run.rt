@@ -4,6 +4,8 @@ ghost use Rattle.cob_records.specs.Frame.{frame_size};
 ghost use Rattle.cob_steps.specs.Records.{record_length};
 ghost use Rattle.cob_convert.specs.Conversion.{in_length};
 ghost use Rattle.cob_convert.specs.Run.{Ran, cause_from, offset_from, refusal_from, is_read_stop, is_write_stop};
+ghost use Rattle.cob_convert.specs.declared.run.TheConstants.{LIMIT};
+ghost use Rattle.cob_tree.specs.declared.lengths.TheConstants.{MAX_RECORD};
 
 use crate::setup::{Misfit, Setup, convert, measure, next_input};
 use cob_records::{Form, RecordFault, Sink, Source, put_record};
@@ -69,12 +71,26 @@ fn refusal_of(why: Misfit) -> Cause
 
 // How many bytes a record's frame has.
 fn frame_length(form: Form, length: usize) -> u64
-    requires { length ≤ 32752 }
+    requires { length ≤ MAX_RECORD }
     ensures { result ≡ frame_size form length }
 {
     match form {
         Form::Fixed => length as u64,
         Form::Variable => length as u64 + 4,
+    }
+}
+
+/// The stop of a run at the record behind so many others.
+fn stop_behind(done: u64, side: Side, offset: u32, cause: Cause, written: u64) -> RunFault
+    requires { done ≤ LIMIT }
+    ensures { result ≡ record { number = done + 1; side = side; offset = offset; cause = cause; written = written } }
+{
+    RunFault {
+        number: done + 1,
+        side,
+        offset,
+        cause,
+        written,
     }
 }
 
@@ -98,53 +114,23 @@ pub fn run_over<R: Source, W: Sink>(
         let count = match next_input(setup, r, input) {
             Ok(None) => return Ok(done),
             Ok(Some(count)) => count,
-            Err(fault) => {
-                return Err(RunFault {
-                    number: done + 1,
-                    side: Side::In,
-                    offset: 0,
-                    cause: Cause::Record(fault),
-                    written,
-                });
-            }
+            Err(fault) => return Err(stop_behind(done, Side::In, 0, Cause::Record(fault), written)),
         };
         if let Err(why) = measure(setup, &input[..count]) {
-            return Err(RunFault {
-                number: done + 1,
-                side: Side::In,
-                offset: offset_of(why),
-                cause: refusal_of(why),
-                written,
-            });
+            return Err(stop_behind(done, Side::In, offset_of(why), refusal_of(why), written));
         }
         let made = match convert(setup, &input[..count], output) {
             Ok(made) => made,
             Err(stop) => {
-                return Err(RunFault {
-                    number: done + 1,
-                    side: stop.side,
-                    offset: stop.offset,
-                    cause: cause_of(stop.cause),
-                    written,
-                });
+                let cause = cause_of(stop.cause);
+                return Err(stop_behind(done, stop.side, stop.offset, cause, written));
             }
         };
         if let Err(fault) = put_record(w, setup.out_form, &output[..made]) {
-            return Err(RunFault {
-                number: done + 1,
-                side: Side::Out,
-                offset: 0,
-                cause: Cause::Record(fault),
-                written: written.saturating_add(fault.taken() as u64),
-            });
+            let sent = written.saturating_add(fault.taken() as u64);
+            return Err(stop_behind(done, Side::Out, 0, Cause::Record(fault), sent));
         }
         written = written.saturating_add(frame_length(setup.out_form, made));
     }
-    Err(RunFault {
-        number: LIMIT + 1,
-        side: Side::In,
-        offset: 0,
-        cause: Cause::Limit,
-        written,
-    })
+    Err(stop_behind(LIMIT, Side::In, 0, Cause::Limit, written))
 }

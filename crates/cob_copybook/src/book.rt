@@ -4,7 +4,7 @@ ghost use Rattle.std.specs.Prelude.{◌≡◌, ℕ, ◌≤◌, [], ◌∷◌, If
 ghost use Rattle.cob_tree.specs.Forests.{Forest};
 ghost use Rattle.cob_tree.specs.Nodes.{Resolved, forest};
 ghost use Rattle.cob_tree.specs.Lengths.{most, sum_of};
-ghost use Rattle.cob_areas.specs.declared.judge.TheConstants.{MAX_RECORD};
+ghost use Rattle.cob_tree.specs.declared.lengths.TheConstants.{MAX_RECORD};
 ghost use Rattle.cob_copybook.specs.Records.{IsRecord};
 ghost use Rattle.cob_copybook.specs.Books.{IsBookOf, IsRefusal, IsMemory};
 

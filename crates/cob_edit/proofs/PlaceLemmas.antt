@@ -15,8 +15,7 @@ use Rattle.cob_picture.specs.Counts.{is_digit_place, width, size, digits}
 use Rattle.cob_picture.specs.Measures.{symbols_size}
 use Rattle.cob_picture.specs.Pictures.{IsPicture}
 use Rattle.cob_picture.proofs.Placed.{is_plain, MayFloat, floating_may, size-placed, decimal-placed, digits-cons}
-use Rattle.cob_picture.proofs.Times.{length_written, signs_written, points_written, scaling_written, digits_written}
-use Rattle.cob_picture.proofs.Limits.{once_at_most}
+use Rattle.cob_picture.proofs.Limits.{few_numeric, once_at_most}
 use Rattle.cob_edit.specs.declared.place.Place.{Place}
 use Rattle.cob_edit.specs.declared.place.Place.TheVariants.{AssumedPoint}
 use Rattle.cob_edit.specs.Places.{is_digit, has_byte, bytes_of}
@@ -157,31 +156,6 @@ few_placed c q seen (s ∷ xs) may =
     let rest = placed c q (seen || is_that q s) xs in
     omega (arith, length-append (places_of p.role p.symbol) (places rest), few_here c (is_that q s) seen s (may.wide s), few_placed c q (seen || is_that q s) xs may)
 
--- each symbol but S, V and P takes a byte
-symbol_counts : (s : Symbol) → 1 ≤ width s + (if is S s then 1 else 0) + (if is V s then 1 else 0) + (if is P s then 1 else 0)
-symbol_counts A = omega arith
-symbol_counts X = omega arith
-symbol_counts Nine = omega arith
-symbol_counts S = omega arith
-symbol_counts V = omega arith
-symbol_counts P = omega arith
-symbol_counts B = omega arith
-symbol_counts Zero = omega arith
-symbol_counts Slash = omega arith
-symbol_counts Comma = omega arith
-symbol_counts Point = omega arith
-symbol_counts Z = omega arith
-symbol_counts Star = omega arith
-symbol_counts Dollar = omega arith
-symbol_counts Plus = omega arith
-symbol_counts Minus = omega arith
-symbol_counts Credit = omega arith
-symbol_counts Debit = omega arith
-
-few_wide : (xs : List Symbol) → length xs ≤ symbols_size xs + times S xs + times V xs + times P xs
-few_wide [] = omega arith
-few_wide (s ∷ xs) = omega (arith, symbol_counts s, few_wide xs)
-
 -- no symbol takes more than two bytes
 narrow : (s : Symbol) → width s ≤ 2
 narrow A = omega arith
@@ -207,98 +181,12 @@ few_double : (xs : List Symbol) → symbols_size xs ≤ 2 * length xs
 few_double [] = omega arith
 few_double (s ∷ xs) = omega (arith, narrow s, few_double xs)
 
--- where 9s are digits, there are as many digits at least
-nine_digit : (c : Category) (floats seen : Bool) (s : Symbol) → shows_number c ≡ true → (is Nine s ≡ true → floats ≡ false) → (if is Nine s then 1 else 0) ≤ cond {A = ℕ} (is_digit_place (role_at c floats seen s)) 1 0
-nine_digit c floats seen A shows settled = omega arith
-nine_digit c floats seen X shows settled = omega arith
-nine_digit c floats seen Nine shows settled =
-    let role : role_at c floats seen Nine ≡ Digit = ap (λ (b : Bool). role_at c b seen Nine) (settled refl) ∙ ap (λ (b : Bool). if b then Digit else Character) shows in
-    let one : cond {A = ℕ} (is_digit_place (role_at c floats seen Nine)) 1 0 ≡ 1 = ap (λ (r : Role). cond {A = ℕ} (is_digit_place r) 1 0) role in
-    omega arith
-nine_digit c floats seen S shows settled = omega arith
-nine_digit c floats seen V shows settled = omega arith
-nine_digit c floats seen P shows settled = omega arith
-nine_digit c floats seen B shows settled = omega arith
-nine_digit c floats seen Zero shows settled = omega arith
-nine_digit c floats seen Slash shows settled = omega arith
-nine_digit c floats seen Comma shows settled = omega arith
-nine_digit c floats seen Point shows settled = omega arith
-nine_digit c floats seen Z shows settled = omega arith
-nine_digit c floats seen Star shows settled = omega arith
-nine_digit c floats seen Dollar shows settled = omega arith
-nine_digit c floats seen Plus shows settled = omega arith
-nine_digit c floats seen Minus shows settled = omega arith
-nine_digit c floats seen Credit shows settled = omega arith
-nine_digit c floats seen Debit shows settled = omega arith
-
-nines_digits : (c : Category) (q : Option Symbol) (seen : Bool) (xs : List Symbol) → shows_number c ≡ true → ((s : Symbol) → is Nine s ≡ true → is_that q s ≡ false) → times Nine xs ≤ digits (placed c q seen xs)
-nines_digits c q seen [] shows settled = omega arith
-nines_digits c q seen (s ∷ xs) shows settled =
-    omega (arith, nine_digit c (is_that q s) seen s shows (settled s), digits-cons (position_at c q seen s) (placed c q (seen || is_that q s) xs), nines_digits c q (seen || is_that q s) xs shows settled)
-
 scaling_few : (c : Category) (xs : List Symbol) → IsPicture c xs → digits (positions c xs) + times P xs ≤ 31
 scaling_few c xs p = omega (arith, decimal-placed c (floating xs) false xs (floating_may xs).no_scaling, p.limits.few_digits)
 
-nine_plain : (s : Symbol) → is Nine s ≡ true → is_plain s ≡ true
-nine_plain A h = let no : false ≡ true = h in absurd (cc)
-nine_plain X h = let no : false ≡ true = h in absurd (cc)
-nine_plain Nine h = refl
-nine_plain S h = let no : false ≡ true = h in absurd (cc)
-nine_plain V h = let no : false ≡ true = h in absurd (cc)
-nine_plain P h = let no : false ≡ true = h in absurd (cc)
-nine_plain B h = let no : false ≡ true = h in absurd (cc)
-nine_plain Zero h = let no : false ≡ true = h in absurd (cc)
-nine_plain Slash h = let no : false ≡ true = h in absurd (cc)
-nine_plain Comma h = let no : false ≡ true = h in absurd (cc)
-nine_plain Point h = let no : false ≡ true = h in absurd (cc)
-nine_plain Z h = let no : false ≡ true = h in absurd (cc)
-nine_plain Star h = let no : false ≡ true = h in absurd (cc)
-nine_plain Dollar h = let no : false ≡ true = h in absurd (cc)
-nine_plain Plus h = let no : false ≡ true = h in absurd (cc)
-nine_plain Minus h = let no : false ≡ true = h in absurd (cc)
-nine_plain Credit h = let no : false ≡ true = h in absurd (cc)
-nine_plain Debit h = let no : false ≡ true = h in absurd (cc)
-
-numeric_few : (xs : List Symbol) → IsPicture Numeric xs → length xs ≤ 64
-numeric_few xs p =
-    let n = p.order.0 in
-    let e = p.order.2 in
-    let nines : times Nine xs ≤ digits (positions Numeric xs) = nines_digits Numeric (floating xs) false xs refl (λ s h. (floating_may xs).not_plain s (nine_plain s h)) in
-    omega (
-      arith,
-      ap length e,
-      length_written n,
-      ap (times S) e,
-      signs_written n,
-      ap (times V) e,
-      points_written n,
-      ap (times P) e,
-      scaling_written n,
-      ap (times Nine) e,
-      digits_written n,
-      once_at_most Numeric xs p.order,
-      scaling_few Numeric xs p,
-      nines,
-    )
-
-edited_few : (c : Category) (xs : List Symbol) → IsPicture c xs → IsTrue (is_edited c) → length xs ≤ 288
-edited_few c xs p e =
-    let once = once_at_most c xs p.order in
-    omega (arith, few_wide xs, size-placed c (floating xs) false xs, p.limits.edited_fits e, once.0, once.1, scaling_few c xs p)
-
--- a picture of a number or of an edited item has few symbols
-pub few_symbols : (c : Category) (xs : List Symbol) → IsPicture c xs → IsTrue (shows_number c) ⊎ IsTrue (is_edited c) → length xs ≤ 288
-few_symbols Numeric xs p h = omega (arith, numeric_few xs p)
-few_symbols NumericEdited xs p h = edited_few NumericEdited xs p refl
-few_symbols AlphanumericEdited xs p h = edited_few AlphanumericEdited xs p refl
-few_symbols Alphabetic xs p (inl h) = absurd (cc)
-few_symbols Alphabetic xs p (inr h) = absurd (cc)
-few_symbols Alphanumeric xs p (inl h) = absurd (cc)
-few_symbols Alphanumeric xs p (inr h) = absurd (cc)
-
 -- a picture of a number has few places
 pub few_places : (c : Category) (xs : List Symbol) → IsPicture c xs → IsTrue (shows_number c) → length (places (positions c xs)) + 2 ≤ 256
-few_places Numeric xs p h = omega (arith, few_placed Numeric (floating xs) false xs (floating_may xs), few_double xs, numeric_few xs p, (once_at_most Numeric xs p.order).1)
+few_places Numeric xs p h = omega (arith, few_placed Numeric (floating xs) false xs (floating_may xs), few_double xs, few_numeric xs p, (once_at_most Numeric xs p.order).1)
 few_places NumericEdited xs p h = omega (arith, few_placed NumericEdited (floating xs) false xs (floating_may xs), size-placed NumericEdited (floating xs) false xs, p.limits.edited_fits refl, (once_at_most NumericEdited xs p.order).1)
 few_places AlphanumericEdited xs p h = absurd (cc)
 few_places Alphabetic xs p h = absurd (cc)
@@ -307,6 +195,3 @@ few_places Alphanumeric xs p h = absurd (cc)
 -- a picture has few digits
 pub few_digits : (c : Category) (xs : List Symbol) → IsPicture c xs → count_by is_digit (places (positions c xs)) ≤ 31
 few_digits c xs p = omega (arith, digits_same (positions c xs), scaling_few c xs p)
-
-pub positions_same : (c d : Category) (xs ys : List Symbol) → c ≡ d → xs ≡ ys → positions c xs ≡ positions d ys
-positions_same c d xs ys e h = ap (λ x. positions x xs) e ∙ ap (λ zs. positions d zs) h

@@ -31,8 +31,5 @@ pub use crate::laws::{one_spelling, one_text, one_value, prints_characters, some
 pub use crate::numbers::{deedit, edit};
 pub use crate::spelling::edit_text;
 
-/// No picture of a number or of an edited item has more symbols than this.
-pub(crate) const MAX_SYMBOLS: usize = 288;
-
-/// No such picture has more places than this, or more bytes.
+/// No picture of a number has more places than this, or more bytes.
 pub(crate) const MAX_PLACES: usize = 256;

@@ -2,13 +2,11 @@
 
 ghost use Rattle.std.specs.Prelude.{◌≡◌, ◌≤◌, length, slice_index_or};
 ghost use Rattle.cob_picture.specs.declared.category.Category.TheVariants.{AlphanumericEdited};
-ghost use Rattle.cob_picture.specs.Positions.{positions};
 ghost use Rattle.cob_picture.specs.Counts.{size};
 ghost use Rattle.cob_edit.specs.Characters.{is_character, spelled, HasCharacters};
 
-use crate::MAX_SYMBOLS;
-use crate::positions::{floating_of, floats, insertion_byte, role_at, write_out};
-use cob_picture::{Category, Picture, Role, Symbol};
+use crate::positions::insertion_byte;
+use cob_picture::{Picture, Position, Role};
 
 /// Whether the place holds any character.
 fn is_character(role: Role) -> bool
@@ -24,23 +22,19 @@ fn byte_in(bytes: &[u8], at: usize) -> u8
     if at < bytes.len() { bytes[at] } else { 0x40 }
 }
 
-/// Writes the characters of a sender, and the insertions, at the places of the symbols of a picture.
-fn spell(category: Category, symbols: &[Symbol], sender: &[u8], out: &mut [u8])
-    requires room { length out.old ≡ length symbols.now }
-    ensures { out.new ≡ spelled (positions category symbols.now) sender.now }
+/// Writes the characters of a sender, and the insertions, at positions that have a byte each.
+fn spell(positions: &[Position], sender: &[u8], out: &mut [u8])
+    requires room { length out.old ≡ length positions.now }
+    ensures { out.new ≡ spelled positions.now sender.now }
 {
-    let floating = floating_of(symbols);
-    let mut seen = false;
     let mut next: usize = 0;
-    for (at, symbol) in symbols.iter().enumerate() {
-        let floats = floats(floating, *symbol);
-        if is_character(role_at(category, floats, seen, *symbol)) {
+    for (at, position) in positions.iter().enumerate() {
+        if is_character(position.role) {
             out[at] = byte_in(sender, next);
             next += 1;
         } else {
-            out[at] = insertion_byte(*symbol);
+            out[at] = insertion_byte(position.symbol);
         }
-        seen = seen || floats;
     }
 }
 
@@ -53,7 +47,5 @@ pub fn edit_text(picture: &Picture, sender: &[u8], out: &mut [u8])
     requires room { length out.old ≡ size picture.now.positions }
     ensures text { HasCharacters picture.now.positions sender.now out.new }
 {
-    let mut buffer = [Symbol::A; MAX_SYMBOLS];
-    let count = write_out(picture.runs(), &mut buffer);
-    spell(picture.category(), &buffer[..count], sender, out);
+    spell(picture.positions().as_slice(), sender, out);
 }

@@ -3,7 +3,7 @@
 ghost use Rattle.std.specs.Prelude.{◌≡◌, ◌≤◌, ◌+◌, length, Ok, Err, Some, OnOk, IfOk, IfErr, OnErr, option_map};
 ghost use Rattle.cob_tree.specs.Forests.{entries_in};
 ghost use Rattle.cob_tree.specs.Lengths.{most, sum_of};
-ghost use Rattle.cob_areas.specs.declared.judge.TheConstants.{MAX_RECORD};
+ghost use Rattle.cob_tree.specs.declared.lengths.TheConstants.{MAX_RECORD};
 ghost use Rattle.cob_copybook.specs.Records.{IsRecord};
 ghost use Rattle.cob_places.specs.Lengths.{alone, times};
 ghost use Rattle.cob_places.specs.Places.{find};

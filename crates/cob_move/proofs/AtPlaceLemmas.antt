@@ -9,7 +9,7 @@ use Rattle.cob_tree.specs.Forests.{Forest, Bare, Grows, Tree, entries_in}
 use Rattle.cob_tree.specs.Nodes.{Resolved}
 use Rattle.cob_tree.specs.Lengths.{most, room, sum_of, element, whole}
 use Rattle.cob_places.specs.declared.places.Found.{Found}
-use Rattle.cob_places.specs.Lengths.{ArePossible, alone}
+use Rattle.cob_places.specs.Lengths.{MayOccur, alone}
 use Rattle.cob_places.specs.Places.{is_table, skipped, later, is_there, begins, also, or_else, choose, find}
 use Rattle.cob_places.specs.Cover.{AreNumbered}
 use Rattle.cob_places.proofs.CoverLaw.{absent, differs, not_or}
@@ -107,7 +107,7 @@ one_held : (e : Resolved) (kids : Forest Resolved) (t : Tree Resolved) (part : L
 one_held e kids t part is held = subst (λ u. HoldsOne u part) is (element_by e.kind e.value (sum_of most kids) (IsBegun kids) (IsInitial kids) (begun_initial kids) part held)
 
 module _ (t : Tree Resolved) where
-  at_place : (f : Forest Resolved) (n at area : ℕ) (subscripts bytes : List ℕ) → ArePossible f → AreNumbered n f → IsBegun f bytes → HaveEntry f t
+  at_place : (f : Forest Resolved) (n at area : ℕ) (subscripts bytes : List ℕ) → MayOccur f → AreNumbered n f → IsBegun f bytes → HaveEntry f t
       → IsPlaced (find most t.top.number f at area subscripts) at bytes (HoldsOne t)
   at_place Bare n at area subscripts bytes possible numbered begun have = absurd have
   at_place (Grows e kids more) n at area subscripts bytes possible numbered begun (inl (own, inl is)) =
@@ -140,7 +140,7 @@ module _ (t : Tree Resolved) where
       within _ at taken (length begun.1) bytes (HoldsOne t) (omega (arith, all, long)) (rw (skip, behind) rest)
 
 -- each entry holds at its places what it holds before the first move
-hold_at_places : (f : Forest Resolved) (bytes : List ℕ) → ArePossible f → AreNumbered 0 f → IsBegun f bytes → HoldAtPlaces f bytes
+hold_at_places : (f : Forest Resolved) (bytes : List ℕ) → MayOccur f → AreNumbered 0 f → IsBegun f bytes → HoldAtPlaces f bytes
 hold_at_places f bytes possible numbered begun t subscripts have =
     let is = at_place t f 0 0 0 subscripts bytes possible numbered begun have in
     let from_start : is.place.offset - 0 ≡ is.place.offset = omega arith in

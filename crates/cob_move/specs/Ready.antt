@@ -1,26 +1,27 @@
 -- What the storage before the first move asks of entries: that they have one.
 use Rattle.std.specs.Prelude.{◌<◌, ◌≤◌, false, is_some}
+use Rattle.cob_tree.specs.declared.lengths.TheConstants.{MAX_RECORD}
 use Rattle.cob_tree.specs.Forests.{Forest, Tree}
 use Rattle.cob_tree.specs.Nodes.{Resolved}
 use Rattle.cob_tree.specs.Lengths.{most, sum_of, whole}
 use Rattle.cob_areas.specs.Values.{MayHaveValue, AreValues}
-use Rattle.cob_places.specs.Lengths.{ArePossible}
+use Rattle.cob_places.specs.Lengths.{MayOccur}
 use Rattle.cob_sound.specs.Sound.{IsStorableKind, AreStorable}
 
 -- Entries side by side, which stand in no redefinition and beneath no group with a value, occur at least once under greatest counts, their items
 -- can be stored, their values fit, and they aren't longer than the longest record.
 pub record AreReady (f : Forest Resolved) : Type 0 where
-  pub possible : ArePossible f
+  pub possible : MayOccur f
   pub storable : AreStorable f
   pub values : AreValues false false f
-  pub short : sum_of most f ≤ 32752
+  pub short : sum_of most f ≤ MAX_RECORD
 
 -- so is one of them, which redefines nothing, with those beneath it
 pub record IsReady (t : Tree Resolved) : Type 0 where
   pub occurs : 0 < most t.top
-  pub possible : ArePossible t.beneath
+  pub possible : MayOccur t.beneath
   pub storable : IsStorableKind t.top.kind
   pub beneath : AreStorable t.beneath
   pub value : MayHaveValue false false t.top t.beneath t.top.value
   pub values : AreValues false (is_some t.top.value) t.beneath
-  pub short : whole most t.top t.beneath ≤ 32752
+  pub short : whole most t.top t.beneath ≤ MAX_RECORD

@@ -1,5 +1,5 @@
 -- Limits that follow from what a picture is.
-use Rattle.std.proofs.Common.{◌≡◌, ℕ, zero, suc, ◌+◌, ◌<◌, ◌≤◌, Bool, true, false, cond, ◌||◌, List, [], ◌∷◌, ◌++◌, length, take, drop, replicate, Option, refl, sym, ap, subst, ◌∙◌, arith}
+use Rattle.std.proofs.Common.{◌≡◌, ℕ, zero, suc, ◌+◌, ◌<◌, ◌≤◌, Bool, true, false, cond, ◌||◌, ◌⊎◌, inl, inr, List, [], ◌∷◌, ◌++◌, length, take, drop, replicate, Option, refl, sym, ap, subst, ◌∙◌, arith}
 use Rattle.std.specs.Prelude.{count_by, if◌then◌else◌}
 use Rattle.std.specs.List.{AllByRecursion, list_any, position_or_len}
 use Rattle.std.proofs.lemmas.List.{take-append-drop}
@@ -13,7 +13,7 @@ use Rattle.cob_picture.specs.declared.position.Role.{Role}
 use Rattle.cob_picture.specs.declared.position.Role.TheVariants.{Digit, Character}
 use Rattle.cob_picture.specs.declared.category.Category.{Category}
 use Rattle.cob_picture.specs.declared.category.Category.TheVariants.{Alphabetic, Numeric, Alphanumeric, AlphanumericEdited, NumericEdited}
-use Rattle.cob_picture.specs.Positions.{is, times, written_out, shows_number, settled_role, floating, is_that, role_at, position_at, placed, positions}
+use Rattle.cob_picture.specs.Positions.{is, times, written_out, shows_number, is_edited, settled_role, floating, is_that, role_at, position_at, placed, positions}
 use Rattle.cob_picture.specs.Runs.{ArePositive}
 use Rattle.cob_picture.specs.Counts.{is_digit_place, width, size, digits, is_scaling, decimal_places, is_point, point_leads, before_point, after_point, whole_part, fraction_part, is_sign_symbol, signed}
 use Rattle.cob_picture.specs.Measures.{AreCountsOf, run_leads, symbols_size}
@@ -477,15 +477,26 @@ nines_le c q seen (s ∷ xs) e may = at (is Nine s) refl (nines_le c q (seen || 
         omega (arith, digits-cons (position_at c q seen s) ps, digit, one, more)
     at false h more = let none : one_if (is Nine s) ≡ 0 = ap one_if h in omega (arith, digits-cons (position_at c q seen s) ps, none, more)
 
-pub few_positions : (c : Category) (xs : List Symbol) → shows_number c ≡ true → IsPicture c xs → length xs ≤ 250
-few_positions NumericEdited xs e p =
-    let none = edited_none xs p.order in
-    omega (arith, length_size xs, none.no_s, none.one_v, none.no_p, size-placed NumericEdited (floating xs) false xs, p.limits.edited_fits refl)
-few_positions Numeric xs e p =
+-- a number that isn't edited has few symbols
+pub few_numeric : (xs : List Symbol) → IsPicture Numeric xs → length xs ≤ 64
+few_numeric xs p =
     let n = (p.order).0 in
     let is_one = (p.order).1 in
     let w = (p.order).2 in
     omega (arith, ap (length {A = Symbol}) w, length_written n, ap (times Nine) w, digits_written n, ap (times P) w, scaling_written n, is_one.signs, is_one.points, nines_le Numeric (floating xs) false xs refl (floating_may xs), decimal-placed Numeric (floating xs) false xs (floating_may xs).no_scaling, p.limits.few_digits)
-few_positions Alphabetic xs e p = absurd cc
-few_positions Alphanumeric xs e p = absurd cc
-few_positions AlphanumericEdited xs e p = absurd cc
+
+-- each symbol of a picture that shows no number takes one byte
+pub one_byte_each : (c : Category) (xs : List Symbol) → shows_number c ≡ false → IsOf c xs → size (positions c xs) ≡ length xs
+one_byte_each c xs e o = size-placed c (floating xs) false xs ∙ plain_size xs (are_plain c xs e o).0
+
+-- a picture of a number, or an edited one, has few positions
+pub few_positions : (c : Category) (xs : List Symbol) → (shows_number c ≡ true) ⊎ (is_edited c ≡ true) → IsPicture c xs → length xs ≤ 250
+few_positions NumericEdited xs e p =
+    let none = edited_none xs p.order in
+    omega (arith, length_size xs, none.no_s, none.one_v, none.no_p, size-placed NumericEdited (floating xs) false xs, p.limits.edited_fits refl)
+few_positions AlphanumericEdited xs e p = omega (arith, one_byte_each AlphanumericEdited xs refl p.order, p.limits.edited_fits refl)
+few_positions Numeric xs e p = omega (arith, few_numeric xs p)
+few_positions Alphabetic xs (inl e) p = absurd cc
+few_positions Alphabetic xs (inr e) p = absurd cc
+few_positions Alphanumeric xs (inl e) p = absurd cc
+few_positions Alphanumeric xs (inr e) p = absurd cc

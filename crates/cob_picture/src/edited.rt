@@ -8,7 +8,7 @@ ghost use Rattle.cob_picture.specs.declared.symbol.Symbol.TheVariants.{Nine};
 ghost use Rattle.cob_picture.specs.declared.edited.Part.TheVariants.{Lead};
 
 use crate::category::{count_of, total};
-use crate::counts::{is_seen, is_that};
+use crate::counts::{floating_of, is_seen, is_that};
 use crate::symbol::{Run, Symbol};
 use arrayvec::ArrayVec;
 
@@ -76,12 +76,9 @@ pub fn run_symbol_of(runs: &[Run]) -> Option<Symbol>
     requires { length runs.now ≤ 50 }
     ensures { result ≡ run_symbol (written_out runs.now) }
 {
-    if count_of(runs, Symbol::Dollar) >= 2 {
-        Some(Symbol::Dollar)
-    } else if count_of(runs, Symbol::Plus) >= 2 {
-        Some(Symbol::Plus)
-    } else if count_of(runs, Symbol::Minus) >= 2 {
-        Some(Symbol::Minus)
+    let floating = floating_of(runs);
+    if floating.is_some() {
+        floating
     } else if count_of(runs, Symbol::Z) >= 1 {
         Some(Symbol::Z)
     } else if count_of(runs, Symbol::Star) >= 1 {

@@ -121,9 +121,9 @@ impl Picture {
         self.runs.as_slice()
     }
 
-    /// Its positions in order, each with its role: what editing goes by. The caller hands a picture that shows a number.
+    /// Its positions in order, each with its role: what editing goes by. The caller hands a picture that shows a number or is edited.
     pub fn positions(&self) -> ArrayVec<Position, 250>
-        requires { IsTrue (shows_number self.now.category) }
+        requires { IsTrue (shows_number self.now.category) ⊎ IsTrue (is_edited self.now.category) }
         ensures value { result.items ≡ self.now.positions }
         ensures picture { IsPicture self.now.category (symbols_of result.items) }
         ensures roles { result.items ≡ positions self.now.category (symbols_of result.items) }

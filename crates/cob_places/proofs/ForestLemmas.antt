@@ -12,7 +12,7 @@ use Rattle.cob_tree.specs.declared.node.Times.TheVariants.{Once, Fixed, Varying}
 use Rattle.cob_tree.specs.Forests.{Forest, Bare, Grows, Tree}
 use Rattle.cob_tree.specs.Nodes.{Resolved, resolved_entry, node_step, node, forest}
 use Rattle.cob_tree.specs.Lengths.{most, most_by, room, one, sum_of, element, whole, item_size}
-use Rattle.cob_places.specs.Lengths.{times, times_by, ArePossible, AreWithin, alone}
+use Rattle.cob_places.specs.Lengths.{times, times_by, MayOccur, AreWithin, alone}
 
 pub node_out : (n : Node) → node n ≡ record { top = resolved_entry (out-Node n); beneath = forest (out-Node n).children.items }
 node_out = fold_out-Node (Tree Resolved) node_step
@@ -67,8 +67,8 @@ below n = forest (out-Node n).children.items
 pub below_is : (n : Node) → (node n).beneath ≡ below n
 below_is n = ap (λ (t : Tree Resolved). t.beneath) (node_out n)
 
-pub below_possible : (n : Node) → ArePossible (alone (node n)) → ArePossible (below n)
-below_possible n h = subst ArePossible (below_is n) h.1
+pub below_possible : (n : Node) → MayOccur (alone (node n)) → MayOccur (below n)
+below_possible n h = subst MayOccur (below_is n) h.1
 
 element_out : (c : Resolved → ℕ) (n : Node) → element c (node n).top (node n).beneath ≡ one (out-Node n).kind (sum_of c (below n))
 element_out c n = ap (λ (t : Tree Resolved). element c t.top t.beneath) (node_out n)
@@ -95,16 +95,16 @@ left_is kids k n lt is = ap (λ (ns : List Node). forest ns) (drop_more kids k n
 
 -- what is known of the next entry and of those behind it
 pub record Next (n : Node) (now after : Forest Resolved) : Type 0 where
-  pub possible : ArePossible (alone (node n))
-  pub possibles : ArePossible after
+  pub possible : MayOccur (alone (node n))
+  pub possibles : MayOccur after
   pub skips : (k : Resolved → ℕ) → is_some (out-Node n).redefines ≡ true → sum_of k now ≡ sum_of k after
   pub adds : (k : Resolved → ℕ) → is_some (out-Node n).redefines ≡ false → sum_of k now ≡ whole k (node n).top (node n).beneath + sum_of k after
 
 pub next : (kids : List Node) (k : ℕ) (n : Node) → k < length kids → n ≡ get_or kids k n
-    → ArePossible (left kids k) → Next n (left kids k) (left kids (k + 1))
+    → MayOccur (left kids k) → Next n (left kids k) (left kids (k + 1))
 next kids k n lt is fit =
     let e = left_is kids k n lt is in
-    let f : ArePossible (Grows (node n).top (node n).beneath (left kids (k + 1))) = subst ArePossible e fit in
+    let f : MayOccur (Grows (node n).top (node n).beneath (left kids (k + 1))) = subst MayOccur e fit in
     let s : (h : Resolved → ℕ) → sum_of h (left kids k) ≡ room (node n).top.redefines (whole h (node n).top (node n).beneath) + sum_of h (left kids (k + 1)) = λ h. ap (sum_of h) e in
     record {
       possible = (f.0, f.1, tt);

@@ -8,7 +8,7 @@ use Rattle.cob_tree.specs.Forests.{Forest, Bare, Grows, Tree}
 use Rattle.cob_tree.specs.Nodes.{Resolved, resolved_entry, node}
 use Rattle.cob_tree.specs.Lengths.{most, most_by, room, one, sum_of, element, whole}
 use Rattle.cob_places.specs.declared.places.Found.{Found}
-use Rattle.cob_places.specs.Lengths.{times, area_by, ArePossible, AreInAreas, AreWithin, AreLeaves, IsLeaf, IsFit, alone}
+use Rattle.cob_places.specs.Lengths.{times, area_by, MayOccur, AreInAreas, AreWithin, AreLeaves, IsLeaf, IsFit, alone}
 use Rattle.cob_places.specs.Places.{find, find_one, begins, or_else, also, choose, is_table, skipped, later, is_there}
 use Rattle.cob_places.proofs.ForestLemmas.{left, below, below_is, left_is, redefines_of, node_out, mul-le, element_le, within_always}
 
@@ -34,7 +34,7 @@ element_fits c e b start subscripts m p w h =
 
 -- what is known of the entries that are left, where they stand from `at` on
 pub record Left (c : Resolved → ℕ) (rest : Forest Resolved) (at area m : ℕ) : Type 0 where
-  pub possible : ArePossible rest
+  pub possible : MayOccur rest
   pub leaves : AreLeaves rest
   pub within : AreWithin c rest
   pub space : ℕ
@@ -44,7 +44,7 @@ pub record Left (c : Resolved → ℕ) (rest : Forest Resolved) (at area m : ℕ
 
 -- what is known of one entry
 pub record Fits (c : Resolved → ℕ) (t : Tree Resolved) (start m : ℕ) : Type 0 where
-  pub possible : ArePossible (alone t)
+  pub possible : MayOccur (alone t)
   pub leaves : AreLeaves (alone t)
   pub areas : AreInAreas 0 t.beneath
   pub within : AreWithin c (alone t)
@@ -115,7 +115,7 @@ entries c n offset start m f h =
     let b : (node n).beneath ≡ below n = below_is n in
     let g = beneath_fits (node n).top (node n).beneath offset m f.leaves.0 h in
     record {
-      possible = subst ArePossible b f.possible.1;
+      possible = subst MayOccur b f.possible.1;
       leaves = subst AreLeaves b f.leaves.1;
       within = subst (AreWithin c) b f.within.1;
       space = 0;

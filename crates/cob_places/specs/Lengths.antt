@@ -1,5 +1,6 @@
 -- How often entries occur under counts, and what holds of the entries of every record.
 use Rattle.std.specs.Prelude.{ℕ, ◌+◌, ◌<◌, ◌≤◌, List, Option, Some, None, slice_index, min}
+use Rattle.cob_tree.specs.declared.lengths.TheConstants.{MAX_RECORD}
 use Rattle.cob_tree.specs.declared.node.Times.{Times}
 use Rattle.cob_tree.specs.declared.node.Times.TheVariants.{Once, Fixed, Varying}
 use Rattle.cob_tree.specs.declared.node.Kind.{Kind}
@@ -23,9 +24,9 @@ abbrev pub alone : Tree Resolved → Forest Resolved
 alone t = Grows t.top t.beneath Bare
 
 -- each entry occurs at least once under greatest counts
-abbrev pub ArePossible : Forest Resolved → Type 0
-ArePossible Bare = Unit {0}
-ArePossible (Grows e kids more) = (0 < most e) × ArePossible kids × ArePossible more
+abbrev pub MayOccur : Forest Resolved → Type 0
+MayOccur Bare = Unit {0}
+MayOccur (Grows e kids more) = (0 < most e) × MayOccur kids × MayOccur more
 
 -- the length of the area behind an entry of this length, which begins an area or redefines one
 abbrev pub area_by : Option (List ℕ) → ℕ → ℕ → ℕ
@@ -53,10 +54,10 @@ AreLeaves (Grows e kids more) = IsLeaf e.kind kids × AreLeaves kids × AreLeave
 -- What holds of the entries of every record: each may occur, groups alone have entries beneath them, no redefinition is longer than its
 -- area, and an entry that begins there ends with all its elements within 32,752 bytes.
 pub record IsFit (start : ℕ) (t : Tree Resolved) : Type 0 where
-  pub possible : ArePossible (alone t)
+  pub possible : MayOccur (alone t)
   pub leaves : AreLeaves (alone t)
   pub areas : AreInAreas 0 t.beneath
-  pub small : start + whole most t.top t.beneath ≤ 32752
+  pub small : start + whole most t.top t.beneath ≤ MAX_RECORD
 
 -- no entry occurs more often than its greatest number
 abbrev pub AreWithin : (Resolved → ℕ) → Forest Resolved → Type 0

@@ -1,7 +1,8 @@
 ghost use Rattle.std.specs.Prelude.{◌≡◌, ◌<◌, ◌≤◌, length};
 ghost use Rattle.cob_tree.specs.Nodes.{node};
 ghost use Rattle.cob_tree.specs.Lengths.{element, most, whole};
-ghost use Rattle.cob_places.specs.Lengths.{alone, times, ArePossible};
+ghost use Rattle.cob_places.specs.Lengths.{alone, times, MayOccur};
+ghost use Rattle.cob_tree.specs.declared.lengths.TheConstants.{MAX_RECORD};
 
 use cob_tree::{Kind, Node, Times};
 
@@ -23,8 +24,8 @@ pub fn times_of(entry: &Node, counts: &[u32]) -> u32
 
 /// The length of one element of an entry under these counts, in bytes: at most 32,752.
 pub fn element_of(entry: &Node, counts: &[u32]) -> u32
-    requires possible { ArePossible (alone (node entry.now)) }
-    requires small { whole most (node entry.now).top (node entry.now).beneath ≤ 32752 }
+    requires possible { MayOccur (alone (node entry.now)) }
+    requires small { whole most (node entry.now).top (node entry.now).beneath ≤ MAX_RECORD }
     ensures { result ≡ element (times counts.now) (node entry.now).top (node entry.now).beneath }
 {
     match &entry.kind {

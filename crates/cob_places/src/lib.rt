@@ -35,6 +35,6 @@ pub use laws::{
     covering, needs_are_read, one_outcome, one_place, places_end_in_record, same_counts,
 };
 pub use lengths::{element_of, times_of};
-pub use needs::take_needed;
+pub use needs::{is_table, take_needed};
 pub use places::{Found, seek};
 pub use varying::{Table, tables};

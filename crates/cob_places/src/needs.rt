@@ -11,8 +11,8 @@ use crate::counts::{CountFault, count_of};
 use crate::varying::Table;
 use cob_tree::{Node, Times};
 
-/// Whether an entry is a table.
-fn is_table(occurs: Times) -> bool
+/// Whether an entry that occurs so is a table.
+pub fn is_table(occurs: Times) -> bool
     ensures { result ≡ is_table occurs }
 {
     !matches!(occurs, Times::Once)

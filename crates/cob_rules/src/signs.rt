@@ -1,20 +1,12 @@
-ghost use Rattle.std.specs.Prelude.{◌≡◌, Option, unwrap_or, IsTrue};
+ghost use Rattle.std.specs.Prelude.{IsTrue};
 ghost use Rattle.std.specs.Option.{IsNone};
 ghost use Rattle.cob_tree.specs.Branches.{forest_of};
-ghost use Rattle.cob_tree.specs.Resolving.{keeps_sign};
 ghost use Rattle.cob_rules.specs.Signs.{MayBeSigned, AreSigned};
 
 use crate::usages::inherited;
 use cob_clauses::{Sign, Usage};
-use cob_picture::{Category, Picture};
-use cob_tree::Branch;
-
-/// Whether an item with the usage and the picture is a signed DISPLAY number.
-fn keeps_sign(usage: Usage, picture: &Picture) -> bool
-    ensures { result ≡ keeps_sign usage picture.now }
-{
-    usage == Usage::Display && picture.category() == Category::Numeric && picture.signed()
-}
+use cob_picture::Picture;
+use cob_tree::{Branch, keeps_sign};
 
 /// Whether an entry with the usage and the picture may have the sign.
 fn may_be_signed(sign: Option<Sign>, usage: Option<Usage>, picture: &Option<Picture>) -> bool

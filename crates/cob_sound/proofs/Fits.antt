@@ -6,13 +6,13 @@ use Rattle.cob_tree.specs.declared.node.Kind.TheVariants.{Group, Item as ItemKin
 use Rattle.cob_tree.specs.Forests.{Forest, Bare, Grows, Tree}
 use Rattle.cob_tree.specs.Nodes.{Resolved}
 use Rattle.cob_tree.specs.Lengths.{most, room, sum_of, whole}
-use Rattle.cob_areas.specs.declared.judge.TheConstants.{MAX_RECORD}
+use Rattle.cob_tree.specs.declared.lengths.TheConstants.{MAX_RECORD}
 use Rattle.cob_areas.specs.Areas as areas
 use Rattle.cob_areas.specs.Areas.{AreAreas, MayFollow, MayHold, joined}
-use Rattle.cob_places.specs.Lengths.{alone, area_by, ArePossible, AreInAreas, IsLeaf, AreLeaves}
+use Rattle.cob_places.specs.Lengths.{alone, area_by, MayOccur, AreInAreas, IsLeaf, AreLeaves}
 
 -- each entry occurs once at least under greatest counts
-pub may_occur : (f : Forest Resolved) → areas.ArePossible f → ArePossible f
+pub may_occur : (f : Forest Resolved) → areas.ArePossible f → MayOccur f
 may_occur Bare h = tt
 may_occur (Grows e kids more) h = (h.0, may_occur kids h.2, may_occur more h.3)
 

@@ -12,12 +12,13 @@ use Rattle.cob_fields.specs.Fields.{field_of, with_field}
 use Rattle.cob_steps.specs.declared.plan.Category.{Category}
 use Rattle.cob_steps.specs.declared.plan.Step.{Step}
 use Rattle.cob_steps.specs.Records.{Conversion, IsStepOf, IsPrepared}
-use Rattle.cob_steps.specs.Steps.{Moves, Converts, Stops, HasNoValue, Receives, characters}
+use Rattle.cob_values.specs.Values.{padded}
+use Rattle.cob_steps.specs.Steps.{Moves, Converts, Stops, HasNoValue, Receives}
 use Rattle.cob_steps.specs.Moving.{IsMoved, Lacks}
 use Rattle.cob_steps.proofs.StepLemmas.{plan_step, some_move, step_count}
 
 -- characters: those that fit, and spaces after them
-pub characters_are : (n k : ℕ) (sent : List ℕ) → k ≡ min (length sent) n → take k sent ++ replicate (n - k) 0x40 ≡ characters n sent
+pub characters_are : (n k : ℕ) (sent : List ℕ) → k ≡ min (length sent) n → take k sent ++ replicate (n - k) 0x40 ≡ padded n sent
 characters_are n k sent e =
     elim (cases_lt (length sent) n) [
       | inl lt ↦

@@ -3,7 +3,7 @@ use Rattle.std.proofs.Common.{◌≡◌, ℕ, ◌+◌, ◌<◌, ◌≤◌, List,
 use Rattle.cob_tree.specs.Forests.{Forest}
 use Rattle.cob_tree.specs.Nodes.{Resolved}
 use Rattle.cob_tree.specs.Lengths.{item_size, most}
-use Rattle.cob_areas.specs.declared.judge.TheConstants.{MAX_RECORD}
+use Rattle.cob_tree.specs.declared.lengths.TheConstants.{MAX_RECORD}
 use Rattle.cob_copybook.specs.Records.{IsRecord}
 use Rattle.cob_fields.specs.declared.Place.{Place}
 use Rattle.cob_places.specs.Counts.{kind_in}

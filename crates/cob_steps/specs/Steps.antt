@@ -1,9 +1,10 @@
 -- What the moves make of one record.
-use Rattle.std.specs.Prelude.{◌≡◌, ℕ, pos, Bool, false, List, [], ◌∷◌, ◌++◌, length, take, replicate}
+use Rattle.std.specs.Prelude.{◌≡◌, ℕ, pos, Bool, false, List, [], ◌∷◌, ◌++◌, length}
 use Rattle.cob_decimal.specs.Decimal.{IsDigits, number_of, aligned}
 use Rattle.cob_codec.specs.Zoned.{IsZoned, zoned_form}
 use Rattle.cob_fields.specs.declared.Place.{Place}
 use Rattle.cob_fields.specs.Fields.{field_of, with_field}
+use Rattle.cob_values.specs.Values.{padded}
 use Rattle.cob_move.specs.Initial.{IsInitial}
 use Rattle.cob_steps.specs.declared.plan.Category.{Category}
 use Rattle.cob_steps.specs.declared.plan.Category.TheVariants.{Alphanumeric, Numeric}
@@ -17,10 +18,6 @@ use Rattle.cob_steps.specs.Records.{Conversion, StandsAt}
 abbrev pub Represents : List ℕ → List ℕ → Type 0
 Represents bytes digits = (negative : Bool) × IsZoned (length bytes) false false bytes negative digits
 
--- characters in an item of n bytes: left aligned, cut at the right, padded with spaces
-abbrev pub characters : ℕ → List ℕ → List ℕ
-characters n bytes = take n (bytes ++ replicate n 0x40)
-
 -- what a numeric item of n digits holds after a number with these digits is moved to it: the digits of the number aligned by the point, zoned
 pub record IsStored (n : ℕ) (sent bytes : List ℕ) : Type 0 where
   pub digits : List ℕ
@@ -31,7 +28,7 @@ pub record IsStored (n : ℕ) (sent bytes : List ℕ) : Type 0 where
 
 -- what a receiver of n bytes holds after these bytes were moved to it
 abbrev pub Receives : Category → ℕ → List ℕ → List ℕ → Type 0
-Receives Alphanumeric n sent received = received ≡ characters n sent
+Receives Alphanumeric n sent received = received ≡ padded n sent
 Receives Numeric n sent received = (digits : List ℕ) × Represents sent digits × IsStored n digits received
 
 -- the moves, one after another, take the output record from one storage to another: the bytes of each receiver, at its place in the layout of the

@@ -5,7 +5,8 @@ ghost use Rattle.cob_decimal.specs.declared.TheConstants.{MAX_DIGITS};
 ghost use Rattle.cob_fields.specs.Fields.{field_of};
 ghost use Rattle.cob_steps.specs.Moving.{IsMoved, Lacks};
 ghost use Rattle.cob_steps.specs.Records.{IsPossible, MostDigits};
-ghost use Rattle.cob_steps.specs.Steps.{characters, Represents, Receives};
+ghost use Rattle.cob_steps.specs.Steps.{Represents, Receives};
+ghost use Rattle.cob_values.specs.Values.{padded};
 
 use crate::plan::{Category, Side, Step, Stop, StopCause};
 use cob_codec::{Shape, Storage, Zoned};
@@ -17,7 +18,7 @@ const SPACE: u8 = 0x40;
 
 /// Moves characters: left aligned, cut at the right, padded with spaces.
 fn move_characters(sent: &[u8], received: &mut [u8])
-    ensures { received.new ≡ characters (length received.old) sent.now }
+    ensures { received.new ≡ padded (length received.old) sent.now }
 {
     let count = sent.len().min(received.len());
     let (front, tail) = received.split_at_mut(count);

@@ -1,5 +1,6 @@
 ghost use Rattle.std.specs.Prelude.{◌≡◌, ◌<◌, ◌≤◌, length, IfOk, IfErr, OnOk};
 ghost use Rattle.cob_places.specs.Lengths.{alone};
+ghost use Rattle.cob_tree.specs.declared.lengths.TheConstants.{MAX_RECORD};
 
 use crate::moves::make_move;
 use crate::places::steps_of;
@@ -118,7 +119,7 @@ impl Plan {
     pub fn in_length(&self) -> u16
         ensures value { result ≡ record_length self.now.input }
         ensures some { 0 < result }
-        ensures most { result ≤ 32752 }
+        ensures most { result ≤ MAX_RECORD }
     {
         self.input.greatest()
     }
@@ -127,7 +128,7 @@ impl Plan {
     pub fn out_length(&self) -> u16
         ensures value { result ≡ record_length self.now.output }
         ensures some { 0 < result }
-        ensures most { result ≤ 32752 }
+        ensures most { result ≤ MAX_RECORD }
     {
         self.output.greatest()
     }

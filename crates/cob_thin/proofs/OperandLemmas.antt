@@ -2,9 +2,6 @@
 use Rattle.std.proofs.Common.{◌≡◌, ◌⊎◌, ℕ, ◌+◌, ◌<◌, ◌≤◌, ◌==◌, Bool, true, false, ◌||◌, List, [], ◌∷◌, ◌++◌, map, Option, Some, None, refl, sym, ap, subst, ◌∙◌, inl, inr, arith}
 use Rattle.std.proofs.lemmas.List.{map-append}
 use Rattle.std.proofs.lemmas.Bool.Decides.{nat_tests}
-use Rattle.cob_clauses.specs.declared.kinds.Usage.{Usage}
-use Rattle.cob_clauses.specs.declared.kinds.Sign.{Sign}
-use Rattle.cob_entries.specs.Described.{Described}
 use Rattle.cob_tree.specs.declared.node.Item.{Item}
 use Rattle.cob_tree.specs.declared.node.Kind.{Kind}
 use Rattle.cob_tree.specs.declared.node.Kind.TheVariants.{Item as ItemKind}
@@ -12,8 +9,6 @@ use Rattle.cob_tree.specs.declared.node.Times.{Times}
 use Rattle.cob_tree.specs.declared.node.Times.TheVariants.{Once, Fixed, Varying}
 use Rattle.cob_tree.specs.Forests.{Forest, Bare, Grows, flat, entries_in}
 use Rattle.cob_tree.specs.Nodes.{Resolved}
-use Rattle.cob_tree.specs.Resolving.{resolved, inherited}
-use Rattle.cob_copybook.specs.Records.{IsRecord}
 use Rattle.cob_places.specs.Cover.{AreNumbered}
 use Rattle.cob_places.specs.Counts.{kind_in}
 use Rattle.cob_places.specs.Places.{is_table, or_else, choose}
@@ -37,29 +32,6 @@ one_of_two (x ∷ xs) ys b one = elim one [
   | inl w ↦ inl (inl w)
   | inr w ↦ elim (one_of_two xs ys b w) [ inl v ↦ inl (inr v) | inr v ↦ inr v ]
 ]
-
--- entries that are given what they inherit stay as many, and have the numbers in order
-as_many : (counts : List ℕ) (n : ℕ) (usage : Option Usage) (sign : Option Sign) (f : Forest Described) → entries_in (resolved counts n usage sign f) ≡ entries_in f
-as_many counts n usage sign Bare = refl
-as_many counts n usage sign (Grows e kids more) =
-    let beneath = as_many counts (n + 1) (inherited usage e.usage) (inherited sign e.sign) kids in
-    let beside = as_many counts (n + 1 + entries_in kids) usage sign more in
-    omega (arith, beneath, beside)
-
-in_order : (counts : List ℕ) (n : ℕ) (usage : Option Usage) (sign : Option Sign) (f : Forest Described) → AreNumbered n (resolved counts n usage sign f)
-in_order counts n usage sign Bare = tt
-in_order counts n usage sign (Grows e kids more) =
-    let own = inherited usage e.usage in
-    let own_sign = inherited sign e.sign in
-    let beneath = resolved counts (n + 1) own own_sign kids in
-    let beside = resolved counts (n + 1 + entries_in kids) usage sign more in (
-      refl,
-      in_order counts (n + 1) own own_sign kids,
-      subst (λ (m : ℕ). AreNumbered (n + 1 + m) beside) (sym (as_many counts (n + 1) own own_sign kids)) (in_order counts (n + 1 + entries_in kids) usage sign more),
-    )
-
-pub numbered : (f : Forest Resolved) → IsRecord f → AreNumbered 0 f
-numbered f (ds, is) = subst (AreNumbered 0) (sym is.stored.tree) (in_order is.stored.counts 0 None None is.written)
 
 differs : (a b : ℕ) → (a ≡ b → ⊥) → (a == b) ≡ false
 differs a b h = grind (arith, nat_tests)
@@ -170,11 +142,11 @@ single above (Grows e kids more) b one not =
     ]
 
 -- a name that one entry of the record alone bears, and none of the other record, means this entry
-pub meant : (name : List ℕ) (category : Category) (i : Item) (b : Bearer) (here there : Forest Resolved) → IsRecord here → IsOnlyBearer name (bearers false here) b
+pub meant : (name : List ℕ) (category : Category) (i : Item) (b : Bearer) (here there : Forest Resolved) → AreNumbered 0 here → IsOnlyBearer name (bearers false here) b
     → b.in_table ≡ false → b.entry.kind ≡ ItemKind i → IsMovable category i → NoneBears name (flat there)
     → IsMeant name here there (record { category = category; number = b.entry.number })
-meant name category i b here there is_record alone single_one is movable nowhere =
-    let is_found = found false 0 here b (numbered here is_record) alone.one in
+meant name category i b here there numbered alone single_one is movable nowhere =
+    let is_found = found false 0 here b numbered alone.one in
     record {
       means = record {
         entry = b.entry;

@@ -5,6 +5,7 @@ ghost use Rattle.cob_tree.specs.Nodes.{forest};
 ghost use Rattle.cob_places.specs.Places.{is_table};
 ghost use Rattle.cob_thin.specs.Bearers.{Bearer as SeenBearer, Knows, bearer_at, bearers};
 
+use cob_places::is_table;
 use cob_tree::{Node, Times};
 use indexmap::IndexMap;
 use std::alloc::AllocError;
@@ -24,16 +25,6 @@ pub(crate) enum Borne<'a> {
     Once(Bearer<'a>),
     /// More than one.
     Often,
-}
-
-/// Whether an entry that occurs so is a table.
-fn is_table(occurs: Times) -> bool
-    ensures { result ≡ is_table occurs }
-{
-    match occurs {
-        Times::Once => false,
-        Times::Fixed(_) | Times::Varying { .. } => true,
-    }
 }
 
 /// Whether an entry that occurs so is a table, or stands in one as those above it do.

@@ -7,6 +7,7 @@ ghost use Rattle.cob_thin.specs.Paragraphs.{NoneBears};
 
 use crate::bearer::{Bearer, Borne, note_all};
 use cob_copybook::Book;
+use cob_sound::records_are_sound;
 use indexmap::IndexMap;
 use std::alloc::{AllocError, Global};
 use std::marker::Model;
@@ -27,7 +28,7 @@ impl<'a> Model for Directory<'a> {
     ghost use Rattle.cob_tree.specs.Forests.{Forest};
     ghost use Rattle.cob_tree.specs.Nodes.{Resolved};
     ghost use Rattle.cob_copybook.specs.Codes.{coded_forest};
-    ghost use Rattle.cob_copybook.specs.Records.{IsRecord};
+    ghost use Rattle.cob_places.specs.Cover.{AreNumbered};
     ghost use Rattle.cob_thin.specs.Bearers.{bearers, Knows};
 
     ghost Value = { Forest Resolved };
@@ -36,11 +37,11 @@ impl<'a> Model for Directory<'a> {
 
     ghost view = { λ d. d.book.now };
 
-    ghost invariant = { λ d. IsRecord d.book.now × Knows (bearers false d.book.now) d.noted };
+    ghost invariant = { λ d. AreNumbered 0 d.book.now × Knows (bearers false d.book.now) d.noted };
 }
 
 impl<'a> Directory<'a> {
-    ghost use Rattle.cob_copybook.specs.Records.{IsRecord};
+    ghost use Rattle.cob_places.specs.Cover.{AreNumbered};
 
     /// The directory of a record.
     ///
@@ -50,6 +51,7 @@ impl<'a> Directory<'a> {
     pub(crate) fn of(alloc: Global, book: &'a Book) -> Result<Directory<'a>, AllocError>
         ensures { IfOk result (λ d. d ≡ book.now) }
     {
+        records_are_sound();
         let mut noted = IndexMap::new(alloc);
         note_all(&mut noted, slice::from_ref(book.root()), false)?;
         Ok(Directory { book, noted })
@@ -58,7 +60,7 @@ impl<'a> Directory<'a> {
     /// The only entry that bears the name.
     pub(crate) fn only_named(&self, name: &[u8]) -> Option<Bearer<'a>>
         ensures only { IfSome result (λ b. IsOnlyBearer name.now (bearers false self.now) (bearer_of b)) }
-        ensures record { IsRecord self.now }
+        ensures numbered { AreNumbered 0 self.now }
     {
         match self.noted.get(name) {
             Some(Borne::Once(bearer)) => Some(*bearer),

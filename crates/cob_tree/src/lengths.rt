@@ -6,6 +6,9 @@ ghost use Rattle.cob_tree.specs.Lengths.{binary_size, element, item_size, most, 
 use crate::node::{Item, Kind, Node, Times};
 use cob_clauses::{Sign, Usage};
 
+/// The most bytes of a record.
+pub const MAX_RECORD: u32 = 32_752;
+
 /// The length that each greater one counts as.
 pub const MANY: u32 = 65_536;
 

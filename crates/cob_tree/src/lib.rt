@@ -9,7 +9,8 @@
 //! - [`planted`] answers the tree that entries stand for: its entries are the given ones, a parent before its children, and each
 //!   entry's parent is the nearest one before it with a smaller level (`StandsFor` of specs/Branches.antt). [`one_tree`] is the law
 //!   that there is no other.
-//! - [`resolve`] answers that tree with inherited USAGE and SIGN, numbers and counts (`resolved` of specs/Resolving.antt).
+//! - [`resolve`] answers that tree with inherited USAGE and SIGN, numbers and counts (`resolved` of specs/Resolving.antt);
+//!   [`keeps_sign`] says on which items SIGN acts.
 //! - [`Item::size`] is the bytes of an item, [`Times::most`] how often an entry occurs at most, and [`element_length`] and
 //!   [`whole_length`] are the greatest lengths of one element of an entry and of all of them (`item_size`, `most_by`, `element` and
 //!   `whole` of specs/Lengths.antt); one of over [`MANY`] bytes counts as [`MANY`].
@@ -33,7 +34,7 @@ mod tests;
 
 pub use branch::Branch;
 pub use laws::{as_many_entries, branch_opens, node_opens, one_tree};
-pub use lengths::{MANY, element_length, whole_length};
+pub use lengths::{MANY, MAX_RECORD, element_length, whole_length};
 pub use node::{Item, Kind, Node, Times};
 pub use planting::planted;
-pub use resolving::resolve;
+pub use resolving::{keeps_sign, resolve};

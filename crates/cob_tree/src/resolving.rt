@@ -34,7 +34,7 @@ impl Inherited {
 }
 
 /// Whether SIGN acts on an item: it is a signed DISPLAY number.
-fn keeps_sign(usage: Usage, picture: &Picture) -> bool
+pub fn keeps_sign(usage: Usage, picture: &Picture) -> bool
     ensures { result ≡ keeps_sign usage picture.now }
 {
     usage == Usage::Display && picture.category() == Category::Numeric && picture.signed()

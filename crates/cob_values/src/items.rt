@@ -10,19 +10,13 @@ ghost use Rattle.cob_items.specs.Items.{IsNumberItem};
 ghost use Rattle.cob_values.specs.Values.{HoldsItem, HoldsNumber, HoldsNumeric, IsCleared, IsStorable};
 
 use crate::constants::{SPACE, write_constant};
+use cob_areas::is_number;
 use cob_decimal::{Digits, Number};
 use cob_edit::{edit, edit_text};
 use cob_entries::Value;
 use cob_items::store_number;
 use cob_picture::Category;
 use cob_tree::Item;
-
-/// Whether an item is a number that isn't edited.
-fn is_number(item: &Item) -> bool
-    ensures { result ≡ is_number item.now }
-{
-    matches!(item.picture.category(), Category::Numeric) && !item.blank
-}
 
 /// The number 0.
 fn zero() -> Number

@@ -9,6 +9,7 @@ ghost use Rattle.cob_areas.specs.Values.{is_number, HoldsNumber, IsCharacterValu
 ghost use Rattle.cob_values.specs.Values.{IsStorable};
 
 use crate::{one_constant, one_item, write_constant, write_item};
+use cob_areas::is_number;
 use cob_clauses::{Figurative, Sign, Usage};
 use cob_decimal::Number;
 use cob_entries::{MAX_LITERAL, Text, Value};
@@ -118,13 +119,6 @@ fn value(rt: &impl Abort, written: &[u8]) -> Option<Value> {
             None => panic!(rt; "the text is a numeric literal"),
         },
     }
-}
-
-/// Whether an item is a number that isn't edited.
-fn is_number(item: &Item) -> bool
-    ensures { result ≡ is_number item.now }
-{
-    matches!(item.picture.category(), Category::Numeric) && !item.blank
 }
 
 /// Whether the item's bytes can hold what it describes.

@@ -3,7 +3,7 @@ use Rattle.std.specs.Option.{is_some}
 use Rattle.cob_tree.specs.Forests.{Forest, Tree}
 use Rattle.cob_tree.specs.Nodes.{Resolved, node, forest}
 use Rattle.cob_tree.specs.Lengths.{most, sum_of}
-use Rattle.cob_areas.specs.declared.judge.TheConstants.{MAX_RECORD}
+use Rattle.cob_tree.specs.declared.lengths.TheConstants.{MAX_RECORD}
 use Rattle.cob_areas.specs.Areas.{AreAreas, ArePossible, joined}
 use Rattle.cob_areas.specs.Short.{IsShortArea}
 use Rattle.cob_areas.proofs.NodeLemmas.{depth, less_deep, forest_at, beneath_out, node_out, part, part_more, part_one}

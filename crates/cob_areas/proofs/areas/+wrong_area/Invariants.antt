@@ -1,7 +1,7 @@
 use Rattle.std.proofs.Common.{[], ◌≤◌, ◌-◌, drop, take, map}
 use Rattle.cob_tree.specs.Nodes.{node, forest}
 use Rattle.cob_tree.specs.Lengths.{most, sum_of}
-use Rattle.cob_areas.specs.declared.judge.TheConstants.{MAX_RECORD}
+use Rattle.cob_tree.specs.declared.lengths.TheConstants.{MAX_RECORD}
 use Rattle.cob_areas.specs.Areas.{AreAreas, ArePossible}
 use Rattle.cob_areas.specs.Short.{IsShortArea}
 use Rattle.cob_areas.proofs.areas.+wrong_area.Given as goal

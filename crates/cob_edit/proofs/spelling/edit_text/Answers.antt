@@ -1,30 +1,33 @@
-use Rattle.std.proofs.Common.{◌≡◌, ◌∙◌, ap, subst, sym, inr, IsTrue, length, take}
+use Rattle.std.proofs.Common.{◌≡◌, ◌∙◌, ap, subst, sym, refl, inr, false, length}
+use Rattle.cob_picture.specs.declared.position.Position.{Position}
 use Rattle.cob_picture.specs.declared.category.Category.TheVariants.{AlphanumericEdited}
-use Rattle.cob_picture.specs.Positions.{written_out, positions, is_edited}
+use Rattle.cob_picture.specs.Positions.{floating, positions, symbols_of, is_edited}
 use Rattle.cob_picture.specs.Counts.{size}
 use Rattle.cob_picture.specs.Pictures.{IsPicture}
-use Rattle.cob_edit.specs.Characters.{HasCharacters}
-use Rattle.cob_edit.proofs.PlaceLemmas.{positions_same, few_symbols}
-use Rattle.cob_edit.proofs.CharacterLemmas.{spelled_has, one_byte_each}
+use Rattle.cob_picture.proofs.Placed.{length_placed}
+use Rattle.cob_picture.proofs.Limits.{one_byte_each}
+use Rattle.cob_edit.specs.Characters.{spelled, HasCharacters}
+use Rattle.cob_edit.proofs.CharacterLemmas.{spelled_has}
 use Rattle.cob_edit.proofs.spelling.edit_text.Goals as goal
 
-pub write_out-count-requires : goal.write_out-count-requires
-write_out-count-requires c =
-    let edited : IsTrue (is_edited c.args.picture.now.category) = ap is_edited c.requires.edited in
-    record { few = few_symbols _ _ c.runs.ensures.picture (inr edited) }
+pub positions-requires : goal.positions-requires
+positions-requires c = inr (ap is_edited c.requires.edited)
 
 pub spell-requires : goal.spell-requires
 spell-requires c =
-    let picture : IsPicture AlphanumericEdited (written_out c.runs.result.now) = subst (λ x. IsPicture x (written_out c.runs.result.now)) c.requires.edited c.runs.ensures.picture in
-    let bytes : size c.args.picture.now.positions ≡ length (written_out c.runs.result.now) = ap size (c.runs.ensures.positions ∙ ap (λ x. positions x (written_out c.runs.result.now)) c.requires.edited) ∙ one_byte_each (written_out c.runs.result.now) picture in
-    record { room = c.requires.room ∙ bytes ∙ sym (ap length c.write_out-count.ensures.value) }
+    let xs = symbols_of c.positions.result.items in
+    let edited : IsPicture AlphanumericEdited xs = subst (λ x. IsPicture x xs) c.requires.edited c.positions.ensures.picture in
+    let same = c.positions.ensures.roles ∙ ap (λ x. positions x xs) c.requires.edited in
+    record {
+      room = c.requires.room
+          ∙ ap size (sym c.positions.ensures.value ∙ same)
+          ∙ one_byte_each AlphanumericEdited xs refl edited.order
+          ∙ sym (length_placed AlphanumericEdited (floating xs) false xs)
+          ∙ ap (length {A = Position}) (sym (c.as_slice.ensures.value ∙ same));
+    }
 
 pub returns : goal.returns
 returns c =
-    let same : positions c.category.result (take c.write_out-count.result c.write_out-count.new.symbols) ≡ c.args.picture.now.positions =
-    positions_same _ _ _ _ c.category.ensures c.write_out-count.ensures.value ∙ sym c.runs.ensures.positions
-    in
-    let own : HasCharacters (positions c.category.result (take c.write_out-count.result c.write_out-count.new.symbols)) c.args.sender.now c.spell.new.out =
-    subst (λ bytes. HasCharacters (positions c.category.result (take c.write_out-count.result c.write_out-count.new.symbols)) c.args.sender.now bytes) (sym c.spell.ensures) (spelled_has (positions c.category.result (take c.write_out-count.result c.write_out-count.new.symbols)) c.args.sender.now)
-    in
-    record { text = subst (λ ps. HasCharacters ps c.args.sender.now c.spell.new.out) same own }
+    let ps = c.args.picture.now.positions in
+    let text = c.spell.ensures ∙ ap (λ qs. spelled qs c.args.sender.now) (c.as_slice.ensures.value ∙ c.positions.ensures.value) in
+    record { text = subst (λ bytes. HasCharacters ps c.args.sender.now bytes) (sym text) (spelled_has ps c.args.sender.now) }

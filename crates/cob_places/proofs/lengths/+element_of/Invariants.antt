@@ -1,6 +1,6 @@
 use Rattle.std.proofs.Common.{◌≡◌, ◌≤◌, ◌+◌}
 use Rattle.cob_tree.specs.Lengths.{most, sum_of}
-use Rattle.cob_places.specs.Lengths.{times, ArePossible}
+use Rattle.cob_places.specs.Lengths.{times, MayOccur}
 use Rattle.cob_places.proofs.ForestLemmas.{left, below}
 use Rattle.cob_places.proofs.lengths.+element_of.Given as goal
 
@@ -12,7 +12,7 @@ invariant-loop-child l =
     let rest = left l.child-items l.child-index in
     record {
       sum : l.sum + sum_of (times l.counts) rest ≡ sum_of (times l.counts) (below l.entry);
-      possible : ArePossible rest;
+      possible : MayOccur rest;
       small : sum_of (times l.counts) (below l.entry) ≤ 32752;
       greatest : sum_of most rest ≤ 32752;
     }
