@@ -1,5 +1,5 @@
 -- What is written for bytes and what is answered is determined.
-use Rattle.std.proofs.Common.{◌≡◌, ◌≢◌, ℕ, ◌+◌, ◌<◌, ◌≤◌, ◌⊎◌, false, List, [], ◌∷◌, ◌++◌, length, take, refl, sym, ◌∙◌, ap, append_assoc, arith, inl, inr, None, Some, Option, Ok, Err, Result}
+use Rattle.std.proofs.Common.{◌≡◌, ℕ, ◌+◌, ◌<◌, ◌≤◌, ◌⊎◌, false, List, [], ◌∷◌, ◌++◌, length, refl, sym, ◌∙◌, ap, append_assoc, arith, inl, inr, None, Ok, Err, Result}
 use Rattle.std.proofs.Math.ListN.{length-append}
 use Rattle.std.specs.List.{AllByRecursion}
 use Rattle.cob_records.specs.declared.records.Form.{Form}

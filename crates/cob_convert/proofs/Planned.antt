@@ -1,5 +1,5 @@
 -- The moves of a paragraph between steady records are a conversion.
-use Rattle.std.proofs.Common.{◌≡◌, sym, subst, ℕ, ◌+◌, ◌<◌, List, [], ◌∷◌, length, arith}
+use Rattle.std.proofs.Common.{◌≡◌, sym, subst, ℕ, ◌<◌, List, [], ◌∷◌, length, arith}
 use Rattle.std.specs.List.{AllByRecursion}
 use Rattle.cob_tree.specs.Forests.{Forest}
 use Rattle.cob_tree.specs.Nodes.{Resolved}

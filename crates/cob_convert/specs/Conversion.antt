@@ -1,7 +1,5 @@
 -- What becomes of one record that came whole.
 use Rattle.std.specs.Prelude.{◌≡◌, ◌≢◌, ℕ, List, length}
-use Rattle.cob_records.specs.declared.records.Form.{Form}
-use Rattle.cob_records.specs.declared.records.Form.TheVariants.{Fixed, Variable}
 use Rattle.cob_steps.specs.Records.{record_length}
 use Rattle.cob_steps.specs.Steps.{Converts, Stops}
 use Rattle.cob_steps.specs.declared.plan.Stop.{Stop}

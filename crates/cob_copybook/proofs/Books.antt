@@ -1,5 +1,5 @@
 -- Books: what the parts of a text's book are, and whose rule a refusal names.
-use Rattle.std.proofs.Common.{◌≡◌, sym, subst, ap, ◌∙◌, ℕ, ◌+◌, ◌≤◌, ◌⊎◌, inl, inr, List, [], ◌∷◌, ◌++◌, length, refl, arith}
+use Rattle.std.proofs.Common.{◌≡◌, sym, subst, ap, ℕ, ◌+◌, ◌≤◌, inl, inr, List, ◌++◌, length, refl, arith}
 use Rattle.std.proofs.lemmas.List.{length-append}
 use Rattle.cob_entries.specs.Described.{Described}
 use Rattle.cob_entries.specs.declared.fault.BookRule.{BookRule}

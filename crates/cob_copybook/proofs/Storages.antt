@@ -1,5 +1,5 @@
 -- Resolved trees: each entry occurs at least once.
-use Rattle.std.proofs.Common.{◌≡◌, sym, subst, ap, ◌∙◌, ℕ, ◌+◌, ◌<◌, List, [], ◌∷◌, arith}
+use Rattle.std.proofs.Common.{◌≡◌, sym, subst, ap, ◌∙◌, ℕ, ◌+◌, ◌<◌, List, arith}
 use Rattle.std.specs.Prelude.{Option, Some, None, Bool, slice_index, unwrap_or}
 use Rattle.cob_clauses.specs.declared.kinds.Usage.{Usage}
 use Rattle.cob_clauses.specs.declared.kinds.Sign.{Sign}

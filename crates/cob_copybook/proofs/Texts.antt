@@ -1,6 +1,6 @@
 -- What is known of a text's entries, and how its words' faults are its own.
-use Rattle.std.proofs.Common.{◌≡◌, sym, subst, ap, ◌∙◌, ℕ, List, [], ◌∷◌, Bool, true, false}
-use Rattle.std.proofs.Common.{◌⊎◌, inl, inr}
+use Rattle.std.proofs.Common.{◌≡◌, sym, subst, ℕ, List, [], ◌∷◌, Bool, true, false}
+use Rattle.std.proofs.Common.{inl, inr}
 use Rattle.cob_source.specs.Tokens.{Lexeme}
 use Rattle.cob_source.specs.Words.{AreWordsOf, WordsAreOne}
 use Rattle.cob_source.specs.declared.fault.SourceRule.{SourceRule}

@@ -1,5 +1,5 @@
 -- Trees of entries: one tree for each list, and what a broken rule says of it.
-use Rattle.std.proofs.Common.{◌≡◌, sym, subst, ap, ◌∙◌, ℕ, List, [], ◌∷◌}
+use Rattle.std.proofs.Common.{subst, List}
 use Rattle.cob_entries.specs.Described.{Described}
 use Rattle.cob_entries.specs.declared.fault.BookRule.{BookRule}
 use Rattle.cob_tree.specs.Forests.{Forest}

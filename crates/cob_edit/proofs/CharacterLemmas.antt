@@ -1,17 +1,10 @@
 -- Characters at the places of an alphanumeric edited picture.
-use Rattle.std.proofs.Common.{◌≡◌, ℕ, zero, suc, ◌+◌, ◌*◌, ◌<◌, ◌≤◌, Bool, true, false, cond, List, [], ◌∷◌, length, take, drop, get_or, refl, sym, ap, ◌∙◌, arith, count_by, zero-add}
+use Rattle.std.proofs.Common.{◌≡◌, ℕ, zero, suc, ◌+◌, ◌<◌, Bool, true, false, cond, List, [], ◌∷◌, length, take, drop, get_or, refl, sym, ap, ◌∙◌, arith, count_by, zero-add}
 use Rattle.std.specs.Prelude.{if◌then◌else◌, slice_index_or}
 use Rattle.std.proofs.lemmas.List.{get_or-drop, same_lists, get_or_default}
 use Rattle.std.proofs.lemmas.List.Sums.{sum_by-cons}
 use Rattle.cob_picture.specs.declared.symbol.Symbol.{Symbol}
-use Rattle.cob_picture.specs.declared.symbol.Symbol.TheVariants.{A, X, Nine, S, V, P, B, Zero, Slash, Comma, Point, Z, Star, Dollar, Plus, Minus, Credit, Debit}
 use Rattle.cob_picture.specs.declared.position.Position.{Position}
-use Rattle.cob_picture.specs.declared.category.Category.TheVariants.{AlphanumericEdited}
-use Rattle.cob_picture.specs.Positions.{is, times, floating, positions}
-use Rattle.cob_picture.specs.Counts.{width, size}
-use Rattle.cob_picture.specs.Measures.{symbols_size}
-use Rattle.cob_picture.specs.Pictures.{IsPicture}
-use Rattle.cob_picture.proofs.Placed.{size-placed}
 use Rattle.cob_edit.specs.Pictured.{insertion_byte}
 use Rattle.cob_edit.specs.Characters.{is_character, position, character_at, HasCharacters, spelled, OneSpelling}
 

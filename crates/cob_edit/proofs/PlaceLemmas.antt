@@ -1,5 +1,5 @@
 -- The places of positions: how many there are, how many hold a byte and how many a digit.
-use Rattle.std.proofs.Common.{◌≡◌, ℕ, ◌+◌, ◌*◌, ◌≤◌, Bool, true, false, cond, ◌||◌, List, [], ◌∷◌, ◌++◌, length, Option, refl, sym, ap, ◌∙◌, arith, IsTrue, ◌⊎◌, inl, inr, count_by}
+use Rattle.std.proofs.Common.{◌≡◌, ◌+◌, ◌*◌, ◌≤◌, Bool, true, false, cond, ◌||◌, List, [], ◌∷◌, ◌++◌, length, Option, refl, sym, ◌∙◌, arith, IsTrue, count_by}
 use Rattle.std.specs.Prelude.{if◌then◌else◌}
 use Rattle.std.proofs.lemmas.List.{length-append}
 use Rattle.std.proofs.lemmas.List.Sums.{sum_by-append}
@@ -10,11 +10,11 @@ use Rattle.cob_picture.specs.declared.position.Role.{Role}
 use Rattle.cob_picture.specs.declared.position.Role.TheVariants.{Character, Insertion, DecimalPoint, Digit, Suppressed, Floating, FirstFloating, FixedSign, FixedCurrency, NoByte}
 use Rattle.cob_picture.specs.declared.category.Category.{Category}
 use Rattle.cob_picture.specs.declared.category.Category.TheVariants.{Alphabetic, Numeric, Alphanumeric, AlphanumericEdited, NumericEdited}
-use Rattle.cob_picture.specs.Positions.{is, is_that, times, shows_number, is_edited, floating, settled_role, role_at, position_at, placed, positions}
+use Rattle.cob_picture.specs.Positions.{is, is_that, times, shows_number, floating, settled_role, role_at, position_at, placed, positions}
 use Rattle.cob_picture.specs.Counts.{is_digit_place, width, size, digits}
 use Rattle.cob_picture.specs.Measures.{symbols_size}
 use Rattle.cob_picture.specs.Pictures.{IsPicture}
-use Rattle.cob_picture.proofs.Placed.{is_plain, MayFloat, floating_may, size-placed, decimal-placed, digits-cons}
+use Rattle.cob_picture.proofs.Placed.{MayFloat, floating_may, size-placed, decimal-placed, digits-cons}
 use Rattle.cob_picture.proofs.Limits.{few_numeric, once_at_most}
 use Rattle.cob_edit.specs.declared.place.Place.{Place}
 use Rattle.cob_edit.specs.declared.place.Place.TheVariants.{AssumedPoint}

@@ -1,23 +1,20 @@
 -- What holds of the run of a numeric edited picture.
-use Rattle.std.proofs.Common.{◌≡◌, ℕ, Bool, true, false, ◌||◌, List, [], ◌∷◌, ◌++◌, Option, Some, None, refl, sym, ap, subst, ◌∙◌, append_assoc}
+use Rattle.std.proofs.Common.{◌≡◌, Bool, true, false, ◌||◌, List, [], ◌∷◌, ◌++◌, Option, Some, None, refl, sym, ap, subst, ◌∙◌, append_assoc}
 use Rattle.std.specs.Prelude.{nat_le, if◌then◌else◌}
 use Rattle.std.specs.List.{AllByRecursion, list_any}
 use Rattle.cob_picture.specs.declared.symbol.Symbol.{Symbol}
 use Rattle.cob_picture.specs.declared.symbol.Symbol.TheVariants.{A, X, Nine, S, V, P, B, Zero, Slash, Comma, Point, Z, Star, Dollar, Plus, Minus, Credit, Debit}
-use Rattle.cob_picture.specs.declared.category.Category.{Category}
 use Rattle.cob_picture.specs.declared.category.Category.TheVariants.{NumericEdited}
 use Rattle.cob_picture.specs.declared.position.Position.{Position}
 use Rattle.cob_picture.specs.declared.position.Role.TheVariants.{FirstFloating}
 use Rattle.cob_picture.specs.declared.edited.Kind.TheVariants.{OfRun, OfPoint, OfNone}
 use Rattle.cob_picture.specs.declared.edited.Part.{Part}
 use Rattle.cob_picture.specs.declared.edited.Part.TheVariants.{Lead, Currency, Front, Whole, PointPart, Fraction, Trail}
-use Rattle.cob_picture.specs.Positions.{Seen, times, is_that, floating, settled_role, role_at, position_at, placed, positions, symbols_of}
+use Rattle.cob_picture.specs.Positions.{times, is_that, floating, settled_role, role_at, position_at, placed, positions}
 use Rattle.cob_picture.specs.Counts.{is_point}
 use Rattle.cob_picture.specs.Edited.{run_symbol, is_floating_run, settled_kind, kind_of, belongs, AreOf, Edited, edited_symbols, HasKinds, counts_in, AreAllowed, IsNumericEdited}
-use Rattle.cob_picture.specs.Categories.{IsOf}
 use Rattle.cob_picture.specs.Pictures.{IsPicture}
 use Rattle.cob_picture.specs.Laws.{is_run_role}
-use Rattle.cob_picture.proofs.Placed.{symbols_placed}
 
 -- ---- what floats is the run
 

@@ -12,7 +12,6 @@ use Rattle.cob_steps.specs.declared.plan.Stop.{Stop}
 use Rattle.cob_steps.specs.declared.plan.StopCause.{StopCause}
 use Rattle.cob_fields.specs.declared.Place.{Place}
 use Rattle.cob_fields.specs.Fields.{field_of, with_field}
-use Rattle.cob_move.specs.Initial.{IsInitial}
 use Rattle.cob_move.specs.Laws.{OneInitial}
 use Rattle.cob_steps.specs.Records.{Conversion, StandsAt}
 use Rattle.cob_steps.specs.Steps.{Converts, Stops, Moves, Receives, IsStored, HasNoValue, Represents}

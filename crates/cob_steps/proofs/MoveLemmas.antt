@@ -1,7 +1,7 @@
 -- Lemmas on moves, one after another.
-use Rattle.std.proofs.Common.{◌≡◌, ℕ, ◌+◌, ◌-◌, ◌<◌, ◌≤◌, List, [], ◌∷◌, ◌++◌, length, get_or, take, drop, min, ap, sym, ◌∙◌, subst, arith, suc, replicate, rules, inl, inr, append_assoc}
+use Rattle.std.proofs.Common.{◌≡◌, ℕ, ◌+◌, ◌-◌, ◌<◌, ◌≤◌, List, [], ◌∷◌, ◌++◌, length, get_or, take, drop, min, ap, sym, ◌∙◌, subst, arith, suc, replicate, rules, inl, inr}
 use Rattle.std.proofs.lemmas.Bool.{cases_lt}
-use borrow.Rule.Slice.PartMut.{put_mid, Post-is}
+use borrow.Rule.Slice.PartMut.{put_mid}
 use Rattle.std.proofs.Math.Seq.{take-append-add, split_at}
 use Rattle.std.proofs.lemmas.List.{take-append-le, take-replicate, take_all, take_more}
 use Rattle.cob_steps.specs.declared.plan.Move.{Move}
@@ -13,7 +13,7 @@ use Rattle.cob_steps.specs.declared.plan.Category.{Category}
 use Rattle.cob_steps.specs.declared.plan.Step.{Step}
 use Rattle.cob_steps.specs.Records.{Conversion, IsStepOf, IsPrepared}
 use Rattle.cob_values.specs.Values.{padded}
-use Rattle.cob_steps.specs.Steps.{Moves, Converts, Stops, HasNoValue, Receives}
+use Rattle.cob_steps.specs.Steps.{Moves, Converts, Stops, Receives}
 use Rattle.cob_steps.specs.Moving.{IsMoved, Lacks}
 use Rattle.cob_steps.proofs.StepLemmas.{plan_step, some_move, step_count}
 

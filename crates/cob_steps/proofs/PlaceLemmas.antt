@@ -1,5 +1,5 @@
 -- Where items stand that are no tables and stand beneath none.
-use Rattle.std.proofs.Common.{◌≡◌, ◌⊎◌, ℕ, ◌+◌, ◌<◌, ◌≤◌, List, [], ◌∷◌, refl, sym, ap, subst, ◌∙◌, Option, Some, None, Bool, true, false, Ok, Err, Result, inl, inr, ◌==◌}
+use Rattle.std.proofs.Common.{◌≡◌, ◌⊎◌, ℕ, List, [], ◌∷◌, refl, sym, ap, ◌∙◌, Option, Some, None, Bool, true, false, Ok, Err, Result, inl, inr, ◌==◌}
 use Rattle.std.specs.Prelude.{option_map}
 use Rattle.cob_tree.specs.declared.node.Item.{Item}
 use Rattle.cob_tree.specs.declared.node.Kind.{Kind}

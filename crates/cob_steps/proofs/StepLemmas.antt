@@ -1,10 +1,8 @@
 -- The steps of a conversion's moves.
-use Rattle.std.proofs.Common.{◌≡◌, ℕ, ◌+◌, ◌<◌, ◌≤◌, List, [], ◌∷◌, ◌++◌, length, get_or, take, refl, sym, ap, subst, ◌∙◌, arith, zero, suc}
+use Rattle.std.proofs.Common.{◌≡◌, ℕ, ◌+◌, ◌<◌, ◌≤◌, List, [], ◌∷◌, ◌++◌, length, get_or, take, refl, sym, ap, subst, arith, zero, suc}
 use Rattle.cob_tree.specs.Forests.{Forest}
 use Rattle.cob_tree.specs.Nodes.{Resolved}
 use Rattle.cob_tree.specs.Lengths.{item_size, most}
-use Rattle.cob_tree.specs.declared.lengths.TheConstants.{MAX_RECORD}
-use Rattle.cob_copybook.specs.Records.{IsRecord}
 use Rattle.cob_fields.specs.declared.Place.{Place}
 use Rattle.cob_places.specs.Counts.{kind_in}
 use Rattle.cob_places.specs.Places.{find}
@@ -12,7 +10,7 @@ use Rattle.cob_steps.specs.declared.plan.Category.{Category}
 use Rattle.cob_steps.specs.declared.plan.Category.TheVariants.{Numeric}
 use Rattle.cob_steps.specs.declared.plan.Move.{Move}
 use Rattle.cob_steps.specs.declared.plan.Step.{Step}
-use Rattle.cob_steps.specs.Records.{Conversion, IsConversion, IsMove, IsOperand, IsPossible, IsSteady, IsStepOf, AreStepsOf, IsPrepared, MostDigits, StandsAt, record_length}
+use Rattle.cob_steps.specs.Records.{Conversion, IsMove, IsOperand, IsPossible, IsSteady, IsStepOf, AreStepsOf, IsPrepared, MostDigits, StandsAt, record_length}
 use Rattle.cob_steps.proofs.PlaceLemmas.{pairs, size_there}
 use Rattle.std.specs.List.{AllByRecursion}
 use Rattle.std.proofs.lemmas.List.{take_more}

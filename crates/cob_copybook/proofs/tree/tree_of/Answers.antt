@@ -1,5 +1,3 @@
-use Rattle.std.proofs.Common.{◌≡◌, sym, List, map}
-use Rattle.cob_entries.specs.Described.{Described, described}
 use Rattle.cob_copybook.proofs.tree.tree_of.Goals as goal
 use Rattle.cob_copybook.proofs.Trees.{disagrees}
 

@@ -1,5 +1,5 @@
-use Rattle.std.proofs.Common.{◌≡◌, ◌+◌, ◌≤◌, ◌∙◌, ap, subst, sym, inl, length, count_by}
-use Rattle.cob_picture.specs.Positions.{positions, symbols_of}
+use Rattle.std.proofs.Common.{◌+◌, ◌≤◌, ◌∙◌, ap, subst, sym, inl, length, count_by}
+use Rattle.cob_picture.specs.Positions.{symbols_of}
 use Rattle.cob_picture.specs.Counts.{size}
 use Rattle.cob_edit.specs.Places.{is_digit, bytes_of}
 use Rattle.cob_edit.specs.Pictured.{places}

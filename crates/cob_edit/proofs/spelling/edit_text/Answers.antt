@@ -1,4 +1,4 @@
-use Rattle.std.proofs.Common.{◌≡◌, ◌∙◌, ap, subst, sym, refl, inr, false, length}
+use Rattle.std.proofs.Common.{◌∙◌, ap, subst, sym, refl, inr, false, length}
 use Rattle.cob_picture.specs.declared.position.Position.{Position}
 use Rattle.cob_picture.specs.declared.category.Category.TheVariants.{AlphanumericEdited}
 use Rattle.cob_picture.specs.Positions.{floating, positions, symbols_of, is_edited}

@@ -1,6 +1,5 @@
-use Rattle.std.proofs.Common.{rules, ◌≡◌, ℕ, List, ◌+◌, ◌-◌, arith, ◌∙◌, subst, refl}
+use Rattle.std.proofs.Common.{◌≡◌, ℕ, List, ◌+◌, ◌-◌, arith, ◌∙◌, subst, refl}
 use borrow.Rule.Slice.PartMut.{mid_len}
-use Rattle.cob_steps.specs.declared.plan.StopCause.{StopCause}
 use Rattle.cob_steps.specs.Moving.{Lacks}
 use Rattle.cob_steps.proofs.MoveLemmas.{moved_to}
 use Rattle.cob_steps.proofs.moves.make_move.Goals as goal

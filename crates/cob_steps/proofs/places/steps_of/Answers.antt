@@ -1,7 +1,5 @@
 use Rattle.cob_places.specs.Lengths.{alone}
-use Rattle.cob_steps.specs.declared.plan.Move.{Move}
-use Rattle.cob_steps.specs.declared.plan.Step.{Step}
-use Rattle.cob_steps.specs.Records.{Conversion, AreStepsOf, IsStepOf}
+use Rattle.cob_steps.specs.Records.{Conversion}
 use Rattle.cob_steps.proofs.StepLemmas.{next_step}
 use Rattle.cob_steps.proofs.places.steps_of.Goals as goal
 

@@ -1,6 +1,5 @@
-use Rattle.std.proofs.Common.{◌≡◌, List, ℕ, [], ◌∷◌, ◌++◌, Option, Some, None, Bor, sym, ap, subst, ◌∙◌}
+use Rattle.std.proofs.Common.{◌≡◌, List, ℕ, [], ◌∷◌, ◌++◌, Some, Bor, sym, ap, subst, ◌∙◌}
 use Rattle.cob_thin.specs.declared.bearer.Borne.{Borne}
-use Rattle.cob_thin.specs.declared.bearer.Borne.TheVariants.{Once, Often}
 use Rattle.cob_thin.specs.Bearers.{IsNoted, bearer_at, noted_for}
 use Rattle.cob_thin.proofs.BearerLemmas.{unnamed, named, noted_first, differs}
 use Rattle.cob_thin.proofs.bearer.note.Goals as goal

@@ -1,4 +1,3 @@
-use Rattle.std.proofs.Common.{refl}
 use Rattle.cob_thin.specs.Bearers.{bearer_of}
 use Rattle.cob_thin.proofs.OperandLemmas.{meant}
 use Rattle.cob_thin.proofs.operand.operand_named.Goals as goal

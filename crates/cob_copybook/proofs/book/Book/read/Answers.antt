@@ -1,4 +1,3 @@
-use Rattle.std.proofs.Common.{◌≡◌, sym, ◌∙◌, ap, [], ◌∷◌}
 use Rattle.std.proofs.lemmas.Result.{err_from_is_err_and}
 use Rattle.cob_copybook.proofs.book.Book.read.Goals as goal
 use Rattle.cob_copybook.proofs.Texts.{memory}

@@ -1,4 +1,4 @@
-use Rattle.std.proofs.Common.{◌≡◌, ◌∙◌}
+use Rattle.std.proofs.Common.{◌∙◌}
 use Rattle.std.proofs.lemmas.Result.{err_from_is_err_and}
 use Rattle.cob_steps.specs.Records.{IsPrepared}
 use Rattle.cob_steps.proofs.StepLemmas.{prepared_as, plan_possible}

@@ -1,4 +1,4 @@
-use Rattle.std.proofs.Common.{◌≡◌, ◌<◌, ◌≤◌, ℕ, subst, sym}
+use Rattle.std.proofs.Common.{◌<◌, ℕ, subst, sym}
 use Rattle.cob_steps.proofs.StepLemmas.{records_some}
 use Rattle.cob_steps.proofs.plan.Plan.out_length.Goals as goal
 

@@ -1,5 +1,4 @@
-use Rattle.std.proofs.Common.{false, sym, subst, ◌∙◌, List}
-use Rattle.cob_tree.specs.Nodes.{Resolved}
+use Rattle.std.proofs.Common.{false, sym, subst, ◌∙◌}
 use Rattle.cob_thin.specs.Paragraphs.{NoneBears}
 use Rattle.cob_thin.specs.Bearers.{bearers, noted_for}
 use Rattle.cob_thin.proofs.BearerLemmas.{nobody}

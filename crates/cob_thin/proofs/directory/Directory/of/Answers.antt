@@ -1,4 +1,4 @@
-use Rattle.std.proofs.Common.{List, [], ◌∷◌, false, sym, ap, ◌∙◌, subst}
+use Rattle.std.proofs.Common.{List, [], false, sym, ap, ◌∙◌, subst}
 use Rattle.cob_tree.specs.declared.node.Node.{Node}
 use Rattle.cob_tree.specs.Forests.{Forest}
 use Rattle.cob_tree.specs.Nodes.{Resolved, forest, node}
