@@ -1,14 +1,14 @@
 -- The moves of a paragraph between steady records are a conversion.
 use Rattle.std.proofs.Common.{◌≡◌, sym, subst, ℕ, ◌<◌, List, [], ◌∷◌, length, arith}
 use Rattle.std.specs.List.{AllByRecursion}
-use Rattle.cob_tree.specs.Forests.{Forest}
-use Rattle.cob_tree.specs.Nodes.{Resolved}
+use Rattle.cob_copybook_tree.specs.Forests.{Forest}
+use Rattle.cob_copybook_tree.specs.Nodes.{Resolved}
 use Rattle.cob_steps.specs.declared.plan.Move.{Move}
 use Rattle.cob_steps.specs.Records.{IsSteady, IsMove, IsConversion}
 use Rattle.cob_thin.specs.Paragraphs.{Pair, AreMovesOf, IsParagraph}
 use Rattle.cob_copybook.specs.declared.role.Role.{Role}
 use Rattle.cob_copybook.specs.Books.{IsBookOf}
-use Rattle.cob_areas.specs.Areas.{hold_varying}
+use Rattle.cob_copybook_lengths.specs.Areas.{hold_varying}
 use Rattle.std.specs.Prelude.{false}
 
 allowed : (input output : Forest Resolved) (pairs : List Pair) (moves : List Move) → AreMovesOf input output pairs moves → AllByRecursion (IsMove input output) moves

@@ -1,8 +1,8 @@
 -- What three texts mean, and why they are refused.
 use Rattle.std.specs.Prelude.{◌≡◌, ℕ, true, false, List}
-use Rattle.cob_tree.specs.Forests.{Forest}
-use Rattle.cob_tree.specs.Nodes.{Resolved}
-use Rattle.cob_areas.specs.Areas.{hold_varying}
+use Rattle.cob_copybook_tree.specs.Forests.{Forest}
+use Rattle.cob_copybook_tree.specs.Nodes.{Resolved}
+use Rattle.cob_copybook_lengths.specs.Areas.{hold_varying}
 use Rattle.cob_copybook.specs.declared.role.Role.{Role}
 use Rattle.cob_copybook.specs.declared.role.Role.TheVariants.{In, Out}
 use Rattle.cob_copybook.specs.Books.{IsBookOf, IsRefusal}

@@ -1,8 +1,8 @@
 -- Bytes have one conversion: what is written and what is answered are determined.
 use Rattle.std.specs.Prelude.{◌≡◌, ℕ, ◌<◌, ◌≤◌, List, Result}
-use Rattle.cob_tree.specs.declared.lengths.TheConstants.{MAX_RECORD}
-use Rattle.cob_tree.specs.Forests.{Forest}
-use Rattle.cob_tree.specs.Nodes.{Resolved}
+use Rattle.cob_copybook_tree.specs.declared.lengths.TheConstants.{MAX_RECORD}
+use Rattle.cob_copybook_tree.specs.Forests.{Forest}
+use Rattle.cob_copybook_tree.specs.Nodes.{Resolved}
 use Rattle.cob_steps.specs.Records.{record_length}
 use Rattle.cob_convert.specs.declared.setup.Setup.{Setup}
 use Rattle.cob_convert.specs.declared.run.RunFault.{RunFault}

@@ -1,8 +1,8 @@
 //! The copybooks of a conversion.
 
 ghost use Rattle.std.specs.Prelude.{◌≡◌, ℕ, List, true, false, IfOk, IfErr, IfSome, IfNone};
-ghost use Rattle.cob_tree.specs.Nodes.{forest};
-ghost use Rattle.cob_areas.specs.Areas.{hold_varying};
+ghost use Rattle.cob_copybook_tree.specs.Nodes.{forest};
+ghost use Rattle.cob_copybook_lengths.specs.Areas.{hold_varying};
 ghost use Rattle.cob_copybook.specs.Books.{IsBookOf, IsRefusal};
 ghost use Rattle.cob_steps.specs.Records.{IsSteady};
 ghost use Rattle.cob_convert.specs.Means.{IsVaryingRefusal, IsInRefusal, IsOutRefusal};
@@ -10,9 +10,9 @@ ghost use Rattle.cob_copybook.specs.declared.role.Role.TheVariants.{In, Out};
 
 use crate::fault::{PrepareFault, Text};
 use cob_copybook::{Book, Role};
-use cob_entries::{BookFault, BookRule};
+use cob_copybook_entries::{BookFault, BookRule};
+use cob_copybook_tree::{Node, Times};
 use cob_source::SourceRule;
-use cob_tree::{Node, Times};
 use std::alloc::Global;
 use std::slice;
 

@@ -3,7 +3,7 @@ ghost use Rattle.cob_convert.specs.declared.fault.PrepareFault.TheVariants.{Memo
 ghost use Rattle.cob_convert.specs.Means.{IsMovesRefusal};
 
 use crate::run::{Cause, RunFault};
-use cob_entries::BookFault;
+use cob_copybook_entries::BookFault;
 use cob_steps::Side;
 use cob_thin::ThinFault;
 use std::alloc::AllocError;

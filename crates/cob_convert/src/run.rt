@@ -5,7 +5,7 @@ ghost use Rattle.cob_steps.specs.Records.{record_length};
 ghost use Rattle.cob_convert.specs.Conversion.{in_length};
 ghost use Rattle.cob_convert.specs.Run.{Ran, cause_from, offset_from, refusal_from, is_read_stop, is_write_stop};
 ghost use Rattle.cob_convert.specs.declared.run.TheConstants.{LIMIT};
-ghost use Rattle.cob_tree.specs.declared.lengths.TheConstants.{MAX_RECORD};
+ghost use Rattle.cob_copybook_tree.specs.declared.lengths.TheConstants.{MAX_RECORD};
 
 use crate::setup::{Misfit, Setup, convert, measure, next_input};
 use cob_records::{Form, RecordFault, Sink, Source, put_record};

@@ -3,7 +3,7 @@ ghost use Rattle.cob_records.specs.Device.{counted, Told};
 ghost use Rattle.cob_records.specs.Frame.{IsRecord, IsLength, Reads, is_read_failure, is_write_fault};
 ghost use Rattle.cob_steps.specs.Records.{record_length};
 ghost use Rattle.cob_convert.specs.Conversion.{in_length, Becomes, StopsAt, IsSized, IsMisfit};
-ghost use Rattle.cob_tree.specs.declared.lengths.TheConstants.{MAX_RECORD};
+ghost use Rattle.cob_copybook_tree.specs.declared.lengths.TheConstants.{MAX_RECORD};
 
 use cob_records::{Form, RecordFault, Source, next_record};
 use cob_steps::{Plan, Stop};

@@ -1,7 +1,7 @@
 //! Worked examples of whole runs and jobs. What is expected was made by hand.
 
 use crate::{Cause, Converter, PrepareFault, RunFault, Side, Text, job};
-use cob_entries::{BookFault, BookRule};
+use cob_copybook_entries::{BookFault, BookRule};
 use cob_records::{Form, Limited, MemSink, MemSource, RecordFault};
 use cob_source::SourceRule;
 use std::alloc::Global;

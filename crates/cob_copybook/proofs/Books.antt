@@ -1,12 +1,12 @@
 -- Books: what the parts of a text's book are, and whose rule a refusal names.
 use Rattle.std.proofs.Common.{◌≡◌, sym, subst, ap, ℕ, ◌+◌, ◌≤◌, inl, inr, List, ◌++◌, length, refl, arith}
 use Rattle.std.proofs.lemmas.List.{length-append}
-use Rattle.cob_entries.specs.Described.{Described}
-use Rattle.cob_entries.specs.declared.fault.BookRule.{BookRule}
-use Rattle.cob_entries.specs.declared.fault.BookRule.TheVariants as rule
-use Rattle.cob_tree.specs.Forests.{Forest, Bare, Grows, flat, entries_in}
-use Rattle.cob_tree.specs.Branches.{StandsFor}
-use Rattle.cob_tree.specs.Nodes.{Resolved}
+use Rattle.cob_copybook_entries.specs.Described.{Described}
+use Rattle.cob_copybook_entries.specs.declared.fault.BookRule.{BookRule}
+use Rattle.cob_copybook_entries.specs.declared.fault.BookRule.TheVariants as rule
+use Rattle.cob_copybook_tree.specs.Forests.{Forest, Bare, Grows, flat, entries_in}
+use Rattle.cob_copybook_tree.specs.Branches.{StandsFor}
+use Rattle.cob_copybook_tree.specs.Nodes.{Resolved}
 use Rattle.cob_copybook.specs.declared.role.Role.{Role}
 use Rattle.cob_copybook.specs.Records.{IsStored, IsTreeRefusal, IsStorageRefusal}
 use Rattle.cob_copybook.specs.Books.{HasEntries, IsBookOf, IsRefusal}

@@ -1,11 +1,11 @@
 -- Trees of entries: one tree for each list, and what a broken rule says of it.
 use Rattle.std.proofs.Common.{subst, List}
-use Rattle.cob_entries.specs.Described.{Described}
-use Rattle.cob_entries.specs.declared.fault.BookRule.{BookRule}
-use Rattle.cob_tree.specs.Forests.{Forest}
-use Rattle.cob_tree.specs.Branches.{StandsFor}
-use Rattle.cob_tree.specs.Laws.{OneTree}
-use Rattle.cob_rules.specs.Rules.{AgreeAll, Breaks, BreaksNoRule}
+use Rattle.cob_copybook_entries.specs.Described.{Described}
+use Rattle.cob_copybook_entries.specs.declared.fault.BookRule.{BookRule}
+use Rattle.cob_copybook_tree.specs.Forests.{Forest}
+use Rattle.cob_copybook_tree.specs.Branches.{StandsFor}
+use Rattle.cob_copybook_tree.specs.Laws.{OneTree}
+use Rattle.cob_copybook_rules.specs.Rules.{AgreeAll, Breaks, BreaksNoRule}
 
 -- a tree that breaks a rule on clauses isn't one of entries whose tree agrees
 pub disagrees : (one : OneTree) (none : BreaksNoRule) (ds : List Described) (t u : Forest Described) (r : BookRule) → StandsFor ds t → StandsFor ds u → Breaks r t → AgreeAll u → ⊥

@@ -3,7 +3,7 @@ use Rattle.std.specs.Prelude.{◌≡◌, refl, List, [], ◌∷◌, ◌++◌, Op
 use Rattle.std.specs.Coded.{Coded, code_by, coded_list, coded_option}
 use Rattle.std.proofs.Common.{ap, ◌∙◌, sym}
 use Rattle.std.proofs.lemmas.List.{append_assoc, append-nil}
-use Rattle.cob_tree.specs.Forests.{Forest, Bare, Grows}
+use Rattle.cob_copybook_tree.specs.Forests.{Forest, Bare, Grows}
 
 abbrev pub told : {A : Type 0} → Forest A → List (Option A)
 told Bare = None ∷ []

@@ -1,15 +1,15 @@
 -- Which tree the entries of a record stand for, and which rule they break.
 use Rattle.std.specs.Prelude.{◌≡◌, ◌⊎◌, ℕ, List, None}
-use Rattle.cob_entries.specs.Described.{Described}
-use Rattle.cob_entries.specs.declared.fault.BookRule.{BookRule}
-use Rattle.cob_entries.specs.declared.fault.BookRule.TheVariants as rule
-use Rattle.cob_tree.specs.Forests.{Forest}
-use Rattle.cob_tree.specs.Branches.{AreLevels, StandsFor}
-use Rattle.cob_tree.specs.Nodes.{Resolved}
-use Rattle.cob_tree.specs.Resolving.{resolved}
-use Rattle.cob_rules.specs.Rules.{AgreeAll, Breaks as BreaksClauses}
-use Rattle.cob_names.specs.Counts.{AreCountsOf}
-use Rattle.cob_areas.specs.Rules.{IsFit, Breaks as BreaksLengths}
+use Rattle.cob_copybook_entries.specs.Described.{Described}
+use Rattle.cob_copybook_entries.specs.declared.fault.BookRule.{BookRule}
+use Rattle.cob_copybook_entries.specs.declared.fault.BookRule.TheVariants as rule
+use Rattle.cob_copybook_tree.specs.Forests.{Forest}
+use Rattle.cob_copybook_tree.specs.Branches.{AreLevels, StandsFor}
+use Rattle.cob_copybook_tree.specs.Nodes.{Resolved}
+use Rattle.cob_copybook_tree.specs.Resolving.{resolved}
+use Rattle.cob_copybook_rules.specs.Rules.{AgreeAll, Breaks as BreaksClauses}
+use Rattle.cob_copybook_names.specs.Counts.{AreCountsOf}
+use Rattle.cob_copybook_lengths.specs.Rules.{IsFit, Breaks as BreaksLengths}
 
 -- The tree as it is written has this one, with what its entries inherit: each table that varies has its count, and the rules on lengths are
 -- kept.

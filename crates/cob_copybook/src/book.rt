@@ -1,10 +1,10 @@
 //! Books.
 
 ghost use Rattle.std.specs.Prelude.{◌≡◌, ℕ, ◌≤◌, [], ◌∷◌, IfOk, IfErr};
-ghost use Rattle.cob_tree.specs.Forests.{Forest};
-ghost use Rattle.cob_tree.specs.Nodes.{Resolved, forest};
-ghost use Rattle.cob_tree.specs.Lengths.{most, sum_of};
-ghost use Rattle.cob_tree.specs.declared.lengths.TheConstants.{MAX_RECORD};
+ghost use Rattle.cob_copybook_tree.specs.Forests.{Forest};
+ghost use Rattle.cob_copybook_tree.specs.Nodes.{Resolved, forest};
+ghost use Rattle.cob_copybook_tree.specs.Lengths.{most, sum_of};
+ghost use Rattle.cob_copybook_tree.specs.declared.lengths.TheConstants.{MAX_RECORD};
 ghost use Rattle.cob_copybook.specs.Records.{IsRecord};
 ghost use Rattle.cob_copybook.specs.Books.{IsBookOf, IsRefusal, IsMemory};
 
@@ -12,8 +12,8 @@ use crate::role::Role;
 use crate::storage::storage_of;
 use crate::tree::tree_of;
 use crate::words::entries_of;
-use cob_entries::BookFault;
-use cob_tree::{Node, whole_length};
+use cob_copybook_entries::BookFault;
+use cob_copybook_tree::{Node, whole_length};
 use std::alloc::Global;
 use std::marker::Model;
 
@@ -28,9 +28,9 @@ pub struct Book {
 
 impl Model for Book {
     ghost use Rattle.std.specs.Prelude.{◌≡◌, [], ◌∷◌};
-    ghost use Rattle.cob_tree.specs.Forests.{Forest};
-    ghost use Rattle.cob_tree.specs.Nodes.{Resolved, forest};
-    ghost use Rattle.cob_tree.specs.Lengths.{most, sum_of};
+    ghost use Rattle.cob_copybook_tree.specs.Forests.{Forest};
+    ghost use Rattle.cob_copybook_tree.specs.Nodes.{Resolved, forest};
+    ghost use Rattle.cob_copybook_tree.specs.Lengths.{most, sum_of};
     ghost use Rattle.cob_copybook.specs.Records.{IsRecord};
     ghost use Rattle.std.specs.Coded.{codes};
     ghost use Rattle.cob_copybook.specs.Codes.{coded_forest};

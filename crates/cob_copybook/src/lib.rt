@@ -11,7 +11,7 @@
 //! says.
 //!
 //! The crate puts the stages of reading in order, and speaks of no word and no length itself: it stands on `cob_source` for the words of
-//! a text, on `cob_entries` for its entries, on `cob_tree` for the tree, and on `cob_rules`, `cob_names` and `cob_areas` for the rules, by
+//! a text, on `cob_copybook_entries` for its entries, on `cob_copybook_tree` for the tree, and on `cob_copybook_rules`, `cob_copybook_names` and `cob_copybook_lengths` for the rules, by
 //! their public contracts and laws.
 #![tactic(auto)]
 

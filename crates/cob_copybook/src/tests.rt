@@ -2,10 +2,10 @@ mod accepted;
 mod refused;
 
 use crate::{Book, Role};
-use cob_clauses::{Sign, Usage};
-use cob_entries::BookRule;
+use cob_copybook_clauses::{Sign, Usage};
+use cob_copybook_entries::BookRule;
+use cob_copybook_tree::{Kind, Node, Times};
 use cob_source::SourceRule;
-use cob_tree::{Kind, Node, Times};
 use std::alloc::Global;
 use std::fmt::Write;
 use std::process::Abort;

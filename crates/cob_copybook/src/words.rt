@@ -1,11 +1,11 @@
 //! The entries of a text.
 
 ghost use Rattle.std.specs.Prelude.{◌≡◌, ℕ, ◌≤◌, ◌<◌, List, length, map, IfOk, IfErr};
-ghost use Rattle.cob_entries.specs.Described.{Described, described};
+ghost use Rattle.cob_copybook_entries.specs.Described.{Described, described};
 ghost use Rattle.cob_copybook.specs.Books.{record_name, implied, with_record, HasEntries, IsTextRefusal, IsMemory};
 
 use crate::role::Role;
-use cob_entries::{BookFault, Entry, Name, entries};
+use cob_copybook_entries::{BookFault, Entry, Name, entries};
 use cob_source::{tokens, words_are_one};
 use std::alloc::{AllocFailed, Global};
 

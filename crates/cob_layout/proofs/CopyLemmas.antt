@@ -1,11 +1,11 @@
 -- Copies of nodes.
 use Rattle.std.proofs.Common.{◌≡◌, ℕ, ◌≤◌, List, ◌++◌, length, drop, map, sym, ap, ◌∙◌}
 use Rattle.std.proofs.lemmas.List.{append-nil, drop_all}
-use Rattle.cob_tree.specs.declared.node.Node.{Node}
-use Rattle.cob_tree.specs.declared.node.Node.TheViews.{out-Node}
-use Rattle.cob_tree.specs.Forests.{Forest, grown}
-use Rattle.cob_tree.specs.Nodes.{Resolved, resolved_entry, node, forest}
-use Rattle.cob_places.proofs.ForestLemmas.{node_out}
+use Rattle.cob_copybook_tree.specs.declared.node.Node.{Node}
+use Rattle.cob_copybook_tree.specs.declared.node.Node.TheViews.{out-Node}
+use Rattle.cob_copybook_tree.specs.Forests.{Forest, grown}
+use Rattle.cob_copybook_tree.specs.Nodes.{Resolved, resolved_entry, node, forest}
+use Rattle.cob_layout_places.proofs.ForestLemmas.{node_out}
 
 -- an entry over copies of all its children is a copy
 pub copy_is : (n m : Node) (kids copies : List Node) (k : ℕ) → node m ≡ record { top = resolved_entry (out-Node n); beneath = forest copies }

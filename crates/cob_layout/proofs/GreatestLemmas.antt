@@ -3,17 +3,17 @@ use Rattle.std.proofs.Common.{◌≡◌, ℕ, ◌+◌, ◌*◌, ◌<◌, ◌≤�
 use Rattle.std.specs.Prelude.{slice_set, slice_index}
 use Rattle.std.proofs.Math.Seq.{set-append_seam, get_or-append_seam}
 use Rattle.std.proofs.lemmas.List.{append-nil, append_assoc, length-append, replicate-append-replicate}
-use Rattle.cob_tree.specs.declared.node.Times.{Times}
-use Rattle.cob_tree.specs.declared.node.Times.TheVariants.{Once, Fixed, Varying}
-use Rattle.cob_tree.specs.Forests.{Forest, Bare, Grows, Tree, entries_in}
-use Rattle.cob_tree.specs.Nodes.{Resolved}
-use Rattle.cob_tree.specs.Lengths.{most, most_by, room, one, sum_of}
-use Rattle.cob_places.specs.declared.varying.Table.{Table}
-use Rattle.cob_places.specs.Lengths.{alone, times, times_by}
-use Rattle.cob_places.specs.Places.{find, or_else, choose, also, begins, is_table, is_there, skipped, later}
-use Rattle.cob_places.specs.Cover.{AreNumbered}
-use Rattle.cob_places.specs.Counts.{table_of, tables_of, HaveSlots}
-use Rattle.cob_places.specs.Needs.{greatest}
+use Rattle.cob_copybook_tree.specs.declared.node.Times.{Times}
+use Rattle.cob_copybook_tree.specs.declared.node.Times.TheVariants.{Once, Fixed, Varying}
+use Rattle.cob_copybook_tree.specs.Forests.{Forest, Bare, Grows, Tree, entries_in}
+use Rattle.cob_copybook_tree.specs.Nodes.{Resolved}
+use Rattle.cob_copybook_tree.specs.Lengths.{most, most_by, room, one, sum_of}
+use Rattle.cob_layout_places.specs.declared.varying.Table.{Table}
+use Rattle.cob_layout_places.specs.Lengths.{alone, times, times_by}
+use Rattle.cob_layout_places.specs.Places.{find, or_else, choose, also, begins, is_table, is_there, skipped, later}
+use Rattle.cob_layout_places.specs.Cover.{AreNumbered}
+use Rattle.cob_layout_places.specs.Counts.{table_of, tables_of, HaveSlots}
+use Rattle.cob_layout_places.specs.Needs.{greatest}
 use Rattle.cob_layout.specs.Counting.{greatest_counts, varying, in_order, AreGreatest}
 
 -- ---- the counts in their places

@@ -4,18 +4,18 @@ use Rattle.std.specs.Prelude.{slice_set, slice_index}
 use Rattle.std.proofs.lemmas.List.{get_or-set_other}
 use Rattle.std.proofs.lemmas.Bool.{cases_lt}
 use Rattle.std.proofs.lemmas.Bool.Decides.{nat_tests}
-use Rattle.cob_tree.specs.declared.node.Times.{Times}
-use Rattle.cob_tree.specs.declared.node.Times.TheVariants.{Once, Fixed, Varying}
-use Rattle.cob_tree.specs.Forests.{Forest, Bare, Grows, Tree, entries_in}
-use Rattle.cob_tree.specs.Nodes.{Resolved}
+use Rattle.cob_copybook_tree.specs.declared.node.Times.{Times}
+use Rattle.cob_copybook_tree.specs.declared.node.Times.TheVariants.{Once, Fixed, Varying}
+use Rattle.cob_copybook_tree.specs.Forests.{Forest, Bare, Grows, Tree, entries_in}
+use Rattle.cob_copybook_tree.specs.Nodes.{Resolved}
 use Rattle.cob_sound.specs.Sound.{RecordsAreSound}
-use Rattle.cob_places.specs.declared.counts.CountFault.{CountFault}
-use Rattle.cob_places.specs.declared.varying.Table.{Table}
-use Rattle.cob_places.specs.Lengths.{alone}
-use Rattle.cob_places.specs.Cover.{AreNumbered}
-use Rattle.cob_places.specs.Counts.{table_of, tables_of, Taken, OneOutcome}
-use Rattle.cob_places.specs.Needs.{Has, Needs, reach, is_read, keep, needed, NeedsAreRead}
-use Rattle.cob_places.specs.Agree.{SameCounts, OnePlace}
+use Rattle.cob_layout_places.specs.declared.counts.CountFault.{CountFault}
+use Rattle.cob_layout_places.specs.declared.varying.Table.{Table}
+use Rattle.cob_layout_places.specs.Lengths.{alone}
+use Rattle.cob_layout_places.specs.Cover.{AreNumbered}
+use Rattle.cob_layout_places.specs.Counts.{table_of, tables_of, Taken, OneOutcome}
+use Rattle.cob_layout_places.specs.Needs.{Has, Needs, reach, is_read, keep, needed, NeedsAreRead}
+use Rattle.cob_layout_places.specs.Agree.{SameCounts, OnePlace}
 use Rattle.cob_layout.specs.Counting.{greatest_counts}
 use Rattle.cob_layout.specs.Laws.{OnePlaceByNeeds}
 use Rattle.cob_layout.proofs.ReferenceLemmas.{refers_has}

@@ -1,14 +1,14 @@
 -- What holds of a record as a whole.
 use Rattle.std.proofs.Common.{◌≡◌, ℕ, ◌*◌, ◌<◌, ◌≤◌, List, length, sym, ap, subst, ◌∙◌, arith, Option, None, Ok, Err, Result}
 use Rattle.std.specs.Prelude.{IfOk}
-use Rattle.cob_tree.specs.Forests.{Tree, entries_in}
-use Rattle.cob_tree.specs.Nodes.{Resolved}
-use Rattle.cob_tree.specs.Lengths.{most, room, element, whole, sum_of}
+use Rattle.cob_copybook_tree.specs.Forests.{Tree, entries_in}
+use Rattle.cob_copybook_tree.specs.Nodes.{Resolved}
+use Rattle.cob_copybook_tree.specs.Lengths.{most, room, element, whole, sum_of}
 use Rattle.cob_sound.specs.Sound.{IsSound}
-use Rattle.cob_places.specs.declared.varying.Table.{Table}
-use Rattle.cob_places.specs.Lengths.{alone, times}
-use Rattle.cob_places.specs.Counts.{tables_of, HaveSlots}
-use Rattle.cob_places.proofs.ForestLemmas.{sum_le, within_always}
+use Rattle.cob_layout_places.specs.declared.varying.Table.{Table}
+use Rattle.cob_layout_places.specs.Lengths.{alone, times}
+use Rattle.cob_layout_places.specs.Counts.{tables_of, HaveSlots}
+use Rattle.cob_layout_places.proofs.ForestLemmas.{sum_le, within_always}
 use Rattle.cob_layout.specs.References.{Refers}
 use Rattle.cob_layout.specs.Counting.{greatest_counts}
 use Rattle.cob_layout.proofs.GreatestLemmas.{greatest_length, slots}

@@ -1,13 +1,13 @@
 -- What a reference to an entry of a record gives.
 use Rattle.std.proofs.Common.{◌≡◌, ℕ, ◌+◌, ◌<◌, ◌==◌, List, [], Bool, true, false, refl, ap, ◌∙◌, arith, Option, Some, None, inl, inr, ◌⊎◌}
 use Rattle.std.proofs.lemmas.Bool.Decides.{nat_tests}
-use Rattle.cob_tree.specs.Forests.{Forest, Bare, Grows, Tree, entries_in}
-use Rattle.cob_tree.specs.Nodes.{Resolved}
-use Rattle.cob_places.specs.declared.places.Found.{Found}
-use Rattle.cob_places.specs.Lengths.{alone}
-use Rattle.cob_places.specs.Places.{find, find_one, or_else, choose, also, begins, is_table, later}
-use Rattle.cob_places.specs.Cover.{AreNumbered}
-use Rattle.cob_places.specs.Needs.{Has}
+use Rattle.cob_copybook_tree.specs.Forests.{Forest, Bare, Grows, Tree, entries_in}
+use Rattle.cob_copybook_tree.specs.Nodes.{Resolved}
+use Rattle.cob_layout_places.specs.declared.places.Found.{Found}
+use Rattle.cob_layout_places.specs.Lengths.{alone}
+use Rattle.cob_layout_places.specs.Places.{find, find_one, or_else, choose, also, begins, is_table, later}
+use Rattle.cob_layout_places.specs.Cover.{AreNumbered}
+use Rattle.cob_layout_places.specs.Needs.{Has}
 use Rattle.cob_layout.specs.References.{Refers}
 
 or_none : (o : Option Found) → or_else o None ≡ o

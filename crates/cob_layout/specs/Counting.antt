@@ -1,15 +1,15 @@
 -- The counts of a record.
 use Rattle.std.specs.Prelude.{◌≡◌, ℕ, Bool, List, [], ◌∷◌, ◌++◌, Result, replicate}
-use Rattle.cob_tree.specs.declared.node.Times.{Times}
-use Rattle.cob_tree.specs.declared.node.Times.TheVariants.{Once, Fixed, Varying}
-use Rattle.cob_tree.specs.Forests.{Forest, Bare, Grows, Tree, entries_in}
-use Rattle.cob_tree.specs.Nodes.{Resolved}
-use Rattle.cob_tree.specs.Lengths.{most, sum_of}
-use Rattle.cob_places.specs.declared.counts.CountFault.{CountFault}
-use Rattle.cob_places.specs.Lengths.{alone, times}
-use Rattle.cob_places.specs.Places.{find}
-use Rattle.cob_places.specs.Counts.{tables_of, Taken}
-use Rattle.cob_places.specs.Needs.{greatest, needed}
+use Rattle.cob_copybook_tree.specs.declared.node.Times.{Times}
+use Rattle.cob_copybook_tree.specs.declared.node.Times.TheVariants.{Once, Fixed, Varying}
+use Rattle.cob_copybook_tree.specs.Forests.{Forest, Bare, Grows, Tree, entries_in}
+use Rattle.cob_copybook_tree.specs.Nodes.{Resolved}
+use Rattle.cob_copybook_tree.specs.Lengths.{most, sum_of}
+use Rattle.cob_layout_places.specs.declared.counts.CountFault.{CountFault}
+use Rattle.cob_layout_places.specs.Lengths.{alone, times}
+use Rattle.cob_layout_places.specs.Places.{find}
+use Rattle.cob_layout_places.specs.Counts.{tables_of, Taken}
+use Rattle.cob_layout_places.specs.Needs.{greatest, needed}
 
 -- the greatest counts of a record, by the numbers of its entries; entries that don't vary have 0
 abbrev pub greatest_counts : Tree Resolved → List ℕ

@@ -1,13 +1,13 @@
 -- Storages that agree on the counts that a reference needs.
 use Rattle.std.specs.Prelude.{◌≡◌, ℕ, false, List, length, Ok}
-use Rattle.cob_tree.specs.Forests.{Tree}
-use Rattle.cob_tree.specs.Nodes.{Resolved}
+use Rattle.cob_copybook_tree.specs.Forests.{Tree}
+use Rattle.cob_copybook_tree.specs.Nodes.{Resolved}
 use Rattle.cob_copybook.specs.Records.{IsRecord}
-use Rattle.cob_places.specs.Lengths.{alone, times}
-use Rattle.cob_places.specs.Places.{find}
-use Rattle.cob_places.specs.Counts.{tables_of}
-use Rattle.cob_places.specs.Needs.{needed}
-use Rattle.cob_places.specs.Agree.{DoAgree}
+use Rattle.cob_layout_places.specs.Lengths.{alone, times}
+use Rattle.cob_layout_places.specs.Places.{find}
+use Rattle.cob_layout_places.specs.Counts.{tables_of}
+use Rattle.cob_layout_places.specs.Needs.{needed}
+use Rattle.cob_layout_places.specs.Agree.{DoAgree}
 use Rattle.cob_layout.specs.References.{Refers}
 use Rattle.cob_layout.specs.Counting.{greatest_counts, CountsOf, NeededOf}
 

@@ -1,11 +1,11 @@
 -- References to entries, and where they stand.
 use Rattle.std.specs.Prelude.{◌≡◌, ◌⊎◌, ℕ, ◌<◌, ◌≤◌, Bool, true, false, if◌then◌else◌, List, [], ◌∷◌, Ok, Err, Result}
-use Rattle.cob_tree.specs.Forests.{Forest, Bare, Grows}
-use Rattle.cob_tree.specs.Nodes.{Resolved}
-use Rattle.cob_tree.specs.Lengths.{most}
+use Rattle.cob_copybook_tree.specs.Forests.{Forest, Bare, Grows}
+use Rattle.cob_copybook_tree.specs.Nodes.{Resolved}
+use Rattle.cob_copybook_tree.specs.Lengths.{most}
 use Rattle.cob_fields.specs.declared.Place.{Place}
-use Rattle.cob_places.specs.declared.places.Found.{Found}
-use Rattle.cob_places.specs.Places.{is_table, later}
+use Rattle.cob_layout_places.specs.declared.places.Found.{Found}
+use Rattle.cob_layout_places.specs.Places.{is_table, later}
 use Rattle.cob_layout.specs.declared.reference.PlaceFault.{PlaceFault}
 
 -- a table asks for a subscript, from 1 to its greatest number

@@ -1,11 +1,11 @@
 //! Copies of trees.
 
 ghost use Rattle.std.specs.Prelude.{◌≡◌, IfOk};
-ghost use Rattle.cob_tree.specs.Nodes.{forest, node, resolved_entry};
-ghost use Rattle.cob_tree.specs.declared.node.Node.TheViews.{out-Node};
+ghost use Rattle.cob_copybook_tree.specs.Nodes.{forest, node, resolved_entry};
+ghost use Rattle.cob_copybook_tree.specs.declared.node.Node.TheViews.{out-Node};
 
-use cob_entries::{Name, Value};
-use cob_tree::{Item, Kind, Node};
+use cob_copybook_entries::{Name, Value};
+use cob_copybook_tree::{Item, Kind, Node};
 use std::alloc::{AllocError, Global};
 
 /// What an entry describes, once more. It takes no memory, and so cannot fail.

@@ -1,11 +1,11 @@
 //! The counts of the tables of a record.
 
 ghost use Rattle.std.specs.Prelude.{◌≡◌, ◌++◌, [], ◌∷◌, IfOk};
-ghost use Rattle.cob_tree.specs.Nodes.{node};
-ghost use Rattle.cob_places.specs.Lengths.{alone};
+ghost use Rattle.cob_copybook_tree.specs.Nodes.{node};
+ghost use Rattle.cob_layout_places.specs.Lengths.{alone};
 ghost use Rattle.cob_layout.specs.Counting.{in_order, varying};
 
-use cob_tree::{Node, Times};
+use cob_copybook_tree::{Node, Times};
 use std::alloc::{AllocError, Global};
 use std::marker::Model;
 

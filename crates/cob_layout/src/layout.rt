@@ -1,13 +1,13 @@
 //! Layouts.
 
 ghost use Rattle.std.specs.Prelude.{◌≡◌, ◌≤◌, ◌+◌, length, Ok, Err, Some, OnOk, IfOk, IfErr, OnErr, option_map};
-ghost use Rattle.cob_tree.specs.Forests.{entries_in};
-ghost use Rattle.cob_tree.specs.Lengths.{most, sum_of};
-ghost use Rattle.cob_tree.specs.declared.lengths.TheConstants.{MAX_RECORD};
+ghost use Rattle.cob_copybook_tree.specs.Forests.{entries_in};
+ghost use Rattle.cob_copybook_tree.specs.Lengths.{most, sum_of};
+ghost use Rattle.cob_copybook_tree.specs.declared.lengths.TheConstants.{MAX_RECORD};
 ghost use Rattle.cob_copybook.specs.Records.{IsRecord};
-ghost use Rattle.cob_places.specs.Lengths.{alone, times};
-ghost use Rattle.cob_places.specs.Places.{find};
-ghost use Rattle.cob_places.specs.Cover.{IsCovered};
+ghost use Rattle.cob_layout_places.specs.Lengths.{alone, times};
+ghost use Rattle.cob_layout_places.specs.Places.{find};
+ghost use Rattle.cob_layout_places.specs.Cover.{IsCovered};
 ghost use Rattle.cob_layout.specs.References.{Refers, placed};
 ghost use Rattle.cob_layout.specs.Counting.{greatest_counts, AreGreatest, CountsOf, NeededOf};
 
@@ -15,13 +15,13 @@ use crate::copy::copied;
 use crate::counts::{Counts, greatest_in_order};
 use crate::reference::{PlaceFault, Ref};
 use cob_copybook::Book;
+use cob_copybook_tree::Node;
 use cob_fields::Place;
-use cob_places::{
+use cob_layout_places::{
     CountFault, Found, Table, covering, element_of, places_end_in_record, seek, tables,
     take_counts, take_needed, times_of,
 };
 use cob_sound::records_are_sound;
-use cob_tree::Node;
 use std::alloc::{AllocError, Global};
 use std::marker::Model;
 
@@ -38,12 +38,12 @@ pub struct Layout {
 
 impl Model for Layout {
     ghost use Rattle.std.specs.Prelude.{◌≡◌};
-    ghost use Rattle.cob_tree.specs.Forests.{Tree};
-    ghost use Rattle.cob_tree.specs.Nodes.{Resolved, node};
-    ghost use Rattle.cob_tree.specs.Lengths.{most, sum_of};
+    ghost use Rattle.cob_copybook_tree.specs.Forests.{Tree};
+    ghost use Rattle.cob_copybook_tree.specs.Nodes.{Resolved, node};
+    ghost use Rattle.cob_copybook_tree.specs.Lengths.{most, sum_of};
     ghost use Rattle.cob_copybook.specs.Records.{IsRecord};
-    ghost use Rattle.cob_places.specs.Lengths.{alone};
-    ghost use Rattle.cob_places.specs.Counts.{tables_of};
+    ghost use Rattle.cob_layout_places.specs.Lengths.{alone};
+    ghost use Rattle.cob_layout_places.specs.Counts.{tables_of};
     ghost use Rattle.cob_sound.specs.Sound.{IsSound};
     ghost use Rattle.cob_layout.specs.Counting.{greatest_counts};
     ghost use Rattle.std.specs.Coded.{codes};

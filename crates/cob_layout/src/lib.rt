@@ -24,7 +24,7 @@
 //!   the counts.
 //!
 //! The definitions: `CountsOf`, `NeededOf` and `AreGreatest` of specs/Counting.antt, `Refers` and `placed` of specs/References.antt, and what
-//! they name of `cob_places`, which has the arithmetic of lengths and places. `cob_fields` lends the bytes of a place ([`field`], [`field_mut`]).
+//! they name of `cob_layout_places`, which has the arithmetic of lengths and places. `cob_fields` lends the bytes of a place ([`field`], [`field_mut`]).
 //! Only [`Layout::of`] and [`Layout::new_counts`] take memory.
 #![tactic(auto)]
 
@@ -37,7 +37,7 @@ mod reference;
 mod tests;
 
 pub use cob_fields::{Place, field, field_mut};
-pub use cob_places::CountFault;
+pub use cob_layout_places::CountFault;
 pub use counts::Counts;
 pub use laws::one_place_by_needs;
 pub use layout::Layout;

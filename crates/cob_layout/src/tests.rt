@@ -1,11 +1,11 @@
 //! Lengths and places of small records. What is expected was worked out by hand from the rules of COBOL.
 
 ghost use Rattle.std.specs.Prelude.{◌≡◌, length, IsTrue, IfSome};
-ghost use Rattle.cob_tree.specs.Forests.{entries_in};
-ghost use Rattle.cob_tree.specs.Lengths.{most_by};
-ghost use Rattle.cob_tree.specs.Nodes.{node};
-ghost use Rattle.cob_places.specs.Lengths.{alone};
-ghost use Rattle.cob_places.specs.Places.{is_table, later};
+ghost use Rattle.cob_copybook_tree.specs.Forests.{entries_in};
+ghost use Rattle.cob_copybook_tree.specs.Lengths.{most_by};
+ghost use Rattle.cob_copybook_tree.specs.Nodes.{node};
+ghost use Rattle.cob_layout_places.specs.Lengths.{alone};
+ghost use Rattle.cob_layout_places.specs.Places.{is_table, later};
 ghost use Rattle.cob_layout.specs.References.{IsSubscripted, Refers};
 
 mod fixed;
@@ -17,7 +17,7 @@ use crate::{CountFault, Counts, Layout, PlaceFault, Ref, field};
 use Counted::{All, Greatest, Receiver, Sender};
 use arrayvec::ArrayVec;
 use cob_copybook::{Book, Role};
-use cob_tree::{Node, Times};
+use cob_copybook_tree::{Node, Times};
 use std::alloc::Global;
 use std::process::Abort;
 use std::test::Fail;

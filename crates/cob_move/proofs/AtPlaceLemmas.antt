@@ -2,17 +2,17 @@
 use Rattle.std.proofs.Common.{◌≡◌, ℕ, ◌+◌, ◌-◌, ◌*◌, ◌<◌, ◌≤◌, ◌==◌, ◌&&◌, Bool, true, false, List, [], ◌∷◌, ◌++◌, length, take, drop, Option, None, Some, is_some, inl, inr, refl, sym, ap, ◌∙◌, subst, arith}
 use Rattle.std.proofs.lemmas.Bool.Decides.{nat_tests}
 use Rattle.std.proofs.lemmas.List.{length-append, length-take, length-drop, take_all, take-take, drop_at, drop-drop, drop-take}
-use Rattle.cob_entries.specs.Described.{Constant}
-use Rattle.cob_tree.specs.declared.node.Kind.{Kind}
-use Rattle.cob_tree.specs.declared.node.Kind.TheVariants.{Group}
-use Rattle.cob_tree.specs.Forests.{Forest, Bare, Grows, Tree, entries_in}
-use Rattle.cob_tree.specs.Nodes.{Resolved}
-use Rattle.cob_tree.specs.Lengths.{most, room, sum_of, element, whole}
-use Rattle.cob_places.specs.declared.places.Found.{Found}
-use Rattle.cob_places.specs.Lengths.{MayOccur, alone}
-use Rattle.cob_places.specs.Places.{is_table, skipped, later, is_there, begins, also, or_else, choose, find}
-use Rattle.cob_places.specs.Cover.{AreNumbered}
-use Rattle.cob_places.proofs.CoverLaw.{absent, differs, not_or}
+use Rattle.cob_copybook_entries.specs.Described.{Constant}
+use Rattle.cob_copybook_tree.specs.declared.node.Kind.{Kind}
+use Rattle.cob_copybook_tree.specs.declared.node.Kind.TheVariants.{Group}
+use Rattle.cob_copybook_tree.specs.Forests.{Forest, Bare, Grows, Tree, entries_in}
+use Rattle.cob_copybook_tree.specs.Nodes.{Resolved}
+use Rattle.cob_copybook_tree.specs.Lengths.{most, room, sum_of, element, whole}
+use Rattle.cob_layout_places.specs.declared.places.Found.{Found}
+use Rattle.cob_layout_places.specs.Lengths.{MayOccur, alone}
+use Rattle.cob_layout_places.specs.Places.{is_table, skipped, later, is_there, begins, also, or_else, choose, find}
+use Rattle.cob_layout_places.specs.Cover.{AreNumbered}
+use Rattle.cob_layout_places.proofs.CoverLaw.{absent, differs, not_or}
 use Rattle.cob_sound.specs.Sound.{IsSound}
 use Rattle.cob_move.specs.Initial.{HoldsElement, IsInitial}
 use Rattle.cob_move.specs.Begun.{AreElements, IsBegun}

@@ -1,13 +1,13 @@
 -- The storage of entries side by side, from the front.
 use Rattle.std.proofs.Common.{◌≡◌, ℕ, List, [], ◌++◌, length, take, Option, None, Some, is_some, true, false, refl, sym, ap, ◌∙◌}
 use Rattle.std.proofs.lemmas.List.{take_at}
-use Rattle.cob_tree.specs.declared.node.Node.{Node}
-use Rattle.cob_tree.specs.declared.node.Node.TheViews.{out-Node}
-use Rattle.cob_tree.specs.Forests.{Forest, Grows, Tree}
-use Rattle.cob_tree.specs.Nodes.{Resolved, node}
-use Rattle.cob_tree.specs.Lengths.{most, most_by, sum_of, element}
-use Rattle.cob_places.proofs.ForestLemmas.{node_out}
-use Rattle.cob_values.specs.Values.{repeated}
+use Rattle.cob_copybook_tree.specs.declared.node.Node.{Node}
+use Rattle.cob_copybook_tree.specs.declared.node.Node.TheViews.{out-Node}
+use Rattle.cob_copybook_tree.specs.Forests.{Forest, Grows, Tree}
+use Rattle.cob_copybook_tree.specs.Nodes.{Resolved, node}
+use Rattle.cob_copybook_tree.specs.Lengths.{most, most_by, sum_of, element}
+use Rattle.cob_layout_places.proofs.ForestLemmas.{node_out}
+use Rattle.cob_move_initial.specs.Values.{repeated}
 use Rattle.cob_move.proofs.PartLemmas.{parts_repeated}
 use Rattle.cob_move.specs.Initial.{Unless, HoldsElement}
 use Rattle.cob_move.specs.Begun.{AreElements, IsBegun}

@@ -1,11 +1,11 @@
 -- The storage before the first move is determined, where what items and groups with a value hold is.
 use Rattle.std.proofs.Common.{◌≡◌, ℕ, zero, suc, List, ◌++◌, Option, None, Some, sym, ◌∙◌}
-use Rattle.cob_entries.specs.Described.{Constant}
-use Rattle.cob_tree.specs.declared.node.Kind.{Kind}
-use Rattle.cob_tree.specs.declared.node.Kind.TheVariants.{Group, Item as ItemKind}
-use Rattle.cob_tree.specs.Forests.{Bare, Grows}
-use Rattle.cob_tree.specs.Lengths.{most, sum_of}
-use Rattle.cob_values.specs.Laws.{OneConstant, OneItem}
+use Rattle.cob_copybook_entries.specs.Described.{Constant}
+use Rattle.cob_copybook_tree.specs.declared.node.Kind.{Kind}
+use Rattle.cob_copybook_tree.specs.declared.node.Kind.TheVariants.{Group, Item as ItemKind}
+use Rattle.cob_copybook_tree.specs.Forests.{Bare, Grows}
+use Rattle.cob_copybook_tree.specs.Lengths.{most, sum_of}
+use Rattle.cob_move_initial.specs.Laws.{OneConstant, OneItem}
 use Rattle.cob_move.specs.Initial.{AreParts, Unless, HoldsElement, IsInitial}
 use Rattle.cob_move.specs.Laws.{OneInitial}
 

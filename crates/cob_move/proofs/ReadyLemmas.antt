@@ -1,10 +1,10 @@
 -- Entries that have a storage before the first move.
 use Rattle.std.proofs.Common.{◌≡◌, ℕ, ◌*◌, ◌≤◌, List, Option, None, Some, is_some, true, false, refl, arith}
-use Rattle.cob_tree.specs.declared.node.Kind.TheVariants.{Group}
-use Rattle.cob_tree.specs.Forests.{Forest, Grows, Tree}
-use Rattle.cob_tree.specs.Nodes.{Resolved}
-use Rattle.cob_tree.specs.Lengths.{most, room, sum_of, whole}
-use Rattle.cob_places.proofs.ForestLemmas.{factor_le}
+use Rattle.cob_copybook_tree.specs.declared.node.Kind.TheVariants.{Group}
+use Rattle.cob_copybook_tree.specs.Forests.{Forest, Grows, Tree}
+use Rattle.cob_copybook_tree.specs.Nodes.{Resolved}
+use Rattle.cob_copybook_tree.specs.Lengths.{most, room, sum_of, whole}
+use Rattle.cob_layout_places.proofs.ForestLemmas.{factor_le}
 use Rattle.cob_move.specs.Ready.{AreReady, IsReady}
 
 -- an entry takes its length, and a redefinition nothing

@@ -1,10 +1,10 @@
 -- What entries hold at their places, before the first move.
 use Rattle.std.specs.Prelude.{◌≡◌, ◌⊎◌, ℕ, List, take, drop, None, IsSomeAnd}
-use Rattle.cob_tree.specs.declared.node.Kind.TheVariants.{Group}
-use Rattle.cob_tree.specs.Forests.{Forest, Bare, Grows, Tree}
-use Rattle.cob_tree.specs.Nodes.{Resolved}
-use Rattle.cob_tree.specs.Lengths.{most, sum_of}
-use Rattle.cob_places.specs.Places.{find}
+use Rattle.cob_copybook_tree.specs.declared.node.Kind.TheVariants.{Group}
+use Rattle.cob_copybook_tree.specs.Forests.{Forest, Bare, Grows, Tree}
+use Rattle.cob_copybook_tree.specs.Nodes.{Resolved}
+use Rattle.cob_copybook_tree.specs.Lengths.{most, sum_of}
+use Rattle.cob_layout_places.specs.Places.{find}
 use Rattle.cob_move.specs.Initial.{HoldsElement, IsInitial}
 
 -- the entry with those beneath it is one of these or stands beneath one, in no redefinition and beneath no group with a value

@@ -1,8 +1,8 @@
 -- The storage of a record before the first move, cut into elements by their lengths.
 use Rattle.std.specs.Prelude.{◌≡◌, ℕ, List, [], ◌++◌, length}
-use Rattle.cob_tree.specs.Forests.{Forest, Bare, Grows}
-use Rattle.cob_tree.specs.Nodes.{Resolved}
-use Rattle.cob_tree.specs.Lengths.{most, sum_of, element}
+use Rattle.cob_copybook_tree.specs.Forests.{Forest, Bare, Grows}
+use Rattle.cob_copybook_tree.specs.Nodes.{Resolved}
+use Rattle.cob_copybook_tree.specs.Lengths.{most, sum_of, element}
 use Rattle.cob_move.specs.Initial.{AreParts, Unless, HoldsElement}
 
 -- so many bytes, which are so

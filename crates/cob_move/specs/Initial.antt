@@ -1,12 +1,12 @@
 -- The storage of a record before the first move.
 use Rattle.std.specs.Prelude.{◌≡◌, ℕ, zero, suc, List, [], ◌++◌, Option, Some, None}
-use Rattle.cob_entries.specs.Described.{Constant}
-use Rattle.cob_tree.specs.declared.node.Kind.{Kind}
-use Rattle.cob_tree.specs.declared.node.Kind.TheVariants.{Group, Item as ItemKind}
-use Rattle.cob_tree.specs.Forests.{Forest, Bare, Grows}
-use Rattle.cob_tree.specs.Nodes.{Resolved}
-use Rattle.cob_tree.specs.Lengths.{most, sum_of}
-use Rattle.cob_values.specs.Values.{HoldCharacters, HoldsItem}
+use Rattle.cob_copybook_entries.specs.Described.{Constant}
+use Rattle.cob_copybook_tree.specs.declared.node.Kind.{Kind}
+use Rattle.cob_copybook_tree.specs.declared.node.Kind.TheVariants.{Group, Item as ItemKind}
+use Rattle.cob_copybook_tree.specs.Forests.{Forest, Bare, Grows}
+use Rattle.cob_copybook_tree.specs.Nodes.{Resolved}
+use Rattle.cob_copybook_tree.specs.Lengths.{most, sum_of}
+use Rattle.cob_move_initial.specs.Values.{HoldCharacters, HoldsItem}
 
 -- so many parts, one behind another, each of which is so
 abbrev pub AreParts : (List ℕ → Type 0) → ℕ → List ℕ → Type 0

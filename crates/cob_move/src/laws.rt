@@ -2,7 +2,7 @@
 
 ghost use Rattle.cob_move.specs.Laws.{OneInitial};
 
-use cob_values::{one_constant, one_item};
+use cob_move_initial::{one_constant, one_item};
 
 /// A record has one storage before the first move.
 #[tactic(auto, using(crate::proofs::OneInitialLaw::one_initial))]

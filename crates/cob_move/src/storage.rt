@@ -1,20 +1,20 @@
 //! The storage of a record before the first move.
 
 ghost use Rattle.std.specs.Prelude.{◌≡◌, ℕ, ◌*◌, ◌<◌, length, take, None};
-ghost use Rattle.cob_tree.specs.Nodes.{node, forest};
-ghost use Rattle.cob_tree.specs.Lengths.{most, sum_of, element, whole};
-ghost use Rattle.cob_places.specs.Lengths.{alone};
-ghost use Rattle.cob_values.specs.Values.{repeated};
+ghost use Rattle.cob_copybook_tree.specs.Nodes.{node, forest};
+ghost use Rattle.cob_copybook_tree.specs.Lengths.{most, sum_of, element, whole};
+ghost use Rattle.cob_layout_places.specs.Lengths.{alone};
+ghost use Rattle.cob_move_initial.specs.Values.{repeated};
 ghost use Rattle.cob_move.specs.Initial.{HoldsElement, IsInitial};
 ghost use Rattle.cob_move.specs.Begun.{AreElements, IsBegun};
 ghost use Rattle.cob_move.specs.AtPlaces.{HoldAtPlaces};
 ghost use Rattle.cob_move.specs.Ready.{AreReady, IsReady};
 
 use cob_copybook::Book;
+use cob_copybook_tree::{Kind, Node, element_length, whole_length};
 use cob_layout::Layout;
+use cob_move_initial::{write_constant, write_item};
 use cob_sound::records_are_sound;
-use cob_tree::{Kind, Node, element_length, whole_length};
-use cob_values::{write_constant, write_item};
 
 /// Copies the first bytes, `size` of them, behind themselves, until they stand there so many times.
 fn repeat(bytes: &mut [u8], size: usize, times: usize)

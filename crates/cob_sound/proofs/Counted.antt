@@ -5,27 +5,27 @@ use Rattle.std.specs.List.{AllByRecursion}
 use Rattle.std.proofs.lemmas.Bool.{MatchBool-at_true}
 use Rattle.cob_picture.specs.Positions.{Seen}
 use Rattle.cob_picture.specs.Counts.{scale, size}
-use Rattle.cob_clauses.specs.declared.kinds.Usage.{Usage}
-use Rattle.cob_clauses.specs.declared.kinds.Usage.TheVariants.{Display}
-use Rattle.cob_clauses.specs.declared.kinds.Sign.{Sign}
-use Rattle.cob_entries.specs.Described as described
-use Rattle.cob_entries.specs.Described.{Described}
-use Rattle.cob_tree.specs.declared.node.Item.{Item}
-use Rattle.cob_tree.specs.declared.node.Kind.{Kind}
-use Rattle.cob_tree.specs.declared.node.Kind.TheVariants.{Item as ItemKind}
-use Rattle.cob_tree.specs.Forests.{Forest, Bare, Grows, Tree, flat, entries_in}
-use Rattle.cob_tree.specs.Nodes.{Resolved}
-use Rattle.cob_tree.specs.Lengths.{item_size}
-use Rattle.cob_tree.specs.Resolving.{inherited, is_numeric, kind_of, times_of, resolved_by, resolved}
-use Rattle.cob_names.specs.Bearers.{Bearer, bearers, bearer_at, with_name, Names, IsOnlyOne}
-use Rattle.cob_names.specs.Counts.{IsCount, IsCountOf, AreCounts}
-use Rattle.cob_areas.specs.Values.{is_number}
-use Rattle.cob_items.specs.Items.{IsNumberItem}
-use Rattle.cob_places.specs.declared.varying.Table.{Table}
-use Rattle.cob_places.specs.Lengths.{alone}
-use Rattle.cob_places.specs.Places.{or_else, choose}
-use Rattle.cob_places.specs.Counts.{table_of, tables_of, kind_in, kind_one, IsCountable}
-use Rattle.cob_values.specs.Values.{IsStorable}
+use Rattle.cob_copybook_clauses.specs.declared.kinds.Usage.{Usage}
+use Rattle.cob_copybook_clauses.specs.declared.kinds.Usage.TheVariants.{Display}
+use Rattle.cob_copybook_clauses.specs.declared.kinds.Sign.{Sign}
+use Rattle.cob_copybook_entries.specs.Described as described
+use Rattle.cob_copybook_entries.specs.Described.{Described}
+use Rattle.cob_copybook_tree.specs.declared.node.Item.{Item}
+use Rattle.cob_copybook_tree.specs.declared.node.Kind.{Kind}
+use Rattle.cob_copybook_tree.specs.declared.node.Kind.TheVariants.{Item as ItemKind}
+use Rattle.cob_copybook_tree.specs.Forests.{Forest, Bare, Grows, Tree, flat, entries_in}
+use Rattle.cob_copybook_tree.specs.Nodes.{Resolved}
+use Rattle.cob_copybook_tree.specs.Lengths.{item_size}
+use Rattle.cob_copybook_tree.specs.Resolving.{inherited, is_numeric, kind_of, times_of, resolved_by, resolved}
+use Rattle.cob_copybook_names.specs.Bearers.{Bearer, bearers, bearer_at, with_name, Names, IsOnlyOne}
+use Rattle.cob_copybook_names.specs.Counts.{IsCount, IsCountOf, AreCounts}
+use Rattle.cob_copybook_lengths.specs.Values.{is_number}
+use Rattle.cob_item.specs.Items.{IsNumberItem}
+use Rattle.cob_layout_places.specs.declared.varying.Table.{Table}
+use Rattle.cob_layout_places.specs.Lengths.{alone}
+use Rattle.cob_layout_places.specs.Places.{or_else, choose}
+use Rattle.cob_layout_places.specs.Counts.{table_of, tables_of, kind_in, kind_one, IsCountable}
+use Rattle.cob_move_initial.specs.Values.{IsStorable}
 use Rattle.cob_sound.specs.Sound.{IsStorableKind, AreStorable}
 use Rattle.cob_sound.proofs.Lists.{all_append, all_map, first_left, others_left, same, differs}
 

@@ -1,15 +1,15 @@
 -- The lengths and areas of a record are as its places need them.
 use Rattle.std.proofs.Common.{◌≡◌, subst, ap, ℕ, ◌+◌, ◌≤◌, List, [], ◌∷◌, refl, arith}
 use Rattle.std.specs.Prelude.{Option, Some, None}
-use Rattle.cob_tree.specs.declared.node.Kind.{Kind}
-use Rattle.cob_tree.specs.declared.node.Kind.TheVariants.{Group, Item as ItemKind}
-use Rattle.cob_tree.specs.Forests.{Forest, Bare, Grows, Tree}
-use Rattle.cob_tree.specs.Nodes.{Resolved}
-use Rattle.cob_tree.specs.Lengths.{most, room, sum_of, whole}
-use Rattle.cob_tree.specs.declared.lengths.TheConstants.{MAX_RECORD}
-use Rattle.cob_areas.specs.Areas as areas
-use Rattle.cob_areas.specs.Areas.{AreAreas, MayFollow, MayHold, joined}
-use Rattle.cob_places.specs.Lengths.{alone, area_by, MayOccur, AreInAreas, IsLeaf, AreLeaves}
+use Rattle.cob_copybook_tree.specs.declared.node.Kind.{Kind}
+use Rattle.cob_copybook_tree.specs.declared.node.Kind.TheVariants.{Group, Item as ItemKind}
+use Rattle.cob_copybook_tree.specs.Forests.{Forest, Bare, Grows, Tree}
+use Rattle.cob_copybook_tree.specs.Nodes.{Resolved}
+use Rattle.cob_copybook_tree.specs.Lengths.{most, room, sum_of, whole}
+use Rattle.cob_copybook_tree.specs.declared.lengths.TheConstants.{MAX_RECORD}
+use Rattle.cob_copybook_lengths.specs.Areas as areas
+use Rattle.cob_copybook_lengths.specs.Areas.{AreAreas, MayFollow, MayHold, joined}
+use Rattle.cob_layout_places.specs.Lengths.{alone, area_by, MayOccur, AreInAreas, IsLeaf, AreLeaves}
 
 -- each entry occurs once at least under greatest counts
 pub may_occur : (f : Forest Resolved) → areas.ArePossible f → MayOccur f

@@ -2,14 +2,14 @@
 use Rattle.std.proofs.Common.{◌≡◌, sym, subst, []}
 use Rattle.std.specs.Prelude.{None}
 use Rattle.std.specs.List.{AllByRecursion}
-use Rattle.cob_tree.specs.Forests.{Forest}
-use Rattle.cob_tree.specs.Nodes.{Resolved}
-use Rattle.cob_tree.specs.Resolving.{resolved}
-use Rattle.cob_areas.specs.Areas.{ArePossible}
+use Rattle.cob_copybook_tree.specs.Forests.{Forest}
+use Rattle.cob_copybook_tree.specs.Nodes.{Resolved}
+use Rattle.cob_copybook_tree.specs.Resolving.{resolved}
+use Rattle.cob_copybook_lengths.specs.Areas.{ArePossible}
 use Rattle.cob_copybook.proofs.Storages.{possible}
-use Rattle.cob_places.specs.Lengths.{alone, IsFit}
-use Rattle.cob_places.specs.Cover.{AreNumbered}
-use Rattle.cob_places.specs.Counts.{tables_of}
+use Rattle.cob_layout_places.specs.Lengths.{alone, IsFit}
+use Rattle.cob_layout_places.specs.Cover.{AreNumbered}
+use Rattle.cob_layout_places.specs.Counts.{tables_of}
 use Rattle.cob_sound.specs.Sound.{AreStorable, RecordsAreSound}
 use Rattle.cob_sound.proofs.Numbers.{numbered}
 use Rattle.cob_sound.proofs.Fits.{may_occur, leaves, in_areas, redefines_none, record_small}

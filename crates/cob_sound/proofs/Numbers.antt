@@ -1,11 +1,11 @@
 -- The entries of a record are numbered in order from 0.
 use Rattle.std.proofs.Common.{◌≡◌, sym, subst, ℕ, ◌+◌, List, refl, arith, Option}
-use Rattle.cob_clauses.specs.declared.kinds.Usage.{Usage}
-use Rattle.cob_clauses.specs.declared.kinds.Sign.{Sign}
-use Rattle.cob_entries.specs.Described.{Described}
-use Rattle.cob_tree.specs.Forests.{Forest, Bare, Grows, entries_in}
-use Rattle.cob_tree.specs.Resolving.{inherited, resolved}
-use Rattle.cob_places.specs.Cover.{AreNumbered}
+use Rattle.cob_copybook_clauses.specs.declared.kinds.Usage.{Usage}
+use Rattle.cob_copybook_clauses.specs.declared.kinds.Sign.{Sign}
+use Rattle.cob_copybook_entries.specs.Described.{Described}
+use Rattle.cob_copybook_tree.specs.Forests.{Forest, Bare, Grows, entries_in}
+use Rattle.cob_copybook_tree.specs.Resolving.{inherited, resolved}
+use Rattle.cob_layout_places.specs.Cover.{AreNumbered}
 
 -- what entries inherit adds none
 pub same_entries : (counts : List ℕ) (n : ℕ) (usage : Option Usage) (sign : Option Sign) (f : Forest Described) → entries_in (resolved counts n usage sign f) ≡ entries_in f

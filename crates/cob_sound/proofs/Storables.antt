@@ -5,17 +5,17 @@ use Rattle.cob_picture.specs.Positions.{Seen}
 use Rattle.cob_picture.specs.Counts.{size, signed}
 use Rattle.cob_picture.specs.declared.category.Category.{Category}
 use Rattle.cob_picture.specs.declared.category.Category.TheVariants.{Alphabetic, Numeric, Alphanumeric, AlphanumericEdited, NumericEdited}
-use Rattle.cob_clauses.specs.declared.kinds.Usage.{Usage}
-use Rattle.cob_clauses.specs.declared.kinds.Usage.TheVariants.{Display, Binary, Packed}
-use Rattle.cob_clauses.specs.declared.kinds.Sign.{Sign}
-use Rattle.cob_entries.specs.Described.{Described}
-use Rattle.cob_tree.specs.declared.node.Item.{Item}
-use Rattle.cob_tree.specs.Forests.{Forest, Bare, Grows, entries_in}
-use Rattle.cob_tree.specs.Lengths.{stored_size}
-use Rattle.cob_tree.specs.Resolving.{inherited, is_numeric, is_display, keeps_sign, acting, kind_of, resolved}
-use Rattle.cob_rules.specs.Usages.{AreUsages, MayHave, Takes}
-use Rattle.cob_rules.specs.Placements.{ArePlaced, MayBeBlank, CanBeBlank}
-use Rattle.cob_items.specs.Items.{IsTaken, IsNumberItem, display_form, form_by, is_separate}
+use Rattle.cob_copybook_clauses.specs.declared.kinds.Usage.{Usage}
+use Rattle.cob_copybook_clauses.specs.declared.kinds.Usage.TheVariants.{Display, Binary, Packed}
+use Rattle.cob_copybook_clauses.specs.declared.kinds.Sign.{Sign}
+use Rattle.cob_copybook_entries.specs.Described.{Described}
+use Rattle.cob_copybook_tree.specs.declared.node.Item.{Item}
+use Rattle.cob_copybook_tree.specs.Forests.{Forest, Bare, Grows, entries_in}
+use Rattle.cob_copybook_tree.specs.Lengths.{stored_size}
+use Rattle.cob_copybook_tree.specs.Resolving.{inherited, is_numeric, is_display, keeps_sign, acting, kind_of, resolved}
+use Rattle.cob_copybook_rules.specs.Usages.{AreUsages, MayHave, Takes}
+use Rattle.cob_copybook_rules.specs.Placements.{ArePlaced, MayBeBlank, CanBeBlank}
+use Rattle.cob_item.specs.Items.{IsTaken, IsNumberItem, display_form, form_by, is_separate}
 use Rattle.cob_sound.specs.Sound.{IsStorableKind, AreStorable}
 
 -- an item with a sign that acts where it may

@@ -1,15 +1,15 @@
 -- What holds of the tree of every record description.
 use Rattle.std.specs.Prelude.{◌≡◌, false, None}
-use Rattle.cob_tree.specs.declared.node.Kind.{Kind}
-use Rattle.cob_tree.specs.declared.node.Kind.TheVariants.{Group, Item as ItemKind}
-use Rattle.cob_tree.specs.Forests.{Forest, Bare, Grows, Tree}
-use Rattle.cob_tree.specs.Nodes.{Resolved}
-use Rattle.cob_areas.specs.Values.{AreValues}
+use Rattle.cob_copybook_tree.specs.declared.node.Kind.{Kind}
+use Rattle.cob_copybook_tree.specs.declared.node.Kind.TheVariants.{Group, Item as ItemKind}
+use Rattle.cob_copybook_tree.specs.Forests.{Forest, Bare, Grows, Tree}
+use Rattle.cob_copybook_tree.specs.Nodes.{Resolved}
+use Rattle.cob_copybook_lengths.specs.Values.{AreValues}
 use Rattle.cob_copybook.specs.Records.{IsRecord}
-use Rattle.cob_places.specs.Lengths.{alone, IsFit}
-use Rattle.cob_places.specs.Cover.{AreNumbered}
-use Rattle.cob_places.specs.Counts.{AreCountable, tables_of}
-use Rattle.cob_values.specs.Values.{IsStorable}
+use Rattle.cob_layout_places.specs.Lengths.{alone, IsFit}
+use Rattle.cob_layout_places.specs.Cover.{AreNumbered}
+use Rattle.cob_layout_places.specs.Counts.{AreCountable, tables_of}
+use Rattle.cob_move_initial.specs.Values.{IsStorable}
 
 -- an item can be stored
 abbrev pub IsStorableKind : Kind → Type 0

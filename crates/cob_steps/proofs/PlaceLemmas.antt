@@ -1,17 +1,17 @@
 -- Where items stand that are no tables and stand beneath none.
 use Rattle.std.proofs.Common.{◌≡◌, ◌⊎◌, ℕ, List, [], ◌∷◌, refl, sym, ap, ◌∙◌, Option, Some, None, Bool, true, false, Ok, Err, Result, inl, inr, ◌==◌}
 use Rattle.std.specs.Prelude.{option_map}
-use Rattle.cob_tree.specs.declared.node.Item.{Item}
-use Rattle.cob_tree.specs.declared.node.Kind.{Kind}
-use Rattle.cob_tree.specs.declared.node.Kind.TheVariants.{Item as ItemKind}
-use Rattle.cob_tree.specs.declared.node.Times.{Times}
-use Rattle.cob_tree.specs.declared.node.Times.TheVariants.{Once, Fixed, Varying}
-use Rattle.cob_tree.specs.Forests.{Forest, Bare, Grows}
-use Rattle.cob_tree.specs.Nodes.{Resolved}
-use Rattle.cob_tree.specs.Lengths.{one, sum_of, item_size, most}
-use Rattle.cob_places.specs.declared.places.Found.{Found}
-use Rattle.cob_places.specs.Places.{find, or_else, choose, also, is_table, is_there, later}
-use Rattle.cob_places.specs.Counts.{kind_in}
+use Rattle.cob_copybook_tree.specs.declared.node.Item.{Item}
+use Rattle.cob_copybook_tree.specs.declared.node.Kind.{Kind}
+use Rattle.cob_copybook_tree.specs.declared.node.Kind.TheVariants.{Item as ItemKind}
+use Rattle.cob_copybook_tree.specs.declared.node.Times.{Times}
+use Rattle.cob_copybook_tree.specs.declared.node.Times.TheVariants.{Once, Fixed, Varying}
+use Rattle.cob_copybook_tree.specs.Forests.{Forest, Bare, Grows}
+use Rattle.cob_copybook_tree.specs.Nodes.{Resolved}
+use Rattle.cob_copybook_tree.specs.Lengths.{one, sum_of, item_size, most}
+use Rattle.cob_layout_places.specs.declared.places.Found.{Found}
+use Rattle.cob_layout_places.specs.Places.{find, or_else, choose, also, is_table, is_there, later}
+use Rattle.cob_layout_places.specs.Counts.{kind_in}
 use Rattle.cob_fields.specs.declared.Place.{Place}
 use Rattle.cob_layout.specs.declared.reference.PlaceFault.{PlaceFault}
 use Rattle.cob_layout.specs.References.{IsSubscripted, Refers, placed}

@@ -1,11 +1,11 @@
 -- The steps of a conversion's moves.
 use Rattle.std.proofs.Common.{◌≡◌, ℕ, ◌+◌, ◌<◌, ◌≤◌, List, [], ◌∷◌, ◌++◌, length, get_or, take, refl, sym, ap, subst, arith, zero, suc}
-use Rattle.cob_tree.specs.Forests.{Forest}
-use Rattle.cob_tree.specs.Nodes.{Resolved}
-use Rattle.cob_tree.specs.Lengths.{item_size, most}
+use Rattle.cob_copybook_tree.specs.Forests.{Forest}
+use Rattle.cob_copybook_tree.specs.Nodes.{Resolved}
+use Rattle.cob_copybook_tree.specs.Lengths.{item_size, most}
 use Rattle.cob_fields.specs.declared.Place.{Place}
-use Rattle.cob_places.specs.Counts.{kind_in}
-use Rattle.cob_places.specs.Places.{find}
+use Rattle.cob_layout_places.specs.Counts.{kind_in}
+use Rattle.cob_layout_places.specs.Places.{find}
 use Rattle.cob_steps.specs.declared.plan.Category.{Category}
 use Rattle.cob_steps.specs.declared.plan.Category.TheVariants.{Numeric}
 use Rattle.cob_steps.specs.declared.plan.Move.{Move}

@@ -4,17 +4,17 @@ use Rattle.std.specs.List.{AllByRecursion}
 use Rattle.cob_decimal.specs.declared.TheConstants.{MAX_DIGITS}
 use Rattle.cob_picture.specs.Counts.{scale, signed}
 use Rattle.cob_picture.specs.declared.category.Category.TheVariants as picture
-use Rattle.cob_clauses.specs.declared.kinds.Usage.TheVariants.{Display}
-use Rattle.cob_tree.specs.declared.node.Item.{Item}
-use Rattle.cob_tree.specs.declared.node.Kind.TheVariants.{Item as ItemKind}
-use Rattle.cob_tree.specs.declared.node.Times.TheVariants.{Once}
-use Rattle.cob_tree.specs.Forests.{Forest, Bare, Grows}
-use Rattle.cob_tree.specs.Nodes.{Resolved}
-use Rattle.cob_tree.specs.Lengths.{item_size, most, sum_of}
-use Rattle.cob_areas.specs.Areas.{hold_varying}
+use Rattle.cob_copybook_clauses.specs.declared.kinds.Usage.TheVariants.{Display}
+use Rattle.cob_copybook_tree.specs.declared.node.Item.{Item}
+use Rattle.cob_copybook_tree.specs.declared.node.Kind.TheVariants.{Item as ItemKind}
+use Rattle.cob_copybook_tree.specs.declared.node.Times.TheVariants.{Once}
+use Rattle.cob_copybook_tree.specs.Forests.{Forest, Bare, Grows}
+use Rattle.cob_copybook_tree.specs.Nodes.{Resolved}
+use Rattle.cob_copybook_tree.specs.Lengths.{item_size, most, sum_of}
+use Rattle.cob_copybook_lengths.specs.Areas.{hold_varying}
 use Rattle.cob_copybook.specs.Records.{IsRecord}
-use Rattle.cob_places.specs.Places.{find}
-use Rattle.cob_places.specs.Counts.{kind_in}
+use Rattle.cob_layout_places.specs.Places.{find}
+use Rattle.cob_layout_places.specs.Counts.{kind_in}
 use Rattle.cob_fields.specs.declared.Place.{Place}
 use Rattle.cob_layout.specs.References.{placed}
 use Rattle.cob_move.specs.Initial.{IsInitial}

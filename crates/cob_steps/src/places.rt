@@ -1,7 +1,7 @@
 //! The places of the items of moves, found once.
 
 ghost use Rattle.std.specs.Prelude.{◌≡◌, ◌≤◌, ◌+◌, length, IfOk};
-ghost use Rattle.cob_places.specs.Lengths.{alone};
+ghost use Rattle.cob_layout_places.specs.Lengths.{alone};
 ghost use Rattle.cob_steps.specs.Records.{AreStepsOf, IsConversion, IsMove, IsPossible, IsSingle, StandsAt, record_length};
 
 use crate::plan::{Move, Step};

@@ -1,6 +1,6 @@
 ghost use Rattle.std.specs.Prelude.{◌≡◌, ◌<◌, ◌≤◌, length, IfOk, IfErr, OnOk};
-ghost use Rattle.cob_places.specs.Lengths.{alone};
-ghost use Rattle.cob_tree.specs.declared.lengths.TheConstants.{MAX_RECORD};
+ghost use Rattle.cob_layout_places.specs.Lengths.{alone};
+ghost use Rattle.cob_copybook_tree.specs.declared.lengths.TheConstants.{MAX_RECORD};
 
 use crate::moves::make_move;
 use crate::places::steps_of;
@@ -68,7 +68,7 @@ pub struct Plan {
 }
 
 impl Model for Plan {
-    ghost use Rattle.cob_places.specs.Lengths.{alone};
+    ghost use Rattle.cob_layout_places.specs.Lengths.{alone};
     ghost use Rattle.cob_steps.specs.Records.{Conversion, IsPrepared};
     ghost use Rattle.std.specs.Coded.{codes};
     ghost use Rattle.cob_copybook.specs.Codes.{coded_forest};

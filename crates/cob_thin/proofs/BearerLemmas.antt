@@ -3,7 +3,7 @@ use Rattle.std.proofs.Common.{◌≡◌, ◌⊎◌, ℕ, List, [], ◌∷◌, �
 use Rattle.std.specs.Cmp.Lexicographic.{pointwise, bytes_decides}
 use Rattle.std.specs.Bool.{nat_eq}
 use Rattle.std.proofs.lemmas.List.{map-append}
-use Rattle.cob_tree.specs.Nodes.{Resolved}
+use Rattle.cob_copybook_tree.specs.Nodes.{Resolved}
 use Rattle.cob_thin.specs.declared.bearer.Bearer as found
 use Rattle.cob_thin.specs.declared.bearer.Borne.{Borne}
 use Rattle.cob_thin.specs.declared.bearer.Borne.TheVariants.{Once, Often}

@@ -1,8 +1,8 @@
 -- Paragraphs read line by line.
 use Rattle.std.proofs.Common.{◌≡◌, ℕ, ◌<◌, List, [], ◌∷◌, ◌++◌, length, map, refl, ap, sym, ◌∙◌, subst, append_assoc, arith}
 use Rattle.std.proofs.lemmas.List.{map-append, append-nil}
-use Rattle.cob_tree.specs.Forests.{Forest}
-use Rattle.cob_tree.specs.Nodes.{Resolved}
+use Rattle.cob_copybook_tree.specs.Forests.{Forest}
+use Rattle.cob_copybook_tree.specs.Nodes.{Resolved}
 use Rattle.cob_steps.specs.declared.plan.Move.{Move}
 use Rattle.cob_thin.specs.Words.{ArePlain, words_of}
 use Rattle.cob_thin.specs.Paragraphs.{Pair, pair_words, move_line, IsMoveOf, AreMovesOf, IsParagraph}

@@ -1,12 +1,12 @@
 -- The bearers among nodes.
 use Rattle.std.proofs.Common.{◌≡◌, ℕ, ◌+◌, ◌<◌, Bool, ◌||◌, List, [], ◌∷◌, ◌++◌, length, drop, get_or, sym, ap, ◌∙◌, append_assoc}
 use Rattle.std.proofs.lemmas.List.{at_drop_more}
-use Rattle.cob_tree.specs.declared.node.Node.{Node}
-use Rattle.cob_tree.specs.declared.node.Node.TheViews.{out-Node}
-use Rattle.cob_tree.specs.declared.node.Node.TheFolds.{fold_out-Node}
-use Rattle.cob_tree.specs.Forests.{Forest, Tree, Grows}
-use Rattle.cob_tree.specs.Nodes.{Resolved, resolved_entry, node, node_step, forest}
-use Rattle.cob_places.specs.Places.{is_table}
+use Rattle.cob_copybook_tree.specs.declared.node.Node.{Node}
+use Rattle.cob_copybook_tree.specs.declared.node.Node.TheViews.{out-Node}
+use Rattle.cob_copybook_tree.specs.declared.node.Node.TheFolds.{fold_out-Node}
+use Rattle.cob_copybook_tree.specs.Forests.{Forest, Tree, Grows}
+use Rattle.cob_copybook_tree.specs.Nodes.{Resolved, resolved_entry, node, node_step, forest}
+use Rattle.cob_layout_places.specs.Places.{is_table}
 use Rattle.cob_thin.specs.Bearers.{Bearer, bearer_at, bearers}
 
 node_out : (n : Node) → node n ≡ record { top = resolved_entry (out-Node n); beneath = forest (out-Node n).children.items }

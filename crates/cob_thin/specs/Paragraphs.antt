@@ -1,7 +1,7 @@
 -- How paragraphs of moves are spelled, and what their names mean.
 use Rattle.std.specs.Prelude.{◌≡◌, ◌⊎◌, ℕ, ◌<◌, List, [], ◌∷◌, ◌++◌, length, map, codes, Some}
-use Rattle.cob_tree.specs.Forests.{Forest, flat}
-use Rattle.cob_tree.specs.Nodes.{Resolved}
+use Rattle.cob_copybook_tree.specs.Forests.{Forest, flat}
+use Rattle.cob_copybook_tree.specs.Nodes.{Resolved}
 use Rattle.cob_steps.specs.declared.plan.Move.{Move}
 use Rattle.cob_steps.specs.Records.{IsMove}
 use Rattle.cob_thin.specs.Words.{ArePlain, words_of}

@@ -1,12 +1,12 @@
 //! Entries and their names.
 
 ghost use Rattle.std.specs.Prelude.{◌≡◌, ◌||◌, List, [], ◌∷◌, ◌++◌, OnOk};
-ghost use Rattle.cob_tree.specs.Nodes.{forest};
-ghost use Rattle.cob_places.specs.Places.{is_table};
+ghost use Rattle.cob_copybook_tree.specs.Nodes.{forest};
+ghost use Rattle.cob_layout_places.specs.Places.{is_table};
 ghost use Rattle.cob_thin.specs.Bearers.{Bearer as SeenBearer, Knows, bearer_at, bearers};
 
-use cob_places::is_table;
-use cob_tree::{Node, Times};
+use cob_copybook_tree::{Node, Times};
+use cob_layout_places::is_table;
 use indexmap::IndexMap;
 use std::alloc::AllocError;
 

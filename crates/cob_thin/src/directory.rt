@@ -1,7 +1,7 @@
 //! The entries of a record by their names.
 
 ghost use Rattle.std.specs.Prelude.{◌≡◌, false, IfOk, IfSome, IsTrue, IsFalse};
-ghost use Rattle.cob_tree.specs.Forests.{flat};
+ghost use Rattle.cob_copybook_tree.specs.Forests.{flat};
 ghost use Rattle.cob_thin.specs.Bearers.{bearers, bearer_of, IsOnlyBearer};
 ghost use Rattle.cob_thin.specs.Paragraphs.{NoneBears};
 
@@ -25,10 +25,10 @@ pub(crate) struct Directory<'a> {
 impl<'a> Model for Directory<'a> {
     ghost use Rattle.std.specs.Prelude.{false};
     ghost use Rattle.std.specs.Coded.{codes};
-    ghost use Rattle.cob_tree.specs.Forests.{Forest};
-    ghost use Rattle.cob_tree.specs.Nodes.{Resolved};
+    ghost use Rattle.cob_copybook_tree.specs.Forests.{Forest};
+    ghost use Rattle.cob_copybook_tree.specs.Nodes.{Resolved};
     ghost use Rattle.cob_copybook.specs.Codes.{coded_forest};
-    ghost use Rattle.cob_places.specs.Cover.{AreNumbered};
+    ghost use Rattle.cob_layout_places.specs.Cover.{AreNumbered};
     ghost use Rattle.cob_thin.specs.Bearers.{bearers, Knows};
 
     ghost Value = { Forest Resolved };
@@ -41,7 +41,7 @@ impl<'a> Model for Directory<'a> {
 }
 
 impl<'a> Directory<'a> {
-    ghost use Rattle.cob_places.specs.Cover.{AreNumbered};
+    ghost use Rattle.cob_layout_places.specs.Cover.{AreNumbered};
 
     /// The directory of a record.
     ///

@@ -16,7 +16,7 @@
 //! refused, is shown by tests alone.
 //!
 //! The names of each record are looked up in a directory that is made once. The crate stands on `cob_copybook` for the records, on
-//! `cob_tree` and `cob_picture` for their entries and items, on `cob_steps`, which owns moves and says which are allowed, on
+//! `cob_copybook_tree` and `cob_picture` for their entries and items, on `cob_steps`, which owns moves and says which are allowed, on
 //! `cob_decimal` for the limit of 31 digits, and on `indexmap` for the directory.
 #![tactic(auto)]
 

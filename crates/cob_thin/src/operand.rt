@@ -6,11 +6,11 @@ ghost use Rattle.cob_thin.specs.Paragraphs.{Means, IsMoveOf};
 ghost use Rattle.cob_thin.specs.Bearers.{IsMovable, IsMeant};
 
 use crate::directory::Directory;
-use cob_clauses::Usage;
+use cob_copybook_clauses::Usage;
+use cob_copybook_tree::{Item, Kind};
 use cob_decimal::MAX_DIGITS;
 use cob_picture::Category as PictureCategory;
 use cob_steps::{Category, Move};
-use cob_tree::{Item, Kind};
 
 /// What a name in a move means: the number of an item, and its category.
 #[derive(Clone, Copy)]

@@ -1,6 +1,6 @@
 use Rattle.std.proofs.Common.{◌≡◌, drop}
-use Rattle.cob_tree.specs.Nodes.{forest}
-use Rattle.cob_areas.specs.Areas.{hold_varying}
+use Rattle.cob_copybook_tree.specs.Nodes.{forest}
+use Rattle.cob_copybook_lengths.specs.Areas.{hold_varying}
 use Rattle.cob_convert.proofs.books.+first_varying.Given as goal
 
 abbrev pub decreases-first_varying : goal.decreases-first_varying

@@ -1,8 +1,8 @@
 use Rattle.std.proofs.Common.{sym, ◌∙◌, subst, [], ◌∷◌}
 use Rattle.std.specs.Prelude.{None}
 use Rattle.std.proofs.lemmas.Result.{err_from_is_err_and}
-use Rattle.cob_tree.specs.Branches.{forest_of}
-use Rattle.cob_areas.specs.Areas.{ArePossible}
+use Rattle.cob_copybook_tree.specs.Branches.{forest_of}
+use Rattle.cob_copybook_lengths.specs.Areas.{ArePossible}
 use Rattle.cob_copybook.proofs.storage.storage_of.Goals as goal
 use Rattle.cob_copybook.proofs.Storages.{possible, same_record, unfit}
 

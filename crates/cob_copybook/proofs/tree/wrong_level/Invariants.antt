@@ -1,8 +1,8 @@
 use Rattle.std.proofs.Common.{map}
 use Rattle.std.specs.List.{AllByRecursion}
 use Rattle.std.specs.Prelude.{drop}
-use Rattle.cob_entries.specs.Described.{described}
-use Rattle.cob_tree.specs.Branches.{IsBelow}
+use Rattle.cob_copybook_entries.specs.Described.{described}
+use Rattle.cob_copybook_tree.specs.Branches.{IsBelow}
 use Rattle.cob_copybook.proofs.tree.wrong_level.Given as goal
 
 -- what is left decides for all

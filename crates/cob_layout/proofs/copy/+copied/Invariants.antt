@@ -1,5 +1,5 @@
 use Rattle.std.proofs.Common.{◌≡◌, ◌++◌, drop, map}
-use Rattle.cob_tree.specs.Nodes.{node}
+use Rattle.cob_copybook_tree.specs.Nodes.{node}
 use Rattle.cob_layout.proofs.copy.+copied.Given as goal
 
 abbrev pub decreases-copied : goal.decreases-copied

@@ -1,5 +1,5 @@
 use Rattle.cob_layout.specs.References.{Refers}
-use Rattle.cob_tree.specs.Nodes.{forest}
+use Rattle.cob_copybook_tree.specs.Nodes.{forest}
 use Rattle.std.proofs.Common.{drop}
 use Rattle.cob_layout.proofs.tests.+refers.Given as goal
 

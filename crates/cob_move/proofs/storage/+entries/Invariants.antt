@@ -1,7 +1,7 @@
 use Rattle.std.proofs.Common.{◌≡◌, ◌+◌, ℕ, List, ◌++◌, length, take}
-use Rattle.cob_tree.specs.Nodes.{forest}
-use Rattle.cob_tree.specs.Lengths.{most, sum_of}
-use Rattle.cob_places.proofs.ForestLemmas.{left}
+use Rattle.cob_copybook_tree.specs.Nodes.{forest}
+use Rattle.cob_copybook_tree.specs.Lengths.{most, sum_of}
+use Rattle.cob_layout_places.proofs.ForestLemmas.{left}
 use Rattle.cob_move.specs.Begun.{IsBegun}
 use Rattle.cob_move.specs.Ready.{AreReady}
 use Rattle.cob_move.proofs.storage.+entries.Given as goal

@@ -1,10 +1,10 @@
 use Rattle.std.proofs.Common.{◌≡◌, sym, ◌∙◌, ap, subst, List, ℕ, [], Some, Err, Option}
 use Rattle.std.specs.Prelude.{option_map}
-use Rattle.cob_tree.specs.Lengths.{most}
-use Rattle.cob_places.specs.declared.places.Found.{Found}
-use Rattle.cob_places.specs.Lengths.{alone, times}
-use Rattle.cob_places.specs.Places.{find}
-use Rattle.cob_places.specs.Counts.{kind_in}
+use Rattle.cob_copybook_tree.specs.Lengths.{most}
+use Rattle.cob_layout_places.specs.declared.places.Found.{Found}
+use Rattle.cob_layout_places.specs.Lengths.{alone, times}
+use Rattle.cob_layout_places.specs.Places.{find}
+use Rattle.cob_layout_places.specs.Counts.{kind_in}
 use Rattle.cob_layout.specs.References.{Refers, placed}
 use Rattle.cob_steps.proofs.PlaceLemmas.{single_refers, not_past, pairs}
 use Rattle.cob_steps.proofs.places.place_of.Goals as goal

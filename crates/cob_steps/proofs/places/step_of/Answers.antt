@@ -1,5 +1,5 @@
 use Rattle.std.proofs.Common.{refl}
-use Rattle.cob_places.specs.Lengths.{alone}
+use Rattle.cob_layout_places.specs.Lengths.{alone}
 use Rattle.cob_steps.proofs.StepLemmas.{operand_some, operand_most}
 use Rattle.cob_steps.proofs.places.step_of.Goals as goal
 

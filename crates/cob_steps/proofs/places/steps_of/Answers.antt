@@ -1,4 +1,4 @@
-use Rattle.cob_places.specs.Lengths.{alone}
+use Rattle.cob_layout_places.specs.Lengths.{alone}
 use Rattle.cob_steps.specs.Records.{Conversion}
 use Rattle.cob_steps.proofs.StepLemmas.{next_step}
 use Rattle.cob_steps.proofs.places.steps_of.Goals as goal

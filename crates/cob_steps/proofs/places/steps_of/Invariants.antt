@@ -1,5 +1,5 @@
 use Rattle.std.proofs.Common.{take}
-use Rattle.cob_places.specs.Lengths.{alone}
+use Rattle.cob_layout_places.specs.Lengths.{alone}
 use Rattle.cob_steps.specs.Records.{AreStepsOf}
 use Rattle.cob_steps.proofs.places.steps_of.Given as goal
 

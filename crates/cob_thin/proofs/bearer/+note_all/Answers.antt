@@ -1,7 +1,7 @@
 use Rattle.std.proofs.Common.{◌≡◌, ◌++◌, [], ◌∷◌, List, drop, sym, subst, ap, ◌∙◌, arith}
 use Rattle.std.proofs.lemmas.List.{drop_all, append-nil}
-use Rattle.cob_tree.specs.declared.node.Node.{Node}
-use Rattle.cob_tree.specs.Nodes.{forest}
+use Rattle.cob_copybook_tree.specs.declared.node.Node.{Node}
+use Rattle.cob_copybook_tree.specs.Nodes.{forest}
 use Rattle.cob_thin.specs.Bearers.{Bearer, Knows, bearers, bearer_at}
 use Rattle.cob_thin.proofs.NodeLemmas.{next_done}
 use Rattle.cob_thin.proofs.bearer.+note_all.Goals as goal

@@ -1,5 +1,5 @@
 use Rattle.std.proofs.Common.{◌≡◌, ◌++◌, List, drop}
-use Rattle.cob_tree.specs.Nodes.{forest}
+use Rattle.cob_copybook_tree.specs.Nodes.{forest}
 use Rattle.cob_thin.specs.Bearers.{Bearer, Knows, bearers}
 use Rattle.cob_thin.proofs.bearer.+note_all.Given as goal
 

@@ -1,8 +1,8 @@
 use Rattle.std.proofs.Common.{subst, arith, ◌≤◌, ◌*◌}
-use Rattle.cob_tree.specs.Nodes.{node}
-use Rattle.cob_tree.specs.Lengths.{most, sum_of}
-use Rattle.cob_places.specs.Lengths.{alone, times}
-use Rattle.cob_places.specs.Cover.{IsCovered}
+use Rattle.cob_copybook_tree.specs.Nodes.{node}
+use Rattle.cob_copybook_tree.specs.Lengths.{most, sum_of}
+use Rattle.cob_layout_places.specs.Lengths.{alone, times}
+use Rattle.cob_layout_places.specs.Cover.{IsCovered}
 use Rattle.cob_layout.proofs.RecordLemmas.{length_least, length_small}
 use Rattle.cob_layout.proofs.layout.Layout.length.Goals as goal
 

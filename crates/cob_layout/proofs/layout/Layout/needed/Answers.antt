@@ -1,8 +1,8 @@
 use Rattle.std.proofs.Common.{◌≡◌, ap, ◌∙◌, length, arith}
 use Rattle.std.proofs.lemmas.List.{length-replicate}
-use Rattle.cob_tree.specs.Forests.{entries_in}
-use Rattle.cob_tree.specs.Nodes.{node}
-use Rattle.cob_places.specs.Lengths.{alone}
+use Rattle.cob_copybook_tree.specs.Forests.{entries_in}
+use Rattle.cob_copybook_tree.specs.Nodes.{node}
+use Rattle.cob_layout_places.specs.Lengths.{alone}
 use Rattle.cob_layout.proofs.RecordLemmas.{number_below, slots_for}
 use Rattle.cob_layout.proofs.layout.Layout.needed.Goals as goal
 

@@ -1,5 +1,0 @@
-use Rattle.cob_clauses.proofs.OneLemmas.{one_entry}
-use Rattle.cob_clauses.proofs.laws.one_entry.Goals as goal
-
-pub returns : goal.returns
-returns c = one_entry

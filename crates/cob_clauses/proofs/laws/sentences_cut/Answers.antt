@@ -1,5 +1,0 @@
-use Rattle.cob_clauses.proofs.CutLemmas.{cut}
-use Rattle.cob_clauses.proofs.laws.sentences_cut.Goals as goal
-
-pub returns : goal.returns
-returns c = cut

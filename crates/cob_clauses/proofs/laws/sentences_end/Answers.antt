@@ -1,5 +1,0 @@
-use Rattle.cob_clauses.proofs.CutLemmas.{ends}
-use Rattle.cob_clauses.proofs.laws.sentences_end.Goals as goal
-
-pub returns : goal.returns
-returns c = ends

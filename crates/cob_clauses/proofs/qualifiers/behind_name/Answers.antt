@@ -1,6 +1,0 @@
-use Rattle.std.proofs.Common.{ap}
-use Rattle.cob_source.specs.Tokens.{lexeme, lexemes}
-use Rattle.cob_clauses.proofs.qualifiers.behind_name.Goals as goal
-
-pub returns-clause-found : goal.returns-clause-found
-returns-clause-found c = (lexeme c.in_ok-first.first.now, c.is_name_word.ensures.0 c.if-not-is_name_word.false, ap lexemes c.in_ok-first.ensures.cases.0)

@@ -1,5 +1,0 @@
-use Rattle.cob_clauses.proofs.TableLemmas.{front_is}
-use Rattle.cob_clauses.proofs.qualifiers.front.Goals as goal
-
-pub returns : goal.returns
-returns c = front_is c.args.words.now c.args.behind

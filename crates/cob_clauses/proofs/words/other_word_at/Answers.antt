@@ -1,6 +1,0 @@
-use Rattle.std.proofs.Common.{ap, sym, rules}
-use Rattle.cob_source.specs.Tokens.{lexeme, lexemes}
-use Rattle.cob_clauses.proofs.words.other_word_at.Goals as goal
-
-pub returns-clause-found : goal.returns-clause-found
-returns-clause-found c = (lexeme c.in_ok-first.first.now, record { word = c.is_word.ensures.0 c.if-not-is_word.false; same = sym c.as_slice.ensures.value }, search rules, ap lexemes c.in_ok-first.ensures.cases.0)

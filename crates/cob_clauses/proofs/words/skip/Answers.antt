@@ -1,5 +1,0 @@
-use Rattle.std.proofs.Common.{◌∷◌, []}
-use Rattle.cob_clauses.proofs.words.skip.Goals as goal
-
-pub returns-in-Some-clause-found : goal.returns-in-Some-clause-found
-returns-in-Some-clause-found c = let (w, is, e) = c.in-Some.ensures.found in (w ∷ [], is, e)

@@ -1,0 +1,97 @@
+-- What a word means to the grammar of entries.
+use Rattle.std.specs.Prelude.{ℕ, List, [], ◌∷◌, map, codes, if◌then◌else◌, bytes_eq}
+use denote.Ref.{Bor}
+use Rattle.cob_source.specs.Tokens.{Lexeme}
+use Rattle.cob_source.specs.declared.token.Kind.{Kind}
+use Rattle.cob_source.specs.declared.token.Kind.TheVariants as kind
+use Rattle.cob_copybook_clauses.specs.declared.term.Term.{Term}
+use Rattle.cob_copybook_clauses.specs.declared.term.Term.TheVariants as term
+
+-- a reserved word, and what it means
+pub record Keyword : Type 0 where
+  pub text : List ℕ
+  pub term : Term
+
+abbrev pub meaning : List ℕ → Term → Keyword
+meaning text term = record { text = text; term = term }
+
+-- a table of texts and what they mean, without where the texts lie in memory
+abbrev pub keywords : List (Bor (List ℕ) × Term) → List Keyword
+keywords table = map (λ k. meaning k.0.now k.1) table
+
+-- the words of the clauses of an entry
+abbrev pub clause_words : List Keyword
+clause_words =
+    meaning (codes "REDEFINES") term.Redefines ∷ meaning (codes "PICTURE") term.Picture ∷ meaning (codes "PIC") term.Picture
+    ∷ meaning (codes "IS") term.Is ∷ meaning (codes "USAGE") term.Usage ∷ meaning (codes "SIGN") term.Sign
+    ∷ meaning (codes "LEADING") term.Leading ∷ meaning (codes "TRAILING") term.Trailing
+    ∷ meaning (codes "SEPARATE") term.Separate ∷ meaning (codes "CHARACTER") term.Character
+    ∷ meaning (codes "OCCURS") term.Occurs ∷ meaning (codes "TIMES") term.Times ∷ meaning (codes "TO") term.To
+    ∷ meaning (codes "DEPENDING") term.Depending ∷ meaning (codes "ON") term.On
+    ∷ meaning (codes "OF") term.Of ∷ meaning (codes "IN") term.Of
+    ∷ meaning (codes "ASCENDING") term.Ordered ∷ meaning (codes "DESCENDING") term.Ordered ∷ meaning (codes "KEY") term.Key
+    ∷ meaning (codes "INDEXED") term.Indexed ∷ meaning (codes "BY") term.By
+    ∷ meaning (codes "VALUE") term.Value ∷ meaning (codes "VALUES") term.Value ∷ meaning (codes "ARE") term.Are
+    ∷ meaning (codes "JUSTIFIED") term.Justified ∷ meaning (codes "JUST") term.Justified ∷ meaning (codes "RIGHT") term.Right
+    ∷ meaning (codes "BLANK") term.Blank ∷ meaning (codes "WHEN") term.When ∷ meaning (codes "FILLER") term.Filler
+    ∷ []
+
+-- the words that name a usage
+abbrev pub usage_words : List Keyword
+usage_words =
+    meaning (codes "DISPLAY") term.Display
+    ∷ meaning (codes "COMP") term.Binary ∷ meaning (codes "COMPUTATIONAL") term.Binary
+    ∷ meaning (codes "COMP-4") term.Binary ∷ meaning (codes "COMPUTATIONAL-4") term.Binary ∷ meaning (codes "BINARY") term.Binary
+    ∷ meaning (codes "COMP-3") term.Packed ∷ meaning (codes "COMPUTATIONAL-3") term.Packed
+    ∷ meaning (codes "PACKED-DECIMAL") term.Packed
+    ∷ []
+
+-- the figurative constants
+abbrev pub figurative_words : List Keyword
+figurative_words =
+    meaning (codes "SPACE") term.Space ∷ meaning (codes "SPACES") term.Space
+    ∷ meaning (codes "ZERO") term.Zero ∷ meaning (codes "ZEROS") term.Zero ∷ meaning (codes "ZEROES") term.Zero
+    ∷ meaning (codes "HIGH-VALUE") term.HighValue ∷ meaning (codes "HIGH-VALUES") term.HighValue
+    ∷ meaning (codes "LOW-VALUE") term.LowValue ∷ meaning (codes "LOW-VALUES") term.LowValue
+    ∷ meaning (codes "QUOTE") term.Quote ∷ meaning (codes "QUOTES") term.Quote ∷ meaning (codes "ALL") term.All
+    ∷ []
+
+-- the words of a statement
+abbrev pub statement_words : List Keyword
+statement_words =
+    meaning (codes "MOVE") term.Statement ∷ meaning (codes "CORRESPONDING") term.Statement ∷ meaning (codes "CORR") term.Statement
+    ∷ []
+
+-- the words of what is left out by name
+abbrev pub left_out_words : List Keyword
+left_out_words =
+    meaning (codes "SYNC") term.LeftOut ∷ meaning (codes "SYNCHRONIZED") term.LeftOut
+    ∷ meaning (codes "COMP-1") term.LeftOut ∷ meaning (codes "COMP-2") term.LeftOut ∷ meaning (codes "COMP-5") term.LeftOut
+    ∷ meaning (codes "COMPUTATIONAL-1") term.LeftOut ∷ meaning (codes "COMPUTATIONAL-2") term.LeftOut
+    ∷ meaning (codes "COMPUTATIONAL-5") term.LeftOut
+    ∷ meaning (codes "INDEX") term.LeftOut ∷ meaning (codes "POINTER") term.LeftOut
+    ∷ meaning (codes "PROCEDURE-POINTER") term.LeftOut ∷ meaning (codes "FUNCTION-POINTER") term.LeftOut
+    ∷ meaning (codes "NATIONAL") term.LeftOut ∷ meaning (codes "DISPLAY-1") term.LeftOut
+    ∷ meaning (codes "EXTERNAL") term.LeftOut ∷ meaning (codes "GLOBAL") term.LeftOut ∷ meaning (codes "TYPEDEF") term.LeftOut
+    ∷ meaning (codes "GROUP-USAGE") term.LeftOut ∷ meaning (codes "UNBOUNDED") term.LeftOut
+    ∷ meaning (codes "COPY") term.LeftOut ∷ meaning (codes "REPLACE") term.LeftOut ∷ meaning (codes "EXEC") term.LeftOut
+    ∷ []
+
+-- what a word is by a table of keywords, else by what follows
+abbrev pub term_by : List Keyword → List ℕ → Term → Term
+term_by [] text other = other
+term_by (k ∷ ks) text other = if bytes_eq k.text text then k.term else term_by ks text other
+
+-- what a word is
+unfoldable pub term_of_word : List ℕ → Term
+term_of_word text =
+    term_by clause_words text (term_by usage_words text (term_by figurative_words text (term_by left_out_words text (term_by statement_words text term.Plain))))
+
+abbrev pub term_of_kind : Kind → List ℕ → Term
+term_of_kind kind.Word text = term_of_word text
+term_of_kind kind.Literal text = term.Literal
+term_of_kind kind.Stop text = term.Stop
+
+-- what a word, a literal or a Stop is
+abbrev pub term_of : Lexeme → Term
+term_of w = term_of_kind w.kind w.text

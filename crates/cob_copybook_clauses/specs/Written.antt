@@ -1,0 +1,80 @@
+-- Entries as they are written, without where their texts lie in memory.
+use Rattle.std.specs.Prelude.{ℕ, Bool, List, [], ◌∷◌, Option, option_map}
+use Rattle.cob_source.specs.Tokens.{Lexeme, lexemes}
+use Rattle.cob_copybook_clauses.specs.declared.kinds.Usage.{Usage}
+use Rattle.cob_copybook_clauses.specs.declared.kinds.Sign.{Sign}
+use Rattle.cob_copybook_clauses.specs.declared.kinds.Figurative.{Figurative}
+use Rattle.cob_copybook_clauses.specs.declared.parts.Constant.{Constant}
+use Rattle.cob_copybook_clauses.specs.declared.parts.Constant.TheVariants as constant
+use Rattle.cob_copybook_clauses.specs.declared.parts.Count.{Count}
+use Rattle.cob_copybook_clauses.specs.declared.parts.Table.{Table}
+use Rattle.cob_copybook_clauses.specs.declared.parts.Clauses.{Clauses}
+use Rattle.cob_copybook_clauses.specs.declared.parts.Written.{Written}
+
+-- the constant of a VALUE clause: a word, a literal's characters, a figurative constant, or ALL and a literal's characters
+pub data WrittenConstant : Type 0 where
+  Word : List ℕ → WrittenConstant
+  Quoted : List ℕ → WrittenConstant
+  Figure : Figurative → WrittenConstant
+  Repeated : List ℕ → WrittenConstant
+
+-- a name and its qualifiers, the nearest first
+pub record WrittenName : Type 0 where
+  pub name : List ℕ
+  pub qualifiers : List (List ℕ)
+
+-- an OCCURS clause: the word before TO, the number of times or the greatest one, and the count of a table that varies
+pub record WrittenTable : Type 0 where
+  pub least : Option (List ℕ)
+  pub most : List ℕ
+  pub count : Option WrittenName
+
+-- the clauses of an entry, each where it stands
+pub record WrittenClauses : Type 0 where
+  pub redefines : Option (List ℕ)
+  pub picture : Option (List ℕ)
+  pub usage : Option Usage
+  pub sign : Option Sign
+  pub occurs : Option WrittenTable
+  pub value : Option WrittenConstant
+  pub justified : Bool
+  pub blank : Bool
+
+-- an entry: its level, its name unless it has none or FILLER, and its clauses
+pub record WrittenEntry : Type 0 where
+  pub level : List ℕ
+  pub name : Option (List ℕ)
+  pub clauses : WrittenClauses
+
+abbrev pub written_constant : Constant → WrittenConstant
+written_constant (constant.Word text) = Word text.now
+written_constant (constant.Literal text) = Quoted text.now
+written_constant (constant.Figurative f) = Figure f
+written_constant (constant.All text) = Repeated text.now
+
+-- the names behind OF or IN
+abbrev pub names_behind : List Lexeme → List (List ℕ)
+names_behind [] = []
+names_behind (w ∷ []) = []
+names_behind (w ∷ n ∷ ws) = n.text ∷ names_behind ws
+
+abbrev pub written_name : Count → WrittenName
+written_name c = record { name = c.name.now; qualifiers = names_behind (lexemes c.qualifiers.now) }
+
+abbrev pub written_table : Table → WrittenTable
+written_table t = record { least = option_map (λ b. b.now) t.least; most = t.most.now; count = option_map written_name t.count }
+
+abbrev pub written_clauses : Clauses → WrittenClauses
+written_clauses c = record {
+  redefines = option_map (λ b. b.now) c.redefines;
+  picture = option_map (λ b. b.now) c.picture;
+  usage = c.usage;
+  sign = c.sign;
+  occurs = option_map written_table c.occurs;
+  value = option_map written_constant c.value;
+  justified = c.justified;
+  blank = c.blank;
+}
+
+abbrev pub written_entry : Written → WrittenEntry
+written_entry w = record { level = w.level.now; name = option_map (λ b. b.now) w.name; clauses = written_clauses w.clauses }

@@ -1,0 +1,219 @@
+ghost use Rattle.cob_copybook_clauses.specs.Clauses.{
+  Blank,
+  Clause,
+  IsSeparate,
+  Justified,
+  Occurs,
+  Picture,
+  Redefines,
+  Signed,
+  Spells,
+  Stored,
+  Value,
+  leading_of,
+  usage_of,
+};
+ghost use Rattle.cob_copybook_clauses.specs.Reading.{ClauseFirst, Stands, clause_of, kind_at, kind_of};
+ghost use Rattle.cob_copybook_clauses.specs.Written.{WrittenConstant, WrittenTable};
+ghost use Rattle.cob_source.specs.Tokens.{Lexeme, lexemes};
+ghost use Rattle.std.specs.Prelude.{
+  ◌++◌,
+  ◌∷◌,
+  ◌≡◌,
+  Bool,
+  IfSome,
+  IsSomeAnd,
+  List,
+  Some,
+  ℕ,
+};
+
+use crate::constant::constant_at;
+use crate::kinds::{Sign, Usage};
+use crate::parts::{Constant, Table};
+use crate::table::table_at;
+use crate::term::{Term, term_of};
+use crate::words::{behind, other_word_at, skip, skip_is_or_are, skip_prefix, word_at};
+use cob_source::Token;
+
+/// The kind of a clause.
+#[derive(Clone, Copy, Debug, PartialEq, Eq)]
+pub enum ClauseKind {
+    Redefines,
+    Picture,
+    Usage,
+    Sign,
+    Occurs,
+    Value,
+    Justified,
+    Blank,
+}
+
+/// One clause as it is written.
+#[derive(Clone, Copy, Debug)]
+pub enum Phrase<'a> {
+    Redefines(&'a [u8]),
+    Picture(&'a [u8]),
+    Usage(Usage),
+    Sign(Sign),
+    Occurs(Table<'a>),
+    Value(Constant<'a>),
+    Justified,
+    Blank,
+}
+
+/// The kind of the clause that a word begins, if it begins one.
+pub fn kind_at(term: Term) -> Option<ClauseKind>
+    ensures { result ≡ kind_at term }
+{
+    match term {
+        Term::Redefines => Some(ClauseKind::Redefines),
+        Term::Picture => Some(ClauseKind::Picture),
+        Term::Usage | Term::Display | Term::Binary | Term::Packed => Some(ClauseKind::Usage),
+        Term::Sign | Term::Leading | Term::Trailing => Some(ClauseKind::Sign),
+        Term::Occurs => Some(ClauseKind::Occurs),
+        Term::Value => Some(ClauseKind::Value),
+        Term::Justified => Some(ClauseKind::Justified),
+        Term::Blank => Some(ClauseKind::Blank),
+        _ => None,
+    }
+}
+
+/// The usage that a word names.
+fn usage_of(term: Term) -> Option<Usage>
+    ensures { result ≡ usage_of term }
+{
+    match term {
+        Term::Display => Some(Usage::Display),
+        Term::Binary => Some(Usage::Binary),
+        Term::Packed => Some(Usage::Packed),
+        _ => None,
+    }
+}
+
+/// Whether LEADING is said, or TRAILING.
+fn leading_of(term: Term) -> Option<bool>
+    ensures { result ≡ leading_of term }
+{
+    match term {
+        Term::Leading => Some(true),
+        Term::Trailing => Some(false),
+        _ => None,
+    }
+}
+
+/// REDEFINES and a word, and what is behind them.
+fn redefines_at(words: &[Token]) -> Option<(Phrase<'_>, &[Token])>
+    ensures found { IfSome result (λ r. Stands (clause_of r.0) (lexemes words.now) (lexemes r.1.now)) }
+    ensures only { (n : List ℕ) (ws more : List Lexeme) → Spells (Redefines n) ws → ClauseFirst more → lexemes words.now ≡ ws ++ more → IsSomeAnd result (λ r. (clause_of r.0 ≡ Redefines n) × (lexemes r.1.now ≡ more)) }
+{
+    let more = behind(words, Term::Redefines)?;
+    let (name, rest) = word_at(more)?;
+    Some((Phrase::Redefines(name), rest))
+}
+
+/// PICTURE, perhaps IS, and a word, and what is behind them.
+fn picture_at(words: &[Token]) -> Option<(Phrase<'_>, &[Token])>
+    ensures found { IfSome result (λ r. Stands (clause_of r.0) (lexemes words.now) (lexemes r.1.now)) }
+    ensures only { (p : List ℕ) (ws more : List Lexeme) → Spells (Picture p) ws → ClauseFirst more → lexemes words.now ≡ ws ++ more → IsSomeAnd result (λ r. (clause_of r.0 ≡ Picture p) × (lexemes r.1.now ≡ more)) }
+{
+    let more = behind(words, Term::Picture)?;
+    let (picture, rest) = other_word_at(skip(more, Term::Is), Term::Is)?;
+    Some((Phrase::Picture(picture), rest))
+}
+
+/// A usage, perhaps with USAGE IS before it, and what is behind it.
+fn usage_at(words: &[Token]) -> Option<(Phrase<'_>, &[Token])>
+    ensures found { IfSome result (λ r. Stands (clause_of r.0) (lexemes words.now) (lexemes r.1.now)) }
+    ensures only { (u : Usage) (ws more : List Lexeme) → Spells (Stored u) ws → ClauseFirst more → lexemes words.now ≡ ws ++ more → IsSomeAnd result (λ r. (clause_of r.0 ≡ Stored u) × (lexemes r.1.now ≡ more)) }
+{
+    let (first, rest) = skip_prefix(words, Term::Usage).split_first()?;
+    let usage = usage_of(term_of(first))?;
+    Some((Phrase::Usage(usage), rest))
+}
+
+/// Whether SEPARATE stands in front, perhaps with CHARACTER, and what is behind it.
+fn separate_at(words: &[Token]) -> (bool, &[Token])
+    ensures found { (ws : List Lexeme) × IsSeparate result.0 ws × (lexemes words.now ≡ ws ++ lexemes result.1.now) }
+    ensures only { (b : Bool) (ws more : List Lexeme) → IsSeparate b ws → ClauseFirst more → lexemes words.now ≡ ws ++ more → (result.0 ≡ b) × (lexemes result.1.now ≡ more) }
+{
+    match behind(words, Term::Separate) {
+        Some(more) => (true, skip(more, Term::Character)),
+        None => (false, words),
+    }
+}
+
+/// LEADING or TRAILING, perhaps with SIGN IS before it and SEPARATE CHARACTER behind it, and what is behind them.
+fn sign_at(words: &[Token]) -> Option<(Phrase<'_>, &[Token])>
+    ensures found { IfSome result (λ r. Stands (clause_of r.0) (lexemes words.now) (lexemes r.1.now)) }
+    ensures only { (s : Sign) (ws more : List Lexeme) → Spells (Signed s) ws → ClauseFirst more → lexemes words.now ≡ ws ++ more → IsSomeAnd result (λ r. (clause_of r.0 ≡ Signed s) × (lexemes r.1.now ≡ more)) }
+{
+    let (first, more) = skip_prefix(words, Term::Sign).split_first()?;
+    let leading = leading_of(term_of(first))?;
+    let (separate, rest) = separate_at(more);
+    Some((Phrase::Sign(Sign { leading, separate }), rest))
+}
+
+/// OCCURS and what belongs to it, and what is behind it.
+fn occurs_at(words: &[Token]) -> Option<(Phrase<'_>, &[Token])>
+    ensures found { IfSome result (λ r. Stands (clause_of r.0) (lexemes words.now) (lexemes r.1.now)) }
+    ensures only { (t : WrittenTable) (ws more : List Lexeme) → Spells (Occurs t) ws → ClauseFirst more → lexemes words.now ≡ ws ++ more → IsSomeAnd result (λ r. (clause_of r.0 ≡ Occurs t) × (lexemes r.1.now ≡ more)) }
+{
+    let more = behind(words, Term::Occurs)?;
+    let (table, rest) = table_at(more)?;
+    Some((Phrase::Occurs(table), rest))
+}
+
+/// VALUE, perhaps IS or ARE, and a constant, and what is behind them.
+fn value_at(words: &[Token]) -> Option<(Phrase<'_>, &[Token])>
+    ensures found { IfSome result (λ r. Stands (clause_of r.0) (lexemes words.now) (lexemes r.1.now)) }
+    ensures only { (v : WrittenConstant) (ws more : List Lexeme) → Spells (Value v) ws → ClauseFirst more → lexemes words.now ≡ ws ++ more → IsSomeAnd result (λ r. (clause_of r.0 ≡ Value v) × (lexemes r.1.now ≡ more)) }
+{
+    let more = behind(words, Term::Value)?;
+    let (constant, rest) = constant_at(skip_is_or_are(more))?;
+    Some((Phrase::Value(constant), rest))
+}
+
+/// JUSTIFIED, perhaps RIGHT, and what is behind them.
+fn justified_at(words: &[Token]) -> Option<(Phrase<'_>, &[Token])>
+    ensures found { IfSome result (λ r. Stands (clause_of r.0) (lexemes words.now) (lexemes r.1.now)) }
+    ensures only { (ws more : List Lexeme) → Spells Justified ws → ClauseFirst more → lexemes words.now ≡ ws ++ more → IsSomeAnd result (λ r. (clause_of r.0 ≡ Justified) × (lexemes r.1.now ≡ more)) }
+{
+    let more = behind(words, Term::Justified)?;
+    Some((Phrase::Justified, skip(more, Term::Right)))
+}
+
+/// BLANK, perhaps WHEN, and ZERO, and what is behind them.
+fn blank_at(words: &[Token]) -> Option<(Phrase<'_>, &[Token])>
+    ensures found { IfSome result (λ r. Stands (clause_of r.0) (lexemes words.now) (lexemes r.1.now)) }
+    ensures only { (ws more : List Lexeme) → Spells Blank ws → ClauseFirst more → lexemes words.now ≡ ws ++ more → IsSomeAnd result (λ r. (clause_of r.0 ≡ Blank) × (lexemes r.1.now ≡ more)) }
+{
+    let more = behind(words, Term::Blank)?;
+    let rest = behind(skip(more, Term::When), Term::Zero)?;
+    Some((Phrase::Blank, rest))
+}
+
+/// The kind of the clause in front.
+fn kind_in_front(words: &[Token]) -> Option<ClauseKind>
+    ensures { (c : Clause) (ws more : List Lexeme) → Spells c ws → lexemes words.now ≡ ws ++ more → result ≡ Some (kind_of c) }
+{
+    let (first, _) = words.split_first()?;
+    kind_at(term_of(first))
+}
+
+/// The clause in front, and what is behind it.
+pub fn clause_at(words: &[Token]) -> Option<(Phrase<'_>, &[Token])>
+    ensures found { IfSome result (λ r. Stands (clause_of r.0) (lexemes words.now) (lexemes r.1.now)) }
+    ensures only { (c : Clause) (ws more : List Lexeme) → Spells c ws → ClauseFirst more → lexemes words.now ≡ ws ++ more → IsSomeAnd result (λ r. (clause_of r.0 ≡ c) × (lexemes r.1.now ≡ more)) }
+{
+    match kind_in_front(words)? {
+        ClauseKind::Redefines => redefines_at(words),
+        ClauseKind::Picture => picture_at(words),
+        ClauseKind::Usage => usage_at(words),
+        ClauseKind::Sign => sign_at(words),
+        ClauseKind::Occurs => occurs_at(words),
+        ClauseKind::Value => value_at(words),
+        ClauseKind::Justified => justified_at(words),
+        ClauseKind::Blank => blank_at(words),
+    }
+}

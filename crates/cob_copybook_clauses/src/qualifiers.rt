@@ -1,0 +1,88 @@
+ghost use Rattle.cob_copybook_clauses.specs.Clauses.{AreNames, AreQualifiers, IsCount, IsNameWord};
+ghost use Rattle.cob_copybook_clauses.specs.Reading.{NotFirst};
+ghost use Rattle.cob_copybook_clauses.specs.Terms.{term_of};
+ghost use Rattle.cob_copybook_clauses.specs.Written.{WrittenName, written_name};
+ghost use Rattle.cob_source.specs.Tokens.{Lexeme, lexemes};
+ghost use Rattle.std.specs.List.{AllByRecursion};
+ghost use Rattle.std.specs.Prelude.{◌++◌, ◌∷◌, ◌≡◌, IfSome, IsSomeAnd, List, length, ◌≤◌};
+
+use crate::parts::Count;
+use crate::term::Term;
+use crate::words::{behind, is_name_word, other_word_at, skip};
+use cob_source::Token;
+
+/// The words behind the name in front.
+fn behind_name(words: &[Token]) -> Option<&[Token]>
+    ensures found { IfSome result (λ r. (w : Lexeme) × IsNameWord w × (lexemes words.now ≡ w ∷ lexemes r.now)) }
+    ensures only { (w : Lexeme) (more : List Lexeme) → IsNameWord w → lexemes words.now ≡ w ∷ more → IsSomeAnd result (λ r. lexemes r.now ≡ more) }
+{
+    let (first, more) = words.split_first()?;
+    if !is_name_word(first) {
+        return None;
+    }
+    Some(more)
+}
+
+/// The words behind the names in front, if there are any.
+fn skip_names(words: &[Token]) -> &[Token]
+    ensures found { (names : List Lexeme) × AllByRecursion IsNameWord names × (lexemes words.now ≡ names ++ lexemes result.now) }
+    ensures only { (names more : List Lexeme) → AllByRecursion IsNameWord names → NotFirst Term.Plain more → lexemes words.now ≡ names ++ more → lexemes result.now ≡ more }
+{
+    let mut rest = words;
+    while let Some(more) = behind_name(rest) {
+        rest = more;
+    }
+    rest
+}
+
+/// The words behind the names in front, of which there is one at least.
+pub fn names_at(words: &[Token]) -> Option<&[Token]>
+    ensures found { IfSome result (λ r. (names : List Lexeme) × AreNames names × (lexemes words.now ≡ names ++ lexemes r.now)) }
+    ensures only { (names more : List Lexeme) → AreNames names → NotFirst Term.Plain more → lexemes words.now ≡ names ++ more → IsSomeAnd result (λ r. lexemes r.now ≡ more) }
+{
+    let more = behind_name(words)?;
+    Some(skip_names(more))
+}
+
+/// The words behind the qualifier in front, which is OF or IN and a name.
+fn behind_qualifier(words: &[Token]) -> Option<&[Token]>
+    ensures found { IfSome result (λ r. (of name : Lexeme) × (term_of of ≡ Term.Of) × IsNameWord name × (lexemes words.now ≡ of ∷ (name ∷ lexemes r.now))) }
+    ensures only { (of name : Lexeme) (more : List Lexeme) → term_of of ≡ Term.Of → IsNameWord name → lexemes words.now ≡ of ∷ (name ∷ more) → IsSomeAnd result (λ r. lexemes r.now ≡ more) }
+{
+    let named = behind(words, Term::Of)?;
+    let rest = behind_name(named)?;
+    Some(rest)
+}
+
+/// The qualifiers in front, as many as there are, and what is behind them.
+fn qualifiers_at(words: &[Token]) -> (&[Token], &[Token])
+    ensures are { AreQualifiers (lexemes result.0.now) }
+    ensures found { lexemes words.now ≡ lexemes result.0.now ++ lexemes result.1.now }
+    ensures only { (qs more : List Lexeme) → AreQualifiers qs → NotFirst Term.Of more → lexemes words.now ≡ qs ++ more → (lexemes result.0.now ≡ qs) × (lexemes result.1.now ≡ more) }
+{
+    let mut rest = words;
+    while let Some(more) = behind_qualifier(rest) {
+        rest = more;
+    }
+    (front(words, rest.len()), rest)
+}
+
+/// The words without this many at the end.
+fn front(words: &[Token], behind: usize) -> &[Token]
+    requires { behind ≤ length words.now }
+    ensures { (done more : List Lexeme) → lexemes words.now ≡ done ++ more → length more ≡ behind → lexemes result.now ≡ done }
+{
+    &words[..words.len() - behind]
+}
+
+/// DEPENDING ON and a name with its qualifiers, and what is behind them.
+pub fn count_at(words: &[Token]) -> Option<(Count<'_>, &[Token])>
+    ensures found { IfSome result (λ r. (ws : List Lexeme) × IsCount (written_name r.0) ws × (lexemes words.now ≡ ws ++ lexemes r.1.now)) }
+    ensures only { (name : WrittenName) (ws more : List Lexeme) → IsCount name ws → NotFirst Term.Of more → lexemes words.now ≡ ws ++ more → IsSomeAnd result (λ r. (written_name r.0 ≡ name) × (lexemes r.1.now ≡ more)) }
+{
+    let depending = behind(words, Term::Depending)?;
+    let on = skip(depending, Term::On);
+    let (name, named) = other_word_at(on, Term::On)?;
+    let (qualifiers, rest) = qualifiers_at(named);
+    Some((Count { name, qualifiers }, rest))
+}

@@ -1,0 +1,139 @@
+ghost use Rattle.cob_copybook_clauses.specs.Clauses.{
+  AreNames,
+  AreQualifiers,
+  IsFree,
+  IsNameWord,
+  IsOrAre,
+  IsPrefix,
+  IsWord,
+  Noise,
+};
+ghost use Rattle.cob_copybook_clauses.specs.Reading.{NotFirst};
+ghost use Rattle.cob_copybook_clauses.specs.Terms.{term_of};
+ghost use Rattle.cob_source.specs.Tokens.{Lexeme, lexeme, lexemes};
+ghost use Rattle.std.specs.Prelude.{
+  ◌++◌,
+  ◌∷◌,
+  ◌≡◌,
+  ◌≢◌,
+  ◌↔◌,
+  List,
+  ℕ,
+  IfSome,
+  IsSomeAnd,
+  IsTrue,
+};
+
+use crate::names::is_name;
+use crate::term::{Term, term_of};
+use cob_source::{Kind, Token};
+
+/// Whether a token is this to the grammar.
+pub fn is_term(token: &Token, term: Term) -> bool
+    ensures { IsTrue result ↔ term_of (lexeme token.now) ≡ term }
+{
+    term_of(token) == term
+}
+
+/// Whether a token is a word.
+pub fn is_word(token: &Token) -> bool
+    ensures { IsTrue result ↔ (lexeme token.now).kind ≡ Kind.Word }
+{
+    token.kind == Kind::Word
+}
+
+/// Whether a token is a quoted literal.
+pub fn is_literal(token: &Token) -> bool
+    ensures { IsTrue result ↔ (lexeme token.now).kind ≡ Kind.Literal }
+{
+    token.kind == Kind::Literal
+}
+
+/// Whether a token is a name.
+pub fn is_name_word(token: &Token) -> bool
+    ensures { IsTrue result ↔ IsNameWord (lexeme token.now) }
+{
+    is_word(token) && is_name(token.text.as_slice())
+}
+
+/// The words behind this one, if it comes first.
+pub fn behind(words: &[Token], term: Term) -> Option<&[Token]>
+    ensures found { IfSome result (λ r. (w : Lexeme) × (term_of w ≡ term) × (lexemes words.now ≡ w ∷ lexemes r.now)) }
+    ensures only { (w : Lexeme) (more : List Lexeme) → term_of w ≡ term → lexemes words.now ≡ w ∷ more → IsSomeAnd result (λ r. lexemes r.now ≡ more) }
+{
+    let (first, more) = words.split_first()?;
+    if is_term(first, term) {
+        Some(more)
+    } else {
+        None
+    }
+}
+
+/// The words without the optional one in front.
+pub fn skip(words: &[Token], term: Term) -> &[Token]
+    ensures found { (noise : List Lexeme) × Noise term noise × (lexemes words.now ≡ noise ++ lexemes result.now) }
+    ensures only { (noise more : List Lexeme) → Noise term noise → NotFirst term more → lexemes words.now ≡ noise ++ more → lexemes result.now ≡ more }
+{
+    match behind(words, term) {
+        Some(more) => more,
+        None => words,
+    }
+}
+
+/// The words without the first, if it is one of two.
+pub fn skip_is_or_are(words: &[Token]) -> &[Token]
+    ensures found { (noise : List Lexeme) × IsOrAre noise × (lexemes words.now ≡ noise ++ lexemes result.now) }
+    ensures only { (noise more : List Lexeme) → IsOrAre noise → NotFirst Term.Is more → NotFirst Term.Are more → lexemes words.now ≡ noise ++ more → lexemes result.now ≡ more }
+{
+    match behind(words, Term::Is) {
+        Some(more) => more,
+        None => skip(words, Term::Are),
+    }
+}
+
+/// The words behind this one and IS, which may both be absent, but IS stands only behind it.
+pub fn skip_prefix(words: &[Token], term: Term) -> &[Token]
+    ensures found { (before : List Lexeme) × IsPrefix term before × (lexemes words.now ≡ before ++ lexemes result.now) }
+    ensures only { (before more : List Lexeme) → IsPrefix term before → NotFirst term more → NotFirst Term.Is more → lexemes words.now ≡ before ++ more → lexemes result.now ≡ more }
+{
+    match behind(words, term) {
+        Some(more) => skip(more, Term::Is),
+        None => words,
+    }
+}
+
+/// The text of the word in front, and what is behind it.
+pub fn word_at(words: &[Token]) -> Option<(&[u8], &[Token])>
+    ensures found { IfSome result (λ r. (w : Lexeme) × IsWord r.0.now w × (lexemes words.now ≡ w ∷ lexemes r.1.now)) }
+    ensures only { (text : List ℕ) (w : Lexeme) (more : List Lexeme) → IsWord text w → lexemes words.now ≡ w ∷ more → IsSomeAnd result (λ r. (r.0.now ≡ text) × (lexemes r.1.now ≡ more)) }
+{
+    let (first, more) = words.split_first()?;
+    if !is_word(first) {
+        return None;
+    }
+    Some((first.text.as_slice(), more))
+}
+
+/// The text of the word in front, which isn't this one, and what is behind it.
+pub fn other_word_at(words: &[Token], term: Term) -> Option<(&[u8], &[Token])>
+    ensures found { IfSome result (λ r. (w : Lexeme) × IsWord r.0.now w × (term_of w ≢ term) × (lexemes words.now ≡ w ∷ lexemes r.1.now)) }
+    ensures only { (text : List ℕ) (w : Lexeme) (more : List Lexeme) → IsWord text w → term_of w ≢ term → lexemes words.now ≡ w ∷ more → IsSomeAnd result (λ r. (r.0.now ≡ text) × (lexemes r.1.now ≡ more)) }
+{
+    let (first, more) = words.split_first()?;
+    if !is_word(first) || is_term(first, term) {
+        return None;
+    }
+    Some((first.text.as_slice(), more))
+}
+
+/// The text of the word in front, which isn't reserved, and what is behind it.
+pub fn free_at(words: &[Token]) -> Option<(&[u8], &[Token])>
+    ensures found { IfSome result (λ r. (w : Lexeme) × IsFree r.0.now w × (lexemes words.now ≡ w ∷ lexemes r.1.now)) }
+    ensures only { (text : List ℕ) (w : Lexeme) (more : List Lexeme) → IsFree text w → lexemes words.now ≡ w ∷ more → IsSomeAnd result (λ r. (r.0.now ≡ text) × (lexemes r.1.now ≡ more)) }
+{
+    let (first, more) = words.split_first()?;
+    if !is_term(first, Term::Plain) {
+        return None;
+    }
+    Some((first.text.as_slice(), more))
+}

@@ -1,0 +1,139 @@
+-- The entries that the words of a text are, and the rules on words that a text breaks.
+use Rattle.std.specs.Prelude.{◌≡◌, ◌≢◌, ◌⊎◌, ℕ, ◌<◌, ◌≤◌, Bool, true, false, not, List, [], ◌∷◌, length, count_by, nat_le, ◌&&◌, Option, Some, None, option_map}
+use Rattle.cob_source.specs.Tokens.{Lexeme}
+use Rattle.cob_picture.specs.Pictures.{IsBroken as IsBrokenPicture}
+use Rattle.cob_decimal.specs.declared.TheConstants.{MAX_DIGITS}
+use Rattle.cob_decimal.specs.Literals.{Literal, IsLiteral, literal_text, AreDigits}
+use Rattle.cob_copybook_clauses.specs.Names.{IsName}
+use Rattle.cob_copybook_clauses.specs.Written.{WrittenConstant, Word, Quoted, Repeated, WrittenTable, WrittenEntry}
+use Rattle.cob_copybook_clauses.specs.Entries.{IsWritten, IsCondition, is_condition, IsLeftOut, sentences}
+use Rattle.cob_copybook_entries.specs.declared.fault.BookRule.{BookRule}
+use Rattle.cob_copybook_entries.specs.declared.fault.BookRule.TheVariants as rule
+use Rattle.cob_copybook_entries.specs.declared.reader.TheConstants.{MAX_ENTRIES}
+use Rattle.cob_copybook_entries.specs.declared.value.TheConstants.{MAX_LITERAL}
+use Rattle.cob_copybook_entries.specs.Described.{Described}
+use Rattle.cob_copybook_entries.specs.Meaning.{Means, IsWhole, AreNumbers}
+
+-- nothing that is left out by name stands in the entry
+abbrev pub HasNoLeftOut : List Lexeme → Type 0
+HasNoLeftOut s = (text : List ℕ) → IsLeftOut text s → ⊥
+
+-- a data entry means this
+pub record IsEntry (s : List Lexeme) (d : Described) : Type 0 where
+  pub written : WrittenEntry
+  pub is : IsWritten s written
+  pub means : Means written d
+
+-- a level 88 entry names a value
+abbrev pub IsConditionEntry : List Lexeme → Type 0
+IsConditionEntry s = (name : List ℕ) × IsCondition s name × IsName name
+
+abbrev pub IsSentence : Bool → List Lexeme → List Described → List Described → Type 0
+IsSentence true s ds more = IsConditionEntry s × (ds ≡ more)
+IsSentence false s ds more = (d : Described) × IsEntry s d × (ds ≡ d ∷ more)
+
+-- each sentence is a data entry, or a level 88 entry, which adds nothing
+abbrev pub AreDescribed : List (List Lexeme) → List Described → Type 0
+AreDescribed [] ds = ds ≡ []
+AreDescribed (s ∷ ss) ds = HasNoLeftOut s × ((more : List Described) × IsSentence (is_condition s) s ds more × AreDescribed ss more)
+
+-- a data entry comes first
+abbrev pub BeginsWithData : List (List Lexeme) → Type 0
+BeginsWithData [] = ⊥
+BeginsWithData (s ∷ ss) = is_condition s ≡ false
+
+-- The words are these data entries: each ends at a period, the first of all is one, and there are at most 2,000.
+pub record AreEntriesOf (ws : List Lexeme) (ds : List Described) : Type 0 where
+  pub ended : (sentences ws).open_end ≡ []
+  pub begins : BeginsWithData (sentences ws).ended
+  pub entries : AreDescribed (sentences ws).ended ds
+  pub few : length ds ≤ MAX_ENTRIES
+
+-- a word that is no number stands in a number's place
+abbrev pub BreaksNumber : WrittenTable → Type 0
+BreaksNumber t = (AreDigits t.most → ⊥) ⊎ ((text : List ℕ) × (t.least ≡ Some text) × (AreDigits text → ⊥))
+
+abbrev pub BreaksNumbers : Option WrittenTable → Type 0
+BreaksNumbers None = ⊥
+BreaksNumbers (Some t) = BreaksNumber t
+
+-- a VALUE's word is no numeric literal
+abbrev pub BreaksConstant : Option WrittenConstant → Type 0
+BreaksConstant (Some (Word text)) = (l : Literal) → IsLiteral l → text ≢ literal_text l
+BreaksConstant _ = ⊥
+
+abbrev pub is_digit : ℕ → Bool
+is_digit c = nat_le 48 c && nat_le c 57
+
+-- a VALUE's literal is too long, or is ALL with an empty one, or has too many digits
+abbrev pub BreaksValue : Option WrittenConstant → Type 0
+BreaksValue (Some (Word text)) = MAX_DIGITS < count_by is_digit text
+BreaksValue (Some (Quoted text)) = MAX_LITERAL < length text
+BreaksValue (Some (Repeated text)) = (length text ≡ 0) ⊎ (MAX_LITERAL < length text)
+BreaksValue _ = ⊥
+
+-- the numbers of an OCCURS clause are out of bounds
+abbrev pub BreaksTable : Option WrittenTable → Type 0
+BreaksTable None = ⊥
+BreaksTable (Some t) = (BreaksNumber t → ⊥) × ((least most : ℕ) → AreNumbers t least most → ⊥)
+
+abbrev pub IsNoName : Option (List ℕ) → Type 0
+IsNoName None = ⊥
+IsNoName (Some text) = IsName text → ⊥
+
+-- the name of a table's count, if it has one
+abbrev pub count_name : Option WrittenTable → Option (List ℕ)
+count_name None = None
+count_name (Some t) = option_map (λ c. c.name) t.count
+
+-- the entry as it is written breaks the rule
+abbrev pub BreaksEntry : BookRule → WrittenEntry → Type 0
+BreaksEntry rule.Grammar w = ((n : ℕ) → IsWhole 2 w.level n → ⊥) ⊎ (BreaksNumbers w.clauses.occurs ⊎ BreaksConstant w.clauses.value)
+BreaksEntry (rule.Picture f) w = (text : List ℕ) × (w.clauses.picture ≡ Some text) × IsBrokenPicture f text
+BreaksEntry rule.Table w = BreaksTable w.clauses.occurs
+BreaksEntry rule.Value w = BreaksValue w.clauses.value
+BreaksEntry rule.Name w = IsNoName w.name ⊎ (IsNoName w.clauses.redefines ⊎ IsNoName (count_name w.clauses.occurs))
+BreaksEntry r w = ⊥
+
+-- a level 88 entry breaks the rule: it is none, or its name is no name
+abbrev pub BreaksCondition : BookRule → List Lexeme → Type 0
+BreaksCondition rule.Grammar s = (name : List ℕ) → IsCondition s name → ⊥
+BreaksCondition rule.Name s = (name : List ℕ) × IsCondition s name × (IsName name → ⊥)
+BreaksCondition r s = ⊥
+
+-- a data entry breaks the rule: it isn't in the grammar, or it is, and breaks it as it is written
+abbrev pub BreaksData : BookRule → List Lexeme → Type 0
+BreaksData rule.Grammar s = ((w : WrittenEntry) → IsWritten s w → ⊥) ⊎ ((w : WrittenEntry) × IsWritten s w × BreaksEntry rule.Grammar w)
+BreaksData r s = (w : WrittenEntry) × IsWritten s w × BreaksEntry r w
+
+abbrev pub BreaksBy : Bool → BookRule → List Lexeme → Type 0
+BreaksBy true r s = BreaksCondition r s
+BreaksBy false r s = BreaksData r s
+
+-- a sentence breaks the rule; what is left out by name is told as such
+abbrev pub BreaksSentence : BookRule → List Lexeme → Type 0
+BreaksSentence (rule.LeftOut word) s = IsLeftOut word.bytes s
+BreaksSentence r s = HasNoLeftOut s × BreaksBy (is_condition s) r s
+
+-- one of the sentences does
+abbrev pub OneBreaks : BookRule → List (List Lexeme) → Type 0
+OneBreaks r [] = ⊥
+OneBreaks r (s ∷ ss) = BreaksSentence r s ⊎ OneBreaks r ss
+
+-- a level 88 entry comes first
+abbrev pub BeginsWithCondition : List (List Lexeme) → Type 0
+BeginsWithCondition [] = ⊥
+BeginsWithCondition (s ∷ ss) = is_condition s ≡ true
+
+-- how many data entries there are
+abbrev pub data_entries : List (List Lexeme) → ℕ
+data_entries ss = count_by (λ s. not (is_condition s)) ss
+
+-- The words of a text break the rule: none are there; they don't end at a period, or a level 88 entry comes first; there are too
+-- many entries; or one of the sentences breaks it. No rule on trees is broken by words.
+abbrev pub IsBroken : BookRule → List Lexeme → Type 0
+IsBroken rule.Memory ws = Unit {0}
+IsBroken rule.NoEntry ws = ws ≡ []
+IsBroken rule.TooMany ws = MAX_ENTRIES < data_entries (sentences ws).ended
+IsBroken rule.Grammar ws = ((sentences ws).open_end ≢ []) ⊎ (BeginsWithCondition (sentences ws).ended ⊎ OneBreaks rule.Grammar (sentences ws).ended)
+IsBroken r ws = OneBreaks r (sentences ws).ended

@@ -1,0 +1,39 @@
+//! The entries of a copybook, each by itself (ANSI X3.23-1985, Nucleus: the data description entry).
+//!
+//! A copybook is a list of record description entries, each ended by a period. `entries` reads the words of a text into that list.
+//! The levels, names, pictures, numbers and literals in an entry's clauses are read here, and a text that is none of these is
+//! refused by the rule that it breaks. Entries of level 88 name a value and aren't kept. How entries make a tree, and which rules
+//! hold between them, is for the crates above.
+//!
+//! What is promised: `entries` answers `Ok` with the entries of the words (clause `found`), of which there is one at least
+//! (`some`); words that are entries are read, memory aside, and as these entries (`only`); and a refusal names a rule that the
+//! words break (`fault`). No clause says which of several broken rules is named, nor on which line. Words are one list of entries
+//! at most (`one_list_of_entries`). `Name::of` answers a name exactly for a text that is one (`found`, `only`). Names, literals
+//! and constants are copied without memory (`clone`).
+//!
+//! The definitions stand in `specs/`: `Described` is what contracts see of an entry, `Meaning` says what an entry's texts mean,
+//! and `Books` which entries words are and which rules they break. `Adds`, `Breaks`, `Short` and `Signs` name the steps on the
+//! way; no public clause names them. `Laws` has the law. The crate stands on `cob_source` for words, on `cob_copybook_clauses` for clauses
+//! as they are written, on `cob_picture` and `cob_decimal` for pictures and numbers, on `arrayvec` for texts of bounded length, and
+//! on `thiserror` for the fault's message.
+#![tactic(auto)]
+
+mod entry;
+mod fault;
+mod laws;
+mod meaning;
+mod name;
+mod number;
+mod occurs;
+mod reader;
+mod sentence;
+#[cfg(test)]
+mod tests;
+mod value;
+
+pub use entry::{Entry, Occurs, Qualified};
+pub use fault::{BookFault, BookRule, MAX_WORD};
+pub use laws::one_list_of_entries;
+pub use name::Name;
+pub use reader::{MAX_ENTRIES, entries};
+pub use value::{MAX_LITERAL, Text, Value};

@@ -1,0 +1,150 @@
+//! What an entry as it is written means.
+
+ghost use Rattle.std.specs.Prelude.{◌≡◌, ℕ, ◌⊎◌, List, Option, Some, IfErr, IfOk, IsOkAnd, option_map};
+ghost use Rattle.cob_picture.specs.declared.fault.PictureFault.{PictureFault};
+ghost use Rattle.cob_picture.specs.Positions.{Seen};
+ghost use Rattle.cob_picture.specs.Pictures.{IsBroken, IsPictureOf};
+ghost use Rattle.cob_copybook_clauses.specs.Written.{written_constant, written_entry, written_table};
+ghost use Rattle.cob_copybook_entries.specs.declared.fault.BookRule.TheVariants as rule;
+ghost use Rattle.cob_copybook_entries.specs.Described.{Constant as Meant, Described, Times, constant, described, times};
+ghost use Rattle.cob_copybook_entries.specs.Meaning.{IsConstantOf, IsNamed, IsOption, IsTimes, IsWhole, Means};
+ghost use Rattle.cob_copybook_entries.specs.Books.{BreaksEntry, IsNoName};
+ghost use Rattle.cob_copybook_entries.specs.Breaks.{IsConstantFault, IsTableFault, OfOption};
+ghost use Rattle.cob_copybook_entries.specs.Short.{HasShortCount};
+
+use crate::entry::{Entry, Occurs};
+use crate::fault::BookRule;
+use crate::name::Name;
+use crate::number::whole;
+use crate::occurs::occurs_of;
+use crate::value::{Value, value_of};
+use cob_copybook_clauses::{Constant, Table, Written};
+use cob_picture::Picture;
+use std::alloc::Global;
+
+/// The most digits of a level.
+const MAX_LEVEL_DIGITS: usize = 2;
+
+/// The entry that the texts of a written one mean, of which the first word stands on `line`.
+///
+/// # Errors
+///
+/// The first rule that its texts break: that of the level, of the name, of REDEFINES, of the picture, of OCCURS or of VALUE; and
+/// `Memory`.
+pub(crate) fn entry_of(alloc: Global, line: u32, written: &Written<'_>) -> Result<Entry, BookRule>
+    requires { HasShortCount (written_entry written.now).clauses.occurs }
+    ensures found { IfOk result (λ e. Means (written_entry written.now) (described e)) }
+    ensures only { (d : Described) → Means (written_entry written.now) d
+        → IfOk result (λ e. described e ≡ d) × IfErr result (λ r. r ≡ rule.Memory) }
+    ensures fault { IfErr result (λ r. (r ≡ rule.Memory) ⊎ BreaksEntry r (written_entry written.now)) }
+{
+    let level = level_of(written.level)?;
+    let name = name_of(written.name)?;
+    let redefines = name_of(written.clauses.redefines)?;
+    let picture = picture_of(written.clauses.picture)?;
+    let occurs = times_of(alloc, written.clauses.occurs)?;
+    let value = constant_of(written.clauses.value)?;
+    Ok(Entry {
+        line,
+        level,
+        name,
+        redefines,
+        picture,
+        usage: written.clauses.usage,
+        sign: written.clauses.sign,
+        occurs,
+        value,
+        justified: written.clauses.justified,
+        blank: written.clauses.blank,
+    })
+}
+
+/// The level, of one or two digits.
+///
+/// # Errors
+///
+/// `Grammar` for another word.
+fn level_of(text: &[u8]) -> Result<u8, BookRule>
+    ensures found { IfOk result (λ n. IsWhole 2 text.now n) }
+    ensures only { (n : ℕ) → IsWhole 2 text.now n → IsOkAnd result (λ m. m ≡ n) }
+    ensures fault { IfErr result (λ r. (r ≡ rule.Grammar) × ((n : ℕ) → IsWhole 2 text.now n → ⊥)) }
+{
+    match whole(text, MAX_LEVEL_DIGITS) {
+        Some(level) => Ok(level as u8),
+        None => Err(BookRule::Grammar),
+    }
+}
+
+/// The name, where one is written.
+///
+/// # Errors
+///
+/// `Name` for a text that is no name.
+fn name_of(text: Option<&[u8]>) -> Result<Option<Name>, BookRule>
+    ensures found { IfOk result (λ n. IsOption IsNamed (option_map (λ b. b.now) text.entry) n) }
+    ensures only { (n : Option (List ℕ)) → IsOption IsNamed (option_map (λ b. b.now) text.entry) n → IsOkAnd result (λ m. m ≡ n) }
+    ensures fault { IfErr result (λ r. (r ≡ rule.Name) × IsNoName (option_map (λ b. b.now) text.entry)) }
+{
+    let Some(text) = text else {
+        return Ok(None);
+    };
+    match Name::of(text) {
+        Some(name) => Ok(Some(name)),
+        None => Err(BookRule::Name),
+    }
+}
+
+/// The picture, where one is written.
+///
+/// # Errors
+///
+/// `Picture` with its fault for a text that is no picture.
+fn picture_of(text: Option<&[u8]>) -> Result<Option<Picture>, BookRule>
+    ensures found { IfOk result (λ p. IsOption IsPictureOf (option_map (λ b. b.now) text.entry) p) }
+    ensures only { (p : Option Seen) → IsOption IsPictureOf (option_map (λ b. b.now) text.entry) p → IsOkAnd result (λ q. q ≡ p) }
+    ensures fault { IfErr result (λ r. (f : PictureFault) × (r ≡ rule.Picture f)
+        × OfOption (IsBroken f) (option_map (λ b. b.now) text.entry)) }
+{
+    let Some(text) = text else {
+        return Ok(None);
+    };
+    match Picture::read(text) {
+        Ok(picture) => Ok(Some(picture)),
+        Err(fault) => Err(BookRule::Picture(fault)),
+    }
+}
+
+/// How often the entry occurs, where OCCURS is written.
+///
+/// # Errors
+///
+/// As [`occurs_of`].
+fn times_of(alloc: Global, table: Option<Table<'_>>) -> Result<Option<Occurs>, BookRule>
+    requires { HasShortCount (option_map written_table table) }
+    ensures found { IfOk result (λ o. IsOption IsTimes (option_map written_table table.entry) (option_map times o)) }
+    ensures only { (t : Option Times) → IsOption IsTimes (option_map written_table table.entry) t
+        → IfOk result (λ o. option_map times o ≡ t) × IfErr result (λ r. r ≡ rule.Memory) }
+    ensures fault { IfErr result (λ r. OfOption (IsTableFault r) (option_map written_table table.entry)) }
+{
+    match table {
+        Some(table) => Ok(Some(occurs_of(alloc, &table)?)),
+        None => Ok(None),
+    }
+}
+
+/// The constant, where VALUE is written.
+///
+/// # Errors
+///
+/// As [`value_of`].
+fn constant_of(written: Option<Constant<'_>>) -> Result<Option<Value>, BookRule>
+    ensures found { IfOk result (λ v. IsOption IsConstantOf (option_map written_constant written.entry) (option_map constant v)) }
+    ensures only { (c : Option Meant) → IsOption IsConstantOf (option_map written_constant written.entry) c
+        → IsOkAnd result (λ v. option_map constant v ≡ c) }
+    ensures fault { IfErr result (λ r. OfOption (IsConstantFault r) (option_map written_constant written.entry)) }
+{
+    match written {
+        Some(written) => Ok(Some(value_of(&written)?)),
+        None => Ok(None),
+    }
+}

@@ -1,0 +1,43 @@
+//! Whole numbers, as digits.
+
+ghost use Rattle.std.specs.Prelude.{◌≡◌, ℕ, ◌≤◌, ◌↔◌, length, Some, IfSome, IsTrue};
+ghost use Rattle.cob_decimal.specs.Decimal.{number_of as number_in};
+ghost use Rattle.cob_decimal.specs.Literals.{AreDigits, digits_in};
+ghost use Rattle.cob_copybook_entries.specs.Meaning.{IsWhole};
+
+/// Whether each character is a digit.
+pub(crate) fn are_digits(text: &[u8]) -> bool
+    ensures { IsTrue result ↔ AreDigits text.now }
+{
+    for character in text {
+        if !character.is_ascii_digit() {
+            return false;
+        }
+    }
+    true
+}
+
+/// The number that a text of 1 to `most` digits spells.
+pub(crate) fn whole(text: &[u8], most: usize) -> Option<u32>
+    requires { most ≤ 9 }
+    ensures found { IfSome result (λ n. IsWhole most text.now n) }
+    ensures only { (n : ℕ) → IsWhole most text.now n → result ≡ Some n }
+{
+    if text.is_empty() || text.len() > most || !are_digits(text) {
+        return None;
+    }
+    Some(number_of(text))
+}
+
+/// The number that up to nine digits spell.
+fn number_of(text: &[u8]) -> u32
+    requires digits { AreDigits text.now }
+    requires short { length text.now ≤ 9 }
+    ensures { result ≡ number_in (digits_in text.now) }
+{
+    let mut number: u32 = 0;
+    for character in text {
+        number = number * 10 + u32::from(*character - b'0');
+    }
+    number
+}

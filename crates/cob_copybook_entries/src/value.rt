@@ -1,0 +1,174 @@
+//! The constants of VALUE clauses.
+
+ghost use Rattle.std.specs.Prelude.{◌≡◌, ◌≢◌, ◌<◌, ◌≤◌, ◌↔◌, length, count_by, Some, IfOk, IfErr, IsOkAnd, IsTrue};
+ghost use Rattle.cob_decimal.specs.declared.TheConstants.{MAX_DIGITS};
+ghost use Rattle.cob_copybook_clauses.specs.Written.{Word, written_constant};
+ghost use Rattle.cob_copybook_entries.specs.declared.fault.BookRule.TheVariants as rule;
+ghost use Rattle.cob_copybook_entries.specs.Described.{Constant as Meant, Numeric, constant};
+ghost use Rattle.cob_copybook_entries.specs.Meaning.{IsConstantOf, IsShort};
+ghost use Rattle.cob_copybook_entries.specs.Books.{is_digit};
+ghost use Rattle.cob_copybook_entries.specs.Breaks.{IsConstantFault};
+ghost use Rattle.cob_copybook_entries.specs.Signs.{begins_with_sign};
+
+use crate::fault::BookRule;
+use arrayvec::ArrayVec;
+use cob_copybook_clauses::{Constant, Figurative};
+use cob_decimal::{MAX_DIGITS, Number};
+use std::marker::Model;
+
+/// The most characters of a quoted literal.
+pub const MAX_LITERAL: usize = 160;
+
+/// The characters of a quoted literal: at most 160.
+///
+/// Contracts see their list, in ASCII.
+#[derive(Debug, Drop, PartialEq, Eq)]
+pub struct Text {
+    characters: ArrayVec<u8, MAX_LITERAL>,
+}
+
+impl Model for Text {
+    ghost use Rattle.std.specs.Prelude.{List, ℕ};
+
+    ghost Value = { List ℕ };
+
+    ghost view = { λ t. t.characters.items };
+
+    ghost inverse = { λ cs. record { characters = record { items = cs } } };
+}
+
+impl Text {
+    /// The literal of these characters, at most [`MAX_LITERAL`].
+    pub fn of(text: &[u8]) -> Text
+        requires { length text.now ≤ MAX_LITERAL }
+        ensures { result ≡ text.now }
+    {
+        let mut characters = ArrayVec::new();
+        for character in text {
+            characters.push(*character);
+        }
+        Text { characters }
+    }
+
+    /// The characters, in ASCII.
+    pub fn as_bytes(&self) -> &[u8]
+        ensures value { result.now ≡ self.now }
+        ensures short { length result.now ≤ MAX_LITERAL }
+    {
+        self.characters.as_slice()
+    }
+
+    /// The same literal once more. It takes no memory, and so cannot fail.
+    pub fn clone(&self) -> Text
+        ensures { result ≡ self.now }
+    {
+        Text::of(self.as_bytes())
+    }
+}
+
+/// The constant of a VALUE clause.
+#[derive(Debug, Drop)]
+pub enum Value {
+    /// A numeric literal, and whether a sign is written before it.
+    Number { signed: bool, number: Number },
+    /// A quoted literal.
+    Literal(Text),
+    /// A figurative constant, with ALL or without.
+    Figurative(Figurative),
+    /// ALL and a quoted literal that isn't empty.
+    All(Text),
+}
+
+impl Value {
+    /// The same constant once more. It takes no memory, and so cannot fail.
+    pub fn clone(&self) -> Value
+        ensures { constant result ≡ constant self.now }
+    {
+        match self {
+            Value::Number { signed, number } => Value::Number {
+                signed: *signed,
+                number: number.clone(),
+            },
+            Value::Literal(text) => Value::Literal(text.clone()),
+            Value::Figurative(figurative) => Value::Figurative(*figurative),
+            Value::All(text) => Value::All(text.clone()),
+        }
+    }
+}
+
+/// What the constant of a VALUE clause means.
+///
+/// # Errors
+///
+/// `Grammar` for a word that is no numeric literal; `Value` where a literal is too long, or is empty behind ALL, or a word has too
+/// many digits.
+pub(crate) fn value_of(written: &Constant<'_>) -> Result<Value, BookRule>
+    ensures found { IfOk result (λ v. IsConstantOf (written_constant written.now) (constant v)) }
+    ensures only { (c : Meant) → IsConstantOf (written_constant written.now) c → IsOkAnd result (λ v. constant v ≡ c) }
+    ensures fault { IfErr result (λ r. IsConstantFault r (written_constant written.now)) }
+{
+    match *written {
+        Constant::Word(text) => Ok(Value::Number {
+            signed: is_signed(text),
+            number: number_of(text)?,
+        }),
+        Constant::Literal(text) => Ok(Value::Literal(literal_of(text)?)),
+        Constant::Figurative(figurative) => Ok(Value::Figurative(figurative)),
+        Constant::All(text) => {
+            if text.is_empty() {
+                return Err(BookRule::Value);
+            }
+            Ok(Value::All(literal_of(text)?))
+        }
+    }
+}
+
+/// The number that a word is.
+///
+/// # Errors
+///
+/// `Grammar` for a word that is no numeric literal, but `Value` where it has too many digits.
+fn number_of(text: &[u8]) -> Result<Number, BookRule>
+    ensures found { IfOk result (λ n. IsConstantOf (Word text.now) (Numeric (begins_with_sign text.now) n.negative n.digits n.scale)) }
+    ensures only { (c : Meant) → IsConstantOf (Word text.now) c → IsOkAnd result (λ n. Numeric (begins_with_sign text.now) n.negative n.digits n.scale ≡ c) }
+    ensures fault { IfErr result (λ r. IsConstantFault r (Word text.now)) }
+{
+    match Number::of_text(text) {
+        Some(number) => Ok(number),
+        None if has_many_digits(text) => Err(BookRule::Value),
+        None => Err(BookRule::Grammar),
+    }
+}
+
+/// Whether a text begins with a sign.
+fn is_signed(text: &[u8]) -> bool
+    ensures { result ≡ begins_with_sign text.now }
+{
+    matches!(text.first(), Some(b'+' | b'-'))
+}
+
+/// Whether a word has more digits than a number may have.
+fn has_many_digits(text: &[u8]) -> bool
+    ensures { IsTrue result ↔ (MAX_DIGITS < count_by is_digit text.now) }
+{
+    text.iter()
+        .filter(|character| character.is_ascii_digit())
+        .count()
+        > MAX_DIGITS
+}
+
+/// The characters of a quoted literal.
+///
+/// # Errors
+///
+/// `Value` where there are too many.
+fn literal_of(text: &[u8]) -> Result<Text, BookRule>
+    ensures found { IfOk result (λ t. IsShort text.now × (t ≡ text.now)) }
+    ensures only { IsShort text.now → IsOkAnd result (λ t. t ≡ text.now) }
+    ensures fault { IfErr result (λ r. (r ≡ rule.Value) × (MAX_LITERAL < length text.now)) }
+{
+    if text.len() > MAX_LITERAL {
+        return Err(BookRule::Value);
+    }
+    Ok(Text::of(text))
+}

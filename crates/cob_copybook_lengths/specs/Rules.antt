@@ -1,0 +1,27 @@
+-- Which rules on lengths a tree keeps, and which it breaks.
+use Rattle.std.specs.Prelude.{◌≤◌, [], false}
+use Rattle.cob_copybook_entries.specs.declared.fault.BookRule.{BookRule}
+use Rattle.cob_copybook_entries.specs.declared.fault.BookRule.TheVariants as rule
+use Rattle.cob_copybook_tree.specs.Forests.{Forest}
+use Rattle.cob_copybook_tree.specs.Nodes.{Resolved}
+use Rattle.cob_copybook_tree.specs.Lengths.{most, sum_of}
+use Rattle.cob_copybook_tree.specs.declared.lengths.TheConstants.{MAX_RECORD}
+use Rattle.cob_copybook_lengths.specs.Areas.{AreAreas}
+use Rattle.cob_copybook_lengths.specs.Values.{AreValues}
+
+-- the record isn't too long, its redefinitions stay in their areas, and its values fit
+pub record IsFit (t : Forest Resolved) : Type 0 where
+  pub short : sum_of most t ≤ MAX_RECORD
+  pub areas : AreAreas [] t
+  pub values : AreValues false false t
+
+-- the tree breaks the rule
+abbrev pub Breaks : BookRule → Forest Resolved → Type 0
+Breaks rule.TooLong t = sum_of most t ≤ MAX_RECORD → ⊥
+Breaks rule.Redefinition t = AreAreas [] t → ⊥
+Breaks rule.Value t = AreValues false false t → ⊥
+Breaks r t = ⊥
+
+-- a record that is fit breaks no rule on lengths
+abbrev pub FitBreaksNone : Type 0
+FitBreaksNone = (r : BookRule) (t : Forest Resolved) → Breaks r t → IsFit t → ⊥

@@ -1,0 +1,61 @@
+//! The rules on lengths, one behind the other.
+
+ghost use Rattle.std.specs.Prelude.{◌≡◌, ◌≤◌, ◌↔◌, [], ◌∷◌, IsTrue, IfOk, IfErr};
+ghost use Rattle.cob_copybook_tree.specs.Nodes.{forest};
+ghost use Rattle.cob_copybook_tree.specs.Lengths.{most, sum_of};
+ghost use Rattle.cob_copybook_tree.specs.declared.lengths.TheConstants.{MAX_RECORD};
+ghost use Rattle.cob_copybook_lengths.specs.Areas.{ArePossible};
+ghost use Rattle.cob_copybook_lengths.specs.Rules.{IsFit, Breaks};
+
+use crate::areas::wrong_area;
+use crate::values::wrong_value;
+use cob_copybook_entries::{BookFault, BookRule};
+use cob_copybook_tree::{MAX_RECORD, Node, whole_length};
+use std::slice;
+
+/// The line of a record's own entry; of a record that the text doesn't name, that of its first entry.
+fn line_of(root: &Node) -> u32 {
+    match root.children.first() {
+        Some(first) if root.line == 0 => first.line,
+        _ => root.line,
+    }
+}
+
+/// Whether a record isn't too long. One that redefines takes no room of its own, and breaks the rule on areas.
+fn is_short(root: &Node) -> bool
+    ensures { IsTrue result ↔ (sum_of most (forest (root.now ∷ [])) ≤ MAX_RECORD) }
+{
+    root.redefines.is_some() || whole_length(root) <= MAX_RECORD
+}
+
+/// The first rule on lengths that a record is found to break, and the line of the entry that breaks it: of the record's own for one
+/// that is too long.
+///
+/// # Errors
+///
+/// `TooLong`, `Redefinition` or `Value`, in this order.
+pub fn judged(root: &Node) -> Result<(), BookFault>
+    requires possible { ArePossible (forest (root.now ∷ [])) }
+    ensures fine { IfOk result (λ _. IsFit (forest (root.now ∷ []))) }
+    ensures broken { IfErr result (λ f. Breaks f.rule (forest (root.now ∷ []))) }
+{
+    if !is_short(root) {
+        return Err(BookFault {
+            rule: BookRule::TooLong,
+            line: line_of(root),
+        });
+    }
+    if let Some(line) = wrong_area(slice::from_ref(root)) {
+        return Err(BookFault {
+            rule: BookRule::Redefinition,
+            line,
+        });
+    }
+    match wrong_value(false, false, slice::from_ref(root)) {
+        Some(line) => Err(BookFault {
+            rule: BookRule::Value,
+            line,
+        }),
+        None => Ok(()),
+    }
+}

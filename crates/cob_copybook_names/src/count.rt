@@ -1,0 +1,101 @@
+ghost use Rattle.std.specs.Prelude.{◌≡◌, ℕ, ◌≤◌, List, [], ◌∷◌, map, IsTrue, IfOk, IfErr, IfSome, IsSomeAnd, IsOkAnd};
+ghost use Rattle.cob_copybook_entries.specs.Described.{Described, described};
+ghost use Rattle.cob_copybook_entries.specs.declared.fault.BookRule.TheVariants.{Memory, Count};
+ghost use Rattle.cob_copybook_tree.specs.Forests.{Forest, entries_in};
+ghost use Rattle.cob_copybook_tree.specs.Branches.{forest_of};
+ghost use Rattle.cob_copybook_names.specs.Counts.{IsWholeNumber, MayCount, IsCount, IsCountOf, AreCounts, AreCountsOf, IsRefusedAmong, IsRefused};
+ghost use Rattle.cob_copybook_names.specs.Listed.{bearer_of, entry_of};
+
+use crate::bearer::{Bearer, list_bearers};
+use crate::directory::Directory;
+use cob_copybook_entries::{BookFault, BookRule, Entry, Occurs, Qualified};
+use cob_copybook_tree::Branch;
+use cob_picture::{Category, Picture};
+use std::alloc::Global;
+use std::slice;
+
+/// Whether it is the picture of a number without a fraction, and without P.
+fn is_whole_number(picture: &Picture) -> bool
+    ensures yes { IsTrue result → IsWholeNumber picture.now }
+    ensures must { IsWholeNumber picture.now → IsTrue result }
+{
+    picture.category() == Category::Numeric && picture.scale() == 0
+}
+
+/// Whether the entry may be a count: a whole number that is no table, stands in none, and isn't edited by BLANK WHEN ZERO.
+fn may_count(bearer: &Bearer) -> bool
+    ensures yes { IsTrue result → MayCount (bearer_of bearer.now) }
+    ensures must { MayCount (bearer_of bearer.now) → IsTrue result }
+{
+    match &bearer.entry.picture {
+        Some(picture) => is_whole_number(picture) && !bearer.in_table && !bearer.entry.blank,
+        None => false,
+    }
+}
+
+/// The number of the count that table `number` names: none where nothing may be its count.
+fn named_count(directory: &Directory, number: usize, count: &Qualified) -> Option<usize>
+    ensures found { IfSome result (λ c. IsCount (map bearer_of directory.now.bearers.now) number count.now.name count.now.qualifiers.items c) }
+    ensures only { (c : ℕ) → IsCount (map bearer_of directory.now.bearers.now) number count.now.name count.now.qualifiers.items c → IsSomeAnd result (λ d. d ≡ c) }
+{
+    let bearer = directory.only_named(count.name.as_bytes(), count.qualifiers.as_slice())?;
+    if may_count(bearer) && bearer.number < number {
+        Some(bearer.number)
+    } else {
+        None
+    }
+}
+
+/// The number of the count of entry `number`: 0 for one that doesn't vary.
+fn count_of(directory: &Directory, number: usize, entry: &Entry) -> Result<usize, BookFault>
+    ensures found { IfOk result (λ c. IsCountOf (map bearer_of directory.now.bearers.now) number (described entry.now).occurs c) }
+    ensures only { (c : ℕ) → IsCountOf (map bearer_of directory.now.bearers.now) number (described entry.now).occurs c → IsOkAnd result (λ d. d ≡ c) }
+    ensures fault { IfErr result (λ f. f.rule ≡ Count) }
+{
+    match &entry.occurs {
+        Some(Occurs::Varying { count, .. }) => match named_count(directory, number, count) {
+            Some(count) => Ok(count),
+            None => Err(BookFault {
+                rule: BookRule::Count,
+                line: entry.line,
+            }),
+        },
+        _ => Ok(0),
+    }
+}
+
+/// The number of each entry's count, in order.
+fn counts_of(alloc: Global, directory: &Directory) -> Result<Vec<usize>, BookFault>
+    ensures found { IfOk result (λ v. AreCounts (map bearer_of directory.now.bearers.now) 0 (map entry_of directory.now.bearers.now) v.items) }
+    ensures fault { IfErr result (λ f. IsRefusedAmong (map bearer_of directory.now.bearers.now) f.rule (map entry_of directory.now.bearers.now)) }
+{
+    let mut counts = Vec::new(alloc);
+    for (number, bearer) in directory.bearers.iter().enumerate() {
+        let count = count_of(directory, number, bearer.entry)?;
+        counts.push(count)?;
+    }
+    Ok(counts)
+}
+
+/// The number of each table's count, at the table's own number; 0 for the other entries. Entries are numbered from 0, a parent before
+/// its children.
+///
+/// # Errors
+///
+/// B9 on the line of the first table that has no count; B19 where memory is refused.
+pub fn counts(alloc: Global, root: &Branch) -> Result<Vec<usize>, BookFault>
+    requires few { entries_in (forest_of (root.now ∷ [])) ≤ 65535 }
+    ensures found { IfOk result (λ v. AreCountsOf (forest_of (root.now ∷ [])) v.items) }
+    ensures only { (cs : List ℕ) → AreCountsOf (forest_of (root.now ∷ [])) cs → IfOk result (λ v. v.items ≡ cs) × IfErr result (λ f. f.rule ≡ Memory) }
+    ensures fault { IfErr result (λ f. IsRefused f.rule (forest_of (root.now ∷ []))) }
+{
+    let mut bearers = Vec::new(alloc);
+    list_bearers(alloc, &[], false, slice::from_ref(root), &mut bearers)?;
+    let directory = Directory::new(alloc, bearers.as_slice())?;
+    counts_of(alloc, &directory)
+}
+
+/// A law: a tree has its counts in one way.
+pub fn one_list_of_counts()
+    ensures { (t : Forest Described) → (a b : List ℕ) → AreCountsOf t a → AreCountsOf t b → a ≡ b }
+{}

@@ -1,0 +1,32 @@
+-- Which rules on clauses a tree keeps, and which it breaks.
+use Rattle.std.specs.Prelude.{None}
+use Rattle.cob_copybook_entries.specs.Described.{Described}
+use Rattle.cob_copybook_entries.specs.declared.fault.BookRule.{BookRule}
+use Rattle.cob_copybook_entries.specs.declared.fault.BookRule.TheVariants as rule
+use Rattle.cob_copybook_tree.specs.Forests.{Forest}
+use Rattle.cob_copybook_rules.specs.Filled.{AreFilled}
+use Rattle.cob_copybook_rules.specs.Usages.{AreUsages}
+use Rattle.cob_copybook_rules.specs.Signs.{AreSigned}
+use Rattle.cob_copybook_rules.specs.Tables.{AreTables}
+use Rattle.cob_copybook_rules.specs.Placements.{ArePlaced}
+
+-- the clauses of the entries agree with each other
+pub record AgreeAll (t : Forest Described) : Type 0 where
+  pub filled : AreFilled t
+  pub usages : AreUsages None t
+  pub signs : AreSigned None t
+  pub tables : AreTables 0 t
+  pub placements : ArePlaced None t
+
+-- the tree breaks the rule
+abbrev pub Breaks : BookRule → Forest Described → Type 0
+Breaks rule.Level t = AreFilled t → ⊥
+Breaks rule.Usage t = AreUsages None t → ⊥
+Breaks rule.Sign t = AreSigned None t → ⊥
+Breaks rule.Table t = AreTables 0 t → ⊥
+Breaks rule.Placement t = ArePlaced None t → ⊥
+Breaks r t = ⊥
+
+-- a tree whose clauses agree breaks no rule on them
+abbrev pub BreaksNoRule : Type 0
+BreaksNoRule = (r : BookRule) (t : Forest Described) → Breaks r t → AgreeAll t → ⊥

@@ -1,0 +1,21 @@
+-- SIGN: on an item it asks for a signed DISPLAY number. On a group it asks for nothing.
+use Rattle.std.specs.Prelude.{◌≡◌, true, Option, Some, None, unwrap_or}
+use Rattle.cob_picture.specs.Positions.{Seen}
+use Rattle.cob_copybook_clauses.specs.declared.kinds.Usage.{Usage}
+use Rattle.cob_copybook_clauses.specs.declared.kinds.Usage.TheVariants.{Display}
+use Rattle.cob_copybook_clauses.specs.declared.kinds.Sign.{Sign}
+use Rattle.cob_copybook_entries.specs.Described.{Described}
+use Rattle.cob_copybook_tree.specs.Forests.{Forest, Bare, Grows}
+use Rattle.cob_copybook_tree.specs.Resolving.{inherited, keeps_sign}
+
+-- an item of this usage may have the sign
+abbrev pub MayBeSigned : Option Sign → Option Usage → Option Seen → Type 0
+MayBeSigned None usage picture = Unit {0}
+MayBeSigned (Some s) usage None = Unit {0}
+MayBeSigned (Some s) usage (Some p) = keeps_sign (unwrap_or usage Display) p ≡ true
+
+-- the signs beneath groups with this usage are allowed
+abbrev pub AreSigned : Option Usage → Forest Described → Type 0
+AreSigned above Bare = Unit {0}
+AreSigned above (Grows e kids more) =
+    MayBeSigned e.sign (inherited above e.usage) e.picture × AreSigned (inherited above e.usage) kids × AreSigned above more

@@ -1,0 +1,35 @@
+-- Entries with what they inherit and what their names refer to, as a tree.
+use Rattle.std.specs.Prelude.{ℕ, List, map, Option, option_map}
+use Rattle.cob_copybook_entries.specs.Described.{Constant, constant}
+use Rattle.cob_copybook_tree.specs.declared.node.Node.{Node}
+use Rattle.cob_copybook_tree.specs.declared.node.Node.TheOpen.{Node-F}
+use Rattle.cob_copybook_tree.specs.declared.node.Node.TheFolds.{fold-Node}
+use Rattle.cob_copybook_tree.specs.declared.node.Times.{Times}
+use Rattle.cob_copybook_tree.specs.declared.node.Kind.{Kind}
+use Rattle.cob_copybook_tree.specs.Forests.{Forest, Tree, grown}
+
+-- an entry by itself
+pub record Resolved : Type 0 where
+  pub number : ℕ
+  pub level : ℕ
+  pub name : Option (List ℕ)
+  pub kind : Kind
+  pub occurs : Times
+  pub redefines : Option (List ℕ)
+  pub value : Option Constant
+
+-- the entry of a node, without the nodes beneath it
+abbrev pub resolved_entry : {A : Type 0} → Node-F A → Resolved
+resolved_entry f = record { number = f.number; level = f.level; name = f.name; kind = f.kind; occurs = f.occurs; redefines = f.redefines; value = option_map constant f.value }
+
+-- an entry by itself, and the trees of its children beneath it
+abbrev pub node_step : Node-F (Tree Resolved) → Tree Resolved
+node_step f = record { top = resolved_entry f; beneath = grown f.children.items }
+
+-- a node without where it lies in memory
+abbrev pub node : Node → Tree Resolved
+node = fold-Node (Tree Resolved) node_step
+
+-- nodes side by side
+abbrev pub forest : List Node → Forest Resolved
+forest ns = grown (map node ns)

@@ -1,0 +1,8 @@
+use cob_copybook_entries::Entry;
+
+/// An entry with those beneath it, as they are written.
+#[derive(Debug, Drop)]
+pub struct Branch {
+    pub entry: Entry,
+    pub children: Vec<Branch>,
+}

@@ -1,0 +1,52 @@
+use cob_copybook_clauses::{Sign, Usage};
+use cob_copybook_entries::{Name, Value};
+use cob_picture::Picture;
+
+/// How often an entry occurs.
+#[derive(Clone, Copy, Debug, PartialEq, Eq)]
+pub enum Times {
+    /// It has no OCCURS clause.
+    Once,
+    /// So many times.
+    Fixed(u32),
+    /// As often as the item with the number `count` says, from `least` to `most`.
+    Varying { least: u32, most: u32, count: usize },
+}
+
+/// An elementary item.
+#[derive(Debug, Drop)]
+pub struct Item {
+    pub picture: Picture,
+    /// Its own USAGE, else that of the nearest group that has one, else DISPLAY.
+    pub usage: Usage,
+    /// Where its sign stands, by its own SIGN clause or that of the nearest group that has one. None for an item that is no signed
+    /// DISPLAY number, and for one without SIGN: its sign is trailing, in the zone of the last digit.
+    pub sign: Option<Sign>,
+    pub justified: bool,
+    /// BLANK WHEN ZERO.
+    pub blank: bool,
+}
+
+/// What an entry describes.
+#[derive(Debug, Drop)]
+pub enum Kind {
+    Group,
+    Item(Item),
+}
+
+/// An entry of a record with those beneath it.
+#[derive(Debug, Drop)]
+pub struct Node {
+    /// Its place among all entries of the record, a parent before its children, from 0.
+    pub number: usize,
+    /// The line of its first word in the text, from 1; 0 for a record that the text doesn't name.
+    pub line: u32,
+    pub level: u8,
+    /// None for FILLER.
+    pub name: Option<Name>,
+    pub kind: Kind,
+    pub occurs: Times,
+    pub redefines: Option<Name>,
+    pub value: Option<Value>,
+    pub children: Vec<Node>,
+}

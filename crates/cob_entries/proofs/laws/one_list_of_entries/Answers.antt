@@ -1,6 +1,0 @@
-use Rattle.cob_clauses.specs.Entries.{sentences}
-use Rattle.cob_entries.proofs.OneList.{one_list}
-use Rattle.cob_entries.proofs.laws.one_list_of_entries.Goals as goal
-
-pub returns : goal.returns
-returns c = λ ws a b h k. one_list c.one_entry.ensures (sentences ws).ended a b h.entries k.entries

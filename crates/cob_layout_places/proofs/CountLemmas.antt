@@ -1,0 +1,168 @@
+-- The counts of tables, one behind another.
+use Rattle.std.proofs.Common.{◌≡◌, ℕ, ◌+◌, ◌-◌, ◌*◌, ◌<◌, ◌≤◌, List, [], ◌∷◌, ◌++◌, length, get_or, take, drop, refl, sym, ap, subst, ◌∙◌, arith, Option, Some, None, Bool, true, false, Ok, Err, Result, inl, inr, ◌==◌, append-nil, append_assoc}
+use Rattle.std.specs.Prelude.{slice_set}
+use Rattle.std.proofs.lemmas.List.{drop_more, drop_all, take_more, take-append-drop}
+use Rattle.cob_decimal.specs.Decimal.{number_of}
+use Rattle.cob_decimal.proofs.DecimalLemmas.{number_of-push}
+use Rattle.cob_copybook_tree.specs.declared.node.Item.{Item}
+use Rattle.cob_copybook_tree.specs.declared.node.Kind.{Kind}
+use Rattle.cob_copybook_tree.specs.declared.node.Kind.TheVariants.{Item as ItemKind}
+use Rattle.cob_copybook_tree.specs.Forests.{Forest, Bare, Grows, Tree}
+use Rattle.cob_copybook_tree.specs.Nodes.{Resolved}
+use Rattle.cob_copybook_tree.specs.Lengths.{one, sum_of, item_size}
+use Rattle.cob_item.proofs.ItemLemmas.{one_number}
+use Rattle.cob_layout_places.specs.declared.counts.CountFault.{CountFault}
+use Rattle.cob_layout_places.specs.declared.places.Found.{Found}
+use Rattle.cob_layout_places.specs.declared.varying.Table.{Table}
+use Rattle.cob_layout_places.specs.Lengths.{times}
+use Rattle.cob_layout_places.specs.Places.{find, find_one, or_else, choose, also}
+use Rattle.cob_layout_places.specs.Counts.{kind_in, kind_one, part_of, IsCount, IsFaulty, Says, IsCounted, Taken, OneOutcome}
+
+-- ---- digits
+
+more_digits : (front rest : List ℕ) → number_of front ≤ number_of (front ++ rest)
+more_digits front [] = omega (arith, ap number_of (append-nil front))
+more_digits front (d ∷ rest) =
+    let apart : (front ++ d ∷ []) ++ rest ≡ front ++ d ∷ rest = append_assoc front (d ∷ []) rest in
+    omega (arith, ap number_of apart, number_of-push front d, more_digits (front ++ d ∷ []) rest)
+
+pub digits_so_far : (ds : List ℕ) (k : ℕ) → number_of (take k ds) ≤ number_of ds
+digits_so_far ds k = omega (arith, ap number_of (take-append-drop k ds), more_digits (take k ds) (drop k ds))
+
+pub one_digit : (ds : List ℕ) (k : ℕ) → k < length ds → number_of (take (k + 1) ds) ≡ number_of (take k ds) * 10 + get_or ds k 0
+one_digit ds k lt = ap number_of (take_more ds k 0 lt) ∙ number_of-push (take k ds) (get_or ds k 0)
+
+-- ---- what stands under a number has a place
+
+-- what is described and what is found go together: an item has its length
+abbrev pub Pairs : Option Kind → Option Found → Type 0
+Pairs None None = Unit {0}
+Pairs (Some k) (Some f) = (i : Item) → k ≡ ItemKind i → f.length ≡ item_size i
+Pairs None (Some f) = ⊥
+Pairs (Some k) None = ⊥
+
+pairs_or : (k l : Option Kind) (f g : Option Found) → Pairs k f → Pairs l g → Pairs (or_else k l) (or_else f g)
+pairs_or None l None g h j = j
+pairs_or (Some k) l (Some f) g h j = h
+pairs_or None l (Some f) g h j = absurd h
+pairs_or (Some k) l None g h j = absurd h
+
+pairs_also : (b : Bool) (k : Option Kind) (f : Option Found) → Pairs k f → Pairs k (also b f)
+pairs_also b None None h = h
+pairs_also b (Some k) (Some f) h = h
+pairs_also b None (Some f) h = absurd h
+pairs_also b (Some k) None h = absurd h
+
+pairs_choose : (b : Bool) (k : Kind) (f : Found) (ks : Option Kind) (fs : Option Found) → ((i : Item) → k ≡ ItemKind i → f.length ≡ item_size i) → Pairs ks fs → Pairs (choose b k ks) (choose b f fs)
+pairs_choose true k f ks fs h j = h
+pairs_choose false k f ks fs h j = j
+
+size_of : (k : Kind) (sum : ℕ) (i : Item) → k ≡ ItemKind i → one k sum ≡ item_size i
+size_of k sum i e = ap (λ (q : Kind). one q sum) e
+
+pairs_in : (c : Resolved → ℕ) (number : ℕ) (f : Forest Resolved) (at area : ℕ) (subscripts : List ℕ) → Pairs (kind_in number f) (find c number f at area subscripts)
+pairs_in c number Bare at area subscripts = tt
+pairs_in c number (Grows e kids more) at area subscripts =
+    pairs_or _ _ _ _
+    (pairs_choose (e.number == number) e.kind _ _ _ (λ i is. size_of e.kind (sum_of c kids) i is)
+    (pairs_also _ _ _ (pairs_in c number kids _ _ _)))
+    (pairs_in c number more _ _ _)
+
+pub pairs_one : (c : Resolved → ℕ) (number : ℕ) (t : Tree Resolved) (start : ℕ) (subscripts : List ℕ) → Pairs (kind_one number t) (find_one c number t start subscripts)
+pairs_one c number t start subscripts =
+    pairs_choose (t.top.number == number) t.top.kind _ _ _ (λ i is. size_of t.top.kind (sum_of c t.beneath) i is)
+    (pairs_also _ _ _ (pairs_in c number t.beneath _ _ _))
+
+-- an item that is found has its length
+pub found_size : (o : Option Kind) (p : Option Found) (i : Item) (f : Found) → Pairs o p → o ≡ Some (ItemKind i) → p ≡ Some f → f.length ≡ item_size i
+found_size o p i f h e g =
+    let q : Pairs (Some (ItemKind i)) (Some f) = subst (λ (x : Option Found). Pairs (Some (ItemKind i)) x) g (subst (λ (x : Option Kind). Pairs x p) e h) in
+    q i refl
+
+-- an item is found
+pub found_there : (o : Option Kind) (p : Option Found) (i : Item) → Pairs o p → o ≡ Some (ItemKind i) → p ≡ None → ⊥
+found_there o p i h e g =
+    let q : Pairs (Some (ItemKind i)) None = subst (λ (x : Option Found). Pairs (Some (ItemKind i)) x) g (subst (λ (x : Option Kind). Pairs x p) e h) in
+    q
+
+-- ---- the outcome is one
+
+abbrev IsValue : ℕ → List ℕ → Type 0
+IsValue v ds = v ≡ number_of ds
+
+pub one_count : (i : Item) (x : Table) (part : List ℕ) (v w : ℕ) → IsCount i x part v → IsCount i x part w → v ≡ w
+one_count i x part v w a b =
+    let d = one_number i part false false a.digits b.digits a.represents b.represents in
+    a.value ∙ ap number_of d.1 ∙ sym b.value
+
+same_fault : (e f : CountFault) → e.offset ≡ f.offset → e.short ≡ f.short → e ≡ f
+same_fault e f o s = λ i. record { offset = o i; short = s i }
+
+same_short : (a b : Bool) (i : Item) (x : Table) (f : Found) (bytes : List ℕ) → IsFaulty a i x f bytes → IsFaulty b i x f bytes → a ≡ b
+same_short true true i x f bytes h k = refl
+same_short false false i x f bytes h k = refl
+same_short true false i x f bytes h k = absurd (omega (arith, h, k.0))
+same_short false true i x f bytes h k = absurd (omega (arith, h.0, k))
+
+fault_or_number : (s : Bool) (i : Item) (x : Table) (f : Found) (bytes : List ℕ) (v : ℕ) → IsFaulty s i x f bytes → f.offset + f.length ≤ length bytes → IsCount i x (part_of f bytes) v → ⊥
+fault_or_number true i x f bytes v h l c = omega (arith, h, l)
+fault_or_number false i x f bytes v h l c = h.1 v c
+
+one_saying : (i : Item) (x : Table) (f : Found) (bytes : List ℕ) (r s : Result ℕ CountFault) → Says i x f bytes r → Says i x f bytes s → r ≡ s
+one_saying i x f bytes (Ok v) (Ok w) a b = ap Ok (one_count i x (part_of f bytes) v w a.1 b.1)
+one_saying i x f bytes (Err e) (Err g) a b = ap Err (same_fault e g (a.0 ∙ sym b.0) (same_short e.short g.short i x f bytes a.1 b.1))
+one_saying i x f bytes (Ok v) (Err g) a b = absurd (fault_or_number g.short i x f bytes v b.1 a.0 a.1)
+one_saying i x f bytes (Err e) (Ok w) a b = absurd (fault_or_number e.short i x f bytes w a.1 b.0 b.1)
+
+same_some : {A : Type 0} (a b : A) (o : Option A) → o ≡ Some a → o ≡ Some b → a ≡ b
+same_some a b o e f = let g : Some a ≡ Some b = sym e ∙ f in cc
+
+same_item : (a b : Item) (o : Option Kind) → o ≡ Some (ItemKind a) → o ≡ Some (ItemKind b) → a ≡ b
+same_item a b o e f = let g : Some (ItemKind a) ≡ Some (ItemKind b) = sym e ∙ f in cc
+
+one_counted : (t : Tree Resolved) (bytes : List ℕ) (x : Table) (c : List ℕ) (r s : Result ℕ CountFault) → IsCounted t bytes x c r → IsCounted t bytes x c s → r ≡ s
+one_counted t bytes x c r s a b =
+    let i : a.item ≡ b.item = same_item a.item b.item (kind_one x.count t) a.is b.is in
+    let f : a.found ≡ b.found = same_some a.found b.found (find_one (times c) x.count t 0 []) a.stands b.stands in
+    let k : Says b.item x b.found bytes r = subst (λ (g : Found). Says b.item x g bytes r) f (subst (λ (j : Item). Says j x a.found bytes r) i a.says) in
+    one_saying b.item x b.found bytes r s k b.says
+
+abbrev the_ok : ℕ → Result ℕ CountFault
+the_ok v = Ok v
+
+abbrev the_err : CountFault → Result ℕ CountFault
+the_err e = Err e
+
+same_ok : (v w : ℕ) → the_ok v ≡ the_ok w → v ≡ w
+same_ok v w e = cc
+
+same_err : (e f : CountFault) → the_err e ≡ the_err f → e ≡ f
+same_err e f h = cc
+
+pub one_outcome : OneOutcome
+one_outcome t bytes [] c r s a b = a ∙ sym b
+one_outcome t bytes (x ∷ xs) c r s (inl a) (inl b) =
+    let v : a.0 ≡ b.0 = same_ok a.0 b.0 (one_counted t bytes x c (Ok a.0) (Ok b.0) a.1 b.1) in
+    one_outcome t bytes xs (slice_set c x.number b.0) r s (subst (λ (n : ℕ). Taken t bytes xs (slice_set c x.number n) r) v a.2) b.2
+one_outcome t bytes (x ∷ xs) c r s (inr a) (inr b) =
+    let e : a.0 ≡ b.0 = same_err a.0 b.0 (one_counted t bytes x c (Err a.0) (Err b.0) a.1 b.1) in
+    a.2 ∙ ap Err e ∙ sym b.2
+one_outcome t bytes (x ∷ xs) c r s (inl a) (inr b) = absurd (let e : the_ok a.0 ≡ the_err b.0 = one_counted t bytes x c (Ok a.0) (Err b.0) a.1 b.1 in cc)
+one_outcome t bytes (x ∷ xs) c r s (inr a) (inl b) = absurd (let e : the_err a.0 ≡ the_ok b.0 = one_counted t bytes x c (Err a.0) (Ok b.0) a.1 b.1 in cc)
+
+-- ---- one table further
+
+pub next_taken : (t : Tree Resolved) (bytes : List ℕ) (xs : List Table) (k : ℕ) (d : Table) (c : List ℕ) (r : Result (List ℕ) CountFault) (v : ℕ) → k < length xs
+    → IsCounted t bytes (get_or xs k d) c (Ok v) → Taken t bytes (drop (k + 1) xs) (slice_set c (get_or xs k d).number v) r
+    → Taken t bytes (drop k xs) c r
+next_taken t bytes xs k d c r v lt i more = subst (λ (ys : List Table). Taken t bytes ys c r) (sym (drop_more xs k d lt)) (inl (v, i, more))
+
+pub stops_here : (t : Tree Resolved) (bytes : List ℕ) (xs : List Table) (k : ℕ) (d : Table) (c : List ℕ) (e : CountFault) → k < length xs
+    → IsCounted t bytes (get_or xs k d) c (Err e) → Taken t bytes (drop k xs) c (Err e)
+stops_here t bytes xs k d c e lt i = subst (λ (ys : List Table). Taken t bytes ys c (Err e)) (sym (drop_more xs k d lt)) (inr (e, i, refl))
+
+pub all_taken : (t : Tree Resolved) (bytes : List ℕ) (xs : List Table) (k : ℕ) (c : List ℕ) → length xs ≤ k → Taken t bytes (drop k xs) c (Ok c)
+all_taken t bytes xs k c h = subst (λ (ys : List Table). Taken t bytes ys c (Ok c)) (sym (drop_all k xs h)) refl
+
+pub part_same : (bytes : List ℕ) (start size : ℕ) → take (start + size - start) (drop start bytes) ≡ take size (drop start bytes)
+part_same bytes start size = ap (λ (n : ℕ). take n (drop start bytes)) (omega arith)

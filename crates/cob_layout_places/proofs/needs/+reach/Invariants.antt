@@ -1,0 +1,17 @@
+use Rattle.std.proofs.Common.{◌≡◌}
+use Rattle.cob_layout_places.specs.Needs.{reach}
+use Rattle.cob_layout_places.proofs.ForestLemmas.{left, below}
+use Rattle.cob_layout_places.proofs.NeedLemmas.{AreUpTo}
+use Rattle.cob_layout_places.proofs.needs.+reach.Given as goal
+
+abbrev pub decreases-reach : goal.decreases-reach
+decreases-reach l = goal.size-reach l
+
+abbrev pub invariant-loop-child : goal.invariant-loop-child
+invariant-loop-child l =
+    let rest = left l.child-items l.child-index in
+    record {
+      at : l.at ≡ l.child-index;
+      same : reach l.tables l.number (below l.entry) ≡ reach l.tables l.number rest;
+      numbered : AreUpTo l.end rest;
+    }

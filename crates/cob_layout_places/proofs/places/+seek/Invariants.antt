@@ -1,0 +1,18 @@
+use Rattle.std.proofs.Common.{◌≡◌}
+use Rattle.cob_layout_places.specs.Lengths.{times}
+use Rattle.cob_layout_places.specs.Places.{find}
+use Rattle.cob_layout_places.proofs.ForestLemmas.{left, below}
+use Rattle.cob_layout_places.proofs.PlaceLemmas.{Left}
+use Rattle.cob_layout_places.proofs.places.+seek.Given as goal
+
+abbrev pub decreases-seek : goal.decreases-seek
+decreases-seek l = goal.size-seek l
+
+abbrev pub invariant-loop-child : goal.invariant-loop-child
+invariant-loop-child l =
+    let rest = left l.child-items l.child-index in
+    let c = times l.counts in
+    record {
+      same : find c l.number (below l.entry) l.offset l.offset l.inner ≡ find c l.number rest l.at l.area l.inner;
+      left : Left c rest l.at l.area 32752;
+    }

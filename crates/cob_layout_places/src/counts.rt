@@ -1,0 +1,143 @@
+ghost use Rattle.std.specs.Prelude.{◌≡◌, ◌≢◌, ℕ, ◌+◌, ◌<◌, ◌≤◌, List, length, Ok, Err, Result, Some, OnOk, IfOk, IfErr, IfSome, IfNone};
+ghost use Rattle.cob_decimal.specs.Decimal.{IsDigits, number_of};
+ghost use Rattle.cob_copybook_tree.specs.declared.node.Item.{Item};
+ghost use Rattle.cob_copybook_tree.specs.declared.node.Kind.TheVariants.{Item as ItemKind};
+ghost use Rattle.cob_copybook_tree.specs.Nodes.{node};
+ghost use Rattle.cob_copybook_tree.specs.Lengths.{item_size};
+ghost use Rattle.cob_item.specs.Items.{IsNumberItem};
+ghost use Rattle.cob_layout_places.specs.Lengths.{IsFit};
+ghost use Rattle.cob_layout_places.specs.Counts.{AreCountable, HaveSlots, IsCount, IsCountable, IsCounted, kind_one, Says, Taken};
+
+use crate::places::{Found, seek};
+use crate::varying::{Table, kind_with};
+use cob_copybook_tree::{Item, Kind, Node};
+use cob_item::read_number;
+
+/// A count that gives no number from its table's least to its greatest one.
+#[derive(Clone, Copy, Debug, PartialEq, Eq)]
+pub struct CountFault {
+    /// Where the count's item begins, in bytes from the start of the storage.
+    pub offset: u32,
+    /// Whether the item ends past the bytes of the storage.
+    pub short: bool,
+}
+
+/// The fault of a count that is no item: no record has one.
+const NOWHERE: CountFault = CountFault {
+    offset: 0,
+    short: false,
+};
+
+/// The whole number of these digits, if it is no more than that.
+fn whole(digits: &[u8], most: u32) -> Option<u32>
+    requires { IsDigits digits.now }
+    ensures found { IfSome result (λ v. (v ≡ number_of digits.now) × (v ≤ most)) }
+    ensures none { IfNone result (most < number_of digits.now) }
+{
+    let mut value: u64 = 0;
+    for digit in digits {
+        value = value * 10 + u64::from(*digit);
+        if value > u64::from(most) {
+            return None;
+        }
+    }
+    Some(value as u32)
+}
+
+/// The number that a table's count gives, if it gives one.
+fn count(item: &Item, table: Table, part: &[u8]) -> Option<u32>
+    requires number { IsNumberItem item.now }
+    requires long { length part.now ≡ item_size item.now }
+    ensures found { IfSome result (λ v. IsCount item.now table part.now v) }
+    ensures none { IfNone result ((v : ℕ) → IsCount item.now table part.now v → ⊥) }
+{
+    let number = read_number(item, part)?;
+    if number.negative() {
+        return None;
+    }
+    let count = whole(number.digits().as_slice(), table.most)?;
+    if count < table.least {
+        return None;
+    }
+    Some(count)
+}
+
+/// What the bytes say of a table whose count stands there.
+fn count_at(item: &Item, table: Table, found: Found, bytes: &[u8]) -> Result<u32, CountFault>
+    requires number { IsNumberItem item.now }
+    requires long { found.length ≡ item_size item.now }
+    ensures ok { IfOk result (λ v. Says item.now table found bytes.now (Ok v)) }
+    ensures err { IfErr result (λ e. Says item.now table found bytes.now (Err e)) }
+{
+    let start = found.offset as usize;
+    let end = start + found.length as usize;
+    if bytes.len() < end {
+        return Err(CountFault {
+            offset: found.offset,
+            short: true,
+        });
+    }
+    match count(item, table, &bytes[start..end]) {
+        Some(count) => Ok(count),
+        None => Err(CountFault {
+            offset: found.offset,
+            short: false,
+        }),
+    }
+}
+
+/// The item with this number among those of a record.
+fn item_with(root: &Node, number: usize) -> Option<&Item>
+    ensures found { IfSome result (λ item. kind_one number (node root.now) ≡ Some (ItemKind item.now)) }
+    ensures none { IfNone result ((item : Item) → kind_one number (node root.now) ≢ Some (ItemKind item)) }
+{
+    match kind_with(root, number)? {
+        Kind::Item(item) => Some(item),
+        Kind::Group => None,
+    }
+}
+
+/// What the bytes say of a table under the counts so far.
+pub(crate) fn count_of(
+    root: &Node,
+    table: Table,
+    bytes: &[u8],
+    counts: &[u32],
+) -> Result<u32, CountFault>
+    requires fit { IsFit 0 (node root.now) }
+    requires countable { IsCountable (node root.now) table }
+    ensures ok { IfOk result (λ v. IsCounted (node root.now) bytes.now table counts.now (Ok v)) }
+    ensures err { IfErr result (λ e. IsCounted (node root.now) bytes.now table counts.now (Err e)) }
+{
+    let Some(item) = item_with(root, table.count) else {
+        return Err(NOWHERE);
+    };
+    match seek(root, table.count, counts, 0, &[]) {
+        Some(found) => count_at(item, table, found, bytes),
+        None => Err(NOWHERE),
+    }
+}
+
+/// Takes the counts of these tables of a storage in turn, each into its table's place.
+///
+/// # Errors
+///
+/// The first count that gives no number from its table's least to its greatest one, or that ends past the bytes.
+pub fn take_counts(
+    root: &Node,
+    tables: &[Table],
+    bytes: &[u8],
+    counts: &mut [u32],
+) -> Result<(), CountFault>
+    requires fit { IsFit 0 (node root.now) }
+    requires countable { AreCountable (node root.now) tables.now }
+    requires slots { HaveSlots (length counts.old) tables.now }
+    ensures ok { OnOk result (Taken (node root.now) bytes.now tables.now counts.old (Ok counts.new)) }
+    ensures err { IfErr result (λ e. Taken (node root.now) bytes.now tables.now counts.old (Err e)) }
+    ensures room { length counts.new ≡ length counts.old }
+{
+    for table in tables {
+        counts[table.number] = count_of(root, *table, bytes, counts)?;
+    }
+    Ok(())
+}

@@ -1,0 +1,43 @@
+ghost use Rattle.std.specs.Prelude.{◌≡◌, ◌<◌, ◌≤◌, length};
+ghost use Rattle.cob_copybook_tree.specs.Nodes.{node};
+ghost use Rattle.cob_copybook_tree.specs.Lengths.{element, most, whole};
+ghost use Rattle.cob_layout_places.specs.Lengths.{alone, times, MayOccur};
+ghost use Rattle.cob_copybook_tree.specs.declared.lengths.TheConstants.{MAX_RECORD};
+
+use cob_copybook_tree::{Kind, Node, Times};
+
+/// How often an entry occurs under these counts, which stand by the numbers of their tables.
+///
+/// A count counts as its table's greatest number where it is more; a table without a count has no element.
+pub fn times_of(entry: &Node, counts: &[u32]) -> u32
+    ensures { result ≡ times counts.now (node entry.now).top }
+{
+    match entry.occurs {
+        Times::Once => 1,
+        Times::Fixed(times) => times,
+        Times::Varying { most, .. } => match counts.get(entry.number) {
+            Some(count) => (*count).min(most),
+            None => 0,
+        },
+    }
+}
+
+/// The length of one element of an entry under these counts, in bytes: at most 32,752.
+pub fn element_of(entry: &Node, counts: &[u32]) -> u32
+    requires possible { MayOccur (alone (node entry.now)) }
+    requires small { whole most (node entry.now).top (node entry.now).beneath ≤ MAX_RECORD }
+    ensures { result ≡ element (times counts.now) (node entry.now).top (node entry.now).beneath }
+{
+    match &entry.kind {
+        Kind::Item(item) => u32::from(item.size()),
+        Kind::Group => {
+            let mut sum = 0;
+            for child in entry.children.iter() {
+                if child.redefines.is_none() {
+                    sum += times_of(child, counts) * element_of(child, counts);
+                }
+            }
+            sum
+        }
+    }
+}

@@ -1,0 +1,40 @@
+//! Where the entries of a record stand: lengths, places and the counts of tables, over the resolved tree of `cob_copybook_tree`.
+//!
+//! The length of a record whose tables vary follows from its counts, which are numbers in the record itself. Counts are a list here, each by
+//! the number of its table's entry. What is promised:
+//!
+//! - [`times_of`] and [`element_of`] say how often an entry occurs under counts, and how long one of its elements is: `times` of
+//!   specs/Lengths.antt, and `element` of cob_copybook_tree. A count that is more than its table's greatest number counts as that number.
+//! - [`seek`] answers the place of an entry under counts and subscripts exactly (`find_one` of specs/Places.antt): it stands behind those before
+//!   it with all their occurrences, and a redefinition where its area begins. The law [`places_end_in_record`] says that a place ends within
+//!   the record's greatest length, and [`covering`] that each byte of a record is in exactly one occurrence of an item that stands in no
+//!   redefinition (specs/Cover.antt).
+//! - [`tables`] lists the tables that vary, and [`take_counts`] takes their counts from a storage, one behind another, or answers the first count
+//!   that ends past the bytes or gives no number within its table's bounds (`Taken` of specs/Counts.antt). There is one such outcome
+//!   ([`one_outcome`]), and storages that agree where the counts stand have the same one ([`same_counts`]).
+//! - [`take_needed`] takes only the counts that the place of one entry needs, and none that a receiver is spared (`needed` of specs/Needs.antt).
+//!   [`needs_are_read`] says which these are in the words of COBOL, and [`one_place`] that counts that agree on them give the entry one place.
+//!
+//! What holds of the entries of every record is asked for as `IsFit` of specs/Lengths.antt: each entry may occur, groups alone have entries
+//! beneath them, no redefinition is longer than its area, and the record isn't too long.
+//!
+//! It stands on `cob_copybook_tree` for the entries and on `cob_item` for the numbers of counts. Only [`tables`] takes memory.
+#![tactic(auto)]
+
+mod counts;
+mod laws;
+mod lengths;
+mod needs;
+mod places;
+#[cfg(test)]
+mod tests;
+mod varying;
+
+pub use counts::{CountFault, take_counts};
+pub use laws::{
+    covering, needs_are_read, one_outcome, one_place, places_end_in_record, same_counts,
+};
+pub use lengths::{element_of, times_of};
+pub use needs::{is_table, take_needed};
+pub use places::{Found, seek};
+pub use varying::{Table, tables};

@@ -1,0 +1,107 @@
+ghost use Rattle.std.specs.Prelude.{◌≡◌, ℕ, ◌+◌, ◌*◌, ◌<◌, ◌≤◌, Bool, List, length, Option, Some};
+ghost use Rattle.cob_copybook_tree.specs.Nodes.{node};
+ghost use Rattle.cob_copybook_tree.specs.Lengths.{most_by, room};
+ghost use Rattle.cob_layout_places.specs.Lengths.{times, IsFit};
+ghost use Rattle.cob_layout_places.specs.Places.{also, begins, find_one, is_table, is_there, later, skipped};
+
+use crate::lengths::{element_of, times_of};
+use cob_copybook_entries::Name;
+use cob_copybook_tree::{Node, Times};
+
+/// Where an element stands, in bytes from the start of the record, and whether it is one of those that are there.
+#[derive(Clone, Copy, Debug, PartialEq, Eq)]
+pub struct Found {
+    pub offset: u32,
+    pub length: u32,
+    pub within: bool,
+}
+
+/// The elements before the one that is asked for, whether that is there, and the other subscripts.
+fn step<'a>(occurs: Times, times: u32, subscripts: &'a [u32]) -> (u32, bool, &'a [u32])
+    ensures skipped { result.0 ≡ skipped (is_table occurs) (most_by occurs) subscripts.now }
+    ensures there { result.1 ≡ is_there (is_table occurs) times subscripts.now }
+    ensures later { result.2.now ≡ later (is_table occurs) subscripts.now }
+{
+    let most = match occurs {
+        Times::Once => return (0, true, subscripts),
+        Times::Fixed(most) | Times::Varying { most, .. } => most,
+    };
+    match subscripts.split_first() {
+        Some((first, rest)) => {
+            let skipped = first.saturating_sub(1).min(most.saturating_sub(1));
+            (skipped, *first <= times, rest)
+        }
+        None => (0, true, subscripts),
+    }
+}
+
+/// A place under another table, whose element is there or isn't.
+fn also_there(there: bool, found: Found) -> Found
+    ensures { Some result ≡ also there (Some found) }
+{
+    Found {
+        offset: found.offset,
+        length: found.length,
+        within: there && found.within,
+    }
+}
+
+/// Where an entry begins: a redefinition where its area does.
+fn begins_at(redefines: &Option<Name>, at: u32, area: u32) -> u32
+    ensures { result ≡ begins redefines.now at area }
+{
+    match redefines {
+        None => at,
+        Some(_) => area,
+    }
+}
+
+/// The room of an entry of this length: a redefinition takes none of its own.
+fn room_of(redefines: &Option<Name>, length: u32) -> u32
+    ensures { result ≡ room redefines.now length }
+{
+    match redefines {
+        None => length,
+        Some(_) => 0,
+    }
+}
+
+/// Where the entry with this number stands in an entry that begins at `start`, under these counts and with these subscripts.
+///
+/// The subscripts are those of the tables that hold the entry or are it, the outermost first, from 1; where they end before the tables do,
+/// the first element is meant.
+pub fn seek(
+    entry: &Node,
+    number: usize,
+    counts: &[u32],
+    start: u32,
+    subscripts: &[u32],
+) -> Option<Found>
+    requires { IsFit start (node entry.now) }
+    ensures { result ≡ find_one (times counts.now) number (node entry.now) start subscripts.now }
+{
+    let length = element_of(entry, counts);
+    let (skipped, within, inner) = step(entry.occurs, times_of(entry, counts), subscripts);
+    let offset = start + skipped * length;
+    if entry.number == number {
+        return Some(Found {
+            offset,
+            length,
+            within,
+        });
+    }
+    let mut at = offset;
+    let mut area = offset;
+    for child in entry.children.iter() {
+        let begin = begins_at(&child.redefines, at, area);
+        if let Some(found) = seek(child, number, counts, begin, inner) {
+            return Some(also_there(within, found));
+        }
+        at += room_of(
+            &child.redefines,
+            times_of(child, counts) * element_of(child, counts),
+        );
+        area = begin;
+    }
+    None
+}

@@ -1,8 +1,0 @@
-use Rattle.std.proofs.Common.{[], false}
-use Rattle.cob_tree.specs.Forests.{flat}
-use Rattle.cob_names.specs.Bearers.{bearers}
-use Rattle.cob_names.proofs.OnlyOnes.{one_list}
-use Rattle.cob_names.proofs.count.one_list_of_counts.Goals as goal
-
-pub returns : goal.returns
-returns c = λ t a b x y. one_list (bearers [] false 0 t) 0 (flat t) a b x y

@@ -1,5 +1,0 @@
-use Rattle.cob_tree.proofs.BranchLemmas.{branch_out}
-use Rattle.cob_tree.proofs.laws.branch_opens.Goals as goal
-
-pub returns : goal.returns
-returns c = branch_out

@@ -1,5 +1,0 @@
-use Rattle.cob_tree.proofs.NodeLemmas.{node_out}
-use Rattle.cob_tree.proofs.laws.node_opens.Goals as goal
-
-pub returns : goal.returns
-returns c = node_out

@@ -1,5 +1,0 @@
-use Rattle.cob_tree.proofs.StandsForLemmas.{one_tree_of}
-use Rattle.cob_tree.proofs.laws.one_tree.Goals as goal
-
-pub returns : goal.returns
-returns c = one_tree_of

@@ -1,8 +1,0 @@
-use cob_entries::Entry;
-
-/// An entry with those beneath it, as they are written.
-#[derive(Debug, Drop)]
-pub struct Branch {
-    pub entry: Entry,
-    pub children: Vec<Branch>,
-}
