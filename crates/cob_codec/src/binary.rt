@@ -4,15 +4,12 @@ ghost use Rattle.cob_decimal.specs.Decimal.{IsDigits, number_of};
 ghost use Rattle.byteorder.specs.Endian.{big_number, big_bytes};
 ghost use Rattle.cob_codec.specs.Binary.{IsBinary, IsWhole, binary_length, binary_number, binary_form, signed_number, whole_digits};
 ghost use Rattle.cob_codec.specs.BinaryLaws as laws;
-ghost use Rattle.cob_codec.specs.declared.binary.TheConstants.{MAX_BINARY_DIGITS};
+ghost use Rattle.cob_limits.specs.Limits.{most_binary_digits};
 
 use crate::shape::Shape;
 use crate::storage::Storage;
 use byteorder::{BigEndian, ByteOrder};
 use cob_decimal::{Digits, Number};
-
-/// The most digits of a binary item.
-pub const MAX_BINARY_DIGITS: u8 = 18;
 
 /// The powers of ten up to that of the most digits.
 static POWERS_OF_TEN: [u64; 19] = [
@@ -44,7 +41,7 @@ static POWERS_OF_TEN: [u64; 19] = [
 pub struct Binary;
 
 impl Storage for Binary {
-    ghost takes = { λ shape. shape.digits ≤ MAX_BINARY_DIGITS };
+    ghost takes = { λ shape. shape.digits ≤ most_binary_digits };
 
     ghost size = { λ shape. binary_length shape.digits };
 
@@ -88,7 +85,7 @@ impl Binary {
     /// The number of the bytes, also where the picture's digits do not hold it: 5, 10 or 20 digits for 2, 4 or 8 bytes, at the
     /// shape's scale.
     pub fn read_whole(shape: &Shape, bytes: &[u8]) -> Number
-        requires taken { shape.now.digits ≤ MAX_BINARY_DIGITS }
+        requires taken { shape.now.digits ≤ most_binary_digits }
         requires long { length bytes.now ≡ binary_length shape.now.digits }
         ensures value { IsWhole shape.now.digits shape.now.signed bytes.now result.negative result.digits }
         ensures scale { result.scale ≡ shape.now.scale }
@@ -105,7 +102,7 @@ impl Binary {
 
 /// The number that binary bytes represent, if they do.
 fn read_binary(shape: &Shape, bytes: &[u8]) -> Option<Number>
-    requires taken { shape.now.digits ≤ MAX_BINARY_DIGITS }
+    requires taken { shape.now.digits ≤ most_binary_digits }
     requires long { length bytes.now ≡ binary_length shape.now.digits }
     ensures found { IfSome result (λ v.
         IsBinary shape.now.digits shape.now.signed bytes.now v.negative v.digits) }
@@ -123,7 +120,7 @@ fn read_binary(shape: &Shape, bytes: &[u8]) -> Option<Number>
 
 /// A power of ten.
 fn power_of_ten(exponent: u8) -> u64
-    requires { exponent ≤ MAX_BINARY_DIGITS }
+    requires { exponent ≤ most_binary_digits }
     ensures { result ≡ 10 ^ exponent }
 {
     POWERS_OF_TEN[exponent as usize]
@@ -142,7 +139,7 @@ fn greatest(count: u8) -> u64
 
 /// The unsigned number that an item's bytes hold: that of the magnitude, or its two's complement.
 fn unsigned_of(count: u8, negative: bool, magnitude: u64) -> u64
-    requires few { count ≤ MAX_BINARY_DIGITS }
+    requires few { count ≤ most_binary_digits }
     requires fits { magnitude < 10 ^ count }
     requires nonzero { IsTrue negative → 0 < magnitude }
     ensures value { result ≡ (if negative then 256 ^ binary_length count - magnitude else magnitude) }
@@ -200,7 +197,7 @@ fn signed_in(shape: &Shape, bytes: &[u8]) -> (bool, u64)
 /// The number that digits stand for.
 fn magnitude_of(digits: &[u8]) -> u64
     requires valid { IsDigits digits.now }
-    requires few { length digits.now ≤ MAX_BINARY_DIGITS }
+    requires few { length digits.now ≤ most_binary_digits }
     ensures { result ≡ number_of digits.now }
 {
     let mut magnitude = 0;

@@ -4,7 +4,7 @@ ghost use Rattle.cob_codec.specs.Laws.{OneNumber, OneValue, ReadsBack};
 ghost use Rattle.cob_codec.specs.Packed.{IsPacked, packed_form};
 ghost use Rattle.cob_codec.specs.Separate.{IsSeparate, separate_form};
 ghost use Rattle.cob_codec.specs.Zoned.{IsZoned, zoned_form};
-ghost use Rattle.cob_codec.specs.declared.binary.TheConstants.{MAX_BINARY_DIGITS};
+ghost use Rattle.cob_limits.specs.Limits.{most_binary_digits};
 
 /// Bytes represent at most one number, in each kind of storage and in the reading of whole binary items.
 pub fn bytes_represent_one_number()
@@ -23,7 +23,7 @@ pub fn stored_numbers_read_back()
         → ReadsBack count signed (separate_form leading) (IsSeparate count leading) }
     ensures packed { (count : ℕ) (signed : Bool)
         → ReadsBack count signed (packed_form signed) (IsPacked count signed) }
-    ensures binary { (count : ℕ) (signed : Bool) → count ≤ MAX_BINARY_DIGITS
+    ensures binary { (count : ℕ) (signed : Bool) → count ≤ most_binary_digits
         → ReadsBack count signed (binary_form count) (IsBinary count signed) }
 {}
 

@@ -26,10 +26,11 @@ mod storage;
 mod tests;
 mod zoned;
 
-pub use crate::binary::{Binary, MAX_BINARY_DIGITS};
+pub use crate::binary::Binary;
 pub use crate::laws::{bytes_represent_one_number, stored_numbers_read_back, whole_reading_agrees};
 pub use crate::packed::Packed;
 pub use crate::separate::Separate;
 pub use crate::shape::Shape;
 pub use crate::storage::Storage;
 pub use crate::zoned::{Zoned, read_digits};
+pub use cob_limits::MAX_BINARY_DIGITS;

@@ -2,7 +2,7 @@ ghost use Rattle.std.proofs.Common.{◌∙◌};
 ghost use Rattle.std.specs.Prelude.{◌≡◌, ◌≢◌, ◌+◌, ◌-◌, ◌*◌, ◌/◌, ◌%◌, ◌<◌, ◌≤◌, ◌↔◌, ℕ, List, [], ◌∷◌, ◌++◌, Bool, IsTrue, length, replicate, take, IfSome, IfNone};
 ghost use Rattle.std.specs.Bool.{OnTrue};
 ghost use Rattle.cob_decimal.specs.Decimal.{IsDigits};
-ghost use Rattle.cob_decimal.specs.declared.TheConstants.{MAX_DIGITS};
+ghost use Rattle.cob_limits.specs.Limits.{most_digits};
 ghost use Rattle.cob_codec.specs.Packed.{IsPacked, IsEnded, halves, joined, pad_count, packed_form};
 ghost use Rattle.cob_codec.specs.PackedLaws as laws;
 
@@ -95,7 +95,7 @@ fn read_last(shape: &Shape, front: Digits, last: u8) -> Option<Number>
 /// The digits in the bytes before the last: behind a half byte 0 where the item has an even number of digits.
 fn front_digits(count: u8, front: &[u8]) -> Option<Digits>
     requires some { 0 < count }
-    requires most { count ≤ MAX_DIGITS }
+    requires most { count ≤ most_digits }
     requires long { length front.now ≡ count / 2 }
     ensures found { IfSome result (λ digits. IsDigits digits
         × (halves front.now ≡ replicate (pad_count count) 0 ++ digits)) }
@@ -121,7 +121,7 @@ fn front_digits(count: u8, front: &[u8]) -> Option<Digits>
 
 /// Adds both half bytes of each byte, if each is a digit.
 fn push_halves(digits: &mut Digits, bytes: &[u8]) -> bool
-    requires room { length digits.old + 2 * length bytes.now ≤ MAX_DIGITS }
+    requires room { length digits.old + 2 * length bytes.now ≤ most_digits }
     ensures exact { IsTrue result ↔ IsDigits (halves bytes.now) }
     ensures pushed { OnTrue result (digits.new ≡ digits.old ++ halves bytes.now) }
 {

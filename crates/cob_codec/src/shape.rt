@@ -1,5 +1,5 @@
 ghost use Rattle.std.specs.Prelude.{◌≡◌, ◌<◌, ◌≤◌, ◌≤ℤ◌};
-ghost use Rattle.cob_decimal.specs.declared.TheConstants.{MAX_DIGITS, MIN_SCALE, MAX_SCALE};
+ghost use Rattle.cob_limits.specs.Limits.{greatest_scale, least_scale, most_digits};
 ghost use Rattle.cob_picture.specs.Counts.{digits, scale, signed};
 ghost use Rattle.cob_picture.specs.declared.category.Category.TheVariants.{Numeric};
 
@@ -20,9 +20,9 @@ pub struct Shape {
     /// Whether the sign leads (SIGN LEADING); else it trails. Packed and binary items look at it in no way.
     pub leading: bool,
     pub ghost some: { 0 < digits },
-    pub ghost most: { digits ≤ MAX_DIGITS },
-    pub ghost low: { MIN_SCALE ≤ℤ scale },
-    pub ghost high: { scale ≤ℤ MAX_SCALE },
+    pub ghost most: { digits ≤ most_digits },
+    pub ghost low: { least_scale ≤ℤ scale },
+    pub ghost high: { scale ≤ℤ greatest_scale },
 }
 
 impl Shape {

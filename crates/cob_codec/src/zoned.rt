@@ -1,7 +1,7 @@
 ghost use Rattle.std.proofs.Common.{◌∙◌};
 ghost use Rattle.std.specs.Prelude.{◌≡◌, ◌<◌, ◌≤◌, ◌≢◌, ℕ, List, Bool, length, IfSome, IfNone};
 ghost use Rattle.cob_decimal.specs.Decimal.{IsDigits};
-ghost use Rattle.cob_decimal.specs.declared.TheConstants.{MAX_DIGITS};
+ghost use Rattle.cob_limits.specs.Limits.{most_digits};
 ghost use Rattle.cob_codec.specs.Sign.{sign_place};
 ghost use Rattle.cob_codec.specs.Zoned.{IsZoned, digit_bytes, zoned_form};
 ghost use Rattle.cob_codec.specs.ZonedLaws as laws;
@@ -94,7 +94,7 @@ fn read_zoned(shape: &Shape, bytes: &[u8]) -> Option<Number>
 
 /// The digits of a text of digits: bytes F0 to F9 alone, at most 31 of them.
 pub fn read_digits(bytes: &[u8]) -> Option<Digits>
-    requires { length bytes.now ≤ MAX_DIGITS }
+    requires { length bytes.now ≤ most_digits }
     ensures found { IfSome result (λ digits. IsDigits digits × (bytes.now ≡ digit_bytes digits)) }
     ensures none { IfNone result ((digits : List ℕ) → IsDigits digits → bytes.now ≢ digit_bytes digits) }
 {

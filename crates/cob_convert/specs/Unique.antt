@@ -1,6 +1,6 @@
 -- Bytes have one conversion: what is written and what is answered are determined.
 use Rattle.std.specs.Prelude.{◌≡◌, ℕ, ◌<◌, ◌≤◌, List, Result}
-use Rattle.cob_copybook_tree.specs.declared.lengths.TheConstants.{MAX_RECORD}
+use Rattle.cob_limits.specs.Limits.{longest_record}
 use Rattle.cob_copybook_tree.specs.Forests.{Forest}
 use Rattle.cob_copybook_tree.specs.Nodes.{Resolved}
 use Rattle.cob_steps.specs.Records.{record_length}
@@ -11,7 +11,7 @@ use Rattle.cob_convert.specs.Converted.{Converted}
 -- a record has from 1 to 32,752 bytes
 pub record HasBytes (f : Forest Resolved) : Type 0 where
   pub some : 0 < record_length f
-  pub most : record_length f ≤ MAX_RECORD
+  pub most : record_length f ≤ longest_record
 
 -- two conversions of the same bytes have written the same bytes and have one answer
 abbrev pub ConversionIsOne : Type 0

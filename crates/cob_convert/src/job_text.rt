@@ -3,9 +3,6 @@ ghost use Rattle.std.specs.Prelude.{◌≡◌, ◌≤◌, ◌<◌, ◌+◌, leng
 use cob_records::Form;
 use std::alloc::{AllocError, Global};
 
-/// The most bytes of a job.
-pub const MOST_BYTES: usize = 4_000_000;
-
 /// The parts of a job: three texts, the form of the records on each side, and the input's data, in digits.
 #[derive(Drop)]
 pub struct JobText<'a> {

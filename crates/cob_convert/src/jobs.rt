@@ -1,9 +1,10 @@
 use crate::converter::Converter;
 use crate::fault::PrepareFault;
 use crate::hex::HexSink;
-use crate::job_text::{DataFault, JobText, MOST_BYTES, decode};
+use crate::job_text::{DataFault, JobText, decode};
 use crate::run::{Cause, RunFault};
 use arrayvec::ArrayString;
+use cob_limits::MAX_JOB_BYTES;
 use cob_records::{DeviceFault, Form, MemSource, RecordFault, Sink, Source, put_record};
 use std::alloc::{AllocError, Global};
 use std::fmt::Write;
@@ -123,9 +124,9 @@ const PIECE: usize = 65_536;
 /// Reads a job, to just past its greatest length.
 fn read_job<R: Source>(alloc: Global, r: &mut R) -> Result<Vec<u8>, JobFault> {
     let mut text = Vec::new(alloc);
-    for _ in 0..=MOST_BYTES {
+    for _ in 0..=MAX_JOB_BYTES {
         let before = text.len();
-        if before > MOST_BYTES {
+        if before > MAX_JOB_BYTES {
             break;
         }
         text.resize(before + PIECE, 0u8)?;
@@ -140,7 +141,7 @@ fn read_job<R: Source>(alloc: Global, r: &mut R) -> Result<Vec<u8>, JobFault> {
 
 /// Converts the data of a job, and answers how many records there were.
 fn convert<W: Sink>(alloc: Global, text: &[u8], w: &mut HexSink<W>) -> Result<u64, JobFault> {
-    if text.len() > MOST_BYTES {
+    if text.len() > MAX_JOB_BYTES {
         return Err(JobFault::Malformed { line: 0 });
     }
     let job = match JobText::read(text) {

@@ -5,7 +5,7 @@ ghost use Rattle.cob_steps.specs.Records.{record_length};
 ghost use Rattle.cob_convert.specs.Conversion.{in_length};
 ghost use Rattle.cob_convert.specs.Run.{Ran, cause_from, offset_from, refusal_from, is_read_stop, is_write_stop};
 ghost use Rattle.cob_convert.specs.declared.run.TheConstants.{LIMIT};
-ghost use Rattle.cob_copybook_tree.specs.declared.lengths.TheConstants.{MAX_RECORD};
+ghost use Rattle.cob_limits.specs.Limits.{longest_record};
 
 use crate::setup::{Misfit, Setup, convert, measure, next_input};
 use cob_records::{Form, RecordFault, Sink, Source, put_record};
@@ -71,7 +71,7 @@ fn refusal_of(why: Misfit) -> Cause
 
 // How many bytes a record's frame has.
 fn frame_length(form: Form, length: usize) -> u64
-    requires { length ≤ MAX_RECORD }
+    requires { length ≤ longest_record }
     ensures { result ≡ frame_size form length }
 {
     match form {

@@ -3,7 +3,7 @@ ghost use Rattle.cob_records.specs.Device.{counted, Told};
 ghost use Rattle.cob_records.specs.Frame.{IsRecord, IsLength, Reads, is_read_failure, is_write_fault};
 ghost use Rattle.cob_steps.specs.Records.{record_length};
 ghost use Rattle.cob_convert.specs.Conversion.{in_length, Becomes, StopsAt, IsSized, IsMisfit};
-ghost use Rattle.cob_copybook_tree.specs.declared.lengths.TheConstants.{MAX_RECORD};
+ghost use Rattle.cob_limits.specs.Limits.{longest_record};
 
 use cob_records::{Form, RecordFault, Source, next_record};
 use cob_steps::{Plan, Stop};
@@ -57,7 +57,7 @@ pub fn measure(setup: &Setup, input: &[u8]) -> Result<(), Misfit>
 pub fn convert(setup: &Setup, input: &[u8], output: &mut [u8]) -> Result<usize, Stop>
     requires sized { IsSized setup.now input.now }
     requires room { length output.old ≡ record_length setup.now.plan.output }
-    ensures size { IfOk result (λ made. (0 < made) × (made ≤ length output.new) × (made ≤ MAX_RECORD)) }
+    ensures size { IfOk result (λ made. (0 < made) × (made ≤ length output.new) × (made ≤ longest_record)) }
     ensures converts { IfOk result (λ made. Becomes setup.now input.now (take made output.new)) }
     ensures stops { IfErr result (λ stop. StopsAt setup.now input.now stop) }
 {

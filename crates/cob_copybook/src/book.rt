@@ -4,7 +4,7 @@ ghost use Rattle.std.specs.Prelude.{◌≡◌, ℕ, ◌≤◌, [], ◌∷◌, If
 ghost use Rattle.cob_copybook_tree.specs.Forests.{Forest};
 ghost use Rattle.cob_copybook_tree.specs.Nodes.{Resolved, forest};
 ghost use Rattle.cob_copybook_tree.specs.Lengths.{most, sum_of};
-ghost use Rattle.cob_copybook_tree.specs.declared.lengths.TheConstants.{MAX_RECORD};
+ghost use Rattle.cob_limits.specs.Limits.{longest_record};
 ghost use Rattle.cob_copybook.specs.Records.{IsRecord};
 ghost use Rattle.cob_copybook.specs.Books.{IsBookOf, IsRefusal, IsMemory};
 
@@ -77,7 +77,7 @@ impl Book {
     /// The record's length in bytes where each table that varies has its greatest count: 1 to 32,752.
     pub fn greatest(&self) -> u16
         ensures value { result ≡ sum_of most self.now }
-        ensures most { result ≤ MAX_RECORD }
+        ensures most { result ≤ longest_record }
     {
         self.greatest
     }

@@ -1,6 +1,7 @@
 //! The entries of a text.
 
 ghost use Rattle.std.specs.Prelude.{◌≡◌, ℕ, ◌≤◌, ◌<◌, List, length, map, IfOk, IfErr};
+ghost use Rattle.cob_limits.specs.Limits.{longest_name};
 ghost use Rattle.cob_copybook_entries.specs.Described.{Described, described};
 ghost use Rattle.cob_copybook.specs.Books.{record_name, implied, with_record, HasEntries, IsTextRefusal, IsMemory};
 
@@ -12,7 +13,7 @@ use std::alloc::{AllocFailed, Global};
 /// The characters of the name of a record that its text doesn't name.
 fn record_name(role: Role) -> &'static [u8]
     ensures value { result.now ≡ record_name role }
-    ensures short { length result.now ≤ 30 }
+    ensures short { length result.now ≤ longest_name }
 {
     match role {
         Role::In => b"IN-RECORD",

@@ -1,7 +1,7 @@
 -- What a name is.
 use Rattle.std.specs.Prelude.{◌≡◌, ◌≢◌, ℕ, ◌≤◌, Bool, true, nat_le, ◌&&◌, ◌||◌, ◌==◌, List, [], ◌∷◌, length}
 use Rattle.std.specs.List.{AllByRecursion, list_any}
-use Rattle.cob_copybook_clauses.specs.declared.names.TheConstants.{MAX_NAME}
+use Rattle.cob_limits.specs.Limits.{longest_name}
 use Rattle.cob_copybook_clauses.specs.declared.term.Term.TheVariants as term
 use Rattle.cob_copybook_clauses.specs.Terms.{term_of_word}
 
@@ -25,7 +25,7 @@ EndsAsName (c ∷ d ∷ cs) = EndsAsName (d ∷ cs)
 
 -- a name: 1 to 30 characters, a letter among them, and not reserved
 pub record IsName (text : List ℕ) : Type 0 where
-  pub short : length text ≤ MAX_NAME
+  pub short : length text ≤ longest_name
   pub characters : AllByRecursion (λ c. is_name_character c ≡ true) text
   pub letter : list_any is_letter text ≡ true
   pub begins : BeginsAsName text

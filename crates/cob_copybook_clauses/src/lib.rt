@@ -36,7 +36,7 @@ mod words;
 pub use entry::written;
 pub use kinds::{Figurative, Sign, Usage};
 pub use laws::{one_entry, sentences_cut, sentences_end};
-pub use names::{MAX_NAME, is_name};
+pub use names::is_name;
 pub use parts::{Clauses, Constant, Count, Table, Written};
 pub use sentence::{condition, is_condition, left_out, sentence_at};
 pub use term::Term;

@@ -10,9 +10,7 @@ ghost use Rattle.std.specs.List.{AllByRecursion, list_any};
 ghost use Rattle.std.specs.Prelude.{◌≡◌, ◌↔◌, IsTrue, true};
 
 use crate::term::{Term, term_of_word};
-
-/// The most characters of a name.
-pub const MAX_NAME: usize = 30;
+use cob_limits::MAX_NAME;
 
 /// Whether a character may stand in a name: a capital, a digit, a hyphen or an underscore.
 fn is_name_character(character: u8) -> bool

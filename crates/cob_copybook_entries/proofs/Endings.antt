@@ -10,7 +10,7 @@ use Rattle.cob_copybook_clauses.proofs.CutLemmas.{cut, ends}
 use Rattle.cob_copybook_clauses.specs.Entries.{Sentences, sentences, is_condition, HasNoStop}
 use Rattle.cob_copybook_entries.specs.declared.fault.BookRule.{BookRule}
 use Rattle.cob_copybook_entries.specs.declared.fault.BookRule.TheVariants as rule
-use Rattle.cob_copybook_entries.specs.declared.reader.TheConstants.{MAX_ENTRIES}
+use Rattle.cob_limits.specs.Limits.{most_entries}
 use Rattle.cob_copybook_entries.specs.Described.{Described}
 use Rattle.cob_copybook_entries.specs.Books.{AreDescribed, AreEntriesOf, BeginsWithData, BeginsWithCondition, BreaksBy, IsBroken, OneBreaks, data_entries}
 use Rattle.cob_copybook_entries.specs.Adds.{Adds, IsAdded, IsPlaceFault, IsSentenceFault, listed}
@@ -93,7 +93,7 @@ sentence_broken r ws rest behind s ds far is (inr (inr h)) =
 
 -- of words that are entries a sentence is refused for want of memory alone
 place_only : (r : BookRule) (ws rest behind s : List Lexeme) (ds all more : List Described) (d : Option Described) → SoFar ws rest ds
-    → (sentences rest).ended ≡ s ∷ (sentences behind).ended → BeginsWithData (sentences ws).ended → length all ≤ MAX_ENTRIES
+    → (sentences rest).ended ≡ s ∷ (sentences behind).ended → BeginsWithData (sentences ws).ended → length all ≤ most_entries
     → IsAdded s d → all ≡ ds ++ (listed d ++ more) → IsPlaceFault r ds d → r ≡ rule.Memory
 place_only r ws rest behind s ds all more None far ended data_first few added is h =
     let at : BeginsWithData (sentences rest).ended = subst (λ (v : List Lexeme). BeginsWithData (sentences v).ended) (sym (far.first h.1)) data_first in

@@ -6,7 +6,7 @@ use Rattle.std.proofs.lemmas.List.Sums.{sum_by-cons}
 use Rattle.cob_source.specs.Tokens.{Lexeme}
 use Rattle.cob_copybook_clauses.specs.Entries.{sentences, is_condition}
 use Rattle.cob_copybook_entries.specs.declared.fault.BookRule.{BookRule}
-use Rattle.cob_copybook_entries.specs.declared.reader.TheConstants.{MAX_ENTRIES}
+use Rattle.cob_limits.specs.Limits.{most_entries}
 use Rattle.cob_copybook_entries.specs.Described.{Described}
 use Rattle.cob_copybook_entries.specs.Books.{IsSentence, AreDescribed, BeginsWithData, OneBreaks, data_entries}
 use Rattle.cob_copybook_entries.specs.Adds.{Adds, IsAdded, listed}
@@ -21,7 +21,7 @@ pub record SoFar (ws rest : List Lexeme) (ds : List Described) : Type 0 where
   pub count : data_entries (sentences ws).ended ≡ length ds + data_entries (sentences rest).ended
   pub first : ds ≡ [] → rest ≡ ws
   pub begins : 0 < length ds → BeginsWithData (sentences ws).ended
-  pub few : length ds ≤ MAX_ENTRIES
+  pub few : length ds ≤ most_entries
 
 pub begins : (ws : List Lexeme) (ds : List Described) → ds ≡ [] → SoFar ws ws ds
 begins ws [] e = record {
@@ -77,7 +77,7 @@ pub goes_on : (ws rest behind s : List Lexeme) (ds now : List Described) → SoF
     → IsFirst rest s behind
     → (d : Option Described) × Adds s d × (now ≡ ds ++ listed d) × (ds ≡ [] → IsSome d)
     → ((d : Option Described) → Adds s d → now ≡ ds ++ listed d)
-    → length now ≤ MAX_ENTRIES
+    → length now ≤ most_entries
     → SoFar ws behind now
 goes_on ws rest behind s ds now far is h same few =
     let d = h.0 in

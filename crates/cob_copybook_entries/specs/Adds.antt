@@ -4,7 +4,7 @@ use Rattle.cob_source.specs.Tokens.{Lexeme}
 use Rattle.cob_copybook_clauses.specs.Entries.{is_condition}
 use Rattle.cob_copybook_entries.specs.declared.fault.BookRule.{BookRule}
 use Rattle.cob_copybook_entries.specs.declared.fault.BookRule.TheVariants as rule
-use Rattle.cob_copybook_entries.specs.declared.reader.TheConstants.{MAX_ENTRIES}
+use Rattle.cob_limits.specs.Limits.{most_entries}
 use Rattle.cob_copybook_entries.specs.Described.{Described}
 use Rattle.cob_copybook_entries.specs.Books.{HasNoLeftOut, IsConditionEntry, IsEntry, BreaksSentence}
 
@@ -26,7 +26,7 @@ listed (Some d) = d ∷ []
 -- there may be.
 abbrev pub IsPlaceFault : BookRule → List Described → Option Described → Type 0
 IsPlaceFault r ds None = (r ≡ rule.Grammar) × (ds ≡ [])
-IsPlaceFault r ds (Some d) = (r ≡ rule.Memory) ⊎ ((r ≡ rule.TooMany) × (length ds ≡ MAX_ENTRIES))
+IsPlaceFault r ds (Some d) = (r ≡ rule.Memory) ⊎ ((r ≡ rule.TooMany) × (length ds ≡ most_entries))
 
 -- memory was refused, or the sentence breaks the rule, or can't be put there
 abbrev pub IsSentenceFault : BookRule → List Described → List Lexeme → Type 0

@@ -2,15 +2,13 @@
 use Rattle.std.specs.Prelude.{◌≡◌, ◌≢◌, ◌⊎◌, ℕ, ◌<◌, ◌≤◌, Bool, true, false, not, List, [], ◌∷◌, length, count_by, nat_le, ◌&&◌, Option, Some, None, option_map}
 use Rattle.cob_source.specs.Tokens.{Lexeme}
 use Rattle.cob_picture.specs.Pictures.{IsBroken as IsBrokenPicture}
-use Rattle.cob_decimal.specs.declared.TheConstants.{MAX_DIGITS}
+use Rattle.cob_limits.specs.Limits.{longest_literal, most_digits, most_entries}
 use Rattle.cob_decimal.specs.Literals.{Literal, IsLiteral, literal_text, AreDigits}
 use Rattle.cob_copybook_clauses.specs.Names.{IsName}
 use Rattle.cob_copybook_clauses.specs.Written.{WrittenConstant, Word, Quoted, Repeated, WrittenTable, WrittenEntry}
 use Rattle.cob_copybook_clauses.specs.Entries.{IsWritten, IsCondition, is_condition, IsLeftOut, sentences}
 use Rattle.cob_copybook_entries.specs.declared.fault.BookRule.{BookRule}
 use Rattle.cob_copybook_entries.specs.declared.fault.BookRule.TheVariants as rule
-use Rattle.cob_copybook_entries.specs.declared.reader.TheConstants.{MAX_ENTRIES}
-use Rattle.cob_copybook_entries.specs.declared.value.TheConstants.{MAX_LITERAL}
 use Rattle.cob_copybook_entries.specs.Described.{Described}
 use Rattle.cob_copybook_entries.specs.Meaning.{Means, IsWhole, AreNumbers}
 
@@ -47,7 +45,7 @@ pub record AreEntriesOf (ws : List Lexeme) (ds : List Described) : Type 0 where
   pub ended : (sentences ws).open_end ≡ []
   pub begins : BeginsWithData (sentences ws).ended
   pub entries : AreDescribed (sentences ws).ended ds
-  pub few : length ds ≤ MAX_ENTRIES
+  pub few : length ds ≤ most_entries
 
 -- a word that is no number stands in a number's place
 abbrev pub BreaksNumber : WrittenTable → Type 0
@@ -67,9 +65,9 @@ is_digit c = nat_le 48 c && nat_le c 57
 
 -- a VALUE's literal is too long, or is ALL with an empty one, or has too many digits
 abbrev pub BreaksValue : Option WrittenConstant → Type 0
-BreaksValue (Some (Word text)) = MAX_DIGITS < count_by is_digit text
-BreaksValue (Some (Quoted text)) = MAX_LITERAL < length text
-BreaksValue (Some (Repeated text)) = (length text ≡ 0) ⊎ (MAX_LITERAL < length text)
+BreaksValue (Some (Word text)) = most_digits < count_by is_digit text
+BreaksValue (Some (Quoted text)) = longest_literal < length text
+BreaksValue (Some (Repeated text)) = (length text ≡ 0) ⊎ (longest_literal < length text)
 BreaksValue _ = ⊥
 
 -- the numbers of an OCCURS clause are out of bounds
@@ -134,6 +132,6 @@ data_entries ss = count_by (λ s. not (is_condition s)) ss
 abbrev pub IsBroken : BookRule → List Lexeme → Type 0
 IsBroken rule.Memory ws = Unit {0}
 IsBroken rule.NoEntry ws = ws ≡ []
-IsBroken rule.TooMany ws = MAX_ENTRIES < data_entries (sentences ws).ended
+IsBroken rule.TooMany ws = most_entries < data_entries (sentences ws).ended
 IsBroken rule.Grammar ws = ((sentences ws).open_end ≢ []) ⊎ (BeginsWithCondition (sentences ws).ended ⊎ OneBreaks rule.Grammar (sentences ws).ended)
 IsBroken r ws = OneBreaks r (sentences ws).ended

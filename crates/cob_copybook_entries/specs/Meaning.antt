@@ -5,7 +5,7 @@ use Rattle.cob_decimal.specs.Literals.{Literal, IsLiteral, literal_text, IsValue
 use Rattle.cob_picture.specs.Pictures.{IsPictureOf}
 use Rattle.cob_copybook_clauses.specs.Names.{IsName}
 use Rattle.cob_copybook_clauses.specs.Written.{WrittenConstant, Word, Quoted as QuotedText, Figure as FigureWord, Repeated as RepeatedText, WrittenName, WrittenTable, WrittenEntry}
-use Rattle.cob_copybook_entries.specs.declared.value.TheConstants.{MAX_LITERAL}
+use Rattle.cob_limits.specs.Limits.{longest_literal}
 use Rattle.cob_copybook_entries.specs.Described.{Constant, Numeric, Quoted, Figure, Repeated, Times, Fixed, Varying, Described}
 
 -- a whole number without a sign, in so many digits at most
@@ -46,7 +46,7 @@ pub record IsTimes (t : WrittenTable) (times : Times) : Type 0 where
 
 -- the characters of a quoted literal aren't too many
 abbrev pub IsShort : List ℕ → Type 0
-IsShort text = length text ≤ MAX_LITERAL
+IsShort text = length text ≤ longest_literal
 
 -- what the constant of a VALUE clause means
 abbrev pub IsConstantOf : WrittenConstant → Constant → Type 0

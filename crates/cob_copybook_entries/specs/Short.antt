@@ -1,12 +1,12 @@
 -- Qualifiers that fit where names are kept.
 use Rattle.std.specs.Prelude.{ℕ, ◌≤◌, List, length, Option, Some, None}
 use Rattle.std.specs.List.{AllByRecursion}
-use Rattle.cob_copybook_clauses.specs.declared.names.TheConstants.{MAX_NAME}
+use Rattle.cob_limits.specs.Limits.{longest_name}
 use Rattle.cob_copybook_clauses.specs.Written.{WrittenName, WrittenTable}
 
 -- none of the texts is longer than a name
 abbrev pub AreShort : List (List ℕ) → Type 0
-AreShort texts = AllByRecursion (λ text. length text ≤ MAX_NAME) texts
+AreShort texts = AllByRecursion (λ text. length text ≤ longest_name) texts
 
 -- none of a count's qualifiers is
 abbrev pub HasShortQualifiers : Option WrittenName → Type 0

@@ -31,9 +31,10 @@ mod sentence;
 mod tests;
 mod value;
 
+pub use cob_limits::MAX_LITERAL;
 pub use entry::{Entry, Occurs, Qualified};
 pub use fault::{BookFault, BookRule, MAX_WORD};
 pub use laws::one_list_of_entries;
 pub use name::Name;
-pub use reader::{MAX_ENTRIES, entries};
-pub use value::{MAX_LITERAL, Text, Value};
+pub use reader::entries;
+pub use value::{Text, Value};

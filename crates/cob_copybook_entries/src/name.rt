@@ -2,10 +2,11 @@
 
 ghost use Rattle.std.specs.Prelude.{◌≡◌, ℕ, ◌≤◌, List, length, IfSome, IsSomeAnd};
 ghost use Rattle.cob_copybook_clauses.specs.Names.{IsName};
-ghost use Rattle.cob_copybook_clauses.specs.declared.names.TheConstants.{MAX_NAME};
+ghost use Rattle.cob_limits.specs.Limits.{longest_name};
 
 use arrayvec::ArrayVec;
-use cob_copybook_clauses::{MAX_NAME, is_name};
+use cob_copybook_clauses::is_name;
+use cob_limits::MAX_NAME;
 use std::fmt;
 use std::marker::Model;
 
@@ -42,7 +43,7 @@ impl Name {
 
     /// The name of these characters, at most [`MAX_NAME`], which need not be a name that the rules allow.
     pub fn from_characters(text: &[u8]) -> Name
-        requires { length text.now ≤ MAX_NAME }
+        requires { length text.now ≤ longest_name }
         ensures { result ≡ text.now }
     {
         let mut characters = ArrayVec::new();
@@ -55,7 +56,7 @@ impl Name {
     /// The characters, in ASCII.
     pub fn as_bytes(&self) -> &[u8]
         ensures value { result.now ≡ self.now }
-        ensures short { length result.now ≤ MAX_NAME }
+        ensures short { length result.now ≤ longest_name }
     {
         self.characters.as_slice()
     }

@@ -1,6 +1,7 @@
 //! The entries of a text's words.
 
 ghost use Rattle.std.specs.Prelude.{◌≡◌, ◌⊎◌, ◌<◌, ◌≤◌, [], ◌++◌, List, Option, length, map, IfErr, IfOk, IsSome, OnOk, option_map};
+ghost use Rattle.cob_limits.specs.Limits.{most_entries};
 ghost use Rattle.cob_source.specs.Tokens.{lexemes};
 ghost use Rattle.cob_copybook_entries.specs.declared.fault.BookRule.TheVariants.{Memory};
 ghost use Rattle.cob_copybook_entries.specs.Described.{Described, described};
@@ -11,11 +12,9 @@ use crate::entry::Entry;
 use crate::fault::{BookFault, BookRule};
 use crate::sentence::sentence_of;
 use cob_copybook_clauses::sentence_at;
+use cob_limits::MAX_ENTRIES;
 use cob_source::Token;
 use std::alloc::Global;
-
-/// The most entries of a text, those of level 88 not counted.
-pub const MAX_ENTRIES: usize = 2_000;
 
 /// The record description entries that the words of a text are, in order.
 ///
@@ -72,11 +71,11 @@ fn add_sentence(
     sentence: &[Token],
     entries: &mut Vec<Entry>,
 ) -> Result<(), BookRule>
-    requires { length entries.old.items ≤ MAX_ENTRIES }
+    requires { length entries.old.items ≤ most_entries }
     ensures found { OnOk result ((d : Option Described) × Adds (lexemes sentence.now) d
         × (map described entries.new.items ≡ map described entries.old.items ++ listed d)
         × (map described entries.old.items ≡ [] → IsSome d)) }
-    ensures few { OnOk result (length entries.new.items ≤ MAX_ENTRIES) }
+    ensures few { OnOk result (length entries.new.items ≤ most_entries) }
     ensures fault { IfErr result (λ r. IsSentenceFault r (map described entries.old.items) (lexemes sentence.now)) }
     ensures only { (d : Option Described) → Adds (lexemes sentence.now) d
         → OnOk result (map described entries.new.items ≡ map described entries.old.items ++ listed d)
@@ -92,11 +91,11 @@ fn add_sentence(
 ///
 /// `Grammar` where a level 88 entry comes first, `TooMany`, and `Memory`.
 fn add(entries: &mut Vec<Entry>, entry: Option<Entry>) -> Result<(), BookRule>
-    requires { length entries.old.items ≤ MAX_ENTRIES }
+    requires { length entries.old.items ≤ most_entries }
     ensures added { OnOk result (map described entries.new.items
         ≡ map described entries.old.items ++ listed (option_map described entry)) }
     ensures first { OnOk result (map described entries.old.items ≡ [] → IsSome (option_map described entry)) }
-    ensures few { OnOk result (length entries.new.items ≤ MAX_ENTRIES) }
+    ensures few { OnOk result (length entries.new.items ≤ most_entries) }
     ensures fault { IfErr result (λ r. IsPlaceFault r (map described entries.old.items) (option_map described entry)) }
 {
     match entry {

@@ -1,7 +1,7 @@
 //! The constants of VALUE clauses.
 
 ghost use Rattle.std.specs.Prelude.{◌≡◌, ◌≢◌, ◌<◌, ◌≤◌, ◌↔◌, length, count_by, Some, IfOk, IfErr, IsOkAnd, IsTrue};
-ghost use Rattle.cob_decimal.specs.declared.TheConstants.{MAX_DIGITS};
+ghost use Rattle.cob_limits.specs.Limits.{longest_literal, most_digits};
 ghost use Rattle.cob_copybook_clauses.specs.Written.{Word, written_constant};
 ghost use Rattle.cob_copybook_entries.specs.declared.fault.BookRule.TheVariants as rule;
 ghost use Rattle.cob_copybook_entries.specs.Described.{Constant as Meant, Numeric, constant};
@@ -13,11 +13,9 @@ ghost use Rattle.cob_copybook_entries.specs.Signs.{begins_with_sign};
 use crate::fault::BookRule;
 use arrayvec::ArrayVec;
 use cob_copybook_clauses::{Constant, Figurative};
-use cob_decimal::{MAX_DIGITS, Number};
+use cob_decimal::Number;
+use cob_limits::{MAX_DIGITS, MAX_LITERAL};
 use std::marker::Model;
-
-/// The most characters of a quoted literal.
-pub const MAX_LITERAL: usize = 160;
 
 /// The characters of a quoted literal: at most 160.
 ///
@@ -40,7 +38,7 @@ impl Model for Text {
 impl Text {
     /// The literal of these characters, at most [`MAX_LITERAL`].
     pub fn of(text: &[u8]) -> Text
-        requires { length text.now ≤ MAX_LITERAL }
+        requires { length text.now ≤ longest_literal }
         ensures { result ≡ text.now }
     {
         let mut characters = ArrayVec::new();
@@ -53,7 +51,7 @@ impl Text {
     /// The characters, in ASCII.
     pub fn as_bytes(&self) -> &[u8]
         ensures value { result.now ≡ self.now }
-        ensures short { length result.now ≤ MAX_LITERAL }
+        ensures short { length result.now ≤ longest_literal }
     {
         self.characters.as_slice()
     }
@@ -149,7 +147,7 @@ fn is_signed(text: &[u8]) -> bool
 
 /// Whether a word has more digits than a number may have.
 fn has_many_digits(text: &[u8]) -> bool
-    ensures { IsTrue result ↔ (MAX_DIGITS < count_by is_digit text.now) }
+    ensures { IsTrue result ↔ (most_digits < count_by is_digit text.now) }
 {
     text.iter()
         .filter(|character| character.is_ascii_digit())
@@ -165,7 +163,7 @@ fn has_many_digits(text: &[u8]) -> bool
 fn literal_of(text: &[u8]) -> Result<Text, BookRule>
     ensures found { IfOk result (λ t. IsShort text.now × (t ≡ text.now)) }
     ensures only { IsShort text.now → IsOkAnd result (λ t. t ≡ text.now) }
-    ensures fault { IfErr result (λ r. (r ≡ rule.Value) × (MAX_LITERAL < length text.now)) }
+    ensures fault { IfErr result (λ r. (r ≡ rule.Value) × (longest_literal < length text.now)) }
 {
     if text.len() > MAX_LITERAL {
         return Err(BookRule::Value);

@@ -5,19 +5,19 @@ use Rattle.cob_copybook_entries.specs.declared.fault.BookRule.TheVariants as rul
 use Rattle.cob_copybook_tree.specs.Forests.{Forest}
 use Rattle.cob_copybook_tree.specs.Nodes.{Resolved}
 use Rattle.cob_copybook_tree.specs.Lengths.{most, sum_of}
-use Rattle.cob_copybook_tree.specs.declared.lengths.TheConstants.{MAX_RECORD}
+use Rattle.cob_limits.specs.Limits.{longest_record}
 use Rattle.cob_copybook_lengths.specs.Areas.{AreAreas}
 use Rattle.cob_copybook_lengths.specs.Values.{AreValues}
 
 -- the record isn't too long, its redefinitions stay in their areas, and its values fit
 pub record IsFit (t : Forest Resolved) : Type 0 where
-  pub short : sum_of most t ≤ MAX_RECORD
+  pub short : sum_of most t ≤ longest_record
   pub areas : AreAreas [] t
   pub values : AreValues false false t
 
 -- the tree breaks the rule
 abbrev pub Breaks : BookRule → Forest Resolved → Type 0
-Breaks rule.TooLong t = sum_of most t ≤ MAX_RECORD → ⊥
+Breaks rule.TooLong t = sum_of most t ≤ longest_record → ⊥
 Breaks rule.Redefinition t = AreAreas [] t → ⊥
 Breaks rule.Value t = AreValues false false t → ⊥
 Breaks r t = ⊥

@@ -5,7 +5,7 @@ ghost use Rattle.std.specs.Option.{IsNone};
 ghost use Rattle.cob_copybook_tree.specs.declared.node.Times.TheVariants.{Once};
 ghost use Rattle.cob_copybook_tree.specs.Nodes.{node, forest};
 ghost use Rattle.cob_copybook_tree.specs.Lengths.{most, sum_of, whole};
-ghost use Rattle.cob_copybook_tree.specs.declared.lengths.TheConstants.{MAX_RECORD};
+ghost use Rattle.cob_limits.specs.Limits.{longest_record};
 ghost use Rattle.cob_copybook_lengths.specs.Areas.{hold_varying, is_varying, Bears, FitsArea, MayFollow, AreAreas, ArePossible};
 ghost use Rattle.cob_copybook_lengths.specs.Short.{IsShortArea};
 
@@ -64,7 +64,7 @@ fn bears(area: &[Node], name: &Name, level: u8) -> bool
 
 /// Whether an entry, with all its occurrences, is no longer than the first of an area.
 fn is_no_longer(entry: &Node, first: &Node) -> bool
-    requires { whole most (node first.now).top (node first.now).beneath ≤ MAX_RECORD }
+    requires { whole most (node first.now).top (node first.now).beneath ≤ longest_record }
     ensures { IsTrue result ↔ (whole most (node entry.now).top (node entry.now).beneath ≤ whole most (node first.now).top (node first.now).beneath) }
 {
     whole_length(entry) <= whole_length(first)
@@ -72,7 +72,7 @@ fn is_no_longer(entry: &Node, first: &Node) -> bool
 
 /// Whether an entry may redefine the area that the other one began.
 fn fits_area(first: &Node, entry: &Node) -> bool
-    requires { whole most (node first.now).top (node first.now).beneath ≤ MAX_RECORD }
+    requires { whole most (node first.now).top (node first.now).beneath ≤ longest_record }
     ensures yes { IsTrue result → FitsArea (node first.now) (node entry.now) }
     ensures must { FitsArea (node first.now) (node entry.now) → IsTrue result }
 {
@@ -97,7 +97,7 @@ fn may_follow(area: &[Node], entry: &Node) -> bool
 
 /// The line of an entry that redefines what it may not.
 pub(crate) fn wrong_area(entries: &[Node]) -> Option<u32>
-    requires short { sum_of most (forest entries.now) ≤ MAX_RECORD }
+    requires short { sum_of most (forest entries.now) ≤ longest_record }
     requires possible { ArePossible (forest entries.now) }
     ensures fine { IsNone result → AreAreas [] (forest entries.now) }
     ensures must { AreAreas [] (forest entries.now) → IsNone result }

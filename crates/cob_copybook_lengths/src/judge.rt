@@ -3,14 +3,15 @@
 ghost use Rattle.std.specs.Prelude.{◌≡◌, ◌≤◌, ◌↔◌, [], ◌∷◌, IsTrue, IfOk, IfErr};
 ghost use Rattle.cob_copybook_tree.specs.Nodes.{forest};
 ghost use Rattle.cob_copybook_tree.specs.Lengths.{most, sum_of};
-ghost use Rattle.cob_copybook_tree.specs.declared.lengths.TheConstants.{MAX_RECORD};
+ghost use Rattle.cob_limits.specs.Limits.{longest_record};
 ghost use Rattle.cob_copybook_lengths.specs.Areas.{ArePossible};
 ghost use Rattle.cob_copybook_lengths.specs.Rules.{IsFit, Breaks};
 
 use crate::areas::wrong_area;
 use crate::values::wrong_value;
 use cob_copybook_entries::{BookFault, BookRule};
-use cob_copybook_tree::{MAX_RECORD, Node, whole_length};
+use cob_copybook_tree::{Node, whole_length};
+use cob_limits::MAX_RECORD;
 use std::slice;
 
 /// The line of a record's own entry; of a record that the text doesn't name, that of its first entry.
@@ -23,7 +24,7 @@ fn line_of(root: &Node) -> u32 {
 
 /// Whether a record isn't too long. One that redefines takes no room of its own, and breaks the rule on areas.
 fn is_short(root: &Node) -> bool
-    ensures { IsTrue result ↔ (sum_of most (forest (root.now ∷ [])) ≤ MAX_RECORD) }
+    ensures { IsTrue result ↔ (sum_of most (forest (root.now ∷ [])) ≤ longest_record) }
 {
     root.redefines.is_some() || whole_length(root) <= MAX_RECORD
 }

@@ -2,7 +2,7 @@
 use Rattle.std.specs.Prelude.{◌≡◌, ℕ, ◌+◌, ◌<◌, ◌≤◌, Option, Some, None}
 use Rattle.cob_copybook_entries.specs.Described.{Described, Times, Fixed, Varying}
 use Rattle.cob_copybook_tree.specs.Forests.{Forest, Bare, Grows}
-use Rattle.cob_copybook_rules.specs.declared.tables.TheConstants.{MAX_DIMENSIONS}
+use Rattle.cob_limits.specs.Limits.{most_dimensions}
 
 -- one for a table
 abbrev pub dimension : Option Times → ℕ
@@ -23,4 +23,4 @@ IsNoRecordTable e = e.level ≡ 1 → e.occurs ≡ None
 abbrev pub AreTables : ℕ → Forest Described → Type 0
 AreTables n Bare = Unit {0}
 AreTables n (Grows e kids more) =
-    IsPossible e.occurs × IsNoRecordTable e × (n + dimension e.occurs ≤ MAX_DIMENSIONS) × AreTables (n + dimension e.occurs) kids × AreTables n more
+    IsPossible e.occurs × IsNoRecordTable e × (n + dimension e.occurs ≤ most_dimensions) × AreTables (n + dimension e.occurs) kids × AreTables n more

@@ -1,5 +1,6 @@
 -- USAGE: a group's applies to each item in it.
 use Rattle.std.specs.Prelude.{◌≡◌, ◌≤◌, pos, ◌-ℤ◌, ◌≤ℤ◌, true, Option, Some, None}
+use Rattle.cob_limits.specs.Limits.{most_binary_digits}
 use Rattle.cob_picture.specs.Positions.{Seen}
 use Rattle.cob_picture.specs.Counts.{digits, scale}
 use Rattle.cob_copybook_clauses.specs.declared.kinds.Usage.{Usage}
@@ -14,11 +15,12 @@ Agree None own = Unit {0}
 Agree (Some u) None = Unit {0}
 Agree (Some u) (Some v) = u ≡ v
 
--- a number's digits, those that a P stands for counted too, are at most 18
+-- a number's digits, those that a P stands for counted too, are no more than those of a binary item
 abbrev pub IsNarrow : Seen → Type 0
-IsNarrow p = (digits p.positions ≤ 18) × (scale p.positions ≤ℤ pos 18) × ((pos (digits p.positions) -ℤ scale p.positions) ≤ℤ pos 18)
+IsNarrow p = (digits p.positions ≤ most_binary_digits) × (scale p.positions ≤ℤ pos most_binary_digits)
+    × ((pos (digits p.positions) -ℤ scale p.positions) ≤ℤ pos most_binary_digits)
 
--- a packed or binary item is a number, and a binary one has at most 18 digits
+-- a packed or binary item is a number, and a binary one has few enough digits
 abbrev pub Takes : Usage → Seen → Type 0
 Takes Display p = Unit {0}
 Takes Packed p = is_numeric p.category ≡ true

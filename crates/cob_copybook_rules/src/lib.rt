@@ -3,7 +3,7 @@
 //! A record description is read entry by entry, and the entries are put into a tree. Then this crate asks of the tree, as it is
 //! written, whether the clauses of its entries agree: an item has a picture and a group has entries beneath it (B3), a group's USAGE
 //! holds for each item in it and suits the item's picture (B5), a SIGN stands at a signed DISPLAY number (B6), tables hold one
-//! another at most [`MAX_DIMENSIONS`] deep, and a record is none (B8), and JUSTIFIED and BLANK WHEN ZERO stand only where they may
+//! another at most `MAX_DIMENSIONS` deep, and a record is none (B8), and JUSTIFIED and BLANK WHEN ZERO stand only where they may
 //! (B11).
 //!
 //! What it promises of [`judged`]: a tree that it accepts keeps all of these rules (clause `fine`), and a tree that it refuses
@@ -26,4 +26,3 @@ mod tests;
 mod usages;
 
 pub use rules::{breaks_no_rule, judged};
-pub use tables::MAX_DIMENSIONS;

@@ -1,14 +1,13 @@
 ghost use Rattle.std.specs.Prelude.{◌≡◌, ◌≤◌, IsTrue, option_map};
 ghost use Rattle.std.specs.Option.{IsNone};
+ghost use Rattle.cob_limits.specs.Limits.{most_dimensions};
 ghost use Rattle.cob_copybook_entries.specs.Described.{described, times};
 ghost use Rattle.cob_copybook_tree.specs.Branches.{forest_of};
 ghost use Rattle.cob_copybook_rules.specs.Tables.{dimension, IsPossible, IsNoRecordTable, AreTables};
 
 use cob_copybook_entries::{Entry, Occurs};
 use cob_copybook_tree::Branch;
-
-/// The most tables that hold one another.
-pub const MAX_DIMENSIONS: u32 = 7;
+use cob_limits::MAX_DIMENSIONS;
 
 /// How many dimensions an entry adds to those of the tables that hold it.
 fn dimension(occurs: &Option<Occurs>) -> u32
@@ -40,7 +39,7 @@ fn is_no_record_table(entry: &Entry) -> bool
 
 /// The line of an entry whose table isn't allowed beneath so many tables.
 pub(crate) fn wrong_table(dimensions: u32, branches: &[Branch]) -> Option<u32>
-    requires { dimensions ≤ MAX_DIMENSIONS }
+    requires { dimensions ≤ most_dimensions }
     ensures fine { IsNone result → AreTables dimensions (forest_of branches.now) }
     ensures must { AreTables dimensions (forest_of branches.now) → IsNone result }
 {

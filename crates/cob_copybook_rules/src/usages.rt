@@ -9,7 +9,7 @@ use cob_copybook_tree::Branch;
 use cob_picture::{Category, Picture};
 
 /// The most digits of a binary item, those that a P stands for counted too.
-const MAX_BINARY_DIGITS: i16 = 18;
+const MAX_BINARY_DIGITS: i16 = cob_limits::MAX_BINARY_DIGITS as i16;
 
 /// The usage of an entry beneath groups with the usage `above`: its own, else theirs.
 pub(crate) fn inherited(above: Option<Usage>, own: Option<Usage>) -> Option<Usage>

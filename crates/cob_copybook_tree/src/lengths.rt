@@ -6,9 +6,6 @@ ghost use Rattle.cob_copybook_tree.specs.Lengths.{binary_size, element, item_siz
 use crate::node::{Item, Kind, Node, Times};
 use cob_copybook_clauses::{Sign, Usage};
 
-/// The most bytes of a record.
-pub const MAX_RECORD: u32 = 32_752;
-
 /// The length that each greater one counts as.
 pub const MANY: u32 = 65_536;
 

@@ -34,7 +34,7 @@ mod tests;
 
 pub use branch::Branch;
 pub use laws::{as_many_entries, branch_opens, node_opens, one_tree};
-pub use lengths::{MANY, MAX_RECORD, element_length, whole_length};
+pub use lengths::{MANY, element_length, whole_length};
 pub use node::{Item, Kind, Node, Times};
 pub use planting::planted;
 pub use resolving::{keeps_sign, resolve};

@@ -1,7 +1,7 @@
 -- The pieces that texts of numbers are taken apart into, and made of. The contracts of helpers cite them.
 use Rattle.std.specs.Prelude.{◌≢◌, ℕ, ◌+◌, ◌-◌, ◌<◌, ◌≤◌, ℤ, pos, negsuc, List, [], ◌∷◌, ◌++◌, length, replicate, Option, Some, None}
 use Rattle.std.specs.List.{AllByRecursion}
-use Rattle.cob_decimal.specs.declared.TheConstants.{MAX_DIGITS}
+use Rattle.cob_limits.specs.Limits.{most_digits}
 use Rattle.cob_decimal.specs.Literals.{AreDigits}
 
 -- No sign stands first.
@@ -20,9 +20,9 @@ point_text (Some cs) = 46 ∷ cs
 
 -- What stands before a point, and what behind it if there is one, are those of a literal without its sign.
 abbrev pub IsReadable : List ℕ → Option (List ℕ) → Type 0
-IsReadable whole None = AreDigits whole × (0 < length whole) × (length whole ≤ MAX_DIGITS)
+IsReadable whole None = AreDigits whole × (0 < length whole) × (length whole ≤ most_digits)
 IsReadable whole (Some fraction) =
-    AreDigits whole × AreDigits fraction × (0 < length fraction) × (length whole + length fraction ≤ MAX_DIGITS)
+    AreDigits whole × AreDigits fraction × (0 < length fraction) × (length whole + length fraction ≤ most_digits)
 
 -- How many zeros stand between the last digit and the point.
 abbrev pub zeros_of : ℤ → ℕ

@@ -3,6 +3,7 @@
 ghost use Rattle.std.specs.Prelude.{◌≡◌, ◌+◌, ◌<◌, ◌≤◌, ◌↔◌, [], ◌∷◌, ◌++◌, length, IsTrue};
 ghost use Rattle.std.specs.Prelude.{◌==◌};
 ghost use Rattle.std.specs.List.{list_all};
+ghost use Rattle.cob_limits.specs.Limits.{most_digits};
 ghost use Rattle.cob_decimal.specs.Decimal.{IsDigits, number_of, digit_at};
 ghost use Rattle.cob_decimal.specs.Literals.{AreDigits, digits_in};
 
@@ -45,7 +46,7 @@ impl Digits {
     /// These digits, the highest first.
     pub fn from_slice(digits: &[u8]) -> Digits
         requires digits { IsDigits digits.now }
-        requires room { length digits.now ≤ MAX_DIGITS }
+        requires room { length digits.now ≤ most_digits }
         ensures { result ≡ digits.now }
     {
         let mut copy = Digits::new();
@@ -58,7 +59,7 @@ impl Digits {
     /// Adds a digit at the end, as the lowest.
     pub fn push(&mut self, digit: u8)
         requires digit { digit < 10 }
-        requires room { length self.old < MAX_DIGITS }
+        requires room { length self.old < most_digits }
         ensures { self.new ≡ self.old ++ digit ∷ [] }
     {
         self.items.push(digit);
@@ -68,7 +69,7 @@ impl Digits {
     pub fn as_slice(&self) -> &[u8]
         ensures value { result.now ≡ self.now }
         ensures digits { IsDigits self.now }
-        ensures fits { length self.now ≤ MAX_DIGITS }
+        ensures fits { length self.now ≤ most_digits }
     {
         self.items.as_slice()
     }
@@ -91,7 +92,7 @@ impl Digits {
     /// Adds the digits of a text.
     pub(crate) fn push_text(&mut self, text: &[u8])
         requires digits { AreDigits text.now }
-        requires room { length self.old + length text.now ≤ MAX_DIGITS }
+        requires room { length self.old + length text.now ≤ most_digits }
         ensures { self.new ≡ self.old ++ digits_in text.now }
     {
         for character in text {

@@ -15,7 +15,7 @@
 //!   number has just one.
 //! - The laws of digits that other crates build on are contracts of their own, in [`laws`].
 //!
-//! It stands on the crate `arrayvec` alone, for lists of bounded length.
+//! It stands on `cob_limits`, for how many digits there are at most, and on `arrayvec`, for lists of bounded length.
 #![tactic(auto)]
 
 mod digits;
@@ -26,16 +26,6 @@ mod number_text;
 #[cfg(test)]
 mod tests;
 
+pub use cob_limits::{MAX_DIGITS, MAX_SCALE, MIN_SCALE};
 pub use digits::Digits;
 pub use number::Number;
-
-/// The most digits that a number has, and the most that a receiver or a numeric literal has.
-///
-/// ANSI X3.23-1985 asks for 18; IBM Enterprise COBOL for z/OS has 31 under its extended arithmetic (ARITH(EXTEND)).
-pub const MAX_DIGITS: usize = 31;
-
-/// The least scale: a picture of one digit and of `MAX_DIGITS - 1` places, `P`, right of it.
-pub const MIN_SCALE: i8 = 1 - MAX_DIGITS as i8;
-
-/// The greatest scale: each of `MAX_DIGITS` places stands behind the point.
-pub const MAX_SCALE: i8 = MAX_DIGITS as i8;

@@ -1,7 +1,7 @@
 //! Decimal numbers.
 
 ghost use Rattle.std.specs.Prelude.{◌≡◌, ◌<◌, ◌≤◌, ◌≤ℤ◌, ◌↔◌, length, IsTrue, IfSome, IfNone, ◌≢◌};
-ghost use Rattle.cob_decimal.specs.declared.TheConstants.{MIN_SCALE, MAX_SCALE};
+ghost use Rattle.cob_limits.specs.Limits.{greatest_scale, least_scale, most_digits};
 ghost use Rattle.cob_decimal.specs.Decimal.{number_of, aligned};
 ghost use Rattle.cob_decimal.specs.Literals.{Literal, IsLiteral, IsValueOf, literal_text, IsNumberText};
 
@@ -20,15 +20,15 @@ pub struct Number {
     digits: Digits,
     scale: i8,
     pub ghost nonzero: { IsTrue negative → 0 < number_of digits },
-    pub ghost low: { MIN_SCALE ≤ℤ scale },
-    pub ghost high: { scale ≤ℤ MAX_SCALE },
+    pub ghost low: { least_scale ≤ℤ scale },
+    pub ghost high: { scale ≤ℤ greatest_scale },
 }
 
 impl Number {
     /// The number of these parts. A zero loses its minus.
     pub fn new(negative: bool, digits: Digits, scale: i8) -> Number
-        requires low { MIN_SCALE ≤ℤ scale }
-        requires high { scale ≤ℤ MAX_SCALE }
+        requires low { least_scale ≤ℤ scale }
+        requires high { scale ≤ℤ greatest_scale }
         ensures sign { IsTrue result.negative ↔ (IsTrue negative × (0 < number_of digits)) }
         ensures digits { result.digits ≡ digits }
         ensures scale { result.scale ≡ scale }
@@ -88,9 +88,9 @@ impl Number {
     /// never rounded. The minus stays only where the receiver is `signed` and something is left. (ANSI X3.23-1985, Nucleus: the MOVE
     /// statement; Language Concepts: standard alignment rules.)
     pub fn align(&self, digits: u8, scale: i8, signed: bool) -> Number
-        requires most { digits ≤ MAX_DIGITS }
-        requires low { MIN_SCALE ≤ℤ scale }
-        requires high { scale ≤ℤ MAX_SCALE }
+        requires most { digits ≤ most_digits }
+        requires low { least_scale ≤ℤ scale }
+        requires high { scale ≤ℤ greatest_scale }
         ensures length { length result.digits ≡ digits }
         ensures magnitude { number_of result.digits
             ≡ aligned (number_of self.now.digits) self.now.scale scale digits }
@@ -125,8 +125,8 @@ impl Number {
     /// How many of the digits stand behind the point; below zero, how many places lie between the last digit and the point.
     pub fn scale(&self) -> i8
         ensures value { result ≡ self.now.scale }
-        ensures low { MIN_SCALE ≤ℤ result }
-        ensures high { result ≤ℤ MAX_SCALE }
+        ensures low { least_scale ≤ℤ result }
+        ensures high { result ≤ℤ greatest_scale }
     {
         self.scale
     }

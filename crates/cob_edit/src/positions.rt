@@ -1,6 +1,7 @@
 //! The places of a picture.
 
 ghost use Rattle.std.specs.Prelude.{◌≡◌, ◌+◌, ◌≤◌, ◌++◌, length, count_by, IsTrue};
+ghost use Rattle.cob_limits.specs.Limits.{most_digits};
 ghost use Rattle.cob_picture.specs.Counts.{size, digits};
 ghost use Rattle.cob_picture.specs.Positions.{shows_number};
 ghost use Rattle.cob_edit.specs.Places.{is_digit, bytes_of};
@@ -9,7 +10,7 @@ ghost use Rattle.cob_edit.specs.Pictured.{insertion_byte, mark_of, fill_of, fixe
 use crate::MAX_PLACES;
 use crate::place::{Fill, Mark, Place};
 use arrayvec::ArrayVec;
-use cob_decimal::MAX_DIGITS;
+use cob_limits::MAX_DIGITS;
 use cob_picture::{Picture, Position, Role, Symbol};
 
 /// The places of an item.
@@ -106,7 +107,7 @@ pub fn places_of(picture: &Picture) -> Places
     ensures value { result.items ≡ places picture.now.positions }
     ensures bytes { bytes_of result.items ≡ size picture.now.positions }
     ensures digits { count_by is_digit result.items ≡ digits picture.now.positions }
-    ensures few { count_by is_digit result.items ≤ MAX_DIGITS }
+    ensures few { count_by is_digit result.items ≤ most_digits }
     ensures most { bytes_of result.items ≤ MAX_PLACES }
 {
     places_in(picture.positions().as_slice())

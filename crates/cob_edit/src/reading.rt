@@ -1,6 +1,7 @@
 //! The number whose text stands at the places of an item.
 
 ghost use Rattle.std.specs.Prelude.{◌≡◌, ◌<◌, ◌≤◌, ◌↔◌, length, count_by, IsTrue, IfSome, IsSomeAnd, Bool, true, ℕ, List};
+ghost use Rattle.cob_limits.specs.Limits.{most_digits};
 ghost use Rattle.cob_decimal.specs.Decimal.{IsDigits};
 ghost use Rattle.cob_edit.specs.Places.{is_digit, bytes_of};
 ghost use Rattle.cob_edit.specs.Editing.{IsText, Fits, shown_digit, extract, OneReading};
@@ -9,7 +10,8 @@ use crate::MAX_PLACES;
 use crate::place::Place;
 use crate::region::shows_sign;
 use crate::text::{are_zero, write_text};
-use cob_decimal::{Digits, MAX_DIGITS};
+use cob_decimal::Digits;
+use cob_limits::MAX_DIGITS;
 
 /// The digit that a byte shows, and 0 for a byte that shows none.
 fn shown_digit(byte: u8) -> u8
@@ -26,7 +28,7 @@ fn shown_digit(byte: u8) -> u8
 /// The digits that stand at the digit places of a text, whatever it is.
 fn digits_in(places: &[Place], bytes: &[u8]) -> Digits
     requires room { length bytes.now ≡ bytes_of places.now }
-    requires few { count_by is_digit places.now ≤ MAX_DIGITS }
+    requires few { count_by is_digit places.now ≤ most_digits }
     ensures value { result ≡ extract places.now bytes.now }
     ensures count { length result ≡ count_by is_digit places.now }
     ensures valid { IsDigits result }
@@ -73,7 +75,7 @@ fn is_negative_text(places: &[Place], blank: bool, digits: &[u8], bytes: &[u8]) 
 pub fn read_text(places: &[Place], blank: bool, bytes: &[u8]) -> Option<(bool, Digits)>
     requires room { length bytes.now ≡ bytes_of places.now }
     requires most { length bytes.now ≤ MAX_PLACES }
-    requires few { count_by is_digit places.now ≤ MAX_DIGITS }
+    requires few { count_by is_digit places.now ≤ most_digits }
     ensures found { IfSome result (λ v. Fits places.now v.0 v.1 × IsText places.now blank v.0 v.1 bytes.now) }
     ensures only { (n : Bool) (ds : List ℕ) → Fits places.now n ds → IsText places.now blank n ds bytes.now →
         IsSomeAnd result (λ v. (v.0 ≡ n) × (v.1 ≡ ds)) }

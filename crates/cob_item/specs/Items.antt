@@ -7,7 +7,7 @@ use Rattle.cob_copybook_clauses.specs.declared.kinds.Usage.TheVariants as usage
 use Rattle.cob_copybook_clauses.specs.declared.kinds.Sign.{Sign}
 use Rattle.cob_copybook_tree.specs.declared.node.Item.{Item}
 use Rattle.cob_copybook_tree.specs.Resolving.{is_numeric}
-use Rattle.cob_codec.specs.declared.binary.TheConstants.{MAX_BINARY_DIGITS}
+use Rattle.cob_limits.specs.Limits.{most_binary_digits}
 use Rattle.cob_codec.specs.Sign.{IsHeld}
 use Rattle.cob_codec.specs.Zoned.{IsZoned, zoned_form}
 use Rattle.cob_codec.specs.Separate.{IsSeparate, separate_form}
@@ -75,7 +75,7 @@ abbrev pub IsTaken : Form → Seen → Type 0
 IsTaken Zoned p = Unit {0}
 IsTaken Separate p = signed p.positions ≡ true
 IsTaken Packed p = Unit {0}
-IsTaken Binary p = digits p.positions ≤ MAX_BINARY_DIGITS
+IsTaken Binary p = digits p.positions ≤ most_binary_digits
 
 -- The item is a number: its picture is numeric, BLANK WHEN ZERO doesn't make it an edited one, and its kind of storage takes the picture.
 pub record IsNumberItem (i : Item) : Type 0 where

@@ -3,7 +3,7 @@
 ghost use Rattle.std.specs.Prelude.{◌≡◌, ◌≤◌, ◌+◌, length, Ok, Err, Some, OnOk, IfOk, IfErr, OnErr, option_map};
 ghost use Rattle.cob_copybook_tree.specs.Forests.{entries_in};
 ghost use Rattle.cob_copybook_tree.specs.Lengths.{most, sum_of};
-ghost use Rattle.cob_copybook_tree.specs.declared.lengths.TheConstants.{MAX_RECORD};
+ghost use Rattle.cob_limits.specs.Limits.{longest_record};
 ghost use Rattle.cob_copybook.specs.Records.{IsRecord};
 ghost use Rattle.cob_layout_places.specs.Lengths.{alone, times};
 ghost use Rattle.cob_layout_places.specs.Places.{find};
@@ -100,7 +100,7 @@ impl Layout {
     /// The record's greatest length in bytes.
     pub fn greatest(&self) -> u16
         ensures value { result ≡ sum_of most (alone self.now) }
-        ensures most { result ≤ MAX_RECORD }
+        ensures most { result ≤ longest_record }
         ensures record { IsRecord (alone self.now) }
     {
         self.greatest

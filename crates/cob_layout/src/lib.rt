@@ -41,4 +41,4 @@ pub use cob_layout_places::CountFault;
 pub use counts::Counts;
 pub use laws::one_place_by_needs;
 pub use layout::Layout;
-pub use reference::{MAX_SUBSCRIPTS, PlaceFault, Ref};
+pub use reference::{PlaceFault, Ref};

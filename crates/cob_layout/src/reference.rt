@@ -1,7 +1,5 @@
 use arrayvec::ArrayVec;
-
-/// The most subscripts of a reference: the most tables that hold one another.
-pub const MAX_SUBSCRIPTS: usize = 7;
+use cob_limits::MAX_SUBSCRIPTS;
 
 /// A reference to an entry of a record.
 #[derive(Debug, Drop)]

@@ -1,6 +1,6 @@
 -- How often entries occur under counts, and what holds of the entries of every record.
 use Rattle.std.specs.Prelude.{ℕ, ◌+◌, ◌<◌, ◌≤◌, List, Option, Some, None, slice_index, min}
-use Rattle.cob_copybook_tree.specs.declared.lengths.TheConstants.{MAX_RECORD}
+use Rattle.cob_limits.specs.Limits.{longest_record}
 use Rattle.cob_copybook_tree.specs.declared.node.Times.{Times}
 use Rattle.cob_copybook_tree.specs.declared.node.Times.TheVariants.{Once, Fixed, Varying}
 use Rattle.cob_copybook_tree.specs.declared.node.Kind.{Kind}
@@ -57,7 +57,7 @@ pub record IsFit (start : ℕ) (t : Tree Resolved) : Type 0 where
   pub possible : MayOccur (alone t)
   pub leaves : AreLeaves (alone t)
   pub areas : AreInAreas 0 t.beneath
-  pub small : start + whole most t.top t.beneath ≤ MAX_RECORD
+  pub small : start + whole most t.top t.beneath ≤ longest_record
 
 -- no entry occurs more often than its greatest number
 abbrev pub AreWithin : (Resolved → ℕ) → Forest Resolved → Type 0

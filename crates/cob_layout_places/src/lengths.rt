@@ -2,7 +2,7 @@ ghost use Rattle.std.specs.Prelude.{◌≡◌, ◌<◌, ◌≤◌, length};
 ghost use Rattle.cob_copybook_tree.specs.Nodes.{node};
 ghost use Rattle.cob_copybook_tree.specs.Lengths.{element, most, whole};
 ghost use Rattle.cob_layout_places.specs.Lengths.{alone, times, MayOccur};
-ghost use Rattle.cob_copybook_tree.specs.declared.lengths.TheConstants.{MAX_RECORD};
+ghost use Rattle.cob_limits.specs.Limits.{longest_record};
 
 use cob_copybook_tree::{Kind, Node, Times};
 
@@ -25,7 +25,7 @@ pub fn times_of(entry: &Node, counts: &[u32]) -> u32
 /// The length of one element of an entry under these counts, in bytes: at most 32,752.
 pub fn element_of(entry: &Node, counts: &[u32]) -> u32
     requires possible { MayOccur (alone (node entry.now)) }
-    requires small { whole most (node entry.now).top (node entry.now).beneath ≤ MAX_RECORD }
+    requires small { whole most (node entry.now).top (node entry.now).beneath ≤ longest_record }
     ensures { result ≡ element (times counts.now) (node entry.now).top (node entry.now).beneath }
 {
     match &entry.kind {

@@ -1,6 +1,6 @@
 -- What the storage before the first move asks of entries: that they have one.
 use Rattle.std.specs.Prelude.{◌<◌, ◌≤◌, false, is_some}
-use Rattle.cob_copybook_tree.specs.declared.lengths.TheConstants.{MAX_RECORD}
+use Rattle.cob_limits.specs.Limits.{longest_record}
 use Rattle.cob_copybook_tree.specs.Forests.{Forest, Tree}
 use Rattle.cob_copybook_tree.specs.Nodes.{Resolved}
 use Rattle.cob_copybook_tree.specs.Lengths.{most, sum_of, whole}
@@ -14,7 +14,7 @@ pub record AreReady (f : Forest Resolved) : Type 0 where
   pub possible : MayOccur f
   pub storable : AreStorable f
   pub values : AreValues false false f
-  pub short : sum_of most f ≤ MAX_RECORD
+  pub short : sum_of most f ≤ longest_record
 
 -- so is one of them, which redefines nothing, with those beneath it
 pub record IsReady (t : Tree Resolved) : Type 0 where
@@ -24,4 +24,4 @@ pub record IsReady (t : Tree Resolved) : Type 0 where
   pub beneath : AreStorable t.beneath
   pub value : MayHaveValue false false t.top t.beneath t.top.value
   pub values : AreValues false (is_some t.top.value) t.beneath
-  pub short : whole most t.top t.beneath ≤ MAX_RECORD
+  pub short : whole most t.top t.beneath ≤ longest_record

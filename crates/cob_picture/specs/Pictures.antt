@@ -1,7 +1,7 @@
 -- Which text is which picture, and which rule a text breaks.
 use Rattle.std.specs.Prelude.{◌≡◌, ℕ, ◌<◌, ◌≤◌, ◌⊎◌, List, length, IsTrue}
 use Rattle.std.specs.List.{flat_map}
-use Rattle.cob_picture.specs.declared.TheConstants.{MAX_TEXT, MAX_DIGITS, MAX_SIZE, MAX_EDITED_SIZE}
+use Rattle.cob_limits.specs.Limits.{longest_edited, longest_picture, longest_record, most_digits}
 use Rattle.cob_picture.specs.declared.symbol.Symbol.{Symbol}
 use Rattle.cob_picture.specs.declared.fault.PictureFault.{PictureFault}
 use Rattle.cob_picture.specs.declared.fault.PictureFault.TheVariants.{Empty, UnknownSymbol, BadRepeat, Order, Digits, TooLong, LeftOut}
@@ -17,9 +17,9 @@ use Rattle.cob_picture.specs.Categories.{IsOf}
 -- an edited one at most 249.
 pub record IsWithinLimits (c : Category) (ps : List Position) : Type 0 where
   pub some_digits : IsTrue (shows_number c) → 0 < digits ps
-  pub few_digits : decimal_places ps ≤ MAX_DIGITS
-  pub fits : size ps ≤ MAX_SIZE
-  pub edited_fits : IsTrue (is_edited c) → size ps ≤ MAX_EDITED_SIZE
+  pub few_digits : decimal_places ps ≤ most_digits
+  pub fits : size ps ≤ longest_record
+  pub edited_fits : IsTrue (is_edited c) → size ps ≤ longest_edited
 
 -- the symbols are those of a picture of the category
 pub record IsPicture (c : Category) (symbols : List Symbol) : Type 0 where
@@ -30,7 +30,7 @@ pub record IsPicture (c : Category) (symbols : List Symbol) : Type 0 where
 -- of its category and within the limits.
 pub record IsPictureOf (text : List ℕ) (seen : Seen) : Type 0 where
   pub some : 0 < length text
-  pub characters : length text ≤ MAX_TEXT
+  pub characters : length text ≤ longest_picture
   pub items : List Item
   pub reads : Reads text items
   pub symbols : List Symbol
@@ -41,8 +41,8 @@ pub record IsPictureOf (text : List ℕ) (seen : Seen) : Type 0 where
 -- Which rule on order or limits the symbols break.
 abbrev pub IsMisplaced : PictureFault → List Symbol → Type 0
 IsMisplaced Order symbols = ((c : Category) → IsOf c symbols → ⊥) × (IsLeftOut symbols → ⊥)
-IsMisplaced Digits symbols = (c : Category) × IsOf c symbols × ((IsTrue (shows_number c) × (digits (positions c symbols) ≡ 0)) ⊎ (MAX_DIGITS < decimal_places (positions c symbols)))
-IsMisplaced TooLong symbols = (c : Category) × IsOf c symbols × ((MAX_SIZE < size (positions c symbols)) ⊎ (IsTrue (is_edited c) × (MAX_EDITED_SIZE < size (positions c symbols))))
+IsMisplaced Digits symbols = (c : Category) × IsOf c symbols × ((IsTrue (shows_number c) × (digits (positions c symbols) ≡ 0)) ⊎ (most_digits < decimal_places (positions c symbols)))
+IsMisplaced TooLong symbols = (c : Category) × IsOf c symbols × ((longest_record < size (positions c symbols)) ⊎ (IsTrue (is_edited c) × (longest_edited < size (positions c symbols))))
 IsMisplaced Empty symbols = ⊥
 IsMisplaced UnknownSymbol symbols = ⊥
 IsMisplaced BadRepeat symbols = ⊥
@@ -59,5 +59,5 @@ IsBroken UnknownSymbol text = IsBrokenAfter UnknownSymbol text
 IsBroken BadRepeat text = IsBrokenAfter BadRepeat text
 IsBroken Order text = IsMisplacedIn Order text
 IsBroken Digits text = IsMisplacedIn Digits text
-IsBroken TooLong text = (MAX_TEXT < length text) ⊎ IsMisplacedIn TooLong text
+IsBroken TooLong text = (longest_picture < length text) ⊎ IsMisplacedIn TooLong text
 IsBroken LeftOut text = IsBrokenAfter LeftOut text ⊎ IsMisplacedIn LeftOut text

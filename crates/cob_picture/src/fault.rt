@@ -18,7 +18,7 @@ pub enum PictureFault {
     /// A picture of a number has no digit, or more than `MAX_DIGITS`.
     #[error("P5")]
     Digits,
-    /// Over `MAX_TEXT` characters, or more bytes than `MAX_SIZE` or, of an edited item, `MAX_EDITED_SIZE`.
+    /// Over `MAX_PICTURE_TEXT` characters, or more bytes than `MAX_RECORD` or, of an edited item, `MAX_EDITED_SIZE`.
     #[error("P6")]
     TooLong,
     /// What the standard has and this profile leaves out: E, N, G and U, a P in a numeric edited picture, and a currency sign

@@ -1,4 +1,5 @@
 ghost use Rattle.std.specs.Prelude.{◌≡◌, ℕ, ◌+◌, ◌<◌, ◌≤◌, ◌⊎◌, length, IfOk, IfErr, IsOkAnd, IsTrue, IsFalse};
+ghost use Rattle.cob_limits.specs.Limits.{longest_edited, longest_record, most_digits};
 ghost use Rattle.cob_picture.specs.Positions.{written_out, positions, shows_number, is_edited};
 ghost use Rattle.cob_picture.specs.Runs.{ArePositive};
 ghost use Rattle.cob_picture.specs.Measures.{AreCountsOf};
@@ -11,24 +12,24 @@ use crate::counts::{Counts, counted};
 use crate::edited::is_left_out;
 use crate::fault::PictureFault;
 use crate::symbol::Run;
-use crate::{MAX_DIGITS, MAX_EDITED_SIZE, MAX_SIZE};
+use cob_limits::{MAX_DIGITS, MAX_EDITED_SIZE, MAX_RECORD};
 
 /// Whether a picture of the category may show so many digits.
 pub fn digits_fit(category: Category, counts: Counts) -> bool
     ensures some { IsTrue result → IsTrue (shows_number category) → 0 < counts.digits }
-    ensures few { IsTrue result → counts.decimal_places ≤ MAX_DIGITS }
-    ensures not { IsFalse result → (IsTrue (shows_number category) × (counts.digits ≡ 0)) ⊎ (MAX_DIGITS < counts.decimal_places) }
+    ensures few { IsTrue result → counts.decimal_places ≤ most_digits }
+    ensures not { IsFalse result → (IsTrue (shows_number category) × (counts.digits ≡ 0)) ⊎ (most_digits < counts.decimal_places) }
 {
-    (counts.digits > 0 || !category.shows_number()) && counts.decimal_places <= MAX_DIGITS
+    (counts.digits > 0 || !category.shows_number()) && counts.decimal_places <= MAX_DIGITS as u32
 }
 
 /// Whether a picture of the category may take so many bytes.
 pub fn size_fits(category: Category, size: u32) -> bool
-    ensures all { IsTrue result → size ≤ MAX_SIZE }
-    ensures edited { IsTrue result → IsTrue (is_edited category) → size ≤ MAX_EDITED_SIZE }
-    ensures not { IsFalse result → (MAX_SIZE < size) ⊎ (IsTrue (is_edited category) × (MAX_EDITED_SIZE < size)) }
+    ensures all { IsTrue result → size ≤ longest_record }
+    ensures edited { IsTrue result → IsTrue (is_edited category) → size ≤ longest_edited }
+    ensures not { IsFalse result → (longest_record < size) ⊎ (IsTrue (is_edited category) × (longest_edited < size)) }
 {
-    size <= MAX_SIZE && (size <= MAX_EDITED_SIZE || !category.is_edited())
+    size <= MAX_RECORD && (size <= MAX_EDITED_SIZE || !category.is_edited())
 }
 
 /// Why the runs are of no category.

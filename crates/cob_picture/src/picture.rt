@@ -1,4 +1,5 @@
 ghost use Rattle.std.specs.Prelude.{◌≡◌, ℕ, ◌+◌, ◌<◌, ◌≤◌, ◌≤ℤ◌, ◌-ℤ◌, pos, negsuc, ◌⊎◌, List, length, IfOk, IfErr, IsOkAnd, IsTrue, IsFalse};
+ghost use Rattle.cob_limits.specs.Limits.{greatest_scale, longest_edited, longest_picture, longest_record, most_digits};
 ghost use Rattle.cob_picture.specs.Positions.{Seen, written_out, positions, symbols_of, shows_number, is_edited};
 ghost use Rattle.cob_picture.specs.Runs.{ArePositive};
 ghost use Rattle.cob_picture.specs.Counts.{size, digits, scale, signed};
@@ -12,8 +13,8 @@ use crate::judge::judged;
 use crate::position::{Position, positions_of};
 use crate::reading::runs_of;
 use crate::symbol::Run;
-use crate::{MAX_DIGITS, MAX_EDITED_SIZE, MAX_SIZE, MAX_TEXT};
 use arrayvec::ArrayVec;
+use cob_limits::MAX_PICTURE_TEXT;
 use std::marker::Model;
 
 /// A picture, as a PICTURE clause gives it: contracts see its category and its positions, each with its role.
@@ -40,7 +41,7 @@ impl Picture {
     ///
     /// # Errors
     ///
-    /// The first rule that is found broken. The text is at most `MAX_TEXT` characters.
+    /// The first rule that is found broken. The text is at most `MAX_PICTURE_TEXT` characters.
     pub fn read(text: &[u8]) -> Result<Picture, PictureFault>
         ensures found { IfOk result (λ p. IsPictureOf text.now p) }
         ensures only { (p : Seen) → IsPictureOf text.now p → IsOkAnd result (λ q. q ≡ p) }
@@ -49,7 +50,7 @@ impl Picture {
         if text.is_empty() {
             return Err(PictureFault::Empty);
         }
-        if text.len() > MAX_TEXT {
+        if text.len() > MAX_PICTURE_TEXT {
             return Err(PictureFault::TooLong);
         }
         let runs = runs_of(text)?;
@@ -75,8 +76,8 @@ impl Picture {
     pub fn size(&self) -> u16
         ensures value { result ≡ size self.now.positions }
         ensures some { 0 < result }
-        ensures most { result ≤ MAX_SIZE }
-        ensures edited { IsTrue (is_edited self.now.category) → result ≤ MAX_EDITED_SIZE }
+        ensures most { result ≤ longest_record }
+        ensures edited { IsTrue (is_edited self.now.category) → result ≤ longest_edited }
     {
         self.size
     }
@@ -84,7 +85,7 @@ impl Picture {
     /// How many digits the number has that it shows; 0 where it shows none.
     pub fn digits(&self) -> u8
         ensures value { result ≡ digits self.now.positions }
-        ensures most { result ≤ MAX_DIGITS }
+        ensures most { result ≤ most_digits }
         ensures some { IsTrue (shows_number self.now.category) → 0 < result }
         ensures other { IsFalse (shows_number self.now.category) → result ≡ 0 }
     {
@@ -95,7 +96,7 @@ impl Picture {
     pub fn scale(&self) -> i8
         ensures value { result ≡ scale self.now.positions }
         ensures least { negsuc 29 ≤ℤ result }
-        ensures most { result ≤ℤ pos 31 }
+        ensures most { result ≤ℤ greatest_scale }
         ensures other { IsFalse (shows_number self.now.category) → result ≡ pos 0 }
     {
         self.scale
@@ -116,7 +117,7 @@ impl Picture {
         // What was read is in the order of its category, and within the limits.
         ensures picture { IsPicture self.now.category (written_out result.now) }
         ensures positive { ArePositive result.now }
-        ensures few { length result.now ≤ MAX_TEXT }
+        ensures few { length result.now ≤ longest_picture }
     {
         self.runs.as_slice()
     }

@@ -6,7 +6,7 @@ use Rattle.cob_copybook_tree.specs.declared.node.Kind.TheVariants.{Group, Item a
 use Rattle.cob_copybook_tree.specs.Forests.{Forest, Bare, Grows, Tree}
 use Rattle.cob_copybook_tree.specs.Nodes.{Resolved}
 use Rattle.cob_copybook_tree.specs.Lengths.{most, room, sum_of, whole}
-use Rattle.cob_copybook_tree.specs.declared.lengths.TheConstants.{MAX_RECORD}
+use Rattle.cob_limits.specs.Limits.{longest_record}
 use Rattle.cob_copybook_lengths.specs.Areas as areas
 use Rattle.cob_copybook_lengths.specs.Areas.{AreAreas, MayFollow, MayHold, joined}
 use Rattle.cob_layout_places.specs.Lengths.{alone, area_by, MayOccur, AreInAreas, IsLeaf, AreLeaves}
@@ -59,7 +59,7 @@ redefines_none None t h = refl
 redefines_none (Some name) t h = absurd h.0
 
 -- a record that redefines nothing is as long as it takes room
-pub record_small : (t : Tree Resolved) → t.top.redefines ≡ None → sum_of most (alone t) ≤ MAX_RECORD → 0 + whole most t.top t.beneath ≤ 32752
+pub record_small : (t : Tree Resolved) → t.top.redefines ≡ None → sum_of most (alone t) ≤ longest_record → 0 + whole most t.top t.beneath ≤ 32752
 record_small t first short =
     let e : room t.top.redefines (whole most t.top t.beneath) ≡ whole most t.top t.beneath = ap (λ (r : Option (List ℕ)). room r (whole most t.top t.beneath)) first in
     omega (arith, e, short)

@@ -7,7 +7,7 @@ use Rattle.cob_source.specs.declared.lines.LineKind.{LineKind}
 use Rattle.cob_source.specs.declared.lines.LineKind.TheVariants.{Skipped, Plain, Continuation}
 use Rattle.cob_source.specs.declared.fault.SourceRule.{SourceRule}
 use Rattle.cob_source.specs.declared.fault.SourceRule.TheVariants.{NotAscii, Tab, OpenLiteral, BadContinuation, TooLong, UnknownIndicator, Memory}
-use Rattle.cob_source.specs.declared.fault.TheConstants.{MAX_TEXT_BYTES}
+use Rattle.cob_limits.specs.Limits.{longest_text}
 use Rattle.cob_source.specs.Tokens.{Lexeme}
 use Rattle.cob_source.specs.Cuts.{is_quote, open_from, open_quote, nowhere, Cuts, End}
 use Rattle.cob_source.specs.Lines.{lines, written, behind_spaces, is_nil, is_blank, kind_of, line_end, cells_behind, trim_end, continued_text, left_out, continued, join, join_by, joined_from, joined_of, last_by, last_from, last_joined}
@@ -206,7 +206,7 @@ none_left n ls all closed b = go b.after b.lines_are b.none_follows
         let h : true ≡ false = sym t ∙ f in cc
 
 pub finishes : (text : List ℕ) {before : List (List ℕ)} {cells : List Cell} {q : Option ℕ} {last : ℕ} {words : List Lexeme} (ts words' : List Lexeme)
-    → HasRead before cells q last words → lines text ≡ before → length text ≤ MAX_TEXT_BYTES → q ≡ None → Cuts cells ts → words ++ ts ≡ words' → AreWordsOf text words'
+    → HasRead before cells q last words → lines text ≡ before → length text ≤ longest_text → q ≡ None → Cuts cells ts → words ++ ts ≡ words' → AreWordsOf text words'
 finishes text {before} {cells} {q} {last} {words} ts words' r e short none c w =
     let whole : joined_of (lines text) ≡ r.done ++ cells = ap joined_of e ∙ r.joined_is in
     let all : AllFit 1 [] (lines text) = subst (AllFit 1 []) (sym e) r.fit in

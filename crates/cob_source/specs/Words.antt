@@ -6,7 +6,7 @@ use Rattle.cob_source.specs.declared.lines.LineKind.{LineKind}
 use Rattle.cob_source.specs.declared.lines.LineKind.TheVariants.{Skipped, Plain, Continuation}
 use Rattle.cob_source.specs.declared.fault.SourceRule.{SourceRule}
 use Rattle.cob_source.specs.declared.fault.SourceRule.TheVariants.{NotAscii, Tab, OpenLiteral, BadContinuation, TooLong, UnknownIndicator, Memory}
-use Rattle.cob_source.specs.declared.fault.TheConstants.{MAX_TEXT_BYTES}
+use Rattle.cob_limits.specs.Limits.{longest_text}
 use Rattle.cob_source.specs.Tokens.{Lexeme}
 use Rattle.cob_source.specs.Cuts.{is_quote, open_quote, nowhere, Cuts}
 use Rattle.cob_source.specs.Lines.{lines, written, indicator, is_comment, is_blank, behind_spaces, is_nil, kind_of, joined_of, last_joined}
@@ -102,7 +102,7 @@ IsBroken Tab n text = BreaksAt Tab n (lines text)
 IsBroken UnknownIndicator n text = BreaksAt UnknownIndicator n (lines text)
 IsBroken BadContinuation n text = BreaksAt BadContinuation n (lines text)
 IsBroken OpenLiteral n text = IsLeftOpen n (lines text)
-IsBroken TooLong n text = (MAX_TEXT_BYTES < length text) × (n ≡ 1)
+IsBroken TooLong n text = (longest_text < length text) × (n ≡ 1)
 IsBroken Memory n text = ⊥
 
 -- the words of a text that breaks no rule are the cuts of the one text that its lines are joined to

@@ -5,9 +5,6 @@ use std::alloc::{AllocError, AllocFailed};
 use std::fmt;
 use thiserror::Error;
 
-/// The most bytes that a text has.
-pub const MAX_TEXT_BYTES: usize = 1_000_000;
-
 /// A rule of the reference format that a text breaks.
 #[derive(Clone, Copy, Debug, PartialEq, Eq)]
 pub enum SourceRule {

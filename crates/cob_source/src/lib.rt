@@ -29,7 +29,7 @@ mod reader;
 mod tests;
 mod token;
 
-pub use fault::{MAX_TEXT_BYTES, SourceFault, SourceRule};
+pub use fault::{SourceFault, SourceRule};
 pub use laws::words_are_one;
 pub use paragraph::paragraph_tokens;
 pub use reader::tokens;

@@ -5,10 +5,11 @@ ghost use Rattle.cob_source.specs.Words.{IsRefusal, AreWordsOf};
 ghost use Rattle.cob_source.specs.Reading.{HasRead, LineRefused};
 ghost use Rattle.cob_source.specs.declared.fault.SourceRule.TheVariants.{Memory};
 
-use crate::fault::{MAX_TEXT_BYTES, SourceFault, SourceRule};
+use crate::fault::{SourceFault, SourceRule};
 use crate::joined::{Joined, begin_line, continue_line, cut_joined};
 use crate::lines::{LineKind, character_fault, line_kind, next_line};
 use crate::token::Token;
+use cob_limits::MAX_TEXT_BYTES;
 use std::alloc::Global;
 
 /// Reads one line.

@@ -1,7 +1,7 @@
 -- Conversions: two records and the moves between their items.
 use Rattle.std.specs.Prelude.{◌≡◌, ◌⊎◌, ℕ, ◌+◌, ◌<◌, ◌≤◌, pos, false, List, [], ◌∷◌, length, Some, Ok, option_map}
 use Rattle.std.specs.List.{AllByRecursion}
-use Rattle.cob_decimal.specs.declared.TheConstants.{MAX_DIGITS}
+use Rattle.cob_limits.specs.Limits.{most_digits}
 use Rattle.cob_picture.specs.Counts.{scale, signed}
 use Rattle.cob_picture.specs.declared.category.Category.TheVariants as picture
 use Rattle.cob_copybook_clauses.specs.declared.kinds.Usage.TheVariants.{Display}
@@ -63,7 +63,7 @@ IsOf Numeric i = IsWhole i
 
 -- a number has no more digits than numbers may have
 abbrev pub MostDigits : Category → ℕ → Type 0
-MostDigits Numeric n = n ≤ MAX_DIGITS
+MostDigits Numeric n = n ≤ most_digits
 MostDigits Alphanumeric n = Unit {0}
 
 -- the entry with this number is an item of the category, is no table and stands beneath none

@@ -1,7 +1,7 @@
 //! A MOVE of an item of one record to an item of another.
 
 ghost use Rattle.std.specs.Prelude.{◌≡◌, ◌+◌, ◌<◌, ◌≤◌, pos, false, ℕ, List, length, IfErr, IfNone, IfSome, OnOk};
-ghost use Rattle.cob_decimal.specs.declared.TheConstants.{MAX_DIGITS};
+ghost use Rattle.cob_limits.specs.Limits.{most_digits};
 ghost use Rattle.cob_fields.specs.Fields.{field_of};
 ghost use Rattle.cob_steps.specs.Moving.{IsMoved, Lacks};
 ghost use Rattle.cob_steps.specs.Records.{IsPossible, MostDigits};
@@ -10,8 +10,9 @@ ghost use Rattle.cob_move_initial.specs.Values.{padded};
 
 use crate::plan::{Category, Side, Step, Stop, StopCause};
 use cob_codec::{Shape, Storage, Zoned};
-use cob_decimal::{MAX_DIGITS, Number};
+use cob_decimal::Number;
 use cob_fields::field;
+use cob_limits::MAX_DIGITS;
 
 /// A space, as code page 037 has it.
 const SPACE: u8 = 0x40;
@@ -29,7 +30,7 @@ fn move_characters(sent: &[u8], received: &mut [u8])
 /// The shape of an unsigned whole number in zoned form.
 fn unsigned(count: usize) -> Shape
     requires some { 0 < count }
-    requires most { count ≤ MAX_DIGITS }
+    requires most { count ≤ most_digits }
     ensures digits { result.digits ≡ count }
     ensures scale { result.scale ≡ pos 0 }
     ensures signed { result.signed ≡ false }
@@ -46,7 +47,7 @@ fn unsigned(count: usize) -> Shape
 /// The number that the bytes of an unsigned item represent, if they do.
 fn read_unsigned(bytes: &[u8]) -> Option<Number>
     requires some { 0 < length bytes.now }
-    requires most { length bytes.now ≤ MAX_DIGITS }
+    requires most { length bytes.now ≤ most_digits }
     ensures found { IfSome result (λ number. Represents bytes.now number.digits) }
     ensures scale { IfSome result (λ number. number.scale ≡ pos 0) }
     ensures only { IfNone result ((digits : List ℕ) → Represents bytes.now digits → ⊥) }
@@ -62,8 +63,8 @@ fn read_unsigned(bytes: &[u8]) -> Option<Number>
 fn move_number(sent: &[u8], received: &mut [u8]) -> Result<(), StopCause>
     requires some_sent { 0 < length sent.now }
     requires some_received { 0 < length received.old }
-    requires sent { length sent.now ≤ MAX_DIGITS }
-    requires received { length received.old ≤ MAX_DIGITS }
+    requires sent { length sent.now ≤ most_digits }
+    requires received { length received.old ≤ most_digits }
     ensures moved { OnOk result (Receives Category.Numeric (length received.old) sent.now received.new) }
     ensures lacks { IfErr result (Lacks Category.Numeric sent.now) }
 {

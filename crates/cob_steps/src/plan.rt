@@ -1,6 +1,6 @@
 ghost use Rattle.std.specs.Prelude.{◌≡◌, ◌<◌, ◌≤◌, length, IfOk, IfErr, OnOk};
 ghost use Rattle.cob_layout_places.specs.Lengths.{alone};
-ghost use Rattle.cob_copybook_tree.specs.declared.lengths.TheConstants.{MAX_RECORD};
+ghost use Rattle.cob_limits.specs.Limits.{longest_record};
 
 use crate::moves::make_move;
 use crate::places::steps_of;
@@ -119,7 +119,7 @@ impl Plan {
     pub fn in_length(&self) -> u16
         ensures value { result ≡ record_length self.now.input }
         ensures some { 0 < result }
-        ensures most { result ≤ MAX_RECORD }
+        ensures most { result ≤ longest_record }
     {
         self.input.greatest()
     }
@@ -128,7 +128,7 @@ impl Plan {
     pub fn out_length(&self) -> u16
         ensures value { result ≡ record_length self.now.output }
         ensures some { 0 < result }
-        ensures most { result ≤ MAX_RECORD }
+        ensures most { result ≤ longest_record }
     {
         self.output.greatest()
     }

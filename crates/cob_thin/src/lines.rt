@@ -2,13 +2,12 @@
 
 ghost use Rattle.std.specs.Prelude.{◌≡◌, ◌+◌, ◌<◌, ◌≤◌, [], ◌∷◌, length, IfOk, IfSome, IsTrue, MatchOption, OnSome};
 ghost use Rattle.std.specs.List.{AllByRecursion};
+ghost use Rattle.cob_limits.specs.Limits.{longest_text};
 ghost use Rattle.cob_thin.specs.Words.{IsCut, IsPlain, ArePlain, words_in, words_of, area};
 
 use crate::fault::ThinFault;
 use crate::words::{front_part, is_blank};
-
-/// How many bytes a text may have.
-const MAX_BYTES: usize = 1_000_000;
+use cob_limits::MAX_TEXT_BYTES;
 
 /// The column that is a space in a plain line. The words stand behind it, up to LAST.
 const INDICATOR: usize = 7;
@@ -22,7 +21,7 @@ pub(crate) struct Lines<'a> {
     /// The number of the line that was read last, and how many bytes may follow it.
     number: u32,
     left: usize,
-    ghost few: { number + left ≤ 1000000 },
+    ghost few: { number + left ≤ longest_text },
 }
 
 impl<'a> Lines<'a> {
@@ -33,7 +32,7 @@ impl<'a> Lines<'a> {
         Lines {
             rest: text,
             number: 0,
-            left: MAX_BYTES,
+            left: MAX_TEXT_BYTES,
         }
     }
 

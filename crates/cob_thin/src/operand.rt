@@ -8,7 +8,7 @@ ghost use Rattle.cob_thin.specs.Bearers.{IsMovable, IsMeant};
 use crate::directory::Directory;
 use cob_copybook_clauses::Usage;
 use cob_copybook_tree::{Item, Kind};
-use cob_decimal::MAX_DIGITS;
+use cob_limits::MAX_DIGITS;
 use cob_picture::Category as PictureCategory;
 use cob_steps::{Category, Move};
 

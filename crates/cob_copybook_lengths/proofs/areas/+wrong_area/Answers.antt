@@ -3,7 +3,7 @@ use Rattle.std.specs.Option.{is_some}
 use Rattle.cob_copybook_tree.specs.Forests.{Forest, Tree}
 use Rattle.cob_copybook_tree.specs.Nodes.{Resolved, node, forest}
 use Rattle.cob_copybook_tree.specs.Lengths.{most, sum_of}
-use Rattle.cob_copybook_tree.specs.declared.lengths.TheConstants.{MAX_RECORD}
+use Rattle.cob_limits.specs.Limits.{longest_record}
 use Rattle.cob_copybook_lengths.specs.Areas.{AreAreas, ArePossible, joined}
 use Rattle.cob_copybook_lengths.specs.Short.{IsShortArea}
 use Rattle.cob_copybook_lengths.proofs.NodeLemmas.{depth, less_deep, forest_at, beneath_out, node_out, part, part_more, part_one}
@@ -17,11 +17,11 @@ wrong_area-requires t c =
     let at = forest_at c.args.entries.now c.loop-i.i n (omega arith) c.index-entries-i.is in
     let area = map node (part c.loop-i.start c.loop-i.i c.args.entries.now) in
     let kids : (node n).beneath ≡ forest c.as_slice.result.now = rw c.as_slice.ensures.value (beneath_out n) in
-    let short = subst (λ (f : Forest Resolved). sum_of most f ≤ MAX_RECORD) at c.loop-i.invariant.short in
+    let short = subst (λ (f : Forest Resolved). sum_of most f ≤ longest_record) at c.loop-i.invariant.short in
     let possible = subst ArePossible at c.loop-i.invariant.possible in
     let length = whole_short (node n).top.redefines area (node n) (sum_of most (forest (drop (c.loop-i.i + 1) c.args.entries.now))) c.loop-i.invariant.area (c.may_follow.ensures.yes c.if-not-may_follow.false) short in (
       (let below = less_deep c.args.entries.now c.as_slice.result.now c.loop-i.i n (omega arith) c.index-entries-i.is c.as_slice.ensures.value in let all : depth c.args.entries.now ≡ t = c.decreases in omega (arith, below, all)),
-      (subst (λ (f : Forest Resolved). sum_of most f ≤ MAX_RECORD) kids (beneath_short (node n) possible.0 possible.1 length), subst ArePossible kids possible.2),
+      (subst (λ (f : Forest Resolved). sum_of most f ≤ longest_record) kids (beneath_short (node n) possible.0 possible.1 length), subst ArePossible kids possible.2),
     )
 
 pub returns-in-Some-clause-must : goal.returns-in-Some-clause-must
@@ -42,7 +42,7 @@ loop-i-preserved t c =
     let o = (node n).top.redefines in
     let own : (node n).top.redefines ≡ _ = ap (λ (t : Tree Resolved). t.top.redefines) (node_out n) in
     let kids : (node n).beneath ≡ forest c.as_slice.result.now = rw c.as_slice.ensures.value (beneath_out n) in
-    let short = subst (λ (f : Forest Resolved). sum_of most f ≤ MAX_RECORD) at c.loop-i.invariant.short in
+    let short = subst (λ (f : Forest Resolved). sum_of most f ≤ longest_record) at c.loop-i.invariant.short in
     let possible = subst ArePossible at c.loop-i.invariant.possible in
     let follows = c.may_follow.ensures.yes c.if-not-may_follow.false in
     let length = whole_short o area (node n) (sum_of most (forest (drop (c.loop-i.i + 1) ns))) c.loop-i.invariant.area follows short in
