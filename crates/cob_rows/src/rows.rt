@@ -81,6 +81,25 @@ impl<'a> Row<'a> {
         unescaped(alloc, self.field(place)?)?.ok_or(RowFault::BadRow)
     }
 
+    /// What stands between the quotes of a field.
+    ///
+    /// # Errors
+    /// That the field doesn't begin and end with a quote.
+    pub fn quoted(&self, place: usize) -> Result<&'a str, RowFault> {
+        match self.field(place)?.strip_prefix('"') {
+            Some(rest) => rest.strip_suffix('"').ok_or(RowFault::BadRow),
+            None => Err(RowFault::BadRow),
+        }
+    }
+
+    /// The bytes of the characters between the quotes of a field, as `unescaped` gives them.
+    ///
+    /// # Errors
+    /// That there are no such bytes, or that memory is refused.
+    pub fn quoted_text(&self, alloc: Global, place: usize) -> Result<Vec<u8>, RowFault> {
+        unescaped(alloc, self.quoted(place)?)?.ok_or(RowFault::BadRow)
+    }
+
     /// The bytes of a field of hexadecimal digits, as `bytes_of` gives them.
     ///
     /// # Errors
