@@ -114,16 +114,17 @@ pub fn push_digits(out: &mut String, bytes: &[u8]) -> Result<(), AllocError> {
     Ok(())
 }
 
-/// Writes bytes as the characters of ASCII that they are, any other as `\x` and its hexadecimal digits.
+/// Writes bytes as the characters that they are in ASCII, in the form that `unescaped` reads: a backslash as two, and what is no
+/// printable character as `\x` and its hexadecimal digits.
 ///
 /// # Errors
 /// Only where memory is refused.
 pub fn push_text(out: &mut String, bytes: &[u8]) -> Result<(), AllocError> {
     for byte in bytes {
-        if byte.is_ascii_graphic() || *byte == b' ' {
-            out.push(*byte as char)?;
-        } else {
-            write!(out, "\\x{byte:02X}")?;
+        match *byte {
+            b'\\' => out.push_str("\\\\")?,
+            b' '..=b'~' => out.push(*byte as char)?,
+            _ => write!(out, "\\x{byte:02X}")?,
         }
     }
     Ok(())
