@@ -1,0 +1,160 @@
+use crate::{bytes_of, lines_of, unescaped};
+use std::alloc::{AllocError, AllocFailed, Global};
+use std::rt::{Env, Files};
+use std::str::FromStr;
+use std::{env, fs, io};
+
+/// Why a row has no answer.
+#[derive(Clone, Copy, Debug, PartialEq, Eq)]
+pub enum RowFault {
+    /// What the row asks can't be understood.
+    BadRow,
+    /// Memory was refused.
+    Memory,
+}
+
+impl From<AllocError> for RowFault {
+    fn from(_e: AllocError) -> RowFault {
+        RowFault::Memory
+    }
+}
+
+impl<T: Drop> From<AllocFailed<T>> for RowFault {
+    fn from(_e: AllocFailed<T>) -> RowFault {
+        RowFault::Memory
+    }
+}
+
+/// What a program answers to rows.
+pub trait Family {
+    /// Writes what comes of a row of the table of this name.
+    ///
+    /// # Errors
+    /// That the row can't be understood, or that memory is refused.
+    fn answer(alloc: Global, table: &str, row: &Row, out: &mut String) -> Result<(), RowFault>;
+}
+
+/// A row of a table: fields that are parted by tabs, each at its place, from 0.
+#[derive(Clone, Copy)]
+pub struct Row<'a> {
+    line: &'a str,
+}
+
+impl<'a> Row<'a> {
+    /// A field as it stands.
+    ///
+    /// # Errors
+    /// That the row has fewer fields.
+    pub fn field(&self, place: usize) -> Result<&'a str, RowFault> {
+        let mut rest = self.line;
+        for _before in 0..place {
+            let Some((_, behind)) = rest.split_once('\t') else {
+                return Err(RowFault::BadRow);
+            };
+            rest = behind;
+        }
+        match rest.split_once('\t') {
+            Some((field, _)) => Ok(field),
+            None => Ok(rest),
+        }
+    }
+
+    /// The number that a field is.
+    ///
+    /// # Errors
+    /// That there is no such number.
+    pub fn number<N: FromStr>(&self, place: usize) -> Result<N, RowFault>
+    where
+        N::Err: Drop,
+    {
+        match self.field(place)?.parse() {
+            Ok(number) => Ok(number),
+            Err(_) => Err(RowFault::BadRow),
+        }
+    }
+
+    /// The bytes of a field of characters, as `unescaped` gives them.
+    ///
+    /// # Errors
+    /// That there are no such bytes, or that memory is refused.
+    pub fn text(&self, alloc: Global, place: usize) -> Result<Vec<u8>, RowFault> {
+        unescaped(alloc, self.field(place)?)?.ok_or(RowFault::BadRow)
+    }
+
+    /// What stands between the quotes of a field.
+    ///
+    /// # Errors
+    /// That the field doesn't begin and end with a quote.
+    pub fn quoted(&self, place: usize) -> Result<&'a str, RowFault> {
+        match self.field(place)?.strip_prefix('"') {
+            Some(rest) => rest.strip_suffix('"').ok_or(RowFault::BadRow),
+            None => Err(RowFault::BadRow),
+        }
+    }
+
+    /// The bytes of the characters between the quotes of a field, as `unescaped` gives them.
+    ///
+    /// # Errors
+    /// That there are no such bytes, or that memory is refused.
+    pub fn quoted_text(&self, alloc: Global, place: usize) -> Result<Vec<u8>, RowFault> {
+        unescaped(alloc, self.quoted(place)?)?.ok_or(RowFault::BadRow)
+    }
+
+    /// The bytes of a field of hexadecimal digits, as `bytes_of` gives them.
+    ///
+    /// # Errors
+    /// That there are no such bytes, or that memory is refused.
+    pub fn bytes(&self, alloc: Global, place: usize) -> Result<Vec<u8>, RowFault> {
+        bytes_of(alloc, self.field(place)?)?.ok_or(RowFault::BadRow)
+    }
+
+    /// The source text of a field of entries, as `lines_of` gives it.
+    ///
+    /// # Errors
+    /// That the row has fewer fields, or that memory is refused.
+    pub fn lines(&self, alloc: Global, place: usize) -> Result<Vec<u8>, RowFault> {
+        Ok(lines_of(alloc, self.field(place)?)?)
+    }
+}
+
+/// A line of a table with what comes of it.
+fn answered<F: Family>(alloc: Global, table: &str, line: &str) -> Result<String, AllocError> {
+    if line.trim().is_empty() || line.starts_with('#') {
+        return String::from_str(alloc, line);
+    }
+    let mut out = String::new(alloc);
+    for character in line.chars() {
+        if character == '\t' {
+            out.push_str(" | ")?;
+        } else {
+            out.push(character)?;
+        }
+    }
+    let mut answer = String::new(alloc);
+    match F::answer(alloc, table, &Row { line }, &mut answer) {
+        Ok(()) => {
+            out.push_str(" -> ")?;
+            out.push_str(answer.as_str())?;
+        }
+        Err(RowFault::BadRow) => out.push_str(" -> BAD ROW")?,
+        Err(RowFault::Memory) => return Err(AllocError),
+    }
+    Ok(out)
+}
+
+/// Prints the rows of the tables that the arguments of the program name, as `NAME` for the file `NAME.rows`, each with what
+/// comes of it.
+///
+/// # Errors
+/// What stops a file from being read or a line from being printed.
+pub fn print_rows<F: Family, R: AllocGlobal + Files + Print + Env>(rt: &R) -> io::Result<()> {
+    for table in env::args(rt)?.skip(1) {
+        let path = format!(in rt.alloc(); "{table}.rows")?;
+        let text = fs::read_to_string(rt, path.as_str())?;
+        for line in text.as_str().lines() {
+            let shown = answered::<F>(rt.alloc(), table.as_str(), line)?;
+            rt.println(shown.as_str())?;
+        }
+    }
+    Ok(())
+}
