@@ -52,6 +52,10 @@ pub record IsBookOf (role : Role) (text : List ℕ) (t : Forest Resolved) : Type
   pub has : HasEntries role text entries
   pub is : IsRecordOf entries t
 
+-- a tree is a record where it is that of some text, in one of the roles
+abbrev pub IsRecord : Forest Resolved → Type 0
+IsRecord t = (role : Role) × (text : List ℕ) × IsBookOf role text t
+
 -- the words of the text break the rule
 abbrev pub BreaksText : BookRule → List ℕ → Type 0
 BreaksText r text = (words : List Lexeme) × AreWordsOf text words × BreaksWords r words

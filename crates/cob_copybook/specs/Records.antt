@@ -27,10 +27,6 @@ pub record IsRecordOf (ds : List Described) (t : Forest Resolved) : Type 0 where
   pub agree : AgreeAll written
   pub stored : IsStored written t
 
--- a tree of some record description
-abbrev pub IsRecord : Forest Resolved → Type 0
-IsRecord t = (ds : List Described) × IsRecordOf ds t
-
 -- the levels make no tree, or the clauses of the tree break the rule
 abbrev pub BreaksTree : BookRule → List Described → Type 0
 BreaksTree rule.Level ds = (AreLevels ds → ⊥) ⊎ ((t : Forest Described) × StandsFor ds t × BreaksClauses rule.Level t)

@@ -5,8 +5,7 @@ ghost use Rattle.cob_copybook_tree.specs.Forests.{Forest};
 ghost use Rattle.cob_copybook_tree.specs.Nodes.{Resolved, forest};
 ghost use Rattle.cob_copybook_tree.specs.Lengths.{most, sum_of};
 ghost use Rattle.cob_limits.specs.Limits.{longest_record};
-ghost use Rattle.cob_copybook.specs.Records.{IsRecord};
-ghost use Rattle.cob_copybook.specs.Books.{IsBookOf, IsRefusal, IsMemory};
+ghost use Rattle.cob_copybook.specs.Books.{IsBookOf, IsRecord, IsRefusal, IsMemory};
 
 use crate::role::Role;
 use crate::storage::storage_of;
@@ -31,7 +30,7 @@ impl Model for Book {
     ghost use Rattle.cob_copybook_tree.specs.Forests.{Forest};
     ghost use Rattle.cob_copybook_tree.specs.Nodes.{Resolved, forest};
     ghost use Rattle.cob_copybook_tree.specs.Lengths.{most, sum_of};
-    ghost use Rattle.cob_copybook.specs.Records.{IsRecord};
+    ghost use Rattle.cob_copybook.specs.Books.{IsRecord};
     ghost use Rattle.std.specs.Coded.{codes};
     ghost use Rattle.cob_copybook.specs.Codes.{coded_forest};
 

@@ -2,7 +2,7 @@
 use Rattle.std.specs.Prelude.{◌≡◌, ℕ, false, List, length, Ok}
 use Rattle.cob_copybook_tree.specs.Forests.{Tree}
 use Rattle.cob_copybook_tree.specs.Nodes.{Resolved}
-use Rattle.cob_copybook.specs.Records.{IsRecord}
+use Rattle.cob_copybook.specs.Books.{IsRecord}
 use Rattle.cob_layout_places.specs.Lengths.{alone, times}
 use Rattle.cob_layout_places.specs.Places.{find}
 use Rattle.cob_layout_places.specs.Counts.{tables_of}

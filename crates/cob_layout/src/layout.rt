@@ -4,7 +4,7 @@ ghost use Rattle.std.specs.Prelude.{◌≡◌, ◌≤◌, ◌+◌, length, Ok, E
 ghost use Rattle.cob_copybook_tree.specs.Forests.{entries_in};
 ghost use Rattle.cob_copybook_tree.specs.Lengths.{most, sum_of};
 ghost use Rattle.cob_limits.specs.Limits.{longest_record};
-ghost use Rattle.cob_copybook.specs.Records.{IsRecord};
+ghost use Rattle.cob_copybook.specs.Books.{IsRecord};
 ghost use Rattle.cob_layout_places.specs.Lengths.{alone, times};
 ghost use Rattle.cob_layout_places.specs.Places.{find};
 ghost use Rattle.cob_layout_places.specs.Cover.{IsCovered};
@@ -41,7 +41,7 @@ impl Model for Layout {
     ghost use Rattle.cob_copybook_tree.specs.Forests.{Tree};
     ghost use Rattle.cob_copybook_tree.specs.Nodes.{Resolved, node};
     ghost use Rattle.cob_copybook_tree.specs.Lengths.{most, sum_of};
-    ghost use Rattle.cob_copybook.specs.Records.{IsRecord};
+    ghost use Rattle.cob_copybook.specs.Books.{IsRecord};
     ghost use Rattle.cob_layout_places.specs.Lengths.{alone};
     ghost use Rattle.cob_layout_places.specs.Counts.{tables_of};
     ghost use Rattle.cob_sound.specs.Sound.{IsSound};

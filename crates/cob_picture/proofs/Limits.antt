@@ -19,6 +19,7 @@ use Rattle.cob_picture.specs.Counts.{is_digit_place, width, size, digits, is_sca
 use Rattle.cob_picture.specs.Measures.{AreCountsOf, run_leads, symbols_size}
 use Rattle.cob_picture.specs.Categories.{IsOf}
 use Rattle.cob_picture.specs.Pictures.{IsPicture}
+use Rattle.cob_picture.specs.Laws.{TakesBytes}
 use Rattle.cob_picture.proofs.Times.{is_other, times-append, signs_written, points_written, digits_written, scaling_written, length_written}
 use Rattle.cob_picture.proofs.EditedFacts.{edited_none}
 use Rattle.cob_picture.proofs.Placed.{one_if, seen_after, seen_runs, placed-append, digits-append, size-placed, signed_runs, is_plain, MayFloat, is_true, floating_may, scaling-placed, decimal-placed, digits-cons, decimal-cons, IsParted, parted, leads_runs, any_placed}
@@ -500,3 +501,7 @@ few_positions Alphabetic xs (inl e) p = absurd cc
 few_positions Alphabetic xs (inr e) p = absurd cc
 few_positions Alphanumeric xs (inl e) p = absurd cc
 few_positions Alphanumeric xs (inr e) p = absurd cc
+
+-- an item of each picture takes a byte at least
+pub takes_bytes : TakesBytes
+takes_bytes text p is = subst (λ (ps : List Position). 0 < size ps) (sym is.positions) (bounded p.category is.symbols is.is).some

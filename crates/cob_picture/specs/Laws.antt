@@ -1,5 +1,5 @@
 -- What follows from the definitions, said as laws.
-use Rattle.std.specs.Prelude.{◌≡◌, ℕ, Bool, true, false, List, ◌∷◌, ◌++◌}
+use Rattle.std.specs.Prelude.{◌≡◌, ℕ, ◌<◌, Bool, true, false, List, ◌∷◌, ◌++◌}
 use Rattle.std.specs.List.{AllByRecursion}
 use Rattle.cob_picture.specs.declared.fault.PictureFault.{PictureFault}
 use Rattle.cob_picture.specs.declared.category.Category.TheVariants.{NumericEdited}
@@ -8,7 +8,7 @@ use Rattle.cob_picture.specs.declared.position.Role.{Role}
 use Rattle.cob_picture.specs.declared.position.Role.TheVariants.{Character, Insertion, DecimalPoint, Digit, Suppressed, Floating, FirstFloating, FixedSign, FixedCurrency, NoByte}
 use Rattle.cob_picture.specs.declared.symbol.Symbol.{Symbol}
 use Rattle.cob_picture.specs.Positions.{Seen, is_that, positions}
-use Rattle.cob_picture.specs.Counts.{is_point}
+use Rattle.cob_picture.specs.Counts.{is_point, size}
 use Rattle.cob_picture.specs.Edited.{run_symbol}
 use Rattle.cob_picture.specs.Pictures.{IsPicture, IsPictureOf, IsBroken}
 
@@ -19,6 +19,10 @@ IsOnePicture = (text : List ℕ) (p q : Seen) → IsPictureOf text p → IsPictu
 -- a text that is a picture breaks no rule
 abbrev pub BreaksNoRule : Type 0
 BreaksNoRule = (text : List ℕ) (p : Seen) (f : PictureFault) → IsPictureOf text p → IsBroken f text → ⊥
+
+-- an item of each picture takes a byte at least
+abbrev pub TakesBytes : Type 0
+TakesBytes = (text : List ℕ) (p : Seen) → IsPictureOf text p → 0 < size p.positions
 
 -- a place of the run
 abbrev pub is_run_role : Role → Bool

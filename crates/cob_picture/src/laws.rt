@@ -1,4 +1,4 @@
-ghost use Rattle.cob_picture.specs.Laws.{IsOnePicture, BreaksNoRule, IsOneRun, FirstLeads};
+ghost use Rattle.cob_picture.specs.Laws.{IsOnePicture, BreaksNoRule, IsOneRun, FirstLeads, TakesBytes};
 
 /// A text is one picture at most.
 pub fn one_picture()
@@ -18,4 +18,9 @@ pub fn one_run()
 /// The first floating symbol is the first place of the run, and stands before the point.
 pub fn first_leads()
     ensures { FirstLeads }
+{}
+
+/// An item of each picture takes a byte at least.
+pub fn takes_bytes()
+    ensures { TakesBytes }
 {}

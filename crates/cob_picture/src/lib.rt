@@ -32,7 +32,7 @@ mod tests;
 
 pub use category::Category;
 pub use fault::PictureFault;
-pub use laws::{breaks_no_rule, first_leads, one_picture, one_run};
+pub use laws::{breaks_no_rule, first_leads, one_picture, one_run, takes_bytes};
 pub use picture::Picture;
 pub use position::{Position, Role};
 pub use symbol::{Run, Symbol};

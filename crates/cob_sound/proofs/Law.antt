@@ -17,7 +17,8 @@ use Rattle.cob_sound.proofs.Storables.{storable}
 use Rattle.cob_sound.proofs.Counted.{IsCountedIn, all_counted, countable}
 
 pub sound : RecordsAreSound
-sound t (ds, is) =
+sound t (role, text, book) =
+    let is = book.is in
     let w = is.written in
     let counts = is.stored.counts in
     let tree : resolved counts 0 None None w ≡ alone t = sym is.stored.tree in

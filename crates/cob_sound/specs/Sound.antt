@@ -5,7 +5,7 @@ use Rattle.cob_copybook_tree.specs.declared.node.Kind.TheVariants.{Group, Item a
 use Rattle.cob_copybook_tree.specs.Forests.{Forest, Bare, Grows, Tree}
 use Rattle.cob_copybook_tree.specs.Nodes.{Resolved}
 use Rattle.cob_copybook_lengths.specs.Values.{AreValues}
-use Rattle.cob_copybook.specs.Records.{IsRecord}
+use Rattle.cob_copybook.specs.Books.{IsRecord}
 use Rattle.cob_layout_places.specs.Lengths.{alone, IsFit}
 use Rattle.cob_layout_places.specs.Cover.{AreNumbered}
 use Rattle.cob_layout_places.specs.Counts.{AreCountable, tables_of}

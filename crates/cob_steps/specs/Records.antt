@@ -12,7 +12,7 @@ use Rattle.cob_copybook_tree.specs.Forests.{Forest, Bare, Grows}
 use Rattle.cob_copybook_tree.specs.Nodes.{Resolved}
 use Rattle.cob_copybook_tree.specs.Lengths.{item_size, most, sum_of}
 use Rattle.cob_copybook_lengths.specs.Areas.{hold_varying}
-use Rattle.cob_copybook.specs.Records.{IsRecord}
+use Rattle.cob_copybook.specs.Books.{IsRecord}
 use Rattle.cob_layout_places.specs.Places.{find}
 use Rattle.cob_layout_places.specs.Counts.{kind_in}
 use Rattle.cob_fields.specs.declared.Place.{Place}

@@ -2,7 +2,7 @@ use Rattle.std.proofs.Common.{sym, subst, ap, arith}
 use Rattle.std.proofs.lemmas.List.{drop_all}
 use Rattle.cob_copybook_tree.specs.Nodes.{node}
 use Rattle.cob_copybook_tree.specs.Lengths.{most, sum_of}
-use Rattle.cob_copybook.specs.Records.{IsRecord}
+use Rattle.cob_copybook.specs.Books.{IsRecord}
 use Rattle.cob_move.proofs.AtPlaceLemmas.{record_begun}
 use Rattle.cob_move.proofs.storage.initial.Goals as goal
 

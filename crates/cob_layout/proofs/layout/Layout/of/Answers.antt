@@ -1,7 +1,7 @@
 use Rattle.std.proofs.Common.{◌≡◌, sym, ap, subst, ◌∙◌}
 use Rattle.cob_copybook_tree.specs.Nodes.{node}
 use Rattle.cob_copybook_tree.specs.Lengths.{most, sum_of}
-use Rattle.cob_copybook.specs.Records.{IsRecord}
+use Rattle.cob_copybook.specs.Books.{IsRecord}
 use Rattle.cob_layout_places.specs.Lengths.{alone}
 use Rattle.cob_layout.proofs.GreatestLemmas.{greatest_is}
 use Rattle.cob_layout.proofs.layout.Layout.of.Goals as goal

@@ -2,7 +2,7 @@ use Rattle.std.proofs.Common.{List, [], false, sym, ap, ◌∙◌, subst}
 use Rattle.cob_copybook_tree.specs.declared.node.Node.{Node}
 use Rattle.cob_copybook_tree.specs.Forests.{Forest}
 use Rattle.cob_copybook_tree.specs.Nodes.{Resolved, forest, node}
-use Rattle.cob_copybook.specs.Records.{IsRecord}
+use Rattle.cob_copybook.specs.Books.{IsRecord}
 use Rattle.cob_layout_places.specs.Cover.{AreNumbered}
 use Rattle.cob_thin.specs.Bearers.{Knows, bearers}
 use Rattle.cob_thin.proofs.directory.Directory.of.Goals as goal
