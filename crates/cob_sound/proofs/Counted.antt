@@ -23,11 +23,14 @@ use Rattle.cob_copybook_lengths.specs.Values.{is_number}
 use Rattle.cob_item.specs.Items.{IsNumberItem}
 use Rattle.cob_layout_places.specs.declared.varying.Table.{Table}
 use Rattle.cob_layout_places.specs.Lengths.{alone}
-use Rattle.cob_layout_places.specs.Places.{or_else, choose}
+use Rattle.cob_layout_places.specs.Places.{is_table, or_else, choose}
+use Rattle.cob_layout_places.specs.Needs.{Has}
+use Rattle.cob_layout_places.proofs.NeedLaw.{low, high}
 use Rattle.cob_layout_places.specs.Counts.{table_of, tables_of, kind_in, kind_one, IsCountable}
 use Rattle.cob_move_initial.specs.Values.{IsStorable}
-use Rattle.cob_sound.specs.Sound.{IsStorableKind, AreStorable}
+use Rattle.cob_sound.specs.Sound.{IsStorableKind, AreStorable, InTable, IsAhead}
 use Rattle.cob_sound.proofs.Lists.{all_append, all_map, first_left, others_left, same, differs}
+use Rattle.cob_sound.proofs.Numbers.{numbered, same_entries}
 
 -- ---- each entry has its own count
 
@@ -125,23 +128,92 @@ the_one is P [] b h all = absurd h
 the_one is P (c ∷ cs) b (inl h) all = subst P h.0 all.0
 the_one is P (c ∷ cs) b (inr h) all = the_one is P cs b h.1 all.1
 
+-- ---- an entry that is told to be in no table stands beneath none
+
+-- such an entry stands beneath none of these
+abbrev pub IsOutside : Forest Resolved → Bearer → Type 0
+IsOutside g b = b.in_table ≡ false → InTable b.number g → ⊥
+
+in_has : (a : ℕ) (f : Forest Resolved) → InTable a f → Has a f
+in_has a Bare h = h
+in_has a (Grows e kids more) (inl h) = inr (inl h.1)
+in_has a (Grows e kids more) (inr (inl h)) = inr (inl (in_has a kids h))
+in_has a (Grows e kids more) (inr (inr h)) = inr (inr (in_has a more h))
+
+no_table : (o : Option described.Times) (count : ℕ) → is_some o ≡ false → is_table (times_of o count) ≡ true → ⊥
+no_table None count e t = cc
+no_table (Some x) count e t = cc
+
+-- in a table all are told to be in one
+all_in : (above : List (List ℕ)) (n : ℕ) (f : Forest Described) (g : Forest Resolved) → AllByRecursion (IsOutside g) (bearers above true n f)
+all_in above n Bare g = tt
+all_in above n (Grows e kids more) g =
+    ((λ e t. absurd (cc)), all_append (IsOutside g) _ _ (all_in (with_name e.name above) (n + 1) kids g) (all_in above (n + 1 + entries_in kids) more g))
+
+-- what stands beneath a table in those entries stands beneath one in these, which are numbered from here on
+abbrev Keeps : ℕ → ℕ → Forest Resolved → Forest Resolved → Type 0
+Keeps n m f g = (b : ℕ) → n ≤ b → b < m → InTable b g → InTable b f
+
+outside : (counts : List ℕ) (above : List (List ℕ)) (n : ℕ) (usage : Option Usage) (sign : Option Sign) (f : Forest Described) (g : Forest Resolved)
+    → Keeps n (n + entries_in f) (resolved counts n usage sign f) g → AllByRecursion (IsOutside g) (bearers above false n f)
+outside counts above n usage sign Bare g h = tt
+outside counts above n usage sign (Grows e kids more) g h =
+    let u = inherited usage e.usage in
+    let v = inherited sign e.sign in
+    let below = resolved counts (n + 1) u v kids in
+    let beside = resolved counts (n + 1 + entries_in kids) usage sign more in
+    let many = same_entries counts (n + 1) u v kids in
+    let ordered = numbered counts (n + 1) u v kids in
+    let ordered_beside = numbered counts (n + 1 + entries_in kids) usage sign more in
+    let here : IsOutside g (bearer_at above (is_some e.occurs) n e) = λ no is. elim (h n (omega arith) (omega arith) is) [
+      | inl t ↦ absurd (omega (arith, low (n + 1) n below ordered t.1))
+      | inr rest ↦ elim rest [
+        | inl t ↦ absurd (omega (arith, low (n + 1) n below ordered (in_has n below t)))
+        | inr t ↦ absurd (omega (arith, low (n + 1 + entries_in kids) n beside ordered_beside (in_has n beside t)))
+      ]
+    ] in
+    let inner : is_some e.occurs ≡ false → Keeps (n + 1) (n + 1 + entries_in kids) below g = λ single b l m is. elim (h b (omega (arith, l)) (omega (arith, m)) is) [
+      | inl t ↦ absurd (no_table e.occurs (slice_index counts n) single t.0)
+      | inr rest ↦ elim rest [
+        | inl t ↦ t
+        | inr t ↦ absurd (omega (arith, m, low (n + 1 + entries_in kids) b beside ordered_beside (in_has b beside t)))
+      ]
+    ] in
+    let past : (b : ℕ) → n + 1 + entries_in kids ≤ b → Has b below → ⊥ = λ b l is. omega (arith, l, many, high (n + 1) b below ordered is) in
+    let outer : Keeps (n + 1 + entries_in kids) (n + 1 + entries_in kids + entries_in more) beside g = λ b l m is. elim (h b (omega (arith, l)) (omega (arith, m)) is) [
+      | inl t ↦ absurd (past b l t.1)
+      | inr rest ↦ elim rest [
+        | inl t ↦ absurd (past b l (in_has b below t))
+        | inr t ↦ t
+      ]
+    ] in
+    let under = by (is_some e.occurs) (with_name e.name above) (λ single. outside counts (with_name e.name above) (n + 1) u v kids g (inner single)) in
+    let behind = outside counts above (n + 1 + entries_in kids) usage sign more g outer in
+    (here, all_append (IsOutside g) _ _ under behind)
+  where
+    by : (table : Bool) (names : List (List ℕ)) → (table ≡ false → AllByRecursion (IsOutside g) (bearers names false (n + 1) kids)) → AllByRecursion (IsOutside g) (bearers names table (n + 1) kids)
+    by true names go = all_in names (n + 1) kids g
+    by false names go = go refl
+
 -- ---- each table is countable
 
--- among these entries the table's count is a number without a fraction
+-- among these entries the table's count is a number without a fraction, stands before the table, and beneath none
 pub record IsCountedIn (g : Forest Resolved) (x : Table) : Type 0 where
   pub item : Item
   pub is : kind_in x.count g ≡ Some (ItemKind item)
   pub number : IsNumberItem item
   pub whole : scale item.picture.positions ≡ pos 0
+  pub before : x.count < x.number
+  pub single : InTable x.count g → ⊥
 
 number_item : (i : Item) → is_numeric i.picture.category ≡ true → i.blank ≡ false → IsStorable i → IsNumberItem i
 number_item i numeric plain h =
     let number : is_number i ≡ true = ap (λ (b : Bool). b && not i.blank) numeric ∙ ap not plain in
     MatchBool-at_true (IsNumberItem i) (item_size i ≡ size i.picture.positions) number h
 
-counted : (all : List Bearer) (g : Forest Resolved) (n : ℕ) (name : List ℕ) (qualifiers : List (List ℕ)) (x : Table) → AllByRecursion (IsDescribed g) all
-    → IsCount all n name qualifiers x.count → IsCountedIn g x
-counted all g n name qualifiers x shows h =
+counted : (all : List Bearer) (g : Forest Resolved) (name : List ℕ) (qualifiers : List (List ℕ)) (x : Table) → AllByRecursion (IsDescribed g) all → AllByRecursion (IsOutside g) all
+    → IsCount all x.number name qualifiers x.count → IsCountedIn g x
+counted all g name qualifiers x shows out h =
     let b = h.bearer in
     let i : IsPlainItem (kind_in b.number g) h.may.picture = the_one (Names name qualifiers) (IsDescribed g) all b h.only shows h.may.picture h.may.has h.may.plain in
     record {
@@ -149,24 +221,26 @@ counted all g n name qualifiers x shows h =
       is = ap (λ (m : ℕ). kind_in m g) (sym h.number) ∙ i.is;
       number = number_item i.item (ap (λ (p : Seen). is_numeric p.category) i.picture ∙ h.may.whole.number) i.plain i.storable;
       whole = ap (λ (p : Seen). scale p.positions) i.picture ∙ h.may.whole.whole;
+      before = h.before;
+      single = subst (λ (m : ℕ). InTable m g → ⊥) h.number (the_one (Names name qualifiers) (IsOutside g) all b h.only out h.may.single);
     }
 
-table_counted : (all : List Bearer) (g : Forest Resolved) (n : ℕ) (o : Option described.Times) (count : ℕ) → AllByRecursion (IsDescribed g) all
+table_counted : (all : List Bearer) (g : Forest Resolved) (n : ℕ) (o : Option described.Times) (count : ℕ) → AllByRecursion (IsDescribed g) all → AllByRecursion (IsOutside g) all
     → IsCountOf all n o count → AllByRecursion (IsCountedIn g) (table_of (times_of o count) n)
-table_counted all g n None count shows h = tt
-table_counted all g n (Some (described.Fixed times)) count shows h = tt
-table_counted all g n (Some (described.Varying least most name qualifiers)) count shows h =
-    (counted all g n name qualifiers (record { number = n; least = least; most = most; count = count }) shows h, tt)
+table_counted all g n None count shows out h = tt
+table_counted all g n (Some (described.Fixed times)) count shows out h = tt
+table_counted all g n (Some (described.Varying least most name qualifiers)) count shows out h =
+    (counted all g name qualifiers (record { number = n; least = least; most = most; count = count }) shows out h, tt)
 
 tables_counted : (all : List Bearer) (g : Forest Resolved) (counts : List ℕ) (n : ℕ) (usage : Option Usage) (sign : Option Sign) (f : Forest Described) → AllByRecursion (IsDescribed g) all
-    → HaveCounts all counts n f → AllByRecursion (IsCountedIn g) (tables_of (resolved counts n usage sign f))
-tables_counted all g counts n usage sign Bare shows h = tt
-tables_counted all g counts n usage sign (Grows e kids more) shows h =
+    → AllByRecursion (IsOutside g) all → HaveCounts all counts n f → AllByRecursion (IsCountedIn g) (tables_of (resolved counts n usage sign f))
+tables_counted all g counts n usage sign Bare shows out h = tt
+tables_counted all g counts n usage sign (Grows e kids more) shows out h =
     all_append (IsCountedIn g) _ _
-    (table_counted all g n e.occurs (slice_index counts n) shows h.0)
+    (table_counted all g n e.occurs (slice_index counts n) shows out h.0)
     (all_append (IsCountedIn g) _ _
-    (tables_counted all g counts (n + 1) (inherited usage e.usage) (inherited sign e.sign) kids shows h.1)
-    (tables_counted all g counts (n + 1 + entries_in kids) usage sign more shows h.2))
+    (tables_counted all g counts (n + 1) (inherited usage e.usage) (inherited sign e.sign) kids shows out h.1)
+    (tables_counted all g counts (n + 1 + entries_in kids) usage sign more shows out h.2))
 
 -- the tables of a record whose items can be stored are counted
 pub all_counted : (counts : List ℕ) (f : Forest Described) → AreCounts (bearers [] false 0 f) 0 (flat f) counts → AreStorable (resolved counts 0 None None f)
@@ -176,7 +250,8 @@ all_counted counts f h s =
     let g = resolved counts 0 None None f in
     let shows = shown counts [] false 0 None None f g s (λ number k past is. is) in
     let own = have_counts all counts 0 f [] (subst (λ (es : List Described). AreCounts all 0 es counts) (sym (append-nil (flat f))) h) in
-    tables_counted all g counts 0 None None f shows own.0
+    let out = outside counts [] 0 None None f g (λ b l m is. is) in
+    tables_counted all g counts 0 None None f shows out own.0
 
 or_none : (o : Option Kind) → or_else o None ≡ o
 or_none None = refl
@@ -185,3 +260,7 @@ or_none (Some k) = refl
 -- what stands in a record by itself stands in its tree
 pub countable : (t : Tree Resolved) (xs : List Table) → AllByRecursion (IsCountedIn (alone t)) xs → AllByRecursion (IsCountable t) xs
 countable t xs h = all_map (IsCountedIn (alone t)) (IsCountable t) xs (λ x c. record { item = c.item; is = sym (or_none (kind_one x.count t)) ∙ c.is; number = c.number; whole = c.whole }) h
+
+-- and its count stands ahead of it
+pub ahead : (t : Tree Resolved) (xs : List Table) → AllByRecursion (IsCountedIn (alone t)) xs → AllByRecursion (IsAhead (alone t)) xs
+ahead t xs h = all_map (IsCountedIn (alone t)) (IsAhead (alone t)) xs (λ x c. record { before = c.before; single = c.single }) h

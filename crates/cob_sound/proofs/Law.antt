@@ -10,11 +10,12 @@ use Rattle.cob_copybook.proofs.Storages.{possible}
 use Rattle.cob_layout_places.specs.Lengths.{alone, IsFit}
 use Rattle.cob_layout_places.specs.Cover.{AreNumbered}
 use Rattle.cob_layout_places.specs.Counts.{tables_of}
-use Rattle.cob_sound.specs.Sound.{AreStorable, RecordsAreSound}
+use Rattle.cob_sound.specs.Sound.{AreFilled, AreNested, AreStorable, RecordsAreSound}
 use Rattle.cob_sound.proofs.Numbers.{numbered}
+use Rattle.cob_sound.proofs.Shapes.{filled, nested}
 use Rattle.cob_sound.proofs.Fits.{may_occur, leaves, in_areas, redefines_none, record_small}
 use Rattle.cob_sound.proofs.Storables.{storable}
-use Rattle.cob_sound.proofs.Counted.{IsCountedIn, all_counted, countable}
+use Rattle.cob_sound.proofs.Counted.{IsCountedIn, all_counted, countable, ahead}
 
 pub sound : RecordsAreSound
 sound t (role, text, book) =
@@ -31,10 +32,15 @@ sound t (role, text, book) =
       areas = in_areas [] t.beneath is.stored.fit.areas.1;
       small = record_small t first is.stored.fit.short;
     } in
+    let counted = subst (λ (f : Forest Resolved). AllByRecursion (IsCountedIn f) (tables_of f)) tree (all_counted counts w is.stored.counted items) in
     record {
       fit = fit;
+      filled = subst AreFilled tree (filled counts 0 None None w is.agree.filled);
+      areas = is.stored.fit.areas;
       numbered = subst (AreNumbered 0) tree (numbered counts 0 None None w);
-      countable = countable t (tables_of (alone t)) (subst (λ (f : Forest Resolved). AllByRecursion (IsCountedIn f) (tables_of f)) tree (all_counted counts w is.stored.counted items));
+      nested = subst (AreNested 0) tree (nested counts 0 0 None None w is.agree.tables);
+      countable = countable t (tables_of (alone t)) counted;
+      ahead = ahead t (tables_of (alone t)) counted;
       storable = subst AreStorable tree items;
       values = is.stored.fit.values;
       first = first;

@@ -1,12 +1,20 @@
 -- What holds of the tree of every record description.
-use Rattle.std.specs.Prelude.{◌≡◌, false, None}
+use Rattle.std.specs.Prelude.{◌≡◌, ◌⊎◌, ℕ, ◌+◌, ◌<◌, ◌≤◌, true, false, [], None}
+use Rattle.std.specs.List.{AllByRecursion}
 use Rattle.cob_copybook_tree.specs.declared.node.Kind.{Kind}
 use Rattle.cob_copybook_tree.specs.declared.node.Kind.TheVariants.{Group, Item as ItemKind}
+use Rattle.cob_copybook_tree.specs.declared.node.Times.{Times}
+use Rattle.cob_copybook_tree.specs.declared.node.Times.TheVariants.{Once, Fixed, Varying}
 use Rattle.cob_copybook_tree.specs.Forests.{Forest, Bare, Grows, Tree}
 use Rattle.cob_copybook_tree.specs.Nodes.{Resolved}
+use Rattle.cob_limits.specs.Limits.{most_dimensions}
+use Rattle.cob_copybook_lengths.specs.Areas.{AreAreas}
 use Rattle.cob_copybook_lengths.specs.Values.{AreValues}
 use Rattle.cob_copybook.specs.Books.{IsRecord}
+use Rattle.cob_layout_places.specs.declared.varying.Table.{Table}
 use Rattle.cob_layout_places.specs.Lengths.{alone, IsFit}
+use Rattle.cob_layout_places.specs.Places.{is_table}
+use Rattle.cob_layout_places.specs.Needs.{Has}
 use Rattle.cob_layout_places.specs.Cover.{AreNumbered}
 use Rattle.cob_layout_places.specs.Counts.{AreCountable, tables_of}
 use Rattle.cob_move_initial.specs.Values.{IsStorable}
@@ -21,12 +29,51 @@ abbrev pub AreStorable : Forest Resolved → Type 0
 AreStorable Bare = Unit {0}
 AreStorable (Grows e kids more) = IsStorableKind e.kind × AreStorable kids × AreStorable more
 
--- The entries may occur, items hold none, redefinitions stay in their areas and the record isn't too long; they are numbered from 0; each table
--- that varies is counted by a whole number; each item can be stored; the values fit; and the record itself redefines nothing.
+-- a group has an entry beneath it
+abbrev pub IsFilled : Kind → Forest Resolved → Type 0
+IsFilled (ItemKind i) kids = Unit {0}
+IsFilled Group Bare = ⊥
+IsFilled Group (Grows e kids more) = Unit {0}
+
+-- each group has one
+abbrev pub AreFilled : Forest Resolved → Type 0
+AreFilled Bare = Unit {0}
+AreFilled (Grows e kids more) = IsFilled e.kind kids × AreFilled kids × AreFilled more
+
+-- one for a table
+abbrev pub dimension : Times → ℕ
+dimension Once = 0
+dimension (Fixed n) = 1
+dimension (Varying least most count) = 1
+
+-- beneath so many tables, no more than 7 stand within one another
+abbrev pub AreNested : ℕ → Forest Resolved → Type 0
+AreNested n Bare = Unit {0}
+AreNested n (Grows e kids more) =
+    (n + dimension e.occurs ≤ most_dimensions) × AreNested (n + dimension e.occurs) kids × AreNested n more
+
+-- the entry with this number stands beneath a table
+abbrev pub InTable : ℕ → Forest Resolved → Type 0
+InTable a Bare = ⊥
+InTable a (Grows e kids more) = ((is_table e.occurs ≡ true) × Has a kids) ⊎ (InTable a kids ⊎ InTable a more)
+
+-- the count of a table that varies stands before the table, and beneath none
+pub record IsAhead (f : Forest Resolved) (x : Table) : Type 0 where
+  pub before : x.count < x.number
+  pub single : InTable x.count f → ⊥
+
+-- The entries may occur, items hold none, redefinitions stay in their areas and the record isn't too long; groups hold some, and redefinitions
+-- stand where they may, so that neither side of one varies; the entries are numbered from 0; no more than 7 tables stand within one another;
+-- each table that varies is counted by a whole number, which stands before it and in no table; each item can be stored; the values fit; and
+-- the record itself redefines nothing.
 pub record IsSound (t : Tree Resolved) : Type 0 where
   pub fit : IsFit 0 t
+  pub filled : AreFilled (alone t)
+  pub areas : AreAreas [] (alone t)
   pub numbered : AreNumbered 0 (alone t)
+  pub nested : AreNested 0 (alone t)
   pub countable : AreCountable t (tables_of (alone t))
+  pub ahead : AllByRecursion (IsAhead (alone t)) (tables_of (alone t))
   pub storable : AreStorable (alone t)
   pub values : AreValues false false (alone t)
   pub first : t.top.redefines ≡ None

@@ -6,10 +6,12 @@
 //! [`records_are_sound`] says that every record description is so (`IsSound` of specs/Sound.antt), so that what reads a copybook can hand its
 //! record on, and no caller has a premise left to show:
 //!
-//! - each entry may occur, groups alone have entries beneath them, each redefinition stays in its area, and the record has at most 32,752
-//!   bytes;
+//! - each entry may occur, groups and they alone have entries beneath them, each redefinition stays in its area, and the record has at most
+//!   32,752 bytes;
+//! - redefinitions stand where they may: neither an entry that redefines nor the one whose area it is varies;
 //! - the entries are numbered from 0 in their order, a parent before its children;
-//! - each table that varies is counted by an item of the record that is a number without a fraction;
+//! - no more than 7 tables stand within one another;
+//! - each table that varies is counted by an item of the record that is a number without a fraction, stands before the table, and in none;
 //! - each item can be stored: a number has a picture that its USAGE and SIGN take, and another item one byte for each position of its
 //!   picture that has one;
 //! - each VALUE suits its entry, and stands where a value may;
