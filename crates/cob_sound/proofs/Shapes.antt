@@ -11,7 +11,7 @@ use Rattle.cob_copybook_tree.specs.Forests.{Forest, Bare, Grows, entries_in}
 use Rattle.cob_copybook_tree.specs.Resolving.{inherited, times_of, kind_of, resolved}
 use Rattle.cob_copybook_rules.specs.Filled as rules
 use Rattle.cob_copybook_rules.specs.Tables as tables
-use Rattle.cob_copybook_rules.specs.declared.tables.TheConstants.{MAX_DIMENSIONS}
+use Rattle.cob_limits.specs.Limits.{most_dimensions}
 use Rattle.cob_sound.specs.Sound.{IsFilled, AreFilled, dimension, AreNested}
 
 one_filled : (picture : Option Seen) (own : Usage) (place : Option Sign) (justified blank : Bool) (counts : List ℕ) (n : ℕ) (usage : Option Usage) (sign : Option Sign) (kids : Forest Described)
@@ -41,7 +41,7 @@ nested counts n m usage sign (Grows e kids more) h =
     let u = inherited usage e.usage in
     let v = inherited sign e.sign in
     let same = same_dimension e.occurs (slice_index counts n) in
-    let here = subst (λ (d : ℕ). m + d ≤ MAX_DIMENSIONS) same h.2 in
+    let here = subst (λ (d : ℕ). m + d ≤ most_dimensions) same h.2 in
     let below = nested counts (n + 1) (m + tables.dimension e.occurs) u v kids h.3 in
     let beside = nested counts (n + 1 + entries_in kids) m usage sign more h.4 in
     (here, subst (λ (d : ℕ). AreNested (m + d) (resolved counts (n + 1) u v kids)) same below, beside)
