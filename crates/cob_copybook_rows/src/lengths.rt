@@ -1,0 +1,43 @@
+//! The rules that speak of lengths.
+
+ghost use Rattle.std.specs.Prelude.{IsTrue};
+ghost use Rattle.cob_copybook_tree.specs.Nodes.{forest};
+ghost use Rattle.cob_copybook_lengths.specs.Areas.{ArePossible};
+
+use crate::refusal::Refusal;
+use crate::trees::record_of;
+use cob_copybook_lengths::judged;
+use cob_copybook_tree::{Kind, Node};
+use cob_rows::{Row, RowFault};
+use std::alloc::Global;
+use std::slice;
+
+/// Writes the answer to a row's question about entries.
+pub(crate) fn answer(alloc: Global, row: &Row, out: &mut String) -> Result<(), Refusal> {
+    if row.field(0)? != "fit" {
+        return Err(Refusal::Row(RowFault::BadRow));
+    }
+    let root = record_of(alloc, row, &[])?;
+    if !are_possible(slice::from_ref(&root)) {
+        return Err(Refusal::Row(RowFault::BadRow));
+    }
+    judged(&root)?;
+    out.push_str("yes")?;
+    Ok(())
+}
+
+/// Whether the entries occur at least once, and the items have none beneath them.
+fn are_possible(nodes: &[Node]) -> bool
+    ensures { IsTrue result → ArePossible (forest nodes.now) }
+{
+    for node in nodes {
+        let is_leaf = match &node.kind {
+            Kind::Group => true,
+            Kind::Item(_) => node.children.is_empty(),
+        };
+        if !is_leaf || node.occurs.most() == 0 || !are_possible(node.children.as_slice()) {
+            return false;
+        }
+    }
+    true
+}

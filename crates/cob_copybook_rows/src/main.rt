@@ -1,0 +1,57 @@
+//! Answers tables of rows about copybooks, each asked of the crate whose subject it is: clauses as they are written, entries, trees,
+//! the rules that clauses keep, counts, lengths, and whole copybooks.
+//!
+//! The first field of a row is the question, and the second is mostly a text of entries, parted by bars, one a line. The answer is what
+//! was asked for, or the rule that the text breaks with its line.
+#![tactic(auto)]
+
+mod books;
+mod clauses;
+mod counts;
+mod entries;
+mod lengths;
+mod nodes;
+mod refusal;
+mod rules;
+mod texts;
+mod trees;
+
+use crate::refusal::Refusal;
+use cob_rows::{Family, Row, RowFault, print_rows};
+use std::alloc::Global;
+use std::fmt::Write;
+use std::io;
+
+/// The tables on copybooks.
+struct Copybooks;
+
+/// Writes what comes of a row of a table.
+///
+/// # Errors
+/// That there is no answer, or a rule that the row's text breaks.
+fn answer(alloc: Global, table: &str, row: &Row, out: &mut String) -> Result<(), Refusal> {
+    match table.as_bytes() {
+        b"clauses" => clauses::answer(alloc, row, out),
+        b"entries" => entries::answer(alloc, row, out),
+        b"trees" => trees::answer(alloc, row, out),
+        b"rules" => rules::answer(alloc, row, out),
+        b"counts" => counts::answer(alloc, row, out),
+        b"lengths" => lengths::answer(alloc, row, out),
+        b"accepted" | b"refused" | b"books" => books::answer(alloc, row, out),
+        _ => Err(Refusal::Row(RowFault::BadRow)),
+    }
+}
+
+impl Family for Copybooks {
+    fn answer(alloc: Global, table: &str, row: &Row, out: &mut String) -> Result<(), RowFault> {
+        match answer(alloc, table, row, out) {
+            Ok(()) => Ok(()),
+            Err(Refusal::Row(fault)) => Err(fault),
+            Err(Refusal::Text(fault)) => Ok(write!(out, "{fault}")?),
+        }
+    }
+}
+
+fn main(rt: HostRuntime) -> io::Result<()> {
+    print_rows::<Copybooks, HostRuntime>(&rt)
+}

@@ -1,0 +1,97 @@
+//! The tree that entries stand for, and its lengths.
+
+ghost use Rattle.std.specs.Prelude.{◌≤◌, [], ◌∷◌, map, IsTrue, IfOk};
+ghost use Rattle.cob_copybook_entries.specs.Described.{described};
+ghost use Rattle.cob_copybook_tree.specs.Branches.{AreLevels, forest_of};
+ghost use Rattle.cob_copybook_tree.specs.Forests.{entries_in};
+
+use crate::nodes::{push_each, push_tree};
+use crate::refusal::Refusal;
+use crate::texts::entries_of;
+use cob_copybook_entries::Entry;
+use cob_copybook_tree::{
+    Branch, Kind, Node, as_many_entries, element_length, planted, resolve, whole_length,
+};
+use cob_rows::{Row, RowFault};
+use std::alloc::{AllocError, Global};
+use std::fmt::Write;
+
+/// Writes the answer to a row's question about entries. A third field has the number of each entry's count.
+pub(crate) fn answer(alloc: Global, row: &Row, out: &mut String) -> Result<(), Refusal> {
+    let counts = numbers_of(alloc, row.field(2).unwrap_or(""))?;
+    let root = record_of(alloc, row, counts.as_slice())?;
+    match row.field(0)?.as_bytes() {
+        b"tree" => push_tree(out, &root)?,
+        b"each" => push_each(out, &root)?,
+        b"lengths" => push_lengths(out, &root)?,
+        b"size" => push_size(out, &root)?,
+        _ => return Err(Refusal::Row(RowFault::BadRow)),
+    }
+    Ok(())
+}
+
+/// The numbers of a field, parted by spaces.
+fn numbers_of(alloc: Global, field: &str) -> Result<Vec<usize>, RowFault> {
+    let mut numbers = Vec::new(alloc);
+    for word in field.split_whitespace() {
+        let Ok(number) = word.parse::<usize>() else {
+            return Err(RowFault::BadRow);
+        };
+        numbers.push(number)?;
+    }
+    Ok(numbers)
+}
+
+/// Whether a tree may be planted from the entries.
+fn are_levels(entries: &[Entry]) -> bool
+    ensures { IsTrue result → AreLevels (map described entries.now) }
+{
+    let Some((first, others)) = entries.split_first() else {
+        return false;
+    };
+    if first.level != 1 {
+        return false;
+    }
+    for entry in others {
+        if entry.level < 2 || entry.level > 49 {
+            return false;
+        }
+    }
+    true
+}
+
+/// The tree of a row's entries.
+pub(crate) fn tree_of(alloc: Global, row: &Row) -> Result<Branch, Refusal>
+    ensures few { IfOk result (λ b. entries_in (forest_of (b ∷ [])) ≤ 65535) }
+{
+    let text = row.lines(alloc, 1)?;
+    let entries = entries_of(alloc, text.as_slice())?;
+    if entries.len() > 65_535 || !are_levels(entries.as_slice()) {
+        return Err(Refusal::Row(RowFault::BadRow));
+    }
+    as_many_entries();
+    Ok(planted(alloc, entries)?)
+}
+
+/// The record of a row's entries, with what they inherit.
+pub(crate) fn record_of(alloc: Global, row: &Row, counts: &[usize]) -> Result<Node, Refusal> {
+    let tree = tree_of(alloc, row)?;
+    Ok(resolve(alloc, &tree, counts)?)
+}
+
+/// Writes the bytes of a record that is an item.
+fn push_size(out: &mut String, root: &Node) -> Result<(), RowFault> {
+    match &root.kind {
+        Kind::Item(item) => Ok(write!(out, "{}", item.size())?),
+        Kind::Group => Err(RowFault::BadRow),
+    }
+}
+
+/// Writes the lengths of one element of the record and of all, and those of each entry right beneath it.
+fn push_lengths(out: &mut String, root: &Node) -> Result<(), AllocError> {
+    write!(out, "{}/{}", element_length(root), whole_length(root))?;
+    for child in root.children.iter() {
+        write!(out, " {}/{}", element_length(child), whole_length(child))?;
+    }
+    Ok(())
+}
