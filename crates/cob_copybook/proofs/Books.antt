@@ -27,15 +27,15 @@ few_entries ds t stands few =
     omega (arith, a, b, few)
 
 -- a rule that the tree of a text's entries breaks is broken by the text
-pub refused_tree : (role : Role) (r : BookRule) (line : ℕ) (text : List ℕ) (ds : List Described) → HasEntries role text ds → IsTreeRefusal r ds → IsRefusal role r line text
-refused_tree role rule.Memory line text ds has h = inl tt
-refused_tree role (rule.Source s) line text ds has h = absurd h.2
-refused_tree role r line text ds has h = inr (ds, has, inl h)
+pub refused_tree : (role : Role) (r : BookRule) (line : ℕ) (text : List ℕ) (ds : List Described) → HasEntries role text ds → (r ≡ rule.Memory → line ≡ 0) → IsTreeRefusal r ds → IsRefusal role r line text
+refused_tree role rule.Memory line text ds has none h = inl (none refl)
+refused_tree role (rule.Source s) line text ds has none h = absurd h.2
+refused_tree role r line text ds has none h = inr (ds, has, inl h)
 
-pub refused_storage : (role : Role) (r : BookRule) (line : ℕ) (text : List ℕ) (ds : List Described) (t : Forest Described) → HasEntries role text ds → StandsFor ds t → IsStorageRefusal r t → IsRefusal role r line text
-refused_storage role rule.Memory line text ds t has stands h = inl tt
-refused_storage role (rule.Source s) line text ds t has stands h = absurd h.2
-refused_storage role r line text ds t has stands h = inr (ds, has, inr (t, stands, h))
+pub refused_storage : (role : Role) (r : BookRule) (line : ℕ) (text : List ℕ) (ds : List Described) (t : Forest Described) → HasEntries role text ds → StandsFor ds t → (r ≡ rule.Memory → line ≡ 0) → IsStorageRefusal r t → IsRefusal role r line text
+refused_storage role rule.Memory line text ds t has stands none h = inl (none refl)
+refused_storage role (rule.Source s) line text ds t has stands none h = absurd h.2
+refused_storage role r line text ds t has stands none h = inr (ds, has, inr (t, stands, h))
 
 -- the entries of a text that is a book stand for the tree of the book
 pub stands_too : (role : Role) (text : List ℕ) (t : Forest Resolved) (ds : List Described) (b : IsBookOf role text t) → ds ≡ b.entries → StandsFor ds b.is.written

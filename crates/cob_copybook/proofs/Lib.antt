@@ -2,3 +2,4 @@ pub mod Texts
 pub mod Trees
 pub mod Storages
 pub mod Books
+pub mod Bytes

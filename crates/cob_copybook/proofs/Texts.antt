@@ -1,5 +1,5 @@
 -- What is known of a text's entries, and how its words' faults are its own.
-use Rattle.std.proofs.Common.{◌≡◌, sym, subst, ℕ, List, [], ◌∷◌, Bool, true, false}
+use Rattle.std.proofs.Common.{◌≡◌, refl, sym, subst, ℕ, List, [], ◌∷◌, Bool, true, false}
 use Rattle.std.proofs.Common.{inl, inr}
 use Rattle.cob_source.specs.Tokens.{Lexeme}
 use Rattle.cob_source.specs.Words.{AreWordsOf, WordsAreOne}
@@ -21,10 +21,10 @@ no_source r (s ∷ ss) (inl h) = no_source_by _ r s h.1
 no_source r (s ∷ ss) (inr h) = no_source r ss h
 
 -- a rule that the words break is broken by the text
-pub told : (r : BookRule) (line : ℕ) (text : List ℕ) (ws : List Lexeme) → AreWordsOf text ws → IsBroken r ws → IsTextRefusal r line text
-told (rule.Source r) line text ws are h = absurd (no_source r _ h)
-told rule.Memory line text ws are h = tt
-told r line text ws are h = (ws, are, h)
+pub told : (r : BookRule) (line : ℕ) (text : List ℕ) (ws : List Lexeme) → AreWordsOf text ws → (r ≡ rule.Memory → line ≡ 0) → IsBroken r ws → IsTextRefusal r line text
+told (rule.Source r) line text ws are none h = absurd (no_source r _ h)
+told rule.Memory line text ws are none h = none refl
+told r line text ws are none h = (ws, are, h)
 
 -- the entries of words that are a text's are the text's
 pub entries_among : (one : WordsAreOne) (role : Role) (text : List ℕ) (ws : List Lexeme) (ds : List Described) → AreWordsOf text ws → HasEntries role text ds

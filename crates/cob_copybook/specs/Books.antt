@@ -1,5 +1,5 @@
 -- Which tree a copybook's text stands for, and which rule it breaks.
-use Rattle.std.specs.Prelude.{◌≡◌, ◌⊎◌, ℕ, Bool, true, false, ◌==◌, if◌then◌else◌, List, [], ◌∷◌, codes, Some, None}
+use Rattle.std.specs.Prelude.{◌≡◌, ◌⊎◌, ℕ, false, ◌==◌, if◌then◌else◌, List, [], ◌∷◌, codes, Some, None}
 use Rattle.cob_source.specs.Tokens.{Lexeme}
 use Rattle.cob_source.specs.Words.{AreWordsOf, IsRefusal as IsSourceRefusal}
 use Rattle.cob_source.specs.declared.fault.SourceRule.TheVariants as source
@@ -64,10 +64,10 @@ BreaksText r text = (words : List Lexeme) × AreWordsOf text words × BreaksWord
 abbrev pub BreaksEntries : Role → BookRule → List ℕ → Type 0
 BreaksEntries role r text = (ds : List Described) × HasEntries role text ds × BreaksRecord r ds
 
--- the text breaks the rule of the reference format on this line, or its words break the rule; memory isn't the text's fault
+-- the text breaks the rule of the reference format on this line, or its words break the rule; want of memory is no line's
 abbrev pub IsTextRefusal : BookRule → ℕ → List ℕ → Type 0
 IsTextRefusal (rule.Source r) line text = IsSourceRefusal r line text
-IsTextRefusal rule.Memory line text = Unit {0}
+IsTextRefusal rule.Memory line text = line ≡ 0
 IsTextRefusal r line text = BreaksText r text
 
 -- a refusal names a rule that is broken: by the text or its words, or by its entries

@@ -1,3 +1,4 @@
 pub mod Codes
 pub mod Records
 pub mod Books
+pub mod Bytes

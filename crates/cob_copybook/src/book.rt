@@ -7,6 +7,7 @@ ghost use Rattle.cob_copybook_tree.specs.Lengths.{most, sum_of};
 ghost use Rattle.cob_limits.specs.Limits.{longest_record};
 ghost use Rattle.cob_copybook.specs.Books.{IsBookOf, IsRecord, IsRefusal, IsMemory};
 
+use crate::laws::records_take_bytes;
 use crate::role::Role;
 use crate::storage::storage_of;
 use crate::tree::tree_of;
@@ -76,8 +77,10 @@ impl Book {
     /// The record's length in bytes where each table that varies has its greatest count: 1 to 32,752.
     pub fn greatest(&self) -> u16
         ensures value { result ≡ sum_of most self.now }
+        ensures some { 1 ≤ result }
         ensures most { result ≤ longest_record }
     {
+        records_take_bytes();
         self.greatest
     }
 }

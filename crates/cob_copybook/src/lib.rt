@@ -16,6 +16,7 @@
 #![tactic(auto)]
 
 mod book;
+mod laws;
 mod role;
 mod storage;
 #[cfg(test)]
@@ -24,4 +25,5 @@ mod tree;
 mod words;
 
 pub use book::Book;
+pub use laws::records_take_bytes;
 pub use role::Role;

@@ -40,6 +40,7 @@ pub(crate) fn tree_of(alloc: Global, entries: Vec<Entry>) -> Result<Branch, Book
     ensures found { IfOk result (λ b. StandsFor (map described entries.items) (forest_of (b ∷ [])) × AgreeAll (forest_of (b ∷ []))) }
     ensures only { (t : Forest Described) → StandsFor (map described entries.items) t → AgreeAll t → IfOk result (λ b. forest_of (b ∷ []) ≡ t) × IfErr result (λ f. f.rule ≡ Memory) }
     ensures fault { IfErr result (λ f. IsTreeRefusal f.rule (map described entries.items)) }
+    ensures memory { IfErr result (λ f. f.rule ≡ Memory → f.line ≡ 0) }
 {
     one_tree();
     breaks_no_rule();

@@ -55,9 +55,11 @@ pub enum BookRule {
 impl BookRule {
     /// The fault of an entry that begins on this line; memory has line 0.
     pub(crate) fn on(self, line: u32) -> BookFault
-        ensures { result.rule ≡ self }
+        ensures rule { result.rule ≡ self }
+        ensures memory { self ≡ Memory → result.line ≡ 0 }
     {
-        let line = if self == BookRule::Memory { 0 } else { line };
+        let is_memory = matches!(self, BookRule::Memory);
+        let line = if is_memory { 0 } else { line };
         BookFault { rule: self, line }
     }
 }

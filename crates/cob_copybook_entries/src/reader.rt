@@ -31,6 +31,8 @@ pub fn entries(alloc: Global, tokens: &[Token]) -> Result<Vec<Entry>, BookFault>
         → IfOk result (λ es. map described es.items ≡ ds) × IfErr result (λ f. f.rule ≡ Memory) }
     // A refusal names a rule that is broken.
     ensures fault { IfErr result (λ f. IsBroken f.rule (lexemes tokens.now)) }
+    // Want of memory is no line's.
+    ensures memory { IfErr result (λ f. f.rule ≡ Memory → f.line ≡ 0) }
     // There is an entry.
     ensures some { IfOk result (λ es. 0 < length es.items) }
 {

@@ -68,6 +68,7 @@ fn count_of(directory: &Directory, number: usize, entry: &Entry) -> Result<usize
 fn counts_of(alloc: Global, directory: &Directory) -> Result<Vec<usize>, BookFault>
     ensures found { IfOk result (λ v. AreCounts (map bearer_of directory.now.bearers.now) 0 (map entry_of directory.now.bearers.now) v.items) }
     ensures fault { IfErr result (λ f. IsRefusedAmong (map bearer_of directory.now.bearers.now) f.rule (map entry_of directory.now.bearers.now)) }
+    ensures memory { IfErr result (λ f. f.rule ≡ Memory → f.line ≡ 0) }
 {
     let mut counts = Vec::new(alloc);
     for (number, bearer) in directory.bearers.iter().enumerate() {
@@ -88,6 +89,7 @@ pub fn counts(alloc: Global, root: &Branch) -> Result<Vec<usize>, BookFault>
     ensures found { IfOk result (λ v. AreCountsOf (forest_of (root.now ∷ [])) v.items) }
     ensures only { (cs : List ℕ) → AreCountsOf (forest_of (root.now ∷ [])) cs → IfOk result (λ v. v.items ≡ cs) × IfErr result (λ f. f.rule ≡ Memory) }
     ensures fault { IfErr result (λ f. IsRefused f.rule (forest_of (root.now ∷ []))) }
+    ensures memory { IfErr result (λ f. f.rule ≡ Memory → f.line ≡ 0) }
 {
     let mut bearers = Vec::new(alloc);
     list_bearers(alloc, &[], false, slice::from_ref(root), &mut bearers)?;

@@ -72,6 +72,7 @@ pub fn planted(alloc: Global, entries: Vec<Entry>) -> Result<Branch, AllocError>
     let mut branches = side_by_side(alloc, entries)?;
     match branches.pop_front() {
         Some(root) => Ok(root),
-        None => Err(AllocError),
+        // A record has an entry, so there is a branch.
+        None => unreachable!(),
     }
 }

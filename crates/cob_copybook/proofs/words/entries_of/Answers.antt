@@ -17,7 +17,7 @@ pub returns-in_err-listed-clause-fault : goal.returns-in_err-listed-clause-fault
 returns-in_err-listed-clause-fault c =
     let p = err_from_is_err_and c.from_residual-in_err-listed.result c.from_residual-in_err-listed.ensures.1 in
     let are : AreWordsOf c.args.text.now (lexemes c.deref.result.now) = rw c.deref.ensures.value c.in_ok-words.ensures.words in
-    rw (p.1, p.2) (told _ _ _ _ are c.in_err-listed.ensures.fault)
+    rw (p.1, p.2) (told _ _ _ _ are c.in_err-listed.ensures.memory c.in_err-listed.ensures.fault)
 
 pub returns-clause-only : goal.returns-clause-only
 returns-clause-only c ds has =

@@ -12,12 +12,12 @@ use Rattle.cob_copybook_entries.proofs.reader.entries.Goals as goal
 pub returns-in-Err-clause-only : goal.returns-in-Err-clause-only
 returns-in-Err-clause-only c = λ ds w.
     let is = front_cut _ _ _ c.in-Some.ensures.found in
-    (tt, c.on-in-Err.ensures ∙ sentence_only _ _ _ (lexemes c.in-Some.behind.now) _ _ ds c.loop-sentence.invariant is (λ d h. (c.in-Err.ensures.only d h).1) w)
+    (tt, c.on-in-Err.ensures.rule ∙ sentence_only _ _ _ (lexemes c.in-Some.behind.now) _ _ ds c.loop-sentence.invariant is (λ d h. (c.in-Err.ensures.only d h).1) w)
 
 pub returns-in-Err-clause-fault : goal.returns-in-Err-clause-fault
 returns-in-Err-clause-fault c =
     let is = front_cut _ _ _ c.in-Some.ensures.found in
-    subst (λ (r : BookRule). IsBroken r (lexemes c.args.tokens.now)) (sym c.on-in-Err.ensures) (sentence_broken _ _ _ (lexemes c.in-Some.behind.now) _ _ c.loop-sentence.invariant is c.in-Err.ensures.fault)
+    subst (λ (r : BookRule). IsBroken r (lexemes c.args.tokens.now)) (sym c.on-in-Err.ensures.rule) (sentence_broken _ _ _ (lexemes c.in-Some.behind.now) _ _ c.loop-sentence.invariant is c.in-Err.ensures.fault)
 
 pub loop-sentence-smaller : goal.loop-sentence-smaller
 loop-sentence-smaller c = shorter _ _ _ c.in-Some.ensures.found
@@ -37,7 +37,7 @@ returns-then-not-is_empty-clause-only c = λ ds w.
 pub returns-then-not-is_empty-clause-fault : goal.returns-then-not-is_empty-clause-fault
 returns-then-not-is_empty-clause-fault c =
     let left = open_end _ _ _ c.loop-sentence.invariant c.in_default.ensures.none in
-    subst (λ (r : BookRule). IsBroken r (lexemes c.args.tokens.now)) (sym c.on-then-not-is_empty.ensures)
+    subst (λ (r : BookRule). IsBroken r (lexemes c.args.tokens.now)) (sym c.on-then-not-is_empty.ensures.rule)
     (inl (λ e. not_empty c.loop-sentence.rest.now (λ e. grind (arith, common_steps)) (sym left ∙ e)))
 
 pub returns-clause-found : goal.returns-clause-found

@@ -5,8 +5,8 @@ use Rattle.cob_copybook_tree.specs.Branches.{branch, forest_of, level_of}
 use Rattle.cob_copybook_tree.proofs.StandsForLemmas.{stands_for}
 use Rattle.cob_copybook_tree.proofs.planting.planted.Goals as goal
 
-pub returns-in-Some : goal.returns-in-Some
-returns-in-Some c =
+pub returns : goal.returns
+returns c =
     let items = ap forest_of c.in-Some.ensures.items in
     stands_for (map described c.args.entries.items) (branch c.in-Some.root).top (branch c.in-Some.root).beneath (forest_of c.pop_front.new.self.items) c.requires
     (ap flat (sym items) ∙ c.in_ok-branches.ensures.entries) (subst (IsTree level_of) items c.in_ok-branches.ensures.tree)

@@ -17,7 +17,7 @@ returns-in_err-tree-clause-only c = λ t b.
 pub returns-in_err-tree-clause-fault : goal.returns-in_err-tree-clause-fault
 returns-in_err-tree-clause-fault c =
     let p = err_from_is_err_and c.from_residual-in_err-tree.result c.from_residual-in_err-tree.ensures.1 in
-    rw (p.1, p.2) (refused_tree _ _ _ _ _ c.in_ok-entries.ensures.found c.in_err-tree.ensures.fault)
+    rw (p.1, p.2) (refused_tree _ _ _ _ _ c.in_ok-entries.ensures.found c.in_err-tree.ensures.memory c.in_err-tree.ensures.fault)
 
 pub storage_of-requires-clause-few : goal.storage_of-requires-clause-few
 storage_of-requires-clause-few c = few_entries _ _ c.in_ok-tree.ensures.found.0 c.in_ok-entries.ensures.few
@@ -32,7 +32,7 @@ returns-in_err-root-clause-only c = λ t b.
 pub returns-in_err-root-clause-fault : goal.returns-in_err-root-clause-fault
 returns-in_err-root-clause-fault c =
     let p = err_from_is_err_and c.from_residual-in_err-root.result c.from_residual-in_err-root.ensures.1 in
-    rw (p.1, p.2) (refused_storage _ _ _ _ _ _ c.in_ok-entries.ensures.found c.in_ok-tree.ensures.found.0 c.in_err-root.ensures.fault)
+    rw (p.1, p.2) (refused_storage _ _ _ _ _ _ c.in_ok-entries.ensures.found c.in_ok-tree.ensures.found.0 c.in_err-root.ensures.memory c.in_err-root.ensures.fault)
 
 pub returns-clause-only : goal.returns-clause-only
 returns-clause-only c = λ t b.
