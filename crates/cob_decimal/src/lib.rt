@@ -23,8 +23,6 @@ pub mod laws;
 mod literal;
 mod number;
 mod number_text;
-#[cfg(test)]
-mod tests;
 
 pub use digits::Digits;
 pub use number::Number;
