@@ -22,8 +22,6 @@ mod separate;
 mod shape;
 mod sign;
 mod storage;
-#[cfg(test)]
-mod tests;
 mod zoned;
 
 pub use crate::binary::Binary;

@@ -115,6 +115,3 @@ fn have_codes(characters: &[u8]) -> bool
 pub fn table_is_one_to_one()
     ensures { TableIsOneToOne }
 {}
-
-#[cfg(test)]
-mod tests;

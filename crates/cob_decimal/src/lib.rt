@@ -23,8 +23,6 @@ pub mod laws;
 mod literal;
 mod number;
 mod number_text;
-#[cfg(test)]
-mod tests;
 
 pub use cob_limits::{MAX_DIGITS, MAX_SCALE, MIN_SCALE};
 pub use digits::Digits;

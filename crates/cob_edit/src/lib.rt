@@ -23,8 +23,6 @@ mod positions;
 mod reading;
 mod region;
 mod spelling;
-#[cfg(test)]
-mod tests;
 mod text;
 
 pub use crate::laws::{one_spelling, one_text, one_value, prints_characters, some_text};

@@ -16,8 +16,6 @@
 mod form;
 mod laws;
 mod numbers;
-#[cfg(test)]
-mod tests;
 
 pub use form::is_number_item;
 pub use laws::{items_hold_numbers, one_number, stored_numbers_read_back};

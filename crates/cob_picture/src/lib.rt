@@ -27,8 +27,6 @@ pub mod picture;
 pub mod position;
 mod reading;
 pub mod symbol;
-#[cfg(test)]
-mod tests;
 
 pub use category::Category;
 pub use fault::PictureFault;

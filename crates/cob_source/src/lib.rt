@@ -25,8 +25,6 @@ mod laws;
 mod lines;
 mod paragraph;
 mod reader;
-#[cfg(test)]
-mod tests;
 mod token;
 
 pub use fault::{SourceFault, SourceRule};
