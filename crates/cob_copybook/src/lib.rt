@@ -18,8 +18,6 @@
 mod book;
 mod role;
 mod storage;
-#[cfg(test)]
-mod tests;
 mod tree;
 mod words;
 

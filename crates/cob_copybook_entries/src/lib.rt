@@ -27,8 +27,6 @@ mod number;
 mod occurs;
 mod reader;
 mod sentence;
-#[cfg(test)]
-mod tests;
 mod value;
 
 pub use entry::{Entry, Occurs, Qualified};
