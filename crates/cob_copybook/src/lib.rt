@@ -19,8 +19,6 @@ mod book;
 mod laws;
 mod role;
 mod storage;
-#[cfg(test)]
-mod tests;
 mod tree;
 mod words;
 

@@ -29,8 +29,6 @@ mod qualifiers;
 mod sentence;
 mod table;
 mod term;
-#[cfg(test)]
-mod tests;
 mod words;
 
 pub use entry::written;

@@ -27,8 +27,6 @@ mod number;
 mod occurs;
 mod reader;
 mod sentence;
-#[cfg(test)]
-mod tests;
 mod value;
 
 pub use cob_limits::MAX_LITERAL;

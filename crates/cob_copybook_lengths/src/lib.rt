@@ -23,8 +23,6 @@ mod areas;
 mod fitting;
 mod judge;
 mod laws;
-#[cfg(test)]
-mod tests;
 mod values;
 
 pub use judge::judged;

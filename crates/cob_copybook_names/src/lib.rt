@@ -18,7 +18,5 @@ mod bearer;
 mod count;
 mod directory;
 mod qualifiers;
-#[cfg(test)]
-mod tests;
 
 pub use count::{counts, one_list_of_counts};

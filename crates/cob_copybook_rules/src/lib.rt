@@ -21,8 +21,6 @@ mod placements;
 mod rules;
 mod signs;
 mod tables;
-#[cfg(test)]
-mod tests;
 mod usages;
 
 pub use rules::{breaks_no_rule, judged};

@@ -29,8 +29,6 @@ mod lengths;
 mod node;
 mod planting;
 mod resolving;
-#[cfg(test)]
-mod tests;
 
 pub use branch::Branch;
 pub use laws::{as_many_entries, branch_opens, node_opens, one_tree};

@@ -2,7 +2,7 @@ use Rattle.std.proofs.Common.{map, drop}
 use Rattle.std.specs.List.{AllByRecursion}
 use Rattle.cob_copybook_entries.specs.Described.{described}
 use Rattle.cob_copybook_tree.specs.Branches.{IsBelow}
-use Rattle.cob_copybook_tree.proofs.tests.are_levels.Given as goal
+use Rattle.cob_copybook_tests.proofs.memory.are_levels.Given as goal
 
 abbrev pub invariant-loop-entry : goal.invariant-loop-entry
 invariant-loop-entry l = AllByRecursion IsBelow (map described (drop l.entry-index l.others)) → AllByRecursion IsBelow (map described l.others)
