@@ -13,8 +13,7 @@ fn shown(alloc: Global, text: &str) -> Result<String, Fail> {
 
 /// The tokens of a paragraph, shown so.
 fn paragraph(alloc: Global, text: &str) -> Result<String, Fail> {
-    let list = tokens(alloc, text.as_bytes())?;
-    let cut = paragraph_tokens(alloc, list.as_slice())?;
+    let cut = paragraph_tokens(alloc, text.as_bytes())?;
     joined(alloc, cut.as_slice())
 }
 
@@ -275,14 +274,14 @@ fn words_of_a_paragraph(rt: HostRuntime) -> Result<(), Fail> {
     for (text, want) in [
         (
             "       MOVE T(1,2) TO X(3).",
-            "W1:8 MOVE|W1:13 T|W1:13 (|W1:13 1|W1:13 2|W1:13 )|W1:20 TO|W1:23 X|W1:23 (|W1:23 3|W1:23 )|S1:27 .",
+            "W1:8 MOVE|W1:13 T|W1:14 (|W1:15 1|W1:17 2|W1:18 )|W1:20 TO|W1:23 X|W1:24 (|W1:25 3|W1:26 )|S1:27 .",
         ),
         (
             "       A,B ((1)",
-            "W1:8 A|W1:8 B|W1:12 (|W1:12 (|W1:12 1|W1:12 )",
+            "W1:8 A|W1:10 B|W1:12 (|W1:13 (|W1:14 1|W1:15 )",
         ),
         ("       \"(,)\",\"A\"", "L1:8 (,)|L1:14 A"),
-        ("       T (1, 2)", "W1:8 T|W1:10 (|W1:10 1|W1:14 2|W1:14 )"),
+        ("       T (1, 2)", "W1:8 T|W1:10 (|W1:11 1|W1:14 2|W1:15 )"),
         ("", ""),
     ] {
         assert_eq!(rt; paragraph(rt.alloc(), text)?.as_str(), want, "of {text:?}");
@@ -329,7 +328,7 @@ fn refused_memory(rt: HostRuntime) {
     match tokens(rt.alloc(), text) {
         Ok(list) => {
             assert_eq!(rt; list.len(), 4);
-            if let Ok(words) = paragraph_tokens(rt.alloc(), list.as_slice()) {
+            if let Ok(words) = paragraph_tokens(rt.alloc(), text) {
                 assert_eq!(rt; words.len(), 9);
             }
         }
