@@ -5,23 +5,24 @@ use Rattle.std.specs.List.{AllByRecursion}
 use Rattle.std.proofs.lemmas.Bool.{eqb-true}
 use Rattle.std.proofs.lemmas.List.{append-nil}
 use Rattle.cob_source.specs.declared.token.Cell.{Cell}
+use Rattle.cob_source.specs.declared.token.Cutting.{Cutting}
 use Rattle.cob_source.specs.Tokens.{Lexeme}
 use Rattle.cob_source.specs.Cuts.{Piece, is_quote, is_gap, is_plain, IsPlain, spelled, IsPiece, Follows, plain_first, lexemes_of, Cuts, End, Then, open_from, open_quote}
 
 -- whatever the rest is cut into, behind what is cut so far, is what the whole is cut into
-abbrev pub SoFar : List Cell → List Cell → List Lexeme → List Lexeme → Type 0
-SoFar cells rest old now = (ts : List Lexeme) → Cuts rest ts → (all : List Lexeme) × Cuts cells all × (old ++ all ≡ now ++ ts)
+abbrev pub SoFar : Cutting → List Cell → List Cell → List Lexeme → List Lexeme → Type 0
+SoFar m cells rest old now = (ts : List Lexeme) → Cuts m rest ts → (all : List Lexeme) × Cuts m cells all × (old ++ all ≡ now ++ ts)
 
-pub begins : (cells : List Cell) (old : List Lexeme) → SoFar cells cells old old
-begins cells old = λ ts c. (ts, c, refl)
+pub begins : (m : Cutting) (cells : List Cell) (old : List Lexeme) → SoFar m cells cells old old
+begins m cells old = λ ts c. (ts, c, refl)
 
-pub goes_on : (cells rest : List Cell) (old now next : List Lexeme) (p : Piece) (after : List Cell) → SoFar cells rest old now → IsPiece p → Follows p after → rest ≡ spelled p ++ after → next ≡ now ++ lexemes_of p after → SoFar cells after old next
-goes_on cells rest old now next p after so ip fp e n = λ ts c.
-    let f = so (lexemes_of p after ++ ts) (Then p ip fp e refl c) in
-    (f.0, f.1, f.2 ∙ sym (append_assoc now (lexemes_of p after) ts) ∙ ap (λ (t : List Lexeme). t ++ ts) (sym n))
+pub goes_on : (m : Cutting) (cells rest : List Cell) (old now next : List Lexeme) (p : Piece) (after : List Cell) → SoFar m cells rest old now → IsPiece p → Follows p after → rest ≡ spelled p ++ after → next ≡ now ++ lexemes_of m p after → SoFar m cells after old next
+goes_on m cells rest old now next p after so ip fp e n = λ ts c.
+    let f = so (lexemes_of m p after ++ ts) (Then p ip fp e refl c) in
+    (f.0, f.1, f.2 ∙ sym (append_assoc now (lexemes_of m p after) ts) ∙ ap (λ (t : List Lexeme). t ++ ts) (sym n))
 
-pub ends : (cells rest : List Cell) (old now : List Lexeme) → SoFar cells rest old now → rest ≡ [] → (ts : List Lexeme) × Cuts cells ts × (old ++ ts ≡ now)
-ends cells rest old now so e = let f = so [] (End e refl) in (f.0, f.1, f.2 ∙ append-nil now)
+pub ends : (m : Cutting) (cells rest : List Cell) (old now : List Lexeme) → SoFar m cells rest old now → rest ≡ [] → (ts : List Lexeme) × Cuts m cells ts × (old ++ ts ≡ now)
+ends m cells rest old now so e = let f = so [] (End e refl) in (f.0, f.1, f.2 ∙ append-nil now)
 
 pub plain_some : (cells : List Cell) (c : Cell) (after : List Cell) (n : ℕ) → cells ≡ c ∷ after → is_plain c.byte ≡ true → plain_first (drop n cells) ≡ false → 0 < n
 plain_some cells c after zero e p other = absurd (let h : plain_first cells ≡ is_plain c.byte = ap plain_first e in cc)

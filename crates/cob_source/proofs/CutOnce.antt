@@ -2,6 +2,7 @@
 use Rattle.std.proofs.Common.{◌≡◌, ℕ, true, false, List, [], ◌∷◌, ◌++◌, refl, sym, ap, subst, ◌∙◌, append_assoc, arith}
 use Rattle.std.specs.List.{AllByRecursion}
 use Rattle.cob_source.specs.declared.token.Cell.{Cell}
+use Rattle.cob_source.specs.declared.token.Cutting.{Cutting}
 use Rattle.cob_source.specs.Tokens.{Lexeme}
 use Rattle.cob_source.specs.Cuts.{Piece, Gap, Chunk, Quoted, Body, Close, One, Two, NotFirst, is_quote, is_gap, is_plain, spelled, IsPiece, Follows, IsPlain, plain_first, quote_first, lexemes_of, Cuts, End, Then}
 use Rattle.cob_source.proofs.CutLemmas.{plain_no_quote, gap_no_quote}
@@ -120,24 +121,24 @@ spelled_some (Chunk (c ∷ cs)) x ip e = cc
 spelled_some (Quoted o inside text) x ip e = cc
 
 -- what is cut behind a piece
-behind : {cells : List Cell} {ts : List Lexeme} (p : Piece) (rest : List Cell) → IsPiece p → Follows p rest → cells ≡ spelled p ++ rest → Cuts cells ts → (more : List Lexeme) × Cuts rest more × (ts ≡ lexemes_of p rest ++ more)
+behind : {m : Cutting} {cells : List Cell} {ts : List Lexeme} (p : Piece) (rest : List Cell) → IsPiece p → Follows p rest → cells ≡ spelled p ++ rest → Cuts m cells ts → (more : List Lexeme) × Cuts m rest more × (ts ≡ lexemes_of m p rest ++ more)
 behind p rest ip fp e (End nothing none_left) = absurd (spelled_some p rest ip (sym e ∙ nothing))
-behind {cells} {ts} p rest ip fp e (Then {rest = y} {more = more} q iq fq e' t c) =
+behind {m} {cells} {ts} p rest ip fp e (Then {rest = y} {more = more} q iq fq e' t c) =
     let s = same_piece p q rest y ip iq fp fq (sym e ∙ e') in (
       more,
-      subst (λ (z : List Cell). Cuts z more) (sym s.rest) c,
-      t ∙ ap (λ (q : Piece). lexemes_of q y ++ more) (sym s.piece) ∙ ap (λ (z : List Cell). lexemes_of p z ++ more) (sym s.rest),
+      subst (λ (z : List Cell). Cuts m z more) (sym s.rest) c,
+      t ∙ ap (λ (q : Piece). lexemes_of m q y ++ more) (sym s.piece) ∙ ap (λ (z : List Cell). lexemes_of m p z ++ more) (sym s.rest),
     )
 
-nothing_cut : {rest : List Cell} {ts : List Lexeme} → rest ≡ [] → Cuts rest ts → ts ≡ []
+nothing_cut : {m : Cutting} {rest : List Cell} {ts : List Lexeme} → rest ≡ [] → Cuts m rest ts → ts ≡ []
 nothing_cut e (End nothing none_left) = none_left
 nothing_cut e (Then {rest = y} q iq fq e' t c) = absurd (spelled_some q y iq (sym e' ∙ e))
 
-pub cut_once : {cells : List Cell} {a b : List Lexeme} → Cuts cells a → Cuts cells b → a ≡ b
+pub cut_once : {m : Cutting} {cells : List Cell} {a b : List Lexeme} → Cuts m cells a → Cuts m cells b → a ≡ b
 cut_once (End nothing none_left) other = none_left ∙ sym (nothing_cut nothing other)
-cut_once (Then {rest = y} {more = more} p ip fp e t c) other =
+cut_once {m} (Then {rest = y} {more = more} p ip fp e t c) other =
     let b = behind p y ip fp e other in
-    t ∙ ap (λ (l : List Lexeme). lexemes_of p y ++ l) (cut_once c b.1) ∙ sym b.2
+    t ∙ ap (λ (l : List Lexeme). lexemes_of m p y ++ l) (cut_once c b.1) ∙ sym b.2
 
 -- a line's end or nothing comes first
 abbrev pub EndFirst : List Cell → Type 0
@@ -167,16 +168,16 @@ follows_before (Gap c) x y ip f fp = tt
 follows_before (Chunk cs) x y ip f fp = plain_before x y f fp
 follows_before (Quoted o inside text) x y ip f fp = free_before o.byte x y ip.0 f fp
 
-lexemes_before : (p : Piece) (x y : List Cell) → EndFirst y → lexemes_of p (x ++ y) ≡ lexemes_of p x
-lexemes_before (Gap c) x y f = refl
-lexemes_before (Chunk cs) x y f = rw (quote_before x y f) refl
-lexemes_before (Quoted o inside text) x y f = refl
+lexemes_before : (m : Cutting) (p : Piece) (x y : List Cell) → EndFirst y → lexemes_of m p (x ++ y) ≡ lexemes_of m p x
+lexemes_before m (Gap c) x y f = refl
+lexemes_before m (Chunk cs) x y f = rw (quote_before x y f) refl
+lexemes_before m (Quoted o inside text) x y f = refl
 
 -- two texts one behind the other are cut one behind the other, where a line's end stands between them
-pub cut_both : {x y : List Cell} {a b : List Lexeme} → EndFirst y → Cuts x a → Cuts y b → Cuts (x ++ y) (a ++ b)
-cut_both {x} {y} {a} {b} f (End nothing none_left) other =
-    subst (λ (l : List Cell). Cuts (l ++ y) (a ++ b)) (sym nothing) (subst (λ (l : List Lexeme). Cuts y (l ++ b)) (sym none_left) other)
-cut_both {x} {y} {a} {b} f (Then {rest = r} {more = more} p ip fp e t c) other =
+pub cut_both : {m : Cutting} {x y : List Cell} {a b : List Lexeme} → EndFirst y → Cuts m x a → Cuts m y b → Cuts m (x ++ y) (a ++ b)
+cut_both {m} {x} {y} {a} {b} f (End nothing none_left) other =
+    subst (λ (l : List Cell). Cuts m (l ++ y) (a ++ b)) (sym nothing) (subst (λ (l : List Lexeme). Cuts m y (l ++ b)) (sym none_left) other)
+cut_both {m} {x} {y} {a} {b} f (Then {rest = r} {more = more} p ip fp e t c) other =
     Then p ip (follows_before p r y ip f fp) (ap (λ (l : List Cell). l ++ y) e ∙ append_assoc (spelled p) r y)
-    (ap (λ (l : List Lexeme). l ++ b) t ∙ append_assoc (lexemes_of p r) more b ∙ ap (λ (l : List Lexeme). l ++ (more ++ b)) (sym (lexemes_before p r y f)))
+    (ap (λ (l : List Lexeme). l ++ b) t ∙ append_assoc (lexemes_of m p r) more b ∙ ap (λ (l : List Lexeme). l ++ (more ++ b)) (sym (lexemes_before m p r y f)))
     (cut_both f c other)

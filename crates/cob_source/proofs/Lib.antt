@@ -2,7 +2,9 @@ pub mod LineLemmas
 pub mod Literals
 pub mod CutLemmas
 pub mod CutOnce
+pub mod Closed
 pub mod Trims
 pub mod Opens
 pub mod ReadingLemmas
+pub mod FitLemmas
 pub mod PieceLemmas

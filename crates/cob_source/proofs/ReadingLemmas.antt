@@ -3,6 +3,7 @@ use Rattle.std.proofs.Common.{◌≡◌, ℕ, suc, ◌+◌, ◌-◌, ◌≤◌, 
 use Rattle.std.specs.Prelude.{Option, Some, None, is_some, ◌==◌, ◌&&◌, not, slice_index_or}
 use Rattle.std.proofs.lemmas.List.{append-nil, length-append, get_or-append-add}
 use Rattle.cob_source.specs.declared.token.Cell.{Cell}
+use Rattle.cob_source.specs.declared.token.Cutting.{Cutting}
 use Rattle.cob_source.specs.declared.lines.LineKind.{LineKind}
 use Rattle.cob_source.specs.declared.lines.LineKind.TheVariants.{Skipped, Plain, Continuation}
 use Rattle.cob_source.specs.declared.fault.SourceRule.{SourceRule}
@@ -11,8 +12,8 @@ use Rattle.cob_limits.specs.Limits.{longest_text}
 use Rattle.cob_source.specs.Tokens.{Lexeme}
 use Rattle.cob_source.specs.Cuts.{is_quote, open_from, open_quote, nowhere, Cuts, End}
 use Rattle.cob_source.specs.Lines.{lines, written, behind_spaces, is_nil, is_blank, kind_of, line_end, cells_behind, trim_end, continued_text, left_out, continued, join, join_by, joined_from, joined_of, last_by, last_from, last_joined}
-use Rattle.cob_source.specs.Words.{breaks, BreaksAlone, KeepsCharacters, BreaksAt, NoContinuation, IsLeftOpen, IsBroken, IsRefusal, AreWordsOf, WordsAreOne, is_bad_continuation, is_misfit, ends_quoted, first_character}
-use Rattle.cob_source.specs.Reading.{Fits, AllFit, Begins, HasRead, EndRefused, ContinuationRefused, IsContinued, LineRefused}
+use Rattle.cob_source.specs.Words.{breaks, BreaksAlone, KeepsCharacters, BreaksAt, NoContinuation, IsLeftOpen, IsBroken, IsRefusal, AreCutsOf, Fits, AllFit, AreFit, is_bad_continuation, is_misfit, ends_quoted, first_character}
+use Rattle.cob_source.specs.Reading.{Begins, HasRead, EndRefused, ContinuationRefused, IsContinued, LineRefused}
 use Rattle.cob_source.proofs.Opens.{open_from-append}
 use Rattle.cob_source.proofs.CutOnce.{EndFirst, cut_both, cut_once}
 
@@ -37,7 +38,7 @@ last_from-append n k (x ∷ a) b =
 last_joined-push : (before : List (List ℕ)) (line : List ℕ) → last_joined (before ++ line ∷ []) ≡ last_by (kind_of line) (length before + 1) (last_joined before)
 last_joined-push before line = last_from-append 1 0 before (line ∷ []) ∙ ap (λ (k : ℕ). last_by (kind_of line) k (last_joined before)) (plus_one (length before))
 
-AllFit-push : (n : ℕ) (j : List Cell) (a : List (List ℕ)) (line : List ℕ) → AllFit n j a → Fits (joined_from n j a) line → AllFit n j (a ++ line ∷ [])
+pub AllFit-push : (n : ℕ) (j : List Cell) (a : List (List ℕ)) (line : List ℕ) → AllFit n j a → Fits (joined_from n j a) line → AllFit n j (a ++ line ∷ [])
 AllFit-push n j [] line all fits = (fits, tt)
 AllFit-push n j (x ∷ a) line all fits = (all.0, AllFit-push (n + 1) (join n j x) a line all.1 fits)
 
@@ -64,12 +65,12 @@ continuation_fits : (joined : List Cell) (line : List ℕ) → KeepsCharacters l
 continuation_fits joined line k e bad = fits_by joined line k (rw e bad) (rw e refl)
 
 -- what is open at the end of all is what is open at the end of the last joined line
-pub open_of : {before : List (List ℕ)} {cells : List Cell} {q : Option ℕ} {last : ℕ} {words : List Lexeme} → HasRead before cells q last words → open_quote (joined_of before) ≡ q
+pub open_of : {m : Cutting} {before : List (List ℕ)} {cells : List Cell} {q : Option ℕ} {last : ℕ} {words : List Lexeme} → HasRead m before cells q last words → open_quote (joined_of before) ≡ q
 open_of {cells = cells} r =
     ap open_quote r.joined_is ∙ open_from-append None r.done cells ∙ ap (λ (s : Option ℕ). open_from s cells) r.closed ∙ sym r.open_is
 
-pub skips : {before : List (List ℕ)} {cells : List Cell} {q : Option ℕ} {last : ℕ} {words : List Lexeme} (line : List ℕ) → HasRead before cells q last words → KeepsCharacters line → kind_of line ≡ Skipped → HasRead (before ++ line ∷ []) cells q last words
-skips {before} {cells} {q} {last} line r k e = record {
+pub skips : {m : Cutting} {before : List (List ℕ)} {cells : List Cell} {q : Option ℕ} {last : ℕ} {words : List Lexeme} (line : List ℕ) → HasRead m before cells q last words → KeepsCharacters line → kind_of line ≡ Skipped → HasRead m (before ++ line ∷ []) cells q last words
+skips {m} {before} {cells} {q} {last} line r k e = record {
   done = r.done;
   joined_is = joined_of-push before line ∙ ap (λ (x : LineKind). join_by x (length before + 1) (joined_of before) line) e ∙ r.joined_is;
   begins = r.begins;
@@ -84,17 +85,17 @@ end_first : (done cells : List Cell) → Begins done cells → EndFirst cells
 end_first done [] b = tt
 end_first done (c ∷ cells) b = b
 
-pub starts : {before : List (List ℕ)} {cells : List Cell} {q : Option ℕ} {last : ℕ} {words : List Lexeme} (line : List ℕ) (n : ℕ) (ts : List Lexeme) (new : List Cell) (open_now : Option ℕ) (words' : List Lexeme)
-    → HasRead before cells q last words → KeepsCharacters line → kind_of line ≡ Plain → q ≡ None → Cuts cells ts → words ++ ts ≡ words' → n ≡ length before + 1
-    → new ≡ line_end n ∷ cells_behind n 0 line → open_now ≡ open_quote new → HasRead (before ++ line ∷ []) new open_now n words'
-starts {before} {cells} {q} {last} {words} line n ts new open_now words' r k e none c w num cells_are open_is = record {
+pub starts : {m : Cutting} {before : List (List ℕ)} {cells : List Cell} {q : Option ℕ} {last : ℕ} {words : List Lexeme} (line : List ℕ) (n : ℕ) (ts : List Lexeme) (new : List Cell) (open_now : Option ℕ) (words' : List Lexeme)
+    → HasRead m before cells q last words → KeepsCharacters line → kind_of line ≡ Plain → q ≡ None → Cuts m cells ts → words ++ ts ≡ words' → n ≡ length before + 1
+    → new ≡ line_end n ∷ cells_behind n 0 line → open_now ≡ open_quote new → HasRead m (before ++ line ∷ []) new open_now n words'
+starts {m} {before} {cells} {q} {last} {words} line n ts new open_now words' r k e none c w num cells_are open_is = record {
   done = joined_of before;
   joined_is = joined_of-push before line ∙ ap (λ (x : LineKind). join_by x (length before + 1) (joined_of before) line) e
       ∙ ap (λ (m : ℕ). joined_of before ++ line_end m ∷ cells_behind m 0 line) (sym num) ∙ ap (λ (l : List Cell). joined_of before ++ l) (sym cells_are);
   begins = subst (Begins (joined_of before)) (sym cells_are) refl;
   open_is = open_is;
   closed = open_of r ∙ none;
-  cut = subst (λ (l : List Cell). Cuts l words') (sym r.joined_is) (subst (λ (l : List Lexeme). Cuts (r.done ++ cells) l) w (cut_both (end_first r.done cells r.begins) r.cut c));
+  cut = subst (λ (l : List Cell). Cuts m l words') (sym r.joined_is) (subst (λ (l : List Lexeme). Cuts m (r.done ++ cells) l) w (cut_both (end_first r.done cells r.begins) r.cut c));
   last_is = num ∙ sym (last_joined-push before line ∙ ap (λ (x : LineKind). last_by x (length before + 1) (last_joined before)) e);
   fit = AllFit-push 1 [] before line r.fit (plain_fits (joined_of before) line k e (open_of r ∙ none));
 }
@@ -141,8 +142,8 @@ misfit_behind None done cells b h = ap (λ (t : Bool). t && is_quote b) (last_be
 misfit_behind (Some q) done cells b h = refl
 
 -- whether a continuation fits is seen at the last joined line
-pub bad_same : {before : List (List ℕ)} {cells : List Cell} {q : Option ℕ} {last : ℕ} {words : List Lexeme} (line : List ℕ) → HasRead before cells q last words → is_bad_continuation (joined_of before) line ≡ is_bad_continuation cells line
-bad_same {before} {cells} {q} line r =
+pub bad_same : {m : Cutting} {before : List (List ℕ)} {cells : List Cell} {q : Option ℕ} {last : ℕ} {words : List Lexeme} (line : List ℕ) → HasRead m before cells q last words → is_bad_continuation (joined_of before) line ≡ is_bad_continuation cells line
+bad_same {m} {before} {cells} {q} line r =
     let b = first_character (behind_spaces (written line)) in
     let blank = not (is_blank (written line)) in
     let nils : is_nil (joined_of before) ≡ is_nil cells = ap is_nil r.joined_is ∙ nil_behind r.done cells r.begins in
@@ -161,9 +162,9 @@ not_nil : (cells : List Cell) (line : List ℕ) → is_bad_continuation cells li
 not_nil [] line e = absurd cc
 not_nil (c ∷ cells) line e = refl
 
-pub continues : {before : List (List ℕ)} {cells : List Cell} {q : Option ℕ} {last : ℕ} {words : List Lexeme} (line : List ℕ) (n : ℕ) (new : List Cell) (open_now : Option ℕ) (last' : ℕ)
-    → HasRead before cells q last words → KeepsCharacters line → kind_of line ≡ Continuation → n ≡ length before + 1 → IsContinued n line cells new open_now last' → HasRead (before ++ line ∷ []) new open_now last' words
-continues {before} {cells} {q} {last} {words} line n new open_now last' r k e num j =
+pub continues : {m : Cutting} {before : List (List ℕ)} {cells : List Cell} {q : Option ℕ} {last : ℕ} {words : List Lexeme} (line : List ℕ) (n : ℕ) (new : List Cell) (open_now : Option ℕ) (last' : ℕ)
+    → HasRead m before cells q last words → KeepsCharacters line → kind_of line ≡ Continuation → n ≡ length before + 1 → IsContinued n line cells new open_now last' → HasRead m (before ++ line ∷ []) new open_now last' words
+continues {m} {before} {cells} {q} {last} {words} line n new open_now last' r k e num j =
     let more = cells_behind n (left_out (open_quote cells) (written line)) line in
     let opens : open_quote (joined_of before) ≡ open_quote cells = open_of r ∙ r.open_is in
     record {
@@ -185,7 +186,7 @@ continues {before} {cells} {q} {last} {words} line n new open_now last' r k e nu
 
 -- ---- the whole text
 
-pub nothing_read : HasRead [] [] None 0 []
+pub nothing_read : {m : Cutting} → HasRead m [] [] None 0 []
 nothing_read = record { done = []; joined_is = refl; begins = refl; open_is = refl; closed = refl; cut = End refl refl; last_is = refl; fit = tt }
 
 none_at : (rule : SourceRule) (n : ℕ) (ls : List (List ℕ)) → AllFit 1 [] ls → BreaksAt rule n ls → ⊥
@@ -205,22 +206,22 @@ none_left n ls all closed b = go b.after b.lines_are b.none_follows
         let t : breaks OpenLiteral (joined_of b.before) line ≡ true = rw (plain, b.left_open) refl in
         let h : true ≡ false = sym t ∙ f in cc
 
-pub finishes : (text : List ℕ) {before : List (List ℕ)} {cells : List Cell} {q : Option ℕ} {last : ℕ} {words : List Lexeme} (ts words' : List Lexeme)
-    → HasRead before cells q last words → lines text ≡ before → length text ≤ longest_text → q ≡ None → Cuts cells ts → words ++ ts ≡ words' → AreWordsOf text words'
-finishes text {before} {cells} {q} {last} {words} ts words' r e short none c w =
+pub finishes : (text : List ℕ) {m : Cutting} {before : List (List ℕ)} {cells : List Cell} {q : Option ℕ} {last : ℕ} {words : List Lexeme} (ts words' : List Lexeme)
+    → HasRead m before cells q last words → lines text ≡ before → length text ≤ longest_text → q ≡ None → Cuts m cells ts → words ++ ts ≡ words' → AreCutsOf m text words'
+finishes text {m} {before} {cells} {q} {last} {words} ts words' r e short none c w =
     let whole : joined_of (lines text) ≡ r.done ++ cells = ap joined_of e ∙ r.joined_is in
     let all : AllFit 1 [] (lines text) = subst (AllFit 1 []) (sym e) r.fit in
     let closed : open_quote (joined_of (lines text)) ≡ None = ap (λ (l : List (List ℕ)). open_quote (joined_of l)) e ∙ open_of r ∙ none in
     record {
       breaks_none = breaks_none all closed;
-      cut = subst (λ (l : List Cell). Cuts l words') (sym whole) (subst (λ (l : List Lexeme). Cuts (r.done ++ cells) l) w (cut_both (end_first r.done cells r.begins) r.cut c));
+      cut = subst (λ (l : List Cell). Cuts m l words') (sym whole) (subst (λ (l : List Lexeme). Cuts m (r.done ++ cells) l) w (cut_both (end_first r.done cells r.begins) r.cut c));
     }
   where
     breaks_none : AllFit 1 [] (lines text) → open_quote (joined_of (lines text)) ≡ None → (rule : SourceRule) (n : ℕ) → IsBroken rule n text → ⊥
     breaks_none all closed NotAscii n b = none_at NotAscii n (lines text) all b
     breaks_none all closed Tab n b = none_at Tab n (lines text) all b
     breaks_none all closed OpenLiteral n b = none_left n (lines text) all closed b
-    breaks_none all closed BadContinuation n b = none_at BadContinuation n (lines text) all b
+    breaks_none all closed BadContinuation n b = none_at BadContinuation n (lines text) all b.0
     breaks_none all closed TooLong n b = omega (arith, b.0, short)
     breaks_none all closed UnknownIndicator n b = none_at UnknownIndicator n (lines text) all b
     breaks_none all closed Memory n b = b
@@ -236,21 +237,21 @@ character_refused TooLong n before line num b = b
 character_refused UnknownIndicator n before line num b = (b, num)
 character_refused Memory n before line num b = absurd b
 
-pub open_refused : {before : List (List ℕ)} {cells : List Cell} {q : Option ℕ} {last : ℕ} {words : List Lexeme} (rule : SourceRule) (n : ℕ) (line : List ℕ) → HasRead before cells q last words → kind_of line ≡ Plain → EndRefused rule n q last → LineRefused rule n before line
+pub open_refused : {m : Cutting} {before : List (List ℕ)} {cells : List Cell} {q : Option ℕ} {last : ℕ} {words : List Lexeme} (rule : SourceRule) (n : ℕ) (line : List ℕ) → HasRead m before cells q last words → kind_of line ≡ Plain → EndRefused rule n q last → LineRefused rule n before line
 open_refused NotAscii n line r e b = absurd b
 open_refused Tab n line r e b = absurd b
-open_refused OpenLiteral n line r e b = (e, ap is_some (open_of r) ∙ b.0, b.1 ∙ r.last_is)
+open_refused OpenLiteral n line r e b = (r.fit, e, ap is_some (open_of r) ∙ b.0, b.1 ∙ r.last_is)
 open_refused BadContinuation n line r e b = absurd b
 open_refused TooLong n line r e b = b
 open_refused UnknownIndicator n line r e b = absurd b
 open_refused Memory n line r e b = b
 
-pub continuation_refused : {before : List (List ℕ)} {cells : List Cell} {q : Option ℕ} {last : ℕ} {words : List Lexeme} (rule : SourceRule) (n number : ℕ) (line : List ℕ) → HasRead before cells q last words → kind_of line ≡ Continuation → number ≡ length before + 1
+pub continuation_refused : {m : Cutting} {before : List (List ℕ)} {cells : List Cell} {q : Option ℕ} {last : ℕ} {words : List Lexeme} (rule : SourceRule) (n number : ℕ) (line : List ℕ) → HasRead m before cells q last words → kind_of line ≡ Continuation → number ≡ length before + 1
     → ContinuationRefused rule n number cells line → LineRefused rule n before line
 continuation_refused NotAscii n number line r e num b = absurd b
 continuation_refused Tab n number line r e num b = absurd b
 continuation_refused OpenLiteral n number line r e num b = absurd b
-continuation_refused BadContinuation n number line r e num b = (rw e (bad_same line r ∙ b.0), b.1 ∙ num)
+continuation_refused BadContinuation n number line r e num b = (r.fit, rw e (bad_same line r ∙ b.0), b.1 ∙ num)
 continuation_refused TooLong n number line r e num b = b
 continuation_refused UnknownIndicator n number line r e num b = absurd b
 continuation_refused Memory n number line r e num b = b
@@ -258,30 +259,30 @@ continuation_refused Memory n number line r e num b = b
 pub refusal_at : (text : List ℕ) (rule : SourceRule) (n : ℕ) (before : List (List ℕ)) (line : List ℕ) (after : List (List ℕ)) → lines text ≡ before ++ line ∷ after → LineRefused rule n before line → IsRefusal rule n text
 refusal_at text NotAscii n before line after e b = record { before = before; line = line; after = after; lines_are = e; broken = b.0; number = b.1 }
 refusal_at text Tab n before line after e b = record { before = before; line = line; after = after; lines_are = e; broken = b.0; number = b.1 }
-refusal_at text OpenLiteral n before line after e b = record { before = before; after = line ∷ after; lines_are = e; left_open = b.1; none_follows = b.0; number = b.2 }
-refusal_at text BadContinuation n before line after e b = record { before = before; line = line; after = after; lines_are = e; broken = b.0; number = b.1 }
+refusal_at text OpenLiteral n before line after e b = record { before = before; after = line ∷ after; lines_are = e; fit = b.0; left_open = b.2; none_follows = b.1; number = b.3 }
+refusal_at text BadContinuation n before line after e b = (record { before = before; line = line; after = after; lines_are = e; broken = b.1; number = b.2 }, b.0)
 refusal_at text TooLong n before line after e b = absurd b
 refusal_at text UnknownIndicator n before line after e b = record { before = before; line = line; after = after; lines_are = e; broken = b.0; number = b.1 }
 refusal_at text Memory n before line after e b = b
 
-pub refusal_end : (text : List ℕ) {before : List (List ℕ)} {cells : List Cell} {q : Option ℕ} {last : ℕ} {words : List Lexeme} (rule : SourceRule) (n : ℕ) → HasRead before cells q last words → lines text ≡ before → EndRefused rule n q last → IsRefusal rule n text
+pub refusal_end : (text : List ℕ) {m : Cutting} {before : List (List ℕ)} {cells : List Cell} {q : Option ℕ} {last : ℕ} {words : List Lexeme} (rule : SourceRule) (n : ℕ) → HasRead m before cells q last words → lines text ≡ before → EndRefused rule n q last → IsRefusal rule n text
 refusal_end text NotAscii n r e b = absurd b
 refusal_end text Tab n r e b = absurd b
-refusal_end text {before = before} OpenLiteral n r e b = record { before = before; after = []; lines_are = e ∙ sym (append-nil before); left_open = ap is_some (open_of r) ∙ b.0; none_follows = tt; number = b.1 ∙ r.last_is }
+refusal_end text {before = before} OpenLiteral n r e b = record { before = before; after = []; lines_are = e ∙ sym (append-nil before); fit = r.fit; left_open = ap is_some (open_of r) ∙ b.0; none_follows = tt; number = b.1 ∙ r.last_is }
 refusal_end text BadContinuation n r e b = absurd b
 refusal_end text TooLong n r e b = absurd b
 refusal_end text UnknownIndicator n r e b = absurd b
 refusal_end text Memory n r e b = b
 
 -- a text with words isn't refused but for memory
-pub not_refused : (text : List ℕ) (ts : List Lexeme) (rule : SourceRule) (n : ℕ) → AreWordsOf text ts → IsRefusal rule n text → rule ≡ Memory
-not_refused text ts NotAscii n w b = absurd (w.breaks_none NotAscii n b)
-not_refused text ts Tab n w b = absurd (w.breaks_none Tab n b)
-not_refused text ts OpenLiteral n w b = absurd (w.breaks_none OpenLiteral n b)
-not_refused text ts BadContinuation n w b = absurd (w.breaks_none BadContinuation n b)
-not_refused text ts TooLong n w b = absurd (w.breaks_none TooLong n b)
-not_refused text ts UnknownIndicator n w b = absurd (w.breaks_none UnknownIndicator n b)
-not_refused text ts Memory n w b = refl
+pub not_refused : (m : Cutting) (text : List ℕ) (ts : List Lexeme) (rule : SourceRule) (n : ℕ) → AreCutsOf m text ts → IsRefusal rule n text → rule ≡ Memory
+not_refused m text ts NotAscii n w b = absurd (w.breaks_none NotAscii n b)
+not_refused m text ts Tab n w b = absurd (w.breaks_none Tab n b)
+not_refused m text ts OpenLiteral n w b = absurd (w.breaks_none OpenLiteral n b)
+not_refused m text ts BadContinuation n w b = absurd (w.breaks_none BadContinuation n b)
+not_refused m text ts TooLong n w b = absurd (w.breaks_none TooLong n b)
+not_refused m text ts UnknownIndicator n w b = absurd (w.breaks_none UnknownIndicator n b)
+not_refused m text ts Memory n w b = refl
 
-pub words_once : WordsAreOne
-words_once text a b x y = cut_once x.cut y.cut
+pub words_once : (m : Cutting) (text : List ℕ) (a b : List Lexeme) → AreCutsOf m text a → AreCutsOf m text b → a ≡ b
+words_once m text a b x y = cut_once x.cut y.cut

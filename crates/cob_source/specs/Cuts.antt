@@ -1,10 +1,13 @@
 -- How a joined text is cut into words, literals and stops.
 use Rattle.std.specs.Prelude.{◌≡◌, ◌≢◌, ℕ, ◌-◌, ◌<◌, Bool, true, false, not, ◌==◌, ◌||◌, if◌then◌else◌, List, [], ◌∷◌, ◌++◌, length, map, take, slice_index_or, Option, Some, None}
-use Rattle.std.specs.List.{AllByRecursion}
+use Rattle.std.specs.List.{AllByRecursion, flat_map}
 use Rattle.std.specs.Char.{to_ascii_uppercase}
 use Rattle.cob_source.specs.declared.token.Cell.{Cell}
+use Rattle.cob_source.specs.declared.token.Cutting.{Cutting}
+use Rattle.cob_source.specs.declared.token.Cutting.TheVariants.{Whole, Apart}
 use Rattle.cob_source.specs.declared.token.Kind.TheVariants.{Word, Literal, Stop}
 use Rattle.cob_source.specs.Tokens.{Lexeme}
+use Rattle.cob_source.specs.Pieces.{pieces}
 
 -- a quotation mark or an apostrophe
 abbrev pub is_quote : ℕ → Bool
@@ -86,6 +89,12 @@ abbrev pub word : List Cell → List Lexeme
 word [] = []
 word (c ∷ cs) = record { kind = Word; text = word_text (c ∷ cs); line = c.line; column = c.column } ∷ []
 
+-- the words that these characters are: one as it stands, or, in a paragraph, each piece of it, at the place of its own first
+-- character
+abbrev pub words_of : Cutting → List Cell → List Lexeme
+words_of Whole cells = word cells
+words_of Apart cells = flat_map word (pieces cells)
+
 abbrev pub stop : Cell → List Lexeme
 stop c = record { kind = Stop; text = c.byte ∷ []; line = c.line; column = c.column } ∷ []
 
@@ -94,24 +103,24 @@ abbrev pub literal : Cell → List ℕ → List Lexeme
 literal o text = record { kind = Literal; text = text; line = o.line; column = o.column } ∷ []
 
 -- before a space or a line's end one sign is taken off a word: a comma or a semicolon separates, a period is a stop
-abbrev pub with_sign : List Cell → Cell → List Lexeme
-with_sign front last =
-    if (last.byte == 44) || (last.byte == 59) then word front else
-    if last.byte == 46 then word front ++ stop last else word (front ++ last ∷ [])
+abbrev pub with_sign : Cutting → List Cell → Cell → List Lexeme
+with_sign m front last =
+    if (last.byte == 44) || (last.byte == 59) then words_of m front else
+    if last.byte == 46 then words_of m front ++ stop last else words_of m (front ++ last ∷ [])
 
 abbrev pub nowhere : Cell
 nowhere = record { byte = 0; line = 0; column = 0 }
 
-abbrev pub signed : List Cell → List Lexeme
-signed cs = with_sign (take (length cs - 1) cs) (slice_index_or cs (length cs - 1) nowhere)
+abbrev pub signed : Cutting → List Cell → List Lexeme
+signed m cs = with_sign m (take (length cs - 1) cs) (slice_index_or cs (length cs - 1) nowhere)
 
 -- what a piece means, before this rest: a word that a quote ends keeps its last sign
-abbrev pub lexemes_of : Piece → List Cell → List Lexeme
-lexemes_of (Gap c) rest = []
-lexemes_of (Chunk cs) rest = if quote_first rest then word cs else signed cs
-lexemes_of (Quoted o inside text) rest = literal o text
+abbrev pub lexemes_of : Cutting → Piece → List Cell → List Lexeme
+lexemes_of m (Gap c) rest = []
+lexemes_of m (Chunk cs) rest = if quote_first rest then words_of m cs else signed m cs
+lexemes_of m (Quoted o inside text) rest = literal o text
 
 -- the text is cut into these words, literals and stops
-pub data Cuts : List Cell → List Lexeme → Type 0 where
-  End : {cells : List Cell} {ts : List Lexeme} → cells ≡ [] → ts ≡ [] → Cuts cells ts
-  Then : {cells rest : List Cell} {ts more : List Lexeme} (p : Piece) → IsPiece p → Follows p rest → cells ≡ spelled p ++ rest → ts ≡ lexemes_of p rest ++ more → Cuts rest more → Cuts cells ts
+pub data Cuts : Cutting → List Cell → List Lexeme → Type 0 where
+  End : {m : Cutting} {cells : List Cell} {ts : List Lexeme} → cells ≡ [] → ts ≡ [] → Cuts m cells ts
+  Then : {m : Cutting} {cells rest : List Cell} {ts more : List Lexeme} (p : Piece) → IsPiece p → Follows p rest → cells ≡ spelled p ++ rest → ts ≡ lexemes_of m p rest ++ more → Cuts m rest more → Cuts m cells ts

@@ -1,9 +1,6 @@
--- The words of a paragraph: each word of a text cut again at brackets and commas.
-use Rattle.std.specs.Prelude.{ℕ, Bool, true, ◌==◌, ◌||◌, if◌then◌else◌, List, [], ◌∷◌, map}
-use Rattle.std.specs.List.{flat_map}
-use Rattle.cob_source.specs.declared.token.Kind.{Kind}
-use Rattle.cob_source.specs.declared.token.Kind.TheVariants.{Word, Literal, Stop}
-use Rattle.cob_source.specs.Tokens.{Lexeme}
+-- The pieces of a word: the statements of a paragraph need it cut again at brackets and commas.
+use Rattle.std.specs.Prelude.{ℕ, Bool, true, ◌==◌, ◌||◌, if◌then◌else◌, List, [], ◌∷◌}
+use Rattle.cob_source.specs.declared.token.Cell.{Cell}
 
 abbrev pub is_bracket : ℕ → Bool
 is_bracket b = (b == 40) || (b == 41)
@@ -13,36 +10,22 @@ abbrev pub is_cut : ℕ → Bool
 is_cut b = is_bracket b || (b == 44)
 
 -- nothing is left, or such a character comes first
-abbrev pub cut_first : List ℕ → Bool
+abbrev pub cut_first : List Cell → Bool
 cut_first [] = true
-cut_first (b ∷ bs) = is_cut b
+cut_first (c ∷ cs) = is_cut c.byte
 
 -- the pieces with this character before their first one
-abbrev pub led_by : ℕ → List (List ℕ) → List (List ℕ)
-led_by b [] = (b ∷ []) ∷ []
-led_by b (piece ∷ more) = (b ∷ piece) ∷ more
+abbrev pub led_by : Cell → List (List Cell) → List (List Cell)
+led_by c [] = (c ∷ []) ∷ []
+led_by c (piece ∷ more) = (c ∷ piece) ∷ more
 
 -- this character before these characters, whose pieces these are
-abbrev pub piece_before : ℕ → List ℕ → List (List ℕ) → List (List ℕ)
-piece_before b bs more =
-    if b == 44 then more else
-    if is_bracket b || cut_first bs then (b ∷ []) ∷ more else led_by b more
+abbrev pub piece_before : Cell → List Cell → List (List Cell) → List (List Cell)
+piece_before c cs more =
+    if c.byte == 44 then more else
+    if is_bracket c.byte || cut_first cs then (c ∷ []) ∷ more else led_by c more
 
 -- a word's pieces: each bracket is one, a comma only separates, and other characters stand together
-abbrev pub pieces : List ℕ → List (List ℕ)
+abbrev pub pieces : List Cell → List (List Cell)
 pieces [] = []
-pieces (b ∷ bs) = piece_before b bs (pieces bs)
-
--- a piece of this word, at the word's place
-abbrev pub piece_of : Lexeme → List ℕ → Lexeme
-piece_of w text = record { kind = w.kind; text = text; line = w.line; column = w.column }
-
--- the pieces of a word; a literal and a stop stay whole
-abbrev pub pieces_by : Kind → Lexeme → List Lexeme
-pieces_by Word w = map (piece_of w) (pieces w.text)
-pieces_by Literal w = w ∷ []
-pieces_by Stop w = w ∷ []
-
--- the words of a paragraph that these are the words of
-abbrev pub cut_again : List Lexeme → List Lexeme
-cut_again ws = flat_map (λ w. pieces_by w.kind w) ws
+pieces (c ∷ cs) = piece_before c cs (pieces cs)

@@ -1,22 +1,14 @@
 -- What has been read of a text at the end of a line.
 use Rattle.std.specs.Prelude.{◌≡◌, ℕ, ◌+◌, true, false, List, [], ◌∷◌, ◌++◌, length, Option, None, is_some}
 use Rattle.cob_source.specs.declared.token.Cell.{Cell}
+use Rattle.cob_source.specs.declared.token.Cutting.{Cutting}
 use Rattle.cob_source.specs.declared.lines.LineKind.TheVariants.{Plain}
 use Rattle.cob_source.specs.declared.fault.SourceRule.{SourceRule}
 use Rattle.cob_source.specs.declared.fault.SourceRule.TheVariants.{OpenLiteral, BadContinuation, TooLong, Memory}
 use Rattle.cob_source.specs.Tokens.{Lexeme}
 use Rattle.cob_source.specs.Cuts.{open_quote, Cuts}
-use Rattle.cob_source.specs.Lines.{kind_of, join, joined_of, last_joined, continued}
-use Rattle.cob_source.specs.Words.{breaks, is_bad_continuation}
-
--- a line breaks no rule behind the text that the lines before it are joined to
-abbrev pub Fits : List Cell → List ℕ → Type 0
-Fits joined line = (rule : SourceRule) → breaks rule joined line ≡ false
-
--- and so does each of these lines, from number n on
-abbrev pub AllFit : ℕ → List Cell → List (List ℕ) → Type 0
-AllFit n joined [] = Unit {0}
-AllFit n joined (line ∷ more) = Fits joined line × AllFit (n + 1) (join n joined line) more
+use Rattle.cob_source.specs.Lines.{kind_of, joined_of, last_joined, continued}
+use Rattle.cob_source.specs.Words.{breaks, AreFit, is_bad_continuation}
 
 -- the last joined line begins with the line's end before it, or there is none yet
 abbrev pub Begins : List Cell → List Cell → Type 0
@@ -25,15 +17,15 @@ Begins done (c ∷ cells) = c.byte ≡ 10
 
 -- these lines are read: what they are joined to is cut into these words as far as it is done, and the cells of the last joined
 -- line, which may go on, come behind
-pub record HasRead (before : List (List ℕ)) (cells : List Cell) (open_now : Option ℕ) (last : ℕ) (words : List Lexeme) : Type 0 where
+pub record HasRead (m : Cutting) (before : List (List ℕ)) (cells : List Cell) (open_now : Option ℕ) (last : ℕ) (words : List Lexeme) : Type 0 where
   pub done : List Cell
   pub joined_is : joined_of before ≡ done ++ cells
   pub begins : Begins done cells
   pub open_is : open_now ≡ open_quote cells
   pub closed : open_quote done ≡ None
-  pub cut : Cuts done words
+  pub cut : Cuts m done words
   pub last_is : last ≡ last_joined before
-  pub fit : AllFit 1 [] before
+  pub fit : AreFit before
 
 -- a literal is left open, or memory is refused
 abbrev pub EndRefused : SourceRule → ℕ → Option ℕ → ℕ → Type 0
@@ -58,5 +50,6 @@ pub record IsContinued (number : ℕ) (line : List ℕ) (old new : List Cell) (o
 abbrev pub LineRefused : SourceRule → ℕ → List (List ℕ) → List ℕ → Type 0
 LineRefused Memory n before line = n ≡ 0
 LineRefused TooLong n before line = ⊥
-LineRefused OpenLiteral n before line = (kind_of line ≡ Plain) × (is_some (open_quote (joined_of before)) ≡ true) × (n ≡ last_joined before)
+LineRefused OpenLiteral n before line = AreFit before × (kind_of line ≡ Plain) × (is_some (open_quote (joined_of before)) ≡ true) × (n ≡ last_joined before)
+LineRefused BadContinuation n before line = AreFit before × (breaks BadContinuation (joined_of before) line ≡ true) × (n ≡ length before + 1)
 LineRefused rule n before line = (breaks rule (joined_of before) line ≡ true) × (n ≡ length before + 1)

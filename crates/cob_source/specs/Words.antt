@@ -2,6 +2,8 @@
 use Rattle.std.specs.Prelude.{◌≡◌, ℕ, ◌+◌, ◌-◌, ◌<◌, Bool, true, false, ◌==◌, ◌||◌, ◌&&◌, not, nat_lt, List, [], ◌∷◌, ◌++◌, length, take, drop, slice_index_or, Option, Some, None, is_some}
 use Rattle.std.specs.List.{list_any}
 use Rattle.cob_source.specs.declared.token.Cell.{Cell}
+use Rattle.cob_source.specs.declared.token.Cutting.{Cutting}
+use Rattle.cob_source.specs.declared.token.Cutting.TheVariants.{Whole, Apart}
 use Rattle.cob_source.specs.declared.lines.LineKind.{LineKind}
 use Rattle.cob_source.specs.declared.lines.LineKind.TheVariants.{Skipped, Plain, Continuation}
 use Rattle.cob_source.specs.declared.fault.SourceRule.{SourceRule}
@@ -9,7 +11,7 @@ use Rattle.cob_source.specs.declared.fault.SourceRule.TheVariants.{NotAscii, Tab
 use Rattle.cob_limits.specs.Limits.{longest_text}
 use Rattle.cob_source.specs.Tokens.{Lexeme}
 use Rattle.cob_source.specs.Cuts.{is_quote, open_quote, nowhere, Cuts}
-use Rattle.cob_source.specs.Lines.{lines, written, indicator, is_comment, is_blank, behind_spaces, is_nil, kind_of, joined_of, last_joined}
+use Rattle.cob_source.specs.Lines.{lines, written, indicator, is_comment, is_blank, behind_spaces, is_nil, kind_of, join, joined_of, last_joined}
 
 -- a byte that no text may have in columns 7 to 72; a tab has a rule of its own
 abbrev pub is_foreign : ℕ → Bool
@@ -59,6 +61,19 @@ breaks OpenLiteral joined line = is_kind (kind_of line) Plain && is_some (open_q
 breaks TooLong joined line = false
 breaks Memory joined line = false
 
+-- a line breaks no rule behind the text that the lines before it are joined to
+abbrev pub Fits : List Cell → List ℕ → Type 0
+Fits joined line = (rule : SourceRule) → breaks rule joined line ≡ false
+
+-- and so does each of these lines, from number n on
+abbrev pub AllFit : ℕ → List Cell → List (List ℕ) → Type 0
+AllFit n joined [] = Unit {0}
+AllFit n joined (line ∷ more) = Fits joined line × AllFit (n + 1) (join n joined line) more
+
+-- none of a text's first lines breaks a rule behind those before it
+abbrev pub AreFit : List (List ℕ) → Type 0
+AreFit ls = AllFit 1 [] ls
+
 -- a line breaks one of the rules on its characters by itself
 abbrev pub BreaksAlone : SourceRule → List ℕ → Type 0
 BreaksAlone NotAscii line = breaks NotAscii [] line ≡ true
@@ -81,16 +96,23 @@ pub record BreaksAt (rule : SourceRule) (n : ℕ) (ls : List (List ℕ)) : Type 
   pub broken : breaks rule (joined_of before) line ≡ true
   pub number : n ≡ length before + 1
 
+-- line n is a continuation that doesn't fit behind the lines before it, none of which breaks a rule: else there is no text that it
+-- would go on
+abbrev pub IsMisplaced : ℕ → List (List ℕ) → Type 0
+IsMisplaced n ls = (at : BreaksAt BadContinuation n ls) × AreFit at.before
+
 -- a plain line comes next, or none
 abbrev pub NoContinuation : List (List ℕ) → Type 0
 NoContinuation [] = Unit {0}
 NoContinuation (line ∷ more) = kind_of line ≡ Plain
 
--- a literal is open at the end of line n, the last one joined before a plain line or the text's end
+-- a literal is open at the end of line n, the last one joined before a plain line or the text's end, and no line up to there breaks
+-- a rule
 pub record IsLeftOpen (n : ℕ) (ls : List (List ℕ)) : Type 0 where
   pub before : List (List ℕ)
   pub after : List (List ℕ)
   pub lines_are : ls ≡ before ++ after
+  pub fit : AreFit before
   pub left_open : is_some (open_quote (joined_of before)) ≡ true
   pub none_follows : NoContinuation after
   pub number : n ≡ last_joined before
@@ -100,15 +122,23 @@ abbrev pub IsBroken : SourceRule → ℕ → List ℕ → Type 0
 IsBroken NotAscii n text = BreaksAt NotAscii n (lines text)
 IsBroken Tab n text = BreaksAt Tab n (lines text)
 IsBroken UnknownIndicator n text = BreaksAt UnknownIndicator n (lines text)
-IsBroken BadContinuation n text = BreaksAt BadContinuation n (lines text)
+IsBroken BadContinuation n text = IsMisplaced n (lines text)
 IsBroken OpenLiteral n text = IsLeftOpen n (lines text)
 IsBroken TooLong n text = (longest_text < length text) × (n ≡ 1)
 IsBroken Memory n text = ⊥
 
--- the words of a text that breaks no rule are the cuts of the one text that its lines are joined to
-pub record AreWordsOf (text : List ℕ) (ts : List Lexeme) : Type 0 where
+-- what a text that breaks no rule is cut into: the cuts of the one text that its lines are joined to
+pub record AreCutsOf (m : Cutting) (text : List ℕ) (ts : List Lexeme) : Type 0 where
   pub breaks_none : (rule : SourceRule) (n : ℕ) → IsBroken rule n text → ⊥
-  pub cut : Cuts (joined_of (lines text)) ts
+  pub cut : Cuts m (joined_of (lines text)) ts
+
+-- the words of a text
+abbrev pub AreWordsOf : List ℕ → List Lexeme → Type 0
+AreWordsOf text ts = AreCutsOf Whole text ts
+
+-- the words of a paragraph: those of its text, each cut again at brackets and commas
+abbrev pub AreParagraphWordsOf : List ℕ → List Lexeme → Type 0
+AreParagraphWordsOf text ts = AreCutsOf Apart text ts
 
 -- a refusal names a rule that is broken, on the line that breaks it, or memory, and then line 0
 abbrev pub IsRefusal : SourceRule → ℕ → List ℕ → Type 0
@@ -118,3 +148,20 @@ IsRefusal rule n text = IsBroken rule n text
 -- law: a text has its words in one way
 abbrev pub WordsAreOne : Type 0
 WordsAreOne = (text : List ℕ) (a b : List Lexeme) → AreWordsOf text a → AreWordsOf text b → a ≡ b
+
+-- law: a paragraph has its words in one way
+abbrev pub ParagraphWordsAreOne : Type 0
+ParagraphWordsAreOne = (text : List ℕ) (a b : List Lexeme) → AreParagraphWordsOf text a → AreParagraphWordsOf text b → a ≡ b
+
+-- law: a text that has words, as they stand or cut again, breaks no rule of words
+abbrev pub WordsBreakNoRule : Type 0
+WordsBreakNoRule = (m : Cutting) (text : List ℕ) (ts : List Lexeme) (rule : SourceRule) (n : ℕ) → AreCutsOf m text ts → IsRefusal rule n text → rule ≡ Memory
+
+-- law: in a text that has words each line fits behind those before it, and no literal is open at its end
+abbrev pub LinesOfWordsFit : Type 0
+LinesOfWordsFit =
+    (m : Cutting) (text : List ℕ) (ts : List Lexeme) → AreCutsOf m text ts → AreFit (lines text) × (open_quote (joined_of (lines text)) ≡ None)
+
+-- law: a joined text at whose end a literal is open is cut into no words
+abbrev pub OpenLiteralHasNoWords : Type 0
+OpenLiteralHasNoWords = (m : Cutting) (cells : List Cell) (ts : List Lexeme) → is_some (open_quote cells) ≡ true → Cuts m cells ts → ⊥

@@ -1,9 +1,10 @@
 ghost use Rattle.std.specs.Prelude.{◌≡◌, ℕ, ◌+◌, ◌<◌, ◌≤◌, List, ◌++◌, ◌∷◌, true, false, length, take, drop, IfOk, OnOk, Some, None};
 ghost use Rattle.std.specs.List.{AllByRecursion};
 ghost use Rattle.cob_source.specs.Tokens.{Lexeme, lexemes};
-ghost use Rattle.cob_source.specs.Cuts.{IsPlain, is_plain, is_gap, is_quote, plain_first, quote_first, open_from, open_quote, word_text, word, stop, signed, lexemes_of, Chunk, Body, NotFirst, literal, Cuts};
+ghost use Rattle.cob_source.specs.Cuts.{IsPlain, is_plain, is_gap, is_quote, plain_first, quote_first, open_from, open_quote, stop, signed, lexemes_of, Chunk, Body, NotFirst, literal, Cuts};
 
-use crate::token::{Cell, Kind, Token};
+use crate::token::{Cell, Cutting, Kind, Token};
+use crate::word::push_words;
 use std::alloc::{AllocError, Global};
 
 /// Whether the character is a space or a line's end.
@@ -34,32 +35,6 @@ fn chunk_len(cells: &[Cell]) -> usize
     cells.len()
 }
 
-/// The characters of a word, in capitals.
-fn capitals(alloc: Global, cells: &[Cell]) -> Result<Vec<u8>, AllocError>
-    ensures { IfOk result (λ v. v.items ≡ word_text cells.now) }
-{
-    cells
-        .iter()
-        .map(|c| c.byte.to_ascii_uppercase())
-        .collect(alloc)
-}
-
-/// Adds the word of these characters, if there are any.
-fn push_word(alloc: Global, cells: &[Cell], out: &mut Vec<Token>) -> Result<(), AllocError>
-    ensures ok { OnOk result (lexemes out.new.items ≡ lexemes out.old.items ++ word cells.now) }
-{
-    if let Some(first) = cells.first() {
-        let text = capitals(alloc, cells)?;
-        out.push(Token {
-            kind: Kind::Word,
-            text,
-            line: first.line,
-            column: first.column,
-        })?;
-    }
-    Ok(())
-}
-
 /// Adds a stop.
 fn push_stop(alloc: Global, period: Cell, out: &mut Vec<Token>) -> Result<(), AllocError>
     ensures ok { OnOk result (lexemes out.new.items ≡ lexemes out.old.items ++ stop period) }
@@ -75,20 +50,25 @@ fn push_stop(alloc: Global, period: Cell, out: &mut Vec<Token>) -> Result<(), Al
     Ok(())
 }
 
-/// Adds the word of these characters without one sign at their end, and the stop.
-fn push_signed(alloc: Global, cells: &[Cell], out: &mut Vec<Token>) -> Result<(), AllocError>
+/// Adds the words of these characters without one sign at their end, and the stop.
+fn push_signed(
+    alloc: Global,
+    cutting: Cutting,
+    cells: &[Cell],
+    out: &mut Vec<Token>,
+) -> Result<(), AllocError>
     requires { 0 < length cells.now }
-    ensures ok { OnOk result (lexemes out.new.items ≡ lexemes out.old.items ++ signed cells.now) }
+    ensures ok { OnOk result (lexemes out.new.items ≡ lexemes out.old.items ++ signed cutting cells.now) }
 {
     let end = cells.len() - 1;
     let last = cells[end];
     match last.byte {
-        b',' | b';' => push_word(alloc, &cells[..end], out),
+        b',' | b';' => push_words(alloc, cutting, &cells[..end], out),
         b'.' => {
-            push_word(alloc, &cells[..end], out)?;
+            push_words(alloc, cutting, &cells[..end], out)?;
             push_stop(alloc, last, out)
         }
-        _ => push_word(alloc, cells, out),
+        _ => push_words(alloc, cutting, cells, out),
     }
 }
 
@@ -102,20 +82,21 @@ fn starts_with_quote(cells: &[Cell]) -> bool
     }
 }
 
-/// Adds the word and the stop of characters between spaces and quotes.
+/// Adds the words and the stop of characters between spaces and quotes.
 fn push_chunk(
     alloc: Global,
+    cutting: Cutting,
     chunk: &[Cell],
     behind: &[Cell],
     out: &mut Vec<Token>,
 ) -> Result<(), AllocError>
     requires { 0 < length chunk.now }
-    ensures ok { OnOk result (lexemes out.new.items ≡ lexemes out.old.items ++ lexemes_of (Chunk chunk.now) behind.now) }
+    ensures ok { OnOk result (lexemes out.new.items ≡ lexemes out.old.items ++ lexemes_of cutting (Chunk chunk.now) behind.now) }
 {
     if starts_with_quote(behind) {
-        push_word(alloc, chunk, out)
+        push_words(alloc, cutting, chunk, out)
     } else {
-        push_signed(alloc, chunk, out)
+        push_signed(alloc, cutting, chunk, out)
     }
 }
 
@@ -161,9 +142,14 @@ fn push_literal(opening: Cell, text: Vec<u8>, out: &mut Vec<Token>) -> Result<()
 }
 
 /// Adds the words, literals and stops of characters at whose end no literal is open.
-pub fn cut(alloc: Global, cells: &[Cell], out: &mut Vec<Token>) -> Result<(), AllocError>
+pub fn cut(
+    alloc: Global,
+    cutting: Cutting,
+    cells: &[Cell],
+    out: &mut Vec<Token>,
+) -> Result<(), AllocError>
     requires { open_quote cells.now ≡ None }
-    ensures found { OnOk result ((ts : List Lexeme) × Cuts cells.now ts × (lexemes out.old.items ++ ts ≡ lexemes out.new.items)) }
+    ensures found { OnOk result ((ts : List Lexeme) × Cuts cutting cells.now ts × (lexemes out.old.items ++ ts ≡ lexemes out.new.items)) }
 {
     let mut rest = cells;
     while let Some((first, after)) = rest.split_first() {
@@ -171,7 +157,7 @@ pub fn cut(alloc: Global, cells: &[Cell], out: &mut Vec<Token>) -> Result<(), Al
             rest = after;
         } else if is_plain(first.byte) {
             let (chunk, behind) = rest.split_at(chunk_len(rest));
-            push_chunk(alloc, chunk, behind, out)?;
+            push_chunk(alloc, cutting, chunk, behind, out)?;
             rest = behind;
         } else {
             let (text, behind) = literal_at(alloc, after, first.byte)?;

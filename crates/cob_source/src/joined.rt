@@ -9,7 +9,7 @@ ghost use Rattle.cob_source.specs.declared.lines.LineKind.TheVariants.{Continuat
 use crate::cut::cut;
 use crate::fault::{SourceFault, SourceRule};
 use crate::lines::{front, is_blank_text, leading_spaces, without_spaces, written_in};
-use crate::token::{Cell, Token};
+use crate::token::{Cell, Cutting, Token};
 use std::alloc::{AllocError, Global};
 
 /// A line with the continuations that are joined to it so far.
@@ -183,10 +183,15 @@ pub fn continue_line(number: u32, line: &[u8], joined: &mut Joined) -> Result<()
 ///
 /// # Errors
 /// T3 where a literal is open at its end, T9 where memory is refused.
-pub fn cut_joined(alloc: Global, joined: &Joined, out: &mut Vec<Token>) -> Result<(), SourceFault>
+pub fn cut_joined(
+    alloc: Global,
+    cutting: Cutting,
+    joined: &Joined,
+    out: &mut Vec<Token>,
+) -> Result<(), SourceFault>
     requires { joined.now.quote ≡ open_quote joined.now.cells.items }
     ensures closed { OnOk result (joined.now.quote ≡ None) }
-    ensures found { OnOk result ((ts : List Lexeme) × Cuts joined.now.cells.items ts × (lexemes out.old.items ++ ts ≡ lexemes out.new.items)) }
+    ensures found { OnOk result ((ts : List Lexeme) × Cuts cutting joined.now.cells.items ts × (lexemes out.old.items ++ ts ≡ lexemes out.new.items)) }
     ensures fault { IfErr result (λ f. EndRefused f.rule f.line joined.now.quote joined.now.last) }
 {
     if joined.quote.is_some() {
@@ -195,6 +200,6 @@ pub fn cut_joined(alloc: Global, joined: &Joined, out: &mut Vec<Token>) -> Resul
             line: joined.last,
         });
     }
-    cut(alloc, joined.cells.as_slice(), out)?;
+    cut(alloc, cutting, joined.cells.as_slice(), out)?;
     Ok(())
 }

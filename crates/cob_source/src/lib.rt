@@ -4,16 +4,18 @@
 //! Copybooks and paragraphs come as texts in fixed columns: 1 to 6 mean nothing, 7 is the indicator, 8 to 72 hold the
 //! text, and what is behind is ignored. `tokens` gives a text's words, literals and stops, each with the line and the
 //! column of its first character, or the rule of the format that the text breaks and the line that breaks it.
-//! `paragraph_tokens` cuts words again at brackets and commas, as the statements of a paragraph need it.
+//! `paragraph_tokens` cuts the words again at brackets and commas, as the statements of a paragraph need it.
 //!
-//! What is promised: `tokens` answers `Ok` with exactly the words of the text, and then the text breaks no rule (clause
-//! `words`); every text that has words is read, but for want of memory (`reads`); a refusal names a rule that is broken,
-//! on the line that breaks it (`refused`). A text has its words in one way (`words_are_one`). `paragraph_tokens` answers
-//! exactly the pieces of the words, in order.
+//! What is promised, of `tokens` and of `paragraph_tokens` alike: the answer `Ok` has exactly the words of the text, and
+//! then the text breaks no rule (clause `words`); every text that has words is read, but for want of memory (`reads`); a
+//! refusal names a rule that is broken, on the line that breaks it (`refused`), and one that takes the lines before it
+//! together (an open literal, a continuation that doesn't fit) only where none of these breaks a rule. A text has its words
+//! in one way (`words_are_one`, `paragraph_words_are_one`); where it has them it breaks no rule (`words_break_no_rule`),
+//! its lines fit one behind the other (`lines_of_words_fit`), and no literal is open (`open_literal_has_no_words`).
 //!
-//! The definitions stand in `specs/`: `Lines` joins columns 8 to 72 of the plain and continuation lines to one text, `Cuts` cuts
-//! a joined text into words, literals and stops, `Words` says which rules a text breaks and which words it has, `Pieces`
-//! is the cut at brackets and commas, and `Tokens` is what a reader of tokens sees of them. `Reading` holds what the
+//! The definitions stand in `specs/`: `Lines` joins columns 8 to 72 of the plain and continuation lines to one text, `Pieces`
+//! is the cut at brackets and commas, `Cuts` cuts a joined text into words, literals and stops, `Words` says which rules a
+//! text breaks and which words it has, and `Tokens` is what a reader of tokens sees of them. `Reading` holds what the
 //! reader keeps from line to line; no public clause names it. The crate stands on std alone, and `thiserror` for the
 //! fault's message.
 #![tactic(auto)]
@@ -23,12 +25,14 @@ mod fault;
 mod joined;
 mod laws;
 mod lines;
-mod paragraph;
 mod reader;
 mod token;
+mod word;
 
 pub use fault::{SourceFault, SourceRule};
-pub use laws::words_are_one;
-pub use paragraph::paragraph_tokens;
-pub use reader::tokens;
+pub use laws::{
+    lines_of_words_fit, open_literal_has_no_words, paragraph_words_are_one, words_are_one,
+    words_break_no_rule,
+};
+pub use reader::{paragraph_tokens, tokens};
 pub use token::{Kind, Token};

@@ -1,14 +1,14 @@
 ghost use Rattle.std.specs.Prelude.{◌≡◌, ℕ, ◌+◌, ◌<◌, ◌≤◌, List, [], ◌∷◌, ◌++◌, length, IfOk, IfErr, OnOk};
 ghost use Rattle.cob_source.specs.Tokens.{Lexeme, lexemes};
 ghost use Rattle.cob_source.specs.Cuts.{open_quote};
-ghost use Rattle.cob_source.specs.Words.{IsRefusal, AreWordsOf};
+ghost use Rattle.cob_source.specs.Words.{IsRefusal, AreCutsOf, AreWordsOf, AreParagraphWordsOf};
 ghost use Rattle.cob_source.specs.Reading.{HasRead, LineRefused};
 ghost use Rattle.cob_source.specs.declared.fault.SourceRule.TheVariants.{Memory};
 
 use crate::fault::{SourceFault, SourceRule};
 use crate::joined::{Joined, begin_line, continue_line, cut_joined};
 use crate::lines::{LineKind, character_fault, line_kind, next_line};
-use crate::token::Token;
+use crate::token::{Cutting, Token};
 use cob_limits::MAX_TEXT_BYTES;
 use std::alloc::Global;
 
@@ -18,14 +18,15 @@ use std::alloc::Global;
 /// The rule that the line breaks, T3 where a literal is left open before it, T9 where memory is refused.
 fn take_line(
     alloc: Global,
+    cutting: Cutting,
     number: u32,
     line: &[u8],
     joined: &mut Joined,
     out: &mut Vec<Token>,
 ) -> Result<(), SourceFault>
     requires { joined.old.quote ≡ open_quote joined.old.cells.items }
-    ensures ok { (before : List (List ℕ)) → number ≡ length before + 1 → HasRead before joined.old.cells.items joined.old.quote joined.old.last (lexemes out.old.items) → OnOk result (HasRead (before ++ line.now ∷ []) joined.new.cells.items joined.new.quote joined.new.last (lexemes out.new.items)) }
-    ensures fault { (before : List (List ℕ)) → number ≡ length before + 1 → HasRead before joined.old.cells.items joined.old.quote joined.old.last (lexemes out.old.items) → IfErr result (λ f. LineRefused f.rule f.line before line.now) }
+    ensures ok { (before : List (List ℕ)) → number ≡ length before + 1 → HasRead cutting before joined.old.cells.items joined.old.quote joined.old.last (lexemes out.old.items) → OnOk result (HasRead cutting (before ++ line.now ∷ []) joined.new.cells.items joined.new.quote joined.new.last (lexemes out.new.items)) }
+    ensures fault { (before : List (List ℕ)) → number ≡ length before + 1 → HasRead cutting before joined.old.cells.items joined.old.quote joined.old.last (lexemes out.old.items) → IfErr result (λ f. LineRefused f.rule f.line before line.now) }
 {
     if let Some(rule) = character_fault(line) {
         return Err(SourceFault { rule, line: number });
@@ -33,7 +34,7 @@ fn take_line(
     match line_kind(line) {
         LineKind::Skipped => Ok(()),
         LineKind::Plain => {
-            cut_joined(alloc, joined, out)?;
+            cut_joined(alloc, cutting, joined, out)?;
             begin_line(number, line, joined)?;
             Ok(())
         }
@@ -41,18 +42,13 @@ fn take_line(
     }
 }
 
-/// The words, literals and stops of a text in reference format (ANSI X3.23-1985, section IV, 7.2), in order: words in
-/// capitals, literals as their characters without quotes, each with the line (from 1) and the column (8 to 72) of its first
-/// character.
+/// Reads a text.
 ///
 /// # Errors
-/// A rule of the format that the text breaks, with the line that breaks it. T9, with line 0, only where memory is refused.
-pub fn tokens(alloc: Global, text: &[u8]) -> Result<Vec<Token>, SourceFault>
-    // What is read are the words of the text, which then breaks no rule.
-    ensures words { IfOk result (λ v. AreWordsOf text.now (lexemes v.items)) }
-    // A text that has words is read, memory aside.
-    ensures reads { (ts : List Lexeme) → AreWordsOf text.now ts → IfErr result (λ f. f.rule ≡ Memory) }
-    // A refused text breaks the rule that is named, on the line that is named.
+/// A rule that the text breaks, on the line that breaks it, or T9 where memory is refused.
+fn read(alloc: Global, cutting: Cutting, text: &[u8]) -> Result<Vec<Token>, SourceFault>
+    ensures words { IfOk result (λ v. AreCutsOf cutting text.now (lexemes v.items)) }
+    ensures reads { (ts : List Lexeme) → AreCutsOf cutting text.now ts → IfErr result (λ f. f.rule ≡ Memory) }
     ensures refused { IfErr result (λ f. IsRefusal f.rule f.line text.now) }
 {
     if text.len() > MAX_TEXT_BYTES {
@@ -71,10 +67,40 @@ pub fn tokens(alloc: Global, text: &[u8]) -> Result<Vec<Token>, SourceFault>
     let mut rest = text;
     while !rest.is_empty() {
         let (line, more) = next_line(rest);
-        take_line(alloc, number, line, &mut joined, &mut out)?;
+        take_line(alloc, cutting, number, line, &mut joined, &mut out)?;
         number += 1;
         rest = more;
     }
-    cut_joined(alloc, &joined, &mut out)?;
+    cut_joined(alloc, cutting, &joined, &mut out)?;
     Ok(out)
+}
+
+/// The words, literals and stops of a text in reference format (ANSI X3.23-1985, section IV, 7.2), in order: words in
+/// capitals, literals as their characters without quotes, each with the line (from 1) and the column (8 to 72) of its first
+/// character.
+///
+/// # Errors
+/// A rule of the format that the text breaks, with the line that breaks it. T9, with line 0, only where memory is refused.
+pub fn tokens(alloc: Global, text: &[u8]) -> Result<Vec<Token>, SourceFault>
+    // What is read are the words of the text, which then breaks no rule.
+    ensures words { IfOk result (λ v. AreWordsOf text.now (lexemes v.items)) }
+    // A text that has words is read, memory aside.
+    ensures reads { (ts : List Lexeme) → AreWordsOf text.now ts → IfErr result (λ f. f.rule ≡ Memory) }
+    // A refused text breaks the rule that is named, on the line that is named.
+    ensures refused { IfErr result (λ f. IsRefusal f.rule f.line text.now) }
+{
+    read(alloc, Cutting::Whole, text)
+}
+
+/// The words, literals and stops of a paragraph: those of its text, each word cut again at brackets and commas. A bracket is a
+/// word of its own, a comma only separates, and each piece has the line and the column of its own first character.
+///
+/// # Errors
+/// As [`tokens`].
+pub fn paragraph_tokens(alloc: Global, text: &[u8]) -> Result<Vec<Token>, SourceFault>
+    ensures words { IfOk result (λ v. AreParagraphWordsOf text.now (lexemes v.items)) }
+    ensures reads { (ts : List Lexeme) → AreParagraphWordsOf text.now ts → IfErr result (λ f. f.rule ≡ Memory) }
+    ensures refused { IfErr result (λ f. IsRefusal f.rule f.line text.now) }
+{
+    read(alloc, Cutting::Apart, text)
 }

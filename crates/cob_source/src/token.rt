@@ -6,6 +6,15 @@ pub struct Cell {
     pub column: u8,
 }
 
+/// How far a text is cut.
+#[derive(Clone, Copy, Debug, PartialEq, Eq)]
+pub enum Cutting {
+    /// Into words as they stand between spaces and quotes.
+    Whole,
+    /// Into the pieces of these words too, as a paragraph needs them.
+    Apart,
+}
+
 /// What a token is.
 #[derive(Clone, Copy, Debug, PartialEq, Eq)]
 pub enum Kind {

@@ -49,21 +49,19 @@ fn text_of(alloc: Global, table: &str, row: &Row) -> Result<Vec<u8>, RowFault> {
     }
 }
 
-/// The tokens of each text; those of the table `paragraphs` are cut again, and of those of `long_texts` the count is printed.
+/// The tokens of each text, of the table `paragraphs` as those of a paragraph; of those of `long_texts` the count is printed.
 struct Texts;
 
 impl Family for Texts {
     fn answer(alloc: Global, table: &str, row: &Row, out: &mut String) -> Result<(), RowFault> {
         let text = text_of(alloc, table, row)?;
-        match tokens(alloc, text.as_slice()) {
-            Ok(list) => match table {
-                "long_texts" => write!(out, "{} tokens", list.len())?,
-                "paragraphs" => {
-                    let words = paragraph_tokens(alloc, list.as_slice())?;
-                    push_tokens(out, words.as_slice())?;
-                }
-                _ => push_tokens(out, list.as_slice())?,
-            },
+        let words = match table {
+            "paragraphs" => paragraph_tokens(alloc, text.as_slice()),
+            _ => tokens(alloc, text.as_slice()),
+        };
+        match words {
+            Ok(list) if table == "long_texts" => write!(out, "{} tokens", list.len())?,
+            Ok(list) => push_tokens(out, list.as_slice())?,
             Err(fault) => write!(out, "{fault}")?,
         }
         Ok(())

@@ -8,7 +8,7 @@ fn refused_memory(rt: HostRuntime) {
     match tokens(rt.alloc(), text) {
         Ok(list) => {
             assert_eq!(rt; list.len(), 4);
-            if let Ok(words) = paragraph_tokens(rt.alloc(), list.as_slice()) {
+            if let Ok(words) = paragraph_tokens(rt.alloc(), text) {
                 assert_eq!(rt; words.len(), 9);
             }
         }

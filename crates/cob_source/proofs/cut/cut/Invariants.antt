@@ -7,7 +7,7 @@ use Rattle.cob_source.proofs.cut.cut.Given as goal
 
 abbrev pub invariant-loop-first : goal.invariant-loop-first
 invariant-loop-first l = record {
-  so_far : SoFar l.cells l.rest (lexemes l.initial.out.items) (lexemes l.out.items);
+  so_far : SoFar l.cutting l.cells l.rest (lexemes l.initial.out.items) (lexemes l.out.items);
   closed : open_quote l.rest ≡ None;
 }
 

@@ -5,7 +5,7 @@ use Rattle.std.proofs.lemmas.Grind.{common_steps}
 use Rattle.cob_source.specs.declared.fault.SourceRule.TheVariants.{TooLong}
 use Rattle.cob_source.specs.Lines.{lines}
 use Rattle.cob_source.proofs.ReadingLemmas.{nothing_read, finishes, refusal_at, refusal_end, not_refused}
-use Rattle.cob_source.proofs.reader.tokens.Goals as goal
+use Rattle.cob_source.proofs.reader.read.Goals as goal
 
 -- nothing is left of the text, so that its lines are those that are read
 all_read : (text rest : List ℕ) (before : List (List ℕ)) → lines text ≡ before ++ lines rest → rest ≡ [] → lines text ≡ before
@@ -24,7 +24,7 @@ pub returns-in_err-take_line-clause-reads : goal.returns-in_err-take_line-clause
 returns-in_err-take_line-clause-reads c = λ ts w.
     let p = err_from_is_err_and c.from_residual.result c.from_residual.ensures.1 in
     let r = c.loop-rest.invariant.read in
-    rw (p.1, p.2) (not_refused c.args.text.now ts _ _ w
+    rw (p.1, p.2) (not_refused _ c.args.text.now ts _ _ w
     (refusal_at c.args.text.now _ _ r.0 c.next_line.result.0.now (lines c.next_line.result.1.now) (r.1 ∙ ap (λ (l : List (List ℕ)). r.0 ++ l) c.next_line.ensures.line) (c.in_err-take_line.ensures.fault r.0 r.2 r.3)))
 
 pub returns-in_err-take_line-clause-refused : goal.returns-in_err-take_line-clause-refused
@@ -38,7 +38,7 @@ pub returns-in_err-cut_joined-clause-reads : goal.returns-in_err-cut_joined-clau
 returns-in_err-cut_joined-clause-reads c = λ ts w.
     let p = err_from_is_err_and c.from_residual-in_err-cut_joined.result c.from_residual-in_err-cut_joined.ensures.1 in
     let r = c.loop-rest.invariant.read in
-    rw (p.1, p.2) (not_refused c.args.text.now ts _ _ w
+    rw (p.1, p.2) (not_refused _ c.args.text.now ts _ _ w
     (refusal_end c.args.text.now _ _ r.3 (all_read c.args.text.now c.loop-rest.rest.now r.0 r.1 (nothing_left _ (grind (arith, common_steps)))) c.in_err-cut_joined.ensures.fault))
 
 pub returns-in_err-cut_joined-clause-refused : goal.returns-in_err-cut_joined-clause-refused
