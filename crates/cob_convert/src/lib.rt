@@ -33,8 +33,6 @@ mod jobs;
 mod laws;
 mod run;
 mod setup;
-#[cfg(test)]
-mod tests;
 
 pub use cob_steps::Side;
 pub use converter::Converter;

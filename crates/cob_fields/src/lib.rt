@@ -47,6 +47,3 @@ pub fn field_mut(bytes: &mut [u8], place: Place) -> &mut [u8]
     let count = place.length as usize;
     &mut bytes[start..start + count]
 }
-
-#[cfg(test)]
-mod tests;

@@ -33,8 +33,6 @@ mod counts;
 mod laws;
 mod layout;
 mod reference;
-#[cfg(test)]
-mod tests;
 
 pub use cob_fields::{Place, field, field_mut};
 pub use cob_layout_places::CountFault;

@@ -26,8 +26,6 @@ mod laws;
 mod lengths;
 mod needs;
 mod places;
-#[cfg(test)]
-mod tests;
 mod varying;
 
 pub use counts::{CountFault, take_counts};

@@ -20,8 +20,6 @@
 
 mod laws;
 mod storage;
-#[cfg(test)]
-mod tests;
 
 pub use laws::one_initial;
 pub use storage::initial;

@@ -15,8 +15,6 @@
 mod constants;
 mod items;
 mod laws;
-#[cfg(test)]
-mod tests;
 
 pub use constants::write_constant;
 pub use items::write_item;

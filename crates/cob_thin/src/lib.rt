@@ -27,8 +27,6 @@ mod lines;
 mod operand;
 mod paragraph;
 mod statement;
-#[cfg(test)]
-mod tests;
 mod words;
 
 pub use fault::ThinFault;

@@ -1,0 +1,47 @@
+//! The tables of a record, and how often entries occur.
+
+use crate::books::{book_of, entry_named};
+use cob_layout_places::{tables, times_of};
+use cob_rows::{Row, RowFault};
+use std::alloc::Global;
+use std::fmt::Write;
+
+/// The tables that vary, each by its entry's number, its least and greatest number of elements, and the number of its count's entry.
+pub(crate) fn tables_in_order(alloc: Global, row: &Row, out: &mut String) -> Result<(), RowFault> {
+    let book = book_of(alloc, row)?;
+    let mut between = "";
+    for table in tables(alloc, book.root())?.iter() {
+        let number = table.number;
+        let least = table.least;
+        let most = table.most;
+        let count = table.count;
+        write!(out, "{between}{number}: {least} to {most} by {count}")?;
+        between = ", ";
+    }
+    Ok(())
+}
+
+/// The counts of a text, by the numbers of entries: spaces part them, and `none` says that there are none.
+fn counts_of(alloc: Global, written: &str) -> Result<Vec<u32>, RowFault> {
+    let mut counts = Vec::new(alloc);
+    if written == "none" {
+        return Ok(counts);
+    }
+    for part in written.split(' ') {
+        match part.parse::<u32>() {
+            Ok(count) => counts.push(count)?,
+            Err(_) => return Err(RowFault::BadRow),
+        }
+    }
+    Ok(counts)
+}
+
+/// How often an entry occurs under counts.
+pub(crate) fn times(alloc: Global, row: &Row, out: &mut String) -> Result<(), RowFault> {
+    let book = book_of(alloc, row)?;
+    let Some(entry) = entry_named(book.root(), row.field(2)?) else {
+        return Err(RowFault::BadRow);
+    };
+    let counts = counts_of(alloc, row.field(3)?)?;
+    Ok(write!(out, "{}", times_of(entry, counts.as_slice()))?)
+}

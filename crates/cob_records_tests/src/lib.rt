@@ -1,0 +1,12 @@
+//! Tests of `cob_records` that need code: ends that fail in mid-stream, and readers and writers of several kinds. Nothing stands on this crate,
+//! so that no crate is proved again for a test of `cob_records`. What records are read and refused in a run, the stored jobs of `cob_jobs` show.
+#![tactic(auto)]
+
+#[cfg(test)]
+mod faults;
+#[cfg(test)]
+mod frames;
+#[cfg(test)]
+mod limited;
+#[cfg(test)]
+mod streams;

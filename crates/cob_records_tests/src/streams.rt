@@ -1,0 +1,104 @@
+//! Readers and writers as ends.
+
+use crate::frames::FRAME;
+use cob_records::{Form, ReadSource, RecordFault, Sink, WriteSink, next_record, put_record};
+use std::io;
+use std::io::{ErrorKind, Read, Write};
+
+/// A device that is interrupted before each call, moves a byte at a time, and fails once no more is left.
+#[derive(Drop)]
+struct Device {
+    interrupted: bool,
+    left: u8,
+}
+
+impl Device {
+    fn turn(&mut self) -> io::Result<()> {
+        self.interrupted = !self.interrupted;
+        if self.interrupted {
+            return Err(io::Error::from(ErrorKind::Interrupted));
+        }
+        if self.left == 0 {
+            return Err(io::Error::from(ErrorKind::Other));
+        }
+        self.left -= 1;
+        Ok(())
+    }
+}
+
+impl Read for Device {
+    fn read(&mut self, buf: &mut [u8]) -> io::Result<usize> {
+        self.turn()?;
+        if buf.is_empty() {
+            return Ok(0);
+        }
+        buf[0] = 0xC1;
+        Ok(1)
+    }
+}
+
+impl Write for Device {
+    fn write(&mut self, buf: &[u8]) -> io::Result<usize> {
+        self.turn()?;
+        Ok(buf.len().min(1))
+    }
+
+    fn flush(&mut self) -> io::Result<()> {
+        self.turn()
+    }
+}
+
+#[test]
+fn reads_from_a_reader(rt: HostRuntime) {
+    let mut slot = [0u8; 8];
+    let mut source = ReadSource::new(FRAME);
+    assert_eq!(rt;
+        next_record(&mut source, Form::Variable, 8, &mut slot),
+        Ok(Some(4))
+    );
+    assert_eq!(rt; &slot[..4], b"\xF1\xC1\xC2\xE9".as_slice());
+    assert_eq!(rt;
+        next_record(&mut source, Form::Variable, 8, &mut slot),
+        Ok(None)
+    );
+    assert_eq!(rt; source.into_inner().len(), 0);
+
+    let mut slot = [0u8; 2];
+    let mut source = ReadSource::new(Device {
+        interrupted: false,
+        left: 3,
+    });
+    assert_eq!(rt;
+        next_record(&mut source, Form::Fixed, 2, &mut slot),
+        Ok(Some(2))
+    );
+    assert_eq!(rt; slot.as_slice(), b"\xC1\xC1".as_slice());
+    let failed = next_record(&mut source, Form::Fixed, 2, &mut slot);
+    assert_eq!(rt; failed, Err(RecordFault::ReadFailed));
+}
+
+#[test]
+fn writes_to_a_writer(rt: HostRuntime) {
+    let mut sink = WriteSink::new(Vec::new(rt.alloc()));
+    assert_eq!(rt;
+        put_record(&mut sink, Form::Variable, b"\xF1\xC1\xC2\xE9"),
+        Ok(())
+    );
+    assert_eq!(rt; sink.flush().is_ok(), true);
+    let written = sink.into_inner();
+    assert_eq!(rt; written.as_slice(), FRAME);
+
+    let mut sink = WriteSink::new(Device {
+        interrupted: false,
+        left: 6,
+    });
+    let failed = put_record(&mut sink, Form::Variable, b"\xF1\xC1\xC2\xE9");
+    assert_eq!(rt; failed, Err(RecordFault::WriteFailed { taken: 6 }));
+    assert_eq!(rt; sink.flush().is_err(), true);
+
+    let mut room = [0u8; 2];
+    let mut sink = WriteSink::new(room.as_mut_slice());
+    assert_eq!(rt; sink.write(b"\xC1\xC2\xC3"), Ok(2));
+    let full = put_record(&mut sink, Form::Fixed, b"\xC3");
+    assert_eq!(rt; full, Err(RecordFault::TookNothing { taken: 0 }));
+}
