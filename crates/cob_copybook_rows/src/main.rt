@@ -2,7 +2,8 @@
 //! the rules that clauses keep, counts, lengths, and whole copybooks.
 //!
 //! The first field of a row is the question, and the second is mostly a text of entries, parted by bars, one a line. The answer is what
-//! was asked for, or the rule that the text breaks with its line.
+//! was asked for, or the rule that the text breaks with its line. What must be printed stands in `stdout`, worked out by hand from the
+//! rules of COBOL.
 #![tactic(auto)]
 
 mod books;
