@@ -2,7 +2,19 @@
 //! places need, bytes in places, and the storage before the first move.
 //!
 //! The first field of a row is the question. The second one is mostly the record: the entries of its copybook, parted by bars, one a
-//! line. Bytes are written in hexadecimal digits, and an element of a table with its subscripts, as `T(2,1)`.
+//! line. Counts are taken as `greatest`, or by `all`, `sender` or `receiver` from the bytes behind it, which are written in hexadecimal
+//! digits. An element of a table is written with its subscripts, as `T(2,1)`.
+//!
+//! - `greatest`, record: the record's greatest length, and its length under the greatest counts.
+//! - `length`, record, counts: its length.
+//! - `length for`, record, counts, element: its length under the counts that the element's place needs.
+//! - `place`, record, counts, element: the element's offset and length, or `past` and the offset where it would begin, or `count` or
+//!   `short` and the offset of a count that gives no valid number, or that ends past the bytes.
+//! - `bytes`, record, its bytes, element: the element's bytes.
+//! - `kept`, record, its bytes, counts, element: the fault of the counts, and the length and the place under those of the bytes.
+//! - `tables`, record: the tables that vary. `times`, record, name, counts by number: how often the entry occurs.
+//! - `read`, bytes, offset, length: the bytes of the place. `write` and `fill`, with bytes behind: the whole bytes afterwards.
+//! - `begin`, record: its bytes before the first move. `constant`, kind, characters, number of bytes: the bytes of the constant.
 #![tactic(auto)]
 
 mod books;

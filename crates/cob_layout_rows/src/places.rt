@@ -1,6 +1,6 @@
 //! Bytes at places of a record: the place is its offset and its length.
 
-ghost use Rattle.std.specs.Prelude.{◌≡◌, ◌≤◌, ◌+◌, length, IfOk};
+ghost use Rattle.std.specs.Prelude.{◌≤◌, ◌+◌, IfOk};
 
 use cob_fields::{Place, field, field_mut};
 use cob_rows::{Row, RowFault, push_digits};

@@ -1,6 +1,6 @@
 //! What records hold before the first move.
 
-ghost use Rattle.std.specs.Prelude.{IsTrue, IfOk};
+ghost use Rattle.std.specs.Prelude.{IsTrue};
 ghost use Rattle.cob_copybook_entries.specs.Described.{constant};
 ghost use Rattle.cob_copybook_lengths.specs.Values.{IsCharacterValue};
 
