@@ -1,5 +1,6 @@
 use arrayvec::ArrayVec;
-use cob_decimal::{Digits, MAX_DIGITS, MAX_SCALE, MIN_SCALE, Number};
+use cob_decimal::{Digits, Number};
+use cob_limits::{MAX_DIGITS, MAX_SCALE, MIN_SCALE};
 use cob_rows::{Row, RowFault, push_text};
 use std::alloc::{AllocError, Global};
 use std::fmt::Write;

@@ -1,8 +1,9 @@
 ghost use Rattle.std.specs.Prelude.{◌≡◌, length, IsTrue, IsSomeAnd};
 
 use crate::numbers::push_number;
-use cob_codec::{Binary, MAX_BINARY_DIGITS, Packed, Separate, Shape, Storage, Zoned, read_digits};
-use cob_decimal::{MAX_DIGITS, MAX_SCALE, MIN_SCALE, Number};
+use cob_codec::{Binary, Packed, Separate, Shape, Storage, Zoned, read_digits};
+use cob_decimal::Number;
+use cob_limits::{MAX_BINARY_DIGITS, MAX_DIGITS, MAX_SCALE, MIN_SCALE};
 use cob_picture::{Category, Picture};
 use cob_rows::{Row, RowFault, bytes_of, push_digits};
 use std::alloc::Global;

@@ -11,7 +11,8 @@ use arrayvec::ArrayVec;
 use cob_copybook::{Book, Role};
 use cob_copybook_entries::BookRule;
 use cob_copybook_tree::{Node, Times};
-use cob_layout::{MAX_SUBSCRIPTS, Ref};
+use cob_layout::Ref;
+use cob_limits::MAX_SUBSCRIPTS;
 use cob_rows::{Row, RowFault};
 use std::alloc::Global;
 

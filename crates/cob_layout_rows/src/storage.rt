@@ -6,8 +6,9 @@ ghost use Rattle.cob_copybook_lengths.specs.Values.{IsCharacterValue};
 
 use crate::books::book_of;
 use cob_copybook_clauses::Figurative;
-use cob_copybook_entries::{MAX_LITERAL, Text, Value};
+use cob_copybook_entries::{Text, Value};
 use cob_layout::Layout;
+use cob_limits::MAX_LITERAL;
 use cob_move::initial;
 use cob_move_initial::write_constant;
 use cob_rows::{Row, RowFault, push_digits};
