@@ -1,21 +1,20 @@
 -- Lemmas on numeric edited pictures: their symbols, part by part, have the region of their run and show their sign.
-use Rattle.std.proofs.Common.{◌≡◌, ℕ, zero, suc, ◌+◌, ◌<◌, ◌≤◌, Bool, true, false, cond, not, ◌||◌, ◌&&◌, ◌⊎◌, inl, inr, List, [], ◌∷◌, ◌++◌, length, drop, get_or, Option, Some, None, refl, sym, ap, subst, ◌∙◌, append_assoc, arith, IsTrue}
+use Rattle.std.proofs.Common.{◌≡◌, ℕ, zero, suc, ◌+◌, ◌<◌, Bool, true, false, cond, ◌||◌, ◌⊎◌, inl, inr, List, [], ◌∷◌, ◌++◌, length, drop, Option, Some, None, refl, sym, ap, subst, ◌∙◌, arith}
 use Rattle.std.specs.Prelude.{if◌then◌else◌, nat_le}
-use Rattle.std.specs.List.{prefix_len, list_any, list_all, flat_map}
+use Rattle.std.specs.List.{prefix_len, list_any, list_all}
 use Rattle.std.proofs.lemmas.Bool.{and_parts, true≢false}
 use Rattle.std.proofs.lemmas.List.{append-nil}
 use Rattle.std.proofs.lemmas.List.Folds.{list_any-append}
 use Rattle.cob_picture.specs.declared.symbol.Symbol.{Symbol}
 use Rattle.cob_picture.specs.declared.symbol.Symbol.TheVariants as sy
-use Rattle.cob_picture.specs.declared.position.Position.{Position}
 use Rattle.cob_picture.specs.declared.category.Category.TheVariants.{NumericEdited}
 use Rattle.cob_picture.specs.declared.edited.Kind.{Kind}
 use Rattle.cob_picture.specs.declared.edited.Kind.TheVariants.{OfRun, OfInsertion, OfNine, OfPoint, OfSign, OfCurrency, OfCredit, OfNone}
 use Rattle.cob_picture.specs.declared.edited.Part.{Part}
 use Rattle.cob_picture.specs.declared.edited.Part.TheVariants.{Lead, Currency, Front, Whole, PointPart, Fraction, Trail}
-use Rattle.cob_picture.specs.Positions.{is, is_that, times, floating, settled_role, role_at, position_at, placed, positions}
+use Rattle.cob_picture.specs.Positions.{is, is_that, times, floating, settled_role, role_at, placed, positions}
 use Rattle.cob_picture.specs.Counts.{is_sign_symbol, signed}
-use Rattle.cob_picture.specs.Edited.{run_symbol, is_sign_run, is_floating_run, settled_kind, kind_of, belongs, AreOf, Edited, edited_symbols, counts_in, IsNumericEdited}
+use Rattle.cob_picture.specs.Edited.{run_symbol, is_sign_run, is_floating_run, settled_kind, kind_of, belongs, AreOf, edited_symbols, IsNumericEdited}
 use Rattle.cob_edit.specs.declared.place.Place.{Place}
 use Rattle.cob_edit.specs.declared.place.Place.TheVariants.{Inserted, Point, Digit, Suppressed, Floating, First, Fixed, AssumedPoint}
 use Rattle.cob_edit.specs.Places.{is_run, is_run_or_insertion, is_point, is_fixed_sign, is_floating_sign, tells}

@@ -1,8 +1,7 @@
 -- Lemmas on the region and the sign of numeric edited pictures.
-use Rattle.std.proofs.Common.{◌≡◌, ℕ, zero, suc, ◌+◌, ◌<◌, ◌≤◌, Bool, true, false, cond, not, ◌||◌, ◌⊎◌, inl, inr, List, [], ◌∷◌, ◌++◌, length, drop, get_or, Option, Some, None, refl, sym, ap, subst, ◌∙◌, append_assoc, arith, IsTrue}
-use Rattle.std.specs.Prelude.{if◌then◌else◌, nat_le}
-use Rattle.std.specs.List.{prefix_len, list_any, list_all, flat_map}
-use Rattle.std.proofs.lemmas.List.Sums.{prefix_len_passes, prefix_len_stops, prefix_len-le-length, prefix_len-drop_all, prefix_len-drop_no}
+use Rattle.std.proofs.Common.{◌≡◌, ℕ, ◌<◌, ◌≤◌, Bool, true, false, not, ◌||◌, ◌⊎◌, inl, inr, List, length, drop, get_or, refl, sym, ap, subst, ◌∙◌, arith}
+use Rattle.std.specs.List.{prefix_len}
+use Rattle.std.proofs.lemmas.List.Sums.{prefix_len_passes, prefix_len_stops, prefix_len-drop_all, prefix_len-drop_no}
 use Rattle.std.proofs.lemmas.List.{get_or-drop, length-drop}
 use Rattle.std.proofs.lemmas.Bool.{cases_lt}
 use Rattle.cob_edit.specs.declared.place.Place.{Place}
@@ -63,16 +62,6 @@ point_ends Digit h = refl
 point_ends Point h = refl
 point_ends (Fixed m) h = refl
 point_ends AssumedPoint h = refl
-
-run_is : (p : Place) → is_run p ≡ true → is_run_or_insertion p ≡ true
-run_is (Inserted b) h = refl
-run_is (Suppressed f) h = refl
-run_is Floating h = refl
-run_is (First m) h = refl
-run_is Digit h = h
-run_is Point h = h
-run_is (Fixed m) h = h
-run_is AssumedPoint h = h
 
 -- a place that is neither of the run nor a point
 abbrev pub is_still : Place → Bool

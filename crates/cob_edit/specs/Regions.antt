@@ -1,5 +1,5 @@
 -- The region and the sign of a numeric edited picture, in the words of the editing rules.
-use Rattle.std.specs.Prelude.{◌≡◌, ℕ, ◌<◌, ◌≤◌, ◌⊎◌, Bool, true, false, List, length, IsTrue}
+use Rattle.std.specs.Prelude.{◌≡◌, ℕ, ◌<◌, ◌≤◌, ◌⊎◌, Bool, true, false, List, length}
 use Rattle.cob_picture.specs.declared.category.Category.TheVariants.{NumericEdited}
 use Rattle.cob_picture.specs.Positions.{Seen}
 use Rattle.cob_picture.specs.Counts.{signed}
