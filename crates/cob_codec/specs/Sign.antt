@@ -14,9 +14,10 @@ sign_meaning signed code =
 abbrev pub sign_code : Bool → Bool → ℕ
 sign_code signed negative = if signed then (if negative then 0xD else 0xC) else 0xF
 
--- The byte of the sign in an item of the given number of bytes: the last, or the first where the sign is leading.
-abbrev pub sign_place : Bool → ℕ → ℕ
-sign_place leading count = if leading then 0 else count - 1
+-- The byte of the sign in an item of the given number of bytes: the last, or the first where the item is signed and its sign
+-- leads. In an item without sign it is the last, whatever SIGN says.
+abbrev pub sign_place : (signed leading : Bool) → ℕ → ℕ
+sign_place signed leading count = if signed && leading then 0 else count - 1
 
 -- A number of these digits is negative where its sign is minus and it is not zero: minus zero is zero.
 abbrev pub IsSigned : Bool → List ℕ → Bool → Type 0

@@ -17,9 +17,9 @@ pub record IsZoned (count : ℕ) (signed leading : Bool) (bytes : List ℕ) (neg
   pub long : length bytes ≡ count
   pub low_halves : digits ≡ map digit_of bytes
   pub valid : IsDigits digits
-  pub zones : (k : ℕ) → k < count → k ≢ sign_place leading count → zone_of (slice_index bytes k) ≡ 0xF
+  pub zones : (k : ℕ) → k < count → k ≢ sign_place signed leading count → zone_of (slice_index bytes k) ≡ 0xF
   pub minus : Bool
-  pub meaning : sign_meaning signed (zone_of (slice_index bytes (sign_place leading count))) ≡ Some minus
+  pub meaning : sign_meaning signed (zone_of (slice_index bytes (sign_place signed leading count))) ≡ Some minus
   pub sign : IsSigned minus digits negative
 
 -- Each digit in zone F.
@@ -29,5 +29,5 @@ digit_bytes digits = map (λ d. 0xF0 + d) digits
 -- The bytes that are written: each digit in zone F, but in the sign's place, where the zone is the sign's code.
 abbrev pub zoned_form : Bool → Bool → Bool → List ℕ → List ℕ
 zoned_form signed leading negative digits =
-    let place = sign_place leading (length digits) in
+    let place = sign_place signed leading (length digits) in
     slice_set (digit_bytes digits) place (sign_code signed negative * 16 + slice_index digits place)

@@ -8,9 +8,10 @@ use Rattle.cob_codec.specs.Zoned.{zone_of, digit_of, digit_bytes, IsZoned, zoned
 use Rattle.cob_codec.specs.SignLaws.{digit_small, code_meaning, one_sign, held, held_sign}
 
 -- the sign's place is one of the bytes
-pub place_within : (leading : Bool) (count : ℕ) → 0 < count → sign_place leading count < count
-place_within true count some = some
-place_within false count some = omega arith
+pub place_within : (signed leading : Bool) (count : ℕ) → 0 < count → sign_place signed leading count < count
+place_within true true count some = some
+place_within true false count some = omega arith
+place_within false leading count some = omega arith
 
 -- each digit byte has its digit in the low half and F in the high half
 pub low_half : (d : ℕ) → d < 10 → (240 + d) % 16 ≡ d
@@ -44,20 +45,20 @@ stored_length signed leading negative ds = simp (length-set, length-map)
 pub one_number : (count : ℕ) (signed leading : Bool) (bytes : List ℕ) (a b : Bool) (ds es : List ℕ) → IsZoned count signed leading bytes a ds → IsZoned count signed leading bytes b es → (a ≡ b) × (ds ≡ es)
 one_number count signed leading bytes a b ds es p q =
     let digits : ds ≡ es = p.low_halves ∙ sym q.low_halves in
-    let code : ℕ = zone_of (get_or bytes (sign_place leading count) 0) in
+    let code : ℕ = zone_of (get_or bytes (sign_place signed leading count) 0) in
     (one_sign signed code code a b p.minus q.minus ds es refl digits p.meaning q.meaning p.sign q.sign, digits)
 
 pub held_zoned : (count : ℕ) (signed leading : Bool) (bytes : List ℕ) (negative : Bool) (ds : List ℕ) → IsZoned count signed leading bytes negative ds → IsHeld count signed negative ds
 held_zoned count signed leading bytes negative ds p =
-    held count signed p.minus negative (zone_of (get_or bytes (sign_place leading count) 0)) ds (ap length p.low_halves ∙ length-map bytes digit_of ∙ p.long) p.valid p.meaning p.sign
+    held count signed p.minus negative (zone_of (get_or bytes (sign_place signed leading count) 0)) ds (ap length p.low_halves ∙ length-map bytes digit_of ∙ p.long) p.valid p.meaning p.sign
 
 -- what was stored reads back
 pub reads_back : (count : ℕ) (signed leading negative : Bool) (ds : List ℕ) → 0 < count → IsHeld count signed negative ds → IsZoned count signed leading (zoned_form signed leading negative ds) negative ds
 reads_back count signed leading negative ds some number =
-    let place : ℕ = sign_place leading (length ds) in
+    let place : ℕ = sign_place signed leading (length ds) in
     let code : ℕ = sign_code signed negative in
-    let within : place < length ds = place_within leading (length ds) (omega arith) in
-    let same : sign_place leading count ≡ place = ap (sign_place leading) (sym number.count_is) in
+    let within : place < length ds = place_within signed leading (length ds) (omega arith) in
+    let same : sign_place signed leading count ≡ place = ap (sign_place signed leading) (sym number.count_is) in
     let small : get_or ds place 0 < 10 = digit_small ds place number.valid within in
     let bytes : List ℕ = digit_bytes ds in
     let inside : place < length bytes = omega (arith, length-map ds (λ d. 240 + d)) in

@@ -17,7 +17,8 @@ pub struct Shape {
     pub scale: i8,
     /// Whether the picture has an S.
     pub signed: bool,
-    /// Whether the sign leads (SIGN LEADING); else it trails. Packed and binary items look at it in no way.
+    /// Whether the sign leads (SIGN LEADING); else it trails. Packed and binary items look at it in no way, nor does a zoned one that is
+    /// not signed.
     pub leading: bool,
     pub ghost some: { 0 < digits },
     pub ghost most: { digits ≤ most_digits },

@@ -13,8 +13,8 @@ use cob_decimal::{Digits, Number};
 
 /// Zoned decimal (USAGE DISPLAY): a byte for each digit.
 ///
-/// The low half of a byte is the digit, the high half its zone: F, but in the sign's place, the last byte or with SIGN LEADING the
-/// first. There A, C, E and F are plus, and B and D minus where the item is signed; C, D and, where it is not signed, F are
+/// The low half of a byte is the digit, the high half its zone: F, but in the sign's place, the last byte or in a signed
+/// item with SIGN LEADING the first. There A, C, E and F are plus, and B and D minus where the item is signed; C, D and, where it is not signed, F are
 /// written. IBM Enterprise COBOL for z/OS has these bytes under NUMPROC(NOPFD).
 pub struct Zoned;
 
@@ -51,18 +51,18 @@ impl Storage for Zoned {
     fn store(shape: &Shape, number: &Number, bytes: &mut [u8]) {
         let digits = number.digits().as_slice();
         put_digits(bytes, digits);
-        let place = sign_at(shape.leading, bytes.len());
+        let place = sign_at(shape.signed, shape.leading, bytes.len());
         bytes[place] = code_of(shape.signed, number.negative()) * 16 + digits[place];
     }
 }
 
 /// The place of the sign among the bytes.
-fn sign_at(leading: bool, count: usize) -> usize
+fn sign_at(signed: bool, leading: bool, count: usize) -> usize
     requires { 0 < count }
-    ensures place { result ≡ sign_place leading count }
+    ensures place { result ≡ sign_place signed leading count }
     ensures within { result < count }
 {
-    if leading { 0 } else { count - 1 }
+    if signed && leading { 0 } else { count - 1 }
 }
 
 /// The number that zoned bytes represent, if they do.
@@ -74,7 +74,7 @@ fn read_zoned(shape: &Shape, bytes: &[u8]) -> Option<Number>
     ensures none { IfNone result ((negative : Bool) (digits : List ℕ)
         → ¬ IsZoned shape.now.digits shape.now.signed shape.now.leading bytes.now negative digits) }
 {
-    let place = sign_at(shape.leading, bytes.len());
+    let place = sign_at(shape.signed, shape.leading, bytes.len());
     let mut digits = Digits::new();
     for (at, byte) in bytes.iter().enumerate() {
         let digit = *byte % 16;

@@ -5,3 +5,5 @@ pub mod ExtractLemmas
 pub mod OneValueLemmas
 pub mod PicturedLemmas
 pub mod PlaceLemmas
+pub mod RegionLemmas
+pub mod EditedLemmas

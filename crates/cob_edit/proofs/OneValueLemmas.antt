@@ -13,7 +13,7 @@ use Rattle.cob_edit.specs.declared.place.Mark.TheVariants.{Currency, PlusOrMinus
 use Rattle.cob_edit.specs.declared.place.Fill.{Fill}
 use Rattle.cob_edit.specs.declared.place.Fill.TheVariants.{Space, Asterisk}
 use Rattle.cob_edit.specs.Places.{mark_byte, tells, fill_byte, is_digit, is_run_or_insertion, has_byte, is_fixed_sign, is_floating_sign}
-use Rattle.cob_edit.specs.Editing.{region_start, region_end, place_at, digit_of, IsCut, hidden, shown, cell, printed, empty_cell, has_stars, shows_nothing, shows_sign, Fits, OneReading}
+use Rattle.cob_edit.specs.Editing.{region_start, region_end, place_at, digit_of, IsCut, hidden, shown, cell, printed, empty_cell, has_stars, shows_nothing, IsText, shows_sign, Fits}
 use Rattle.cob_edit.proofs.EditingLemmas.{region_bytes, region_run, region_inside}
 
 -- ---- texts as the cells of places
@@ -446,7 +446,9 @@ and_not a true b h k = let no : b ≡ false = k in absurd (ends a b h no)
     ends false b h e = false_and b h
 and_not a false b h k = refl
 
-pub one_reading : OneReading
+-- each text is that of one sign and one list of digits at most
+pub one_reading : (rs : List Place) (blank m n : Bool) (ds es bytes : List ℕ) → Fits rs m ds → Fits rs n es
+    → IsText rs blank m ds bytes → IsText rs blank n es bytes → (m ≡ n) × (ds ≡ es)
 one_reading rs blank m n ds es bytes dr er p q =
     go (shows_nothing rs blank ds) refl (shows_nothing rs blank es) refl p q
   where

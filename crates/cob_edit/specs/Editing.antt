@@ -115,16 +115,6 @@ pub record Fits (ps : List Place) (negative : Bool) (ds : List ℕ) : Type 0 whe
   pub nonzero : IsTrue negative → are_zero ds ≡ false
   pub sign : IsTrue negative → IsTrue (shows_sign ps)
 
--- each text is that of one sign and one list of digits at most
-abbrev pub OneReading : Type 0
-OneReading =
-    (ps : List Place) (blank m n : Bool) (ds es bytes : List ℕ)
-    → Fits ps m ds
-    → Fits ps n es
-    → IsText ps blank m ds bytes
-    → IsText ps blank n es bytes
-    → (m ≡ n) × (ds ≡ es)
-
 -- ---- reading a text back
 
 -- the digit that a byte shows, and 0 for a byte that shows none

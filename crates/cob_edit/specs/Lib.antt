@@ -3,3 +3,4 @@ pub mod CodePage
 pub mod Editing
 pub mod Pictured
 pub mod Places
+pub mod Regions

@@ -10,7 +10,8 @@
 //! that it answers None exactly where the bytes are no number's text. `edit_text` puts at each place the byte that `HasCharacters`
 //! names (`text`). Over the definitions alone, `one_text`, `some_text` and `one_value` say that each number has one text and each text
 //! at most one number, `one_spelling` that characters have one text, and `prints_characters` that the bytes are those of the characters
-//! in code page 037.
+//! in code page 037. For numeric edited pictures, `regions_are_of_runs` says in the words of the editing rules which places are the
+//! region whose zeros are suppressed, and `signs_are_shown` that a sign shows exactly where the picture is signed.
 //!
 //! The crate stands on cob_picture for the positions of a picture, on cob_decimal for numbers and their alignment, and on cob_cp037
 //! for the code page. Nothing here takes memory, and the work grows with the size of the picture.
@@ -25,7 +26,10 @@ mod region;
 mod spelling;
 mod text;
 
-pub use crate::laws::{one_spelling, one_text, one_value, prints_characters, some_text};
+pub use crate::laws::{
+    one_spelling, one_text, one_value, prints_characters, regions_are_of_runs, signs_are_shown,
+    some_text,
+};
 pub use crate::numbers::{deedit, edit};
 pub use crate::spelling::edit_text;
 

@@ -4,7 +4,7 @@ ghost use Rattle.std.specs.Prelude.{◌≡◌, ◌<◌, ◌≤◌, ◌↔◌, le
 ghost use Rattle.cob_limits.specs.Limits.{most_digits};
 ghost use Rattle.cob_decimal.specs.Decimal.{IsDigits};
 ghost use Rattle.cob_edit.specs.Places.{is_digit, bytes_of};
-ghost use Rattle.cob_edit.specs.Editing.{IsText, Fits, shown_digit, extract, OneReading};
+ghost use Rattle.cob_edit.specs.Editing.{IsText, Fits, shown_digit, extract};
 
 use crate::MAX_PLACES;
 use crate::place::Place;
