@@ -1,4 +1,5 @@
 pub mod Numbers
+pub mod Literals
 pub mod Constants
 pub mod Names
 pub mod Breaking

@@ -1,9 +1,9 @@
 -- The entries that the words of a text are, and the rules on words that a text breaks.
-use Rattle.std.specs.Prelude.{◌≡◌, ◌≢◌, ◌⊎◌, ℕ, ◌<◌, ◌≤◌, Bool, true, false, not, List, [], ◌∷◌, length, count_by, nat_le, ◌&&◌, Option, Some, None, option_map}
+use Rattle.std.specs.Prelude.{◌≡◌, ◌≢◌, ◌⊎◌, ℕ, ◌<◌, ◌≤◌, Bool, true, false, not, List, [], ◌∷◌, length, count_by, Option, Some, None, option_map}
 use Rattle.cob_source.specs.Tokens.{Lexeme}
 use Rattle.cob_picture.specs.Pictures.{IsBroken as IsBrokenPicture}
 use Rattle.cob_limits.specs.Limits.{longest_literal, most_digits, most_entries}
-use Rattle.cob_decimal.specs.Literals.{Literal, IsLiteral, literal_text, AreDigits}
+use Rattle.cob_decimal.specs.Literals.{Literal, AreDigits}
 use Rattle.cob_copybook_clauses.specs.Names.{IsName}
 use Rattle.cob_copybook_clauses.specs.Written.{WrittenConstant, Word, Quoted, Repeated, WrittenTable, WrittenEntry}
 use Rattle.cob_copybook_clauses.specs.Entries.{IsWritten, IsCondition, is_condition, IsLeftOut, sentences}
@@ -11,6 +11,7 @@ use Rattle.cob_copybook_entries.specs.declared.fault.BookRule.{BookRule}
 use Rattle.cob_copybook_entries.specs.declared.fault.BookRule.TheVariants as rule
 use Rattle.cob_copybook_entries.specs.Described.{Described}
 use Rattle.cob_copybook_entries.specs.Meaning.{Means, IsWhole, AreNumbers}
+use Rattle.cob_copybook_entries.specs.Parts.{IsLiteralOf, count_digits}
 
 -- nothing that is left out by name stands in the entry
 abbrev pub HasNoLeftOut : List Lexeme → Type 0
@@ -55,17 +56,14 @@ abbrev pub BreaksNumbers : Option WrittenTable → Type 0
 BreaksNumbers None = ⊥
 BreaksNumbers (Some t) = BreaksNumber t
 
--- a VALUE's word is no numeric literal
+-- a VALUE's word is no numeric literal, of any number of digits
 abbrev pub BreaksConstant : Option WrittenConstant → Type 0
-BreaksConstant (Some (Word text)) = (l : Literal) → IsLiteral l → text ≢ literal_text l
+BreaksConstant (Some (Word text)) = (l : Literal) → IsLiteralOf l text → ⊥
 BreaksConstant _ = ⊥
 
-abbrev pub is_digit : ℕ → Bool
-is_digit c = nat_le 48 c && nat_le c 57
-
--- a VALUE's literal is too long, or is ALL with an empty one, or has too many digits
+-- a VALUE's numeric literal has too many digits; a quoted one is too long, or is ALL with an empty one
 abbrev pub BreaksValue : Option WrittenConstant → Type 0
-BreaksValue (Some (Word text)) = most_digits < count_by is_digit text
+BreaksValue (Some (Word text)) = (l : Literal) × IsLiteralOf l text × (most_digits < count_digits l)
 BreaksValue (Some (Quoted text)) = longest_literal < length text
 BreaksValue (Some (Repeated text)) = (length text ≡ 0) ⊎ (longest_literal < length text)
 BreaksValue _ = ⊥

@@ -1,5 +1,7 @@
+pub mod Faults
 pub mod Described
 pub mod Meaning
+pub mod Parts
 pub mod Books
 pub mod Breaks
 pub mod Signs

@@ -1,7 +1,8 @@
 //! Rules of copybooks, and faults.
 
 ghost use Rattle.std.specs.Prelude.{◌≡◌};
-ghost use Rattle.cob_copybook_entries.specs.declared.fault.BookRule.TheVariants.{Memory, Source};
+ghost use Rattle.cob_copybook_entries.specs.declared.fault.BookRule.TheVariants.{Memory};
+ghost use Rattle.cob_copybook_entries.specs.Faults.{from_source};
 
 use arrayvec::ArrayString;
 use cob_picture::PictureFault;
@@ -16,7 +17,7 @@ pub const MAX_WORD: usize = 20;
 /// A rule of copybooks that a text breaks.
 #[derive(Clone, Copy, Debug, PartialEq, Eq)]
 pub enum BookRule {
-    /// A rule of the reference format, T1 to T9.
+    /// A rule of the reference format, T1 to T6; a reader of words that was refused memory is told as `Memory`.
     Source(SourceRule),
     /// B1: no data entry.
     NoEntry,
@@ -113,12 +114,18 @@ pub struct BookFault {
 }
 
 impl From<SourceFault> for BookFault {
-    ghost from_gives = { λ f e. e ≡ record { rule = Source f.rule; line = f.line } };
+    ghost from_gives = { λ f e. e ≡ from_source f };
 
     fn from(fault: SourceFault) -> BookFault {
-        BookFault {
-            rule: BookRule::Source(fault.rule),
-            line: fault.line,
+        match fault.rule {
+            SourceRule::Memory => BookFault {
+                rule: BookRule::Memory,
+                line: 0,
+            },
+            rule => BookFault {
+                rule: BookRule::Source(rule),
+                line: fault.line,
+            },
         }
     }
 }

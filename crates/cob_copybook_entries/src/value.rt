@@ -1,20 +1,22 @@
 //! The constants of VALUE clauses.
 
-ghost use Rattle.std.specs.Prelude.{◌≡◌, ◌≢◌, ◌<◌, ◌≤◌, ◌↔◌, length, count_by, Some, IfOk, IfErr, IsOkAnd, IsTrue};
-ghost use Rattle.cob_limits.specs.Limits.{longest_literal, most_digits};
+ghost use Rattle.std.specs.Prelude.{◌≡◌, ◌<◌, ◌≤◌, ◌↔◌, false, length, IfOk, IfErr, IsOkAnd, IsTrue, IsFalse};
+ghost use Rattle.cob_limits.specs.Limits.{longest_literal};
+ghost use Rattle.cob_decimal.specs.Literals.{Literal, AreDigits};
 ghost use Rattle.cob_copybook_clauses.specs.Written.{Word, written_constant};
 ghost use Rattle.cob_copybook_entries.specs.declared.fault.BookRule.TheVariants as rule;
 ghost use Rattle.cob_copybook_entries.specs.Described.{Constant as Meant, Numeric, constant};
 ghost use Rattle.cob_copybook_entries.specs.Meaning.{IsConstantOf, IsShort};
-ghost use Rattle.cob_copybook_entries.specs.Books.{is_digit};
+ghost use Rattle.cob_copybook_entries.specs.Parts.{IsLiteralOf, behind_sign, IsUnsigned};
 ghost use Rattle.cob_copybook_entries.specs.Breaks.{IsConstantFault};
 ghost use Rattle.cob_copybook_entries.specs.Signs.{begins_with_sign};
 
 use crate::fault::BookRule;
+use crate::number::are_digits;
 use arrayvec::ArrayVec;
 use cob_copybook_clauses::{Constant, Figurative};
 use cob_decimal::Number;
-use cob_limits::{MAX_DIGITS, MAX_LITERAL};
+use cob_limits::MAX_LITERAL;
 use std::marker::Model;
 
 /// The characters of a quoted literal: at most 160.
@@ -98,8 +100,8 @@ impl Value {
 ///
 /// # Errors
 ///
-/// `Grammar` for a word that is no numeric literal; `Value` where a literal is too long, or is empty behind ALL, or a word has too
-/// many digits.
+/// `Grammar` for a word that is no numeric literal; `Value` where a quoted literal is too long, or is empty behind ALL, or a numeric
+/// one has too many digits.
 pub(crate) fn value_of(written: &Constant<'_>) -> Result<Value, BookRule>
     ensures found { IfOk result (λ v. IsConstantOf (written_constant written.now) (constant v)) }
     ensures only { (c : Meant) → IsConstantOf (written_constant written.now) c → IsOkAnd result (λ v. constant v ≡ c) }
@@ -125,7 +127,7 @@ pub(crate) fn value_of(written: &Constant<'_>) -> Result<Value, BookRule>
 ///
 /// # Errors
 ///
-/// `Grammar` for a word that is no numeric literal, but `Value` where it has too many digits.
+/// `Grammar` for a word that is no numeric literal, and `Value` for one of too many digits.
 fn number_of(text: &[u8]) -> Result<Number, BookRule>
     ensures found { IfOk result (λ n. IsConstantOf (Word text.now) (Numeric (begins_with_sign text.now) n.negative n.digits n.scale)) }
     ensures only { (c : Meant) → IsConstantOf (Word text.now) c → IsOkAnd result (λ n. Numeric (begins_with_sign text.now) n.negative n.digits n.scale ≡ c) }
@@ -133,7 +135,7 @@ fn number_of(text: &[u8]) -> Result<Number, BookRule>
 {
     match Number::of_text(text) {
         Some(number) => Ok(number),
-        None if has_many_digits(text) => Err(BookRule::Value),
+        None if is_literal(text) => Err(BookRule::Value),
         None => Err(BookRule::Grammar),
     }
 }
@@ -145,14 +147,48 @@ fn is_signed(text: &[u8]) -> bool
     matches!(text.first(), Some(b'+' | b'-'))
 }
 
-/// Whether a word has more digits than a number may have.
-fn has_many_digits(text: &[u8]) -> bool
-    ensures { IsTrue result ↔ (most_digits < count_by is_digit text.now) }
+/// Whether a word is a numeric literal, of however many digits.
+fn is_literal(text: &[u8]) -> bool
+    ensures yes { IsTrue result → (l : Literal) × IsLiteralOf l text.now }
+    ensures no { IsFalse result → (l : Literal) → IsLiteralOf l text.now → ⊥ }
 {
-    text.iter()
-        .filter(|character| character.is_ascii_digit())
-        .count()
-        > MAX_DIGITS
+    is_unsigned(without_sign(text))
+}
+
+/// What stands behind the sign of a text, or the whole text.
+fn without_sign(text: &[u8]) -> &[u8]
+    ensures { result.now ≡ behind_sign text.now }
+{
+    match text.split_first() {
+        Some((b'+' | b'-', behind)) => behind,
+        _ => text,
+    }
+}
+
+/// Whether a text is a numeric literal without a sign: digits, and perhaps a point and digits, or a point and digits.
+fn is_unsigned(text: &[u8]) -> bool
+    ensures { IsTrue result ↔ IsUnsigned false text.now }
+{
+    let mut rest = text;
+    let mut some = false;
+    while let Some((character, behind)) = rest.split_first() {
+        if *character == b'.' {
+            return is_fraction(behind);
+        }
+        if !character.is_ascii_digit() {
+            return false;
+        }
+        some = true;
+        rest = behind;
+    }
+    some
+}
+
+/// Whether a text is what stands behind a point: digits, and one at least.
+fn is_fraction(text: &[u8]) -> bool
+    ensures { IsTrue result ↔ (0 < length text.now) × AreDigits text.now }
+{
+    !text.is_empty() && are_digits(text)
 }
 
 /// The characters of a quoted literal.
