@@ -4,8 +4,8 @@ use Rattle.std.proofs.lemmas.Grind.{common_steps}
 use Rattle.std.proofs.lemmas.List.Concat.{flat_map-append}
 use Rattle.std.proofs.Math.ListN.{length-append}
 use Rattle.std.specs.List.{AllByRecursion}
-use Rattle.std.specs.Io.KnownBytes.{Consumes, Appends}
-use Rattle.cob_records.specs.Device.{Told}
+use Rattle.std.specs.Io.KnownBytes.{Consumes, append_known}
+use Rattle.cob_records.specs.Device.{Told, Takes}
 use Rattle.cob_records.specs.Frame.{Reads, Puts, framed, IsLength, IsRecord, frame_size, taken_of}
 use Rattle.cob_records.specs.declared.records.Form.{Form}
 use Rattle.cob_records.specs.declared.records.Form.TheVariants.{Fixed, Variable}
@@ -33,15 +33,19 @@ pub record Carried (setup : Setup) (n written : ℕ) (r0 r w0 w : Option (List �
   pub count : length pairs ≡ n
   pub sum : written ≡ min (length (frames_out setup pairs)) (2 ^ 64 - 1)
   pub consumed : Consumes r0 r (frames_in setup pairs)
-  pub appended : Appends w0 w (frames_out setup pairs)
+  pub appended : w ≡ append_known w0 (frames_out setup pairs)
 
 consumes_none : (r : Option (List ℕ)) → Consumes r r []
 consumes_none None = tt
 consumes_none (Some xs) = refl
 
-appends_none : (w : Option (List ℕ)) → Appends w w []
-appends_none None = tt
-appends_none (Some xs) = sym (append-nil xs)
+append_none : (w : Option (List ℕ)) → w ≡ append_known w []
+append_none None = refl
+append_none (Some xs) = ap Some (sym (append-nil xs))
+
+pub append_twice : (a b : List ℕ) (w0 w1 w2 : Option (List ℕ)) → w1 ≡ append_known w0 a → w2 ≡ append_known w1 b → w2 ≡ append_known w0 (a ++ b)
+append_twice a b None w1 w2 e1 e2 = rw e1 at e2
+append_twice a b (Some xs) w1 w2 e1 e2 = (rw e1 at e2) ∙ ap Some (append_assoc xs a b)
 
 pub start : (setup : Setup) (r w : Option (List ℕ)) → Carried setup 0 0 r r w w
 start setup r w = record {
@@ -50,7 +54,7 @@ start setup r w = record {
   count = refl;
   sum = refl;
   consumed = consumes_none r;
-  appended = appends_none w;
+  appended = append_none w;
 }
 
 -- a fact about what is left after the bytes that were consumed
@@ -61,23 +65,10 @@ told_through a (Some xs) None r2 P Q c t f = absurd c
 told_through a (Some xs) (Some left) None P Q c t f = absurd t
 told_through a (Some xs) (Some left) (Some rest) P Q c t f = rw c (f left rest t)
 
--- a fact about what was taken after the bytes that were appended
-pub told_after : (a : List ℕ) (w0 w1 w2 : Option (List ℕ)) (P Q : List ℕ → List ℕ → Type 0) → Appends w0 w1 a → Told w1 w2 P
-    → ((before mid now : List ℕ) → mid ≡ before ++ a → P mid now → Q before now) → Told w0 w2 Q
-told_after a None w1 w2 P Q c t f = tt
-told_after a (Some before) None w2 P Q c t f = absurd c
-told_after a (Some before) (Some mid) None P Q c t f = absurd t
-told_after a (Some before) (Some mid) (Some now) P Q c t f = f before mid now c t
-
 consumes_from : (a : List ℕ) (r0 r : Option (List ℕ)) → Told r0 r (λ bytes rest. bytes ≡ a ++ rest) → Consumes r0 r a
 consumes_from a None r t = tt
 consumes_from a (Some xs) None t = absurd t
 consumes_from a (Some xs) (Some ys) t = t
-
-appends_from : (a : List ℕ) (w0 w : Option (List ℕ)) → Told w0 w (λ before now. now ≡ before ++ a) → Appends w0 w a
-appends_from a None w t = tt
-appends_from a (Some xs) None t = absurd t
-appends_from a (Some xs) (Some ys) t = t
 
 each_more : (setup : Setup) (pairs : List (List ℕ × List ℕ)) (pair : List ℕ × List ℕ) → AllByRecursion (IsConverted setup) pairs
     → IsConverted setup pair → AllByRecursion (IsConverted setup) (pairs ++ pair ∷ [])
@@ -93,10 +84,10 @@ pub step : (setup : Setup) (n written size count made : ℕ) (slot room : List �
     → Carried setup n written r0 r1 w0 w1
     → Told r1 r2 (Reads setup.in_form (in_length setup) slot (Ok (Some count))) → IsRecord setup.in_form (in_length setup) (take count slot)
     → IsSized setup (take count slot) → Becomes setup (take count slot) (take made room)
-    → Told w1 w2 (Puts (framed setup.out_form (take made room)) (Ok tt))
+    → Takes w1 w2 (Puts (framed setup.out_form (take made room)) (Ok tt))
     → size ≡ length (framed setup.out_form (take made room))
     → Carried setup (n + 1) (min (written + size) (2 ^ 64 - 1)) r0 r2 w0 w2
-step setup n written size count made slot room r0 r1 r2 w0 w1 w2 so_far read whole fits converts put sized =
+step setup n written size count made slot room r0 r1 r2 w0 w1 w2 so_far read whole fits converts (part, is, put) sized =
     let pair : List ℕ × List ℕ = (take count slot, take made room) in
     let ins : frames_in setup (so_far.pairs ++ pair ∷ []) ≡ frames_in setup so_far.pairs ++ framed setup.in_form (take count slot)
     = flat_map-append (λ (p : List ℕ × List ℕ). framed setup.in_form p.0) so_far.pairs (pair ∷ []) ∙ ap (λ xs. frames_in setup so_far.pairs ++ xs) (append-nil (framed setup.in_form (take count slot))) in
@@ -108,7 +99,8 @@ step setup n written size count made slot room r0 r1 r2 w0 w1 w2 so_far read who
       count = omega (arith, length-append so_far.pairs (pair ∷ []), so_far.count);
       sum = rw outs (omega (arith, length-append (frames_out setup so_far.pairs) (framed setup.out_form (take made room)), so_far.sum, sized));
       consumed = consumes_from _ r0 r2 (told_through _ r0 r1 r2 _ _ so_far.consumed read (λ left rest p. rw (ins, p.2) (sym (append_assoc _ _ rest))));
-      appended = appends_from _ w0 w2 (told_after _ w0 w1 w2 _ _ so_far.appended put (λ before mid now e p. rw (outs, p, e) (append_assoc before _ _)));
+      appended = append_twice (frames_out setup so_far.pairs) part w0 w1 w2 so_far.appended put
+          ∙ ap (λ xs. append_known w0 xs) (ap (λ xs. frames_out setup so_far.pairs ++ xs) is ∙ sym outs);
     }
 
 -- the number of records and the written bytes, counted from the list of records
@@ -119,25 +111,21 @@ ends_at setup n written count sent left rest part (Err fault) e s (number, bytes
     rw e (number, omega (arith, bytes, s), stops)
 
 -- the end of a run
-pub finish : (setup : Setup) (n written : ℕ) (answer : Result ℕ RunFault) (r0 r1 r2 w0 w1 w2 : Option (List ℕ)) (P Q : List ℕ → List ℕ → Type 0)
-    → Carried setup n written r0 r1 w0 w1 → Told r1 r2 P → Told w1 w2 Q
-    → ((left rest mid now : List ℕ) → P left rest → Q mid now
-    → (part : List ℕ) × (now ≡ mid ++ part) × Ends setup n written left rest part answer)
-    → Told r0 r2 (λ bytes rest. Told w0 w2 (Ran setup answer bytes rest))
-finish setup n written answer r0 r1 r2 w0 w1 w2 P Q so_far read put f =
-    told_through (frames_in setup so_far.pairs) r0 r1 r2 P (λ bytes rest. Told w0 w2 (Ran setup answer bytes rest)) so_far.consumed read
-    (λ left rest p. told_after (frames_out setup so_far.pairs) w0 w1 w2 Q (Ran setup answer (frames_in setup so_far.pairs ++ left) rest) so_far.appended put
-    (λ before mid now e q.
-    let (part, e2, ends) = f left rest mid now p q in
-    record {
+pub finish : (setup : Setup) (n written : ℕ) (answer : Result ℕ RunFault) (part : List ℕ) (r0 r1 r2 w0 w1 w2 : Option (List ℕ)) (P : List ℕ → List ℕ → Type 0)
+    → Carried setup n written r0 r1 w0 w1 → Told r1 r2 P → w2 ≡ append_known w1 part
+    → ((left rest : List ℕ) → P left rest → Ends setup n written left rest part answer)
+    → Told r0 r2 (λ bytes rest. Ran setup answer bytes rest w0 w2)
+finish setup n written answer part r0 r1 r2 w0 w1 w2 P so_far read put f =
+    told_through (frames_in setup so_far.pairs) r0 r1 r2 P (λ bytes rest. Ran setup answer bytes rest w0 w2) so_far.consumed read
+    (λ left rest p. record {
       pairs = so_far.pairs;
       left = left;
       part = part;
       frames = refl;
       each = so_far.each;
-      output = e2 ∙ ap (λ xs. xs ++ part) e ∙ append_assoc before (frames_out setup so_far.pairs) part;
-      ends = ends_at setup n written (length so_far.pairs) (length (frames_out setup so_far.pairs)) left rest part answer so_far.count so_far.sum ends;
-    }))
+      output = append_twice (frames_out setup so_far.pairs) part w0 w1 w2 so_far.appended put;
+      ends = ends_at setup n written (length so_far.pairs) (length (frames_out setup so_far.pairs)) left rest part answer so_far.count so_far.sum (f left rest p);
+    })
 
 pub whole_of : (form : Form) (greatest count : ℕ) (slot : List ℕ) → IsLength form greatest count → length slot ≡ greatest
     → IsRecord form greatest (take count slot)
@@ -152,10 +140,6 @@ sized_of form size made room e h =
     let same : length (take made room) ≡ made = grind (arith, common_steps) in
     rw (length-framed form (take made room), same) e
 
-told_same : (w : Option (List ℕ)) → Told w w (λ mid now. now ≡ mid)
-told_same None = tt
-told_same (Some xs) = refl
-
 -- what was refused says nothing of the caller's slice
 refused_reading : (form : Form) (greatest : ℕ) (slot left rest : List ℕ) (fault : RecordFault) → Reads form greatest slot (Err fault) left rest → Reads form greatest [] (Err fault) left rest
 refused_reading form greatest slot left rest (Truncated seen) reads = reads
@@ -169,15 +153,11 @@ refused_reading form greatest slot left rest (TookNothing taken) reads = absurd 
 -- a run ends where a frame can't be read
 pub read_exit : (setup : Setup) (n written : ℕ) (fault : RecordFault) (slot : List ℕ) (r0 r1 r2 w0 w1 : Option (List ℕ))
     → Carried setup n written r0 r1 w0 w1 → Told r1 r2 (Reads setup.in_form (in_length setup) slot (Err fault)) → n < most_records
-    → Told r0 r2 (λ bytes rest. Told w0 w1 (Ran setup (Err (record { number = n + 1; side = In; offset = 0; cause = Record fault; written = written })) bytes rest))
+    → Told r0 r2 (λ bytes rest. Ran setup (Err (record { number = n + 1; side = In; offset = 0; cause = Record fault; written = written })) bytes rest w0 w1)
 read_exit setup n written fault slot r0 r1 r2 w0 w1 so_far read low =
-    finish setup n written (Err (record { number = n + 1; side = In; offset = 0; cause = Record fault; written = written }))
-    r0 r1 r2 w0 w1 w1 (Reads setup.in_form (in_length setup) slot (Err fault)) (λ mid now. now ≡ mid) so_far read (told_same w1)
-    (λ left rest mid now p q. (
-      [],
-      q ∙ sym (append-nil mid),
-      (refl, omega (arith, so_far.sum), (low, inl (refl, (refused_reading setup.in_form (in_length setup) slot left rest fault p, refl)))),
-    ))
+    finish setup n written (Err (record { number = n + 1; side = In; offset = 0; cause = Record fault; written = written })) []
+    r0 r1 r2 w0 w1 w1 (Reads setup.in_form (in_length setup) slot (Err fault)) so_far read (append_none w1)
+    (λ left rest p. (refl, omega (arith, so_far.sum), (low, inl (refl, (refused_reading setup.in_form (in_length setup) slot left rest fault p, refl)))))
 
 stops_for : (setup : Setup) (n offset : ℕ) (left rest part : List ℕ) (side : Side) (c : StopCause) → n < most_records
     → ConversionStops setup left rest part side offset (cause_from c) → StopsFor setup n left rest part side offset (cause_from c)
@@ -190,19 +170,15 @@ pub stop_exit : (setup : Setup) (n written count : ℕ) (cause : Cause) (stop : 
     → Carried setup n written r0 r1 w0 w1
     → Told r1 r2 (Reads setup.in_form (in_length setup) slot (Ok (Some count))) → IsRecord setup.in_form (in_length setup) (take count slot)
     → IsSized setup (take count slot) → StopsAt setup (take count slot) stop → cause ≡ cause_from stop.cause → n < most_records
-    → Told r0 r2 (λ bytes rest. Told w0 w1 (Ran setup (Err (record { number = n + 1; side = stop.side; offset = stop.offset; cause = cause; written = written })) bytes rest))
+    → Told r0 r2 (λ bytes rest. Ran setup (Err (record { number = n + 1; side = stop.side; offset = stop.offset; cause = cause; written = written })) bytes rest w0 w1)
 stop_exit setup n written count cause stop slot r0 r1 r2 w0 w1 so_far read whole fits stops e low =
-    rw e (finish setup n written (Err (record { number = n + 1; side = stop.side; offset = stop.offset; cause = cause_from stop.cause; written = written }))
-    r0 r1 r2 w0 w1 w1 (Reads setup.in_form (in_length setup) slot (Ok (Some count))) (λ mid now. now ≡ mid) so_far read (told_same w1)
-    (λ left rest mid now p q. (
-      [],
-      q ∙ sym (append-nil mid),
-      (
-        refl,
-        omega (arith, so_far.sum),
-        stops_for setup n stop.offset left rest [] stop.side stop.cause low
-            (take count slot, stop, whole, p.2, fits, stops, refl, refl, refl, refl),
-      ),
+    rw e (finish setup n written (Err (record { number = n + 1; side = stop.side; offset = stop.offset; cause = cause_from stop.cause; written = written })) []
+    r0 r1 r2 w0 w1 w1 (Reads setup.in_form (in_length setup) slot (Ok (Some count))) so_far read (append_none w1)
+    (λ left rest p. (
+      refl,
+      omega (arith, so_far.sum),
+      stops_for setup n stop.offset left rest [] stop.side stop.cause low
+          (take count slot, stop, whole, p.2, fits, stops, refl, refl, refl, refl),
     )))
 
 layout_stops_for : (setup : Setup) (n offset : ℕ) (left rest part : List ℕ) (side : Side) (why : Misfit) → n < most_records
@@ -215,44 +191,36 @@ pub layout_exit : (setup : Setup) (n written count offset : ℕ) (cause : Cause)
     → Carried setup n written r0 r1 w0 w1
     → Told r1 r2 (Reads setup.in_form (in_length setup) slot (Ok (Some count))) → IsRecord setup.in_form (in_length setup) (take count slot)
     → IsMisfit setup (take count slot) why → offset ≡ offset_from why → cause ≡ refusal_from why → n < most_records
-    → Told r0 r2 (λ bytes rest. Told w0 w1 (Ran setup (Err (record { number = n + 1; side = In; offset = offset; cause = cause; written = written })) bytes rest))
+    → Told r0 r2 (λ bytes rest. Ran setup (Err (record { number = n + 1; side = In; offset = offset; cause = cause; written = written })) bytes rest w0 w1)
 layout_exit setup n written count offset cause why slot r0 r1 r2 w0 w1 so_far read whole misfit at e low =
-    rw e (finish setup n written (Err (record { number = n + 1; side = In; offset = offset; cause = refusal_from why; written = written }))
-    r0 r1 r2 w0 w1 w1 (Reads setup.in_form (in_length setup) slot (Ok (Some count))) (λ mid now. now ≡ mid) so_far read (told_same w1)
-    (λ left rest mid now p q. (
-      [],
-      q ∙ sym (append-nil mid),
-      (
-        refl,
-        omega (arith, so_far.sum),
-        layout_stops_for setup n offset left rest [] In why low
-            (take count slot, why, whole, p.2, misfit, refl, at, refl, refl),
-      ),
+    rw e (finish setup n written (Err (record { number = n + 1; side = In; offset = offset; cause = refusal_from why; written = written })) []
+    r0 r1 r2 w0 w1 w1 (Reads setup.in_form (in_length setup) slot (Ok (Some count))) so_far read (append_none w1)
+    (λ left rest p. (
+      refl,
+      omega (arith, so_far.sum),
+      layout_stops_for setup n offset left rest [] In why low
+          (take count slot, why, whole, p.2, misfit, refl, at, refl, refl),
     )))
 
-put_part : (frame : List ℕ) (fault : RecordFault) (mid now : List ℕ) → Puts frame (Err fault) mid now
-    → (part : List ℕ) × (now ≡ mid ++ part) × Puts frame (Err fault) [] part × (length part ≡ taken_of fault)
-put_part frame (WriteFailed taken) mid now (low, e) = (take taken frame, e, (low, refl), grind (arith, common_steps))
-put_part frame (TookNothing taken) mid now (low, e) = (take taken frame, e, (low, refl), grind (arith, common_steps))
-put_part frame _ mid now p = absurd p
+-- as many bytes of a frame went out as the fault counts
+put_size : (frame part : List ℕ) (fault : RecordFault) → Puts frame (Err fault) part → length part ≡ taken_of fault
+put_size frame part (WriteFailed taken) (low, e) = rw e (grind (arith, common_steps))
+put_size frame part (TookNothing taken) (low, e) = rw e (grind (arith, common_steps))
+put_size frame part _ p = absurd p
 
 -- a run ends where a frame can't be written
 pub write_exit : (setup : Setup) (n written total count made : ℕ) (fault : RecordFault) (slot room : List ℕ) (r0 r1 r2 w0 w1 w2 : Option (List ℕ))
     → Carried setup n written r0 r1 w0 w1
     → Told r1 r2 (Reads setup.in_form (in_length setup) slot (Ok (Some count))) → IsRecord setup.in_form (in_length setup) (take count slot)
-    → IsSized setup (take count slot) → Becomes setup (take count slot) (take made room) → Told w1 w2 (Puts (framed setup.out_form (take made room)) (Err fault))
+    → IsSized setup (take count slot) → Becomes setup (take count slot) (take made room) → Takes w1 w2 (Puts (framed setup.out_form (take made room)) (Err fault))
     → total ≡ min (written + taken_of fault) (2 ^ 64 - 1) → n < most_records
-    → Told r0 r2 (λ bytes rest. Told w0 w2 (Ran setup (Err (record { number = n + 1; side = Out; offset = 0; cause = Record fault; written = total })) bytes rest))
-write_exit setup n written total count made fault slot room r0 r1 r2 w0 w1 w2 so_far read whole fits converts put sum low =
-    finish setup n written (Err (record { number = n + 1; side = Out; offset = 0; cause = Record fault; written = total }))
-    r0 r1 r2 w0 w1 w2 (Reads setup.in_form (in_length setup) slot (Ok (Some count))) (Puts (framed setup.out_form (take made room)) (Err fault)) so_far read put
-    (λ left rest mid now p q.
-    let (part, e, puts, size) = put_part (framed setup.out_form (take made room)) fault mid now q in (
-      part,
-      e,
-      (
-        refl,
-        omega (arith, sum, size),
-        (low, inl (refl, ((take count slot, take made room), record { whole = whole; sized = fits; converts = converts }, p.2, puts))),
-      ),
+    → Told r0 r2 (λ bytes rest. Ran setup (Err (record { number = n + 1; side = Out; offset = 0; cause = Record fault; written = total })) bytes rest w0 w2)
+write_exit setup n written total count made fault slot room r0 r1 r2 w0 w1 w2 so_far read whole fits converts (part, puts, put) sum low =
+    let size : length part ≡ taken_of fault = put_size (framed setup.out_form (take made room)) part fault puts in
+    finish setup n written (Err (record { number = n + 1; side = Out; offset = 0; cause = Record fault; written = total })) part
+    r0 r1 r2 w0 w1 w2 (Reads setup.in_form (in_length setup) slot (Ok (Some count))) so_far read put
+    (λ left rest p. (
+      refl,
+      omega (arith, sum, size),
+      (low, inl (refl, ((take count slot, take made room), record { whole = whole; sized = fits; converts = converts }, p.2, puts))),
     ))

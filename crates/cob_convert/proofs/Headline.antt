@@ -1,5 +1,6 @@
 -- Where no call failed, a run is a conversion.
 use Rattle.std.proofs.Common.{◌≡◌, ℕ, Bool, true, false, List, [], ◌++◌, length, refl, ◌∙◌, ap, append-nil, arith, inl, inr, None, Some, Option, Ok, Err, Result}
+use Rattle.std.specs.Io.KnownBytes.{append_known}
 use Rattle.cob_records.specs.Device.{Told, counted}
 use Rattle.cob_convert.specs.declared.setup.Setup.{Setup}
 use Rattle.cob_steps.specs.declared.plan.Side.{Side}
@@ -39,20 +40,16 @@ no_part setup n sent left rest part (Err fault) ends works = part_of setup n lef
     part_of setup n left rest part side offset Subscript (low, stops) works = elim stops [ inl s ↦ s.9 | inr s ↦ s.8 ]
 
 pub headline_of : (setup : Setup) (answer : Result ℕ RunFault) (r0 r w0 w : Option (List ℕ))
-    → Told r0 r (λ bytes rest. Told w0 w (Ran setup answer bytes rest)) → is_read_stop answer ≡ false → is_write_stop answer ≡ false
-    → Told r0 r (λ bytes rest. Told w0 w (Writes setup answer bytes))
+    → Told r0 r (λ bytes rest. Ran setup answer bytes rest w0 w) → is_read_stop answer ≡ false → is_write_stop answer ≡ false
+    → Told r0 r (λ bytes rest. Writes setup answer bytes rest w0 w)
 headline_of setup answer None r w0 w t a b = tt
 headline_of setup answer (Some bytes) None w0 w t a b = absurd t
-headline_of setup answer (Some bytes) (Some rest) None w t a b = tt
-headline_of setup answer (Some bytes) (Some rest) (Some before) None t a b = absurd t
-headline_of setup answer (Some bytes) (Some rest) (Some before) (Some now) t a b =
+headline_of setup answer (Some bytes) (Some rest) w0 w t a b =
     let none : t.part ≡ [] = no_part setup (length t.pairs) (length (frames_out setup t.pairs)) t.left rest t.part answer t.ends b in (
       frames_out setup t.pairs,
-      t.output ∙ ap (λ xs. before ++ xs) (ap (λ xs. frames_out setup t.pairs ++ xs) none ∙ append-nil (frames_out setup t.pairs)),
       record {
         pairs = t.pairs;
         left = t.left;
-        rest = rest;
         frames = t.frames;
         each = t.each;
         output = refl;
@@ -60,4 +57,5 @@ headline_of setup answer (Some bytes) (Some rest) (Some before) (Some now) t a b
         read = a;
         wrote = b;
       },
+      t.output ∙ ap (λ xs. append_known w0 xs) (ap (λ xs. frames_out setup t.pairs ++ xs) none ∙ append-nil (frames_out setup t.pairs)),
     )

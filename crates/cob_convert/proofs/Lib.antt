@@ -1,4 +1,5 @@
 pub mod Carried
+pub mod Digits
 pub mod Headline
 pub mod One
 pub mod Planned

@@ -10,6 +10,10 @@ use Rattle.cob_copybook.specs.declared.role.Role.{Role}
 use Rattle.cob_copybook.specs.Books.{IsBookOf}
 use Rattle.cob_copybook_lengths.specs.Areas.{hold_varying}
 use Rattle.std.specs.Prelude.{false}
+use Rattle.cob_copybook.specs.declared.role.Role.TheVariants.{In}
+use Rattle.cob_convert.specs.declared.fault.PrepareFault.{PrepareFault}
+use Rattle.cob_convert.specs.declared.fault.PrepareFault.TheVariants.{InBook, OutBook, NotYet, Memory}
+use Rattle.cob_convert.specs.Means.{IsTaken, IsOutRefusal, IsPrepareRefusal}
 
 allowed : (input output : Forest Resolved) (pairs : List Pair) (moves : List Move) → AreMovesOf input output pairs moves → AllByRecursion (IsMove input output) moves
 allowed input output [] moves are = subst (λ (ms : List Move). AllByRecursion (IsMove input output) ms) (sym are) tt
@@ -32,3 +36,10 @@ planned text input output moves from to says = record {
 
 pub steady_of : (role : Role) (text : List ℕ) (t : Forest Resolved) → IsBookOf role text t → hold_varying t ≡ false → IsSteady t
 steady_of role text t is steady = record { described = (is.entries, is.is); steady = steady }
+
+-- a refusal of the second copybook, where the first is taken
+pub out_refused : (f : PrepareFault) (in_book out_book : List ℕ) → IsTaken In in_book → IsOutRefusal f out_book → IsPrepareRefusal f in_book out_book
+out_refused (InBook f) in_book out_book taken refused = absurd refused
+out_refused (OutBook f) in_book out_book taken refused = (taken, refused)
+out_refused (NotYet which line) in_book out_book taken (is, varies) = rw is (taken, varies)
+out_refused Memory in_book out_book taken refused = tt

@@ -1,16 +1,16 @@
 -- A run whose ends all worked: the conversion of what came, record by record.
-use Rattle.std.specs.Prelude.{◌≡◌, ℕ, false, List, [], ◌++◌, length, Result}
+use Rattle.std.specs.Prelude.{◌≡◌, ℕ, false, List, [], ◌++◌, length, Option, Result}
 use Rattle.std.specs.List.{AllByRecursion}
+use Rattle.cob_records.specs.Device.{Takes}
 use Rattle.cob_convert.specs.declared.setup.Setup.{Setup}
 use Rattle.cob_convert.specs.declared.run.RunFault.{RunFault}
 use Rattle.cob_convert.specs.Run.{IsConverted, Ends, frames_in, frames_out, is_read_stop, is_write_stop}
 
--- These bytes are the frames of records, one after another, up to a clean end, a stop or the limit; what is written are the
--- frames of what these records become; and the answer says how it ended.
-pub record Converted (setup : Setup) (bytes written : List ℕ) (answer : Result ℕ RunFault) : Type 0 where
+-- These bytes are the frames of records, one after another, up to a clean end, a stop or the limit, where the rest is still to
+-- come; what is written are the frames of what these records become; and the answer says how it ended.
+pub record Converted (setup : Setup) (bytes rest written : List ℕ) (answer : Result ℕ RunFault) : Type 0 where
   pub pairs : List (List ℕ × List ℕ)
   pub left : List ℕ
-  pub rest : List ℕ
   pub frames : bytes ≡ frames_in setup pairs ++ left
   pub each : AllByRecursion (IsConverted setup) pairs
   pub output : written ≡ frames_out setup pairs
@@ -18,6 +18,6 @@ pub record Converted (setup : Setup) (bytes written : List ℕ) (answer : Result
   pub read : is_read_stop answer ≡ false
   pub wrote : is_write_stop answer ≡ false
 
--- a sink that had taken `before` has now taken the conversion of these bytes too
-abbrev pub Writes : Setup → Result ℕ RunFault → List ℕ → List ℕ → List ℕ → Type 0
-Writes setup answer bytes before now = (written : List ℕ) × (now ≡ before ++ written) × Converted setup bytes written answer
+-- the sink took the conversion of these bytes, up to the rest
+abbrev pub Writes : Setup → Result ℕ RunFault → List ℕ → List ℕ → Option (List ℕ) → Option (List ℕ) → Type 0
+Writes setup answer bytes rest before now = Takes before now (λ written. Converted setup bytes rest written answer)

@@ -5,11 +5,14 @@ use Rattle.cob_copybook_tree.specs.Nodes.{Resolved}
 use Rattle.cob_copybook_lengths.specs.Areas.{hold_varying}
 use Rattle.cob_copybook.specs.declared.role.Role.{Role}
 use Rattle.cob_copybook.specs.declared.role.Role.TheVariants.{In, Out}
-use Rattle.cob_copybook.specs.Books.{IsBookOf, IsRefusal}
+use Rattle.cob_copybook.specs.Books.{IsBookOf, IsRefusal, IsMemory}
+use Rattle.cob_copybook_entries.specs.declared.fault.BookFault.{BookFault}
 use Rattle.cob_steps.specs.Records.{Conversion}
 use Rattle.cob_convert.specs.declared.fault.Text.{Text}
 use Rattle.cob_convert.specs.declared.fault.Text.TheVariants as text
 use Rattle.cob_thin.specs.Paragraphs.{IsParagraph}
+use Rattle.cob_thin.specs.declared.fault.ThinFault.{ThinFault}
+use Rattle.cob_thin.specs.declared.fault.ThinFault.TheVariants as thin
 use Rattle.cob_convert.specs.declared.fault.PrepareFault.{PrepareFault}
 use Rattle.cob_convert.specs.declared.fault.PrepareFault.TheVariants.{InBook, OutBook, NotYet, Memory}
 
@@ -40,9 +43,13 @@ IsVaryingRefusal text (OutBook f) = ⊥
 IsVaryingRefusal text (NotYet which line) = which ≡ text
 IsVaryingRefusal text Memory = ⊥
 
+-- The copybook breaks the rule that is named. Want of memory is no rule of copybooks, and never told as one.
+abbrev pub BreaksRule : Role → BookFault → List ℕ → Type 0
+BreaksRule role f book = IsRefusal role f.rule f.line book × (IsMemory f.rule → ⊥)
+
 -- the copybook of the input record is refused: it breaks a rule, a table of it varies, or memory was refused
 abbrev pub IsInRefusal : PrepareFault → List ℕ → Type 0
-IsInRefusal (InBook f) book = IsRefusal In f.rule f.line book
+IsInRefusal (InBook f) book = BreaksRule In f book
 IsInRefusal (OutBook f) book = ⊥
 IsInRefusal (NotYet which line) book = (which ≡ text.InBook) × IsVarying In book
 IsInRefusal Memory book = Unit {0}
@@ -50,7 +57,7 @@ IsInRefusal Memory book = Unit {0}
 -- the copybook of the output record is refused
 abbrev pub IsOutRefusal : PrepareFault → List ℕ → Type 0
 IsOutRefusal (InBook f) book = ⊥
-IsOutRefusal (OutBook f) book = IsRefusal Out f.rule f.line book
+IsOutRefusal (OutBook f) book = BreaksRule Out f book
 IsOutRefusal (NotYet which line) book = (which ≡ text.OutBook) × IsVarying Out book
 IsOutRefusal Memory book = Unit {0}
 
@@ -61,9 +68,14 @@ IsMovesRefusal (OutBook f) = ⊥
 IsMovesRefusal (NotYet which line) = which ≡ text.Moves
 IsMovesRefusal Memory = Unit {0}
 
+-- what the refusal of a paragraph is for a converter: a fault of the text stays one, and want of memory stays that
+abbrev pub moves_refusal : ThinFault → PrepareFault
+moves_refusal (thin.NotYet line) = NotYet text.Moves line
+moves_refusal thin.Memory = Memory
+
 -- A refusal names the first of the texts that is refused: a book that breaks a rule, or a text that is not taken so far. Memory is no text's fault.
 abbrev pub IsPrepareRefusal : PrepareFault → List ℕ → List ℕ → Type 0
-IsPrepareRefusal (InBook f) in_book out_book = IsRefusal In f.rule f.line in_book
-IsPrepareRefusal (OutBook f) in_book out_book = IsTaken In in_book × IsRefusal Out f.rule f.line out_book
+IsPrepareRefusal (InBook f) in_book out_book = BreaksRule In f in_book
+IsPrepareRefusal (OutBook f) in_book out_book = IsTaken In in_book × BreaksRule Out f out_book
 IsPrepareRefusal (NotYet which line) in_book out_book = IsNotYet which in_book out_book
 IsPrepareRefusal Memory in_book out_book = Unit {0}

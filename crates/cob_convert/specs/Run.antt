@@ -1,9 +1,10 @@
 -- A whole run: the records that came, what they became, and how the run ended.
-use Rattle.std.specs.Prelude.{◌≡◌, ℕ, ◌+◌, ◌-◌, ◌^◌, ◌<◌, Bool, false, min, List, [], ◌++◌, ◌⊎◌, length, flat_map, Ok, Err, Result}
+use Rattle.std.specs.Prelude.{◌≡◌, ℕ, ◌+◌, ◌-◌, ◌^◌, ◌<◌, Bool, false, min, List, [], ◌++◌, ◌⊎◌, length, flat_map, Option, Ok, Err, Result}
 use Rattle.std.specs.List.{AllByRecursion}
+use Rattle.std.specs.Io.KnownBytes.{append_known}
 use Rattle.cob_records.specs.declared.records.RecordFault.{RecordFault}
 use Rattle.cob_records.specs.declared.records.RecordFault.TheVariants.{Length}
-use Rattle.cob_records.specs.Frame.{Reads, Puts, framed, IsRecord, is_read_failure, is_write_fault}
+use Rattle.cob_records.specs.Frame.{Reads, Puts, framed, IsRecord, is_read_failure, is_write_error, is_write_fault}
 use Rattle.cob_convert.specs.declared.setup.Setup.{Setup}
 use Rattle.cob_steps.specs.declared.plan.Stop.{Stop}
 use Rattle.cob_steps.specs.declared.plan.Side.{Side}
@@ -52,7 +53,7 @@ abbrev pub FrameStops : Setup → List ℕ → List ℕ → List ℕ → Side �
 FrameStops setup left rest part In fault = Reads setup.in_form (in_length setup) [] (Err fault) left rest × (part ≡ [])
 FrameStops setup left rest part Out fault =
     (pair : List ℕ × List ℕ) × IsConverted setup pair × (left ≡ framed setup.in_form pair.0 ++ rest)
-    × Puts (framed setup.out_form pair.1) (Err fault) [] part
+    × Puts (framed setup.out_form pair.1) (Err fault) part
 
 -- what a layout's refusal is in a run
 abbrev pub offset_from : Misfit → ℕ
@@ -83,15 +84,15 @@ Ends setup n sent left rest part (Err fault) =
     (fault.number ≡ n + 1) × (fault.written ≡ min (sent + length part) (2 ^ 64 - 1))
     × StopsFor setup n left rest part fault.side fault.offset fault.cause
 
--- A run from these bytes, up to the rest, with this answer, by a sink that had taken `before` and has taken `now`: the records
--- that came, what they became, and the end.
-pub record Ran (setup : Setup) (answer : Result ℕ RunFault) (bytes rest before now : List ℕ) : Type 0 where
+-- A run from these bytes, up to the rest, with this answer, by a sink that told `before` and tells `now`: the records that came,
+-- what they became, and the end. The answer is said also where the sink does not tell its bytes.
+pub record Ran (setup : Setup) (answer : Result ℕ RunFault) (bytes rest : List ℕ) (before now : Option (List ℕ)) : Type 0 where
   pub pairs : List (List ℕ × List ℕ)
   pub left : List ℕ
   pub part : List ℕ
   pub frames : bytes ≡ frames_in setup pairs ++ left
   pub each : AllByRecursion (IsConverted setup) pairs
-  pub output : now ≡ before ++ (frames_out setup pairs ++ part)
+  pub output : now ≡ append_known before (frames_out setup pairs ++ part)
   pub ends : Ends setup (length pairs) (length (frames_out setup pairs)) left rest part answer
 
 -- the answer is that a read failed
@@ -110,4 +111,13 @@ is_write_stop (Err fault) = write_failed fault.cause
   where
     write_failed : Cause → Bool
     write_failed (Record fault) = is_write_fault fault
+    write_failed _ = false
+
+-- the answer is that a write failed, and not that one took nothing
+abbrev pub is_write_error_stop : Result ℕ RunFault → Bool
+is_write_error_stop (Ok number) = false
+is_write_error_stop (Err fault) = write_failed fault.cause
+  where
+    write_failed : Cause → Bool
+    write_failed (Record fault) = is_write_error (Err fault)
     write_failed _ = false

@@ -1,4 +1,4 @@
--- Bytes have one conversion: what is written and what is answered are determined.
+-- Bytes have one conversion: what is written, what is answered and where it stops are determined.
 use Rattle.std.specs.Prelude.{◌≡◌, ℕ, ◌<◌, ◌≤◌, List, Result}
 use Rattle.cob_limits.specs.Limits.{longest_record}
 use Rattle.cob_copybook_tree.specs.Forests.{Forest}
@@ -13,7 +13,8 @@ pub record HasBytes (f : Forest Resolved) : Type 0 where
   pub some : 0 < record_length f
   pub most : record_length f ≤ longest_record
 
--- two conversions of the same bytes have written the same bytes and have one answer
+-- two conversions of the same bytes have written the same bytes, have one answer and leave the same rest
 abbrev pub ConversionIsOne : Type 0
-ConversionIsOne = (setup : Setup) (bytes written other : List ℕ) (answer second : Result ℕ RunFault) → HasBytes setup.plan.input
-    → Converted setup bytes written answer → Converted setup bytes other second → (written ≡ other) × (answer ≡ second)
+ConversionIsOne = (setup : Setup) (bytes rest left written other : List ℕ) (answer second : Result ℕ RunFault) → HasBytes setup.plan.input
+    → Converted setup bytes rest written answer → Converted setup bytes left other second
+    → (written ≡ other) × (answer ≡ second) × (rest ≡ left)

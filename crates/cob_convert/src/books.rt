@@ -3,7 +3,8 @@
 ghost use Rattle.std.specs.Prelude.{◌≡◌, ℕ, List, true, false, IfOk, IfErr, IfSome, IfNone};
 ghost use Rattle.cob_copybook_tree.specs.Nodes.{forest};
 ghost use Rattle.cob_copybook_lengths.specs.Areas.{hold_varying};
-ghost use Rattle.cob_copybook.specs.Books.{IsBookOf, IsRefusal};
+ghost use Rattle.std.specs.Bool.{Decides};
+ghost use Rattle.cob_copybook.specs.Books.{IsBookOf, IsRefusal, IsMemory};
 ghost use Rattle.cob_steps.specs.Records.{IsSteady};
 ghost use Rattle.cob_convert.specs.Means.{IsVaryingRefusal, IsInRefusal, IsOutRefusal};
 ghost use Rattle.cob_copybook.specs.declared.role.Role.TheVariants.{In, Out};
@@ -17,7 +18,9 @@ use std::alloc::Global;
 use std::slice;
 
 /// Whether a book is refused for want of memory.
-fn is_memory(rule: BookRule) -> bool {
+fn is_memory(rule: BookRule) -> bool
+    ensures { Decides result (IsMemory rule) }
+{
     matches!(
         rule,
         BookRule::Memory | BookRule::Source(SourceRule::Memory)

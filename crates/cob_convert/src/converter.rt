@@ -62,7 +62,7 @@ fn plan_of(alloc: Global, moves: &[u8], input: &Book, output: &Book) -> Result<P
 }
 
 impl Converter {
-    ghost use Rattle.cob_convert.specs.Run.{Ran, is_read_stop, is_write_stop};
+    ghost use Rattle.cob_convert.specs.Run.{Ran, is_read_stop, is_write_stop, is_write_error_stop};
     ghost use Rattle.cob_convert.specs.Converted.{Writes};
 
     /// A converter for a plan, with room for its records.
@@ -114,15 +114,18 @@ impl Converter {
     /// Converts the records of a source, one after another, up to its end or the first stop, and answers how
     /// many it converted. It takes no memory. After a stop the converter is as `prepare` left it.
     pub fn run<R: Source, W: Sink>(&mut self, r: &mut R, w: &mut W) -> Result<u64, RunFault>
-        // Where no call of an end failed and both tell their bytes: what is written is the conversion of what came.
+        // Where no call of an end failed and the source tells its bytes: what is written is the conversion of what came.
         ensures headline { R.failures r.new ≡ R.failures r.old → W.failures w.new ≡ W.failures w.old →
-            Told (R.coming r.old) (R.coming r.new) (λ bytes rest. Told (W.taken w.old) (W.taken w.new) (Writes self.old result bytes)) }
+            Told (R.coming r.old) (R.coming r.new) (λ bytes rest.
+            Writes self.old result bytes rest (W.taken w.old) (W.taken w.new)) }
         // Also where a call failed: the records before the stop were converted, and nothing past its frame was read.
-        ensures ran { Told (R.coming r.old) (R.coming r.new) (λ bytes rest. Told (W.taken w.old) (W.taken w.new)
-            (Ran self.old result bytes rest)) }
-        // A read failed exactly where that is the answer, and a write likewise.
+        ensures ran { Told (R.coming r.old) (R.coming r.new) (λ bytes rest.
+            Ran self.old result bytes rest (W.taken w.old) (W.taken w.new)) }
+        // A read failed exactly where that is the answer (F5). A write failed or took nothing exactly where one of these is
+        // (F6, F7), and it failed exactly where that is (F6).
         ensures reads { R.failures r.new ≡ counted (is_read_stop result) (R.failures r.old) }
         ensures writes { W.failures w.new ≡ counted (is_write_stop result) (W.failures w.old) }
+        ensures errors { W.errors w.new ≡ counted (is_write_error_stop result) (W.errors w.old) }
         ensures same { self.new ≡ self.old }
     {
         run_over(&self.setup, &mut self.input, &mut self.output, r, w)

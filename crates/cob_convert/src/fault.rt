@@ -1,6 +1,6 @@
 ghost use Rattle.std.specs.Prelude.{◌≡◌};
 ghost use Rattle.cob_convert.specs.declared.fault.PrepareFault.TheVariants.{Memory};
-ghost use Rattle.cob_convert.specs.Means.{IsMovesRefusal};
+ghost use Rattle.cob_convert.specs.Means.{moves_refusal};
 
 use crate::run::{Cause, RunFault};
 use cob_copybook_entries::BookFault;
@@ -51,7 +51,7 @@ pub enum PrepareFault {
 }
 
 impl From<ThinFault> for PrepareFault {
-    ghost from_gives = { λ _ fault. IsMovesRefusal fault };
+    ghost from_gives = { λ refused fault. fault ≡ moves_refusal refused };
 
     fn from(fault: ThinFault) -> PrepareFault {
         match fault {

@@ -1,9 +1,15 @@
-ghost use Rattle.std.specs.Prelude.{◌≡◌, ◌<◌, ◌≤◌, ◌*◌, length, None, IfOk};
+ghost use Rattle.std.specs.Prelude.{◌≡◌, ◌<◌, ◌≤◌, ◌*◌, ◌%◌, length, None, IfOk, is_err};
+ghost use Rattle.cob_records.specs.Device.{Takes, counted, took_nothing};
+ghost use Rattle.cob_convert.specs.Hex.{PutsPairs, PutsText, digit_character, hex_text};
 
+use arrayvec::ArrayVec;
 use cob_records::{DeviceFault, Sink};
 
 /// How many bytes are turned into digits at a time.
 const PIECE: usize = 256;
+
+/// How many digits these have.
+const DIGITS: usize = 2 * PIECE;
 
 /// A sink that writes each byte as two capital hexadecimal digits to another sink, which it borrows. It takes
 /// no memory.
@@ -30,6 +36,7 @@ impl<'a, W: Sink> HexSink<'a, W> {
 /// The character of a digit.
 fn character(digit: u8) -> u8
     requires { digit < 16 }
+    ensures { result ≡ digit_character digit }
 {
     if digit < 10 {
         b'0' + digit
@@ -38,16 +45,57 @@ fn character(digit: u8) -> u8
     }
 }
 
-/// Writes the digits of the bytes, two for each byte, and says how many digits there are.
-fn write_digits(bytes: &[u8], digits: &mut [u8; 2 * PIECE]) -> usize
+/// The text of some bytes.
+fn text_of(bytes: &[u8]) -> ArrayVec<u8, DIGITS>
     requires { length bytes.now ≤ PIECE }
-    ensures { result ≡ 2 * length bytes.now }
+    ensures text { result.items ≡ hex_text bytes.now }
+    ensures size { length result.items ≡ 2 * length bytes.now }
 {
-    for (at, byte) in bytes.iter().enumerate() {
-        digits[2 * at] = character(*byte / 16);
-        digits[2 * at + 1] = character(*byte % 16);
+    let mut text = ArrayVec::new();
+    for byte in bytes {
+        text.push(character(*byte / 16));
+        text.push(character(*byte % 16));
     }
-    2 * bytes.len()
+    text
+}
+
+/// Writes digits, two for each byte, and says for how many bytes both went out. Where it is for none, one
+/// digit may have gone out alone.
+fn put_pairs<W: Sink>(w: &mut W, text: &[u8]) -> Result<usize, DeviceFault>
+    requires { length text.now % 2 ≡ 0 }
+    ensures count { IfOk result (λ n. 2 * n ≤ length text.now) }
+    ensures text { Takes (W.taken w.old) (W.taken w.new) (PutsPairs text.now result) }
+    ensures cause { W.failures w.new ≡ counted (took_nothing result text.now) (W.failures w.old) }
+    ensures errors { W.errors w.new ≡ counted (is_err result) (W.errors w.old) }
+{
+    let went = w.write(text)?;
+    if went % 2 == 0 {
+        return Ok(went / 2);
+    }
+    match w.write(&text[went..went + 1])? {
+        0 => Ok(0),
+        _ => Ok(went / 2 + 1),
+    }
+}
+
+impl<W: Sink> HexSink<'_, W> {
+    /// Writes the text of some bytes, and says of how many.
+    fn put_text(&mut self, bytes: &[u8]) -> Result<usize, DeviceFault>
+        ensures count { IfOk result (λ n. n ≤ length bytes.now) }
+        // The sink inside took the text of the bytes.
+        ensures text { Takes (W.taken self.old.inner.now) (W.taken self.new.inner.now)
+            (PutsText bytes.now result) }
+        ensures cause { W.failures self.new.inner.now
+            ≡ counted (took_nothing result bytes.now) (W.failures self.old.inner.now) }
+        ensures errors { W.errors self.new.inner.now
+            ≡ counted (is_err result) (W.errors self.old.inner.now) }
+    {
+        let now = &bytes[..bytes.len().min(PIECE)];
+        let text = text_of(now);
+        let count = put_pairs(&mut *self.inner, text.as_slice())?;
+        self.begun = self.begun || count > 0;
+        Ok(count)
+    }
 }
 
 impl<W: Sink> Sink for HexSink<'_, W> {
@@ -58,14 +106,6 @@ impl<W: Sink> Sink for HexSink<'_, W> {
     ghost errors = { λ sink. W.errors sink.inner.now };
 
     fn write(&mut self, piece: &[u8]) -> Result<usize, DeviceFault> {
-        let now = &piece[..piece.len().min(PIECE)];
-        let mut digits = [0u8; 2 * PIECE];
-        let count = write_digits(now, &mut digits);
-        let went = self.inner.write(&digits[..count])?;
-        if went % 2 == 1 && self.inner.write(&digits[went..went + 1])? == 0 {
-            return Ok(0);
-        }
-        self.begun = self.begun || went > 0;
-        Ok(went.div_ceil(2))
+        self.put_text(piece)
     }
 }

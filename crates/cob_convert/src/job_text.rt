@@ -1,4 +1,5 @@
 ghost use Rattle.std.specs.Prelude.{◌≡◌, ◌≤◌, ◌<◌, ◌+◌, length, IfOk, vec_len, IfSome};
+ghost use Rattle.cob_convert.specs.declared.job_text.DataFault.TheVariants.{Memory};
 
 use cob_records::Form;
 use std::alloc::{AllocError, Global};
@@ -129,6 +130,8 @@ pub enum DataFault {
 }
 
 impl From<AllocError> for DataFault {
+    ghost from_gives = { λ _ fault. fault ≡ Memory };
+
     fn from(_: AllocError) -> DataFault {
         DataFault::Memory
     }

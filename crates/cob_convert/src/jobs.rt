@@ -1,3 +1,7 @@
+ghost use Rattle.std.specs.Prelude.{◌≡◌};
+ghost use Rattle.cob_convert.specs.Jobs.{text_refusal, data_refusal};
+ghost use Rattle.cob_convert.specs.declared.jobs.JobFault.TheVariants.{CannotRead, Memory};
+
 use crate::converter::Converter;
 use crate::fault::PrepareFault;
 use crate::hex::HexSink;
@@ -57,18 +61,24 @@ enum JobFault {
 }
 
 impl From<AllocError> for JobFault {
+    ghost from_gives = { λ _ fault. fault ≡ Memory };
+
     fn from(_: AllocError) -> JobFault {
         JobFault::Memory
     }
 }
 
 impl From<DeviceFault> for JobFault {
+    ghost from_gives = { λ _ fault. fault ≡ CannotRead };
+
     fn from(_: DeviceFault) -> JobFault {
         JobFault::CannotRead
     }
 }
 
 impl From<PrepareFault> for JobFault {
+    ghost from_gives = { λ refused fault. fault ≡ text_refusal refused };
+
     fn from(fault: PrepareFault) -> JobFault {
         match fault {
             PrepareFault::Memory => JobFault::Memory,
@@ -78,6 +88,8 @@ impl From<PrepareFault> for JobFault {
 }
 
 impl From<DataFault> for JobFault {
+    ghost from_gives = { λ refused fault. fault ≡ data_refusal refused };
+
     fn from(fault: DataFault) -> JobFault {
         match fault {
             DataFault::Line(line) => JobFault::Malformed { line },

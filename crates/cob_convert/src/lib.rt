@@ -7,15 +7,16 @@
 //! What is promised:
 //!
 //! - What is prepared is what the texts mean (`means`), with the record forms that were handed in (`forms`); a refusal names a text, and of a
-//!   copybook the rule that it breaks (`refused`).
-//! - Where both ends tell their bytes and no call of them failed, what a run writes is, record by record, the framed storage that the
+//!   copybook the rule that it breaks (`refused`). Want of memory is never told as a fault of a text.
+//! - Where the source tells its bytes and no call of an end failed, what a run writes is, record by record, the framed storage that the
 //!   moves give from the initial values and the values that the input's bytes represent; and a run that stops names the first record
 //!   and offset where its fault stands, having written just the records before it: the clause `headline`, by `Converted` of
-//!   specs/Converted.antt.
-//! - Where a call failed, the records before are written, and the answer names the end that failed (`ran`, `reads`, `writes`). Nothing
-//!   past the frame of the record that stopped was read.
+//!   specs/Converted.antt. Where the sink does not tell its bytes, it still says the answer.
+//! - Where a call failed, the records before are written, and the answer names the end that failed (`ran`, `reads`, `writes`, `errors`).
+//!   Nothing past the frame of the record that stopped was read.
 //! - A run takes no memory, and leaves the converter as `prepare` made it (`same`).
 //! - Bytes have one conversion: [`conversion_is_one`].
+//! - The bytes that a job prints are printed as their text, two capital hexadecimal digits for each (`put_text`).
 //!
 //! What a job prints, and its status, is shown by tests.
 //!

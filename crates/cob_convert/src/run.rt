@@ -3,7 +3,7 @@ ghost use Rattle.cob_records.specs.Device.{counted, Told};
 ghost use Rattle.cob_records.specs.Frame.{frame_size};
 ghost use Rattle.cob_steps.specs.Records.{record_length};
 ghost use Rattle.cob_convert.specs.Conversion.{in_length};
-ghost use Rattle.cob_convert.specs.Run.{Ran, cause_from, offset_from, refusal_from, is_read_stop, is_write_stop};
+ghost use Rattle.cob_convert.specs.Run.{Ran, cause_from, offset_from, refusal_from, is_read_stop, is_write_stop, is_write_error_stop};
 ghost use Rattle.cob_convert.specs.declared.run.TheConstants.{LIMIT};
 ghost use Rattle.cob_limits.specs.Limits.{longest_record};
 
@@ -104,10 +104,11 @@ pub fn run_over<R: Source, W: Sink>(
 ) -> Result<u64, RunFault>
     requires input { length input.old ≡ in_length setup.now }
     requires output { length output.old ≡ record_length setup.now.plan.output }
-    ensures ran { Told (R.coming r.old) (R.coming r.new) (λ bytes rest. Told (W.taken w.old) (W.taken w.new)
-        (Ran setup.now result bytes rest)) }
+    ensures ran { Told (R.coming r.old) (R.coming r.new) (λ bytes rest.
+        Ran setup.now result bytes rest (W.taken w.old) (W.taken w.new)) }
     ensures reads { R.failures r.new ≡ counted (is_read_stop result) (R.failures r.old) }
     ensures writes { W.failures w.new ≡ counted (is_write_stop result) (W.failures w.old) }
+    ensures errors { W.errors w.new ≡ counted (is_write_error_stop result) (W.errors w.old) }
 {
     let mut written: u64 = 0;
     for done in 0..LIMIT {

@@ -37,6 +37,7 @@ loop-done-preserved g c =
           (sized_of _ _ _ _ c.frame_length.ensures c.in-Ok.ensures.size.1));
       reads = search rules;
       writes = search rules;
+      errors = search rules;
     }
 
 pub returns-in-Err-measure-clause-ran : goal.returns-in-Err-measure-clause-ran
