@@ -62,7 +62,7 @@ first_element start k size e = ap (λ (m : ℕ). start + m * size) e ∙ grind a
 
 behind_has : (r : ℕ) (f : Forest Resolved) → IsBehind r f → Has r f
 behind_has r Bare h = absurd h
-behind_has r (Grows e kids more) h = elim h.1 [ | inl own ↦ inl own | inr rest ↦ inr (inr (behind_has r more rest)) ]
+behind_has r (Grows e kids more) h = elim h.1 [ inl own ↦ inl own | inr rest ↦ inr (inr (behind_has r more rest)) ]
 
 -- it begins where the area does
 behind : (c : Resolved → ℕ) (r n : ℕ) (f : Forest Resolved) (at area : ℕ) (subscripts : List ℕ) → AreNumbered n f → IsBehind r f → subscripts ≡ [] → offset_of (find c r f at area subscripts) ≡ Some area

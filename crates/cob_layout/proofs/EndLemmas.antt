@@ -109,7 +109,7 @@ ends c r (Grows e kids more) n at area space m subscripts p times num leaves are
     let next_at : ℕ = at + room e.redefines w in
     let first : start + w ≤ m = first_fits e.redefines at area space w (sum_of c more) m areas.0 fits ok in
     let here : IsSubscripted table (most e) subscripts → there ≡ true → offset + size ≤ m =
-        (λ s t. omega (arith, first, element_in table (most e) (c e) size subscripts s t (times.once e))) in
+    (λ s t. omega (arith, first, element_in table (most e) (c e) size subscripts s t (times.once e))) in
     elim (pick (e.number == r) (record { offset = offset; length = size; within = there }) there (find c r kids offset offset inner) (find c r more next_at start subscripts) p is) [
       | inl h ↦
           let at_p : offset + size ≡ p.offset + p.length = ap (λ (x : Found). x.offset + x.length) h.1 in
@@ -138,14 +138,14 @@ ends c r (Grows e kids more) n at area space m subscripts p times num leaves are
                   absurd (omega (arith, a.1, b.0))
             ]
         | inr h ↦ elim ref [
-            | inl s ↦ elim (s.1) [
-              | inl own ↦ absurd (differs e.number r h.0 own.0)
-              | inr inside ↦ absurd (found_there c r kids offset offset inner (refers_has r inner kids inside) h.1)
-            ]
-            | inr beside ↦
-                ends c r more (n + 1 + entries_in kids) next_at start (area_by e.redefines space w) m subscripts p times num.2 leaves.2 areas.2 beside (omega (arith, fits))
-                (after_fits e.redefines at area space w (sum_of c more) m fits ok) h.2 within
+          | inl s ↦ elim (s.1) [
+            | inl own ↦ absurd (differs e.number r h.0 own.0)
+            | inr inside ↦ absurd (found_there c r kids offset offset inner (refers_has r inner kids inside) h.1)
           ]
+          | inr beside ↦
+              ends c r more (n + 1 + entries_in kids) next_at start (area_by e.redefines space w) m subscripts p times num.2 leaves.2 areas.2 beside (omega (arith, fits))
+              (after_fits e.redefines at area space w (sum_of c more) m fits ok) h.2 within
+        ]
       ]
     ]
 

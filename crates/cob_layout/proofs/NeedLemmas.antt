@@ -161,7 +161,7 @@ has_kind a (Grows e kids more) h n = elim (two_ways (e.number == a)) [
   | inr other ↦ (let rest = first_none (kind_in a kids) (kind_in a more) (sym (chosen_no (e.number == a) e.kind (kind_in a kids) (kind_in a more) other) ∙ n) in
       elim h [
         | inl own ↦ is_not e.number a other own
-        | inr k ↦ elim k [ | inl j ↦ has_kind a kids j rest.0 | inr j ↦ has_kind a more j rest.1 ]
+        | inr k ↦ elim k [ inl j ↦ has_kind a kids j rest.0 | inr j ↦ has_kind a more j rest.1 ]
       ])
 ]
   where
@@ -389,18 +389,21 @@ settled read t r receiving spared x s has those i =
     record {
       has = k.has;
       reads = λ is y needs.
-      let le = k.earlier y needs in
-      let below = needs_below read t r x.number s.numbered has there is.0 in (
-        omega (arith, le, k.before, below),
-        λ z in_spared same.
-        let z_is = those_in (IsSparedOf t r receiving) (tables_of (alone t)) spared z those in_spared in
-        let behind = holds_behind 0 r z.number (alone t) s.numbered z_is.1.1.table in
-        is.1 (z_is.1.0, record {
-          last = z_is.1.1.last;
-          table = z_is.1.1.last x.number there (omega (arith, behind, same, le, k.before));
-          count = z_is.1.1.last x.count k.has (omega (arith, behind, same, le));
-        }),
-      );
+          let le = k.earlier y needs in
+          let below = needs_below read t r x.number s.numbered has there is.0 in (
+            omega (arith, le, k.before, below),
+            λ z in_spared same.
+                let z_is = those_in (IsSparedOf t r receiving) (tables_of (alone t)) spared z those in_spared in
+                let behind = holds_behind 0 r z.number (alone t) s.numbered z_is.1.1.table in
+                is.1 (
+                  z_is.1.0,
+                  record {
+                    last = z_is.1.1.last;
+                    table = z_is.1.1.last x.number there (omega (arith, behind, same, le, k.before));
+                    count = z_is.1.1.last x.count k.has (omega (arith, behind, same, le));
+                  },
+                ),
+          );
       skips = λ not_read lt free. elim (decided (IsSparedOf t r receiving) (tables_of (alone t)) spared x those i) [
         | inl is ↦ free x (in_those (IsSparedOf t r receiving) (tables_of (alone t)) spared x those i is) refl
         | inr unspared ↦ not_read (below_needed r x.number (alone t) s.numbered has there lt, unspared)

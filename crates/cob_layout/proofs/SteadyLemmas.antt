@@ -21,7 +21,7 @@ neither false false e = (refl, refl)
 neither false true e = cc
 neither true b e = cc
 
-steady_times : (n : ℕ) (o : Times) → is_varying o ≡ false → times_by n o ≡ most_by o
+pub steady_times : (n : ℕ) (o : Times) → is_varying o ≡ false → times_by n o ≡ most_by o
 steady_times n Once e = refl
 steady_times n (Fixed k) e = refl
 steady_times n (Varying least most count) e = cc
@@ -68,6 +68,8 @@ areas_by counts (Grows e kids more) area space h s = by e.redefines h.0 (areas_b
         → AreAreas (joined o area (record { top = e; beneath = kids })) more
         → (whole (times counts) e kids ≤ area_by o space (whole (times counts) e kids)) × AreInAreasBy (times counts) 0 kids × AreInAreasBy (times counts) (area_by o space (whole (times counts) e kids)) more
     by None follow inside go rest = (omega arith, inside, go (record { top = e; beneath = kids } ∷ []) (whole (times counts) e kids) rest refl)
-    by (Some name) follow inside go rest =
-        (within counts area (record { top = e; beneath = kids }) space name follow s, inside,
-         go (area ++ (record { top = e; beneath = kids }) ∷ []) space rest (still counts area (record { top = e; beneath = kids }) space name follow s))
+    by (Some name) follow inside go rest = (
+      within counts area (record { top = e; beneath = kids }) space name follow s,
+      inside,
+      go (area ++ (record { top = e; beneath = kids }) ∷ []) space rest (still counts area (record { top = e; beneath = kids }) space name follow s),
+    )
