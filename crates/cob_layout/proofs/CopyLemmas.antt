@@ -1,9 +1,9 @@
 -- Copies of nodes.
-use Rattle.std.proofs.Common.{◌≡◌, ℕ, ◌≤◌, List, ◌++◌, length, drop, map, sym, ap, ◌∙◌}
-use Rattle.std.proofs.lemmas.List.{append-nil, drop_all}
+use Rattle.std.proofs.Common.{◌≡◌, ℕ, ◌+◌, ◌<◌, ◌≤◌, List, [], ◌∷◌, ◌++◌, length, get_or, drop, map, sym, ap, ◌∙◌}
+use Rattle.std.proofs.lemmas.List.{append-nil, append_assoc, drop_all, drop_more, map-append}
 use Rattle.cob_copybook_tree.specs.declared.node.Node.{Node}
 use Rattle.cob_copybook_tree.specs.declared.node.Node.TheViews.{out-Node}
-use Rattle.cob_copybook_tree.specs.Forests.{Forest, grown}
+use Rattle.cob_copybook_tree.specs.Forests.{Forest, Tree, grown}
 use Rattle.cob_copybook_tree.specs.Nodes.{Resolved, resolved_entry, node, forest}
 use Rattle.cob_layout_places.proofs.ForestLemmas.{node_out}
 
@@ -15,3 +15,12 @@ copy_is n m kids copies k is so_far end all =
     = sym (append-nil (map node copies)) ∙ ap (λ (ns : List Node). map node copies ++ map node ns) (sym (drop_all k kids end)) in
     let beneath : forest copies ≡ forest (out-Node n).children.items = ap grown (none ∙ so_far ∙ ap (map node) all) in
     is ∙ ap (λ (f : Forest Resolved). record { top = resolved_entry (out-Node n); beneath = f }) beneath ∙ sym (node_out n)
+
+-- behind copies of the children so far the next child's copy is one of its place
+pub next_copied : (copies made kids : List Node) (k : ℕ) (n m : Node) → k < length kids → n ≡ get_or kids k n → node m ≡ node n → made ≡ copies ++ m ∷ []
+    → map node copies ++ map node (drop k kids) ≡ map node kids → map node made ++ map node (drop (k + 1) kids) ≡ map node kids
+next_copied copies made kids k n m lt is copy all so_far =
+    let rest = map node (drop (k + 1) kids) in
+    let next : map node (drop k kids) ≡ node m ∷ rest = ap (map node) (drop_more kids k n lt) ∙ ap (λ (x : Node). node x ∷ rest) (sym is) ∙ ap (λ (t : Tree Resolved). t ∷ rest) (sym copy) in
+    ap (λ (ns : List Node). map node ns ++ rest) all ∙ ap (λ (ts : List (Tree Resolved)). ts ++ rest) (map-append node copies (m ∷ []))
+    ∙ append_assoc (map node copies) (node m ∷ []) rest ∙ ap (λ (ts : List (Tree Resolved)). map node copies ++ ts) (sym next) ∙ so_far

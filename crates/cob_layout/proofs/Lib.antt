@@ -7,4 +7,5 @@ pub mod SteadyLemmas
 pub mod EndLemmas
 pub mod AreaLemmas
 pub mod ThoseLemmas
+pub mod ByteLemmas
 pub mod NeedLemmas

@@ -20,7 +20,7 @@ sum_alone c t e =
     let w : room t.top.redefines (whole c t.top t.beneath) ≡ whole c t.top t.beneath = ap (λ (o : Option (List ℕ)). room o (whole c t.top t.beneath)) e in
     omega (arith, w)
 
-length_is : (counts : List ℕ) (t : Tree Resolved) (n k : ℕ) → IsSound t → n ≡ times counts t.top → k ≡ element (times counts) t.top t.beneath → n * k ≡ sum_of (times counts) (alone t)
+pub length_is : (counts : List ℕ) (t : Tree Resolved) (n k : ℕ) → IsSound t → n ≡ times counts t.top → k ≡ element (times counts) t.top t.beneath → n * k ≡ sum_of (times counts) (alone t)
 length_is counts t n k s en ek = rw (en, ek) (sym (sum_alone (times counts) t s.first))
 
 -- under counts it is no longer than under the greatest ones

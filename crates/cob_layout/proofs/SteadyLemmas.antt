@@ -21,7 +21,7 @@ neither false false e = (refl, refl)
 neither false true e = cc
 neither true b e = cc
 
-steady_times : (n : ℕ) (o : Times) → is_varying o ≡ false → times_by n o ≡ most_by o
+pub steady_times : (n : ℕ) (o : Times) → is_varying o ≡ false → times_by n o ≡ most_by o
 steady_times n Once e = refl
 steady_times n (Fixed k) e = refl
 steady_times n (Varying least most count) e = cc

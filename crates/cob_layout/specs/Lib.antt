@@ -1,3 +1,4 @@
+pub mod Bytes
 pub mod References
 pub mod Counting
 pub mod Laws

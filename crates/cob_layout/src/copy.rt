@@ -3,30 +3,37 @@
 ghost use Rattle.std.specs.Prelude.{◌≡◌, IfOk};
 ghost use Rattle.cob_copybook_tree.specs.Nodes.{forest, node, resolved_entry};
 ghost use Rattle.cob_copybook_tree.specs.declared.node.Node.TheViews.{out-Node};
+ghost use Rattle.cob_layout_places.specs.Lengths.{alone};
+ghost use Rattle.cob_layout.specs.Bytes.{HasByte, HaveBytes};
 
 use cob_copybook_entries::{Name, Value};
 use cob_copybook_tree::{Item, Kind, Node};
 use std::alloc::{AllocError, Global};
 
-/// What an entry describes, once more. It takes no memory, and so cannot fail.
+/// What an entry describes, once more. It takes no memory, and so cannot fail. An item takes a byte, since its picture does.
 fn same_kind(kind: &Kind) -> Kind
-    ensures { result ≡ kind.now }
+    ensures same { result ≡ kind.now }
+    ensures byte { HasByte kind.now }
 {
     match kind {
         Kind::Group => Kind::Group,
-        Kind::Item(item) => Kind::Item(Item {
-            picture: item.picture.clone(),
-            usage: item.usage,
-            sign: item.sign,
-            justified: item.justified,
-            blank: item.blank,
-        }),
+        Kind::Item(item) => {
+            let _ = item.picture.size();
+            Kind::Item(Item {
+                picture: item.picture.clone(),
+                usage: item.usage,
+                sign: item.sign,
+                justified: item.justified,
+                blank: item.blank,
+            })
+        }
     }
 }
 
 /// An entry once more, with these children beneath it.
 fn same_entry(entry: &Node, children: Vec<Node>) -> Node
-    ensures { node result ≡ record { top = resolved_entry (out-Node entry.now); beneath = forest children.items } }
+    ensures same { node result ≡ record { top = resolved_entry (out-Node entry.now); beneath = forest children.items } }
+    ensures byte { HasByte (out-Node entry.now).kind }
 {
     Node {
         number: entry.number,
@@ -47,7 +54,8 @@ fn same_entry(entry: &Node, children: Vec<Node>) -> Node
 ///
 /// Where no memory is left.
 pub(crate) fn copied(alloc: Global, entry: &Node) -> Result<Node, AllocError>
-    ensures { IfOk result (λ copy. node copy ≡ node entry.now) }
+    ensures same { IfOk result (λ copy. node copy ≡ node entry.now) }
+    ensures bytes { IfOk result (λ copy. HaveBytes (alone (node copy))) }
 {
     let mut children: Vec<Node> = Vec::new(alloc);
     for child in entry.children.iter() {

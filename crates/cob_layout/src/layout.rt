@@ -1,6 +1,6 @@
 //! Layouts.
 
-ghost use Rattle.std.specs.Prelude.{◌≡◌, ◌≤◌, ◌+◌, length, Ok, Err, Some, OnOk, IfNone, IfOk, IfErr, IfSome, OnErr, option_map};
+ghost use Rattle.std.specs.Prelude.{◌≡◌, ◌<◌, ◌≤◌, ◌+◌, length, Ok, Err, Some, OnOk, IfNone, IfOk, IfErr, IfSome, OnErr, option_map};
 ghost use Rattle.cob_copybook_tree.specs.Forests.{entries_in};
 ghost use Rattle.cob_copybook_tree.specs.Lengths.{most, sum_of};
 ghost use Rattle.cob_limits.specs.Limits.{longest_record};
@@ -8,6 +8,7 @@ ghost use Rattle.cob_copybook.specs.Books.{IsRecord};
 ghost use Rattle.cob_layout_places.specs.Lengths.{alone, times};
 ghost use Rattle.cob_layout_places.specs.Places.{find};
 ghost use Rattle.cob_layout_places.specs.Cover.{IsCovered};
+ghost use Rattle.cob_layout.specs.Bytes.{HaveBytes};
 ghost use Rattle.cob_layout.specs.References.{Refers, placed};
 ghost use Rattle.cob_layout.specs.Counting.{greatest_counts, AreGreatest, CountsOf, NeededOf};
 
@@ -48,6 +49,7 @@ impl Model for Layout {
     ghost use Rattle.cob_layout_places.specs.Counts.{tables_of};
     ghost use Rattle.cob_sound.specs.Sound.{IsSound};
     ghost use Rattle.cob_layout.specs.Counting.{greatest_counts};
+    ghost use Rattle.cob_layout.specs.Bytes.{HaveBytes};
     ghost use Rattle.std.specs.Coded.{codes};
     ghost use Rattle.cob_copybook.specs.Codes.{coded_forest};
 
@@ -57,7 +59,7 @@ impl Model for Layout {
 
     ghost view = { λ l. node l.root };
 
-    ghost invariant = { λ l. IsRecord (alone (node l.root)) × IsSound (node l.root) × (l.tables.items ≡ tables_of (alone (node l.root))) × (l.counts ≡ greatest_counts (node l.root)) × (l.greatest ≡ sum_of most (alone (node l.root))) };
+    ghost invariant = { λ l. IsRecord (alone (node l.root)) × IsSound (node l.root) × (l.tables.items ≡ tables_of (alone (node l.root))) × (l.counts ≡ greatest_counts (node l.root)) × (l.greatest ≡ sum_of most (alone (node l.root))) × HaveBytes (alone (node l.root)) };
 }
 
 /// The place of an element, or the fault where it isn't one of those that there are.
@@ -99,11 +101,14 @@ impl Layout {
         })
     }
 
-    /// The record's greatest length in bytes.
+    /// The record's greatest length in bytes: 1 to 32,752.
     pub fn greatest(&self) -> u16
         ensures value { result ≡ sum_of most (alone self.now) }
+        ensures least { 0 < result }
         ensures most { result ≤ longest_record }
         ensures record { IsRecord (alone self.now) }
+        // Each item takes a byte at least.
+        ensures bytes { HaveBytes (alone self.now) }
     {
         self.greatest
     }
@@ -129,9 +134,10 @@ impl Layout {
         Counts::of(alloc, self.counts.as_slice())
     }
 
-    /// The record's length in bytes under these counts.
+    /// The record's length in bytes under these counts: at least 1, since an item comes before the first table that varies.
     pub fn length(&self, counts: &Counts) -> u16
         ensures value { result ≡ sum_of (times counts.now) (alone self.now) }
+        ensures least { 0 < result }
         ensures most { result ≤ sum_of most (alone self.now) }
         // Each byte of the record is in the place of exactly one occurrence of an item that stands in no redefinition.
         ensures covered { IsCovered (times counts.now) (alone self.now) }

@@ -8,22 +8,31 @@
 //! What is promised:
 //!
 //! - [`Layout::of`]: its tree is the book's.
-//! - [`Layout::greatest`] is the record's length where each table has its greatest number of elements (`value`), and no more than 32,752
-//!   bytes (`most`); the tree is that of a well-formed record description (`record`).
+//! - [`Layout::greatest`] is the record's length where each table has its greatest number of elements (`value`), from 1 byte (`least`) to 32,752
+//!   bytes (`most`); the tree is that of a well-formed record description (`record`), each item of which takes a byte (`bytes`).
 //! - [`Layout::greatest_counts`] and [`Layout::new_counts`] are the counts under which each table has that number (`value`), one for each
 //!   entry of the record (`room`): under them lengths and places are the greatest ones (`greatest`).
-//! - [`Layout::length`] is the sum of the lengths of the entries that redefine none, each as often as it occurs (`value`), and no more than
-//!   the greatest one (`most`). Each byte of the record is in exactly one occurrence of an item that stands in no redefinition (`covered`).
+//! - [`Layout::length`] is the sum of the lengths of the entries that redefine none, each as often as it occurs (`value`), at least 1 (`least`)
+//!   and no more than the greatest one (`most`). Each byte of the record is in exactly one occurrence of an item that stands in no redefinition
+//!   (`covered`).
+//! - [`Layout::reference`] answers a reference exactly where it is a legal one (`found`, `legal`, `none`). A legal one has at most 7 subscripts
+//!   ([`fits_ref`]).
 //! - [`Layout::place`] answers where the element stands, behind the entries before it and the elements before it, or where it would begin
-//!   when a subscript is past its table's count (`value`); a place that it answers ends within the greatest length (`fits`).
+//!   when a subscript is past its table's count (`value`); a place that it answers ends within the record's length under the same counts
+//!   (`current`, and the law [`places_end_in_length`]), and so within the greatest one (`fits`). A redefining entry begins where the entry that
+//!   began the area begins ([`redefinitions_begin_with_area`]).
 //! - [`Layout::counts_of`] takes the counts of all tables from a record's bytes, one behind another, each a whole number from its table's least
 //!   to its greatest (`ok`), or answers the first fault (`err`) and leaves the counts as they were (`same`).
-//! - [`Layout::needed`] takes only the counts that the place of one entry needs, and for one that receives not those that it is spared; the
-//!   other tables have their greatest number (`ok`, `err`, `same`).
-//! - [`one_place_by_needs`] is the law that storages which agree on what a reference needs give it one place, whichever of the two calls took
-//!   the counts.
+//! - [`Layout::needed`] takes only the counts that a reference reads: those of the tables that stand before its entry, are it, hold it, stand
+//!   beneath it or beneath a table that holds it, but not those that it is spared where it receives; the other tables have their greatest number
+//!   (`ok`, `err`, `same`).
+//! - The bytes of a storage say one thing of all counts and of those that are needed ([`one_outcome_of_counts`]). Where all are valid, those
+//!   that are needed are, and the place is that under all counts, but for the tables that the reference is spared, which have their greatest
+//!   number ([`all_give_needed`]). Storages that agree on what a reference reads give it one place, whichever of the two calls took the counts
+//!   ([`one_place_by_needs`]).
 //!
-//! The definitions: `CountsOf`, `NeededOf` and `AreGreatest` of specs/Counting.antt, `Refers` and `placed` of specs/References.antt, and what
+//! The definitions: `CountsOf`, `NeededOf` and `AreGreatest` of specs/Counting.antt, `Refers` and `placed` of specs/References.antt, `HaveBytes` of
+//! specs/Bytes.antt, the laws of specs/Laws.antt, and what
 //! they name of `cob_layout_places`, which has the arithmetic of lengths and places. `cob_fields` lends the bytes of a place ([`field`], [`field_mut`]).
 //! Only [`Layout::of`] and [`Layout::new_counts`] take memory.
 #![tactic(auto)]

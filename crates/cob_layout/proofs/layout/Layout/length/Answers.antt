@@ -1,9 +1,10 @@
-use Rattle.std.proofs.Common.{subst, arith, ◌≤◌, ◌*◌}
+use Rattle.std.proofs.Common.{subst, refl, arith, ◌≤◌, ◌*◌}
 use Rattle.cob_copybook_tree.specs.Nodes.{node}
 use Rattle.cob_copybook_tree.specs.Lengths.{most, sum_of}
 use Rattle.cob_layout_places.specs.Lengths.{alone, times}
 use Rattle.cob_layout_places.specs.Cover.{IsCovered}
-use Rattle.cob_layout.proofs.RecordLemmas.{length_least, length_small}
+use Rattle.cob_layout.proofs.RecordLemmas.{length_is, length_least, length_small}
+use Rattle.cob_layout.proofs.ByteLemmas.{length_some}
 use Rattle.cob_layout.proofs.layout.Layout.length.Goals as goal
 
 pub overflow_mul-result : goal.overflow_mul-result
@@ -25,3 +26,9 @@ pub returns-clause-covered : goal.returns-clause-covered
 returns-clause-covered c =
     subst (λ t. IsCovered (times c.args.counts.now) (alone t)) c.self.view_is
     (c.covering.ensures.covered (times c.args.counts.now) (alone (node c.self.inside.root)) (c.covering.ensures.counted c.args.counts.now) c.self.invariant.1.numbered)
+
+pub returns-clause-least : goal.returns-clause-least
+returns-clause-least c =
+    let t = node c.self.inside.root in
+    let is = length_is c.as_slice-counts.result.now t c.times_of.result c.element_of.result c.self.invariant.1 c.times_of.ensures c.element_of.ensures in
+    omega (arith, is, length_some c.as_slice-counts.result.now t t c.self.invariant.1 c.self.invariant.5 refl)

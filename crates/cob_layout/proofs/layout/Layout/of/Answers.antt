@@ -9,8 +9,8 @@ use Rattle.cob_layout.proofs.layout.Layout.of.Goals as goal
 pub invariant_of-result : goal.invariant_of-result
 invariant_of-result c =
     let t = node c.in_ok-root.root in
-    let same : alone t ≡ c.args.book.now = ap alone c.in_ok-root.ensures ∙ c.root.ensures.tree in
+    let same : alone t ≡ c.args.book.now = ap alone c.in_ok-root.ensures.same ∙ c.root.ensures.tree in
     let is : IsRecord (alone t) = subst IsRecord (sym same) c.root.ensures.record in
     let sound = c.records_are_sound.ensures t is in
     let counts = c.in_ok-counts.ensures ∙ c.deref.ensures.value ∙ c.in_ok-in_order.ensures ∙ sym (greatest_is t sound.numbered) in
-    (is, sound, c.in_ok-tables.ensures, counts, c.greatest-greatest.ensures.value ∙ ap (sum_of most) (sym same))
+    (is, sound, c.in_ok-tables.ensures, counts, c.greatest-greatest.ensures.value ∙ ap (sum_of most) (sym same), c.in_ok-root.ensures.bytes)
