@@ -19,18 +19,18 @@ use Rattle.cob_layout_places.specs.Places.{choose, or_else}
 use Rattle.cob_layout_places.specs.Cover.{AreNumbered}
 use Rattle.cob_layout_places.specs.Counts.{kind_in, kind_one, table_of, tables_of, IsCountable}
 use Rattle.cob_sound.specs.Sound.{AreFilled, IsAhead, IsFilled, IsSound}
-use Rattle.cob_layout.specs.Bytes.{HasByte, HaveBytes}
+use Rattle.cob_copybook.specs.Bytes.{TakesByte, TakeBytes}
 use Rattle.cob_layout.proofs.SteadyLemmas.{steady_times}
 use Rattle.cob_layout.proofs.ThoseLemmas.{IsIn, of_all}
 
 -- ---- each item of a copy does
 
-pub have_push : (ns : List Node) (n : Node) → HaveBytes (forest ns) → HaveBytes (alone (node n)) → HaveBytes (forest (ns ++ n ∷ []))
+pub have_push : (ns : List Node) (n : Node) → TakeBytes (forest ns) → TakeBytes (alone (node n)) → TakeBytes (forest (ns ++ n ∷ []))
 have_push [] n h k = k
 have_push (m ∷ ns) n h k = (h.0, h.1, have_push ns n h.2 k)
 
-pub copy_has : (m n : Node) (copies : List Node) → node m ≡ record { top = resolved_entry (out-Node n); beneath = forest copies } → HasByte (out-Node n).kind → HaveBytes (forest copies) → HaveBytes (alone (node m))
-copy_has m n copies is byte have = subst (λ (t : Tree Resolved). HaveBytes (alone t)) (sym is) (byte, have, tt)
+pub copy_has : (m n : Node) (copies : List Node) → node m ≡ record { top = resolved_entry (out-Node n); beneath = forest copies } → TakesByte (out-Node n).kind → TakeBytes (forest copies) → TakeBytes (alone (node m))
+copy_has m n copies is byte have = subst (λ (t : Tree Resolved). TakeBytes (alone t)) (sym is) (byte, have, tt)
 
 -- ---- and so does the record
 
@@ -97,7 +97,7 @@ group_some Group Bare g h = h
 group_some Group (Grows e kids more) g h = tt
 group_some (ItemKind i) kids g h = absurd (cc)
 
-item_or_group : (k : Kind) (sum : ℕ) → HasByte k → (k ≡ Group → 0 < sum) → 0 < one k sum
+item_or_group : (k : Kind) (sum : ℕ) → TakesByte k → (k ≡ Group → 0 < sum) → 0 < one k sum
 item_or_group Group sum h go = go refl
 item_or_group (ItemKind i) sum h go = h
 
@@ -115,7 +115,7 @@ begun_beneath all n e kids more num group begun = record {
 }
 
 begun_some : (all : Forest Resolved) (c : Resolved → ℕ) (n : ℕ) (f : Forest Resolved) → ((d : Resolved) → is_varying d.occurs ≡ false → c d ≡ most d) → IsSome f
-    → AreNumbered n f → MayOccur f → AreFilled f → HaveBytes f → AreAreas [] f → Begun all n f → 0 < sum_of c f
+    → AreNumbered n f → MayOccur f → AreFilled f → TakeBytes f → AreAreas [] f → Begun all n f → 0 < sum_of c f
 begun_some all c n Bare steady some num occur filled bytes areas begun = absurd some
 begun_some all c n (Grows e kids more) steady some num occur filled bytes areas begun =
     let fixed = not_varying all n e.occurs e.number (tables_of kids ++ tables_of more) num.0 begun.groups begun.counted in
@@ -130,7 +130,7 @@ or_none : (o : Option Kind) → or_else o None ≡ o
 or_none None = refl
 or_none (Some k) = refl
 
-record_some : (c : Resolved → ℕ) (t : Tree Resolved) → ((d : Resolved) → is_varying d.occurs ≡ false → c d ≡ most d) → IsSound t → HaveBytes (alone t) → 0 < sum_of c (alone t)
+record_some : (c : Resolved → ℕ) (t : Tree Resolved) → ((d : Resolved) → is_varying d.occurs ≡ false → c d ≡ most d) → IsSound t → TakeBytes (alone t) → 0 < sum_of c (alone t)
 record_some c t steady s bytes =
     begun_some (alone t) c 0 (alone t) steady tt s.numbered s.fit.possible s.filled bytes s.areas (record {
       groups = λ k i lt is. absurd (omega (arith, lt));
@@ -142,8 +142,8 @@ record_some c t steady s bytes =
     })
 
 -- a record has a byte under whatever counts, and so under the greatest ones
-pub length_some : (counts : List ℕ) (t u : Tree Resolved) → IsSound t → HaveBytes (alone t) → t ≡ u → 0 < sum_of (times counts) (alone u)
+pub length_some : (counts : List ℕ) (t u : Tree Resolved) → IsSound t → TakeBytes (alone t) → t ≡ u → 0 < sum_of (times counts) (alone u)
 length_some counts t u s bytes same = subst (λ (v : Tree Resolved). 0 < sum_of (times counts) (alone v)) same (record_some (times counts) t (λ d v. steady_times _ d.occurs v) s bytes)
 
-pub greatest_some : (t u : Tree Resolved) → IsSound t → HaveBytes (alone t) → t ≡ u → 0 < sum_of most (alone u)
+pub greatest_some : (t u : Tree Resolved) → IsSound t → TakeBytes (alone t) → t ≡ u → 0 < sum_of most (alone u)
 greatest_some t u s bytes same = subst (λ (v : Tree Resolved). 0 < sum_of most (alone v)) same (record_some most t (λ d v. refl) s bytes)

@@ -1,4 +1,3 @@
-pub mod Bytes
 pub mod References
 pub mod Counting
 pub mod Laws

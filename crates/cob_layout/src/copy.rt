@@ -4,7 +4,7 @@ ghost use Rattle.std.specs.Prelude.{◌≡◌, IfOk};
 ghost use Rattle.cob_copybook_tree.specs.Nodes.{forest, node, resolved_entry};
 ghost use Rattle.cob_copybook_tree.specs.declared.node.Node.TheViews.{out-Node};
 ghost use Rattle.cob_layout_places.specs.Lengths.{alone};
-ghost use Rattle.cob_layout.specs.Bytes.{HasByte, HaveBytes};
+ghost use Rattle.cob_copybook.specs.Bytes.{TakesByte, TakeBytes};
 
 use cob_copybook_entries::{Name, Value};
 use cob_copybook_tree::{Item, Kind, Node};
@@ -13,7 +13,7 @@ use std::alloc::{AllocError, Global};
 /// What an entry describes, once more. It takes no memory, and so cannot fail. An item takes a byte, since its picture does.
 fn same_kind(kind: &Kind) -> Kind
     ensures same { result ≡ kind.now }
-    ensures byte { HasByte kind.now }
+    ensures byte { TakesByte kind.now }
 {
     match kind {
         Kind::Group => Kind::Group,
@@ -33,7 +33,7 @@ fn same_kind(kind: &Kind) -> Kind
 /// An entry once more, with these children beneath it.
 fn same_entry(entry: &Node, children: Vec<Node>) -> Node
     ensures same { node result ≡ record { top = resolved_entry (out-Node entry.now); beneath = forest children.items } }
-    ensures byte { HasByte (out-Node entry.now).kind }
+    ensures byte { TakesByte (out-Node entry.now).kind }
 {
     Node {
         number: entry.number,
@@ -55,7 +55,7 @@ fn same_entry(entry: &Node, children: Vec<Node>) -> Node
 /// Where no memory is left.
 pub(crate) fn copied(alloc: Global, entry: &Node) -> Result<Node, AllocError>
     ensures same { IfOk result (λ copy. node copy ≡ node entry.now) }
-    ensures bytes { IfOk result (λ copy. HaveBytes (alone (node copy))) }
+    ensures bytes { IfOk result (λ copy. TakeBytes (alone (node copy))) }
 {
     let mut children: Vec<Node> = Vec::new(alloc);
     for child in entry.children.iter() {

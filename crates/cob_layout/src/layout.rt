@@ -8,7 +8,7 @@ ghost use Rattle.cob_copybook.specs.Books.{IsRecord};
 ghost use Rattle.cob_layout_places.specs.Lengths.{alone, times};
 ghost use Rattle.cob_layout_places.specs.Places.{find};
 ghost use Rattle.cob_layout_places.specs.Cover.{IsCovered};
-ghost use Rattle.cob_layout.specs.Bytes.{HaveBytes};
+ghost use Rattle.cob_copybook.specs.Bytes.{TakeBytes};
 ghost use Rattle.cob_layout.specs.References.{Refers, placed};
 ghost use Rattle.cob_layout.specs.Counting.{greatest_counts, AreGreatest, CountsOf, NeededOf};
 
@@ -49,7 +49,7 @@ impl Model for Layout {
     ghost use Rattle.cob_layout_places.specs.Counts.{tables_of};
     ghost use Rattle.cob_sound.specs.Sound.{IsSound};
     ghost use Rattle.cob_layout.specs.Counting.{greatest_counts};
-    ghost use Rattle.cob_layout.specs.Bytes.{HaveBytes};
+    ghost use Rattle.cob_copybook.specs.Bytes.{TakeBytes};
     ghost use Rattle.std.specs.Coded.{codes};
     ghost use Rattle.cob_copybook.specs.Codes.{coded_forest};
 
@@ -59,7 +59,7 @@ impl Model for Layout {
 
     ghost view = { λ l. node l.root };
 
-    ghost invariant = { λ l. IsRecord (alone (node l.root)) × IsSound (node l.root) × (l.tables.items ≡ tables_of (alone (node l.root))) × (l.counts ≡ greatest_counts (node l.root)) × (l.greatest ≡ sum_of most (alone (node l.root))) × HaveBytes (alone (node l.root)) };
+    ghost invariant = { λ l. IsRecord (alone (node l.root)) × IsSound (node l.root) × (l.tables.items ≡ tables_of (alone (node l.root))) × (l.counts ≡ greatest_counts (node l.root)) × (l.greatest ≡ sum_of most (alone (node l.root))) × TakeBytes (alone (node l.root)) };
 }
 
 /// The place of an element, or the fault where it isn't one of those that there are.
@@ -108,7 +108,7 @@ impl Layout {
         ensures most { result ≤ longest_record }
         ensures record { IsRecord (alone self.now) }
         // Each item takes a byte at least.
-        ensures bytes { HaveBytes (alone self.now) }
+        ensures bytes { TakeBytes (alone self.now) }
     {
         self.greatest
     }

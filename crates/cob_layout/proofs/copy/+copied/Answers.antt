@@ -1,7 +1,7 @@
 use Rattle.std.proofs.Common.{List, sym, subst}
 use Rattle.cob_copybook_tree.specs.declared.node.Node.{Node}
 use Rattle.cob_copybook_tree.specs.Nodes.{forest}
-use Rattle.cob_layout.specs.Bytes.{HaveBytes}
+use Rattle.cob_copybook.specs.Bytes.{TakeBytes}
 use Rattle.cob_layout.proofs.CopyLemmas.{copy_is, next_copied}
 use Rattle.cob_layout.proofs.ByteLemmas.{copy_has, have_push}
 use Rattle.cob_layout.proofs.copy.+copied.Goals as goal
@@ -12,7 +12,7 @@ loop-child-preserved t c =
     let made = c.push.new.self.items in
     let items = c.in_ok-push.ensures.items in (
       next_copied copies made c.deref-child-items.result.now c.loop-child.child-index c.child-item.result c.in_ok-copy.copy c.loop-child-test.true c.child-item.is c.in_ok-copy.ensures.same items c.loop-child.invariant.0,
-      subst (λ (ns : List Node). HaveBytes (forest ns)) (sym items) (have_push copies c.in_ok-copy.copy c.loop-child.invariant.1 c.in_ok-copy.ensures.bytes),
+      subst (λ (ns : List Node). TakeBytes (forest ns)) (sym items) (have_push copies c.in_ok-copy.copy c.loop-child.invariant.1 c.in_ok-copy.ensures.bytes),
     )
 
 pub returns-clause-same : goal.returns-clause-same

@@ -1,6 +1,6 @@
 use Rattle.std.proofs.Common.{◌≡◌, ◌++◌, drop, map}
 use Rattle.cob_copybook_tree.specs.Nodes.{node, forest}
-use Rattle.cob_layout.specs.Bytes.{HaveBytes}
+use Rattle.cob_copybook.specs.Bytes.{TakeBytes}
 use Rattle.cob_layout.proofs.copy.+copied.Given as goal
 
 abbrev pub decreases-copied : goal.decreases-copied
@@ -8,4 +8,4 @@ decreases-copied l = goal.size-copied l
 
 abbrev pub invariant-loop-child : goal.invariant-loop-child
 invariant-loop-child l =
-    (map node l.children.items ++ map node (drop l.child-index l.child-items) ≡ map node l.child-items) × HaveBytes (forest l.children.items)
+    (map node l.children.items ++ map node (drop l.child-index l.child-items) ≡ map node l.child-items) × TakeBytes (forest l.children.items)
