@@ -3,3 +3,4 @@ pub mod Trees
 pub mod Storages
 pub mod Books
 pub mod Bytes
+pub mod NoRule

@@ -2,3 +2,4 @@ pub mod Codes
 pub mod Records
 pub mod Books
 pub mod Bytes
+pub mod Laws

@@ -6,7 +6,8 @@
 //! it ([`Book::root`]) and its greatest length ([`Book::greatest`]).
 //!
 //! What is promised of [`Book::read`]: what it answers is the tree of the text (clause `found`); every text that is a well-formed record
-//! description is read, but for want of memory (`only`); and a refusal names a rule that is broken (`fault`). The definitions: `IsBookOf`
+//! description is read, but for want of memory (`only`); and a refusal names a rule that is broken (`fault`). That no text is both, a
+//! record description and one that breaks a rule, is the law [`book_breaks_no_rule`] of specs/Laws.antt. The definitions: `IsBookOf`
 //! and `IsRefusal` of specs/Books.antt say it of texts, `IsRecordOf` of specs/Records.antt of entries. Which line is named, no clause
 //! says.
 //!
@@ -23,5 +24,5 @@ mod tree;
 mod words;
 
 pub use book::Book;
-pub use laws::records_take_bytes;
+pub use laws::{book_breaks_no_rule, records_take_bytes};
 pub use role::Role;
