@@ -8,3 +8,4 @@ pub mod Sentences
 pub mod Reading
 pub mod Endings
 pub mod OneList
+pub mod NoRule

@@ -97,7 +97,7 @@ digit_kept d cs =
     let minus : ((d + 48) == 45) ≡ false = grind (arith, nat_tests) in
     rw (plus, minus) refl
 
-sign_off : (s : Option Bool) (whole fraction : List ℕ) → behind_sign (sign_text s ++ (characters whole ++ fraction_text fraction)) ≡ characters whole ++ fraction_text fraction
+pub sign_off : (s : Option Bool) (whole fraction : List ℕ) → behind_sign (sign_text s ++ (characters whole ++ fraction_text fraction)) ≡ characters whole ++ fraction_text fraction
 sign_off None [] [] = refl
 sign_off None [] (f ∷ fraction) = refl
 sign_off None (d ∷ whole) fraction = digit_kept d (characters whole ++ fraction_text fraction)

@@ -2,8 +2,14 @@
 use Rattle.std.specs.Prelude.{◌≡◌, List}
 use Rattle.cob_source.specs.Tokens.{Lexeme}
 use Rattle.cob_copybook_entries.specs.Described.{Described}
-use Rattle.cob_copybook_entries.specs.Books.{AreEntriesOf}
+use Rattle.cob_copybook_entries.specs.declared.fault.BookRule.{BookRule}
+use Rattle.cob_copybook_entries.specs.declared.fault.BookRule.TheVariants.{Memory}
+use Rattle.cob_copybook_entries.specs.Books.{AreEntriesOf, IsBroken}
 
 -- words are one list of entries at most
 abbrev pub OneListOfEntries : Type 0
 OneListOfEntries = (ws : List Lexeme) (a b : List Described) → AreEntriesOf ws a → AreEntriesOf ws b → a ≡ b
+
+-- words that are entries break no rule on words
+abbrev pub EntriesBreakNoRule : Type 0
+EntriesBreakNoRule = (ws : List Lexeme) (ds : List Described) (r : BookRule) → AreEntriesOf ws ds → IsBroken r ws → r ≡ Memory

@@ -1,5 +1,5 @@
 -- Bytes of an item represent one number, whatever its kind of storage.
-use Rattle.std.proofs.Common.{◌≡◌, ℕ, ◌+◌, ◌<◌, List, refl, arith, Bool, true, false, Option, Some, None}
+use Rattle.std.proofs.Common.{◌≡◌, ℕ, ◌+◌, ◌<◌, List, refl, sym, subst, arith, Bool, true, false, Option, Some, None}
 use Rattle.cob_picture.specs.Positions.{Seen}
 use Rattle.cob_picture.specs.Counts.{digits, signed, size}
 use Rattle.cob_copybook_clauses.specs.declared.kinds.Usage.{Usage}
@@ -15,7 +15,7 @@ use Rattle.cob_codec.specs.PackedLaws as packed
 use Rattle.cob_codec.specs.BinaryLaws as binary
 use Rattle.cob_item.specs.declared.form.Form.{Form}
 use Rattle.cob_item.specs.declared.form.Form.TheVariants.{Zoned, Separate, Packed, Binary}
-use Rattle.cob_item.specs.Items.{RepresentsAs, OneNumber, ReadsBack, HoldsNumbers, IsTaken, written_as, form_of, form_by, display_form, is_leading, size_as}
+use Rattle.cob_item.specs.Items.{IsNumberItem, Represents, stored_form, RepresentsAs, OneNumber, ReadsBack, HoldsNumbers, IsTaken, written_as, form_of, form_by, display_form, is_leading, size_as}
 
 one_as : (f : Form) (leading : Bool) (p : Seen) (bytes : List ℕ) (a b : Bool) (ds es : List ℕ)
     → RepresentsAs f leading p bytes a ds → RepresentsAs f leading p bytes b es → (a ≡ b) × (ds ≡ es)
@@ -36,6 +36,11 @@ reads_back_as Binary leading p negative ds t some h = binary.reads_back (digits 
 
 pub reads_back : ReadsBack
 reads_back i negative ds n some h = reads_back_as (form_of i) (is_leading i.sign) i.picture negative ds n.taken some h
+
+-- bytes that are those written for a number represent it
+pub written_reads : (i : Item) (negative : Bool) (ds bytes : List ℕ) → IsNumberItem i → 0 < digits i.picture.positions → IsHeld (digits i.picture.positions) (signed i.picture.positions) negative ds
+    → bytes ≡ stored_form i negative ds → Represents i bytes negative ds
+written_reads i negative ds bytes n some h e = subst (λ (xs : List ℕ). Represents i xs negative ds) (sym e) (reads_back i negative ds n some h)
 
 held_as : (f : Form) (leading : Bool) (p : Seen) (bytes : List ℕ) (negative : Bool) (ds : List ℕ) → IsTaken f p → RepresentsAs f leading p bytes negative ds
     → IsHeld (digits p.positions) (signed p.positions) negative ds

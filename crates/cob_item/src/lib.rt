@@ -4,7 +4,8 @@
 //! An [`cob_copybook_tree::Item`] of a record description is stored in one of the four kinds of cob_codec: zoned or with a separate sign under
 //! DISPLAY, packed, or binary. What is promised: [`read_number`] gives the number that the bytes of an item represent, at the scale of its
 //! picture (`found`, `scale`), and None only where they represent none (`only`); [`store_number`] writes the one stored form of a number
-//! (`bytes`), of one that the item can hold (`held`). The words for these are in specs/Items.antt: `Represents`, `stored_form`, and
+//! (`bytes`), of one that the item can hold (`held`), and these bytes
+//! represent it (`reads`). The words for these are in specs/Items.antt: `Represents`, `stored_form`, and
 //! `IsNumberItem`, which says of which items this is said ([`is_number_item`] tells). The laws: bytes represent at most one number ([`one_number`]), what was stored
 //! reads back ([`stored_numbers_read_back`]), and what bytes represent is a number of the picture's digits and sign
 //! ([`items_hold_numbers`]).

@@ -1,4 +1,4 @@
-ghost use Rattle.std.specs.Prelude.{◌≡◌, ◌≤◌, ℕ, Bool, true, List, length, IfSome, IsSomeAnd, IsTrue};
+ghost use Rattle.std.specs.Prelude.{◌≡◌, ◌<◌, ◌≤◌, ℕ, Bool, true, List, length, IfSome, IsSomeAnd, IsTrue};
 ghost use Rattle.cob_codec.specs.Sign.{IsHeld};
 ghost use Rattle.cob_picture.specs.Counts.{digits, scale, signed};
 ghost use Rattle.cob_picture.specs.declared.category.Category.TheVariants.{Numeric};
@@ -15,6 +15,7 @@ use cob_decimal::Number;
 fn shape_of(item: &Item) -> Shape
     requires { is_numeric item.now.picture.category ≡ true }
     ensures digits { result.digits ≡ digits item.now.picture.positions }
+    ensures some { 0 < digits item.now.picture.positions }
     ensures scale { result.scale ≡ scale item.now.picture.positions }
     ensures signed { result.signed ≡ signed item.now.picture.positions }
     ensures leading { result.leading ≡ is_leading item.now.sign }
@@ -56,6 +57,7 @@ pub fn store_number(item: &Item, number: &Number, bytes: &mut [u8])
     requires sign { IsTrue number.now.negative → IsTrue (signed item.now.picture.positions) }
     ensures bytes { bytes.new ≡ stored_form item.now number.now.negative number.now.digits }
     ensures held { IsHeld (digits item.now.picture.positions) (signed item.now.picture.positions) number.now.negative number.now.digits }
+    ensures reads { Represents item.now bytes.new number.now.negative number.now.digits }
 {
     let shape = shape_of(item);
     match form_of(item) {

@@ -2,4 +2,9 @@ pub mod CopyLemmas
 pub mod GreatestLemmas
 pub mod RecordLemmas
 pub mod ReferenceLemmas
+pub mod ReferLemmas
+pub mod SteadyLemmas
+pub mod EndLemmas
+pub mod AreaLemmas
+pub mod ThoseLemmas
 pub mod NeedLemmas

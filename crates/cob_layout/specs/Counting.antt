@@ -1,15 +1,16 @@
 -- The counts of a record.
-use Rattle.std.specs.Prelude.{◌≡◌, ℕ, Bool, List, [], ◌∷◌, ◌++◌, Result, replicate}
+use Rattle.std.specs.Prelude.{◌≡◌, ◌⊎◌, ℕ, Bool, true, List, [], ◌∷◌, ◌++◌, Result, replicate}
 use Rattle.cob_copybook_tree.specs.declared.node.Times.{Times}
 use Rattle.cob_copybook_tree.specs.declared.node.Times.TheVariants.{Once, Fixed, Varying}
 use Rattle.cob_copybook_tree.specs.Forests.{Forest, Bare, Grows, Tree, entries_in}
 use Rattle.cob_copybook_tree.specs.Nodes.{Resolved}
 use Rattle.cob_copybook_tree.specs.Lengths.{most, sum_of}
 use Rattle.cob_layout_places.specs.declared.counts.CountFault.{CountFault}
+use Rattle.cob_layout_places.specs.declared.varying.Table.{Table}
 use Rattle.cob_layout_places.specs.Lengths.{alone, times}
 use Rattle.cob_layout_places.specs.Places.{find}
 use Rattle.cob_layout_places.specs.Counts.{tables_of, Taken}
-use Rattle.cob_layout_places.specs.Needs.{greatest, needed}
+use Rattle.cob_layout_places.specs.Needs.{greatest, IsSpared, Needs}
 
 -- the greatest counts of a record, by the numbers of its entries; entries that don't vary have 0
 abbrev pub greatest_counts : Tree Resolved → List ℕ
@@ -30,10 +31,25 @@ in_order (Grows e kids more) = varying e.occurs ∷ (in_order kids ++ in_order m
 abbrev pub CountsOf : Tree Resolved → List ℕ → Result (List ℕ) CountFault → Type 0
 CountsOf t bytes r = Taken t bytes (tables_of (alone t)) (greatest_counts t) r
 
--- The counts that a reference to an entry needs, which receives or not: those that the bytes give to the tables that it needs; the others have
--- their greatest number.
+-- A reference to entry r is spared the count of the table x: it receives, no later entry outside r follows r, and x and its count stand beneath r.
+abbrev pub IsSparedOf : Tree Resolved → ℕ → Bool → Table → Type 0
+IsSparedOf t r receiving x = (receiving ≡ true) × IsSpared r x (alone t)
+
+-- A reference to entry r reads the count of the table x: x stands before r, is r, holds r, stands beneath r or beneath a table that holds r, and
+-- the reference isn't spared it.
+abbrev pub IsRead : Tree Resolved → ℕ → Bool → Table → Type 0
+IsRead t r receiving x = Needs r x.number (alone t) × (IsSparedOf t r receiving x → ⊥)
+
+-- these are those of the tables that are so, in their order
+abbrev pub AreThose : (Table → Type 0) → List Table → List Table → Type 0
+AreThose is [] those = those ≡ []
+AreThose is (x ∷ xs) those = (is x × ((others : List Table) × (those ≡ x ∷ others) × AreThose is xs others)) ⊎ ((is x → ⊥) × AreThose is xs those)
+
+-- The counts that a reference to an entry needs, which receives or not: those that the bytes give to the tables whose counts it reads, one behind
+-- another, or the fault of the first that gives none; the other tables have their greatest number.
 abbrev pub NeededOf : Tree Resolved → ℕ → Bool → List ℕ → Result (List ℕ) CountFault → Type 0
-NeededOf t r receiving bytes result = Taken t bytes (needed t r receiving (tables_of (alone t))) (greatest_counts t) result
+NeededOf t r receiving bytes result =
+    (xs : List Table) × AreThose (IsRead t r receiving) (tables_of (alone t)) xs × Taken t bytes xs (greatest_counts t) result
 
 -- under these counts each entry occurs as often as at most: the lengths and places are the greatest ones
 pub record AreGreatest (t : Tree Resolved) (counts : List ℕ) : Type 0 where

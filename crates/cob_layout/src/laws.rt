@@ -1,15 +1,51 @@
-ghost use Rattle.cob_layout.specs.Laws.{OnePlaceByNeeds};
+ghost use Rattle.cob_layout.specs.Laws.{AllGiveNeeded, BeginWithArea, EndInLength, FitsRef, OneOfAll, OneOfNeeded, OnePlaceByNeeds};
 
 use cob_layout_places::{needs_are_read, one_outcome, one_place, same_counts};
 use cob_sound::records_are_sound;
 
-/// Storages that agree on the counts that a reference needs give it one place.
-pub fn one_place_by_needs()
-    ensures { OnePlaceByNeeds }
+/// A legal reference has at most as many subscripts as a `Ref` has room for.
+pub fn fits_ref()
+    ensures { FitsRef }
+{
+    records_are_sound();
+}
+
+/// An element that is there ends within the record's length under the same counts.
+pub fn places_end_in_length()
+    ensures { EndInLength }
+{
+    records_are_sound();
+}
+
+/// A redefining entry begins where the entry that began the area begins.
+pub fn redefinitions_begin_with_area()
+    ensures { BeginWithArea }
+{
+    records_are_sound();
+}
+
+/// The bytes of a storage say one thing of its counts: of all, and of those that a reference needs.
+pub fn one_outcome_of_counts()
+    ensures all { OneOfAll }
+    ensures needed { OneOfNeeded }
+{
+    one_outcome();
+}
+
+/// Where all counts of a storage are valid, those that a reference needs are, and they give it its place under all counts.
+pub fn all_give_needed()
+    ensures { AllGiveNeeded }
 {
     records_are_sound();
     needs_are_read();
-    same_counts();
-    one_outcome();
     one_place();
+}
+
+/// Storages that agree on the counts that a reference reads give it one place.
+pub fn one_place_by_needs()
+    ensures { OnePlaceByNeeds }
+{
+    all_give_needed();
+    one_outcome_of_counts();
+    same_counts();
 }

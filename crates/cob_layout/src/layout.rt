@@ -1,6 +1,6 @@
 //! Layouts.
 
-ghost use Rattle.std.specs.Prelude.{◌≡◌, ◌≤◌, ◌+◌, length, Ok, Err, Some, OnOk, IfOk, IfErr, OnErr, option_map};
+ghost use Rattle.std.specs.Prelude.{◌≡◌, ◌≤◌, ◌+◌, length, Ok, Err, Some, OnOk, IfNone, IfOk, IfErr, IfSome, OnErr, option_map};
 ghost use Rattle.cob_copybook_tree.specs.Forests.{entries_in};
 ghost use Rattle.cob_copybook_tree.specs.Lengths.{most, sum_of};
 ghost use Rattle.cob_limits.specs.Limits.{longest_record};
@@ -13,13 +13,15 @@ ghost use Rattle.cob_layout.specs.Counting.{greatest_counts, AreGreatest, Counts
 
 use crate::copy::copied;
 use crate::counts::{Counts, greatest_in_order};
-use crate::reference::{PlaceFault, Ref};
+use crate::laws::{fits_ref, places_end_in_length};
+use crate::reference::{PlaceFault, Ref, refers};
+use arrayvec::ArrayVec;
 use cob_copybook::Book;
 use cob_copybook_tree::Node;
 use cob_fields::Place;
 use cob_layout_places::{
-    CountFault, Found, Table, covering, element_of, places_end_in_record, seek, tables,
-    take_counts, take_needed, times_of,
+    CountFault, Found, Table, covering, element_of, needs_are_read, places_end_in_record, seek,
+    tables, take_counts, take_needed, times_of,
 };
 use cob_sound::records_are_sound;
 use std::alloc::{AllocError, Global};
@@ -139,6 +141,25 @@ impl Layout {
         (times_of(&self.root, counts) * element_of(&self.root, counts)) as u16
     }
 
+    /// The reference to the entry with this number, with these subscripts. None where it isn't a legal one: the record has no such entry, or a
+    /// table that holds the entry or that it is has no subscript, or one that isn't from 1 to its greatest number, or there is one too many.
+    pub fn reference(&self, node: usize, subscripts: &[u32]) -> Option<Ref>
+        ensures found { IfSome result (λ r. (r.node ≡ node) × (r.subscripts.items ≡ subscripts.now)) }
+        ensures legal { IfSome result (λ r. Refers r.node r.subscripts.items (alone self.now)) }
+        ensures none { IfNone result (Refers node subscripts.now (alone self.now) → ⊥) }
+    {
+        fits_ref();
+        if !refers(&self.root, node, subscripts) {
+            return None;
+        }
+        let mut own = ArrayVec::new();
+        own.try_extend_from_slice(subscripts).ok()?;
+        Some(Ref {
+            node,
+            subscripts: own,
+        })
+    }
+
     /// Where a reference stands under these counts.
     ///
     /// # Errors
@@ -147,9 +168,12 @@ impl Layout {
     pub fn place(&self, r: &Ref, counts: &Counts) -> Result<Place, PlaceFault>
         requires refers { Refers r.now.node r.now.subscripts.items (alone self.now) }
         ensures value { option_map placed (find (times counts.now) r.now.node (alone self.now) 0 0 r.now.subscripts.items) ≡ Some result }
+        // An element that is there ends within the record's length under the same counts.
+        ensures current { IfOk result (λ p. p.offset + p.length ≤ sum_of (times counts.now) (alone self.now)) }
         ensures fits { IfOk result (λ p. p.offset + p.length ≤ sum_of most (alone self.now)) }
     {
         places_end_in_record();
+        places_end_in_length();
         match seek(
             &self.root,
             r.node,
@@ -199,6 +223,7 @@ impl Layout {
         ensures same { OnErr result (counts.new ≡ counts.old) }
         ensures room { length counts.new ≡ length counts.old }
     {
+        needs_are_read();
         counts.next.fill(0);
         take_needed(
             &self.root,

@@ -37,6 +37,9 @@ mod reference;
 pub use cob_fields::{Place, field, field_mut};
 pub use cob_layout_places::CountFault;
 pub use counts::Counts;
-pub use laws::one_place_by_needs;
+pub use laws::{
+    all_give_needed, fits_ref, one_outcome_of_counts, one_place_by_needs, places_end_in_length,
+    redefinitions_begin_with_area,
+};
 pub use layout::Layout;
 pub use reference::{PlaceFault, Ref};

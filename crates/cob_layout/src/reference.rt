@@ -1,4 +1,12 @@
+ghost use Rattle.std.specs.Prelude.{◌≡◌, IfNone, IfSome, IsFalse, IsTrue};
+ghost use Rattle.cob_copybook_tree.specs.Lengths.{most_by};
+ghost use Rattle.cob_copybook_tree.specs.Nodes.{node};
+ghost use Rattle.cob_layout_places.specs.Lengths.{alone};
+ghost use Rattle.cob_layout_places.specs.Places.{is_table, later};
+ghost use Rattle.cob_layout.specs.References.{IsSubscripted, Refers};
+
 use arrayvec::ArrayVec;
+use cob_copybook_tree::{Node, Times};
 use cob_limits::MAX_SUBSCRIPTS;
 
 /// A reference to an entry of a record.
@@ -15,4 +23,40 @@ pub struct Ref {
 pub struct PlaceFault {
     /// Where the element would begin, in bytes from the start of the record.
     pub offset: u32,
+}
+
+/// The subscripts that are left for the entries beneath one that occurs so often, where it has the subscript that it asks for.
+fn after_own(occurs: Times, subscripts: &[u32]) -> Option<&[u32]>
+    ensures legal { IfSome result (λ rest. IsSubscripted (is_table occurs) (most_by occurs) subscripts.now) }
+    ensures rest { IfSome result (λ rest. rest.now ≡ later (is_table occurs) subscripts.now) }
+    ensures none { IfNone result (IsSubscripted (is_table occurs) (most_by occurs) subscripts.now → ⊥) }
+{
+    let most = match occurs {
+        Times::Once => return Some(subscripts),
+        Times::Fixed(most) | Times::Varying { most, .. } => most,
+    };
+    let (first, rest) = subscripts.split_first()?;
+    if *first == 0 || *first > most {
+        return None;
+    }
+    Some(rest)
+}
+
+/// Whether the entry with this number is this one or one beneath it, and the subscripts are legal ones for it.
+pub(crate) fn refers(entry: &Node, number: usize, subscripts: &[u32]) -> bool
+    ensures must { IsTrue result → Refers number subscripts.now (alone (node entry.now)) }
+    ensures only { IsFalse result → Refers number subscripts.now (alone (node entry.now)) → ⊥ }
+{
+    let Some(rest) = after_own(entry.occurs, subscripts) else {
+        return false;
+    };
+    if entry.number == number && rest.is_empty() {
+        return true;
+    }
+    for child in entry.children.iter() {
+        if refers(child, number, rest) {
+            return true;
+        }
+    }
+    false
 }
