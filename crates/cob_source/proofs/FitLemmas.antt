@@ -1,17 +1,16 @@
 -- The lines of a text that breaks no rule.
-use Rattle.std.proofs.Common.{◌≡◌, ℕ, ◌+◌, Bool, true, false, List, [], ◌∷◌, ◌++◌, length, refl, sym, ap, subst, ◌∙◌, append_assoc, arith}
+use Rattle.std.proofs.Common.{◌≡◌, ℕ, ◌+◌, Bool, true, false, List, [], ◌∷◌, ◌++◌, length, refl, sym, subst, ◌∙◌, append_assoc}
 use Rattle.std.specs.Prelude.{Option, Some, None, is_some}
 use Rattle.std.proofs.lemmas.List.{append-nil}
 use Rattle.cob_source.specs.declared.token.Cell.{Cell}
 use Rattle.cob_source.specs.declared.token.Cutting.{Cutting}
 use Rattle.cob_source.specs.declared.lines.LineKind.{LineKind}
 use Rattle.cob_source.specs.declared.lines.LineKind.TheVariants.{Skipped, Plain, Continuation}
-use Rattle.cob_source.specs.declared.fault.SourceRule.{SourceRule}
 use Rattle.cob_source.specs.declared.fault.SourceRule.TheVariants.{NotAscii, Tab, OpenLiteral, BadContinuation, TooLong, UnknownIndicator, Memory}
 use Rattle.cob_source.specs.Tokens.{Lexeme}
 use Rattle.cob_source.specs.Cuts.{open_quote}
 use Rattle.cob_source.specs.Lines.{lines, kind_of, joined_of, last_joined}
-use Rattle.cob_source.specs.Words.{breaks, is_kind, Fits, AllFit, AreFit, BreaksAt, IsMisplaced, IsLeftOpen, IsBroken, AreCutsOf}
+use Rattle.cob_source.specs.Words.{breaks, Fits, AreFit, BreaksAt, IsMisplaced, IsLeftOpen, AreCutsOf}
 use Rattle.cob_source.proofs.ReadingLemmas.{AllFit-push}
 
 -- no rule is broken on any line of these

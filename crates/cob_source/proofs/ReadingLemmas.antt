@@ -12,7 +12,7 @@ use Rattle.cob_limits.specs.Limits.{longest_text}
 use Rattle.cob_source.specs.Tokens.{Lexeme}
 use Rattle.cob_source.specs.Cuts.{is_quote, open_from, open_quote, nowhere, Cuts, End}
 use Rattle.cob_source.specs.Lines.{lines, written, behind_spaces, is_nil, is_blank, kind_of, line_end, cells_behind, trim_end, continued_text, left_out, continued, join, join_by, joined_from, joined_of, last_by, last_from, last_joined}
-use Rattle.cob_source.specs.Words.{breaks, BreaksAlone, KeepsCharacters, BreaksAt, NoContinuation, IsLeftOpen, IsBroken, IsRefusal, AreCutsOf, Fits, AllFit, AreFit, is_bad_continuation, is_misfit, ends_quoted, first_character}
+use Rattle.cob_source.specs.Words.{breaks, BreaksAlone, KeepsCharacters, BreaksAt, NoContinuation, IsLeftOpen, IsBroken, IsRefusal, AreCutsOf, Fits, AllFit, is_bad_continuation, is_misfit, ends_quoted, first_character}
 use Rattle.cob_source.specs.Reading.{Begins, HasRead, EndRefused, ContinuationRefused, IsContinued, LineRefused}
 use Rattle.cob_source.proofs.Opens.{open_from-append}
 use Rattle.cob_source.proofs.CutOnce.{EndFirst, cut_both, cut_once}
