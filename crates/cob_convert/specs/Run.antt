@@ -60,6 +60,7 @@ abbrev pub offset_from : Misfit → ℕ
 offset_from (Uncounted offset) = offset
 offset_from Unfitting = 0
 
+-- and its cause
 abbrev pub refusal_from : Misfit → Cause
 refusal_from (Uncounted offset) = Count
 refusal_from Unfitting = Record Length

@@ -5,6 +5,7 @@ use Rattle.std.proofs.Common.{ap, ◌∙◌, sym}
 use Rattle.std.proofs.lemmas.List.{append_assoc, append-nil}
 use Rattle.cob_copybook_tree.specs.Forests.{Forest, Bare, Grows}
 
+-- the entries of a tree, parents first, with a mark where a row of entries ends
 abbrev pub told : {A : Type 0} → Forest A → List (Option A)
 told Bare = None ∷ []
 told (Grows e kids more) = Some e ∷ (told kids ++ told more)
@@ -15,14 +16,17 @@ gather e [] = []
 gather e (kids ∷ []) = []
 gather e (kids ∷ more ∷ rows) = Grows e kids more ∷ rows
 
+-- what one more entry, or a mark, makes of the rows behind it
 abbrev pub row : {A : Type 0} → Option A → List (Forest A) → List (Forest A)
 row None rows = Bare ∷ rows
 row (Some e) rows = gather e rows
 
+-- the rows that a list of entries and marks stands for
 abbrev pub rows_of : {A : Type 0} → List (Option A) → List (Forest A)
 rows_of [] = []
 rows_of (x ∷ xs) = row x (rows_of xs)
 
+-- the first of them, which is the tree
 abbrev pub first_row : {A : Type 0} → List (Forest A) → Forest A
 first_row [] = Bare
 first_row (f ∷ rows) = f
@@ -37,5 +41,6 @@ told_again {A} (Grows e kids more) xs =
 pub same_again : {A : Type 0} (f : Forest A) → first_row (rows_of (told f)) ≡ f
 same_again {A} f = ap (λ (xs : List (Option A)). first_row (rows_of xs)) (sym (append-nil (told f))) ∙ ap first_row (told_again f [])
 
+-- the code of a tree, by that of its entries
 abbrev pub coded_forest : {A : Type 0} → Coded A → Coded (Forest A)
 coded_forest {A} c = code_by (List (Option A)) (coded_list (coded_option c)) told (λ xs. first_row (rows_of xs)) same_again

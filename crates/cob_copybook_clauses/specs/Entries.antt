@@ -86,6 +86,7 @@ pub record IsCondition (ws : List Lexeme) (name : List ℕ) : Type 0 where
   pub value_is : term_of value ≡ term.Value
   pub words : ws ≡ level ∷ (named ∷ (value ∷ more))
 
+-- whether it is a word, and no literal and no Stop
 abbrev pub is_word_kind : Kind → Bool
 is_word_kind kind.Word = true
 is_word_kind kind.Literal = false
@@ -124,6 +125,7 @@ abbrev pub word_before : Lexeme → List (List Lexeme) → List Lexeme → Sente
 word_before w [] open_end = record { ended = []; open_end = w ∷ open_end }
 word_before w (s ∷ ss) open_end = record { ended = (w ∷ s) ∷ ss; open_end = open_end }
 
+-- sentences with one more word, literal or Stop in front
 abbrev pub sentence_before : Kind → Lexeme → Sentences → Sentences
 sentence_before kind.Stop w ss = record { ended = [] ∷ ss.ended; open_end = ss.open_end }
 sentence_before kind.Word w ss = word_before w ss.ended ss.open_end

@@ -5,6 +5,7 @@ use Rattle.cob_limits.specs.Limits.{longest_name}
 use Rattle.cob_copybook_clauses.specs.declared.term.Term.TheVariants as term
 use Rattle.cob_copybook_clauses.specs.Terms.{term_of_word}
 
+-- a capital, A to Z
 abbrev pub is_letter : ℕ → Bool
 is_letter c = nat_le 65 c && nat_le c 90
 

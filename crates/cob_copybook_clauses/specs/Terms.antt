@@ -12,6 +12,7 @@ pub record Keyword : Type 0 where
   pub text : List ℕ
   pub term : Term
 
+-- a text with what it means
 abbrev pub meaning : List ℕ → Term → Keyword
 meaning text term = record { text = text; term = term }
 
@@ -87,6 +88,7 @@ unfoldable pub term_of_word : List ℕ → Term
 term_of_word text =
     term_by clause_words text (term_by usage_words text (term_by figurative_words text (term_by left_out_words text (term_by statement_words text term.Plain))))
 
+-- what a text means as a word, and what a literal and a Stop are
 abbrev pub term_of_kind : Kind → List ℕ → Term
 term_of_kind kind.Word text = term_of_word text
 term_of_kind kind.Literal text = term.Literal

@@ -46,6 +46,7 @@ pub record WrittenEntry : Type 0 where
   pub name : Option (List ℕ)
   pub clauses : WrittenClauses
 
+-- the constant of a VALUE clause, without where its text lies in memory
 abbrev pub written_constant : Constant → WrittenConstant
 written_constant (constant.Word text) = Word text.now
 written_constant (constant.Literal text) = Quoted text.now
@@ -58,12 +59,15 @@ names_behind [] = []
 names_behind (w ∷ []) = []
 names_behind (w ∷ n ∷ ws) = n.text ∷ names_behind ws
 
+-- the name of a count with its qualifiers, likewise
 abbrev pub written_name : Count → WrittenName
 written_name c = record { name = c.name.now; qualifiers = names_behind (lexemes c.qualifiers.now) }
 
+-- an OCCURS clause, likewise
 abbrev pub written_table : Table → WrittenTable
 written_table t = record { least = option_map (λ b. b.now) t.least; most = t.most.now; count = option_map written_name t.count }
 
+-- the clauses of an entry, likewise
 abbrev pub written_clauses : Clauses → WrittenClauses
 written_clauses c = record {
   redefines = option_map (λ b. b.now) c.redefines;
@@ -76,5 +80,6 @@ written_clauses c = record {
   blank = c.blank;
 }
 
+-- an entry as it is written, likewise
 abbrev pub written_entry : Written → WrittenEntry
 written_entry w = record { level = w.level.now; name = option_map (λ b. b.now) w.name; clauses = written_clauses w.clauses }

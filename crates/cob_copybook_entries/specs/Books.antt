@@ -27,6 +27,7 @@ pub record IsEntry (s : List Lexeme) (d : Described) : Type 0 where
 abbrev pub IsConditionEntry : List Lexeme → Type 0
 IsConditionEntry s = (name : List ℕ) × IsCondition s name × IsName name
 
+-- a level 88 entry adds nothing to the entries behind it, a data entry itself
 abbrev pub IsSentence : Bool → List Lexeme → List Described → List Described → Type 0
 IsSentence true s ds more = IsConditionEntry s × (ds ≡ more)
 IsSentence false s ds more = (d : Described) × IsEntry s d × (ds ≡ d ∷ more)
@@ -52,6 +53,7 @@ pub record AreEntriesOf (ws : List Lexeme) (ds : List Described) : Type 0 where
 abbrev pub BreaksNumber : WrittenTable → Type 0
 BreaksNumber t = (AreDigits t.most → ⊥) ⊎ ((text : List ℕ) × (t.least ≡ Some text) × (AreDigits text → ⊥))
 
+-- a word that is no number stands in a number's place of an OCCURS clause, if there is one
 abbrev pub BreaksNumbers : Option WrittenTable → Type 0
 BreaksNumbers None = ⊥
 BreaksNumbers (Some t) = BreaksNumber t
@@ -73,6 +75,7 @@ abbrev pub BreaksTable : Option WrittenTable → Type 0
 BreaksTable None = ⊥
 BreaksTable (Some t) = (BreaksNumber t → ⊥) × ((least most : ℕ) → AreNumbers t least most → ⊥)
 
+-- what stands in a name's place isn't one
 abbrev pub IsNoName : Option (List ℕ) → Type 0
 IsNoName None = ⊥
 IsNoName (Some text) = IsName text → ⊥
@@ -102,6 +105,7 @@ abbrev pub BreaksData : BookRule → List Lexeme → Type 0
 BreaksData rule.Grammar s = ((w : WrittenEntry) → IsWritten s w → ⊥) ⊎ ((w : WrittenEntry) × IsWritten s w × BreaksEntry rule.Grammar w)
 BreaksData r s = (w : WrittenEntry) × IsWritten s w × BreaksEntry r w
 
+-- a level 88 entry, or a data entry, breaks the rule
 abbrev pub BreaksBy : Bool → BookRule → List Lexeme → Type 0
 BreaksBy true r s = BreaksCondition r s
 BreaksBy false r s = BreaksData r s

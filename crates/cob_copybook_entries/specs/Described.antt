@@ -36,16 +36,19 @@ pub record Described : Type 0 where
   pub justified : Bool
   pub blank : Bool
 
+-- the constant of a VALUE clause, as it was read
 abbrev pub constant : Value → Constant
 constant (value.Number signed n) = Numeric signed n.negative n.digits n.scale
 constant (value.Literal t) = Quoted t
 constant (value.Figurative f) = Figure f
 constant (value.All t) = Repeated t
 
+-- how often an entry occurs, as it was read
 abbrev pub times : Occurs → Times
 times (occurs.Fixed n) = Fixed n
 times (occurs.Varying least most count) = Varying least most count.name count.qualifiers.items
 
+-- an entry, as it was read
 abbrev pub described : Entry → Described
 described e = record {
   level = e.level;

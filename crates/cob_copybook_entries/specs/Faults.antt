@@ -11,5 +11,6 @@ abbrev pub from_source_by : SourceRule → ℕ → BookFault
 from_source_by source.Memory line = record { rule = rule.Memory; line = 0 }
 from_source_by r line = record { rule = rule.Source r; line = line }
 
+-- the fault of a text, as the fault of a copybook
 abbrev pub from_source : SourceFault → BookFault
 from_source f = from_source_by f.rule f.line

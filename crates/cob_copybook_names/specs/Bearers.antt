@@ -14,6 +14,7 @@ pub record Bearer : Type 0 where
   pub picture : Option Seen
   pub blank : Bool
 
+-- the names of groups, with that of a further group within them, if it has one
 abbrev pub with_name : Option (List ℕ) → List (List ℕ) → List (List ℕ)
 with_name None above = above
 with_name (Some name) above = name ∷ above

@@ -6,6 +6,7 @@ use Rattle.std.specs.Bool.{nat_eq}
 use Rattle.indexmap.specs.IndexMap.{IndexMap, get_by}
 use Rattle.cob_copybook_names.specs.Bearers.{Bearer}
 
+-- the names that entries bear
 abbrev pub names_of : List Bearer → List (Option (List ℕ))
 names_of bs = map (λ b. b.name) bs
 

@@ -27,9 +27,11 @@ MayBeJustified false picture = Unit {0}
 MayBeJustified true None = ⊥
 MayBeJustified true (Some p) = HasCharacters p.category
 
+-- an asterisk stands in the picture
 abbrev pub has_star : List Position → Bool
 has_star ps = list_any (λ p. is Star p.symbol) ps
 
+-- a P stands in the picture
 abbrev pub has_scaling : List Position → Bool
 has_scaling ps = list_any is_scaling ps
 

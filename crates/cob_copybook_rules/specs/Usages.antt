@@ -26,6 +26,7 @@ Takes Display p = Unit {0}
 Takes Packed p = is_numeric p.category ≡ true
 Takes Binary p = (is_numeric p.category ≡ true) × IsNarrow p
 
+-- an item may have the usage that its clause or its groups say, if they say one
 abbrev pub MayHave : Option Usage → Option Seen → Type 0
 MayHave None picture = Unit {0}
 MayHave (Some u) None = Unit {0}

@@ -6,6 +6,7 @@ use Rattle.cob_edit.specs.declared.place.Place.{Place}
 use Rattle.cob_edit.specs.declared.place.Place.TheVariants.{Inserted, Point, Digit, Suppressed, Floating, First, Fixed, AssumedPoint}
 use Rattle.cob_edit.specs.Places.{mark_byte, fill_byte, is_digit, is_run, is_run_or_insertion, is_point, has_byte, is_nine, is_star, is_fixed_sign, is_floating_sign}
 
+-- the place with this number, from 0
 abbrev pub place_at : List Place → ℕ → Place
 place_at ps j = slice_index_or ps j (Inserted 0)
 

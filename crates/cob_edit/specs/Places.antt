@@ -99,6 +99,7 @@ is_nine Floating = false
 is_nine (First mark) = false
 is_nine (Fixed mark) = false
 
+-- whether leading zeros become asterisks
 abbrev pub is_asterisk : Fill → Bool
 is_asterisk Space = false
 is_asterisk Asterisk = true

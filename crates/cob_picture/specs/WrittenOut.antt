@@ -35,6 +35,7 @@ abbrev pub spelling : Item → List ℕ
 spelling (Once s) = chars s
 spelling (Times s digits) = chars s ++ (40 ∷ closed digits)
 
+-- the symbol that stands there
 abbrev pub symbol_in : Item → Symbol
 symbol_in (Once s) = s
 symbol_in (Times s digits) = s

@@ -21,6 +21,7 @@ is_gap b = (b == 32) || (b == 10)
 abbrev pub is_plain : ℕ → Bool
 is_plain b = not (is_gap b || is_quote b)
 
+-- a character of a word
 abbrev pub IsPlain : Cell → Type 0
 IsPlain c = is_plain c.byte ≡ true
 
@@ -30,6 +31,7 @@ abbrev pub open_with : Option ℕ → ℕ → Option ℕ
 open_with None b = if is_quote b then Some b else None
 open_with (Some q) b = if b == q then None else Some q
 
+-- the quote of the literal that is open behind these characters, where this one was open before them
 abbrev pub open_from : Option ℕ → List Cell → Option ℕ
 open_from q [] = q
 open_from q (c ∷ cells) = open_from (open_with q c.byte) cells
@@ -56,20 +58,24 @@ pub data Piece : Type 0 where
   Chunk : List Cell → Piece
   Quoted : Cell → List Cell → List ℕ → Piece
 
+-- the characters of a piece
 abbrev pub spelled : Piece → List Cell
 spelled (Gap c) = c ∷ []
 spelled (Chunk cs) = cs
 spelled (Quoted o inside text) = o ∷ inside
 
+-- a space is a gap; a chunk is a word's characters, one at least; a quoted piece is a literal
 abbrev pub IsPiece : Piece → Type 0
 IsPiece (Gap c) = is_gap c.byte ≡ true
 IsPiece (Chunk cs) = (0 < length cs) × AllByRecursion IsPlain cs
 IsPiece (Quoted o inside text) = (is_quote o.byte ≡ true) × Body o.byte inside text
 
+-- a character of a word comes first
 abbrev pub plain_first : List Cell → Bool
 plain_first [] = false
 plain_first (c ∷ rest) = is_plain c.byte
 
+-- a quote comes first
 abbrev pub quote_first : List Cell → Bool
 quote_first [] = false
 quote_first (c ∷ rest) = is_quote c.byte
@@ -95,6 +101,7 @@ abbrev pub words_of : Cutting → List Cell → List Lexeme
 words_of Whole cells = word cells
 words_of Apart cells = flat_map word (pieces cells)
 
+-- a Stop is its period
 abbrev pub stop : Cell → List Lexeme
 stop c = record { kind = Stop; text = c.byte ∷ []; line = c.line; column = c.column } ∷ []
 
@@ -108,9 +115,11 @@ with_sign m front last =
     if (last.byte == 44) || (last.byte == 59) then words_of m front else
     if last.byte == 46 then words_of m front ++ stop last else words_of m (front ++ last ∷ [])
 
+-- the character that stands for none
 abbrev pub nowhere : Cell
 nowhere = record { byte = 0; line = 0; column = 0 }
 
+-- the words that a chunk is before a space or the end: a sign at its end is none of theirs
 abbrev pub signed : Cutting → List Cell → List Lexeme
 signed m cs = with_sign m (take (length cs - 1) cs) (slice_index_or cs (length cs - 1) nowhere)
 

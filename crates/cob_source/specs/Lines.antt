@@ -7,6 +7,7 @@ use Rattle.cob_source.specs.declared.lines.LineKind.{LineKind}
 use Rattle.cob_source.specs.declared.lines.LineKind.TheVariants.{Skipped, Plain, Continuation}
 use Rattle.cob_source.specs.Cuts.{open_quote}
 
+-- a line feed comes first
 abbrev pub feed_first : List ℕ → Bool
 feed_first [] = false
 feed_first (b ∷ bs) = b == 10
@@ -30,6 +31,7 @@ abbrev pub FeedFirst : List ℕ → Type 0
 FeedFirst [] = Unit {0}
 FeedFirst (b ∷ bs) = b ≡ 10
 
+-- there are no characters
 abbrev pub is_empty : List ℕ → Bool
 is_empty [] = true
 is_empty (b ∷ bs) = false
@@ -59,6 +61,7 @@ indicator line = slice_index_or line 6 32
 abbrev pub is_comment : ℕ → Bool
 is_comment i = (i == 42) || (i == 47) || (i == 68) || (i == 100)
 
+-- all are spaces
 abbrev pub is_blank : List ℕ → Bool
 is_blank bs = list_all (λ b. b == 32) bs
 
@@ -66,6 +69,7 @@ is_blank bs = list_all (λ b. b == 32) bs
 abbrev pub spaces : List ℕ → ℕ
 spaces bs = prefix_len (λ b. b == 32) bs
 
+-- what follows the spaces in front
 abbrev pub behind_spaces : List ℕ → List ℕ
 behind_spaces bs = drop (spaces bs) bs
 
@@ -96,6 +100,7 @@ kind_by i text =
     if i == 45 then Continuation else
     if (i == 32) && not (is_listing text) then Plain else Skipped
 
+-- what kind of line it is
 abbrev pub kind_of : List ℕ → LineKind
 kind_of line = kind_by (indicator line) (written line)
 
@@ -112,6 +117,7 @@ cells_behind n k line = cells_from n (8 + k) (drop k (area line))
 abbrev pub line_end : ℕ → Cell
 line_end n = record { byte = 10; line = n; column = 7 }
 
+-- there are no characters
 abbrev pub is_nil : List Cell → Bool
 is_nil [] = true
 is_nil (c ∷ cells) = false
@@ -142,9 +148,11 @@ join_by Skipped n joined line = joined
 join_by Plain n joined line = joined ++ line_end n ∷ cells_behind n 0 line
 join_by Continuation n joined line = continued (open_quote joined) n joined line
 
+-- the text that is joined so far, and line n
 abbrev pub join : ℕ → List Cell → List ℕ → List Cell
 join n joined line = join_by (kind_of line) n joined line
 
+-- the text that is joined so far, and these lines, from number n on
 abbrev pub joined_from : ℕ → List Cell → List (List ℕ) → List Cell
 joined_from n joined [] = joined
 joined_from n joined (line ∷ more) = joined_from (n + 1) (join n joined line) more
@@ -159,9 +167,11 @@ last_by Skipped n k = k
 last_by Plain n k = n
 last_by Continuation n k = n
 
+-- the last line that is joined, from number n on, where line k was the last before
 abbrev pub last_from : ℕ → ℕ → List (List ℕ) → ℕ
 last_from n k [] = k
 last_from n k (line ∷ more) = last_from (n + 1) (last_by (kind_of line) n k) more
 
+-- the last line that is joined; 0 where none is
 abbrev pub last_joined : List (List ℕ) → ℕ
 last_joined ls = last_from 1 0 ls

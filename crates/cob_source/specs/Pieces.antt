@@ -2,6 +2,7 @@
 use Rattle.std.specs.Prelude.{ℕ, Bool, true, ◌==◌, ◌||◌, if◌then◌else◌, List, [], ◌∷◌}
 use Rattle.cob_source.specs.declared.token.Cell.{Cell}
 
+-- a bracket, which opens or closes
 abbrev pub is_bracket : ℕ → Bool
 is_bracket b = (b == 40) || (b == 41)
 

@@ -14,5 +14,6 @@ pub record Lexeme : Type 0 where
 abbrev pub lexeme : Token → Lexeme
 lexeme t = record { kind = t.kind; text = t.text.items; line = t.line; column = t.column }
 
+-- tokens, without where they lie in memory
 abbrev pub lexemes : List Token → List Lexeme
 lexemes ts = map lexeme ts

@@ -17,9 +17,11 @@ use Rattle.cob_source.specs.Lines.{lines, written, indicator, is_comment, is_bla
 abbrev pub is_foreign : ℕ → Bool
 is_foreign b = (nat_lt b 32 || nat_lt 126 b) && not (b == 9)
 
+-- one stands in columns 7 to 72
 abbrev pub has_foreign : List ℕ → Bool
 has_foreign line = list_any is_foreign (drop 6 (take 72 line))
 
+-- a tab stands in columns 1 to 72
 abbrev pub has_tab : List ℕ → Bool
 has_tab line = list_any (λ b. b == 9) (take 72 line)
 
@@ -45,6 +47,7 @@ abbrev pub is_bad_continuation : List Cell → List ℕ → Bool
 is_bad_continuation joined line =
     is_nil joined || not (is_blank (take 4 (written line))) || is_misfit (open_quote joined) joined (first_character (behind_spaces (written line)))
 
+-- the two are one kind of line
 abbrev pub is_kind : LineKind → LineKind → Bool
 is_kind Skipped Skipped = true
 is_kind Plain Plain = true
