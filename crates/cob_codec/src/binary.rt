@@ -87,7 +87,8 @@ impl Binary {
     pub fn read_whole(shape: &Shape, bytes: &[u8]) -> Number
         requires taken { shape.now.digits ≤ most_binary_digits }
         requires long { length bytes.now ≡ binary_length shape.now.digits }
-        ensures value { IsWhole shape.now.digits shape.now.signed bytes.now result.negative result.digits }
+        ensures value { IsWhole
+            shape.now.digits shape.now.signed bytes.now result.negative result.digits }
         ensures scale { result.scale ≡ shape.now.scale }
     {
         let (negative, magnitude) = signed_in(shape, bytes);
@@ -142,7 +143,8 @@ fn unsigned_of(count: u8, negative: bool, magnitude: u64) -> u64
     requires few { count ≤ most_binary_digits }
     requires fits { magnitude < 10 ^ count }
     requires nonzero { IsTrue negative → 0 < magnitude }
-    ensures value { result ≡ (if negative then 256 ^ binary_length count - magnitude else magnitude) }
+    ensures value { result ≡ (if negative then 256 ^ binary_length count - magnitude
+        else magnitude) }
     ensures fits { result < 256 ^ binary_length count }
 {
     if negative {

@@ -29,5 +29,6 @@ pub fn stored_numbers_read_back()
 
 /// Where the picture's digits hold the number of a binary item's bytes, the item read whole is the same number.
 pub fn whole_reading_agrees()
-    ensures { (count : ℕ) (signed : Bool) → OneValue (IsBinary count signed) (IsWhole count signed) }
+    ensures { (count : ℕ) (signed : Bool)
+        → OneValue (IsBinary count signed) (IsWhole count signed) }
 {}

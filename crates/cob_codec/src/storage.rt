@@ -36,7 +36,8 @@ pub trait Storage {
         requires long { length bytes.now ≡ size shape.now }
         ensures found { IfSome result (λ v. represents shape.now bytes.now v.negative v.digits) }
         ensures scale { IfSome result (λ v. v.scale ≡ shape.now.scale) }
-        ensures only { (negative : Bool) (digits : List ℕ) → represents shape.now bytes.now negative digits
+        ensures only { (negative : Bool) (digits : List ℕ)
+            → represents shape.now bytes.now negative digits
             → IsSomeAnd result (λ v. (v.negative ≡ negative) × (v.digits ≡ digits)) };
 
     /// Writes the stored form of a number into all bytes of an item.
@@ -49,7 +50,8 @@ pub trait Storage {
         requires scale { number.now.scale ≡ shape.now.scale }
         requires sign { IsTrue number.now.negative → IsTrue shape.now.signed }
         ensures bytes { bytes.new ≡ stored shape.now number.now.negative number.now.digits }
-        ensures held { IsHeld shape.now.digits shape.now.signed number.now.negative number.now.digits };
+        ensures held { IsHeld
+            shape.now.digits shape.now.signed number.now.negative number.now.digits };
 
     /// What was stored has the item's length.
     ghost stored_length: { (shape : Shape) (negative : Bool) (digits : List ℕ)

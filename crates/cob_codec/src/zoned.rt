@@ -96,7 +96,8 @@ fn read_zoned(shape: &Shape, bytes: &[u8]) -> Option<Number>
 pub fn read_digits(bytes: &[u8]) -> Option<Digits>
     requires { length bytes.now ≤ most_digits }
     ensures found { IfSome result (λ digits. IsDigits digits × (bytes.now ≡ digit_bytes digits)) }
-    ensures none { IfNone result ((digits : List ℕ) → IsDigits digits → bytes.now ≢ digit_bytes digits) }
+    ensures none { IfNone result
+        ((digits : List ℕ) → IsDigits digits → bytes.now ≢ digit_bytes digits) }
 {
     let mut digits = Digits::new();
     for byte in bytes {

@@ -96,7 +96,8 @@ pub fn in_book(alloc: Global, text: &[u8]) -> Result<Book, PrepareFault>
 
 /// The refusal of the copybook of the output record.
 fn out_refusal(fault: BookFault) -> PrepareFault
-    ensures { (text : List ℕ) → IsRefusal Out fault.rule fault.line text → IsOutRefusal result text }
+    ensures { (text : List ℕ)
+        → IsRefusal Out fault.rule fault.line text → IsOutRefusal result text }
 {
     if is_memory(fault.rule) {
         PrepareFault::Memory

@@ -67,8 +67,10 @@ impl Converter {
 
     /// A converter for a plan, with room for its records.
     fn of(alloc: Global, plan: Plan, in_form: Form, out_form: Form) -> Result<Converter, AllocError>
-        ensures made { IfOk result (λ made. made ≡ record { in_form = in_form; out_form = out_form; plan = plan }) }
-        ensures records { IfOk result (λ made. HasBytes made.plan.input × HasBytes made.plan.output) }
+        ensures made { IfOk result
+            (λ made. made ≡ record { in_form = in_form; out_form = out_form; plan = plan }) }
+        ensures records { IfOk result
+            (λ made. HasBytes made.plan.input × HasBytes made.plan.output) }
     {
         let input = vec![in alloc; 0u8; plan.in_length() as usize]?;
         let output = vec![in alloc; 0u8; plan.out_length() as usize]?;
@@ -98,10 +100,12 @@ impl Converter {
     ) -> Result<Converter, PrepareFault>
         // What is prepared is what the texts mean, with the forms that were handed in.
         ensures means { IfOk result (λ made. Means in_book.now out_book.now moves.now made.plan) }
-        ensures forms { IfOk result (λ made. (made.in_form ≡ in_form) × (made.out_form ≡ out_form)) }
+        ensures forms { IfOk result
+            (λ made. (made.in_form ≡ in_form) × (made.out_form ≡ out_form)) }
         ensures plan { IfOk result (λ made. IsConversion made.plan) }
         // Records of both sides have from 1 to 32,752 bytes.
-        ensures records { IfOk result (λ made. HasBytes made.plan.input × HasBytes made.plan.output) }
+        ensures records { IfOk result
+            (λ made. HasBytes made.plan.input × HasBytes made.plan.output) }
         // A refusal names a text, and where it is a copybook a rule that the text breaks.
         ensures refused { IfErr result (λ fault. IsPrepareRefusal fault in_book.now out_book.now) }
     {
@@ -115,9 +119,9 @@ impl Converter {
     /// many it converted. It takes no memory. After a stop the converter is as `prepare` left it.
     pub fn run<R: Source, W: Sink>(&mut self, r: &mut R, w: &mut W) -> Result<u64, RunFault>
         // Where no call of an end failed and the source tells its bytes: what is written is the conversion of what came.
-        ensures headline { R.failures r.new ≡ R.failures r.old → W.failures w.new ≡ W.failures w.old →
-            Told (R.coming r.old) (R.coming r.new) (λ bytes rest.
-            Writes self.old result bytes rest (W.taken w.old) (W.taken w.new)) }
+        ensures headline { R.failures r.new ≡ R.failures r.old
+            → W.failures w.new ≡ W.failures w.old → Told (R.coming r.old) (R.coming r.new)
+            (λ bytes rest. Writes self.old result bytes rest (W.taken w.old) (W.taken w.new)) }
         // Also where a call failed: the records before the stop were converted, and nothing past its frame was read.
         ensures ran { Told (R.coming r.old) (R.coming r.new) (λ bytes rest.
             Ran self.old result bytes rest (W.taken w.old) (W.taken w.new)) }

@@ -83,7 +83,13 @@ fn frame_length(form: Form, length: usize) -> u64
 /// The stop of a run at the record behind so many others.
 fn stop_behind(done: u64, side: Side, offset: u32, cause: Cause, written: u64) -> RunFault
     requires { done ≤ LIMIT }
-    ensures { result ≡ record { number = done + 1; side = side; offset = offset; cause = cause; written = written } }
+    ensures { result ≡ record {
+      number = done + 1;
+      side = side;
+      offset = offset;
+      cause = cause;
+      written = written;
+    } }
 {
     RunFault {
         number: done + 1,

@@ -32,8 +32,10 @@ pub fn next_input<R: Source>(
     slot: &mut [u8],
 ) -> Result<Option<usize>, RecordFault>
     requires { length slot.old ≡ in_length setup.now }
-    ensures frame { Told (R.coming r.old) (R.coming r.new) (Reads setup.now.in_form (in_length setup.now) slot.new result) }
-    ensures size { IfOk result (λ found. IfSome found (IsLength setup.now.in_form (in_length setup.now))) }
+    ensures frame { Told (R.coming r.old)
+        (R.coming r.new) (Reads setup.now.in_form (in_length setup.now) slot.new result) }
+    ensures size { IfOk result
+        (λ found. IfSome found (IsLength setup.now.in_form (in_length setup.now))) }
     ensures kind { IfErr result (λ fault. is_write_fault fault ≡ false) }
     ensures cause { R.failures r.new ≡ counted (is_read_failure result) (R.failures r.old) }
 {
@@ -57,7 +59,8 @@ pub fn measure(setup: &Setup, input: &[u8]) -> Result<(), Misfit>
 pub fn convert(setup: &Setup, input: &[u8], output: &mut [u8]) -> Result<usize, Stop>
     requires sized { IsSized setup.now input.now }
     requires room { length output.old ≡ record_length setup.now.plan.output }
-    ensures size { IfOk result (λ made. (0 < made) × (made ≤ length output.new) × (made ≤ longest_record)) }
+    ensures size { IfOk result
+        (λ made. (0 < made) × (made ≤ length output.new) × (made ≤ longest_record)) }
     ensures converts { IfOk result (λ made. Becomes setup.now input.now (take made output.new)) }
     ensures stops { IfErr result (λ stop. StopsAt setup.now input.now stop) }
 {

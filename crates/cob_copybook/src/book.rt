@@ -55,7 +55,8 @@ impl Book {
         // What is read is the tree of the text.
         ensures found { IfOk result (λ b. IsBookOf role text.now b) }
         // A text that is a well-formed record description is read, memory aside.
-        ensures only { (t : Forest Resolved) → IsBookOf role text.now t → IfOk result (λ b. b ≡ t) × IfErr result (λ f. IsMemory f.rule) }
+        ensures only { (t : Forest Resolved) → IsBookOf role text.now t
+            → IfOk result (λ b. b ≡ t) × IfErr result (λ f. IsMemory f.rule) }
         // A refusal names a rule that is broken.
         ensures fault { IfErr result (λ f. IsRefusal role f.rule f.line text.now) }
     {

@@ -23,7 +23,8 @@ pub(crate) fn storage_of(alloc: Global, tree: &Branch) -> Result<Node, BookFault
     requires few { entries_in (forest_of (tree.now ∷ [])) ≤ 65535 }
     requires agree { AgreeAll (forest_of (tree.now ∷ [])) }
     ensures found { IfOk result (λ n. IsStored (forest_of (tree.now ∷ [])) (forest (n ∷ []))) }
-    ensures only { (t : Forest Resolved) → IsStored (forest_of (tree.now ∷ [])) t → IfOk result (λ n. forest (n ∷ []) ≡ t) × IfErr result (λ f. f.rule ≡ Memory) }
+    ensures only { (t : Forest Resolved) → IsStored (forest_of (tree.now ∷ [])) t
+        → IfOk result (λ n. forest (n ∷ []) ≡ t) × IfErr result (λ f. f.rule ≡ Memory) }
     ensures fault { IfErr result (λ f. IsStorageRefusal f.rule (forest_of (tree.now ∷ []))) }
     ensures memory { IfErr result (λ f. f.rule ≡ Memory → f.line ≡ 0) }
 {

@@ -37,8 +37,10 @@ fn wrong_level(entries: &[Entry]) -> Option<u32>
 /// # Errors
 /// A rule on levels or clauses that the entries break; want of memory.
 pub(crate) fn tree_of(alloc: Global, entries: Vec<Entry>) -> Result<Branch, BookFault>
-    ensures found { IfOk result (λ b. StandsFor (map described entries.items) (forest_of (b ∷ [])) × AgreeAll (forest_of (b ∷ []))) }
-    ensures only { (t : Forest Described) → StandsFor (map described entries.items) t → AgreeAll t → IfOk result (λ b. forest_of (b ∷ []) ≡ t) × IfErr result (λ f. f.rule ≡ Memory) }
+    ensures found { IfOk result (λ b. StandsFor (map described entries.items) (forest_of (b ∷ []))
+        × AgreeAll (forest_of (b ∷ []))) }
+    ensures only { (t : Forest Described) → StandsFor (map described entries.items) t → AgreeAll t
+        → IfOk result (λ b. forest_of (b ∷ []) ≡ t) × IfErr result (λ f. f.rule ≡ Memory) }
     ensures fault { IfErr result (λ f. IsTreeRefusal f.rule (map described entries.items)) }
     ensures memory { IfErr result (λ f. f.rule ≡ Memory → f.line ≡ 0) }
 {

@@ -42,7 +42,8 @@ fn implied(role: Role) -> Entry
 
 /// The entries, beneath a record of their own where the first isn't one.
 fn with_record(role: Role, entries: Vec<Entry>) -> Result<Vec<Entry>, AllocFailed<Entry>>
-    ensures { IfOk result (λ es. map described es.items ≡ with_record role (map described entries.items)) }
+    ensures { IfOk result
+        (λ es. map described es.items ≡ with_record role (map described entries.items)) }
 {
     let mut entries = entries;
     if entries.first().is_none_or(|first| first.level != 1) {
@@ -57,7 +58,8 @@ fn with_record(role: Role, entries: Vec<Entry>) -> Result<Vec<Entry>, AllocFaile
 /// A rule of the reference format or of entries that the text breaks; want of memory.
 pub(crate) fn entries_of(alloc: Global, role: Role, text: &[u8]) -> Result<Vec<Entry>, BookFault>
     ensures found { IfOk result (λ es. HasEntries role text.now (map described es.items)) }
-    ensures only { (ds : List Described) → HasEntries role text.now ds → IfOk result (λ es. map described es.items ≡ ds) × IfErr result (λ f. IsMemory f.rule) }
+    ensures only { (ds : List Described) → HasEntries role text.now ds
+        → IfOk result (λ es. map described es.items ≡ ds) × IfErr result (λ f. IsMemory f.rule) }
     ensures fault { IfErr result (λ f. IsTextRefusal f.rule f.line text.now) }
     ensures few { IfOk result (λ es. length (map described es.items) ≤ 2001) }
 {

@@ -104,8 +104,11 @@ fn leading_of(term: Term) -> Option<bool>
 
 /// REDEFINES and a word, and what is behind them.
 fn redefines_at(words: &[Token]) -> Option<(Phrase<'_>, &[Token])>
-    ensures found { IfSome result (λ r. Stands (clause_of r.0) (lexemes words.now) (lexemes r.1.now)) }
-    ensures only { (n : List ℕ) (ws more : List Lexeme) → Spells (Redefines n) ws → ClauseFirst more → lexemes words.now ≡ ws ++ more → IsSomeAnd result (λ r. (clause_of r.0 ≡ Redefines n) × (lexemes r.1.now ≡ more)) }
+    ensures found { IfSome result
+        (λ r. Stands (clause_of r.0) (lexemes words.now) (lexemes r.1.now)) }
+    ensures only { (n : List ℕ) (ws more : List Lexeme)
+        → Spells (Redefines n) ws → ClauseFirst more → lexemes words.now ≡ ws ++ more
+        → IsSomeAnd result (λ r. (clause_of r.0 ≡ Redefines n) × (lexemes r.1.now ≡ more)) }
 {
     let more = behind(words, Term::Redefines)?;
     let (name, rest) = word_at(more)?;
@@ -114,8 +117,11 @@ fn redefines_at(words: &[Token]) -> Option<(Phrase<'_>, &[Token])>
 
 /// PICTURE, perhaps IS, and a word, and what is behind them.
 fn picture_at(words: &[Token]) -> Option<(Phrase<'_>, &[Token])>
-    ensures found { IfSome result (λ r. Stands (clause_of r.0) (lexemes words.now) (lexemes r.1.now)) }
-    ensures only { (p : List ℕ) (ws more : List Lexeme) → Spells (Picture p) ws → ClauseFirst more → lexemes words.now ≡ ws ++ more → IsSomeAnd result (λ r. (clause_of r.0 ≡ Picture p) × (lexemes r.1.now ≡ more)) }
+    ensures found { IfSome result
+        (λ r. Stands (clause_of r.0) (lexemes words.now) (lexemes r.1.now)) }
+    ensures only { (p : List ℕ) (ws more : List Lexeme)
+        → Spells (Picture p) ws → ClauseFirst more → lexemes words.now ≡ ws ++ more
+        → IsSomeAnd result (λ r. (clause_of r.0 ≡ Picture p) × (lexemes r.1.now ≡ more)) }
 {
     let more = behind(words, Term::Picture)?;
     let (picture, rest) = other_word_at(skip(more, Term::Is), Term::Is)?;
@@ -124,8 +130,11 @@ fn picture_at(words: &[Token]) -> Option<(Phrase<'_>, &[Token])>
 
 /// A usage, perhaps with USAGE IS before it, and what is behind it.
 fn usage_at(words: &[Token]) -> Option<(Phrase<'_>, &[Token])>
-    ensures found { IfSome result (λ r. Stands (clause_of r.0) (lexemes words.now) (lexemes r.1.now)) }
-    ensures only { (u : Usage) (ws more : List Lexeme) → Spells (Stored u) ws → ClauseFirst more → lexemes words.now ≡ ws ++ more → IsSomeAnd result (λ r. (clause_of r.0 ≡ Stored u) × (lexemes r.1.now ≡ more)) }
+    ensures found { IfSome result
+        (λ r. Stands (clause_of r.0) (lexemes words.now) (lexemes r.1.now)) }
+    ensures only { (u : Usage) (ws more : List Lexeme)
+        → Spells (Stored u) ws → ClauseFirst more → lexemes words.now ≡ ws ++ more
+        → IsSomeAnd result (λ r. (clause_of r.0 ≡ Stored u) × (lexemes r.1.now ≡ more)) }
 {
     let (first, rest) = skip_prefix(words, Term::Usage).split_first()?;
     let usage = usage_of(term_of(first))?;
@@ -134,8 +143,10 @@ fn usage_at(words: &[Token]) -> Option<(Phrase<'_>, &[Token])>
 
 /// Whether SEPARATE stands in front, perhaps with CHARACTER, and what is behind it.
 fn separate_at(words: &[Token]) -> (bool, &[Token])
-    ensures found { (ws : List Lexeme) × IsSeparate result.0 ws × (lexemes words.now ≡ ws ++ lexemes result.1.now) }
-    ensures only { (b : Bool) (ws more : List Lexeme) → IsSeparate b ws → ClauseFirst more → lexemes words.now ≡ ws ++ more → (result.0 ≡ b) × (lexemes result.1.now ≡ more) }
+    ensures found { (ws : List Lexeme)
+        × IsSeparate result.0 ws × (lexemes words.now ≡ ws ++ lexemes result.1.now) }
+    ensures only { (b : Bool) (ws more : List Lexeme) → IsSeparate b ws → ClauseFirst more
+        → lexemes words.now ≡ ws ++ more → (result.0 ≡ b) × (lexemes result.1.now ≡ more) }
 {
     match behind(words, Term::Separate) {
         Some(more) => (true, skip(more, Term::Character)),
@@ -145,8 +156,11 @@ fn separate_at(words: &[Token]) -> (bool, &[Token])
 
 /// LEADING or TRAILING, perhaps with SIGN IS before it and SEPARATE CHARACTER behind it, and what is behind them.
 fn sign_at(words: &[Token]) -> Option<(Phrase<'_>, &[Token])>
-    ensures found { IfSome result (λ r. Stands (clause_of r.0) (lexemes words.now) (lexemes r.1.now)) }
-    ensures only { (s : Sign) (ws more : List Lexeme) → Spells (Signed s) ws → ClauseFirst more → lexemes words.now ≡ ws ++ more → IsSomeAnd result (λ r. (clause_of r.0 ≡ Signed s) × (lexemes r.1.now ≡ more)) }
+    ensures found { IfSome result
+        (λ r. Stands (clause_of r.0) (lexemes words.now) (lexemes r.1.now)) }
+    ensures only { (s : Sign) (ws more : List Lexeme)
+        → Spells (Signed s) ws → ClauseFirst more → lexemes words.now ≡ ws ++ more
+        → IsSomeAnd result (λ r. (clause_of r.0 ≡ Signed s) × (lexemes r.1.now ≡ more)) }
 {
     let (first, more) = skip_prefix(words, Term::Sign).split_first()?;
     let leading = leading_of(term_of(first))?;
@@ -156,8 +170,11 @@ fn sign_at(words: &[Token]) -> Option<(Phrase<'_>, &[Token])>
 
 /// OCCURS and what belongs to it, and what is behind it.
 fn occurs_at(words: &[Token]) -> Option<(Phrase<'_>, &[Token])>
-    ensures found { IfSome result (λ r. Stands (clause_of r.0) (lexemes words.now) (lexemes r.1.now)) }
-    ensures only { (t : WrittenTable) (ws more : List Lexeme) → Spells (Occurs t) ws → ClauseFirst more → lexemes words.now ≡ ws ++ more → IsSomeAnd result (λ r. (clause_of r.0 ≡ Occurs t) × (lexemes r.1.now ≡ more)) }
+    ensures found { IfSome result
+        (λ r. Stands (clause_of r.0) (lexemes words.now) (lexemes r.1.now)) }
+    ensures only { (t : WrittenTable) (ws more : List Lexeme)
+        → Spells (Occurs t) ws → ClauseFirst more → lexemes words.now ≡ ws ++ more
+        → IsSomeAnd result (λ r. (clause_of r.0 ≡ Occurs t) × (lexemes r.1.now ≡ more)) }
 {
     let more = behind(words, Term::Occurs)?;
     let (table, rest) = table_at(more)?;
@@ -166,8 +183,11 @@ fn occurs_at(words: &[Token]) -> Option<(Phrase<'_>, &[Token])>
 
 /// VALUE, perhaps IS or ARE, and a constant, and what is behind them.
 fn value_at(words: &[Token]) -> Option<(Phrase<'_>, &[Token])>
-    ensures found { IfSome result (λ r. Stands (clause_of r.0) (lexemes words.now) (lexemes r.1.now)) }
-    ensures only { (v : WrittenConstant) (ws more : List Lexeme) → Spells (Value v) ws → ClauseFirst more → lexemes words.now ≡ ws ++ more → IsSomeAnd result (λ r. (clause_of r.0 ≡ Value v) × (lexemes r.1.now ≡ more)) }
+    ensures found { IfSome result
+        (λ r. Stands (clause_of r.0) (lexemes words.now) (lexemes r.1.now)) }
+    ensures only { (v : WrittenConstant) (ws more : List Lexeme)
+        → Spells (Value v) ws → ClauseFirst more → lexemes words.now ≡ ws ++ more
+        → IsSomeAnd result (λ r. (clause_of r.0 ≡ Value v) × (lexemes r.1.now ≡ more)) }
 {
     let more = behind(words, Term::Value)?;
     let (constant, rest) = constant_at(skip_is_or_are(more))?;
@@ -176,8 +196,11 @@ fn value_at(words: &[Token]) -> Option<(Phrase<'_>, &[Token])>
 
 /// JUSTIFIED, perhaps RIGHT, and what is behind them.
 fn justified_at(words: &[Token]) -> Option<(Phrase<'_>, &[Token])>
-    ensures found { IfSome result (λ r. Stands (clause_of r.0) (lexemes words.now) (lexemes r.1.now)) }
-    ensures only { (ws more : List Lexeme) → Spells Justified ws → ClauseFirst more → lexemes words.now ≡ ws ++ more → IsSomeAnd result (λ r. (clause_of r.0 ≡ Justified) × (lexemes r.1.now ≡ more)) }
+    ensures found { IfSome result
+        (λ r. Stands (clause_of r.0) (lexemes words.now) (lexemes r.1.now)) }
+    ensures only { (ws more : List Lexeme)
+        → Spells Justified ws → ClauseFirst more → lexemes words.now ≡ ws ++ more
+        → IsSomeAnd result (λ r. (clause_of r.0 ≡ Justified) × (lexemes r.1.now ≡ more)) }
 {
     let more = behind(words, Term::Justified)?;
     Some((Phrase::Justified, skip(more, Term::Right)))
@@ -185,8 +208,11 @@ fn justified_at(words: &[Token]) -> Option<(Phrase<'_>, &[Token])>
 
 /// BLANK, perhaps WHEN, and ZERO, and what is behind them.
 fn blank_at(words: &[Token]) -> Option<(Phrase<'_>, &[Token])>
-    ensures found { IfSome result (λ r. Stands (clause_of r.0) (lexemes words.now) (lexemes r.1.now)) }
-    ensures only { (ws more : List Lexeme) → Spells Blank ws → ClauseFirst more → lexemes words.now ≡ ws ++ more → IsSomeAnd result (λ r. (clause_of r.0 ≡ Blank) × (lexemes r.1.now ≡ more)) }
+    ensures found { IfSome result
+        (λ r. Stands (clause_of r.0) (lexemes words.now) (lexemes r.1.now)) }
+    ensures only { (ws more : List Lexeme)
+        → Spells Blank ws → ClauseFirst more → lexemes words.now ≡ ws ++ more
+        → IsSomeAnd result (λ r. (clause_of r.0 ≡ Blank) × (lexemes r.1.now ≡ more)) }
 {
     let more = behind(words, Term::Blank)?;
     let rest = behind(skip(more, Term::When), Term::Zero)?;
@@ -195,7 +221,8 @@ fn blank_at(words: &[Token]) -> Option<(Phrase<'_>, &[Token])>
 
 /// The kind of the clause in front.
 fn kind_in_front(words: &[Token]) -> Option<ClauseKind>
-    ensures { (c : Clause) (ws more : List Lexeme) → Spells c ws → lexemes words.now ≡ ws ++ more → result ≡ Some (kind_of c) }
+    ensures { (c : Clause) (ws more : List Lexeme)
+        → Spells c ws → lexemes words.now ≡ ws ++ more → result ≡ Some (kind_of c) }
 {
     let (first, _) = words.split_first()?;
     kind_at(term_of(first))
@@ -203,8 +230,11 @@ fn kind_in_front(words: &[Token]) -> Option<ClauseKind>
 
 /// The clause in front, and what is behind it.
 pub fn clause_at(words: &[Token]) -> Option<(Phrase<'_>, &[Token])>
-    ensures found { IfSome result (λ r. Stands (clause_of r.0) (lexemes words.now) (lexemes r.1.now)) }
-    ensures only { (c : Clause) (ws more : List Lexeme) → Spells c ws → ClauseFirst more → lexemes words.now ≡ ws ++ more → IsSomeAnd result (λ r. (clause_of r.0 ≡ c) × (lexemes r.1.now ≡ more)) }
+    ensures found { IfSome result
+        (λ r. Stands (clause_of r.0) (lexemes words.now) (lexemes r.1.now)) }
+    ensures only { (c : Clause) (ws more : List Lexeme)
+        → Spells c ws → ClauseFirst more → lexemes words.now ≡ ws ++ more
+        → IsSomeAnd result (λ r. (clause_of r.0 ≡ c) × (lexemes r.1.now ≡ more)) }
 {
     match kind_in_front(words)? {
         ClauseKind::Redefines => redefines_at(words),

@@ -56,8 +56,12 @@ fn bare() -> Clauses<'static>
 
 /// The clauses with a further one, unless they have it.
 fn with<'a>(clauses: Clauses<'a>, phrase: Phrase<'a>) -> Option<Clauses<'a>>
-    ensures found { IfSome result (λ f. IsAbsent (clause_of phrase.entry) (written_clauses clauses.entry) × (written_clauses f ≡ put (clause_of phrase.entry) (written_clauses clauses.entry))) }
-    ensures only { IsAbsent (clause_of phrase.entry) (written_clauses clauses.entry) → IsSomeAnd result (λ f. written_clauses f ≡ put (clause_of phrase.entry) (written_clauses clauses.entry)) }
+    ensures found { IfSome result
+        (λ f. IsAbsent (clause_of phrase.entry) (written_clauses clauses.entry)
+        × (written_clauses f ≡ put (clause_of phrase.entry) (written_clauses clauses.entry))) }
+    ensures only { IsAbsent (clause_of phrase.entry) (written_clauses clauses.entry)
+        → IsSomeAnd result
+        (λ f. written_clauses f ≡ put (clause_of phrase.entry) (written_clauses clauses.entry)) }
 {
     let mut all = clauses;
     let twice = match phrase {
@@ -84,7 +88,8 @@ fn with<'a>(clauses: Clauses<'a>, phrase: Phrase<'a>) -> Option<Clauses<'a>>
 /// What the clauses that these words are say: clauses in any order, each at most once.
 fn clauses_of(words: &[Token]) -> Option<Clauses<'_>>
     ensures found { IfSome result (λ c. Says (lexemes words.now) bare (written_clauses c)) }
-    ensures only { (g : WrittenClauses) → Says (lexemes words.now) bare g → IsSomeAnd result (λ c. written_clauses c ≡ g) }
+    ensures only { (g : WrittenClauses)
+        → Says (lexemes words.now) bare g → IsSomeAnd result (λ c. written_clauses c ≡ g) }
 {
     let mut clauses = bare();
     let mut rest = words;
@@ -105,8 +110,11 @@ fn starts_clause(token: &Token) -> bool
 
 /// The name of an entry, which may be absent, and what is behind it; none for FILLER.
 fn name_at(words: &[Token]) -> Option<(Option<&[u8]>, &[Token])>
-    ensures found { IfSome result (λ r. (names : List Lexeme) × AreNamed (option_map (λ b. b.now) r.0) names × (lexemes words.now ≡ names ++ lexemes r.1.now)) }
-    ensures only { (name : Option (List ℕ)) (names more : List Lexeme) → AreNamed name names → ClauseFirst more → lexemes words.now ≡ names ++ more → IsSomeAnd result (λ r. (option_map (λ b. b.now) r.0 ≡ name) × (lexemes r.1.now ≡ more)) }
+    ensures found { IfSome result (λ r. (names : List Lexeme) × AreNamed
+        (option_map (λ b. b.now) r.0) names × (lexemes words.now ≡ names ++ lexemes r.1.now)) }
+    ensures only { (name : Option (List ℕ)) (names more : List Lexeme)
+        → AreNamed name names → ClauseFirst more → lexemes words.now ≡ names ++ more
+        → IsSomeAnd result (λ r. (option_map (λ b. b.now) r.0 ≡ name) × (lexemes r.1.now ≡ more)) }
 {
     let Some((first, more)) = words.split_first() else {
         return Some((None, words));
@@ -128,7 +136,8 @@ fn name_at(words: &[Token]) -> Option<(Option<&[u8]>, &[Token])>
 /// The sentence is the words of one entry without its period. `None` says that no entry is written so.
 pub fn written(sentence: &[Token]) -> Option<Written<'_>>
     ensures found { IfSome result (λ w. IsWritten (lexemes sentence.now) (written_entry w)) }
-    ensures only { (e : WrittenEntry) → IsWritten (lexemes sentence.now) e → IsSomeAnd result (λ w. written_entry w ≡ e) }
+    ensures only { (e : WrittenEntry)
+        → IsWritten (lexemes sentence.now) e → IsSomeAnd result (λ w. written_entry w ≡ e) }
 {
     let (level, named) = word_at(sentence)?;
     let (name, more) = name_at(named)?;

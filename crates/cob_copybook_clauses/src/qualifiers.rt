@@ -13,8 +13,10 @@ use cob_source::Token;
 
 /// The words behind the name in front.
 fn behind_name(words: &[Token]) -> Option<&[Token]>
-    ensures found { IfSome result (λ r. (w : Lexeme) × IsNameWord w × (lexemes words.now ≡ w ∷ lexemes r.now)) }
-    ensures only { (w : Lexeme) (more : List Lexeme) → IsNameWord w → lexemes words.now ≡ w ∷ more → IsSomeAnd result (λ r. lexemes r.now ≡ more) }
+    ensures found { IfSome result
+        (λ r. (w : Lexeme) × IsNameWord w × (lexemes words.now ≡ w ∷ lexemes r.now)) }
+    ensures only { (w : Lexeme) (more : List Lexeme) → IsNameWord w
+        → lexemes words.now ≡ w ∷ more → IsSomeAnd result (λ r. lexemes r.now ≡ more) }
 {
     let (first, more) = words.split_first()?;
     if !is_name_word(first) {
@@ -25,8 +27,10 @@ fn behind_name(words: &[Token]) -> Option<&[Token]>
 
 /// The words behind the names in front, if there are any.
 fn skip_names(words: &[Token]) -> &[Token]
-    ensures found { (names : List Lexeme) × AllByRecursion IsNameWord names × (lexemes words.now ≡ names ++ lexemes result.now) }
-    ensures only { (names more : List Lexeme) → AllByRecursion IsNameWord names → NotFirst Term.Plain more → lexemes words.now ≡ names ++ more → lexemes result.now ≡ more }
+    ensures found { (names : List Lexeme)
+        × AllByRecursion IsNameWord names × (lexemes words.now ≡ names ++ lexemes result.now) }
+    ensures only { (names more : List Lexeme) → AllByRecursion IsNameWord names
+        → NotFirst Term.Plain more → lexemes words.now ≡ names ++ more → lexemes result.now ≡ more }
 {
     let mut rest = words;
     while let Some(more) = behind_name(rest) {
@@ -37,8 +41,10 @@ fn skip_names(words: &[Token]) -> &[Token]
 
 /// The words behind the names in front, of which there is one at least.
 pub fn names_at(words: &[Token]) -> Option<&[Token]>
-    ensures found { IfSome result (λ r. (names : List Lexeme) × AreNames names × (lexemes words.now ≡ names ++ lexemes r.now)) }
-    ensures only { (names more : List Lexeme) → AreNames names → NotFirst Term.Plain more → lexemes words.now ≡ names ++ more → IsSomeAnd result (λ r. lexemes r.now ≡ more) }
+    ensures found { IfSome result (λ r. (names : List Lexeme)
+        × AreNames names × (lexemes words.now ≡ names ++ lexemes r.now)) }
+    ensures only { (names more : List Lexeme) → AreNames names → NotFirst Term.Plain more
+        → lexemes words.now ≡ names ++ more → IsSomeAnd result (λ r. lexemes r.now ≡ more) }
 {
     let more = behind_name(words)?;
     Some(skip_names(more))
@@ -46,8 +52,10 @@ pub fn names_at(words: &[Token]) -> Option<&[Token]>
 
 /// The words behind the qualifier in front, which is OF or IN and a name.
 fn behind_qualifier(words: &[Token]) -> Option<&[Token]>
-    ensures found { IfSome result (λ r. (of name : Lexeme) × (term_of of ≡ Term.Of) × IsNameWord name × (lexemes words.now ≡ of ∷ (name ∷ lexemes r.now))) }
-    ensures only { (of name : Lexeme) (more : List Lexeme) → term_of of ≡ Term.Of → IsNameWord name → lexemes words.now ≡ of ∷ (name ∷ more) → IsSomeAnd result (λ r. lexemes r.now ≡ more) }
+    ensures found { IfSome result (λ r. (of name : Lexeme) × (term_of of ≡ Term.Of)
+        × IsNameWord name × (lexemes words.now ≡ of ∷ (name ∷ lexemes r.now))) }
+    ensures only { (of name : Lexeme) (more : List Lexeme) → term_of of ≡ Term.Of → IsNameWord name
+        → lexemes words.now ≡ of ∷ (name ∷ more) → IsSomeAnd result (λ r. lexemes r.now ≡ more) }
 {
     let named = behind(words, Term::Of)?;
     let rest = behind_name(named)?;
@@ -58,7 +66,9 @@ fn behind_qualifier(words: &[Token]) -> Option<&[Token]>
 fn qualifiers_at(words: &[Token]) -> (&[Token], &[Token])
     ensures are { AreQualifiers (lexemes result.0.now) }
     ensures found { lexemes words.now ≡ lexemes result.0.now ++ lexemes result.1.now }
-    ensures only { (qs more : List Lexeme) → AreQualifiers qs → NotFirst Term.Of more → lexemes words.now ≡ qs ++ more → (lexemes result.0.now ≡ qs) × (lexemes result.1.now ≡ more) }
+    ensures only { (qs more : List Lexeme)
+        → AreQualifiers qs → NotFirst Term.Of more → lexemes words.now ≡ qs ++ more
+        → (lexemes result.0.now ≡ qs) × (lexemes result.1.now ≡ more) }
 {
     let mut rest = words;
     while let Some(more) = behind_qualifier(rest) {
@@ -70,15 +80,19 @@ fn qualifiers_at(words: &[Token]) -> (&[Token], &[Token])
 /// The words without this many at the end.
 fn front(words: &[Token], behind: usize) -> &[Token]
     requires { behind ≤ length words.now }
-    ensures { (done more : List Lexeme) → lexemes words.now ≡ done ++ more → length more ≡ behind → lexemes result.now ≡ done }
+    ensures { (done more : List Lexeme)
+        → lexemes words.now ≡ done ++ more → length more ≡ behind → lexemes result.now ≡ done }
 {
     &words[..words.len() - behind]
 }
 
 /// DEPENDING ON and a name with its qualifiers, and what is behind them.
 pub fn count_at(words: &[Token]) -> Option<(Count<'_>, &[Token])>
-    ensures found { IfSome result (λ r. (ws : List Lexeme) × IsCount (written_name r.0) ws × (lexemes words.now ≡ ws ++ lexemes r.1.now)) }
-    ensures only { (name : WrittenName) (ws more : List Lexeme) → IsCount name ws → NotFirst Term.Of more → lexemes words.now ≡ ws ++ more → IsSomeAnd result (λ r. (written_name r.0 ≡ name) × (lexemes r.1.now ≡ more)) }
+    ensures found { IfSome result (λ r. (ws : List Lexeme)
+        × IsCount (written_name r.0) ws × (lexemes words.now ≡ ws ++ lexemes r.1.now)) }
+    ensures only { (name : WrittenName) (ws more : List Lexeme)
+        → IsCount name ws → NotFirst Term.Of more → lexemes words.now ≡ ws ++ more
+        → IsSomeAnd result (λ r. (written_name r.0 ≡ name) × (lexemes r.1.now ≡ more)) }
 {
     let depending = behind(words, Term::Depending)?;
     let on = skip(depending, Term::On);

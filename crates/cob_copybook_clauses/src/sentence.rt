@@ -59,7 +59,8 @@ fn sentence_len(tokens: &[Token]) -> usize
 
 /// The words up to the first Stop, and what stands behind it.
 pub fn sentence_at(tokens: &[Token]) -> Option<(&[Token], &[Token])>
-    ensures found { IfSome result (λ r. (stop : Lexeme) × (stop.kind ≡ kind.Stop) × HasNoStop (lexemes r.0.now) × (lexemes tokens.now ≡ lexemes r.0.now ++ stop ∷ lexemes r.1.now)) }
+    ensures found { IfSome result (λ r. (stop : Lexeme) × (stop.kind ≡ kind.Stop) × HasNoStop
+        (lexemes r.0.now) × (lexemes tokens.now ≡ lexemes r.0.now ++ stop ∷ lexemes r.1.now)) }
     ensures none { IfNone result (HasNoStop (lexemes tokens.now)) }
 {
     let (sentence, rest) = tokens.split_at(sentence_len(tokens));
@@ -69,7 +70,8 @@ pub fn sentence_at(tokens: &[Token]) -> Option<(&[Token], &[Token])>
 
 /// Whether a token is a word with this text.
 fn is_that_word(token: &Token, text: &[u8]) -> bool
-    ensures { result ≡ (is_word_kind (lexeme token.now).kind && bytes_eq (lexeme token.now).text text.now) }
+    ensures { result ≡ (is_word_kind
+        (lexeme token.now).kind && bytes_eq (lexeme token.now).text text.now) }
 {
     token.kind == Kind::Word && token.text.as_slice() == text
 }
@@ -94,7 +96,8 @@ fn is_text(text: &[u8], other: &[u8]) -> bool
 /// The name that a level 88 entry gives a value; what stands behind VALUE isn't looked at.
 pub fn condition(sentence: &[Token]) -> Option<&[u8]>
     ensures found { IfSome result (λ n. IsCondition (lexemes sentence.now) n.now) }
-    ensures only { (n : List ℕ) → IsCondition (lexemes sentence.now) n → IsSomeAnd result (λ m. m.now ≡ n) }
+    ensures only { (n : List ℕ)
+        → IsCondition (lexemes sentence.now) n → IsSomeAnd result (λ m. m.now ≡ n) }
 {
     let (level, named) = word_at(sentence)?;
     if !is_text(level, b"88") {

@@ -31,8 +31,13 @@ use cob_source::Token;
 
 /// ASCENDING or DESCENDING KEY IS and names: what is behind them.
 fn behind_order(words: &[Token]) -> Option<&[Token]>
-    ensures found { IfSome result (λ r. (k : Lexeme) × (key is names : List Lexeme) × (term_of k ≡ Term.Ordered) × Noise Term.Key key × Noise Term.Is is × AreNames names × (lexemes words.now ≡ k ∷ (key ++ (is ++ (names ++ lexemes r.now))))) }
-    ensures only { (k : Lexeme) (key is names more : List Lexeme) → term_of k ≡ Term.Ordered → Noise Term.Key key → Noise Term.Is is → AreNames names → NotFirst Term.Plain more → lexemes words.now ≡ k ∷ (key ++ (is ++ (names ++ more))) → IsSomeAnd result (λ r. lexemes r.now ≡ more) }
+    ensures found { IfSome result (λ r. (k : Lexeme) × (key is names : List Lexeme)
+        × (term_of k ≡ Term.Ordered) × Noise Term.Key key × Noise Term.Is is
+        × AreNames names × (lexemes words.now ≡ k ∷ (key ++ (is ++ (names ++ lexemes r.now))))) }
+    ensures only { (k : Lexeme) (key is names more : List Lexeme)
+        → term_of k ≡ Term.Ordered → Noise Term.Key key → Noise Term.Is is → AreNames names
+        → NotFirst Term.Plain more → lexemes words.now ≡ k ∷ (key ++ (is ++ (names ++ more)))
+        → IsSomeAnd result (λ r. lexemes r.now ≡ more) }
 {
     let ordered = behind(words, Term::Ordered)?;
     let rest = names_at(skip(skip(ordered, Term::Key), Term::Is))?;
@@ -41,8 +46,12 @@ fn behind_order(words: &[Token]) -> Option<&[Token]>
 
 /// INDEXED BY and names: what is behind them.
 fn behind_indexes(words: &[Token]) -> Option<&[Token]>
-    ensures found { IfSome result (λ r. (k : Lexeme) × (by names : List Lexeme) × (term_of k ≡ Term.Indexed) × Noise Term.By by × AreNames names × (lexemes words.now ≡ k ∷ (by ++ (names ++ lexemes r.now)))) }
-    ensures only { (k : Lexeme) (by names more : List Lexeme) → term_of k ≡ Term.Indexed → Noise Term.By by → AreNames names → NotFirst Term.Plain more → lexemes words.now ≡ k ∷ (by ++ (names ++ more)) → IsSomeAnd result (λ r. lexemes r.now ≡ more) }
+    ensures found { IfSome result (λ r. (k : Lexeme)
+        × (by names : List Lexeme) × (term_of k ≡ Term.Indexed) × Noise Term.By by
+        × AreNames names × (lexemes words.now ≡ k ∷ (by ++ (names ++ lexemes r.now)))) }
+    ensures only { (k : Lexeme) (by names more : List Lexeme) → term_of k ≡ Term.Indexed
+        → Noise Term.By by → AreNames names → NotFirst Term.Plain more → lexemes words.now ≡ k ∷
+        (by ++ (names ++ more)) → IsSomeAnd result (λ r. lexemes r.now ≡ more) }
 {
     let indexed = behind(words, Term::Indexed)?;
     let rest = names_at(skip(indexed, Term::By))?;
@@ -51,8 +60,10 @@ fn behind_indexes(words: &[Token]) -> Option<&[Token]>
 
 /// The words behind the keys and indexes of a table, which may be absent.
 fn skip_keys(words: &[Token]) -> &[Token]
-    ensures found { (ws : List Lexeme) × AreKeys ws × (lexemes words.now ≡ ws ++ lexemes result.now) }
-    ensures only { (ws more : List Lexeme) → AreKeys ws → ClauseFirst more → lexemes words.now ≡ ws ++ more → lexemes result.now ≡ more }
+    ensures found { (ws : List Lexeme)
+        × AreKeys ws × (lexemes words.now ≡ ws ++ lexemes result.now) }
+    ensures only { (ws more : List Lexeme) → AreKeys ws
+        → ClauseFirst more → lexemes words.now ≡ ws ++ more → lexemes result.now ≡ more }
 {
     let mut rest = words;
     while let Some(more) = behind_order(rest) {
@@ -66,8 +77,13 @@ fn skip_keys(words: &[Token]) -> &[Token]
 
 /// The word before TO, if it stands there, the word behind it, and what is behind both.
 fn limits_at(words: &[Token]) -> Option<(Option<&[u8]>, &[u8], &[Token])>
-    ensures found { IfSome result (λ r. (least : List Lexeme) × (most : Lexeme) × IsLeast (option_map (λ b. b.now) r.0) least × IsFree r.1.now most × (lexemes words.now ≡ least ++ most ∷ lexemes r.2.now)) }
-    ensures only { (a : Option (List ℕ)) (b : List ℕ) (least : List Lexeme) (most : Lexeme) (more : List Lexeme) → IsLeast a least → IsFree b most → NotFirst Term.To more → lexemes words.now ≡ least ++ most ∷ more → IsSomeAnd result (λ r. (option_map (λ b. b.now) r.0 ≡ a) × (r.1.now ≡ b) × (lexemes r.2.now ≡ more)) }
+    ensures found { IfSome result
+        (λ r. (least : List Lexeme) × (most : Lexeme) × IsLeast (option_map (λ b. b.now) r.0) least
+        × IsFree r.1.now most × (lexemes words.now ≡ least ++ most ∷ lexemes r.2.now)) }
+    ensures only { (a : Option (List ℕ)) (b : List ℕ)
+        (least : List Lexeme) (most : Lexeme) (more : List Lexeme) → IsLeast a least → IsFree b most
+        → NotFirst Term.To more → lexemes words.now ≡ least ++ most ∷ more → IsSomeAnd result
+        (λ r. (option_map (λ b. b.now) r.0 ≡ a) × (r.1.now ≡ b) × (lexemes r.2.now ≡ more)) }
 {
     let (first, more) = free_at(words)?;
     if let Some(to) = behind(more, Term::To) {
@@ -82,8 +98,12 @@ fn varied_at<'a>(
     words: &'a [Token],
     least: Option<&[u8]>,
 ) -> Option<(Option<Count<'a>>, &'a [Token])>
-    ensures found { IfSome result (λ r. (ws : List Lexeme) × IsVaried (option_map written_name r.0) (option_map (λ b. b.now) least.entry) ws × (lexemes words.now ≡ ws ++ lexemes r.1.now)) }
-    ensures only { (count : Option WrittenName) (ws more : List Lexeme) → IsVaried count (option_map (λ b. b.now) least.entry) ws → NotFirst Term.Depending more → NotFirst Term.Of more → lexemes words.now ≡ ws ++ more → IsSomeAnd result (λ r. (option_map written_name r.0 ≡ count) × (lexemes r.1.now ≡ more)) }
+    ensures found { IfSome result (λ r. (ws : List Lexeme) × IsVaried (option_map written_name r.0)
+        (option_map (λ b. b.now) least.entry) ws × (lexemes words.now ≡ ws ++ lexemes r.1.now)) }
+    ensures only { (count : Option WrittenName) (ws more : List Lexeme)
+        → IsVaried count (option_map (λ b. b.now) least.entry) ws
+        → NotFirst Term.Depending more → NotFirst Term.Of more → lexemes words.now ≡ ws ++ more
+        → IsSomeAnd result (λ r. (option_map written_name r.0 ≡ count) × (lexemes r.1.now ≡ more)) }
 {
     if let Some((count, rest)) = count_at(words) {
         return Some((Some(count), rest));
@@ -96,8 +116,11 @@ fn varied_at<'a>(
 
 /// The words behind OCCURS, and what is behind them.
 pub fn table_at(words: &[Token]) -> Option<(Table<'_>, &[Token])>
-    ensures found { IfSome result (λ r. (ws : List Lexeme) × IsTable (written_table r.0) ws × (lexemes words.now ≡ ws ++ lexemes r.1.now)) }
-    ensures only { (t : WrittenTable) (ws more : List Lexeme) → IsTable t ws → ClauseFirst more → lexemes words.now ≡ ws ++ more → IsSomeAnd result (λ r. (written_table r.0 ≡ t) × (lexemes r.1.now ≡ more)) }
+    ensures found { IfSome result (λ r. (ws : List Lexeme)
+        × IsTable (written_table r.0) ws × (lexemes words.now ≡ ws ++ lexemes r.1.now)) }
+    ensures only { (t : WrittenTable) (ws more : List Lexeme)
+        → IsTable t ws → ClauseFirst more → lexemes words.now ≡ ws ++ more
+        → IsSomeAnd result (λ r. (written_table r.0 ≡ t) × (lexemes r.1.now ≡ more)) }
 {
     let (least, most, limited) = limits_at(words)?;
     let (count, varied) = varied_at(skip(limited, Term::Times), least)?;

@@ -172,7 +172,8 @@ static KEYWORDS: [(&[u8], Term); 77] = [
 
 /// What a text is by a table of keywords, if it is in it.
 fn term_in(table: &[(&[u8], Term)], text: &[u8]) -> Option<Term>
-    ensures { (other : Term) → unwrap_or result other ≡ term_by (keywords table.now) text.now other }
+    ensures { (other : Term)
+        → unwrap_or result other ≡ term_by (keywords table.now) text.now other }
 {
     for (keyword, term) in table {
         if *keyword == text {

@@ -58,8 +58,10 @@ pub fn is_name_word(token: &Token) -> bool
 
 /// The words behind this one, if it comes first.
 pub fn behind(words: &[Token], term: Term) -> Option<&[Token]>
-    ensures found { IfSome result (λ r. (w : Lexeme) × (term_of w ≡ term) × (lexemes words.now ≡ w ∷ lexemes r.now)) }
-    ensures only { (w : Lexeme) (more : List Lexeme) → term_of w ≡ term → lexemes words.now ≡ w ∷ more → IsSomeAnd result (λ r. lexemes r.now ≡ more) }
+    ensures found { IfSome result
+        (λ r. (w : Lexeme) × (term_of w ≡ term) × (lexemes words.now ≡ w ∷ lexemes r.now)) }
+    ensures only { (w : Lexeme) (more : List Lexeme) → term_of w ≡ term
+        → lexemes words.now ≡ w ∷ more → IsSomeAnd result (λ r. lexemes r.now ≡ more) }
 {
     let (first, more) = words.split_first()?;
     if is_term(first, term) {
@@ -71,8 +73,10 @@ pub fn behind(words: &[Token], term: Term) -> Option<&[Token]>
 
 /// The words without the optional one in front.
 pub fn skip(words: &[Token], term: Term) -> &[Token]
-    ensures found { (noise : List Lexeme) × Noise term noise × (lexemes words.now ≡ noise ++ lexemes result.now) }
-    ensures only { (noise more : List Lexeme) → Noise term noise → NotFirst term more → lexemes words.now ≡ noise ++ more → lexemes result.now ≡ more }
+    ensures found { (noise : List Lexeme)
+        × Noise term noise × (lexemes words.now ≡ noise ++ lexemes result.now) }
+    ensures only { (noise more : List Lexeme) → Noise term noise
+        → NotFirst term more → lexemes words.now ≡ noise ++ more → lexemes result.now ≡ more }
 {
     match behind(words, term) {
         Some(more) => more,
@@ -82,8 +86,10 @@ pub fn skip(words: &[Token], term: Term) -> &[Token]
 
 /// The words without the first, if it is one of two.
 pub fn skip_is_or_are(words: &[Token]) -> &[Token]
-    ensures found { (noise : List Lexeme) × IsOrAre noise × (lexemes words.now ≡ noise ++ lexemes result.now) }
-    ensures only { (noise more : List Lexeme) → IsOrAre noise → NotFirst Term.Is more → NotFirst Term.Are more → lexemes words.now ≡ noise ++ more → lexemes result.now ≡ more }
+    ensures found { (noise : List Lexeme)
+        × IsOrAre noise × (lexemes words.now ≡ noise ++ lexemes result.now) }
+    ensures only { (noise more : List Lexeme) → IsOrAre noise → NotFirst Term.Is more
+        → NotFirst Term.Are more → lexemes words.now ≡ noise ++ more → lexemes result.now ≡ more }
 {
     match behind(words, Term::Is) {
         Some(more) => more,
@@ -93,8 +99,10 @@ pub fn skip_is_or_are(words: &[Token]) -> &[Token]
 
 /// The words behind this one and IS, which may both be absent, but IS stands only behind it.
 pub fn skip_prefix(words: &[Token], term: Term) -> &[Token]
-    ensures found { (before : List Lexeme) × IsPrefix term before × (lexemes words.now ≡ before ++ lexemes result.now) }
-    ensures only { (before more : List Lexeme) → IsPrefix term before → NotFirst term more → NotFirst Term.Is more → lexemes words.now ≡ before ++ more → lexemes result.now ≡ more }
+    ensures found { (before : List Lexeme)
+        × IsPrefix term before × (lexemes words.now ≡ before ++ lexemes result.now) }
+    ensures only { (before more : List Lexeme) → IsPrefix term before → NotFirst term more
+        → NotFirst Term.Is more → lexemes words.now ≡ before ++ more → lexemes result.now ≡ more }
 {
     match behind(words, term) {
         Some(more) => skip(more, Term::Is),
@@ -104,8 +112,11 @@ pub fn skip_prefix(words: &[Token], term: Term) -> &[Token]
 
 /// The text of the word in front, and what is behind it.
 pub fn word_at(words: &[Token]) -> Option<(&[u8], &[Token])>
-    ensures found { IfSome result (λ r. (w : Lexeme) × IsWord r.0.now w × (lexemes words.now ≡ w ∷ lexemes r.1.now)) }
-    ensures only { (text : List ℕ) (w : Lexeme) (more : List Lexeme) → IsWord text w → lexemes words.now ≡ w ∷ more → IsSomeAnd result (λ r. (r.0.now ≡ text) × (lexemes r.1.now ≡ more)) }
+    ensures found { IfSome result
+        (λ r. (w : Lexeme) × IsWord r.0.now w × (lexemes words.now ≡ w ∷ lexemes r.1.now)) }
+    ensures only { (text : List ℕ) (w : Lexeme) (more : List Lexeme)
+        → IsWord text w → lexemes words.now ≡ w ∷ more
+        → IsSomeAnd result (λ r. (r.0.now ≡ text) × (lexemes r.1.now ≡ more)) }
 {
     let (first, more) = words.split_first()?;
     if !is_word(first) {
@@ -116,8 +127,11 @@ pub fn word_at(words: &[Token]) -> Option<(&[u8], &[Token])>
 
 /// The text of the word in front, which isn't this one, and what is behind it.
 pub fn other_word_at(words: &[Token], term: Term) -> Option<(&[u8], &[Token])>
-    ensures found { IfSome result (λ r. (w : Lexeme) × IsWord r.0.now w × (term_of w ≢ term) × (lexemes words.now ≡ w ∷ lexemes r.1.now)) }
-    ensures only { (text : List ℕ) (w : Lexeme) (more : List Lexeme) → IsWord text w → term_of w ≢ term → lexemes words.now ≡ w ∷ more → IsSomeAnd result (λ r. (r.0.now ≡ text) × (lexemes r.1.now ≡ more)) }
+    ensures found { IfSome result (λ r. (w : Lexeme)
+        × IsWord r.0.now w × (term_of w ≢ term) × (lexemes words.now ≡ w ∷ lexemes r.1.now)) }
+    ensures only { (text : List ℕ) (w : Lexeme) (more : List Lexeme)
+        → IsWord text w → term_of w ≢ term → lexemes words.now ≡ w ∷ more
+        → IsSomeAnd result (λ r. (r.0.now ≡ text) × (lexemes r.1.now ≡ more)) }
 {
     let (first, more) = words.split_first()?;
     if !is_word(first) || is_term(first, term) {
@@ -128,8 +142,11 @@ pub fn other_word_at(words: &[Token], term: Term) -> Option<(&[u8], &[Token])>
 
 /// The text of the word in front, which isn't reserved, and what is behind it.
 pub fn free_at(words: &[Token]) -> Option<(&[u8], &[Token])>
-    ensures found { IfSome result (λ r. (w : Lexeme) × IsFree r.0.now w × (lexemes words.now ≡ w ∷ lexemes r.1.now)) }
-    ensures only { (text : List ℕ) (w : Lexeme) (more : List Lexeme) → IsFree text w → lexemes words.now ≡ w ∷ more → IsSomeAnd result (λ r. (r.0.now ≡ text) × (lexemes r.1.now ≡ more)) }
+    ensures found { IfSome result
+        (λ r. (w : Lexeme) × IsFree r.0.now w × (lexemes words.now ≡ w ∷ lexemes r.1.now)) }
+    ensures only { (text : List ℕ) (w : Lexeme) (more : List Lexeme)
+        → IsFree text w → lexemes words.now ≡ w ∷ more
+        → IsSomeAnd result (λ r. (r.0.now ≡ text) × (lexemes r.1.now ≡ more)) }
 {
     let (first, more) = words.split_first()?;
     if !is_term(first, Term::Plain) {

@@ -36,7 +36,8 @@ pub(crate) fn entry_of(alloc: Global, line: u32, written: &Written<'_>) -> Resul
     ensures found { IfOk result (λ e. Means (written_entry written.now) (described e)) }
     ensures only { (d : Described) → Means (written_entry written.now) d
         → IfOk result (λ e. described e ≡ d) × IfErr result (λ r. r ≡ rule.Memory) }
-    ensures fault { IfErr result (λ r. (r ≡ rule.Memory) ⊎ BreaksEntry r (written_entry written.now)) }
+    ensures fault { IfErr result
+        (λ r. (r ≡ rule.Memory) ⊎ BreaksEntry r (written_entry written.now)) }
 {
     let level = level_of(written.level)?;
     let name = name_of(written.name)?;
@@ -82,8 +83,10 @@ fn level_of(text: &[u8]) -> Result<u8, BookRule>
 /// `Name` for a text that is no name.
 fn name_of(text: Option<&[u8]>) -> Result<Option<Name>, BookRule>
     ensures found { IfOk result (λ n. IsOption IsNamed (option_map (λ b. b.now) text.entry) n) }
-    ensures only { (n : Option (List ℕ)) → IsOption IsNamed (option_map (λ b. b.now) text.entry) n → IsOkAnd result (λ m. m ≡ n) }
-    ensures fault { IfErr result (λ r. (r ≡ rule.Name) × IsNoName (option_map (λ b. b.now) text.entry)) }
+    ensures only { (n : Option (List ℕ))
+        → IsOption IsNamed (option_map (λ b. b.now) text.entry) n → IsOkAnd result (λ m. m ≡ n) }
+    ensures fault { IfErr result
+        (λ r. (r ≡ rule.Name) × IsNoName (option_map (λ b. b.now) text.entry)) }
 {
     let Some(text) = text else {
         return Ok(None);
@@ -101,7 +104,8 @@ fn name_of(text: Option<&[u8]>) -> Result<Option<Name>, BookRule>
 /// `Picture` with its fault for a text that is no picture.
 fn picture_of(text: Option<&[u8]>) -> Result<Option<Picture>, BookRule>
     ensures found { IfOk result (λ p. IsOption IsPictureOf (option_map (λ b. b.now) text.entry) p) }
-    ensures only { (p : Option Seen) → IsOption IsPictureOf (option_map (λ b. b.now) text.entry) p → IsOkAnd result (λ q. q ≡ p) }
+    ensures only { (p : Option Seen) → IsOption IsPictureOf (option_map (λ b. b.now) text.entry) p
+        → IsOkAnd result (λ q. q ≡ p) }
     ensures fault { IfErr result (λ r. (f : PictureFault) × (r ≡ rule.Picture f)
         × OfOption (IsBroken f) (option_map (λ b. b.now) text.entry)) }
 {
@@ -121,10 +125,12 @@ fn picture_of(text: Option<&[u8]>) -> Result<Option<Picture>, BookRule>
 /// As [`occurs_of`].
 fn times_of(alloc: Global, table: Option<Table<'_>>) -> Result<Option<Occurs>, BookRule>
     requires { HasShortCount (option_map written_table table) }
-    ensures found { IfOk result (λ o. IsOption IsTimes (option_map written_table table.entry) (option_map times o)) }
+    ensures found { IfOk result
+        (λ o. IsOption IsTimes (option_map written_table table.entry) (option_map times o)) }
     ensures only { (t : Option Times) → IsOption IsTimes (option_map written_table table.entry) t
         → IfOk result (λ o. option_map times o ≡ t) × IfErr result (λ r. r ≡ rule.Memory) }
-    ensures fault { IfErr result (λ r. OfOption (IsTableFault r) (option_map written_table table.entry)) }
+    ensures fault { IfErr result
+        (λ r. OfOption (IsTableFault r) (option_map written_table table.entry)) }
 {
     match table {
         Some(table) => Ok(Some(occurs_of(alloc, &table)?)),
@@ -138,10 +144,13 @@ fn times_of(alloc: Global, table: Option<Table<'_>>) -> Result<Option<Occurs>, B
 ///
 /// As [`value_of`].
 fn constant_of(written: Option<Constant<'_>>) -> Result<Option<Value>, BookRule>
-    ensures found { IfOk result (λ v. IsOption IsConstantOf (option_map written_constant written.entry) (option_map constant v)) }
-    ensures only { (c : Option Meant) → IsOption IsConstantOf (option_map written_constant written.entry) c
+    ensures found { IfOk result (λ v.
+        IsOption IsConstantOf (option_map written_constant written.entry) (option_map constant v)) }
+    ensures only { (c : Option Meant)
+        → IsOption IsConstantOf (option_map written_constant written.entry) c
         → IsOkAnd result (λ v. option_map constant v ≡ c) }
-    ensures fault { IfErr result (λ r. OfOption (IsConstantFault r) (option_map written_constant written.entry)) }
+    ensures fault { IfErr result
+        (λ r. OfOption (IsConstantFault r) (option_map written_constant written.entry)) }
 {
     match written {
         Some(written) => Ok(Some(value_of(&written)?)),

@@ -53,7 +53,8 @@ pub(crate) fn occurs_of(alloc: Global, table: &Table<'_>) -> Result<Occurs, Book
 /// `Grammar` where a word that is no number stands in a number's place, and `Table` for numbers out of bounds.
 fn numbers_of(table: &Table<'_>) -> Result<(u32, u32), BookRule>
     ensures found { IfOk result (λ n. AreNumbers (written_table table.now) n.0 n.1) }
-    ensures only { (least most : ℕ) → AreNumbers (written_table table.now) least most → result ≡ Ok (least, most) }
+    ensures only { (least most : ℕ)
+        → AreNumbers (written_table table.now) least most → result ≡ Ok (least, most) }
     ensures fault { IfErr result (λ r. ((r ≡ rule.Grammar) × BreaksNumber (written_table table.now))
         ⊎ ((r ≡ rule.Table) × BreaksTable (Some (written_table table.now)))) }
 {
@@ -81,7 +82,8 @@ fn has_numbers(table: &Table<'_>) -> bool
 /// The least and the greatest number of times, where they are within their bounds.
 fn bounded_numbers(table: &Table<'_>) -> Option<(u32, u32)>
     ensures found { IfSome result (λ n. AreNumbers (written_table table.now) n.0 n.1) }
-    ensures only { (least most : ℕ) → AreNumbers (written_table table.now) least most → IsSomeAnd result (λ n. n ≡ (least, most)) }
+    ensures only { (least most : ℕ) → AreNumbers (written_table table.now) least most
+        → IsSomeAnd result (λ n. n ≡ (least, most)) }
 {
     let least = least_of(table.least)?;
     let most = whole(table.most, MAX_TIMES_DIGITS)?;
@@ -120,10 +122,12 @@ fn is_range(table: &Table<'_>, least: u32, most: u32) -> bool
 /// `Name` where the text is no name, and `Memory`.
 fn qualified_of(alloc: Global, count: &Count<'_>) -> Result<Qualified, BookRule>
     requires { AreShort (written_name count.now).qualifiers }
-    ensures found { IfOk result (λ q. IsName (written_name count.now).name × (q.name ≡ (written_name count.now).name)
+    ensures found { IfOk result
+        (λ q. IsName (written_name count.now).name × (q.name ≡ (written_name count.now).name)
         × (q.qualifiers.items ≡ (written_name count.now).qualifiers)) }
     ensures only { IsName (written_name count.now).name → IfErr result (λ r. r ≡ rule.Memory) }
-    ensures fault { IfErr result (λ r. (r ≡ rule.Memory) ⊎ ((r ≡ rule.Name) × (IsName (written_name count.now).name → ⊥))) }
+    ensures fault { IfErr result
+        (λ r. (r ≡ rule.Memory) ⊎ ((r ≡ rule.Name) × (IsName (written_name count.now).name → ⊥))) }
 {
     let Some(name) = Name::of(count.name) else {
         return Err(BookRule::Name);

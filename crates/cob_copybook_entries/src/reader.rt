@@ -78,9 +78,10 @@ fn add_sentence(
         × (map described entries.new.items ≡ map described entries.old.items ++ listed d)
         × (map described entries.old.items ≡ [] → IsSome d)) }
     ensures few { OnOk result (length entries.new.items ≤ most_entries) }
-    ensures fault { IfErr result (λ r. IsSentenceFault r (map described entries.old.items) (lexemes sentence.now)) }
-    ensures only { (d : Option Described) → Adds (lexemes sentence.now) d
-        → OnOk result (map described entries.new.items ≡ map described entries.old.items ++ listed d)
+    ensures fault { IfErr result
+        (λ r. IsSentenceFault r (map described entries.old.items) (lexemes sentence.now)) }
+    ensures only { (d : Option Described) → Adds (lexemes sentence.now) d → OnOk result
+        (map described entries.new.items ≡ map described entries.old.items ++ listed d)
         × IfErr result (λ r. (r ≡ Memory) ⊎ IsPlaceFault r (map described entries.old.items) d) }
 {
     let entry = sentence_of(alloc, line, sentence)?;
@@ -96,9 +97,11 @@ fn add(entries: &mut Vec<Entry>, entry: Option<Entry>) -> Result<(), BookRule>
     requires { length entries.old.items ≤ most_entries }
     ensures added { OnOk result (map described entries.new.items
         ≡ map described entries.old.items ++ listed (option_map described entry)) }
-    ensures first { OnOk result (map described entries.old.items ≡ [] → IsSome (option_map described entry)) }
+    ensures first { OnOk result
+        (map described entries.old.items ≡ [] → IsSome (option_map described entry)) }
     ensures few { OnOk result (length entries.new.items ≤ most_entries) }
-    ensures fault { IfErr result (λ r. IsPlaceFault r (map described entries.old.items) (option_map described entry)) }
+    ensures fault { IfErr result
+        (λ r. IsPlaceFault r (map described entries.old.items) (option_map described entry)) }
 {
     match entry {
         Some(_) if entries.len() == MAX_ENTRIES => Err(BookRule::TooMany),

@@ -31,7 +31,8 @@ pub(crate) fn sentence_of(
     ensures found { IfOk result (λ e. Adds (lexemes sentence.now) (option_map described e)) }
     ensures only { (d : Option Described) → Adds (lexemes sentence.now) d
         → IfOk result (λ e. option_map described e ≡ d) × IfErr result (λ r. r ≡ rule.Memory) }
-    ensures fault { IfErr result (λ r. (r ≡ rule.Memory) ⊎ BreaksSentence r (lexemes sentence.now)) }
+    ensures fault { IfErr result
+        (λ r. (r ≡ rule.Memory) ⊎ BreaksSentence r (lexemes sentence.now)) }
 {
     if let Some(word) = left_out(sentence) {
         return Err(BookRule::LeftOut(word_of(word)));

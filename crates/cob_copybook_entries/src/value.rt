@@ -104,7 +104,8 @@ impl Value {
 /// one has too many digits.
 pub(crate) fn value_of(written: &Constant<'_>) -> Result<Value, BookRule>
     ensures found { IfOk result (λ v. IsConstantOf (written_constant written.now) (constant v)) }
-    ensures only { (c : Meant) → IsConstantOf (written_constant written.now) c → IsOkAnd result (λ v. constant v ≡ c) }
+    ensures only { (c : Meant)
+        → IsConstantOf (written_constant written.now) c → IsOkAnd result (λ v. constant v ≡ c) }
     ensures fault { IfErr result (λ r. IsConstantFault r (written_constant written.now)) }
 {
     match *written {
@@ -129,8 +130,10 @@ pub(crate) fn value_of(written: &Constant<'_>) -> Result<Value, BookRule>
 ///
 /// `Grammar` for a word that is no numeric literal, and `Value` for one of too many digits.
 fn number_of(text: &[u8]) -> Result<Number, BookRule>
-    ensures found { IfOk result (λ n. IsConstantOf (Word text.now) (Numeric (begins_with_sign text.now) n.negative n.digits n.scale)) }
-    ensures only { (c : Meant) → IsConstantOf (Word text.now) c → IsOkAnd result (λ n. Numeric (begins_with_sign text.now) n.negative n.digits n.scale ≡ c) }
+    ensures found { IfOk result (λ n. IsConstantOf
+        (Word text.now) (Numeric (begins_with_sign text.now) n.negative n.digits n.scale)) }
+    ensures only { (c : Meant) → IsConstantOf (Word text.now) c → IsOkAnd result
+        (λ n. Numeric (begins_with_sign text.now) n.negative n.digits n.scale ≡ c) }
     ensures fault { IfErr result (λ r. IsConstantFault r (Word text.now)) }
 {
     match Number::of_text(text) {

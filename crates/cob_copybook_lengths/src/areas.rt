@@ -65,7 +65,8 @@ fn bears(area: &[Node], name: &Name, level: u8) -> bool
 /// Whether an entry, with all its occurrences, is no longer than the first of an area.
 fn is_no_longer(entry: &Node, first: &Node) -> bool
     requires { whole most (node first.now).top (node first.now).beneath ≤ longest_record }
-    ensures { IsTrue result ↔ (whole most (node entry.now).top (node entry.now).beneath ≤ whole most (node first.now).top (node first.now).beneath) }
+    ensures { IsTrue result ↔ (whole most (node entry.now).top
+        (node entry.now).beneath ≤ whole most (node first.now).top (node first.now).beneath) }
 {
     whole_length(entry) <= whole_length(first)
 }
@@ -85,8 +86,10 @@ fn fits_area(first: &Node, entry: &Node) -> bool
 /// Whether an entry may stand behind those of an area: it redefines none, or it redefines that one.
 fn may_follow(area: &[Node], entry: &Node) -> bool
     requires { IsShortArea (map node area.now) }
-    ensures yes { IsTrue result → MayFollow (node entry.now).top.redefines (map node area.now) (node entry.now) }
-    ensures must { MayFollow (node entry.now).top.redefines (map node area.now) (node entry.now) → IsTrue result }
+    ensures yes { IsTrue result
+        → MayFollow (node entry.now).top.redefines (map node area.now) (node entry.now) }
+    ensures must { MayFollow (node entry.now).top.redefines (map node area.now) (node entry.now)
+        → IsTrue result }
 {
     match (&entry.redefines, area.first()) {
         (None, _) => true,

@@ -45,8 +45,10 @@ fn holds_finer(digits: &[u8], zeros: usize, room: usize) -> bool
 fn holds_coarser(digits: &[u8], places: usize, room: usize) -> bool
     requires digits { IsDigits digits.now }
     requires first { IsSignificant digits.now }
-    ensures yes { IsTrue result → (held : ℕ) × (held < 10 ^ room) × (number_of digits.now ≡ held * 10 ^ places) }
-    ensures must { (held : ℕ) → held < 10 ^ room → number_of digits.now ≡ held * 10 ^ places → IsTrue result }
+    ensures yes { IsTrue result
+        → (held : ℕ) × (held < 10 ^ room) × (number_of digits.now ≡ held * 10 ^ places) }
+    ensures must { (held : ℕ)
+        → held < 10 ^ room → number_of digits.now ≡ held * 10 ^ places → IsTrue result }
 {
     let (kept, cut) = digits.split_at(digits.len().saturating_sub(places));
     are_zeros(cut) && kept.len() <= room
@@ -85,8 +87,10 @@ fn may_write_sign(written: bool, kept: bool) -> bool
 /// Whether a numeric item of this picture takes a numeric literal as its value: nothing of it is cut, and a sign is written only
 /// where the picture has one.
 pub(crate) fn fits_number(picture: &Picture, signed: bool, number: &Number) -> bool
-    ensures yes { IsTrue result → HoldsNumber picture.now signed number.now.digits number.now.scale }
-    ensures must { HoldsNumber picture.now signed number.now.digits number.now.scale → IsTrue result }
+    ensures yes { IsTrue result
+        → HoldsNumber picture.now signed number.now.digits number.now.scale }
+    ensures must { HoldsNumber picture.now signed number.now.digits number.now.scale
+        → IsTrue result }
 {
     let shift = shift_between(number.scale(), picture.scale());
     let room = usize::from(picture.digits());

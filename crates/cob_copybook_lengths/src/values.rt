@@ -34,8 +34,10 @@ fn is_numeric_value(picture: &Picture, value: &Value) -> bool
 
 /// Whether the element of an entry that is no number takes the value.
 fn is_character_value(entry: &Node, value: &Value) -> bool
-    ensures yes { IsTrue result → IsCharacterValue (element most (node entry.now).top (node entry.now).beneath) (constant value.now) }
-    ensures must { IsCharacterValue (element most (node entry.now).top (node entry.now).beneath) (constant value.now) → IsTrue result }
+    ensures yes { IsTrue result → IsCharacterValue
+        (element most (node entry.now).top (node entry.now).beneath) (constant value.now) }
+    ensures must { IsCharacterValue (element most (node entry.now).top (node entry.now).beneath)
+        (constant value.now) → IsTrue result }
 {
     match value {
         Value::Number { .. } => false,
@@ -46,8 +48,10 @@ fn is_character_value(entry: &Node, value: &Value) -> bool
 
 /// Whether an entry takes the value.
 fn is_value_for(entry: &Node, value: &Value) -> bool
-    ensures yes { IsTrue result → IsValueFor (node entry.now).top.kind (element most (node entry.now).top (node entry.now).beneath) (constant value.now) }
-    ensures must { IsValueFor (node entry.now).top.kind (element most (node entry.now).top (node entry.now).beneath) (constant value.now) → IsTrue result }
+    ensures yes { IsTrue result → IsValueFor (node entry.now).top.kind
+        (element most (node entry.now).top (node entry.now).beneath) (constant value.now) }
+    ensures must { IsValueFor (node entry.now).top.kind (element most
+        (node entry.now).top (node entry.now).beneath) (constant value.now) → IsTrue result }
 {
     match &entry.kind {
         Kind::Item(item) if is_number(item) => is_numeric_value(&item.picture, value),
@@ -58,8 +62,10 @@ fn is_value_for(entry: &Node, value: &Value) -> bool
 /// Whether an entry may have the value that it has: `redefined` where it is or stands in a redefinition, `valued` where a group
 /// above it has a value.
 fn may_have_value(redefined: bool, valued: bool, entry: &Node) -> bool
-    ensures yes { IsTrue result → MayHaveValue redefined valued (node entry.now).top (node entry.now).beneath (node entry.now).top.value }
-    ensures must { MayHaveValue redefined valued (node entry.now).top (node entry.now).beneath (node entry.now).top.value → IsTrue result }
+    ensures yes { IsTrue result → MayHaveValue redefined valued
+        (node entry.now).top (node entry.now).beneath (node entry.now).top.value }
+    ensures must { MayHaveValue redefined valued
+        (node entry.now).top (node entry.now).beneath (node entry.now).top.value → IsTrue result }
 {
     match &entry.value {
         Some(value) => !redefined && !valued && is_value_for(entry, value),

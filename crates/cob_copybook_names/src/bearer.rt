@@ -28,7 +28,8 @@ fn names_beneath<'a>(
     branch: &'a Branch,
     above: &[&'a [u8]],
 ) -> Result<Vec<&'a [u8]>, AllocError>
-    ensures { IfOk result (λ v. 0 < length (out-Branch branch.now).children.items → texts v.items ≡ with_name (described (out-Branch branch.now).entry).name (texts above.now)) }
+    ensures { IfOk result (λ v. 0 < length (out-Branch branch.now).children.items → texts
+        v.items ≡ with_name (described (out-Branch branch.now).entry).name (texts above.now)) }
 {
     let mut names = Vec::new(alloc);
     if branch.children.is_empty() {
@@ -57,8 +58,11 @@ fn list_entry<'a>(
     listed: &mut Vec<Bearer<'a>>,
 ) -> Result<(), AllocError>
     ensures length { OnOk result (length listed.new.items ≡ length listed.old.items + 1) }
-    ensures bearers { OnOk result (map bearer_of listed.new.items ≡ map bearer_of listed.old.items ++ bearer_at (texts above.now) in_table (length listed.old.items) (described entry.now) ∷ []) }
-    ensures entries { OnOk result (map entry_of listed.new.items ≡ map entry_of listed.old.items ++ described entry.now ∷ []) }
+    ensures bearers { OnOk result
+        (map bearer_of listed.new.items ≡ map bearer_of listed.old.items ++ bearer_at
+        (texts above.now) in_table (length listed.old.items) (described entry.now) ∷ []) }
+    ensures entries { OnOk result (map
+        entry_of listed.new.items ≡ map entry_of listed.old.items ++ described entry.now ∷ []) }
 {
     let mut names = Vec::new(alloc);
     names.extend_from_slice(above)?;
@@ -86,9 +90,12 @@ pub fn list_bearers<'a>(
     listed: &mut Vec<Bearer<'a>>,
 ) -> Result<(), AllocError>
     requires { length listed.old.items + entries_in (forest_of branches.now) ≤ 65535 }
-    ensures length { OnOk result (length listed.new.items ≡ length listed.old.items + entries_in (forest_of branches.now)) }
-    ensures bearers { OnOk result (map bearer_of listed.new.items ≡ map bearer_of listed.old.items ++ bearers (texts above.now) in_table (length listed.old.items) (forest_of branches.now)) }
-    ensures entries { OnOk result (map entry_of listed.new.items ≡ map entry_of listed.old.items ++ flat (forest_of branches.now)) }
+    ensures length { OnOk result
+        (length listed.new.items ≡ length listed.old.items + entries_in (forest_of branches.now)) }
+    ensures bearers { OnOk result (map bearer_of listed.new.items ≡ map bearer_of listed.old.items
+        ++ bearers (texts above.now) in_table (length listed.old.items) (forest_of branches.now)) }
+    ensures entries { OnOk result (map entry_of
+        listed.new.items ≡ map entry_of listed.old.items ++ flat (forest_of branches.now)) }
 {
     for branch in branches {
         let entry = &branch.entry;

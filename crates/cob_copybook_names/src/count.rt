@@ -35,8 +35,10 @@ fn may_count(bearer: &Bearer) -> bool
 
 /// The number of the count that table `number` names: none where nothing may be its count.
 fn named_count(directory: &Directory, number: usize, count: &Qualified) -> Option<usize>
-    ensures found { IfSome result (λ c. IsCount (map bearer_of directory.now.bearers.now) number count.now.name count.now.qualifiers.items c) }
-    ensures only { (c : ℕ) → IsCount (map bearer_of directory.now.bearers.now) number count.now.name count.now.qualifiers.items c → IsSomeAnd result (λ d. d ≡ c) }
+    ensures found { IfSome result (λ c. IsCount (map bearer_of directory.now.bearers.now)
+        number count.now.name count.now.qualifiers.items c) }
+    ensures only { (c : ℕ) → IsCount (map bearer_of directory.now.bearers.now)
+        number count.now.name count.now.qualifiers.items c → IsSomeAnd result (λ d. d ≡ c) }
 {
     let bearer = directory.only_named(count.name.as_bytes(), count.qualifiers.as_slice())?;
     if may_count(bearer) && bearer.number < number {
@@ -48,8 +50,10 @@ fn named_count(directory: &Directory, number: usize, count: &Qualified) -> Optio
 
 /// The number of the count of entry `number`: 0 for one that doesn't vary.
 fn count_of(directory: &Directory, number: usize, entry: &Entry) -> Result<usize, BookFault>
-    ensures found { IfOk result (λ c. IsCountOf (map bearer_of directory.now.bearers.now) number (described entry.now).occurs c) }
-    ensures only { (c : ℕ) → IsCountOf (map bearer_of directory.now.bearers.now) number (described entry.now).occurs c → IsOkAnd result (λ d. d ≡ c) }
+    ensures found { IfOk result (λ c.
+        IsCountOf (map bearer_of directory.now.bearers.now) number (described entry.now).occurs c) }
+    ensures only { (c : ℕ) → IsCountOf (map bearer_of directory.now.bearers.now) number
+        (described entry.now).occurs c → IsOkAnd result (λ d. d ≡ c) }
     ensures fault { IfErr result (λ f. f.rule ≡ Count) }
 {
     match &entry.occurs {
@@ -66,8 +70,10 @@ fn count_of(directory: &Directory, number: usize, entry: &Entry) -> Result<usize
 
 /// The number of each entry's count, in order.
 fn counts_of(alloc: Global, directory: &Directory) -> Result<Vec<usize>, BookFault>
-    ensures found { IfOk result (λ v. AreCounts (map bearer_of directory.now.bearers.now) 0 (map entry_of directory.now.bearers.now) v.items) }
-    ensures fault { IfErr result (λ f. IsRefusedAmong (map bearer_of directory.now.bearers.now) f.rule (map entry_of directory.now.bearers.now)) }
+    ensures found { IfOk result (λ v. AreCounts (map bearer_of directory.now.bearers.now) 0
+        (map entry_of directory.now.bearers.now) v.items) }
+    ensures fault { IfErr result (λ f. IsRefusedAmong
+        (map bearer_of directory.now.bearers.now) f.rule (map entry_of directory.now.bearers.now)) }
     ensures memory { IfErr result (λ f. f.rule ≡ Memory → f.line ≡ 0) }
 {
     let mut counts = Vec::new(alloc);
@@ -87,7 +93,8 @@ fn counts_of(alloc: Global, directory: &Directory) -> Result<Vec<usize>, BookFau
 pub fn counts(alloc: Global, root: &Branch) -> Result<Vec<usize>, BookFault>
     requires few { entries_in (forest_of (root.now ∷ [])) ≤ 65535 }
     ensures found { IfOk result (λ v. AreCountsOf (forest_of (root.now ∷ [])) v.items) }
-    ensures only { (cs : List ℕ) → AreCountsOf (forest_of (root.now ∷ [])) cs → IfOk result (λ v. v.items ≡ cs) × IfErr result (λ f. f.rule ≡ Memory) }
+    ensures only { (cs : List ℕ) → AreCountsOf (forest_of (root.now ∷ [])) cs
+        → IfOk result (λ v. v.items ≡ cs) × IfErr result (λ f. f.rule ≡ Memory) }
     ensures fault { IfErr result (λ f. IsRefused f.rule (forest_of (root.now ∷ []))) }
     ensures memory { IfErr result (λ f. f.rule ≡ Memory → f.line ≡ 0) }
 {

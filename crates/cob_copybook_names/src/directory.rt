@@ -31,9 +31,12 @@ fn note<'a>(
     entry: &'a Entry,
     place: usize,
 ) -> Result<Option<usize>, AllocError>
-    ensures before { IfOk result (λ before. (name : List ℕ) → (described entry.now).name ≡ Some name → before ≡ noted_for last.old name) }
-    ensures noted { OnOk result ((name : List ℕ) → (described entry.now).name ≡ Some name → noted_for last.new name ≡ Some place) }
-    ensures others { OnOk result ((name : List ℕ) → (described entry.now).name ≢ Some name → noted_for last.new name ≡ noted_for last.old name) }
+    ensures before { IfOk result (λ before. (name : List ℕ)
+        → (described entry.now).name ≡ Some name → before ≡ noted_for last.old name) }
+    ensures noted { OnOk result ((name : List ℕ)
+        → (described entry.now).name ≡ Some name → noted_for last.new name ≡ Some place) }
+    ensures others { OnOk result ((name : List ℕ) → (described entry.now).name ≢ Some name
+        → noted_for last.new name ≡ noted_for last.old name) }
 {
     match &entry.name {
         Some(name) => Ok(last.insert(name.as_bytes(), place)?),
@@ -65,8 +68,10 @@ impl<'b, 'a> Directory<'b, 'a> {
 
     /// The only entry that the qualified name names: none where it names none, or several.
     pub fn only_named(&self, name: &[u8], qualifiers: &[Name]) -> Option<&'b Bearer<'a>>
-        ensures found { IfSome result (λ b. IsOnlyOne (Names name.now qualifiers.now) (map bearer_of self.now.bearers.now) (bearer_of b.now)) }
-        ensures only { (b : SeenBearer) → IsOnlyOne (Names name.now qualifiers.now) (map bearer_of self.now.bearers.now) b → IsSomeAnd result (λ r. bearer_of r.now ≡ b) }
+        ensures found { IfSome result (λ b. IsOnlyOne (Names name.now qualifiers.now)
+            (map bearer_of self.now.bearers.now) (bearer_of b.now)) }
+        ensures only { (b : SeenBearer) → IsOnlyOne (Names name.now qualifiers.now)
+            (map bearer_of self.now.bearers.now) b → IsSomeAnd result (λ r. bearer_of r.now ≡ b) }
     {
         let mut found = None;
         let mut place = self.last.get(name).copied();

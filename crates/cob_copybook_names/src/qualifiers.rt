@@ -14,8 +14,10 @@ fn is_text(name: &Name, text: &[u8]) -> bool
 
 /// The qualifiers that are left for the groups above one of this name.
 fn left_above<'a>(qualifiers: &'a [Name], name: &[u8]) -> &'a [Name]
-    ensures enough { (above : List (List ℕ)) → Qualify result.now above → Qualify qualifiers.now (name.now ∷ above) }
-    ensures must { (above : List (List ℕ)) → Qualify qualifiers.now (name.now ∷ above) → Qualify result.now above }
+    ensures enough { (above : List (List ℕ))
+        → Qualify result.now above → Qualify qualifiers.now (name.now ∷ above) }
+    ensures must { (above : List (List ℕ))
+        → Qualify qualifiers.now (name.now ∷ above) → Qualify result.now above }
 {
     let Some((first, others)) = qualifiers.split_first() else {
         return qualifiers;

@@ -12,7 +12,8 @@ use std::collections::VecDeque;
 
 /// Takes the first branch, if it is deeper than the level.
 fn pop_deeper(pending: &mut VecDeque<Branch>, level: u8) -> Option<Branch>
-    ensures first { IfSome result (λ b. (pending.old.items ≡ b ∷ pending.new.items) × (level < (out-Branch b).entry.level)) }
+    ensures first { IfSome result
+        (λ b. (pending.old.items ≡ b ∷ pending.new.items) × (level < (out-Branch b).entry.level)) }
     ensures same { IsNone result → pending.new.items ≡ pending.old.items }
     ensures other { IsNone result → NotDeeper level_of level (forest_of pending.new.items) }
 {

@@ -42,7 +42,8 @@ pub fn keeps_sign(usage: Usage, picture: &Picture) -> bool
 
 /// What an entry describes.
 fn kind_of(entry: &Entry, own: Inherited) -> Kind
-    ensures { result ≡ kind_of entry.now.picture (unwrap_or own.usage Display) own.sign entry.now.justified entry.now.blank }
+    ensures { result ≡ kind_of entry.now.picture
+        (unwrap_or own.usage Display) own.sign entry.now.justified entry.now.blank }
 {
     match &entry.picture {
         None => Kind::Group,
@@ -119,7 +120,8 @@ fn numbered(
     next: &mut usize,
 ) -> Result<Node, AllocError>
     requires few { next.old + entries_in (forest_of (branch.now ∷ [])) ≤ 65535 }
-    ensures value { IfOk result (λ n. forest (n ∷ []) ≡ resolved counts.now next.old above.usage above.sign (forest_of (branch.now ∷ []))) }
+    ensures value { IfOk result (λ n. forest (n ∷ []) ≡ resolved
+        counts.now next.old above.usage above.sign (forest_of (branch.now ∷ []))) }
     ensures next { OnOk result (next.new ≡ next.old + entries_in (forest_of (branch.now ∷ []))) }
 {
     let number = *next;
@@ -142,7 +144,8 @@ fn numbered(
 /// Memory for a list was refused.
 pub fn resolve(alloc: Global, root: &Branch, counts: &[usize]) -> Result<Node, AllocError>
     requires few { entries_in (forest_of (root.now ∷ [])) ≤ 65535 }
-    ensures { IfOk result (λ n. forest (n ∷ []) ≡ resolved counts.now 0 None None (forest_of (root.now ∷ []))) }
+    ensures { IfOk result
+        (λ n. forest (n ∷ []) ≡ resolved counts.now 0 None None (forest_of (root.now ∷ []))) }
 {
     let above = Inherited {
         usage: None,

@@ -54,7 +54,8 @@ fn byte_of(character: u8) -> u8
 /// The character of a byte, or 0 where it has none.
 fn character_of(byte: u8) -> u8
     ensures found { 0 < result → IsCoded result byte }
-    ensures only { (character : ℕ) → IsCoded character byte → (result ≡ character) × (0 < character) }
+    ensures only { (character : ℕ)
+        → IsCoded character byte → (result ≡ character) × (0 < character) }
 {
     CHARACTERS[byte as usize]
 }

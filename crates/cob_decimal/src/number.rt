@@ -47,8 +47,8 @@ impl Number {
     /// is the count of digits behind the point. (ANSI X3.23-1985, Language Concepts: numeric literals.)
     pub fn of_text(text: &[u8]) -> Option<Number>
         // What is read is a literal, with its value.
-        ensures found { IfSome result (λ n. (l : Literal) × IsLiteral l × (text.now ≡ literal_text l)
-            × IsValueOf l n.negative n.digits n.scale) }
+        ensures found { IfSome result (λ n. (l : Literal)
+            × IsLiteral l × (text.now ≡ literal_text l) × IsValueOf l n.negative n.digits n.scale) }
         // Every literal is read.
         ensures only { IfNone result ((l : Literal) → IsLiteral l → text.now ≢ literal_text l) }
     {
@@ -69,7 +69,8 @@ impl Number {
     /// A minus stands before a negative number. The whole part has no zero in front, and is `0` where there is nothing else. A
     /// positive scale is followed by a point and by as many digits; for a negative one the zeros left of the point are written.
     pub fn write_text(&self, out: &mut ArrayVec<u8, 64>)
-        ensures { IsNumberText self.now.negative (number_of self.now.digits) self.now.scale out.new.items }
+        ensures { IsNumberText self.now.negative
+            (number_of self.now.digits) self.now.scale out.new.items }
     {
         let digits = self.digits.as_slice();
         let places = places(self.scale);

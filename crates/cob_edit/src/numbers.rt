@@ -19,7 +19,8 @@ use cob_picture::Picture;
 pub fn edit(picture: &Picture, blank: bool, number: &Number, out: &mut [u8])
     requires shows { IsTrue (shows_number picture.now.category) }
     requires room { length out.old ≡ size picture.now.positions }
-    ensures text { IsEdited picture.now blank number.now.negative number.now.digits number.now.scale out.new }
+    ensures text { IsEdited
+        picture.now blank number.now.negative number.now.digits number.now.scale out.new }
 {
     let places = places_of(picture);
     let places = places.as_slice();
@@ -41,12 +42,13 @@ pub fn deedit(picture: &Picture, blank: bool, bytes: &[u8]) -> Option<Number>
     requires shows { IsTrue (shows_number picture.now.category) }
     requires room { length bytes.now ≡ size picture.now.positions }
     // What is read is in range, and the bytes are its text.
-    ensures found { IfSome result (λ v. IsInRange picture.now v.negative v.digits × (v.scale ≡ scale picture.now.positions)
+    ensures found { IfSome result
+        (λ v. IsInRange picture.now v.negative v.digits × (v.scale ≡ scale picture.now.positions)
         × IsEdited picture.now blank v.negative v.digits v.scale bytes.now) }
     // Every number in range is read from its text.
     ensures only { (n : Bool) (ds : List ℕ) → IsInRange picture.now n ds
-        → IsEdited picture.now blank n ds (scale picture.now.positions) bytes.now
-        → IsSomeAnd result (λ v. (v.negative ≡ n) × (v.digits ≡ ds) × (v.scale ≡ scale picture.now.positions)) }
+        → IsEdited picture.now blank n ds (scale picture.now.positions) bytes.now → IsSomeAnd result
+        (λ v. (v.negative ≡ n) × (v.digits ≡ ds) × (v.scale ≡ scale picture.now.positions)) }
 {
     let places = places_of(picture);
     match read_text(places.as_slice(), blank, bytes) {

@@ -66,7 +66,8 @@ fn is_negative_text(places: &[Place], blank: bool, digits: &[u8], bytes: &[u8]) 
     requires valid { IsDigits digits.now }
     requires room { length bytes.now ≡ bytes_of places.now }
     requires most { length bytes.now ≤ MAX_PLACES }
-    ensures { IsTrue result ↔ (Fits places.now true digits.now × IsText places.now blank true digits.now bytes.now) }
+    ensures { IsTrue result ↔
+        (Fits places.now true digits.now × IsText places.now blank true digits.now bytes.now) }
 {
     shows_sign(places) && !are_zero(digits) && is_text(places, blank, true, digits, bytes)
 }
@@ -76,9 +77,10 @@ pub fn read_text(places: &[Place], blank: bool, bytes: &[u8]) -> Option<(bool, D
     requires room { length bytes.now ≡ bytes_of places.now }
     requires most { length bytes.now ≤ MAX_PLACES }
     requires few { count_by is_digit places.now ≤ most_digits }
-    ensures found { IfSome result (λ v. Fits places.now v.0 v.1 × IsText places.now blank v.0 v.1 bytes.now) }
-    ensures only { (n : Bool) (ds : List ℕ) → Fits places.now n ds → IsText places.now blank n ds bytes.now →
-        IsSomeAnd result (λ v. (v.0 ≡ n) × (v.1 ≡ ds)) }
+    ensures found { IfSome result
+        (λ v. Fits places.now v.0 v.1 × IsText places.now blank v.0 v.1 bytes.now) }
+    ensures only { (n : Bool) (ds : List ℕ) → Fits places.now n ds
+        → IsText places.now blank n ds bytes.now → IsSomeAnd result (λ v. (v.0 ≡ n) × (v.1 ≡ ds)) }
 {
     let digits = digits_in(places, bytes);
     if is_text(places, blank, false, digits.as_slice(), bytes) {

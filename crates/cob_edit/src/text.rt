@@ -50,8 +50,10 @@ fn cell(
     requires inside { at < length places.now }
     requires cut { cut ≤ region_end places.now }
     requires digit { digit < 10 }
-    ensures bytes { option_to_list result ≡ cell places.now negative cut at (place_at places.now at) digit }
-    ensures count { length (option_to_list result) ≡ (if has_byte (place_at places.now at) then 1 else 0) }
+    ensures bytes { option_to_list result ≡ cell places.now negative cut at
+        (place_at places.now at) digit }
+    ensures count { length
+        (option_to_list result) ≡ (if has_byte (place_at places.now at) then 1 else 0) }
 {
     if start <= at && at < cut {
         Some(hidden(&places[start], negative, at + 1 == cut))

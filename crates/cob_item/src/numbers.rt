@@ -33,7 +33,8 @@ pub fn read_number(item: &Item, bytes: &[u8]) -> Option<Number>
     requires long { length bytes.now ≡ item_size item.now }
     ensures found { IfSome result (λ v. Represents item.now bytes.now v.negative v.digits) }
     ensures scale { IfSome result (λ v. v.scale ≡ scale item.now.picture.positions) }
-    ensures only { (negative : Bool) (digits : List ℕ) → Represents item.now bytes.now negative digits
+    ensures only { (negative : Bool) (digits : List ℕ)
+        → Represents item.now bytes.now negative digits
         → IsSomeAnd result (λ v. (v.negative ≡ negative) × (v.digits ≡ digits)) }
 {
     let shape = shape_of(item);
@@ -56,7 +57,8 @@ pub fn store_number(item: &Item, number: &Number, bytes: &mut [u8])
     requires scale { number.now.scale ≡ scale item.now.picture.positions }
     requires sign { IsTrue number.now.negative → IsTrue (signed item.now.picture.positions) }
     ensures bytes { bytes.new ≡ stored_form item.now number.now.negative number.now.digits }
-    ensures held { IsHeld (digits item.now.picture.positions) (signed item.now.picture.positions) number.now.negative number.now.digits }
+    ensures held { IsHeld (digits item.now.picture.positions)
+        (signed item.now.picture.positions) number.now.negative number.now.digits }
     ensures reads { Represents item.now bytes.new number.now.negative number.now.digits }
 {
     let shape = shape_of(item);

@@ -32,7 +32,10 @@ fn same_kind(kind: &Kind) -> Kind
 
 /// An entry once more, with these children beneath it.
 fn same_entry(entry: &Node, children: Vec<Node>) -> Node
-    ensures same { node result ≡ record { top = resolved_entry (out-Node entry.now); beneath = forest children.items } }
+    ensures same { node result ≡ record {
+      top = resolved_entry (out-Node entry.now);
+      beneath = forest children.items;
+    } }
     ensures byte { TakesByte (out-Node entry.now).kind }
 {
     Node {

@@ -65,7 +65,8 @@ fn greatest_count(occurs: Times) -> u32
 
 /// Adds the greatest counts of an entry and of those beneath it, in the order of the entries.
 fn push_greatest(entry: &Node, counts: &mut Vec<u32>) -> Result<(), AllocError>
-    ensures { IfOk result (λ _. counts.new.items ≡ counts.old.items ++ in_order (alone (node entry.now))) }
+    ensures { IfOk result
+        (λ _. counts.new.items ≡ counts.old.items ++ in_order (alone (node entry.now))) }
 {
     counts.push(greatest_count(entry.occurs))?;
     for child in entry.children.iter() {

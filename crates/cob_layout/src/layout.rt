@@ -150,7 +150,8 @@ impl Layout {
     /// The reference to the entry with this number, with these subscripts. None where it isn't a legal one: the record has no such entry, or a
     /// table that holds the entry or that it is has no subscript, or one that isn't from 1 to its greatest number, or there is one too many.
     pub fn reference(&self, node: usize, subscripts: &[u32]) -> Option<Ref>
-        ensures found { IfSome result (λ r. (r.node ≡ node) × (r.subscripts.items ≡ subscripts.now)) }
+        ensures found { IfSome result
+            (λ r. (r.node ≡ node) × (r.subscripts.items ≡ subscripts.now)) }
         ensures legal { IfSome result (λ r. Refers r.node r.subscripts.items (alone self.now)) }
         ensures none { IfNone result (Refers node subscripts.now (alone self.now) → ⊥) }
     {
@@ -173,9 +174,11 @@ impl Layout {
     /// A subscript is past the number of elements that its table has under these counts.
     pub fn place(&self, r: &Ref, counts: &Counts) -> Result<Place, PlaceFault>
         requires refers { Refers r.now.node r.now.subscripts.items (alone self.now) }
-        ensures value { option_map placed (find (times counts.now) r.now.node (alone self.now) 0 0 r.now.subscripts.items) ≡ Some result }
+        ensures value { option_map placed (find (times counts.now) r.now.node
+            (alone self.now) 0 0 r.now.subscripts.items) ≡ Some result }
         // An element that is there ends within the record's length under the same counts.
-        ensures current { IfOk result (λ p. p.offset + p.length ≤ sum_of (times counts.now) (alone self.now)) }
+        ensures current { IfOk result
+            (λ p. p.offset + p.length ≤ sum_of (times counts.now) (alone self.now)) }
         ensures fits { IfOk result (λ p. p.offset + p.length ≤ sum_of most (alone self.now)) }
     {
         places_end_in_record();
@@ -224,7 +227,8 @@ impl Layout {
     ) -> Result<(), CountFault>
         requires refers { Refers r.now.node r.now.subscripts.items (alone self.now) }
         requires room { length counts.old ≡ entries_in (alone self.now) }
-        ensures ok { OnOk result (NeededOf self.now r.now.node receiving bytes.now (Ok counts.new)) }
+        ensures ok { OnOk result
+            (NeededOf self.now r.now.node receiving bytes.now (Ok counts.new)) }
         ensures err { IfErr result (λ e. NeededOf self.now r.now.node receiving bytes.now (Err e)) }
         ensures same { OnErr result (counts.new ≡ counts.old) }
         ensures room { length counts.new ≡ length counts.old }

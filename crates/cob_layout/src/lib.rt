@@ -32,7 +32,7 @@
 //!   ([`one_place_by_needs`]).
 //!
 //! The definitions: `CountsOf`, `NeededOf` and `AreGreatest` of specs/Counting.antt, `Refers` and `placed` of specs/References.antt, `TakeBytes` of
-//! specs/Bytes.antt, the laws of specs/Laws.antt, and what
+//! `cob_copybook`, the laws of specs/Laws.antt, and what
 //! they name of `cob_layout_places`, which has the arithmetic of lengths and places. `cob_fields` lends the bytes of a place ([`field`], [`field_mut`]).
 //! Only [`Layout::of`] and [`Layout::new_counts`] take memory.
 #![tactic(auto)]

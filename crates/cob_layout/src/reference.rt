@@ -27,9 +27,11 @@ pub struct PlaceFault {
 
 /// The subscripts that are left for the entries beneath one that occurs so often, where it has the subscript that it asks for.
 fn after_own(occurs: Times, subscripts: &[u32]) -> Option<&[u32]>
-    ensures legal { IfSome result (λ rest. IsSubscripted (is_table occurs) (most_by occurs) subscripts.now) }
+    ensures legal { IfSome result
+        (λ rest. IsSubscripted (is_table occurs) (most_by occurs) subscripts.now) }
     ensures rest { IfSome result (λ rest. rest.now ≡ later (is_table occurs) subscripts.now) }
-    ensures none { IfNone result (IsSubscripted (is_table occurs) (most_by occurs) subscripts.now → ⊥) }
+    ensures none { IfNone result
+        (IsSubscripted (is_table occurs) (most_by occurs) subscripts.now → ⊥) }
 {
     let most = match occurs {
         Times::Once => return Some(subscripts),

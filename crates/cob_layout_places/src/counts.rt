@@ -88,8 +88,10 @@ fn count_at(item: &Item, table: Table, found: Found, bytes: &[u8]) -> Result<u32
 
 /// The item with this number among those of a record.
 fn item_with(root: &Node, number: usize) -> Option<&Item>
-    ensures found { IfSome result (λ item. kind_one number (node root.now) ≡ Some (ItemKind item.now)) }
-    ensures none { IfNone result ((item : Item) → kind_one number (node root.now) ≢ Some (ItemKind item)) }
+    ensures found { IfSome result
+        (λ item. kind_one number (node root.now) ≡ Some (ItemKind item.now)) }
+    ensures none { IfNone result
+        ((item : Item) → kind_one number (node root.now) ≢ Some (ItemKind item)) }
 {
     match kind_with(root, number)? {
         Kind::Item(item) => Some(item),
@@ -132,8 +134,10 @@ pub fn take_counts(
     requires fit { IsFit 0 (node root.now) }
     requires countable { AreCountable (node root.now) tables.now }
     requires slots { HaveSlots (length counts.old) tables.now }
-    ensures ok { OnOk result (Taken (node root.now) bytes.now tables.now counts.old (Ok counts.new)) }
-    ensures err { IfErr result (λ e. Taken (node root.now) bytes.now tables.now counts.old (Err e)) }
+    ensures ok { OnOk result
+        (Taken (node root.now) bytes.now tables.now counts.old (Ok counts.new)) }
+    ensures err { IfErr result
+        (λ e. Taken (node root.now) bytes.now tables.now counts.old (Err e)) }
     ensures room { length counts.new ≡ length counts.old }
 {
     for table in tables {

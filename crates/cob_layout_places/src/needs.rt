@@ -95,10 +95,10 @@ pub fn take_needed(
     requires slots { HaveSlots (length counts.old) tables.now }
     requires all { length counts.old ≡ 1 + entries_in (node root.now).beneath }
     requires there { number < length counts.old }
-    ensures ok { OnOk result (Taken (node root.now) bytes.now (needed (node root.now) number receiving tables.now)
-        (greatest tables.now counts.old) (Ok counts.new)) }
-    ensures err { IfErr result (λ e. Taken (node root.now) bytes.now (needed (node root.now) number receiving tables.now)
-        (greatest tables.now counts.old) (Err e)) }
+    ensures ok { OnOk result (Taken (node root.now) bytes.now (needed (node root.now)
+        number receiving tables.now) (greatest tables.now counts.old) (Ok counts.new)) }
+    ensures err { IfErr result (λ e. Taken (node root.now) bytes.now (needed
+        (node root.now) number receiving tables.now) (greatest tables.now counts.old) (Err e)) }
     ensures room { length counts.new ≡ length counts.old }
 {
     let end = counts.len();

@@ -36,7 +36,8 @@ fn push_table(entry: &Node, tables: &mut Vec<Table>) -> Result<(), AllocError>
 
 /// Adds the tables that vary among an entry and those beneath it.
 fn push_tables(entry: &Node, tables: &mut Vec<Table>) -> Result<(), AllocError>
-    ensures { IfOk result (λ _. tables.new.items ≡ tables.old.items ++ tables_of (alone (node entry.now))) }
+    ensures { IfOk result
+        (λ _. tables.new.items ≡ tables.old.items ++ tables_of (alone (node entry.now))) }
 {
     push_table(entry, tables)?;
     for child in entry.children.iter() {

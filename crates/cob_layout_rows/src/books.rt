@@ -46,7 +46,8 @@ pub(crate) fn entry_named<'a>(entry: &'a Node, name: &str) -> Option<&'a Node> {
 
 /// The subscripts that are left for the entries beneath one that occurs so often, where the first one is a legal one of its table.
 fn after_own(occurs: Times, subscripts: &[u32]) -> Option<&[u32]>
-    ensures legal { IfSome result (λ rest. IsSubscripted (is_table occurs) (most_by occurs) subscripts.now) }
+    ensures legal { IfSome result
+        (λ rest. IsSubscripted (is_table occurs) (most_by occurs) subscripts.now) }
     ensures rest { IfSome result (λ rest. rest.now ≡ later (is_table occurs) subscripts.now) }
 {
     let most = match occurs {

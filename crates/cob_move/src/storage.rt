@@ -33,7 +33,8 @@ fn repeat(bytes: &mut [u8], size: usize, times: usize)
 fn write_element(entry: &Node, bytes: &mut [u8])
     requires ready { IsReady (node entry.now) }
     requires room { length bytes.old ≡ element most (node entry.now).top (node entry.now).beneath }
-    ensures holds { HoldsElement (node entry.now).top.kind (node entry.now).top.value (sum_of most (node entry.now).beneath) (IsBegun (node entry.now).beneath) bytes.new }
+    ensures holds { HoldsElement (node entry.now).top.kind (node entry.now).top.value
+        (sum_of most (node entry.now).beneath) (IsBegun (node entry.now).beneath) bytes.new }
     ensures room { length bytes.new ≡ length bytes.old }
 {
     match &entry.kind {

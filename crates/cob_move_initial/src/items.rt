@@ -32,7 +32,8 @@ fn zero() -> Number
 fn move_number(item: &Item, number: &Number, bytes: &mut [u8])
     requires number { IsNumberItem item.now }
     requires long { length bytes.old ≡ item_size item.now }
-    ensures { HoldsNumber item.now number.now.negative number.now.digits number.now.scale bytes.new }
+    ensures { HoldsNumber
+        item.now number.now.negative number.now.digits number.now.scale bytes.new }
 {
     let picture = &item.picture;
     let aligned = number.align(picture.digits(), picture.scale(), picture.signed());
@@ -79,7 +80,8 @@ fn clear(item: &Item, bytes: &mut [u8])
 /// X3.23-1985, Nucleus: the VALUE clause.)
 pub fn write_item(item: &Item, value: &Option<Value>, bytes: &mut [u8])
     requires storable { IsStorable item.now }
-    requires fits { IfSome (option_map constant value.now) (IsItemValue (is_number item.now) item.now (item_size item.now)) }
+    requires fits { IfSome (option_map constant value.now)
+        (IsItemValue (is_number item.now) item.now (item_size item.now)) }
     requires long { length bytes.old ≡ item_size item.now }
     ensures holds { HoldsItem item.now (option_map constant value.now) bytes.new }
     ensures room { length bytes.new ≡ length bytes.old }

@@ -85,7 +85,8 @@ pub fn is_sign_symbol(symbol: Symbol) -> bool
 
 /// How many digits stand in a run. `seen` says that the floating symbol stood before: its first place holds none.
 pub fn digits_in(run: Run, category: Category, floating: Option<Symbol>, seen: bool) -> u32
-    ensures value { result ≡ digits (placed category floating seen (replicate run.count run.symbol)) }
+    ensures value { result ≡ digits
+        (placed category floating seen (replicate run.count run.symbol)) }
     ensures bound { result ≤ 65535 }
 {
     let count = u32::from(run.count);
@@ -149,7 +150,8 @@ pub fn point_leads(runs: &[Run]) -> bool
 
 /// How many runs stand left of the decimal point.
 pub fn runs_before_point(runs: &[Run]) -> usize
-    ensures value { result ≡ (if run_leads runs.now then 0 else position_or_len (λ r. is_point r.symbol) runs.now) }
+    ensures value { result ≡ (if run_leads runs.now then 0
+        else position_or_len (λ r. is_point r.symbol) runs.now) }
     ensures inside { result ≤ length runs.now }
 {
     if point_leads(runs) {

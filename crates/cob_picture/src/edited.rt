@@ -174,7 +174,9 @@ pub fn span(runs: &[Run], run: Option<Symbol>, part: Part) -> (&[Run], &[Run])
 pub fn parted(runs: &[Run], run: Option<Symbol>) -> Split<'_>
     requires short { length runs.now ≤ 50 }
     requires positive { ArePositive runs.now }
-    ensures { IsSplit run (written_out runs.now) result.lead.now result.currency.now result.front.now result.whole.now result.point.now result.fraction.now result.trail.now result.rest.now }
+    ensures { IsSplit run
+        (written_out runs.now) result.lead.now result.currency.now result.front.now
+        result.whole.now result.point.now result.fraction.now result.trail.now result.rest.now }
 {
     let (lead, rest) = span(runs, run, Part::Lead);
     let (currency, rest) = span(rest, run, Part::Currency);
@@ -197,8 +199,11 @@ pub fn parted(runs: &[Run], run: Option<Symbol>) -> Split<'_>
 
 /// Counts over the parts.
 pub fn counts_in(split: &Split, run: Option<Symbol>) -> EditedCounts
-    requires { AreShort split.now.lead.now split.now.currency.now split.now.front.now split.now.whole.now split.now.point.now split.now.fraction.now split.now.trail.now }
-    ensures { result ≡ counts_in run (edited_of split.now.lead.now split.now.currency.now split.now.front.now split.now.whole.now split.now.point.now split.now.fraction.now split.now.trail.now) }
+    requires { AreShort split.now.lead.now split.now.currency.now split.now.front.now
+        split.now.whole.now split.now.point.now split.now.fraction.now split.now.trail.now }
+    ensures { result ≡ counts_in run
+        (edited_of split.now.lead.now split.now.currency.now split.now.front.now
+        split.now.whole.now split.now.point.now split.now.fraction.now split.now.trail.now) }
 {
     let currencies = total(split.currency);
     let points = total(split.point);
@@ -302,7 +307,8 @@ pub fn keep(kept: &mut ArrayVec<Run, 50>, run: Run)
     requires room { length kept.old.items < 50 }
     requires some { 0 < run.count }
     requires positive { ArePositive kept.old.items }
-    ensures symbols { written_out kept.new.items ≡ written_out kept.old.items ++ unscaled (replicate run.count run.symbol) }
+    ensures symbols { written_out kept.new.items ≡ written_out kept.old.items ++ unscaled
+        (replicate run.count run.symbol) }
     ensures few { length kept.new.items ≤ length kept.old.items + 1 }
     ensures positive { ArePositive kept.new.items }
 {

@@ -18,7 +18,8 @@ use cob_limits::{MAX_DIGITS, MAX_EDITED_SIZE, MAX_RECORD};
 pub fn digits_fit(category: Category, counts: Counts) -> bool
     ensures some { IsTrue result → IsTrue (shows_number category) → 0 < counts.digits }
     ensures few { IsTrue result → counts.decimal_places ≤ most_digits }
-    ensures not { IsFalse result → (IsTrue (shows_number category) × (counts.digits ≡ 0)) ⊎ (most_digits < counts.decimal_places) }
+    ensures not { IsFalse result → (IsTrue (shows_number category) × (counts.digits ≡ 0))
+        ⊎ (most_digits < counts.decimal_places) }
 {
     (counts.digits > 0 || !category.shows_number()) && counts.decimal_places <= MAX_DIGITS as u32
 }
@@ -27,7 +28,8 @@ pub fn digits_fit(category: Category, counts: Counts) -> bool
 pub fn size_fits(category: Category, size: u32) -> bool
     ensures all { IsTrue result → size ≤ longest_record }
     ensures edited { IsTrue result → IsTrue (is_edited category) → size ≤ longest_edited }
-    ensures not { IsFalse result → (longest_record < size) ⊎ (IsTrue (is_edited category) × (longest_edited < size)) }
+    ensures not { IsFalse result
+        → (longest_record < size) ⊎ (IsTrue (is_edited category) × (longest_edited < size)) }
 {
     size <= MAX_RECORD && (size <= MAX_EDITED_SIZE || !category.is_edited())
 }
@@ -50,8 +52,10 @@ pub fn misplaced(runs: &[Run]) -> PictureFault
 pub fn judged(runs: &[Run]) -> Result<(Category, Counts), PictureFault>
     requires short { length runs.now ≤ 50 }
     requires positive { ArePositive runs.now }
-    ensures found { IfOk result (λ r. IsPicture r.0 (written_out runs.now) × AreCountsOf (positions r.0 (written_out runs.now)) r.1) }
-    ensures only { (c : Category) → IsPicture c (written_out runs.now) → IsOkAnd result (λ r. r.0 ≡ c) }
+    ensures found { IfOk result (λ r. IsPicture r.0 (written_out runs.now)
+        × AreCountsOf (positions r.0 (written_out runs.now)) r.1) }
+    ensures only { (c : Category)
+        → IsPicture c (written_out runs.now) → IsOkAnd result (λ r. r.0 ≡ c) }
     ensures fault { IfErr result (λ f. IsMisplaced f (written_out runs.now)) }
 {
     let Some(category) = category_of(runs) else {

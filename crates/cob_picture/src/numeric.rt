@@ -42,7 +42,8 @@ pub fn numeric(runs: &[Run]) -> Option<NumericParts>
     requires short { length runs.now ≤ 50 }
     requires positive { ArePositive runs.now }
     ensures found { IfSome result (λ n. IsNumeric n × (written_out runs.now ≡ numeric_symbols n)) }
-    ensures only { (n : NumericParts) → IsNumeric n → written_out runs.now ≡ numeric_symbols n → result ≡ Some n }
+    ensures only { (n : NumericParts)
+        → IsNumeric n → written_out runs.now ≡ numeric_symbols n → result ≡ Some n }
 {
     let (signs, rest) = front(runs, Symbol::S);
     let (points, rest) = front(rest, Symbol::V);

@@ -112,7 +112,8 @@ impl Picture {
 
     /// Its symbols in order, each with how often it stands there. A symbol may stand in several runs, side by side too.
     pub fn runs(&self) -> &[Run]
-        ensures positions { self.now.positions ≡ positions self.now.category (written_out result.now) }
+        ensures positions { self.now.positions ≡ positions self.now.category
+            (written_out result.now) }
         ensures symbols { symbols_of self.now.positions ≡ written_out result.now }
         // What was read is in the order of its category, and within the limits.
         ensures picture { IsPicture self.now.category (written_out result.now) }

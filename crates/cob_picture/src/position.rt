@@ -86,7 +86,8 @@ pub(crate) fn push_run(
     seen: bool,
 )
     requires { length positions.old.items + run.count ≤ 250 }
-    ensures { positions.new.items ≡ positions.old.items ++ placed category floating seen (replicate run.count run.symbol) }
+    ensures { positions.new.items ≡ positions.old.items ++ placed category floating seen
+        (replicate run.count run.symbol) }
 {
     let mut seen = seen;
     for place in 0..run.count {

@@ -58,7 +58,8 @@ fn push_signed(
     out: &mut Vec<Token>,
 ) -> Result<(), AllocError>
     requires { 0 < length cells.now }
-    ensures ok { OnOk result (lexemes out.new.items ≡ lexemes out.old.items ++ signed cutting cells.now) }
+    ensures ok { OnOk result
+        (lexemes out.new.items ≡ lexemes out.old.items ++ signed cutting cells.now) }
 {
     let end = cells.len() - 1;
     let last = cells[end];
@@ -91,7 +92,8 @@ fn push_chunk(
     out: &mut Vec<Token>,
 ) -> Result<(), AllocError>
     requires { 0 < length chunk.now }
-    ensures ok { OnOk result (lexemes out.new.items ≡ lexemes out.old.items ++ lexemes_of cutting (Chunk chunk.now) behind.now) }
+    ensures ok { OnOk result (lexemes out.new.items ≡ lexemes out.old.items ++ lexemes_of cutting
+        (Chunk chunk.now) behind.now) }
 {
     if starts_with_quote(behind) {
         push_words(alloc, cutting, chunk, out)
@@ -104,7 +106,8 @@ fn push_chunk(
 fn literal_at(alloc: Global, cells: &[Cell], quote: u8) -> Result<(Vec<u8>, &[Cell]), AllocError>
     requires quote { is_quote quote ≡ true }
     requires closed { open_from (Some quote) cells.now ≡ None }
-    ensures found { IfOk result (λ r. (inside : List Cell) × Body quote inside r.0.items × NotFirst quote r.1.now × (cells.now ≡ inside ++ r.1.now)) }
+    ensures found { IfOk result (λ r. (inside : List Cell)
+        × Body quote inside r.0.items × NotFirst quote r.1.now × (cells.now ≡ inside ++ r.1.now)) }
     ensures closed { IfOk result (λ r. open_quote r.1.now ≡ None) }
     ensures shorter { IfOk result (λ r. length r.1.now ≤ length cells.now) }
 {
@@ -130,7 +133,8 @@ fn literal_at(alloc: Global, cells: &[Cell], quote: u8) -> Result<(Vec<u8>, &[Ce
 
 /// Adds a literal.
 fn push_literal(opening: Cell, text: Vec<u8>, out: &mut Vec<Token>) -> Result<(), AllocError>
-    ensures ok { OnOk result (lexemes out.new.items ≡ lexemes out.old.items ++ literal opening text.items) }
+    ensures ok { OnOk result
+        (lexemes out.new.items ≡ lexemes out.old.items ++ literal opening text.items) }
 {
     out.push(Token {
         kind: Kind::Literal,
@@ -149,7 +153,8 @@ pub fn cut(
     out: &mut Vec<Token>,
 ) -> Result<(), AllocError>
     requires { open_quote cells.now ≡ None }
-    ensures found { OnOk result ((ts : List Lexeme) × Cuts cutting cells.now ts × (lexemes out.old.items ++ ts ≡ lexemes out.new.items)) }
+    ensures found { OnOk result ((ts : List Lexeme)
+        × Cuts cutting cells.now ts × (lexemes out.old.items ++ ts ≡ lexemes out.new.items)) }
 {
     let mut rest = cells;
     while let Some((first, after)) = rest.split_first() {

@@ -65,7 +65,8 @@ fn push_columns(
 ) -> Result<(), AllocError>
     requires few { skipped ≤ 65 }
     requires short { length area.now ≤ 65 }
-    ensures { OnOk result (cells.new.items ≡ cells.old.items ++ cells_from line (8 + skipped) (drop skipped (filled area.now))) }
+    ensures { OnOk result (cells.new.items ≡ cells.old.items ++ cells_from line
+        (8 + skipped) (drop skipped (filled area.now))) }
 {
     for i in skipped..65 {
         cells.push(Cell {
@@ -93,7 +94,8 @@ fn drop_end(cells: &mut Vec<Cell>)
 
 /// Begins a new line.
 pub fn begin_line(number: u32, line: &[u8], joined: &mut Joined) -> Result<(), AllocError>
-    ensures cells { OnOk result (joined.new.cells.items ≡ line_end number ∷ cells_behind number 0 line.now) }
+    ensures cells { OnOk result
+        (joined.new.cells.items ≡ line_end number ∷ cells_behind number 0 line.now) }
     ensures quote { OnOk result (joined.new.quote ≡ open_quote joined.new.cells.items) }
     ensures last { OnOk result (joined.new.last ≡ number) }
 {
@@ -132,7 +134,8 @@ fn misfits(quote: Option<u8>, cells: &[Cell], first: u8) -> bool
 /// Whether the line may not be joined.
 fn is_bad(text: &[u8], quote: Option<u8>, cells: &[Cell]) -> bool
     requires { quote ≡ open_quote cells.now }
-    ensures { (line : List ℕ) → text.now ≡ written line → result ≡ is_bad_continuation cells.now line }
+    ensures { (line : List ℕ)
+        → text.now ≡ written line → result ≡ is_bad_continuation cells.now line }
 {
     let first = without_spaces(text).first().copied().unwrap_or(b' ');
     cells.is_empty() || !is_blank_text(front(text, 4)) || misfits(quote, cells, first)
@@ -141,7 +144,8 @@ fn is_bad(text: &[u8], quote: Option<u8>, cells: &[Cell]) -> bool
 /// Takes off the spaces that a continuation isn't joined behind, and gives how many columns it leaves out.
 fn make_ready(text: &[u8], joined: &mut Joined) -> usize
     ensures skipped { result ≡ left_out joined.old.quote text.now }
-    ensures cells { joined.new.cells.items ≡ continued_text joined.old.quote joined.old.cells.items }
+    ensures cells { joined.new.cells.items ≡ continued_text
+        joined.old.quote joined.old.cells.items }
     ensures quote { joined.new.quote ≡ joined.old.quote }
 {
     let skipped = leading_spaces(text);
@@ -161,8 +165,10 @@ fn make_ready(text: &[u8], joined: &mut Joined) -> usize
 pub fn continue_line(number: u32, line: &[u8], joined: &mut Joined) -> Result<(), SourceFault>
     requires kind { kind_of line.now ≡ Continuation }
     requires quote { joined.old.quote ≡ open_quote joined.old.cells.items }
-    ensures ok { OnOk result (IsContinued number line.now joined.old.cells.items joined.new.cells.items joined.new.quote joined.new.last) }
-    ensures fault { IfErr result (λ f. ContinuationRefused f.rule f.line number joined.old.cells.items line.now) }
+    ensures ok { OnOk result (IsContinued number
+        line.now joined.old.cells.items joined.new.cells.items joined.new.quote joined.new.last) }
+    ensures fault { IfErr result
+        (λ f. ContinuationRefused f.rule f.line number joined.old.cells.items line.now) }
 {
     let text = written_in(line);
     if is_bad(text, joined.quote, joined.cells.as_slice()) {
@@ -191,7 +197,8 @@ pub fn cut_joined(
 ) -> Result<(), SourceFault>
     requires { joined.now.quote ≡ open_quote joined.now.cells.items }
     ensures closed { OnOk result (joined.now.quote ≡ None) }
-    ensures found { OnOk result ((ts : List Lexeme) × Cuts cutting joined.now.cells.items ts × (lexemes out.old.items ++ ts ≡ lexemes out.new.items)) }
+    ensures found { OnOk result ((ts : List Lexeme) × Cuts cutting joined.now.cells.items ts
+        × (lexemes out.old.items ++ ts ≡ lexemes out.new.items)) }
     ensures fault { IfErr result (λ f. EndRefused f.rule f.line joined.now.quote joined.now.last) }
 {
     if joined.quote.is_some() {

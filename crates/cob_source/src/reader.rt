@@ -25,8 +25,13 @@ fn take_line(
     out: &mut Vec<Token>,
 ) -> Result<(), SourceFault>
     requires { joined.old.quote ≡ open_quote joined.old.cells.items }
-    ensures ok { (before : List (List ℕ)) → number ≡ length before + 1 → HasRead cutting before joined.old.cells.items joined.old.quote joined.old.last (lexemes out.old.items) → OnOk result (HasRead cutting (before ++ line.now ∷ []) joined.new.cells.items joined.new.quote joined.new.last (lexemes out.new.items)) }
-    ensures fault { (before : List (List ℕ)) → number ≡ length before + 1 → HasRead cutting before joined.old.cells.items joined.old.quote joined.old.last (lexemes out.old.items) → IfErr result (λ f. LineRefused f.rule f.line before line.now) }
+    ensures ok { (before : List (List ℕ)) → number ≡ length before + 1
+        → HasRead cutting before joined.old.cells.items joined.old.quote joined.old.last
+        (lexemes out.old.items) → OnOk result (HasRead cutting (before ++ line.now ∷ [])
+        joined.new.cells.items joined.new.quote joined.new.last (lexemes out.new.items)) }
+    ensures fault { (before : List (List ℕ)) → number ≡ length before + 1
+        → HasRead cutting before joined.old.cells.items joined.old.quote joined.old.last
+        (lexemes out.old.items) → IfErr result (λ f. LineRefused f.rule f.line before line.now) }
 {
     if let Some(rule) = character_fault(line) {
         return Err(SourceFault { rule, line: number });
@@ -48,7 +53,8 @@ fn take_line(
 /// A rule that the text breaks, on the line that breaks it, or T9 where memory is refused.
 fn read(alloc: Global, cutting: Cutting, text: &[u8]) -> Result<Vec<Token>, SourceFault>
     ensures words { IfOk result (λ v. AreCutsOf cutting text.now (lexemes v.items)) }
-    ensures reads { (ts : List Lexeme) → AreCutsOf cutting text.now ts → IfErr result (λ f. f.rule ≡ Memory) }
+    ensures reads { (ts : List Lexeme)
+        → AreCutsOf cutting text.now ts → IfErr result (λ f. f.rule ≡ Memory) }
     ensures refused { IfErr result (λ f. IsRefusal f.rule f.line text.now) }
 {
     if text.len() > MAX_TEXT_BYTES {
@@ -85,7 +91,8 @@ pub fn tokens(alloc: Global, text: &[u8]) -> Result<Vec<Token>, SourceFault>
     // What is read are the words of the text, which then breaks no rule.
     ensures words { IfOk result (λ v. AreWordsOf text.now (lexemes v.items)) }
     // A text that has words is read, memory aside.
-    ensures reads { (ts : List Lexeme) → AreWordsOf text.now ts → IfErr result (λ f. f.rule ≡ Memory) }
+    ensures reads { (ts : List Lexeme)
+        → AreWordsOf text.now ts → IfErr result (λ f. f.rule ≡ Memory) }
     // A refused text breaks the rule that is named, on the line that is named.
     ensures refused { IfErr result (λ f. IsRefusal f.rule f.line text.now) }
 {
@@ -99,7 +106,8 @@ pub fn tokens(alloc: Global, text: &[u8]) -> Result<Vec<Token>, SourceFault>
 /// As [`tokens`].
 pub fn paragraph_tokens(alloc: Global, text: &[u8]) -> Result<Vec<Token>, SourceFault>
     ensures words { IfOk result (λ v. AreParagraphWordsOf text.now (lexemes v.items)) }
-    ensures reads { (ts : List Lexeme) → AreParagraphWordsOf text.now ts → IfErr result (λ f. f.rule ≡ Memory) }
+    ensures reads { (ts : List Lexeme)
+        → AreParagraphWordsOf text.now ts → IfErr result (λ f. f.rule ≡ Memory) }
     ensures refused { IfErr result (λ f. IsRefusal f.rule f.line text.now) }
 {
     read(alloc, Cutting::Apart, text)

@@ -63,7 +63,8 @@ fn uncut_len(cells: &[Cell]) -> usize
 
 /// Adds the pieces of the word of these characters.
 fn push_pieces(alloc: Global, cells: &[Cell], out: &mut Vec<Token>) -> Result<(), AllocError>
-    ensures ok { OnOk result (lexemes out.new.items ≡ lexemes out.old.items ++ flat_map word (pieces cells.now)) }
+    ensures ok { OnOk result
+        (lexemes out.new.items ≡ lexemes out.old.items ++ flat_map word (pieces cells.now)) }
 {
     let mut rest = cells;
     while let Some((first, after)) = rest.split_first() {
@@ -85,7 +86,8 @@ pub fn push_words(
     cells: &[Cell],
     out: &mut Vec<Token>,
 ) -> Result<(), AllocError>
-    ensures ok { OnOk result (lexemes out.new.items ≡ lexemes out.old.items ++ words_of cutting cells.now) }
+    ensures ok { OnOk result
+        (lexemes out.new.items ≡ lexemes out.old.items ++ words_of cutting cells.now) }
 {
     match cutting {
         Cutting::Whole => push_word(alloc, cells, out),

@@ -65,7 +65,8 @@ fn move_number(sent: &[u8], received: &mut [u8]) -> Result<(), StopCause>
     requires some_received { 0 < length received.old }
     requires sent { length sent.now ≤ most_digits }
     requires received { length received.old ≤ most_digits }
-    ensures moved { OnOk result (Receives Category.Numeric (length received.old) sent.now received.new) }
+    ensures moved { OnOk result
+        (Receives Category.Numeric (length received.old) sent.now received.new) }
     ensures lacks { IfErr result (Lacks Category.Numeric sent.now) }
 {
     let Some(number) = read_unsigned(sent) else {
@@ -106,7 +107,8 @@ fn receive(category: Category, sent: &[u8], received: &mut [u8]) -> Result<(), S
 pub fn make_move(step: &Step, input: &[u8], storage: &mut [u8]) -> Result<(), Stop>
     requires { IsPossible (length input.now) (length storage.old) step.now }
     ensures moved { OnOk result (IsMoved step.now input.now storage.old storage.new) }
-    ensures stopped { IfErr result (λ stop. Lacks step.now.category (field_of step.now.from input.now) stop.cause
+    ensures stopped { IfErr result
+        (λ stop. Lacks step.now.category (field_of step.now.from input.now) stop.cause
         × (stop.side ≡ Side.In) × (stop.offset ≡ step.now.from.offset)) }
 {
     let sent = field(input, step.from);

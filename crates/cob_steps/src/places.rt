@@ -32,7 +32,8 @@ fn step_of(input: &Layout, output: &Layout, step: &Move) -> Step
     ensures category { result.category ≡ step.now.category }
     ensures from { StandsAt (alone input.now) step.now.from result.from }
     ensures to { StandsAt (alone output.now) step.now.to result.to }
-    ensures possible { IsPossible (record_length (alone input.now)) (record_length (alone output.now)) result }
+    ensures possible { IsPossible
+        (record_length (alone input.now)) (record_length (alone output.now)) result }
 {
     let from = place_of(input, step.from);
     let to = place_of(output, step.to);
@@ -54,8 +55,13 @@ pub fn steps_of(
     output: &Layout,
     moves: &[Move],
 ) -> Result<Vec<Step>, AllocError>
-    requires { IsConversion (record { input = alone input.now; output = alone output.now; moves = moves.now }) }
-    ensures { IfOk result (λ steps. AreStepsOf (record { input = alone input.now; output = alone output.now; moves = moves.now }) moves.now steps.items) }
+    requires { IsConversion
+        (record { input = alone input.now; output = alone output.now; moves = moves.now }) }
+    ensures { IfOk result (λ steps. AreStepsOf (record {
+      input = alone input.now;
+      output = alone output.now;
+      moves = moves.now;
+    }) moves.now steps.items) }
 {
     let mut steps = Vec::with_capacity(alloc, moves.len())?;
     for step in moves {

@@ -99,9 +99,14 @@ impl Plan {
         out_book: &Book,
         moves: Vec<Move>,
     ) -> Result<Plan, AllocError>
-        requires sound { IsConversion (record { input = alone input; output = alone output; moves = moves.items }) }
+        requires sound { IsConversion
+            (record { input = alone input; output = alone output; moves = moves.items }) }
         requires book { out_book.now ≡ alone output }
-        ensures { IfOk result (λ plan. plan ≡ record { input = alone input; output = alone output; moves = moves.items }) }
+        ensures { IfOk result (λ plan. plan ≡ record {
+          input = alone input;
+          output = alone output;
+          moves = moves.items;
+        }) }
     {
         let steps = steps_of(alloc, &input, &output, moves.as_slice())?;
         let mut image = vec![in alloc; 0u8; output.greatest() as usize]?;

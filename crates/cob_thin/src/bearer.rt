@@ -40,7 +40,8 @@ fn note<'a>(
     entry: &'a Node,
     in_table: bool,
 ) -> Result<(), AllocError>
-    ensures { OnOk result ((bs : List SeenBearer) → Knows bs noted.old → Knows (bs ++ bearer_at entry.now in_table ∷ []) noted.new) }
+    ensures { OnOk result ((bs : List SeenBearer)
+        → Knows bs noted.old → Knows (bs ++ bearer_at entry.now in_table ∷ []) noted.new) }
 {
     let Some(name) = &entry.name else {
         return Ok(());
@@ -63,7 +64,8 @@ pub(crate) fn note_all<'a>(
     nodes: &'a [Node],
     in_table: bool,
 ) -> Result<(), AllocError>
-    ensures { OnOk result ((bs : List SeenBearer) → Knows bs noted.old → Knows (bs ++ bearers in_table (forest nodes.now)) noted.new) }
+    ensures { OnOk result ((bs : List SeenBearer)
+        → Knows bs noted.old → Knows (bs ++ bearers in_table (forest nodes.now)) noted.new) }
 {
     for entry in nodes {
         let inside = is_in_table(in_table, entry.occurs);

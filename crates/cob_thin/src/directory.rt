@@ -59,7 +59,8 @@ impl<'a> Directory<'a> {
 
     /// The only entry that bears the name.
     pub(crate) fn only_named(&self, name: &[u8]) -> Option<Bearer<'a>>
-        ensures only { IfSome result (λ b. IsOnlyBearer name.now (bearers false self.now) (bearer_of b)) }
+        ensures only { IfSome result
+            (λ b. IsOnlyBearer name.now (bearers false self.now) (bearer_of b)) }
         ensures numbered { AreNumbered 0 self.now }
     {
         match self.noted.get(name) {

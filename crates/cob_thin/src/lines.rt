@@ -45,9 +45,12 @@ impl<'a> Lines<'a> {
 
     /// The next line that is not blank: its columns 8 to 72.
     pub(crate) fn next_area(&mut self) -> Result<Option<&'a [u8]>, ThinFault>
-        ensures words { IfOk result (λ next. MatchOption next (words_of self.old.rest.now ≡ []) (λ line. words_of self.old.rest.now ≡ words_in line.now ∷ words_of self.new.rest.now)) }
-        ensures plain { IfOk result (λ next. MatchOption next (ArePlain self.old.rest.now) (λ _. ArePlain self.new.rest.now → ArePlain self.old.rest.now)) }
-        ensures shorter { IfOk result (λ next. OnSome next (length self.new.rest.now < length self.old.rest.now)) }
+        ensures words { IfOk result (λ next. MatchOption next (words_of self.old.rest.now ≡ [])
+            (λ line. words_of self.old.rest.now ≡ words_in line.now ∷ words_of self.new.rest.now)) }
+        ensures plain { IfOk result (λ next. MatchOption next (ArePlain self.old.rest.now)
+            (λ _. ArePlain self.new.rest.now → ArePlain self.old.rest.now)) }
+        ensures shorter { IfOk result
+            (λ next. OnSome next (length self.new.rest.now < length self.old.rest.now)) }
     {
         while let Some(line) = self.next_line()? {
             let columns = area_of(line);
@@ -60,9 +63,11 @@ impl<'a> Lines<'a> {
 
     /// The next line.
     fn next_line(&mut self) -> Result<Option<&'a [u8]>, ThinFault>
-        ensures line { IfOk result (λ next. MatchOption next (length self.old.rest.now ≡ 0) (λ line. IsCut 10 self.old.rest.now line.now self.new.rest.now)) }
+        ensures line { IfOk result (λ next. MatchOption next (length self.old.rest.now ≡ 0)
+            (λ line. IsCut 10 self.old.rest.now line.now self.new.rest.now)) }
         ensures plain { IfOk result (λ next. IfSome next (λ line. IsPlain line.now)) }
-        ensures shorter { IfOk result (λ next. OnSome next (length self.new.rest.now < length self.old.rest.now)) }
+        ensures shorter { IfOk result
+            (λ next. OnSome next (length self.new.rest.now < length self.old.rest.now)) }
     {
         if self.rest.is_empty() {
             return Ok(None);

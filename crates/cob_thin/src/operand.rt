@@ -81,7 +81,8 @@ pub(crate) fn move_between(
     from: &[u8],
     to: &[u8],
 ) -> Option<Move>
-    ensures { IfSome result (λ step. IsMoveOf input.now output.now (record { from = from.now; to = to.now }) step) }
+    ensures { IfSome result
+        (λ step. IsMoveOf input.now output.now (record { from = from.now; to = to.now }) step) }
 {
     let from = operand_named(input, output, from)?;
     let to = operand_named(output, input, to)?;

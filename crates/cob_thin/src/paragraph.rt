@@ -15,9 +15,13 @@ use std::alloc::Global;
 
 /// The names of sender and receiver, of the next line.
 fn next_move<'a>(lines: &mut Lines<'a>) -> Result<Option<(&'a [u8], &'a [u8])>, ThinFault>
-    ensures words { IfOk result (λ next. MatchOption next (words_of lines.old.rest.now ≡ []) (λ names. words_of lines.old.rest.now ≡ move_line names.0.now names.1.now ∷ words_of lines.new.rest.now)) }
-    ensures plain { IfOk result (λ next. MatchOption next (ArePlain lines.old.rest.now) (λ _. ArePlain lines.new.rest.now → ArePlain lines.old.rest.now)) }
-    ensures shorter { IfOk result (λ next. OnSome next (length lines.new.rest.now < length lines.old.rest.now)) }
+    ensures words { IfOk result
+        (λ next. MatchOption next (words_of lines.old.rest.now ≡ []) (λ names. words_of
+        lines.old.rest.now ≡ move_line names.0.now names.1.now ∷ words_of lines.new.rest.now)) }
+    ensures plain { IfOk result (λ next. MatchOption next (ArePlain lines.old.rest.now)
+        (λ _. ArePlain lines.new.rest.now → ArePlain lines.old.rest.now)) }
+    ensures shorter { IfOk result
+        (λ next. OnSome next (length lines.new.rest.now < length lines.old.rest.now)) }
 {
     let Some(line) = lines.next_area()? else {
         return Ok(None);
