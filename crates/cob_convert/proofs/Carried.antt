@@ -5,7 +5,7 @@ use Rattle.std.proofs.lemmas.List.Concat.{flat_map-append}
 use Rattle.std.proofs.Math.ListN.{length-append}
 use Rattle.std.specs.List.{AllByRecursion}
 use Rattle.std.specs.Io.KnownBytes.{Consumes, append_known}
-use Rattle.cob_records.specs.Device.{Told, Takes}
+use Rattle.cob_records.specs.Device.{Told, Took}
 use Rattle.cob_records.specs.Frame.{Reads, Puts, framed, IsLength, IsRecord, frame_size, taken_of}
 use Rattle.cob_records.specs.declared.records.Form.{Form}
 use Rattle.cob_records.specs.declared.records.Form.TheVariants.{Fixed, Variable}
@@ -84,7 +84,7 @@ pub step : (setup : Setup) (n written size count made : ℕ) (slot room : List �
     → Carried setup n written r0 r1 w0 w1
     → Told r1 r2 (Reads setup.in_form (in_length setup) slot (Ok (Some count))) → IsRecord setup.in_form (in_length setup) (take count slot)
     → IsSized setup (take count slot) → Becomes setup (take count slot) (take made room)
-    → Takes w1 w2 (Puts (framed setup.out_form (take made room)) (Ok tt))
+    → Took w1 w2 (Puts (framed setup.out_form (take made room)) (Ok tt))
     → size ≡ length (framed setup.out_form (take made room))
     → Carried setup (n + 1) (min (written + size) (2 ^ 64 - 1)) r0 r2 w0 w2
 step setup n written size count made slot room r0 r1 r2 w0 w1 w2 so_far read whole fits converts (part, is, put) sized =
@@ -212,7 +212,7 @@ put_size frame part _ p = absurd p
 pub write_exit : (setup : Setup) (n written total count made : ℕ) (fault : RecordFault) (slot room : List ℕ) (r0 r1 r2 w0 w1 w2 : Option (List ℕ))
     → Carried setup n written r0 r1 w0 w1
     → Told r1 r2 (Reads setup.in_form (in_length setup) slot (Ok (Some count))) → IsRecord setup.in_form (in_length setup) (take count slot)
-    → IsSized setup (take count slot) → Becomes setup (take count slot) (take made room) → Takes w1 w2 (Puts (framed setup.out_form (take made room)) (Err fault))
+    → IsSized setup (take count slot) → Becomes setup (take count slot) (take made room) → Took w1 w2 (Puts (framed setup.out_form (take made room)) (Err fault))
     → total ≡ min (written + taken_of fault) (2 ^ 64 - 1) → n < most_records
     → Told r0 r2 (λ bytes rest. Ran setup (Err (record { number = n + 1; side = Out; offset = 0; cause = Record fault; written = total })) bytes rest w0 w2)
 write_exit setup n written total count made fault slot room r0 r1 r2 w0 w1 w2 so_far read whole fits converts (part, puts, put) sum low =

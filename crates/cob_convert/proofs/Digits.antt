@@ -6,7 +6,7 @@ use Rattle.std.proofs.lemmas.List.Concat.{flat_map-append}
 use Rattle.std.proofs.Math.Seq.{take-append_seam, take-add}
 use Rattle.std.specs.Io.KnownBytes.{append_known}
 use Rattle.cob_records.specs.declared.device.DeviceFault.{DeviceFault}
-use Rattle.cob_records.specs.Device.{Takes}
+use Rattle.cob_records.specs.Device.{Took}
 use Rattle.cob_convert.specs.Hex.{PutsPairs, PutsText, byte_text, hex_text}
 use Rattle.cob_convert.proofs.Carried.{append_twice}
 
@@ -37,7 +37,7 @@ text_front xs n size h low =
 
 -- what went out of the text of the first bytes
 pub puts_text : (xs : List ℕ) (n : ℕ) (answer : Result ℕ DeviceFault) (before now : Option (List ℕ)) → n ≤ length xs
-    → Takes before now (PutsPairs (hex_text (take n xs)) answer) → Takes before now (PutsText xs answer)
+    → Took before now (PutsPairs (hex_text (take n xs)) answer) → Took before now (PutsText xs answer)
 puts_text xs n (Err fault) before now h (part, (size, low, is, counted), e) = (part, ((size, is ∙ text_front xs n size h low), tt), e)
 puts_text xs n (Ok count) before now h (part, (size, low, is, counted), e) =
     let front : part ≡ take size (hex_text xs) = is ∙ text_front xs n size h low in (

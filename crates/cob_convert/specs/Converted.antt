@@ -1,7 +1,7 @@
 -- A run whose ends all worked: the conversion of what came, record by record.
 use Rattle.std.specs.Prelude.{◌≡◌, ℕ, false, List, [], ◌++◌, length, Option, Result}
 use Rattle.std.specs.List.{AllByRecursion}
-use Rattle.cob_records.specs.Device.{Takes}
+use Rattle.cob_records.specs.Device.{Took}
 use Rattle.cob_convert.specs.declared.setup.Setup.{Setup}
 use Rattle.cob_convert.specs.declared.run.RunFault.{RunFault}
 use Rattle.cob_convert.specs.Run.{IsConverted, Ends, frames_in, frames_out, is_read_stop, is_write_stop}
@@ -20,4 +20,4 @@ pub record Converted (setup : Setup) (bytes rest written : List ℕ) (answer : R
 
 -- the sink took the conversion of these bytes, up to the rest
 abbrev pub Writes : Setup → Result ℕ RunFault → List ℕ → List ℕ → Option (List ℕ) → Option (List ℕ) → Type 0
-Writes setup answer bytes rest before now = Takes before now (λ written. Converted setup bytes rest written answer)
+Writes setup answer bytes rest before now = Took before now (λ written. Converted setup bytes rest written answer)

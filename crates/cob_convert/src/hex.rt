@@ -1,5 +1,5 @@
 ghost use Rattle.std.specs.Prelude.{◌≡◌, ◌<◌, ◌≤◌, ◌*◌, ◌%◌, length, None, IfOk, is_err};
-ghost use Rattle.cob_records.specs.Device.{Takes, counted, took_nothing};
+ghost use Rattle.cob_records.specs.Device.{Took, counted, took_nothing};
 ghost use Rattle.cob_convert.specs.Hex.{PutsPairs, PutsText, digit_character, hex_text};
 
 use arrayvec::ArrayVec;
@@ -64,7 +64,7 @@ fn text_of(bytes: &[u8]) -> ArrayVec<u8, DIGITS>
 fn put_pairs<W: Sink>(w: &mut W, text: &[u8]) -> Result<usize, DeviceFault>
     requires { length text.now % 2 ≡ 0 }
     ensures count { IfOk result (λ n. 2 * n ≤ length text.now) }
-    ensures text { Takes (W.taken w.old) (W.taken w.new) (PutsPairs text.now result) }
+    ensures text { Took (W.taken w.old) (W.taken w.new) (PutsPairs text.now result) }
     ensures cause { W.failures w.new ≡ counted (took_nothing result text.now) (W.failures w.old) }
     ensures errors { W.errors w.new ≡ counted (is_err result) (W.errors w.old) }
 {
@@ -83,7 +83,7 @@ impl<W: Sink> HexSink<'_, W> {
     fn put_text(&mut self, bytes: &[u8]) -> Result<usize, DeviceFault>
         ensures count { IfOk result (λ n. n ≤ length bytes.now) }
         // The sink inside took the text of the bytes.
-        ensures text { Takes (W.taken self.old.inner.now) (W.taken self.new.inner.now)
+        ensures text { Took (W.taken self.old.inner.now) (W.taken self.new.inner.now)
             (PutsText bytes.now result) }
         ensures cause { W.failures self.new.inner.now
             ≡ counted (took_nothing result bytes.now) (W.failures self.old.inner.now) }

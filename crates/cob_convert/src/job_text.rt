@@ -50,7 +50,7 @@ fn without_return(line: &[u8]) -> &[u8]
 }
 
 impl<'a> Lines<'a> {
-    /// Takes the next line, if there is one.
+    /// Took the next line, if there is one.
     fn next(&mut self) -> Option<&'a [u8]> {
         if self.rest.is_empty() {
             return None;
@@ -61,7 +61,7 @@ impl<'a> Lines<'a> {
         Some(line)
     }
 
-    /// Takes the lines up to the next mark, or to the end.
+    /// Took the lines up to the next mark, or to the end.
     fn part(&mut self) -> &'a [u8] {
         let whole = self.rest;
         while !self.rest.is_empty() && self.rest[0] != b'=' {
@@ -72,7 +72,7 @@ impl<'a> Lines<'a> {
         &whole[..whole.len() - self.rest.len()]
     }
 
-    /// Takes a line that is to be a mark; where it is another, its number is the fault, and where none is left, 0.
+    /// Took a line that is to be a mark; where it is another, its number is the fault, and where none is left, 0.
     fn mark(&mut self, wanted: &[u8]) -> Result<(), u32> {
         let number = self.number;
         match self.next() {
@@ -82,7 +82,7 @@ impl<'a> Lines<'a> {
         }
     }
 
-    /// Takes a mark that ends in a record form.
+    /// Took a mark that ends in a record form.
     fn form_mark(&mut self, fixed: &[u8], variable: &[u8]) -> Result<Form, u32> {
         let number = self.number;
         match self.next() {

@@ -18,7 +18,7 @@ use Rattle.cob_layout_places.specs.Lengths.{alone, times, MayOccur}
 use Rattle.cob_layout_places.specs.Places.{choose, or_else}
 use Rattle.cob_layout_places.specs.Cover.{AreNumbered}
 use Rattle.cob_layout_places.specs.Counts.{kind_in, kind_one, table_of, tables_of, IsCountable}
-use Rattle.cob_sound.specs.Sound.{AreFilled, IsAhead, IsFilled, IsSound}
+use Rattle.cob_sound.specs.Sound.{HoldSome, IsAhead, HoldsSome, IsSound}
 use Rattle.cob_copybook.specs.Bytes.{TakesByte, TakeBytes}
 use Rattle.cob_layout.proofs.SteadyLemmas.{steady_times}
 use Rattle.cob_layout.proofs.ThoseLemmas.{IsIn, of_all}
@@ -92,7 +92,7 @@ abbrev IsSome : Forest Resolved → Type 0
 IsSome Bare = ⊥
 IsSome (Grows e kids more) = Unit {0}
 
-group_some : (k : Kind) (kids : Forest Resolved) → k ≡ Group → IsFilled k kids → IsSome kids
+group_some : (k : Kind) (kids : Forest Resolved) → k ≡ Group → HoldsSome k kids → IsSome kids
 group_some Group Bare g h = h
 group_some Group (Grows e kids more) g h = tt
 group_some (ItemKind i) kids g h = absurd (cc)
@@ -115,7 +115,7 @@ begun_beneath all n e kids more num group begun = record {
 }
 
 begun_some : (all : Forest Resolved) (c : Resolved → ℕ) (n : ℕ) (f : Forest Resolved) → ((d : Resolved) → is_varying d.occurs ≡ false → c d ≡ most d) → IsSome f
-    → AreNumbered n f → MayOccur f → AreFilled f → TakeBytes f → AreAreas [] f → Begun all n f → 0 < sum_of c f
+    → AreNumbered n f → MayOccur f → HoldSome f → TakeBytes f → AreAreas [] f → Begun all n f → 0 < sum_of c f
 begun_some all c n Bare steady some num occur filled bytes areas begun = absurd some
 begun_some all c n (Grows e kids more) steady some num occur filled bytes areas begun =
     let fixed = not_varying all n e.occurs e.number (tables_of kids ++ tables_of more) num.0 begun.groups begun.counted in

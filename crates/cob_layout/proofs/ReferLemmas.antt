@@ -6,11 +6,11 @@ use Rattle.cob_copybook_tree.specs.Forests.{Forest, Bare, Grows}
 use Rattle.cob_copybook_tree.specs.Nodes.{Resolved}
 use Rattle.cob_layout_places.specs.Lengths.{alone}
 use Rattle.cob_layout_places.specs.Places.{is_table, later}
-use Rattle.cob_sound.specs.Sound.{dimension, AreNested, RecordsAreSound}
+use Rattle.cob_sound.specs.Sound.{own_dimension, AreNested, RecordsAreSound}
 use Rattle.cob_layout.specs.References.{IsSubscripted, Refers}
 use Rattle.cob_layout.specs.Laws.{FitsRef}
 
-own_length : (o : Times) (n : ℕ) (subscripts : List ℕ) → IsSubscripted (is_table o) n subscripts → length subscripts ≡ dimension o + length (later (is_table o) subscripts)
+own_length : (o : Times) (n : ℕ) (subscripts : List ℕ) → IsSubscripted (is_table o) n subscripts → length subscripts ≡ own_dimension o + length (later (is_table o) subscripts)
 own_length Once n subscripts h = omega arith
 own_length (Fixed k) n [] h = absurd h
 own_length (Fixed k) n (s ∷ subscripts) h = omega arith
@@ -22,7 +22,7 @@ few : (n r : ℕ) (subscripts : List ℕ) (f : Forest Resolved) → AreNested n 
 few n r subscripts Bare h k = absurd k
 few n r subscripts (Grows e kids more) h (inl (own, inl (same, none))) = omega (arith, own_length e.occurs _ subscripts own, ap length none, h.0)
 few n r subscripts (Grows e kids more) h (inl (own, inr k)) =
-    omega (arith, own_length e.occurs _ subscripts own, few (n + dimension e.occurs) r (later (is_table e.occurs) subscripts) kids h.1 k)
+    omega (arith, own_length e.occurs _ subscripts own, few (n + own_dimension e.occurs) r (later (is_table e.occurs) subscripts) kids h.1 k)
 few n r subscripts (Grows e kids more) h (inr k) = few n r subscripts more h.2 k
 
 pub fits_ref : RecordsAreSound → FitsRef

@@ -10,7 +10,7 @@ use Rattle.cob_copybook.proofs.Storages.{possible}
 use Rattle.cob_layout_places.specs.Lengths.{alone, IsFit}
 use Rattle.cob_layout_places.specs.Cover.{AreNumbered}
 use Rattle.cob_layout_places.specs.Counts.{tables_of}
-use Rattle.cob_sound.specs.Sound.{AreFilled, AreNested, AreStorable, RecordsAreSound}
+use Rattle.cob_sound.specs.Sound.{HoldSome, AreNested, AreStorable, RecordsAreSound}
 use Rattle.cob_sound.proofs.Numbers.{numbered}
 use Rattle.cob_sound.proofs.Shapes.{filled, nested}
 use Rattle.cob_sound.proofs.Fits.{may_occur, leaves, in_areas, redefines_none, record_small}
@@ -35,7 +35,7 @@ sound t (role, text, book) =
     let counted = subst (λ (f : Forest Resolved). AllByRecursion (IsCountedIn f) (tables_of f)) tree (all_counted counts w is.stored.counted items) in
     record {
       fit = fit;
-      filled = subst AreFilled tree (filled counts 0 None None w is.agree.filled);
+      filled = subst HoldSome tree (filled counts 0 None None w is.agree.filled);
       areas = is.stored.fit.areas;
       numbered = subst (AreNumbered 0) tree (numbered counts 0 None None w);
       nested = subst (AreNested 0) tree (nested counts 0 0 None None w is.agree.tables);

@@ -12,16 +12,16 @@ use Rattle.cob_copybook_tree.specs.Resolving.{inherited, times_of, kind_of, reso
 use Rattle.cob_copybook_rules.specs.Filled as rules
 use Rattle.cob_copybook_rules.specs.Tables as tables
 use Rattle.cob_limits.specs.Limits.{most_dimensions}
-use Rattle.cob_sound.specs.Sound.{IsFilled, AreFilled, dimension, AreNested}
+use Rattle.cob_sound.specs.Sound.{HoldsSome, HoldSome, own_dimension, AreNested}
 
 one_filled : (picture : Option Seen) (own : Usage) (place : Option Sign) (justified blank : Bool) (counts : List ℕ) (n : ℕ) (usage : Option Usage) (sign : Option Sign) (kids : Forest Described)
-    → rules.IsFilled picture kids → IsFilled (kind_of picture own place justified blank) (resolved counts n usage sign kids)
+    → rules.IsFilled picture kids → HoldsSome (kind_of picture own place justified blank) (resolved counts n usage sign kids)
 one_filled None own place justified blank counts n usage sign Bare h = absurd h
 one_filled None own place justified blank counts n usage sign (Grows e kids more) h = tt
 one_filled (Some p) own place justified blank counts n usage sign kids h = tt
 
 -- where each entry is an item or a group, each group has an entry
-pub filled : (counts : List ℕ) (n : ℕ) (usage : Option Usage) (sign : Option Sign) (f : Forest Described) → rules.AreFilled f → AreFilled (resolved counts n usage sign f)
+pub filled : (counts : List ℕ) (n : ℕ) (usage : Option Usage) (sign : Option Sign) (f : Forest Described) → rules.AreFilled f → HoldSome (resolved counts n usage sign f)
 filled counts n usage sign Bare h = tt
 filled counts n usage sign (Grows e kids more) h =
     let u = inherited usage e.usage in
@@ -29,7 +29,7 @@ filled counts n usage sign (Grows e kids more) h =
     let here = one_filled e.picture (unwrap_or u Display) v e.justified e.blank counts (n + 1) u v kids h.0 in
     (here, filled counts (n + 1) u v kids h.1, filled counts (n + 1 + entries_in kids) usage sign more h.2)
 
-same_dimension : (o : Option described.Times) (count : ℕ) → tables.dimension o ≡ dimension (times_of o count)
+same_dimension : (o : Option described.Times) (count : ℕ) → tables.dimension o ≡ own_dimension (times_of o count)
 same_dimension None count = refl
 same_dimension (Some (described.Fixed n)) count = refl
 same_dimension (Some (described.Varying least most name qualifiers)) count = refl

@@ -30,27 +30,27 @@ AreStorable Bare = Unit {0}
 AreStorable (Grows e kids more) = IsStorableKind e.kind × AreStorable kids × AreStorable more
 
 -- a group has an entry beneath it
-abbrev pub IsFilled : Kind → Forest Resolved → Type 0
-IsFilled (ItemKind i) kids = Unit {0}
-IsFilled Group Bare = ⊥
-IsFilled Group (Grows e kids more) = Unit {0}
+abbrev pub HoldsSome : Kind → Forest Resolved → Type 0
+HoldsSome (ItemKind i) kids = Unit {0}
+HoldsSome Group Bare = ⊥
+HoldsSome Group (Grows e kids more) = Unit {0}
 
 -- each group has one
-abbrev pub AreFilled : Forest Resolved → Type 0
-AreFilled Bare = Unit {0}
-AreFilled (Grows e kids more) = IsFilled e.kind kids × AreFilled kids × AreFilled more
+abbrev pub HoldSome : Forest Resolved → Type 0
+HoldSome Bare = Unit {0}
+HoldSome (Grows e kids more) = HoldsSome e.kind kids × HoldSome kids × HoldSome more
 
 -- one for a table
-abbrev pub dimension : Times → ℕ
-dimension Once = 0
-dimension (Fixed n) = 1
-dimension (Varying least most count) = 1
+abbrev pub own_dimension : Times → ℕ
+own_dimension Once = 0
+own_dimension (Fixed n) = 1
+own_dimension (Varying least most count) = 1
 
 -- beneath so many tables, no more than 7 stand within one another
 abbrev pub AreNested : ℕ → Forest Resolved → Type 0
 AreNested n Bare = Unit {0}
 AreNested n (Grows e kids more) =
-    (n + dimension e.occurs ≤ most_dimensions) × AreNested (n + dimension e.occurs) kids × AreNested n more
+    (n + own_dimension e.occurs ≤ most_dimensions) × AreNested (n + own_dimension e.occurs) kids × AreNested n more
 
 -- the entry with this number stands beneath a table
 abbrev pub InTable : ℕ → Forest Resolved → Type 0
@@ -68,7 +68,7 @@ pub record IsAhead (f : Forest Resolved) (x : Table) : Type 0 where
 -- the record itself redefines nothing.
 pub record IsSound (t : Tree Resolved) : Type 0 where
   pub fit : IsFit 0 t
-  pub filled : AreFilled (alone t)
+  pub filled : HoldSome (alone t)
   pub areas : AreAreas [] (alone t)
   pub numbered : AreNumbered 0 (alone t)
   pub nested : AreNested 0 (alone t)

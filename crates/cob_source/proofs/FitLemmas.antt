@@ -10,13 +10,13 @@ use Rattle.cob_source.specs.declared.fault.SourceRule.TheVariants.{NotAscii, Tab
 use Rattle.cob_source.specs.Tokens.{Lexeme}
 use Rattle.cob_source.specs.Cuts.{open_quote}
 use Rattle.cob_source.specs.Lines.{lines, kind_of, joined_of, last_joined}
-use Rattle.cob_source.specs.Words.{breaks, Fits, AreFit, BreaksAt, IsMisplaced, IsLeftOpen, AreCutsOf}
+use Rattle.cob_source.specs.Words.{breaks, Fits, AreFit, BreaksAt, GoesOnNothing, IsLeftOpen, AreCutsOf}
 use Rattle.cob_source.proofs.ReadingLemmas.{AllFit-push}
 
 -- no rule is broken on any line of these
 abbrev pub BreakNone : List (List ℕ) → Type 0
 BreakNone ls =
-    ((n : ℕ) → BreaksAt NotAscii n ls → ⊥) × ((n : ℕ) → BreaksAt Tab n ls → ⊥) × ((n : ℕ) → BreaksAt UnknownIndicator n ls → ⊥) × ((n : ℕ) → IsMisplaced n ls → ⊥) × ((n : ℕ) → IsLeftOpen n ls → ⊥)
+    ((n : ℕ) → BreaksAt NotAscii n ls → ⊥) × ((n : ℕ) → BreaksAt Tab n ls → ⊥) × ((n : ℕ) → BreaksAt UnknownIndicator n ls → ⊥) × ((n : ℕ) → GoesOnNothing n ls → ⊥) × ((n : ℕ) → IsLeftOpen n ls → ⊥)
 
 unbroken : (b : Bool) → (b ≡ true → ⊥) → b ≡ false
 unbroken false h = refl

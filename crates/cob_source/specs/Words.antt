@@ -101,8 +101,8 @@ pub record BreaksAt (rule : SourceRule) (n : ℕ) (ls : List (List ℕ)) : Type 
 
 -- line n is a continuation that doesn't fit behind the lines before it, none of which breaks a rule: else there is no text that it
 -- would go on
-abbrev pub IsMisplaced : ℕ → List (List ℕ) → Type 0
-IsMisplaced n ls = (at : BreaksAt BadContinuation n ls) × AreFit at.before
+abbrev pub GoesOnNothing : ℕ → List (List ℕ) → Type 0
+GoesOnNothing n ls = (at : BreaksAt BadContinuation n ls) × AreFit at.before
 
 -- a plain line comes next, or none
 abbrev pub NoContinuation : List (List ℕ) → Type 0
@@ -125,7 +125,7 @@ abbrev pub IsBroken : SourceRule → ℕ → List ℕ → Type 0
 IsBroken NotAscii n text = BreaksAt NotAscii n (lines text)
 IsBroken Tab n text = BreaksAt Tab n (lines text)
 IsBroken UnknownIndicator n text = BreaksAt UnknownIndicator n (lines text)
-IsBroken BadContinuation n text = IsMisplaced n (lines text)
+IsBroken BadContinuation n text = GoesOnNothing n (lines text)
 IsBroken OpenLiteral n text = IsLeftOpen n (lines text)
 IsBroken TooLong n text = (longest_text < length text) × (n ≡ 1)
 IsBroken Memory n text = ⊥
