@@ -1,5 +1,5 @@
 -- Redefining entries begin where their area begins.
-use Rattle.std.proofs.Common.{◌≡◌, ◌⊎◌, ℕ, ◌+◌, ◌*◌, ◌==◌, Bool, true, false, List, [], ◌∷◌, Option, Some, None, refl, sym, ap, subst, ◌∙◌, arith, inl, inr}
+use Rattle.std.proofs.Common.{◌≡◌, ℕ, ◌+◌, ◌*◌, ◌==◌, Bool, true, false, List, [], ◌∷◌, Option, Some, None, refl, sym, ap, subst, ◌∙◌, arith, inl, inr}
 use Rattle.std.proofs.lemmas.Bool.Decides.{nat_tests}
 use Rattle.cob_copybook_tree.specs.declared.node.Times.TheVariants.{Once}
 use Rattle.cob_copybook_tree.specs.declared.node.Times.{Times}
@@ -14,7 +14,7 @@ use Rattle.cob_layout_places.specs.Cover.{AreNumbered}
 use Rattle.cob_layout_places.specs.Needs.{Has}
 use Rattle.cob_layout_places.proofs.CoverLaw.{not_or}
 use Rattle.cob_sound.specs.Sound.{RecordsAreSound}
-use Rattle.cob_layout.specs.References.{IsSubscripted, Refers}
+use Rattle.cob_layout.specs.References.{Refers}
 use Rattle.cob_layout.specs.Laws.{IsBehind, Redefines, offset_of, BeginWithArea}
 use Rattle.cob_layout.proofs.ReferenceLemmas.{refers_has}
 use Rattle.cob_layout.proofs.EndLemmas.{numbered, found_has}

@@ -1,7 +1,6 @@
 -- The counts that a reference needs are among all counts, and give it the same place.
 use Rattle.std.proofs.Common.{◌≡◌, ◌⊎◌, ℕ, ◌+◌, ◌<◌, ◌≤◌, ◌==◌, ◌&&◌, nat_lt, Bool, true, false, List, [], ◌∷◌, ◌++◌, length, replicate, take, Option, Some, None, refl, sym, ap, subst, ◌∙◌, arith, Ok, Err, Result, inl, inr}
 use Rattle.std.specs.Prelude.{slice_set, slice_index, IfErr}
-use Rattle.std.specs.List.{AllByRecursion}
 use Rattle.std.proofs.lemmas.List.{get_or-set_other, get_or-set_same, length-set, length-replicate}
 use Rattle.std.proofs.lemmas.Bool.{cases_lt}
 use Rattle.std.proofs.lemmas.Bool.Decides.{nat_tests}
@@ -14,13 +13,13 @@ use Rattle.cob_sound.specs.Sound.{InTable, IsAhead, IsSound, RecordsAreSound}
 use Rattle.cob_layout_places.specs.declared.counts.CountFault.{CountFault}
 use Rattle.cob_layout_places.specs.declared.varying.Table.{Table}
 use Rattle.cob_layout_places.specs.Lengths.{alone, times, AreLeaves, IsLeaf}
-use Rattle.cob_layout_places.specs.Places.{find, find_one, choose, or_else}
+use Rattle.cob_layout_places.specs.Places.{find, choose, or_else}
 use Rattle.cob_layout_places.specs.Cover.{AreNumbered}
 use Rattle.cob_layout_places.specs.Counts.{kind_in, kind_one, tables_of, IsCountable, IsCounted, Taken}
-use Rattle.cob_layout_places.specs.Needs.{greatest, Has, Holds, ShareTable, Needs, IsSpared, reach, is_read, keep, needed, NeedsAreRead}
+use Rattle.cob_layout_places.specs.Needs.{greatest, Has, Holds, ShareTable, Needs, reach, is_read, needed, NeedsAreRead}
 use Rattle.cob_layout_places.specs.Agree.{SameCounts, OnePlace}
-use Rattle.cob_layout_places.proofs.NeedLaw.{low, high, has_number, below_needed, reach_le}
-use Rattle.cob_layout.specs.Counting.{greatest_counts, AreThose, CountsOf, IsRead, IsSparedOf, NeededOf}
+use Rattle.cob_layout_places.proofs.NeedLaw.{low, high, has_number, below_needed}
+use Rattle.cob_layout.specs.Counting.{greatest_counts, AreThose, IsRead, IsSparedOf, NeededOf}
 use Rattle.cob_layout.specs.References.{Refers}
 use Rattle.cob_layout.specs.Laws.{AllGiveNeeded, OneOfNeeded, OnePlaceByNeeds}
 use Rattle.cob_layout.proofs.GreatestLemmas.{greatest_length}

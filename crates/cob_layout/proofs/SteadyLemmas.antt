@@ -1,12 +1,11 @@
 -- No redefinition is longer than its area, under whatever counts: neither varies.
-use Rattle.std.proofs.Common.{◌≡◌, ◌⊎◌, ℕ, ◌+◌, ◌*◌, ◌≤◌, Bool, true, false, ◌||◌, List, [], ◌∷◌, ◌++◌, Option, Some, None, refl, sym, ap, subst, ◌∙◌, arith}
+use Rattle.std.proofs.Common.{◌≡◌, ℕ, ◌+◌, ◌*◌, ◌≤◌, Bool, true, false, ◌||◌, List, [], ◌∷◌, ◌++◌, Option, Some, None, refl, ap, ◌∙◌, arith}
 use Rattle.cob_copybook_tree.specs.declared.node.Times.{Times}
 use Rattle.cob_copybook_tree.specs.declared.node.Times.TheVariants.{Once, Fixed, Varying}
-use Rattle.cob_copybook_tree.specs.declared.node.Kind.{Kind}
 use Rattle.cob_copybook_tree.specs.Forests.{Forest, Bare, Grows, Tree}
 use Rattle.cob_copybook_tree.specs.Nodes.{Resolved}
-use Rattle.cob_copybook_tree.specs.Lengths.{most, most_by, one, room, element, whole, sum_of}
-use Rattle.cob_copybook_lengths.specs.Areas.{is_varying, hold_varying, IsSteady, FitsArea, MayFollow, AreAreas, joined}
+use Rattle.cob_copybook_tree.specs.Lengths.{most, most_by, one, room, whole, sum_of}
+use Rattle.cob_copybook_lengths.specs.Areas.{is_varying, hold_varying, IsSteady, MayFollow, AreAreas, joined}
 use Rattle.cob_layout_places.specs.Lengths.{area_by, times, times_by}
 
 -- under these counts no redefinition is longer than its area, where the area before these entries has this length

@@ -43,13 +43,16 @@ IsRead t r receiving x = Needs r x.number (alone t) × (IsSparedOf t r receiving
 -- these are those of the tables that are so, in their order
 abbrev pub AreThose : (Table → Type 0) → List Table → List Table → Type 0
 AreThose is [] those = those ≡ []
-AreThose is (x ∷ xs) those = (is x × ((others : List Table) × (those ≡ x ∷ others) × AreThose is xs others)) ⊎ ((is x → ⊥) × AreThose is xs those)
+AreThose is (x ∷ xs) those =
+    (is x × ((others : List Table) × (those ≡ x ∷ others) × AreThose is xs others))
+    ⊎ ((is x → ⊥) × AreThose is xs those)
 
 -- The counts that a reference to an entry needs, which receives or not: those that the bytes give to the tables whose counts it reads, one behind
 -- another, or the fault of the first that gives none; the other tables have their greatest number.
 abbrev pub NeededOf : Tree Resolved → ℕ → Bool → List ℕ → Result (List ℕ) CountFault → Type 0
 NeededOf t r receiving bytes result =
-    (xs : List Table) × AreThose (IsRead t r receiving) (tables_of (alone t)) xs × Taken t bytes xs (greatest_counts t) result
+    (xs : List Table) × AreThose (IsRead t r receiving) (tables_of (alone t)) xs
+    × Taken t bytes xs (greatest_counts t) result
 
 -- under these counts each entry occurs as often as at most: the lengths and places are the greatest ones
 pub record AreGreatest (t : Tree Resolved) (counts : List ℕ) : Type 0 where

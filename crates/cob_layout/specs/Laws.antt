@@ -18,23 +18,28 @@ use Rattle.cob_layout.specs.Counting.{greatest_counts, AreThose, CountsOf, IsRea
 
 -- a legal reference has no more subscripts than a `Ref` has room for
 abbrev pub FitsRef : Type 0
-FitsRef = (t : Tree Resolved) (r : ℕ) (subscripts : List ℕ) → IsRecord (alone t) → Refers r subscripts (alone t) → length subscripts ≤ most_dimensions
+FitsRef = (t : Tree Resolved) (r : ℕ) (subscripts : List ℕ)
+    → IsRecord (alone t) → Refers r subscripts (alone t) → length subscripts ≤ most_dimensions
 
 -- an element that is there ends within the record's length under the same counts
 abbrev pub EndInLength : Type 0
-EndInLength = (t : Tree Resolved) (counts : List ℕ) (r : ℕ) (subscripts : List ℕ) (found : Found) → IsRecord (alone t) → Refers r subscripts (alone t)
-    → find (times counts) r (alone t) 0 0 subscripts ≡ Some found → found.within ≡ true → found.offset + found.length ≤ sum_of (times counts) (alone t)
+EndInLength = (t : Tree Resolved) (counts : List ℕ) (r : ℕ) (subscripts : List ℕ) (found : Found)
+    → IsRecord (alone t) → Refers r subscripts (alone t)
+    → find (times counts) r (alone t) 0 0 subscripts ≡ Some found → found.within ≡ true
+    → found.offset + found.length ≤ sum_of (times counts) (alone t)
 
 -- the entry r is one of these, and all of them before it redefine an area, as it does
 abbrev pub IsBehind : ℕ → Forest Resolved → Type 0
 IsBehind r Bare = ⊥
-IsBehind r (Grows e kids more) = ((name : List ℕ) × (e.redefines ≡ Some name)) × ((e.number ≡ r) ⊎ IsBehind r more)
+IsBehind r (Grows e kids more) =
+    ((name : List ℕ) × (e.redefines ≡ Some name)) × ((e.number ≡ r) ⊎ IsBehind r more)
 
 -- The entry r redefines the area that the entry a began: it stands behind a in the same group, a redefines nothing, and no entry between them
 -- defines new storage.
 abbrev pub Redefines : ℕ → ℕ → Forest Resolved → Type 0
 Redefines r a Bare = ⊥
-Redefines r a (Grows e kids more) = ((e.number ≡ a) × (e.redefines ≡ None) × IsBehind r more) ⊎ (Redefines r a kids ⊎ Redefines r a more)
+Redefines r a (Grows e kids more) =
+    ((e.number ≡ a) × (e.redefines ≡ None) × IsBehind r more) ⊎ (Redefines r a kids ⊎ Redefines r a more)
 
 -- where an element begins
 abbrev pub offset_of : Option Found → Option ℕ
@@ -42,31 +47,39 @@ offset_of found = option_map (λ f. f.offset) found
 
 -- a redefining entry begins where the entry that began the area begins: its first element, where it is a table
 abbrev pub BeginWithArea : Type 0
-BeginWithArea = (t : Tree Resolved) (counts : List ℕ) (r a : ℕ) (subscripts : List ℕ) → IsRecord (alone t) → Redefines r a (alone t) → Refers a subscripts (alone t)
-    → offset_of (find (times counts) r (alone t) 0 0 subscripts) ≡ offset_of (find (times counts) a (alone t) 0 0 subscripts)
+BeginWithArea = (t : Tree Resolved) (counts : List ℕ) (r a : ℕ) (subscripts : List ℕ)
+    → IsRecord (alone t) → Redefines r a (alone t) → Refers a subscripts (alone t)
+    → offset_of (find (times counts) r (alone t) 0 0 subscripts)
+    ≡ offset_of (find (times counts) a (alone t) 0 0 subscripts)
 
 -- the bytes of a storage say one thing of all counts
 abbrev pub OneOfAll : Type 0
-OneOfAll = (t : Tree Resolved) (bytes : List ℕ) (a b : Result (List ℕ) CountFault) → CountsOf t bytes a → CountsOf t bytes b → a ≡ b
+OneOfAll = (t : Tree Resolved) (bytes : List ℕ) (a b : Result (List ℕ) CountFault)
+    → CountsOf t bytes a → CountsOf t bytes b → a ≡ b
 
 -- and one of those that a reference needs
 abbrev pub OneOfNeeded : Type 0
-OneOfNeeded = (t : Tree Resolved) (r : ℕ) (receiving : Bool) (bytes : List ℕ) (a b : Result (List ℕ) CountFault) → NeededOf t r receiving bytes a → NeededOf t r receiving bytes b → a ≡ b
+OneOfNeeded = (t : Tree Resolved) (r : ℕ) (receiving : Bool) (bytes : List ℕ) (a b : Result (List ℕ) CountFault)
+    → NeededOf t r receiving bytes a → NeededOf t r receiving bytes b → a ≡ b
 
 -- Where all counts of a storage are valid, those that a reference needs are, and the reference stands where it does under all counts, but for the
 -- tables that it is spared, which have their greatest number.
 abbrev pub AllGiveNeeded : Type 0
-AllGiveNeeded = (t : Tree Resolved) (bytes c : List ℕ) (r : ℕ) (receiving : Bool) (subscripts : List ℕ) (spared : List Table)
-    → IsRecord (alone t) → Refers r subscripts (alone t) → CountsOf t bytes (Ok c) → AreThose (IsSparedOf t r receiving) (tables_of (alone t)) spared
+AllGiveNeeded = (t : Tree Resolved) (bytes c : List ℕ) (r : ℕ) (receiving : Bool) (subscripts : List ℕ)
+    (spared : List Table) → IsRecord (alone t) → Refers r subscripts (alone t) → CountsOf t bytes (Ok c)
+    → AreThose (IsSparedOf t r receiving) (tables_of (alone t)) spared
     → (d : List ℕ) × NeededOf t r receiving bytes (Ok d)
-    × (find (times d) r (alone t) 0 0 subscripts ≡ find (times (greatest spared c)) r (alone t) 0 0 subscripts)
+    × (find (times d) r (alone t) 0 0 subscripts
+    ≡ find (times (greatest spared c)) r (alone t) 0 0 subscripts)
 
 -- Storages of one length that have the same bytes where the counts stand that a reference reads give it one place: whether all counts of a storage
 -- are taken, but for those that it is spared, or only those that are needed.
 abbrev pub OnePlaceByNeeds : Type 0
-OnePlaceByNeeds = (t : Tree Resolved) (a b c d : List ℕ) (r : ℕ) (receiving : Bool) (subscripts : List ℕ) (read spared : List Table)
-    → IsRecord (alone t) → Refers r subscripts (alone t) → length a ≡ length b
-    → AreThose (IsRead t r receiving) (tables_of (alone t)) read → AreThose (IsSparedOf t r receiving) (tables_of (alone t)) spared
+OnePlaceByNeeds = (t : Tree Resolved) (a b c d : List ℕ) (r : ℕ) (receiving : Bool) (subscripts : List ℕ)
+    (read spared : List Table) → IsRecord (alone t) → Refers r subscripts (alone t) → length a ≡ length b
+    → AreThose (IsRead t r receiving) (tables_of (alone t)) read
+    → AreThose (IsSparedOf t r receiving) (tables_of (alone t)) spared
     → DoAgree t a b read (greatest_counts t)
     → CountsOf t a (Ok c) → NeededOf t r receiving b (Ok d)
-    → find (times (greatest spared c)) r (alone t) 0 0 subscripts ≡ find (times d) r (alone t) 0 0 subscripts
+    → find (times (greatest spared c)) r (alone t) 0 0 subscripts
+    ≡ find (times d) r (alone t) 0 0 subscripts

@@ -31,9 +31,9 @@
 //!   number ([`all_give_needed`]). Storages that agree on what a reference reads give it one place, whichever of the two calls took the counts
 //!   ([`one_place_by_needs`]).
 //!
-//! The definitions: `CountsOf`, `NeededOf` and `AreGreatest` of specs/Counting.antt, `Refers` and `placed` of specs/References.antt, `TakeBytes` of
-//! `cob_copybook`, the laws of specs/Laws.antt, and what
-//! they name of `cob_layout_places`, which has the arithmetic of lengths and places. `cob_fields` lends the bytes of a place ([`field`], [`field_mut`]).
+//! The definitions: `CountsOf`, `NeededOf` and `AreGreatest` of specs/Counting.antt, `Refers` and `placed` of specs/References.antt, those of
+//! the laws of specs/Laws.antt, and what they name of `cob_copybook` (`TakeBytes`) and of `cob_layout_places`, which has the arithmetic of lengths
+//! and places. `cob_fields` lends the bytes of a place ([`field`], [`field_mut`]).
 //! Only [`Layout::of`] and [`Layout::new_counts`] take memory.
 #![tactic(auto)]
 

@@ -1,5 +1,5 @@
 -- Groups hold entries, and tables are nested no deeper than they may be.
-use Rattle.std.proofs.Common.{◌≡◌, sym, subst, ap, ℕ, ◌+◌, ◌≤◌, List, refl, Option, Some, None, Bool}
+use Rattle.std.proofs.Common.{◌≡◌, subst, ℕ, ◌+◌, ◌≤◌, List, refl, Option, Some, None, Bool}
 use Rattle.std.specs.Prelude.{slice_index, unwrap_or}
 use Rattle.cob_picture.specs.Positions.{Seen}
 use Rattle.cob_copybook_clauses.specs.declared.kinds.Usage.{Usage}

@@ -1,4 +1,4 @@
-use Rattle.std.proofs.Common.{rules, ◌≡◌, ap, ◌∙◌, length, arith, Ok, Err}
+use Rattle.std.proofs.Common.{rules, ◌≡◌, ap, ◌∙◌, length, arith, Err}
 use Rattle.std.specs.Prelude.{IfErr}
 use Rattle.std.proofs.lemmas.List.{length-replicate}
 use Rattle.cob_copybook_tree.specs.Forests.{entries_in}
