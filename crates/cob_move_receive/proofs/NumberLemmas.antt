@@ -1,5 +1,5 @@
 -- Numbers of edited items.
-use Rattle.std.proofs.Common.{◌≡◌, ℕ, Bool, List, Option, Some, None, sym, ap, subst, ◌∙◌}
+use Rattle.std.proofs.Common.{◌≡◌, ℕ, Bool, List, Option, Some, None, sym, subst}
 use Rattle.std.specs.Prelude.{IsSomeAnd, ℤ}
 use Rattle.cob_decimal.specs.declared.number.Number.{Number}
 use Rattle.cob_picture.specs.Counts.{scale}
@@ -17,7 +17,7 @@ one_of (Some n) v h = same_amount (amount n) v h.0 h.1 h.2
 
 pub unedited_only : (i : Item) (bytes : List ℕ) (o : Option Number)
     → ((n : Bool) (ds : List ℕ) → IsInRange i.picture n ds → IsEdited i.picture i.blank n ds (scale i.picture.positions) bytes
-        → IsSomeAnd o (λ v. (v.negative ≡ n) × (v.digits ≡ ds) × (v.scale ≡ scale i.picture.positions)))
+    → IsSomeAnd o (λ v. (v.negative ≡ n) × (v.digits ≡ ds) × (v.scale ≡ scale i.picture.positions)))
     → (v : Amount) → IsUnedited i bytes v → IsSomeAnd o (λ n. amount n ≡ v)
 unedited_only i bytes o only v h =
     let text : IsEdited i.picture i.blank v.negative v.digits (scale i.picture.positions) bytes = subst (λ (s : ℤ). IsEdited i.picture i.blank v.negative v.digits s bytes) h.point h.text in

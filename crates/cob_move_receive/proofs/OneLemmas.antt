@@ -1,5 +1,5 @@
 -- A receiver gets one thing.
-use Rattle.std.proofs.Common.{◌≡◌, ◌↔◌, ℕ, ◌<◌, Bool, true, false, ◌&&◌, nat_lt, List, [], ◌∷◌, ◌++◌, length, refl, sym, ap, subst, ◌∙◌, Option, Some, None, arith, replicate}
+use Rattle.std.proofs.Common.{◌≡◌, ℕ, Bool, true, false, ◌&&◌, nat_lt, List, length, refl, sym, ap, subst, ◌∙◌, Option, Some, None, arith, replicate}
 use Rattle.std.specs.Prelude.{MatchBool, ℤ}
 use Rattle.std.proofs.lemmas.List.{take-append-le, take_all}
 use Rattle.cob_decimal.specs.Decimal.{number_of}
@@ -10,7 +10,7 @@ use Rattle.cob_picture.specs.declared.category.Category.{Category}
 use Rattle.cob_picture.specs.declared.category.Category.TheVariants.{Alphabetic, Numeric, Alphanumeric, AlphanumericEdited, NumericEdited}
 use Rattle.cob_copybook_clauses.specs.declared.kinds.Figurative.{Figurative}
 use Rattle.cob_copybook_clauses.specs.declared.kinds.Figurative.TheVariants.{Space, Zero, HighValue, LowValue, Quote}
-use Rattle.cob_edit.specs.Pictured.{IsEdited, IsInRange, OneText, OneValue}
+use Rattle.cob_edit.specs.Pictured.{IsEdited, OneText, OneValue}
 use Rattle.cob_edit.specs.Characters.{OneSpelling}
 use Rattle.cob_copybook_entries.specs.Described.{Constant, Quoted, Figure, Repeated}
 use Rattle.cob_copybook_entries.specs.Described as constant
@@ -24,8 +24,8 @@ use Rattle.cob_move_initial.specs.Laws.{OneConstant}
 use Rattle.cob_move_initial.proofs.CharacterLemmas.{bytes_length}
 use Rattle.cob_move_receive.specs.Sent.{Sent, Entry, Literal, Amount}
 use Rattle.cob_move_receive.specs.Characters.{GivesConstant, GivesDigits, GivesCharacters, Placement, FromLeft, FromRight, Among, Arranged, placement, numerals_to_point}
-use Rattle.cob_move_receive.specs.Numbers.{ConstantGives, FigureGives, GivesUnder, GivesNumber, HoldsAmount, IsUnedited, IsNumberIn, ItemGives}
-use Rattle.cob_move_receive.specs.Received.{GetsNumber, GetsCharacters, ItemGets, OneReceived, Received}
+use Rattle.cob_move_receive.specs.Numbers.{ConstantGives, FigureGives, GivesUnder, GivesNumber, HoldsAmount, IsUnedited, IsNumberIn}
+use Rattle.cob_move_receive.specs.Received.{GetsNumber, GetsCharacters, ItemGets, OneReceived}
 
 -- the laws below
 pub record Laws : Type 0 where

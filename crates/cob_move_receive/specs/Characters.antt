@@ -1,5 +1,5 @@
 -- The characters that a sender gives, and how they stand in a receiver.
-use Rattle.std.specs.Prelude.{◌≡◌, ℕ, zero, suc, ◌+◌, ◌-◌, ℤ, pos, negsuc, Bool, true, false, List, ◌++◌, length, map, drop, replicate, MatchBool}
+use Rattle.std.specs.Prelude.{◌≡◌, ℕ, ◌+◌, ◌-◌, ℤ, pos, negsuc, Bool, true, false, List, ◌++◌, length, map, drop, replicate, MatchBool}
 use Rattle.cob_picture.specs.Counts.{scale}
 use Rattle.cob_picture.specs.declared.category.Category.{Category}
 use Rattle.cob_picture.specs.declared.category.Category.TheVariants.{Alphabetic, Numeric, Alphanumeric, AlphanumericEdited, NumericEdited}

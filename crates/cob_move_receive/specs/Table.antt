@@ -1,5 +1,5 @@
 -- Which moves there are: the table of categories.
-use Rattle.std.specs.Prelude.{ℕ, zero, suc, ℤ, pos, negsuc, Bool, true, false, if◌then◌else◌}
+use Rattle.std.specs.Prelude.{zero, suc, ℤ, pos, negsuc, Bool, true, false, if◌then◌else◌}
 use Rattle.cob_picture.specs.Counts.{scale}
 use Rattle.cob_picture.specs.declared.category.Category.{Category}
 use Rattle.cob_picture.specs.declared.category.Category.TheVariants.{Alphabetic, Numeric, Alphanumeric, AlphanumericEdited, NumericEdited}
@@ -37,13 +37,13 @@ receivers_if alphabetic alphanumeric numeric = record { alphabetic = alphabetic;
 -- The table by the sender's category. A number is moved to characters only where it has no fraction.
 --                                                              alphabetic  alphanumeric  numeric
 abbrev pub receivers_under : Category → Bool → Receivers
-receivers_under Alphabetic fraction         =      receivers_if true        true          false
-receivers_under Alphanumeric fraction       =      receivers_if true        true          true
-receivers_under AlphanumericEdited fraction =      receivers_if true        true          false
-receivers_under Numeric fraction            = if fraction
-                                              then receivers_if false       false         true
-                                              else receivers_if false       true          true
-receivers_under NumericEdited fraction      =      receivers_if false       true          true
+receivers_under Alphabetic fraction = receivers_if true true false
+receivers_under Alphanumeric fraction = receivers_if true true true
+receivers_under AlphanumericEdited fraction = receivers_if true true false
+receivers_under Numeric fraction = if fraction
+    then receivers_if false false true
+    else receivers_if false true true
+receivers_under NumericEdited fraction = receivers_if false true true
 
 -- the category of an item: BLANK WHEN ZERO makes a numeric one numeric edited
 abbrev pub category_with : Category → Bool → Category
@@ -60,11 +60,11 @@ item_receivers i = receivers_under (category_with i.picture.category i.blank) (h
 -- The line of a figurative constant: ZERO is the number 0, and isn't moved to alphabetic items; the others aren't moved to numbers.
 --                                                              alphabetic  alphanumeric  numeric
 abbrev pub figure_receivers : Figurative → Receivers
-figure_receivers Zero                       =      receivers_if false       true          true
-figure_receivers Space                      =      receivers_if true        true          false
-figure_receivers HighValue                  =      receivers_if true        true          false
-figure_receivers LowValue                   =      receivers_if true        true          false
-figure_receivers Quote                      =      receivers_if true        true          false
+figure_receivers Zero = receivers_if false true true
+figure_receivers Space = receivers_if true true false
+figure_receivers HighValue = receivers_if true true false
+figure_receivers LowValue = receivers_if true true false
+figure_receivers Quote = receivers_if true true false
 
 -- The line of a constant: a numeric literal is a number, a quoted one alphanumeric, and ALL with a literal like a figurative constant.
 abbrev pub constant_receivers : Constant → Receivers

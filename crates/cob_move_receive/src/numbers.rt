@@ -14,15 +14,15 @@ ghost use Rattle.cob_move_receive.specs.Sent.{Amount, amount, sent, IsComplete};
 ghost use Rattle.cob_move_receive.specs.Numbers.{whole_number, digits_of, is_numeral, AreNumerals, ConstantGives, FigureGives, GivesNumber, HoldsAmount, IsDigitText, IsReadAs, IsUnedited, ItemGives};
 
 use crate::sent::Sent;
-use cob_copybook_lengths::is_number;
 use cob_copybook_clauses::Figurative;
+use cob_copybook_entries::Value;
+use cob_copybook_lengths::is_number;
+use cob_copybook_tree::{Item, Kind};
 use cob_decimal::{Digits, Number};
 use cob_edit::{deedit, edit};
-use cob_copybook_entries::Value;
 use cob_item::{read_number, store_number};
 use cob_limits::MAX_DIGITS;
 use cob_picture::Category;
-use cob_copybook_tree::{Item, Kind};
 
 /// A whole number that isn't negative.
 fn whole_number(digits: Digits) -> Number
@@ -139,7 +139,8 @@ fn figure_gives(figurative: Figurative) -> Option<Number>
 {
     match figurative {
         Figurative::Zero => Some(whole_number(Digits::new())),
-        Figurative::Space | Figurative::HighValue | Figurative::LowValue | Figurative::Quote => None,
+        Figurative::Space | Figurative::HighValue | Figurative::LowValue | Figurative::Quote =>
+            None,
     }
 }
 

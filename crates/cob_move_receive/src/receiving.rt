@@ -69,7 +69,10 @@ fn receive_text(given: &Sent<'_>, item: &Item, bytes: &mut [u8]) -> bool
             constant_in(item, value, bytes);
             true
         }
-        Sent::Entry { kind, bytes: source } => match kind {
+        Sent::Entry {
+            kind,
+            bytes: source,
+        } => match kind {
             Kind::Group => {
                 put_left(source, bytes);
                 true
@@ -102,7 +105,10 @@ fn is_group(given: &Sent<'_>) -> bool
     ensures { result ≡ is_group (sent given.now) }
 {
     match given {
-        Sent::Entry { kind: Kind::Group, .. } => true,
+        Sent::Entry {
+            kind: Kind::Group,
+            ..
+        } => true,
         Sent::Entry { .. } | Sent::Constant(_) => false,
     }
 }
@@ -111,7 +117,10 @@ fn is_group(given: &Sent<'_>) -> bool
 fn shows_number(item: &Item) -> bool
     ensures { result ≡ shows_number item.now.picture.category }
 {
-    matches!(item.picture.category(), Category::Numeric | Category::NumericEdited)
+    matches!(
+        item.picture.category(),
+        Category::Numeric | Category::NumericEdited
+    )
 }
 
 /// Writes what an item gets. False where the sender's bytes represent no value that it asks for.

@@ -69,9 +69,11 @@ fn is_wrong_literal(value: &Value, to: &Kind) -> bool
     ensures { result ≡ is_wrong_literal (constant value.now) to.now }
 {
     match value {
-        Value::Number { signed, number } => receives_bytes(to) && (*signed || has_fraction(number.scale())),
+        Value::Number { signed, number } => receives_bytes(to)
+            && (*signed || has_fraction(number.scale())),
         Value::Literal(text) => {
-            is_empty_literal(text.as_bytes()) || (receives_number(to) && !are_digits(text.as_bytes()))
+            is_empty_literal(text.as_bytes())
+                || (receives_number(to) && !are_digits(text.as_bytes()))
         }
         Value::Figurative(_) => false,
         Value::All(text) => is_empty_literal(text.as_bytes()),
@@ -82,7 +84,8 @@ fn is_wrong_literal(value: &Value, to: &Kind) -> bool
 fn is_longer_than_number(item: &Item) -> bool
     ensures { result ≡ is_longer_than_number item.now.picture.category item.now }
 {
-    matches!(item.picture.category(), Category::Alphanumeric) && usize::from(item.size()) > MAX_DIGITS
+    matches!(item.picture.category(), Category::Alphanumeric)
+        && usize::from(item.size()) > MAX_DIGITS
 }
 
 /// Whether a sender is of characters, and has more than a number has digits.

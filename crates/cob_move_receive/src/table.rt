@@ -96,10 +96,8 @@ fn figure_receivers(figurative: Figurative) -> Receivers
 {
     match figurative {
         Figurative::Zero => receivers_if(false, true, true),
-        Figurative::Space
-        | Figurative::HighValue
-        | Figurative::LowValue
-        | Figurative::Quote => receivers_if(true, true, false),
+        Figurative::Space | Figurative::HighValue | Figurative::LowValue | Figurative::Quote =>
+            receivers_if(true, true, false),
     }
 }
 
@@ -108,7 +106,10 @@ fn constant_receivers(value: &Value) -> Receivers
     ensures { result ≡ constant_receivers (constant value.now) }
 {
     match value {
-        Value::Number { number, .. } => receivers_under(Category::Numeric, has_fraction(number.scale())),
+        Value::Number { number, .. } => receivers_under(
+            Category::Numeric,
+            has_fraction(number.scale()),
+        ),
         Value::Literal(_) => receivers_under(Category::Alphanumeric, false),
         Value::Figurative(figurative) => figure_receivers(*figurative),
         Value::All(_) => receivers_if(true, true, false),

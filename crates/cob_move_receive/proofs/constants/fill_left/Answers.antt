@@ -1,4 +1,4 @@
-use Rattle.std.proofs.Common.{length, arith}
+use Rattle.std.proofs.Common.{length}
 use Rattle.cob_copybook_entries.specs.Described.{constant}
 use Rattle.cob_move_receive.proofs.ConstantLemmas.{padded_same, repeated_gives}
 use Rattle.cob_move_receive.proofs.constants.fill_left.Goals as goal
