@@ -1,0 +1,4 @@
+pub mod PaddingLemmas
+pub mod ConstantLemmas
+pub mod NumberLemmas
+pub mod OneLemmas

@@ -1,0 +1,40 @@
+-- What a sender gives to each of its receivers.
+use Rattle.std.specs.Prelude.{◌≡◌, ℕ, ℤ, Bool, List, length}
+use Rattle.cob_decimal.specs.declared.number.Number.{Number}
+use Rattle.cob_copybook_entries.specs.Described.{Constant, constant}
+use Rattle.cob_copybook_tree.specs.declared.node.Kind.{Kind}
+use Rattle.cob_copybook_tree.specs.declared.node.Kind.TheVariants.{Group, Item as ItemKind}
+use Rattle.cob_copybook_tree.specs.Lengths.{item_size}
+use Rattle.cob_move_initial.specs.Values.{IsStorable}
+use Rattle.cob_move_receive.specs.declared.sent.Sent as code
+use Rattle.cob_move_receive.specs.declared.sent.Sent.TheVariants as code_sent
+
+-- What a statement sends: the bytes of an entry that is a group or this item, or a literal or figurative constant.
+pub data Sent : Type 0 where
+  Entry : Kind → List ℕ → Sent
+  Literal : Constant → Sent
+
+-- what the code's value stands for
+abbrev pub sent : code.Sent → Sent
+sent (code_sent.Entry kind bytes) = Entry kind.now bytes.now
+sent (code_sent.Constant value) = Literal (constant value.now)
+
+-- a number that a sender gives: its minus, its digits, and how many of them stand behind the point
+pub record Amount : Type 0 where
+  pub negative : Bool
+  pub digits : List ℕ
+  pub scale : ℤ
+
+-- the same of a number of the code
+abbrev pub amount : Number → Amount
+amount n = record { negative = n.negative; digits = n.digits; scale = n.scale }
+
+-- an item has a byte for each of its size, and bytes can hold what it describes; a group has as many as its entries need
+abbrev pub HasBytes : Kind → ℕ → Type 0
+HasBytes Group n = Unit {0}
+HasBytes (ItemKind i) n = (n ≡ item_size i) × IsStorable i
+
+-- the bytes of an entry are as many as it has
+abbrev pub IsComplete : Sent → Type 0
+IsComplete (Entry kind bytes) = HasBytes kind (length bytes)
+IsComplete (Literal c) = Unit {0}

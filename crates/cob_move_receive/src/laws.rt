@@ -1,0 +1,20 @@
+//! The law of what receivers hold.
+
+ghost use Rattle.cob_move_receive.specs.Received.{OneReceived};
+
+use cob_decimal::laws::one_list_of_digits;
+use cob_edit::{one_spelling, one_text, one_value};
+use cob_item::one_number;
+use cob_move_initial::one_constant;
+
+/// A receiver holds one thing after a move, or there is no value.
+pub fn one_received()
+    ensures { OneReceived }
+{
+    one_constant();
+    one_list_of_digits();
+    one_number();
+    one_value();
+    one_text();
+    one_spelling();
+}

@@ -1,0 +1,67 @@
+//! Digits as characters.
+
+ghost use Rattle.std.specs.Prelude.{◌≡◌, ◌≤◌, ◌+◌, ◌*◌, ◌++◌, length, replicate};
+ghost use Rattle.cob_limits.specs.Limits.{most_digits};
+ghost use Rattle.cob_decimal.specs.Decimal.{IsDigits};
+ghost use Rattle.cob_move_receive.specs.Characters.{missing_places, numerals, numerals_to_point};
+
+use arrayvec::ArrayVec;
+use cob_decimal::Number;
+use cob_limits::MAX_DIGITS;
+
+/// The most digits of a number, with the zeros up to the point.
+const MAX_NUMERALS: usize = 2 * MAX_DIGITS;
+
+/// The byte of the digit 0, in code page 037.
+const ZERO: u8 = 0xF0;
+
+/// Adds digits as characters.
+fn push_digits(text: &mut ArrayVec<u8, MAX_NUMERALS>, digits: &[u8])
+    requires digits { IsDigits digits.now }
+    requires room { length text.old.items + length digits.now ≤ 2 * most_digits }
+    ensures { text.new.items ≡ text.old.items ++ numerals digits.now }
+{
+    for digit in digits {
+        text.push(*digit + ZERO);
+    }
+}
+
+/// Adds zeros.
+fn push_zeros(text: &mut ArrayVec<u8, MAX_NUMERALS>, zeros: usize)
+    requires { length text.old.items + zeros ≤ 2 * most_digits }
+    ensures { text.new.items ≡ text.old.items ++ replicate zeros 0xF0 }
+{
+    for i in 0..zeros {
+        text.push(ZERO);
+    }
+}
+
+/// How many places lie between the last digit and the point.
+fn missing_places(scale: i8) -> usize
+    ensures { result ≡ missing_places scale }
+{
+    if scale < 0 {
+        usize::from(scale.unsigned_abs())
+    } else {
+        0
+    }
+}
+
+/// The digits of a number as characters, without its sign, with a zero for each place up to the point.
+pub(crate) fn numerals_to_point(number: &Number) -> ArrayVec<u8, MAX_NUMERALS>
+    ensures { result.items ≡ numerals_to_point number.now.digits number.now.scale }
+{
+    let mut text = ArrayVec::new();
+    push_digits(&mut text, number.digits().as_slice());
+    push_zeros(&mut text, missing_places(number.scale()));
+    text
+}
+
+/// The digits of a number as characters, as they are written.
+pub(crate) fn numerals(number: &Number) -> ArrayVec<u8, MAX_NUMERALS>
+    ensures { result.items ≡ numerals number.now.digits }
+{
+    let mut text = ArrayVec::new();
+    push_digits(&mut text, number.digits().as_slice());
+    text
+}

@@ -1,0 +1,159 @@
+//! One receiver.
+
+ghost use Rattle.std.specs.Prelude.{◌≡◌, ◌≤◌, ℕ, List, length, false, IsTrue};
+ghost use Rattle.cob_copybook_entries.specs.Described.{constant};
+ghost use Rattle.cob_picture.specs.Positions.{shows_number};
+ghost use Rattle.cob_copybook_tree.specs.Lengths.{item_size};
+ghost use Rattle.cob_copybook_tree.specs.declared.node.Kind.TheVariants.{Group, Item as ItemKind};
+ghost use Rattle.cob_move_initial.specs.Values.{padded, IsStorable};
+ghost use Rattle.cob_move_receive.specs.Sent.{sent, Entry, Literal, HasBytes, IsComplete};
+ghost use Rattle.cob_move_receive.specs.Characters.{GivesConstant, GivesCharacters, IsRepeated, Arranged, placement_in};
+ghost use Rattle.cob_move_receive.specs.Received.{is_group, outcome, GetsNumber, GetsCharacters, ItemGets, Received};
+
+use crate::characters::{put, put_left};
+use crate::constants::{constant_in, constant_left};
+use crate::numbers::{hold, number_given};
+use crate::numerals::numerals_to_point;
+use crate::sent::Sent;
+use cob_copybook_lengths::is_number;
+use cob_copybook_tree::{Item, Kind};
+use cob_item::read_number;
+use cob_picture::Category;
+
+/// Writes what a group gets: the sender's bytes, from the left.
+fn receive_in_group(given: &Sent<'_>, bytes: &mut [u8])
+    ensures { (text : List ℕ) × GivesCharacters (sent given.now) Group (length bytes.old) text
+        × (bytes.new ≡ padded (length bytes.old) text) }
+{
+    match given {
+        Sent::Constant(value) => constant_left(value, bytes),
+        Sent::Entry { bytes: from, .. } => put_left(from, bytes),
+    }
+}
+
+/// Writes what an item of characters gets of another item: its bytes, and of a number its digits. False where a number's bytes represent
+/// none.
+fn receive_item(from: &Item, source: &[u8], item: &Item, bytes: &mut [u8]) -> bool
+    requires from { IsStorable from.now }
+    requires source { length source.now ≡ item_size from.now }
+    requires storable { IsStorable item.now }
+    requires long { length bytes.old ≡ item_size item.now }
+    ensures gets { GetsCharacters (Entry (ItemKind from.now) source.now) (ItemKind item.now) (length bytes.old)
+        (outcome result bytes.new) }
+    ensures same { result ≡ false → bytes.new ≡ bytes.old }
+{
+    if !is_number(from) {
+        put(item, source, bytes);
+        return true;
+    }
+    match read_number(from, source) {
+        Some(number) => {
+            put(item, numerals_to_point(&number).as_slice(), bytes);
+            true
+        }
+        None => false,
+    }
+}
+
+/// Writes what an item gets of a group, and an item of characters of any sender. False where a number's bytes represent none.
+fn receive_text(given: &Sent<'_>, item: &Item, bytes: &mut [u8]) -> bool
+    requires given { IsComplete (sent given.now) }
+    requires storable { IsStorable item.now }
+    requires long { length bytes.old ≡ item_size item.now }
+    ensures gets { GetsCharacters (sent given.now) (ItemKind item.now) (length bytes.old)
+        (outcome result bytes.new) }
+    ensures same { result ≡ false → bytes.new ≡ bytes.old }
+{
+    match given {
+        Sent::Constant(value) => {
+            constant_in(item, value, bytes);
+            true
+        }
+        Sent::Entry {
+            kind,
+            bytes: source,
+        } => match kind {
+            Kind::Group => {
+                put_left(source, bytes);
+                true
+            }
+            Kind::Item(from) => receive_item(from, source, item, bytes),
+        },
+    }
+}
+
+/// Writes what an item that shows a number gets. False where the sender's bytes represent none.
+fn receive_number(given: &Sent<'_>, item: &Item, bytes: &mut [u8]) -> bool
+    requires given { IsComplete (sent given.now) }
+    requires storable { IsStorable item.now }
+    requires shows { IsTrue (shows_number item.now.picture.category) }
+    requires long { length bytes.old ≡ item_size item.now }
+    ensures gets { GetsNumber (sent given.now) item.now (outcome result bytes.new) }
+    ensures same { result ≡ false → bytes.new ≡ bytes.old }
+{
+    match number_given(given) {
+        Some(number) => {
+            hold(item, &number, bytes);
+            true
+        }
+        None => false,
+    }
+}
+
+/// Whether a sender is a group.
+fn is_group(given: &Sent<'_>) -> bool
+    ensures { result ≡ is_group (sent given.now) }
+{
+    match given {
+        Sent::Entry {
+            kind: Kind::Group,
+            ..
+        } => true,
+        Sent::Entry { .. } | Sent::Constant(_) => false,
+    }
+}
+
+/// Whether an item shows a number.
+fn shows_number(item: &Item) -> bool
+    ensures { result ≡ shows_number item.now.picture.category }
+{
+    matches!(
+        item.picture.category(),
+        Category::Numeric | Category::NumericEdited
+    )
+}
+
+/// Writes what an item gets. False where the sender's bytes represent no value that it asks for.
+fn receive_in_item(given: &Sent<'_>, item: &Item, bytes: &mut [u8]) -> bool
+    requires given { IsComplete (sent given.now) }
+    requires storable { IsStorable item.now }
+    requires long { length bytes.old ≡ item_size item.now }
+    ensures gets { Received (sent given.now) (ItemKind item.now) (length bytes.old)
+        (outcome result bytes.new) }
+    ensures same { result ≡ false → bytes.new ≡ bytes.old }
+{
+    if !is_group(given) && shows_number(item) {
+        receive_number(given, item, bytes)
+    } else {
+        receive_text(given, item, bytes)
+    }
+}
+
+/// Writes what a receiver holds after the move of a sender to it, into all its bytes.
+///
+/// False where the sender's bytes represent no value that the receiver asks for: the receiver's bytes are as they were then. The move is
+/// one of those that `may_move` allows; of another one a number comes as none.
+pub fn receive(given: &Sent<'_>, receiver: &Kind, bytes: &mut [u8]) -> bool
+    requires given { IsComplete (sent given.now) }
+    requires receiver { HasBytes receiver.now (length bytes.old) }
+    ensures gets { Received (sent given.now) receiver.now (length bytes.old) (outcome result bytes.new) }
+    ensures same { result ≡ false → bytes.new ≡ bytes.old }
+{
+    match receiver {
+        Kind::Item(item) => receive_in_item(given, item, bytes),
+        Kind::Group => {
+            receive_in_group(given, bytes);
+            true
+        }
+    }
+}

@@ -1,0 +1,155 @@
+//! Answers tables of rows about single moves: what a receiver holds after a move, that there is no value, or the rule that refuses it.
+//!
+//! A row `entry` has the sender's entries, parted by bars, its bytes in hexadecimal digits, and the receiver's entries. A row `constant`
+//! has a literal or a figurative constant, and the receiver's entries. An item and a group each stand as a record of their own.
+#![tactic(auto)]
+
+ghost use Rattle.std.specs.Prelude.{length, IsTrue};
+ghost use Rattle.cob_move_initial.specs.Values.{IsStorable};
+ghost use Rattle.cob_move_receive.specs.Sent.{sent, HasBytes, IsComplete};
+
+mod constants;
+
+use crate::constants::constant_of;
+use cob_copybook::{Book, Role};
+use cob_copybook_entries::BookRule;
+use cob_copybook_lengths::is_number;
+use cob_copybook_tree::{Item, Kind};
+use cob_item::is_number_item;
+use cob_move_receive::{Refusal, Sender, Sent, receive, refusal_of};
+use cob_rows::{Family, Row, RowFault, print_rows, push_digits};
+use std::alloc::{AllocError, Global};
+use std::io;
+
+/// What stands in a receiver's bytes before the move.
+const UNWRITTEN: u8 = 0xAA;
+
+/// The book of a field.
+fn book_of(alloc: Global, row: &Row, place: usize) -> Result<Book, RowFault> {
+    let text = row.lines(alloc, place)?;
+    match Book::read(alloc, Role::Out, text.as_slice()) {
+        Ok(book) => Ok(book),
+        Err(fault) if fault.rule == BookRule::Memory => Err(RowFault::Memory),
+        Err(_) => Err(RowFault::BadRow),
+    }
+}
+
+/// Whether bytes can hold what an item describes.
+fn is_storable(item: &Item) -> bool
+    ensures { IsTrue result → IsStorable item.now }
+{
+    if is_number(item) {
+        is_number_item(item)
+    } else {
+        item.size() == item.picture.size()
+    }
+}
+
+/// Whether so many bytes are those of an item, or of a group.
+fn has_bytes(kind: &Kind, length: usize) -> bool
+    ensures { IsTrue result → HasBytes kind.now length }
+{
+    match kind {
+        Kind::Group => true,
+        Kind::Item(item) => length == usize::from(item.size()) && is_storable(item),
+    }
+}
+
+/// The rule that refuses a move.
+fn rule_name(refusal: Refusal) -> &'static str {
+    match refusal {
+        Refusal::NotAllowed => "M6",
+        Refusal::Literal => "M7",
+        Refusal::TooLong => "M10",
+    }
+}
+
+/// Writes what comes of the move of a sender to a receiver.
+fn push_received(
+    from: &Sender<'_>,
+    given: &Sent<'_>,
+    to: &Kind,
+    bytes: &mut [u8],
+    out: &mut String,
+) -> Result<(), AllocError>
+    requires given { IsComplete (sent given.now) }
+    requires receiver { HasBytes to.now (length bytes.old) }
+{
+    if let Some(refusal) = refusal_of(from, to) {
+        return out.push_str(rule_name(refusal));
+    }
+    if receive(given, to, bytes) {
+        return push_digits(out, bytes);
+    }
+    out.push_str("no value")?;
+    if bytes.iter().all(|byte| *byte == UNWRITTEN) {
+        Ok(())
+    } else {
+        out.push_str(", and the receiver is changed")
+    }
+}
+
+/// Writes what comes of a move to the receiver of a field.
+fn push_move(
+    alloc: Global,
+    from: &Sender<'_>,
+    given: &Sent<'_>,
+    row: &Row,
+    place: usize,
+    out: &mut String,
+) -> Result<(), RowFault>
+    requires { IsComplete (sent given.now) }
+{
+    let book = book_of(alloc, row, place)?;
+    let mut bytes = vec![in alloc; UNWRITTEN; usize::from(book.greatest())]?;
+    let to = &book.root().kind;
+    if !has_bytes(to, bytes.len()) {
+        return Err(RowFault::BadRow);
+    }
+    Ok(push_received(from, given, to, &mut bytes, out)?)
+}
+
+/// Writes what comes of the move of an entry.
+fn move_entry(alloc: Global, row: &Row, out: &mut String) -> Result<(), RowFault> {
+    let book = book_of(alloc, row, 1)?;
+    let bytes = row.bytes(alloc, 2)?;
+    let kind = &book.root().kind;
+    if bytes.len() != usize::from(book.greatest()) || !has_bytes(kind, bytes.len()) {
+        return Err(RowFault::BadRow);
+    }
+    let given = Sent::Entry {
+        kind,
+        bytes: bytes.as_slice(),
+    };
+    push_move(alloc, &Sender::Entry(kind), &given, row, 3, out)
+}
+
+/// Writes what comes of the move of a constant.
+fn move_constant(alloc: Global, row: &Row, out: &mut String) -> Result<(), RowFault> {
+    let value = constant_of(row.field(1)?)?;
+    push_move(
+        alloc,
+        &Sender::Constant(&value),
+        &Sent::Constant(&value),
+        row,
+        2,
+        out,
+    )
+}
+
+/// The tables on moves.
+struct MoveRows;
+
+impl Family for MoveRows {
+    fn answer(alloc: Global, _table: &str, row: &Row, out: &mut String) -> Result<(), RowFault> {
+        match row.field(0)?.as_bytes() {
+            b"entry" => move_entry(alloc, row, out),
+            b"constant" => move_constant(alloc, row, out),
+            _ => Err(RowFault::BadRow),
+        }
+    }
+}
+
+fn main(rt: HostRuntime) -> io::Result<()> {
+    print_rows::<MoveRows, HostRuntime>(&rt)
+}
