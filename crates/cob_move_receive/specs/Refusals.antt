@@ -1,11 +1,10 @@
 -- The rules of one move, of a sender to one of its receivers. A literal that is read has at most 160 characters, or 31 digits.
-use Rattle.std.specs.Prelude.{◌≡◌, ℕ, Bool, true, false, ◌&&◌, ◌||◌, not, nat_lt, List, [], ◌∷◌, length}
+use Rattle.std.specs.Prelude.{◌≡◌, ℕ, Bool, true, false, ◌&&◌, ◌||◌, not, nat_lt, nat_le, List, [], ◌∷◌, length}
 use Rattle.std.specs.List.{list_all}
 use Rattle.cob_limits.specs.Limits.{most_digits}
 use Rattle.cob_picture.specs.Positions.{shows_number}
 use Rattle.cob_picture.specs.declared.category.Category.{Category}
 use Rattle.cob_picture.specs.declared.category.Category.TheVariants.{Alphabetic, Numeric, Alphanumeric, AlphanumericEdited, NumericEdited}
-use Rattle.cob_copybook_entries.specs.Books.{is_digit}
 use Rattle.cob_copybook_entries.specs.Described.{Constant, Quoted, Figure, Repeated}
 use Rattle.cob_copybook_entries.specs.Described.{Numeric as NumericLiteral}
 use Rattle.cob_copybook_tree.specs.declared.node.Kind.{Kind}
@@ -26,6 +25,10 @@ abbrev pub receives_bytes : Kind → Bool
 receives_bytes Group = true
 receives_bytes (ItemKind i) = false
 
+-- a digit as a character: 0 to 9
+abbrev pub is_digit_character : ℕ → Bool
+is_digit_character c = nat_le 48 c && nat_le c 57
+
 -- a literal without characters
 abbrev pub is_empty_literal : List ℕ → Bool
 is_empty_literal [] = true
@@ -35,7 +38,7 @@ is_empty_literal (c ∷ cs) = false
 -- with a sign or a fraction where a group receives.
 abbrev pub is_wrong_literal : Constant → Kind → Bool
 is_wrong_literal (NumericLiteral sign negative digits scale) to = receives_bytes to && (sign || has_fraction scale)
-is_wrong_literal (Quoted text) to = is_empty_literal text || (receives_number to && not (list_all is_digit text))
+is_wrong_literal (Quoted text) to = is_empty_literal text || (receives_number to && not (list_all is_digit_character text))
 is_wrong_literal (Figure f) to = false
 is_wrong_literal (Repeated text) to = is_empty_literal text
 

@@ -30,11 +30,11 @@ abbrev pub amount : Number → Amount
 amount n = record { negative = n.negative; digits = n.digits; scale = n.scale }
 
 -- an item has a byte for each of its size, and bytes can hold what it describes; a group has as many as its entries need
-abbrev pub HasBytes : Kind → ℕ → Type 0
-HasBytes Group n = Unit {0}
-HasBytes (ItemKind i) n = (n ≡ item_size i) × IsStorable i
+abbrev pub Occupies : Kind → ℕ → Type 0
+Occupies Group n = Unit {0}
+Occupies (ItemKind i) n = (n ≡ item_size i) × IsStorable i
 
 -- the bytes of an entry are as many as it has
 abbrev pub IsComplete : Sent → Type 0
-IsComplete (Entry kind bytes) = HasBytes kind (length bytes)
+IsComplete (Entry kind bytes) = Occupies kind (length bytes)
 IsComplete (Literal c) = Unit {0}

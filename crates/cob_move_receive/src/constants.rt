@@ -42,7 +42,8 @@ fn encode(text: &[u8], bytes: &mut [u8])
 /// Writes a quoted literal from the left.
 fn put_literal_left(text: &[u8], bytes: &mut [u8])
     requires { length text.now ≤ longest_literal }
-    ensures { (coded : List ℕ) × AreBytesOf text.now coded × (bytes.new ≡ padded (length bytes.old) coded) }
+    ensures { (coded : List ℕ)
+        × AreBytesOf text.now coded × (bytes.new ≡ padded (length bytes.old) coded) }
 {
     let mut buffer = [0u8; MAX_LITERAL];
     let coded = &mut buffer[..text.len()];

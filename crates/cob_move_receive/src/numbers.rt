@@ -74,7 +74,8 @@ fn unedited(item: &Item, bytes: &[u8]) -> Option<Number>
     requires shows { IsTrue (shows_number item.now.picture.category) }
     requires long { length bytes.now ≡ size item.now.picture.positions }
     ensures found { IfSome result (λ n. IsUnedited item.now bytes.now (amount n)) }
-    ensures only { (v : Amount) → IsUnedited item.now bytes.now v → IsSomeAnd result (λ n. amount n ≡ v) }
+    ensures only { (v : Amount)
+        → IsUnedited item.now bytes.now v → IsSomeAnd result (λ n. amount n ≡ v) }
 {
     deedit(&item.picture, item.blank, bytes)
 }
@@ -84,7 +85,8 @@ fn item_gives(item: &Item, bytes: &[u8]) -> Option<Number>
     requires storable { IsStorable item.now }
     requires long { length bytes.now ≡ item_size item.now }
     ensures found { IfSome result (λ n. ItemGives item.now bytes.now (amount n)) }
-    ensures only { (v : Amount) → ItemGives item.now bytes.now v → IsSomeAnd result (λ n. amount n ≡ v) }
+    ensures only { (v : Amount)
+        → ItemGives item.now bytes.now v → IsSomeAnd result (λ n. amount n ≡ v) }
 {
     if is_number(item) {
         return read_number(item, bytes);
@@ -147,7 +149,8 @@ fn figure_gives(figurative: Figurative) -> Option<Number>
 /// The number that a constant is.
 fn constant_gives(value: &Value) -> Option<Number>
     ensures found { IfSome result (λ n. ConstantGives (constant value.now) (amount n)) }
-    ensures only { (v : Amount) → ConstantGives (constant value.now) v → IsSomeAnd result (λ n. amount n ≡ v) }
+    ensures only { (v : Amount)
+        → ConstantGives (constant value.now) v → IsSomeAnd result (λ n. amount n ≡ v) }
 {
     match value {
         Value::Number { number, .. } => Some(number.clone()),
@@ -161,7 +164,8 @@ fn constant_gives(value: &Value) -> Option<Number>
 pub(crate) fn number_given(given: &Sent<'_>) -> Option<Number>
     requires { IsComplete (sent given.now) }
     ensures found { IfSome result (λ n. GivesNumber (sent given.now) (amount n)) }
-    ensures only { (v : Amount) → GivesNumber (sent given.now) v → IsSomeAnd result (λ n. amount n ≡ v) }
+    ensures only { (v : Amount)
+        → GivesNumber (sent given.now) v → IsSomeAnd result (λ n. amount n ≡ v) }
 {
     match given {
         Sent::Constant(value) => constant_gives(value),

@@ -6,7 +6,7 @@ ghost use Rattle.cob_picture.specs.Positions.{shows_number};
 ghost use Rattle.cob_copybook_tree.specs.Lengths.{item_size};
 ghost use Rattle.cob_copybook_tree.specs.declared.node.Kind.TheVariants.{Group, Item as ItemKind};
 ghost use Rattle.cob_move_initial.specs.Values.{padded, IsStorable};
-ghost use Rattle.cob_move_receive.specs.Sent.{sent, Entry, Literal, HasBytes, IsComplete};
+ghost use Rattle.cob_move_receive.specs.Sent.{sent, Entry, Literal, Occupies, IsComplete};
 ghost use Rattle.cob_move_receive.specs.Characters.{GivesConstant, GivesCharacters, IsRepeated, Arranged, placement_in};
 ghost use Rattle.cob_move_receive.specs.Received.{is_group, outcome, GetsNumber, GetsCharacters, ItemGets, Received};
 
@@ -38,8 +38,8 @@ fn receive_item(from: &Item, source: &[u8], item: &Item, bytes: &mut [u8]) -> bo
     requires source { length source.now ≡ item_size from.now }
     requires storable { IsStorable item.now }
     requires long { length bytes.old ≡ item_size item.now }
-    ensures gets { GetsCharacters (Entry (ItemKind from.now) source.now) (ItemKind item.now) (length bytes.old)
-        (outcome result bytes.new) }
+    ensures gets { GetsCharacters (Entry (ItemKind from.now) source.now)
+        (ItemKind item.now) (length bytes.old) (outcome result bytes.new) }
     ensures same { result ≡ false → bytes.new ≡ bytes.old }
 {
     if !is_number(from) {
@@ -145,8 +145,9 @@ fn receive_in_item(given: &Sent<'_>, item: &Item, bytes: &mut [u8]) -> bool
 /// one of those that `may_move` allows; of another one a number comes as none.
 pub fn receive(given: &Sent<'_>, receiver: &Kind, bytes: &mut [u8]) -> bool
     requires given { IsComplete (sent given.now) }
-    requires receiver { HasBytes receiver.now (length bytes.old) }
-    ensures gets { Received (sent given.now) receiver.now (length bytes.old) (outcome result bytes.new) }
+    requires receiver { Occupies receiver.now (length bytes.old) }
+    ensures gets { Received
+        (sent given.now) receiver.now (length bytes.old) (outcome result bytes.new) }
     ensures same { result ≡ false → bytes.new ≡ bytes.old }
 {
     match receiver {

@@ -2,10 +2,10 @@
 
 ghost use Rattle.std.specs.Prelude.{◌≡◌, true, IfNone, IfSome};
 ghost use Rattle.std.specs.List.{list_all};
-ghost use Rattle.cob_copybook_entries.specs.Books.{is_digit};
 ghost use Rattle.cob_copybook_entries.specs.Described.{constant};
 ghost use Rattle.cob_move_receive.specs.Table.{sender};
 ghost use Rattle.cob_move_receive.specs.Refusals.{
+  is_digit_character,
   is_refused,
   is_empty_literal,
   is_longer_than_number,
@@ -52,7 +52,7 @@ fn receives_bytes(kind: &Kind) -> bool
 
 /// Whether each character is a digit.
 fn are_digits(text: &[u8]) -> bool
-    ensures { result ≡ list_all is_digit text.now }
+    ensures { result ≡ list_all is_digit_character text.now }
 {
     text.iter().all(|character| character.is_ascii_digit())
 }

@@ -6,7 +6,7 @@
 
 ghost use Rattle.std.specs.Prelude.{length, IsTrue};
 ghost use Rattle.cob_move_initial.specs.Values.{IsStorable};
-ghost use Rattle.cob_move_receive.specs.Sent.{sent, HasBytes, IsComplete};
+ghost use Rattle.cob_move_receive.specs.Sent.{sent, Occupies, IsComplete};
 
 mod constants;
 
@@ -47,7 +47,7 @@ fn is_storable(item: &Item) -> bool
 
 /// Whether so many bytes are those of an item, or of a group.
 fn has_bytes(kind: &Kind, length: usize) -> bool
-    ensures { IsTrue result → HasBytes kind.now length }
+    ensures { IsTrue result → Occupies kind.now length }
 {
     match kind {
         Kind::Group => true,
@@ -73,7 +73,7 @@ fn push_received(
     out: &mut String,
 ) -> Result<(), AllocError>
     requires given { IsComplete (sent given.now) }
-    requires receiver { HasBytes to.now (length bytes.old) }
+    requires receiver { Occupies to.now (length bytes.old) }
 {
     if let Some(refusal) = refusal_of(from, to) {
         return out.push_str(rule_name(refusal));
