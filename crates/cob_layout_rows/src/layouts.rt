@@ -60,7 +60,7 @@ pub(crate) fn length_for(alloc: Global, row: &Row, out: &mut String) -> Result<(
     let book = book_of(alloc, row)?;
     let layout = Layout::of(alloc, &book)?;
     let (counted, bytes) = counted_of(alloc, row.field(2)?)?;
-    let reference = reference_of(book.root(), row.field(3)?)?;
+    let reference = reference_of(&book, &layout, row.field(3)?)?;
     let mut counts = layout.new_counts(alloc)?;
     match take(&layout, counted, &reference, bytes.as_slice(), &mut counts) {
         Ok(()) => Ok(write!(out, "{}", layout.length(&counts))?),
@@ -73,7 +73,7 @@ pub(crate) fn place(alloc: Global, row: &Row, out: &mut String) -> Result<(), Ro
     let book = book_of(alloc, row)?;
     let layout = Layout::of(alloc, &book)?;
     let (counted, bytes) = counted_of(alloc, row.field(2)?)?;
-    let reference = reference_of(book.root(), row.field(3)?)?;
+    let reference = reference_of(&book, &layout, row.field(3)?)?;
     let mut counts = layout.new_counts(alloc)?;
     match take(&layout, counted, &reference, bytes.as_slice(), &mut counts) {
         Ok(()) => Ok(push_place(out, &layout, &reference, &counts)?),
@@ -86,7 +86,7 @@ pub(crate) fn bytes(alloc: Global, row: &Row, out: &mut String) -> Result<(), Ro
     let book = book_of(alloc, row)?;
     let layout = Layout::of(alloc, &book)?;
     let record = row.bytes(alloc, 2)?;
-    let reference = reference_of(book.root(), row.field(3)?)?;
+    let reference = reference_of(&book, &layout, row.field(3)?)?;
     let mut counts = layout.new_counts(alloc)?;
     if let Err(fault) = layout.needed(&reference, false, record.as_slice(), &mut counts) {
         return Ok(push_count_fault(out, fault)?);
@@ -107,7 +107,7 @@ pub(crate) fn kept(alloc: Global, row: &Row, out: &mut String) -> Result<(), Row
     let layout = Layout::of(alloc, &book)?;
     let first = row.bytes(alloc, 2)?;
     let (counted, bytes) = counted_of(alloc, row.field(3)?)?;
-    let reference = reference_of(book.root(), row.field(4)?)?;
+    let reference = reference_of(&book, &layout, row.field(4)?)?;
     let mut counts = layout.new_counts(alloc)?;
     if layout.counts_of(first.as_slice(), &mut counts).is_err() {
         return Err(RowFault::BadRow);
