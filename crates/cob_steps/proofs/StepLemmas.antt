@@ -17,7 +17,7 @@ use Rattle.std.proofs.lemmas.List.{take_more}
 
 -- a record has at most 32,752 bytes
 pub record_most : (f : Forest Resolved) → IsSteady f → record_length f ≤ 32752
-record_most f steady = steady.described.1.stored.fit.short
+record_most f steady = steady.described.2.is.stored.fit.short
 
 -- an operand's place has the length of its item
 pub operand_size : (category : Category) (number : ℕ) (f : Forest Resolved) (place : Place) (operand : IsOperand category number f) → StandsAt f number place → place.length ≡ item_size operand.item
