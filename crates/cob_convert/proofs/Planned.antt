@@ -35,7 +35,7 @@ planned text input output moves from to says = record {
 }
 
 pub steady_of : (role : Role) (text : List ℕ) (t : Forest Resolved) → IsBookOf role text t → hold_varying t ≡ false → IsSteady t
-steady_of role text t is steady = record { described = (is.entries, is.is); steady = steady }
+steady_of role text t is steady = record { described = (role, text, is); steady = steady }
 
 -- a refusal of the second copybook, where the first is taken
 pub out_refused : (f : PrepareFault) (in_book out_book : List ℕ) → IsTaken In in_book → IsOutRefusal f out_book → IsPrepareRefusal f in_book out_book
