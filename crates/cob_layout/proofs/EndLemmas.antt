@@ -16,8 +16,9 @@ use Rattle.cob_layout_places.proofs.CoverLaw.{counted}
 use Rattle.cob_copybook.specs.Books.{IsRecord}
 use Rattle.cob_sound.specs.Sound.{RecordsAreSound}
 use Rattle.cob_fields.specs.declared.Place.{Place}
-use Rattle.cob_layout.specs.declared.reference.PlaceFault.{PlaceFault}
-use Rattle.cob_layout.specs.References.{IsSubscripted, Refers, placed}
+use Rattle.cob_layout.specs.declared.layout.PlaceFault.{PlaceFault}
+use Rattle.cob_layout_places.specs.References.{IsSubscripted, Refers}
+use Rattle.cob_layout.specs.Placed.{placed}
 use Rattle.cob_layout.proofs.ReferenceLemmas.{found_there, refers_has}
 use Rattle.cob_layout.specs.Laws.{EndInLength}
 use Rattle.cob_layout.proofs.SteadyLemmas.{AreInAreasBy, areas_by}

@@ -20,7 +20,7 @@ use Rattle.cob_layout_places.specs.Needs.{greatest, Has, Holds, ShareTable, Need
 use Rattle.cob_layout_places.specs.Agree.{SameCounts, OnePlace}
 use Rattle.cob_layout_places.proofs.NeedLaw.{low, high, has_number, below_needed}
 use Rattle.cob_layout.specs.Counting.{greatest_counts, AreThose, IsRead, IsSparedOf, NeededOf}
-use Rattle.cob_layout.specs.References.{Refers}
+use Rattle.cob_layout_places.specs.References.{Refers}
 use Rattle.cob_layout.specs.Laws.{AllGiveNeeded, OneOfNeeded, OnePlaceByNeeds}
 use Rattle.cob_layout.proofs.GreatestLemmas.{greatest_length}
 use Rattle.cob_layout.proofs.ReferenceLemmas.{find_alone, refers_has}

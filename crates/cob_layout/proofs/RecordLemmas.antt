@@ -9,7 +9,7 @@ use Rattle.cob_layout_places.specs.declared.varying.Table.{Table}
 use Rattle.cob_layout_places.specs.Lengths.{alone, times}
 use Rattle.cob_layout_places.specs.Counts.{tables_of, HaveSlots}
 use Rattle.cob_layout_places.proofs.ForestLemmas.{sum_le, within_always}
-use Rattle.cob_layout.specs.References.{Refers}
+use Rattle.cob_layout_places.specs.References.{Refers}
 use Rattle.cob_layout.specs.Counting.{greatest_counts}
 use Rattle.cob_layout.proofs.GreatestLemmas.{greatest_length, slots}
 use Rattle.cob_layout.proofs.ReferenceLemmas.{has_below, refers_has}

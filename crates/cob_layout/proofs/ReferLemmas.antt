@@ -7,7 +7,7 @@ use Rattle.cob_copybook_tree.specs.Nodes.{Resolved}
 use Rattle.cob_layout_places.specs.Lengths.{alone}
 use Rattle.cob_layout_places.specs.Places.{is_table, later}
 use Rattle.cob_sound.specs.Sound.{own_dimension, AreNested, RecordsAreSound}
-use Rattle.cob_layout.specs.References.{IsSubscripted, Refers}
+use Rattle.cob_layout_places.specs.References.{IsSubscripted, Refers}
 use Rattle.cob_layout.specs.Laws.{FitsRef}
 
 own_length : (o : Times) (n : ℕ) (subscripts : List ℕ) → IsSubscripted (is_table o) n subscripts → length subscripts ≡ own_dimension o + length (later (is_table o) subscripts)

@@ -8,7 +8,7 @@ use Rattle.cob_layout_places.specs.Lengths.{alone}
 use Rattle.cob_layout_places.specs.Places.{find, find_one, or_else, choose, also, begins, is_table, later}
 use Rattle.cob_layout_places.specs.Cover.{AreNumbered}
 use Rattle.cob_layout_places.specs.Needs.{Has}
-use Rattle.cob_layout.specs.References.{Refers}
+use Rattle.cob_layout_places.specs.References.{Refers}
 
 or_none : (o : Option Found) → or_else o None ≡ o
 or_none None = refl

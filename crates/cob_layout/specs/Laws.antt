@@ -13,7 +13,7 @@ use Rattle.cob_layout_places.specs.Counts.{tables_of}
 use Rattle.cob_layout_places.specs.Needs.{greatest}
 use Rattle.cob_layout_places.specs.Agree.{DoAgree}
 use Rattle.cob_limits.specs.Limits.{most_dimensions}
-use Rattle.cob_layout.specs.References.{Refers}
+use Rattle.cob_layout_places.specs.References.{Refers}
 use Rattle.cob_layout.specs.Counting.{greatest_counts, AreThose, CountsOf, IsRead, IsSparedOf, NeededOf}
 
 -- a legal reference has no more subscripts than a `Ref` has room for

@@ -1,3 +1,3 @@
-pub mod References
+pub mod Placed
 pub mod Counting
 pub mod Laws

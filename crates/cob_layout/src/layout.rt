@@ -9,24 +9,31 @@ ghost use Rattle.cob_layout_places.specs.Lengths.{alone, times};
 ghost use Rattle.cob_layout_places.specs.Places.{find};
 ghost use Rattle.cob_layout_places.specs.Cover.{IsCovered};
 ghost use Rattle.cob_copybook.specs.Bytes.{TakeBytes};
-ghost use Rattle.cob_layout.specs.References.{Refers, placed};
+ghost use Rattle.cob_layout_places.specs.References.{Refers};
+ghost use Rattle.cob_layout.specs.Placed.{placed};
 ghost use Rattle.cob_layout.specs.Counting.{greatest_counts, AreGreatest, CountsOf, NeededOf};
 
 use crate::copy::copied;
 use crate::counts::{Counts, greatest_in_order};
 use crate::laws::{fits_ref, places_end_in_length};
-use crate::reference::{PlaceFault, Ref, refers};
 use arrayvec::ArrayVec;
 use cob_copybook::Book;
 use cob_copybook_tree::Node;
 use cob_fields::Place;
 use cob_layout_places::{
-    CountFault, Found, Table, covering, element_of, needs_are_read, places_end_in_record, seek,
-    tables, take_counts, take_needed, times_of,
+    CountFault, Found, Ref, Table, covering, element_of, needs_are_read, places_end_in_record,
+    refers, seek, tables, take_counts, take_needed, times_of,
 };
 use cob_sound::records_are_sound;
 use std::alloc::{AllocError, Global};
 use std::marker::Model;
+
+/// A subscript is past its table's count.
+#[derive(Clone, Copy, Debug, PartialEq, Eq)]
+pub struct PlaceFault {
+    /// Where the element would begin, in bytes from the start of the record.
+    pub offset: u32,
+}
 
 /// The layout of a record: where its entries stand, and how long it is, whatever the counts of its tables.
 ///

@@ -31,7 +31,7 @@
 //!   number ([`all_give_needed`]). Storages that agree on what a reference reads give it one place, whichever of the two calls took the counts
 //!   ([`one_place_by_needs`]).
 //!
-//! The definitions: `CountsOf`, `NeededOf` and `AreGreatest` of specs/Counting.antt, `Refers` and `placed` of specs/References.antt, those of
+//! The definitions: `CountsOf`, `NeededOf` and `AreGreatest` of specs/Counting.antt, `placed` of specs/Placed.antt, those of
 //! the laws of specs/Laws.antt, and what they name of `cob_copybook` (`TakeBytes`) and of `cob_layout_places`, which has the arithmetic of lengths
 //! and places. `cob_fields` lends the bytes of a place ([`field`], [`field_mut`]).
 //! Only [`Layout::of`] and [`Layout::new_counts`] take memory.
@@ -41,14 +41,12 @@ mod copy;
 mod counts;
 mod laws;
 mod layout;
-mod reference;
 
 pub use cob_fields::{Place, field, field_mut};
-pub use cob_layout_places::CountFault;
+pub use cob_layout_places::{CountFault, Ref};
 pub use counts::Counts;
 pub use laws::{
     all_give_needed, fits_ref, one_outcome_of_counts, one_place_by_needs, places_end_in_length,
     redefinitions_begin_with_area,
 };
-pub use layout::Layout;
-pub use reference::{PlaceFault, Ref};
+pub use layout::{Layout, PlaceFault};

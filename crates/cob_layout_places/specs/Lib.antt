@@ -4,3 +4,4 @@ pub mod Cover
 pub mod Counts
 pub mod Needs
 pub mod Agree
+pub mod References

@@ -9,6 +9,7 @@
 //!   it with all their occurrences, and a redefinition where its area begins. The law [`places_end_in_record`] says that a place ends within
 //!   the record's greatest length, and [`covering`] that each byte of a record is in exactly one occurrence of an item that stands in no
 //!   redefinition (specs/Cover.antt).
+//! - [`refers`] says whether a number with subscripts is a legal reference to an entry: `Refers` of specs/References.antt. A [`Ref`] holds one.
 //! - [`tables`] lists the tables that vary, and [`take_counts`] takes their counts from a storage, one behind another, or answers the first count
 //!   that ends past the bytes or gives no number within its table's bounds (`Taken` of specs/Counts.antt). There is one such outcome
 //!   ([`one_outcome`]), and storages that agree where the counts stand have the same one ([`same_counts`]).
@@ -26,6 +27,7 @@ mod laws;
 mod lengths;
 mod needs;
 mod places;
+mod reference;
 mod varying;
 
 pub use counts::{CountFault, take_counts};
@@ -35,4 +37,5 @@ pub use laws::{
 pub use lengths::{element_of, times_of};
 pub use needs::{is_table, take_needed};
 pub use places::{Found, seek};
+pub use reference::{Ref, refers};
 pub use varying::{Table, tables};

@@ -2,7 +2,7 @@
 
 ghost use Rattle.std.specs.Prelude.{IfOk};
 ghost use Rattle.cob_layout_places.specs.Lengths.{alone};
-ghost use Rattle.cob_layout.specs.References.{Refers};
+ghost use Rattle.cob_layout_places.specs.References.{Refers};
 
 use arrayvec::ArrayVec;
 use cob_copybook::{Book, Role};

@@ -3,7 +3,7 @@
 ghost use Rattle.std.specs.Prelude.{◌≡◌, length};
 ghost use Rattle.cob_copybook_tree.specs.Forests.{entries_in};
 ghost use Rattle.cob_layout_places.specs.Lengths.{alone};
-ghost use Rattle.cob_layout.specs.References.{Refers};
+ghost use Rattle.cob_layout_places.specs.References.{Refers};
 
 use cob_layout::{CountFault, Counts, Layout, Ref};
 use cob_rows::{RowFault, bytes_of};

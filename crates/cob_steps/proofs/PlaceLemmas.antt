@@ -13,8 +13,9 @@ use Rattle.cob_layout_places.specs.declared.places.Found.{Found}
 use Rattle.cob_layout_places.specs.Places.{find, or_else, choose, also, is_table, is_there, later}
 use Rattle.cob_layout_places.specs.Counts.{kind_in}
 use Rattle.cob_fields.specs.declared.Place.{Place}
-use Rattle.cob_layout.specs.declared.reference.PlaceFault.{PlaceFault}
-use Rattle.cob_layout.specs.References.{IsSubscripted, Refers, placed}
+use Rattle.cob_layout.specs.declared.layout.PlaceFault.{PlaceFault}
+use Rattle.cob_layout_places.specs.References.{IsSubscripted, Refers}
+use Rattle.cob_layout.specs.Placed.{placed}
 use Rattle.cob_steps.specs.Records.{IsSingle, StandsAt}
 
 -- ---- a reference without subscripts

@@ -16,7 +16,7 @@ use Rattle.cob_copybook.specs.Books.{IsRecord}
 use Rattle.cob_layout_places.specs.Places.{find}
 use Rattle.cob_layout_places.specs.Counts.{kind_in}
 use Rattle.cob_fields.specs.declared.Place.{Place}
-use Rattle.cob_layout.specs.References.{placed}
+use Rattle.cob_layout.specs.Placed.{placed}
 use Rattle.cob_move.specs.Initial.{IsInitial}
 use Rattle.cob_steps.specs.declared.plan.Category.{Category}
 use Rattle.cob_steps.specs.declared.plan.Category.TheVariants.{Alphanumeric, Numeric}

@@ -5,7 +5,8 @@ use Rattle.cob_layout_places.specs.declared.places.Found.{Found}
 use Rattle.cob_layout_places.specs.Lengths.{alone, times}
 use Rattle.cob_layout_places.specs.Places.{find}
 use Rattle.cob_layout_places.specs.Counts.{kind_in}
-use Rattle.cob_layout.specs.References.{Refers, placed}
+use Rattle.cob_layout_places.specs.References.{Refers}
+use Rattle.cob_layout.specs.Placed.{placed}
 use Rattle.cob_steps.proofs.PlaceLemmas.{single_refers, not_past, pairs}
 use Rattle.cob_steps.proofs.places.place_of.Goals as goal
 

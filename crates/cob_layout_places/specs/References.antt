@@ -1,12 +1,9 @@
--- References to entries, and where they stand.
-use Rattle.std.specs.Prelude.{◌≡◌, ◌⊎◌, ℕ, ◌<◌, ◌≤◌, Bool, true, false, if◌then◌else◌, List, [], ◌∷◌, Ok, Err, Result}
+-- References to entries of a record.
+use Rattle.std.specs.Prelude.{◌≡◌, ◌⊎◌, ℕ, ◌<◌, ◌≤◌, Bool, true, false, List, [], ◌∷◌}
 use Rattle.cob_copybook_tree.specs.Forests.{Forest, Bare, Grows}
 use Rattle.cob_copybook_tree.specs.Nodes.{Resolved}
 use Rattle.cob_copybook_tree.specs.Lengths.{most}
-use Rattle.cob_fields.specs.declared.Place.{Place}
-use Rattle.cob_layout_places.specs.declared.places.Found.{Found}
 use Rattle.cob_layout_places.specs.Places.{is_table, later}
-use Rattle.cob_layout.specs.declared.reference.PlaceFault.{PlaceFault}
 
 -- a table asks for a subscript, from 1 to its greatest number
 abbrev pub IsSubscripted : Bool → ℕ → List ℕ → Type 0
@@ -22,7 +19,3 @@ Refers r subscripts (Grows e kids more) =
     (IsSubscripted (is_table e.occurs) (most e) subscripts
     × (((e.number ≡ r) × (later (is_table e.occurs) subscripts ≡ [])) ⊎ Refers r (later (is_table e.occurs) subscripts) kids))
     ⊎ Refers r subscripts more
-
--- the answer where an element stands there: its place, or, where it isn't one of those that there are, the offset where it would begin
-abbrev pub placed : Found → Result Place PlaceFault
-placed f = if f.within then Ok record { offset = f.offset; length = f.length } else Err record { offset = f.offset }

@@ -1,9 +1,11 @@
+//! References to elements of entries, and which of them are legal.
+
 ghost use Rattle.std.specs.Prelude.{◌≡◌, IfNone, IfSome, IsFalse, IsTrue};
 ghost use Rattle.cob_copybook_tree.specs.Lengths.{most_by};
 ghost use Rattle.cob_copybook_tree.specs.Nodes.{node};
 ghost use Rattle.cob_layout_places.specs.Lengths.{alone};
 ghost use Rattle.cob_layout_places.specs.Places.{is_table, later};
-ghost use Rattle.cob_layout.specs.References.{IsSubscripted, Refers};
+ghost use Rattle.cob_layout_places.specs.References.{IsSubscripted, Refers};
 
 use arrayvec::ArrayVec;
 use cob_copybook_tree::{Node, Times};
@@ -16,13 +18,6 @@ pub struct Ref {
     pub node: usize,
     /// For each table that holds the entry or that it is, the outermost first, the number of the element, from 1.
     pub subscripts: ArrayVec<u32, MAX_SUBSCRIPTS>,
-}
-
-/// A subscript is past its table's count.
-#[derive(Clone, Copy, Debug, PartialEq, Eq)]
-pub struct PlaceFault {
-    /// Where the element would begin, in bytes from the start of the record.
-    pub offset: u32,
 }
 
 /// The subscripts that are left for the entries beneath one that occurs so often, where it has the subscript that it asks for.
@@ -45,7 +40,7 @@ fn after_own(occurs: Times, subscripts: &[u32]) -> Option<&[u32]>
 }
 
 /// Whether the entry with this number is this one or one beneath it, and the subscripts are legal ones for it.
-pub(crate) fn refers(entry: &Node, number: usize, subscripts: &[u32]) -> bool
+pub fn refers(entry: &Node, number: usize, subscripts: &[u32]) -> bool
     ensures must { IsTrue result → Refers number subscripts.now (alone (node entry.now)) }
     ensures only { IsFalse result → Refers number subscripts.now (alone (node entry.now)) → ⊥ }
 {

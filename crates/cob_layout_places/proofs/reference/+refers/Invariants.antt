@@ -1,6 +1,6 @@
 use Rattle.cob_layout_places.proofs.ForestLemmas.{left}
-use Rattle.cob_layout.specs.References.{Refers}
-use Rattle.cob_layout.proofs.reference.+refers.Given as goal
+use Rattle.cob_layout_places.specs.References.{Refers}
+use Rattle.cob_layout_places.proofs.reference.+refers.Given as goal
 
 abbrev pub decreases-refers : goal.decreases-refers
 decreases-refers l = goal.size-refers l
