@@ -1,3 +1,4 @@
 pub mod Placed
 pub mod Counting
+pub mod Storage
 pub mod Laws
