@@ -1,0 +1,100 @@
+//! Ends over files and standard streams, with their buffers.
+
+use cob_records::{
+    Form, OpenFault, Opened, RecordFault, Sink, create_sink, next_record, open_source, put_record,
+};
+
+/// How many records of ten bytes: more than one buffer holds.
+const MANY: usize = 10_000;
+
+#[test]
+fn reads_nothing_from_an_empty_file(rt: HostRuntime) {
+    let mut slot = [0u8; 10];
+    match open_source(&rt, "/dev/null") {
+        Ok(mut source) => assert_eq!(rt;
+            next_record(&mut source, Form::Fixed, 10, &mut slot),
+            Ok(None)
+        ),
+        Err(fault) => assert_eq!(rt; fault, OpenFault::Memory),
+    }
+}
+
+#[test]
+fn reads_more_than_a_buffer(rt: HostRuntime) {
+    let mut slot = [0u8; 10];
+    match open_source(&rt, "/dev/zero") {
+        Ok(mut source) => {
+            for _ in 0..MANY {
+                slot.fill(1);
+                let read = next_record(&mut source, Form::Fixed, 10, &mut slot);
+                assert_eq!(rt; read, Ok(Some(10)));
+                assert_eq!(rt; slot, [0u8; 10]);
+            }
+        }
+        Err(fault) => assert_eq!(rt; fault, OpenFault::Memory),
+    }
+}
+
+#[test]
+fn opens_no_missing_file(rt: HostRuntime) {
+    let missing = open_source(&rt, "/dev/null/missing");
+    assert_eq!(rt; missing.err(), Some(OpenFault::NotOpened));
+    let missing = create_sink(&rt, "/dev/null/missing");
+    assert_eq!(rt; missing.err(), Some(OpenFault::NotOpened));
+}
+
+#[test]
+fn a_hyphen_is_a_standard_stream(rt: HostRuntime) {
+    match open_source(&rt, "-") {
+        Ok(source) => {
+            let reader = source.into_inner();
+            assert_eq!(rt; matches!(reader.get_ref(), Opened::Standard(_)), true);
+        }
+        Err(fault) => assert_eq!(rt; fault, OpenFault::Memory),
+    }
+    match create_sink(&rt, "-") {
+        Ok(mut sink) => {
+            assert_eq!(rt; sink.flush().is_ok(), true);
+            let writer = sink.into_inner();
+            assert_eq!(rt; matches!(writer.get_ref(), Opened::Standard(_)), true);
+        }
+        Err(fault) => assert_eq!(rt; fault, OpenFault::Memory),
+    }
+}
+
+/// How many of many records a sink takes before one fails, and what that one answers.
+fn put_many<W: Sink>(sink: &mut W) -> (usize, Result<(), RecordFault>) {
+    for put in 0..MANY {
+        if let Err(fault) = put_record(sink, Form::Fixed, b"0123456789") {
+            return (put, Err(fault));
+        }
+    }
+    (MANY, Ok(()))
+}
+
+/// A full device fails when the buffer is handed on: at the record that no longer fits, or at the last flush.
+#[test]
+fn a_full_device_fails_when_the_buffer_is_handed_on(rt: HostRuntime) {
+    match create_sink(&rt, "/dev/full") {
+        Ok(mut sink) => {
+            let failed = Err(RecordFault::WriteFailed { taken: 0 });
+            assert_eq!(rt; put_many(&mut sink), (6_553, failed));
+            assert_eq!(rt; sink.flush().is_err(), true);
+        }
+        Err(fault) => assert_eq!(rt; fault, OpenFault::Memory),
+    }
+    match create_sink(&rt, "/dev/full") {
+        Ok(mut sink) => {
+            assert_eq!(rt; put_record(&mut sink, Form::Fixed, b"0123456789"), Ok(()));
+            assert_eq!(rt; sink.flush().is_err(), true);
+        }
+        Err(fault) => assert_eq!(rt; fault, OpenFault::Memory),
+    }
+    match create_sink(&rt, "/dev/null") {
+        Ok(mut sink) => {
+            assert_eq!(rt; put_many(&mut sink), (MANY, Ok(())));
+            assert_eq!(rt; sink.flush().is_ok(), true);
+        }
+        Err(fault) => assert_eq!(rt; fault, OpenFault::Memory),
+    }
+}
