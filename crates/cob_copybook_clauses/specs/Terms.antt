@@ -1,4 +1,4 @@
--- What a word means to the grammar of entries.
+-- What a word means to the grammar of entries and statements.
 use Rattle.std.specs.Prelude.{ℕ, List, [], ◌∷◌, map, codes, if◌then◌else◌, bytes_eq}
 use denote.Ref.{Bor}
 use Rattle.cob_source.specs.Tokens.{Lexeme}
@@ -57,10 +57,11 @@ figurative_words =
     ∷ meaning (codes "QUOTE") term.Quote ∷ meaning (codes "QUOTES") term.Quote ∷ meaning (codes "ALL") term.All
     ∷ []
 
--- the words of a statement
+-- the words of a statement, and its brackets
 abbrev pub statement_words : List Keyword
 statement_words =
-    meaning (codes "MOVE") term.Statement ∷ meaning (codes "CORRESPONDING") term.Statement ∷ meaning (codes "CORR") term.Statement
+    meaning (codes "MOVE") term.Move ∷ meaning (codes "CORRESPONDING") term.Corresponding ∷ meaning (codes "CORR") term.Corresponding
+    ∷ meaning (codes "(") term.OpenBracket ∷ meaning (codes ")") term.CloseBracket
     ∷ []
 
 -- the words of what is left out by name

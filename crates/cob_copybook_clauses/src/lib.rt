@@ -31,10 +31,13 @@ mod table;
 mod term;
 mod words;
 
+pub use constant::constant_at;
 pub use entry::written;
 pub use kinds::{Figurative, Sign, Usage};
 pub use laws::{one_entry, sentences_cut, sentences_end};
 pub use names::is_name;
 pub use parts::{Clauses, Constant, Count, Table, Written};
+pub use qualifiers::qualifiers_at;
 pub use sentence::{condition, is_condition, left_out, sentence_at};
-pub use term::Term;
+pub use term::{Term, term_of};
+pub use words::{behind, is_name_word, is_term};

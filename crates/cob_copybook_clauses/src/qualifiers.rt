@@ -63,7 +63,7 @@ fn behind_qualifier(words: &[Token]) -> Option<&[Token]>
 }
 
 /// The qualifiers in front, as many as there are, and what is behind them.
-fn qualifiers_at(words: &[Token]) -> (&[Token], &[Token])
+pub fn qualifiers_at(words: &[Token]) -> (&[Token], &[Token])
     ensures are { AreQualifiers (lexemes result.0.now) }
     ensures found { lexemes words.now ≡ lexemes result.0.now ++ lexemes result.1.now }
     ensures only { (qs more : List Lexeme)

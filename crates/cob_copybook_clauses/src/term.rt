@@ -77,8 +77,14 @@ pub enum Term {
     All,
     /// FILLER.
     Filler,
-    /// MOVE, CORRESPONDING, CORR: words of a paragraph.
-    Statement,
+    /// MOVE.
+    Move,
+    /// CORRESPONDING, CORR.
+    Corresponding,
+    /// An open bracket, a word of its own in a paragraph.
+    OpenBracket,
+    /// A close bracket, a word of its own in a paragraph.
+    CloseBracket,
     /// A word of a clause that is left out by name.
     LeftOut,
     /// A word that isn't reserved.
@@ -90,7 +96,7 @@ pub enum Term {
 }
 
 /// The reserved words, and what each means.
-static KEYWORDS: [(&[u8], Term); 77] = [
+static KEYWORDS: [(&[u8], Term); 79] = [
     (b"REDEFINES", Term::Redefines),
     (b"PICTURE", Term::Picture),
     (b"PIC", Term::Picture),
@@ -165,9 +171,11 @@ static KEYWORDS: [(&[u8], Term); 77] = [
     (b"COPY", Term::LeftOut),
     (b"REPLACE", Term::LeftOut),
     (b"EXEC", Term::LeftOut),
-    (b"MOVE", Term::Statement),
-    (b"CORRESPONDING", Term::Statement),
-    (b"CORR", Term::Statement),
+    (b"MOVE", Term::Move),
+    (b"CORRESPONDING", Term::Corresponding),
+    (b"CORR", Term::Corresponding),
+    (b"(", Term::OpenBracket),
+    (b")", Term::CloseBracket),
 ];
 
 /// What a text is by a table of keywords, if it is in it.

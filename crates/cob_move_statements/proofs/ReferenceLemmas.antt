@@ -1,0 +1,78 @@
+-- References.
+use Rattle.std.proofs.Common.{◌≡◌, ◌≢◌, ℕ, List, [], ◌∷◌, ◌++◌, refl, sym, ap, subst, ◌∙◌, append_assoc, Option, Some, None, Bor, arith, length, ◌<◌}
+use Rattle.std.proofs.lemmas.List.{length-append}
+use Rattle.cob_copybook_clauses.proofs.TableLemmas.{name_plain}
+use Rattle.cob_move_statements.proofs.Runs.{IsRun}
+use Rattle.std.specs.Prelude.{IfSome, IsSomeAnd}
+use Rattle.cob_source.specs.declared.token.Token.{Token}
+use Rattle.cob_source.specs.Tokens.{Lexeme, lexemes}
+use Rattle.cob_copybook_clauses.specs.declared.term.Term.{Term}
+use Rattle.cob_copybook_clauses.specs.declared.term.Term.TheVariants as term
+use Rattle.cob_copybook_clauses.specs.Terms.{term_of}
+use Rattle.cob_copybook_clauses.specs.Reading.{NotFirst}
+use Rattle.cob_move_statements.specs.Written.{WrittenReference, texts}
+use Rattle.cob_move_statements.specs.Statements.{AreSubscripts, EndsReferences, FitsReference, IsBracketed, IsReference, NoName}
+
+-- words in brackets, before the rest
+brackets : (b a : Lexeme) (ns rest : List Lexeme) → b ∷ (ns ++ a ∷ rest) ≡ (b ∷ (ns ++ a ∷ [])) ++ rest
+brackets b a ns rest = ap (λ (t : List Lexeme). b ∷ t) (sym (append_assoc ns (a ∷ []) rest))
+
+are_subscripts : (b a : Lexeme) (ns : List Lexeme) → IsBracketed b a ns → AreSubscripts (texts ns) (b ∷ (ns ++ a ∷ []))
+are_subscripts b a [] is = absurd (omega (arith, is.some))
+are_subscripts b a (n ∷ ns) is = (b, a, n ∷ ns, is, refl, refl)
+
+pub found_in : (words : List Lexeme) (o : Option (Bor (List Token) × Bor (List Token)))
+    → IfSome o (λ r. (b a : Lexeme) × IsBracketed b a (lexemes r.0.now) × (words ≡ b ∷ (lexemes r.0.now ++ a ∷ lexemes r.1.now)))
+    → IfSome o (λ r. (ws : List Lexeme) × AreSubscripts (texts (lexemes r.0.now)) ws × (words ≡ ws ++ lexemes r.1.now))
+found_in words None h = tt
+found_in words (Some r) (b, a, is, e) = (b ∷ (lexemes r.0.now ++ a ∷ []), are_subscripts b a (lexemes r.0.now) is, e ∙ brackets b a (lexemes r.0.now) (lexemes r.1.now))
+
+some_as : (ns : List Lexeme) (ts : List (List ℕ)) (more : List Lexeme) (o : Option (Bor (List Token) × Bor (List Token))) → ts ≡ texts ns
+    → IsSomeAnd o (λ r. (lexemes r.0.now ≡ ns) × (lexemes r.1.now ≡ more)) → IsSomeAnd o (λ r. (texts (lexemes r.0.now) ≡ ts) × (lexemes r.1.now ≡ more))
+some_as ns ts more None e h = h
+some_as ns ts more (Some r) e h = (ap texts h.0 ∙ sym e, h.1)
+
+pub only_in : (words rest : List Lexeme) (w : Lexeme) (o : Option (Bor (List Token) × Bor (List Token))) → words ≡ w ∷ rest → term_of w ≡ term.OpenBracket
+    → ((b a : Lexeme) (ns more : List Lexeme) → IsBracketed b a ns → words ≡ b ∷ (ns ++ a ∷ more) → IsSomeAnd o (λ r. (lexemes r.0.now ≡ ns) × (lexemes r.1.now ≡ more)))
+    → (ts : List (List ℕ)) (ws more : List Lexeme) → AreSubscripts ts ws → NotFirst term.OpenBracket more → words ≡ ws ++ more → IsSomeAnd o (λ r. (texts (lexemes r.0.now) ≡ ts) × (lexemes r.1.now ≡ more))
+only_in words rest w o first opens only [] ws more are nf e =
+    let same : more ≡ w ∷ rest = ap (λ (t : List Lexeme). t ++ more) (sym are) ∙ sym e ∙ first in
+    let never : term_of w ≢ term.OpenBracket = subst (NotFirst term.OpenBracket) same nf in
+    absurd (never opens)
+only_in words rest w o first opens only (t ∷ ts) ws more (b, a, ns, is, same, cut) nf e =
+    some_as ns (t ∷ ts) more o same (only b a ns more is (e ∙ ap (λ (x : List Lexeme). x ++ more) cut ∙ sym (brackets b a ns more)))
+
+-- ---- a whole reference
+
+pub not_of : (ts : List (List ℕ)) (ws more : List Lexeme) → AreSubscripts ts ws → NotFirst term.Of more → NotFirst term.Of (ws ++ more)
+not_of [] ws more are nf = subst (λ (t : List Lexeme). NotFirst term.Of (t ++ more)) (sym are) nf
+not_of (t ∷ ts) ws more (b, a, ns, is, same, cut) nf =
+    subst (λ (x : List Lexeme). NotFirst term.Of (x ++ more)) (sym cut) (λ e. let never : term.OpenBracket ≡ term.Of = sym is.opens ∙ e in cc)
+
+pub reference_cut : (w : Lexeme) (words named rest behind brackets more : List Lexeme) → words ≡ w ∷ named → named ≡ behind ++ rest → rest ≡ brackets ++ more → words ≡ (w ∷ (behind ++ brackets)) ++ more
+reference_cut w words named rest behind brackets more a b c =
+    a ∙ ap (λ (t : List Lexeme). w ∷ t) (b ∙ ap (λ (t : List Lexeme). behind ++ t) c ∙ sym (append_assoc behind brackets more))
+
+pub reference_split : (w : Lexeme) (words ws behind brackets more : List Lexeme) → words ≡ ws ++ more → ws ≡ w ∷ (behind ++ brackets) → words ≡ w ∷ (behind ++ (brackets ++ more))
+reference_split w words ws behind brackets more e f = e ∙ ap (λ (t : List Lexeme). t ++ more) f ∙ ap (λ (t : List Lexeme). w ∷ t) (append_assoc behind brackets more)
+
+pub same_reference : (x : WrittenReference) (name : List ℕ) (qs ss : List (List ℕ)) → name ≡ x.name → qs ≡ x.qualifiers → ss ≡ x.subscripts → record { name = name; qualifiers = qs; subscripts = ss } ≡ x
+same_reference x name qs ss a b c = λ i. record { name = a i; qualifiers = b i; subscripts = c i }
+
+-- ---- several references
+
+pub reference_first : (t : Term) (x : WrittenReference) (ws more : List Lexeme) → IsReference x ws → t ≢ term.Plain → NotFirst t (ws ++ more)
+reference_first t x ws more is other =
+    subst (λ (y : List Lexeme). NotFirst t (y ++ more)) (sym is.words) (λ e. other (sym e ∙ name_plain is.named is.is))
+
+pub references_run : IsRun IsReference FitsReference EndsReferences
+references_run = record {
+  ends_fit = λ more h. (h.1, h.2);
+  piece_fits = λ x ws more is. (reference_first term.Of x ws more is (λ e. cc), reference_first term.OpenBracket x ws more is (λ e. cc));
+  no_piece = λ x ws more is h. let named : NoName (is.named ∷ ((is.behind ++ is.brackets) ++ more)) = subst (λ (y : List Lexeme). NoName (y ++ more)) is.words h.0 in named is.is;
+}
+
+-- a reference has a word
+pub shorter : (x : WrittenReference) (ws rest more : List Lexeme) → IsReference x ws → rest ≡ ws ++ more → length more < length rest
+shorter x ws rest more is e =
+    omega (arith, ap length e, length-append ws more, ap length is.words)

@@ -1,0 +1,20 @@
+use Rattle.std.proofs.Common.{◌∷◌}
+use Rattle.cob_move_statements.proofs.StatementLemmas.{to_fits}
+use Rattle.cob_move_statements.proofs.senders.reference_to_at.Goals as goal
+
+pub returns-in_err-reference-clause-only : goal.returns-in_err-reference-clause-only
+returns-in_err-reference-clause-only c = λ x ws more to is t e.
+    let fit = to_fits to more t in
+    absurd (c.in_err-reference.ensures.only x ws (to ∷ more) is fit.0 fit.1 e)
+
+pub returns-in_err-more-clause-only : goal.returns-in_err-more-clause-only
+returns-in_err-more-clause-only c = λ x ws more to is t e.
+    let fit = to_fits to more t in
+    let read = c.in_ok-reference.ensures.only x ws (to ∷ more) is fit.0 fit.1 e in
+    absurd (c.in_err-more.ensures.only to more t read.1)
+
+pub returns-clause-only : goal.returns-clause-only
+returns-clause-only c = λ x ws more to is t e.
+    let fit = to_fits to more t in
+    let read = c.in_ok-reference.ensures.only x ws (to ∷ more) is fit.0 fit.1 e in
+    (read.0, c.in_ok-more.ensures.only to more t read.1)

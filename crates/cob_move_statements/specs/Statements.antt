@@ -1,0 +1,181 @@
+-- The words of a paragraph.
+use Rattle.std.specs.Prelude.{◌≡◌, ◌⊎◌, ℕ, ◌<◌, List, [], ◌∷◌, ◌++◌, length}
+use Rattle.std.specs.List.{AllByRecursion}
+use Rattle.cob_decimal.specs.Literals.{AreDigits}
+use Rattle.cob_source.specs.Tokens.{Lexeme}
+use Rattle.cob_source.specs.declared.token.Kind.TheVariants as kind
+use Rattle.cob_copybook_clauses.specs.declared.term.Term.TheVariants as term
+use Rattle.cob_copybook_clauses.specs.Terms.{term_of}
+use Rattle.cob_copybook_clauses.specs.Clauses.{AreQualifiers, IsConstant, IsNameWord}
+use Rattle.cob_copybook_clauses.specs.Reading.{NotFirst}
+use Rattle.cob_copybook_clauses.specs.Written.{names_behind}
+use Rattle.cob_move_statements.specs.declared.fault.MoveRule.{MoveRule}
+use Rattle.cob_move_statements.specs.declared.fault.MoveRule.TheVariants as rule
+use Rattle.cob_move_statements.specs.Literals.{IsLiteralOrFigurative}
+use Rattle.cob_move_statements.specs.Written.{texts, WrittenReference, WrittenSender, SentReference, SentConstant, WrittenAction, MoveTo, MoveCorresponding, WrittenStatement}
+
+-- pieces one behind another, each of which is so
+abbrev pub Several : {V : Type 0} → (V → List Lexeme → Type 0) → List V → List Lexeme → Type 0
+Several Is [] ws = ws ≡ []
+Several Is (v ∷ vs) ws = (own rest : List Lexeme) × Is v own × (ws ≡ own ++ rest) × Several Is vs rest
+
+-- a word of digits, one at least
+pub record IsNumeral (w : Lexeme) : Type 0 where
+  pub plain : term_of w ≡ term.Plain
+  pub some : 0 < length w.text
+  pub digits : AreDigits w.text
+
+-- numbers between brackets
+pub record IsBracketed (open_bracket close_bracket : Lexeme) (numbers : List Lexeme) : Type 0 where
+  pub opens : term_of open_bracket ≡ term.OpenBracket
+  pub closes : term_of close_bracket ≡ term.CloseBracket
+  pub some : 0 < length numbers
+  pub are : AllByRecursion IsNumeral numbers
+
+-- subscripts in brackets, or nothing
+abbrev pub AreSubscripts : List (List ℕ) → List Lexeme → Type 0
+AreSubscripts [] ws = ws ≡ []
+AreSubscripts (s ∷ more) ws = (before after : Lexeme) × (numbers : List Lexeme) × IsBracketed before after numbers × (s ∷ more ≡ texts numbers) × (ws ≡ before ∷ (numbers ++ after ∷ []))
+
+-- a reference: a name, qualifiers by OF or IN, and subscripts
+pub record IsReference (r : WrittenReference) (ws : List Lexeme) : Type 0 where
+  pub named : Lexeme
+  pub behind : List Lexeme
+  pub brackets : List Lexeme
+  pub is : IsNameWord named
+  pub name : r.name ≡ named.text
+  pub qualified : AreQualifiers behind
+  pub qualifiers : r.qualifiers ≡ names_behind behind
+  pub subscripted : AreSubscripts r.subscripts brackets
+  pub words : ws ≡ named ∷ (behind ++ brackets)
+
+-- no name comes first
+abbrev pub NoName : List Lexeme → Type 0
+NoName [] = Unit {0}
+NoName (w ∷ ws) = IsNameWord w → ⊥
+
+-- a name comes first
+abbrev pub NameFirst : List Lexeme → Type 0
+NameFirst [] = ⊥
+NameFirst (w ∷ ws) = IsNameWord w
+
+-- what may follow a reference, and what may follow the last of several
+abbrev pub FitsReference : List Lexeme → Type 0
+FitsReference more = NotFirst term.Of more × NotFirst term.OpenBracket more
+
+abbrev pub EndsReferences : List Lexeme → Type 0
+EndsReferences more = NoName more × NotFirst term.Of more × NotFirst term.OpenBracket more
+
+-- a sender: a reference, or a literal or figurative constant, which is no name
+abbrev pub IsSender : WrittenSender → List Lexeme → Type 0
+IsSender (SentReference r) ws = IsReference r ws
+IsSender (SentConstant c) ws = IsConstant c ws × IsLiteralOrFigurative c × NoName ws
+
+-- what stands behind MOVE: a sender, TO, and a reference or more; or CORRESPONDING, a reference, TO, and a reference
+abbrev pub IsAction : WrittenAction → List Lexeme → Type 0
+IsAction (MoveTo s rs) ws = (sender receivers : List Lexeme) × (between : Lexeme)
+    × IsSender s sender × (term_of between ≡ term.To) × (0 < length rs) × Several IsReference rs receivers
+    × (ws ≡ sender ++ between ∷ receivers)
+IsAction (MoveCorresponding from to) ws = (corresponding between : Lexeme) × (sender receiver : List Lexeme)
+    × (term_of corresponding ≡ term.Corresponding) × IsReference from sender × (term_of between ≡ term.To) × IsReference to receiver
+    × (ws ≡ corresponding ∷ (sender ++ between ∷ receiver))
+
+-- a statement: MOVE, and what stands behind it
+pub record IsStatement (s : WrittenStatement) (ws : List Lexeme) : Type 0 where
+  pub move : Lexeme
+  pub behind : List Lexeme
+  pub is : term_of move ≡ term.Move
+  pub line : s.line ≡ move.line
+  pub acts : IsAction s.action behind
+  pub words : ws ≡ move ∷ behind
+
+-- a period, before a space or the end of a line
+abbrev pub IsPeriod : Lexeme → Type 0
+IsPeriod w = w.kind ≡ kind.Stop
+
+-- no period comes first
+abbrev pub NoPeriod : List Lexeme → Type 0
+NoPeriod [] = Unit {0}
+NoPeriod (w ∷ ws) = IsPeriod w → ⊥
+
+-- nothing, a period or MOVE may follow a statement
+abbrev pub EndsStatement : List Lexeme → Type 0
+EndsStatement [] = Unit {0}
+EndsStatement (w ∷ ws) = IsPeriod w ⊎ (term_of w ≡ term.Move)
+
+-- what may follow a statement and the periods behind it: nothing, or MOVE
+abbrev pub FollowsStatements : List Lexeme → Type 0
+FollowsStatements [] = Unit {0}
+FollowsStatements (w ∷ ws) = term_of w ≡ term.Move
+
+abbrev pub IsEnd : List Lexeme → Type 0
+IsEnd more = more ≡ []
+
+-- a statement, and the periods behind it
+pub record IsEndedStatement (s : WrittenStatement) (ws : List Lexeme) : Type 0 where
+  pub own : List Lexeme
+  pub stops : List Lexeme
+  pub statement : IsStatement s own
+  pub are_stops : AllByRecursion IsPeriod stops
+  pub words : ws ≡ own ++ stops
+
+-- the name of a paragraph and a period, or nothing
+abbrev pub IsHeading : List Lexeme → Type 0
+IsHeading [] = Unit {0}
+IsHeading (w ∷ []) = ⊥
+IsHeading (w ∷ stop ∷ []) = IsNameWord w × IsPeriod stop
+IsHeading (w ∷ stop ∷ v ∷ ws) = ⊥
+
+-- the words of a paragraph: perhaps its name, and a statement or more
+pub record IsParagraph (ws : List Lexeme) (ss : List WrittenStatement) : Type 0 where
+  pub heading : List Lexeme
+  pub body : List Lexeme
+  pub named : IsHeading heading
+  pub some : 0 < length ss
+  pub statements : Several IsEndedStatement ss body
+  pub words : ws ≡ heading ++ body
+
+-- the line of the first word, or 1 where there is none
+abbrev pub first_line : List Lexeme → ℕ
+first_line [] = 1
+first_line (w ∷ ws) = w.line
+
+-- a statement stands in front, with all periods behind it, before these words
+pub record StatementStands (s : WrittenStatement) (words more : List Lexeme) : Type 0 where
+  pub own : List Lexeme
+  pub stops : List Lexeme
+  pub statement : IsStatement s own
+  pub are_stops : AllByRecursion IsPeriod stops
+  pub none_more : NoPeriod more
+  pub ends : EndsStatement (stops ++ more)
+  pub words_are : words ≡ own ++ (stops ++ more)
+
+-- statements stand in front, one behind another, before these words
+abbrev pub StatementsStand : List WrittenStatement → List Lexeme → List Lexeme → Type 0
+StatementsStand [] words more = words ≡ more
+StatementsStand (s ∷ ss) words more = (between : List Lexeme) × StatementStands s words between × StatementsStand ss between more
+
+-- behind statements no other stands, and this is the line there
+pub record BreaksOff (words : List Lexeme) (line : ℕ) : Type 0 where
+  pub before : List WrittenStatement
+  pub rest : List Lexeme
+  pub stand : StatementsStand before words rest
+  pub none : (s : WrittenStatement) (more : List Lexeme) → StatementStands s rest more → ⊥
+  pub line_is : line ≡ first_line rest
+
+-- the words behind the heading, if one comes first
+pub record IsBody (words body : List Lexeme) : Type 0 where
+  pub heading : List Lexeme
+  pub named : IsHeading heading
+  pub words_are : words ≡ heading ++ body
+  pub longest : (other more : List Lexeme) → IsHeading other → 0 < length other → words ≡ other ++ more → body ≡ more
+
+-- the line that a refusal of statements names: 0 for memory, else that of the first word where no statement stands
+abbrev pub IsLineIn : MoveRule → ℕ → List Lexeme → Type 0
+IsLineIn rule.Memory line body = line ≡ 0
+IsLineIn rule.Grammar line body = BreaksOff body line
+IsLineIn other line body = ⊥
+
+-- the line that a refusal names: that of its statements behind the heading
+abbrev pub IsLineOf : MoveRule → ℕ → List Lexeme → Type 0
+IsLineOf r line words = (body : List Lexeme) × IsBody words body × IsLineIn r line body

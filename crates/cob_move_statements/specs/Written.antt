@@ -1,0 +1,54 @@
+-- Statements as they are written, without where their texts lie in memory.
+use Rattle.std.specs.Prelude.{ℕ, List, map}
+use Rattle.cob_source.specs.Tokens.{Lexeme, lexemes}
+use Rattle.cob_copybook_clauses.specs.Written.{WrittenConstant, written_constant, names_behind}
+use Rattle.cob_move_statements.specs.declared.parts.Reference.{Reference}
+use Rattle.cob_move_statements.specs.declared.parts.StatementSender.{StatementSender}
+use Rattle.cob_move_statements.specs.declared.parts.StatementSender.TheVariants as sender
+use Rattle.cob_move_statements.specs.declared.parts.Action.{Action}
+use Rattle.cob_move_statements.specs.declared.parts.Action.TheVariants as action
+use Rattle.cob_move_statements.specs.declared.parts.Statement.{Statement}
+
+-- a name with its qualifiers, the nearest first, and its subscripts as they are written
+pub record WrittenReference : Type 0 where
+  pub name : List ℕ
+  pub qualifiers : List (List ℕ)
+  pub subscripts : List (List ℕ)
+
+-- what is moved: an entry, or a constant
+pub data WrittenSender : Type 0 where
+  SentReference : WrittenReference → WrittenSender
+  SentConstant : WrittenConstant → WrittenSender
+
+-- what stands behind MOVE: a sender and its receivers, or CORRESPONDING and two references
+pub data WrittenAction : Type 0 where
+  MoveTo : WrittenSender → List WrittenReference → WrittenAction
+  MoveCorresponding : WrittenReference → WrittenReference → WrittenAction
+
+-- a statement, and the line of its first word
+pub record WrittenStatement : Type 0 where
+  pub line : ℕ
+  pub action : WrittenAction
+
+abbrev pub texts : List Lexeme → List (List ℕ)
+texts ws = map (λ w. w.text) ws
+
+abbrev pub written_reference : Reference → WrittenReference
+written_reference r = record { name = r.name.now; qualifiers = names_behind (lexemes r.qualifiers.now); subscripts = texts (lexemes r.subscripts.now) }
+
+abbrev pub written_references : List Reference → List WrittenReference
+written_references rs = map written_reference rs
+
+abbrev pub written_sender : StatementSender → WrittenSender
+written_sender (sender.Reference r) = SentReference (written_reference r)
+written_sender (sender.Constant c) = SentConstant (written_constant c)
+
+abbrev pub written_action : Action → WrittenAction
+written_action (action.Move s rs) = MoveTo (written_sender s) (written_references rs.items)
+written_action (action.Corresponding from to) = MoveCorresponding (written_reference from) (written_reference to)
+
+abbrev pub written_statement : Statement → WrittenStatement
+written_statement s = record { line = s.line; action = written_action s.action }
+
+abbrev pub written_statements : List Statement → List WrittenStatement
+written_statements ss = map written_statement ss

@@ -1,0 +1,70 @@
+ghost use Rattle.std.specs.Prelude.{◌≡◌, List, ◌∷◌, ◌++◌, IfOk, IfSome, IsSomeAnd};
+ghost use Rattle.cob_source.specs.Tokens.{Lexeme, lexemes};
+ghost use Rattle.cob_move_statements.specs.Written.{
+  MoveCorresponding,
+  MoveTo,
+  WrittenAction,
+  WrittenReference,
+  WrittenSender,
+  written_action,
+  written_reference,
+};
+ghost use Rattle.cob_move_statements.specs.Statements.{EndsReferences, FitsReference, IsAction};
+
+use crate::parts::{Action, Reference};
+use crate::references::{reference_at, references_at};
+use crate::senders::{reference_to_at, sender_to_at};
+use cob_copybook_clauses::{Term, behind};
+use cob_source::Token;
+use std::alloc::{AllocError, Global};
+
+/// CORRESPONDING in front, its two references, and what is behind them.
+fn corresponding_at(words: &[Token]) -> Option<(Reference<'_>, Reference<'_>, &[Token])>
+    ensures found { IfSome result (λ r. (ws : List Lexeme) × IsAction (MoveCorresponding (written_reference r.0) (written_reference r.1)) ws × (lexemes words.now ≡ ws ++ lexemes r.2.now)) }
+    ensures only { (from to : WrittenReference) (ws more : List Lexeme) → IsAction (MoveCorresponding from to) ws → FitsReference more → lexemes words.now ≡ ws ++ more
+        → IsSomeAnd result (λ r. (written_reference r.0 ≡ from) × (written_reference r.1 ≡ to) × (lexemes r.2.now ≡ more)) }
+{
+    let sent = behind(words, Term::Corresponding)?;
+    let (from, received) = reference_to_at(sent)?;
+    let (to, more) = reference_at(received)?;
+    Some((from, to, more))
+}
+
+/// A sender in front, TO and its receivers, and what is behind them.
+///
+/// # Errors
+///
+/// Memory was refused.
+fn move_at(alloc: Global, words: &[Token]) -> Result<Option<(Action<'_>, &[Token])>, AllocError>
+    ensures found { IfOk result (λ o. IfSome o (λ r. (ws : List Lexeme) × IsAction (written_action r.0) ws × (lexemes words.now ≡ ws ++ lexemes r.1.now))) }
+    ensures only { (s : WrittenSender) (rs : List WrittenReference) (ws more : List Lexeme) → IsAction (MoveTo s rs) ws → EndsReferences more → lexemes words.now ≡ ws ++ more
+        → IfOk result (λ o. IsSomeAnd o (λ r. (written_action r.0 ≡ MoveTo s rs) × (lexemes r.1.now ≡ more))) }
+{
+    let Some((sender, received)) = sender_to_at(words) else {
+        return Ok(None);
+    };
+    let (receivers, more) = references_at(alloc, received)?;
+    if receivers.is_empty() {
+        return Ok(None);
+    }
+    Ok(Some((Action::Move { sender, receivers }, more)))
+}
+
+/// What stands behind MOVE, and what is behind it.
+///
+/// # Errors
+///
+/// Memory was refused.
+pub fn action_at(
+    alloc: Global,
+    words: &[Token],
+) -> Result<Option<(Action<'_>, &[Token])>, AllocError>
+    ensures found { IfOk result (λ o. IfSome o (λ r. (ws : List Lexeme) × IsAction (written_action r.0) ws × (lexemes words.now ≡ ws ++ lexemes r.1.now))) }
+    ensures only { (x : WrittenAction) (ws more : List Lexeme) → IsAction x ws → EndsReferences more → lexemes words.now ≡ ws ++ more
+        → IfOk result (λ o. IsSomeAnd o (λ r. (written_action r.0 ≡ x) × (lexemes r.1.now ≡ more))) }
+{
+    if let Some((from, to, more)) = corresponding_at(words) {
+        return Ok(Some((Action::Corresponding { from, to }, more)));
+    }
+    move_at(alloc, words)
+}

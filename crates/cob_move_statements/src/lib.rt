@@ -1,0 +1,30 @@
+//! The statements of a paragraph, as they are written (ANSI X3.23-1985, Nucleus: the MOVE statement; IBM Enterprise COBOL for z/OS,
+//! Language Reference, "MOVE statement").
+//!
+//! A paragraph is the words of MOVE statements, each with as many periods behind it as one likes, behind the paragraph's name and its
+//! period if it has one. [`statements`] reads a paragraph's words into [`Statement`]s, each with the line of its first word: a sender and
+//! its receivers, or the two references of CORRESPONDING. Which entries names mean isn't looked at here.
+//!
+//! What is promised of [`statements`]: `Ok` has exactly the statements that the words say (clause `found`; `IsParagraph` of
+//! specs/Statements.antt); the words of a paragraph are read, memory aside, and say nothing else (`only`); a refusal is for want of
+//! memory, or the words are no paragraph (`fault`), and it names the line of the first word where no statement stands (`line`).
+//!
+//! [`MoveRule`] names every rule that a paragraph may break, for all crates that read one, and prints as `M1` to `M10` and `M19`, or as the rule of
+//! the text; [`MoveFault`] adds the line.
+//!
+//! It stands on `cob_source` for tokens, on `cob_copybook_clauses` for reserved words, names, qualifiers and constants, and on
+//! `cob_decimal` for what digits are.
+#![tactic(auto)]
+
+mod actions;
+mod fault;
+mod literals;
+mod paragraph;
+mod parts;
+mod references;
+mod senders;
+mod subscripts;
+
+pub use fault::{MoveFault, MoveRule};
+pub use paragraph::statements;
+pub use parts::{Action, Reference, Statement, StatementSender};

@@ -1,0 +1,66 @@
+ghost use Rattle.std.specs.Prelude.{◌≡◌, List, ℕ, ◌∷◌, ◌++◌, IfOk, IfSome, IsSomeAnd};
+ghost use Rattle.cob_source.specs.Tokens.{Lexeme, lexemes};
+ghost use Rattle.cob_copybook_clauses.specs.Clauses.{IsNameWord};
+ghost use Rattle.cob_copybook_clauses.specs.Reading.{NotFirst};
+ghost use Rattle.cob_copybook_clauses.specs.declared.term.Term.TheVariants as term;
+ghost use Rattle.cob_move_statements.specs.Written.{WrittenReference, written_reference, written_references};
+ghost use Rattle.cob_move_statements.specs.Statements.{EndsReferences, IsReference, Several};
+
+use crate::parts::Reference;
+use crate::subscripts::subscripts_at;
+use cob_copybook_clauses::{is_name_word, qualifiers_at};
+use cob_source::Token;
+use std::alloc::{AllocError, Global};
+
+/// The name in front, and what is behind it.
+fn name_at(words: &[Token]) -> Option<(&[u8], &[Token])>
+    ensures found { IfSome result (λ r. (w : Lexeme) × IsNameWord w × (w.text ≡ r.0.now) × (lexemes words.now ≡ w ∷ lexemes r.1.now)) }
+    ensures only { (w : Lexeme) (more : List Lexeme) → IsNameWord w → lexemes words.now ≡ w ∷ more → IsSomeAnd result (λ r. (r.0.now ≡ w.text) × (lexemes r.1.now ≡ more)) }
+{
+    let (first, more) = words.split_first()?;
+    if !is_name_word(first) {
+        return None;
+    }
+    Some((first.text.as_slice(), more))
+}
+
+/// The reference in front, and what is behind it.
+pub fn reference_at(words: &[Token]) -> Option<(Reference<'_>, &[Token])>
+    ensures found { IfSome result (λ r. (ws : List Lexeme) × IsReference (written_reference r.0) ws × (lexemes words.now ≡ ws ++ lexemes r.1.now)) }
+    ensures only { (x : WrittenReference) (ws more : List Lexeme) → IsReference x ws → NotFirst term.Of more → NotFirst term.OpenBracket more → lexemes words.now ≡ ws ++ more
+        → IsSomeAnd result (λ r. (written_reference r.0 ≡ x) × (lexemes r.1.now ≡ more)) }
+{
+    let (name, named) = name_at(words)?;
+    let (qualifiers, rest) = qualifiers_at(named);
+    let (subscripts, more) = subscripts_at(rest)?;
+    Some((
+        Reference {
+            name,
+            qualifiers,
+            subscripts,
+        },
+        more,
+    ))
+}
+
+/// The references in front, as many as there are, and what is behind them.
+///
+/// # Errors
+///
+/// Memory was refused.
+pub fn references_at<'a>(
+    alloc: Global,
+    words: &'a [Token],
+) -> Result<(Vec<Reference<'a>>, &'a [Token]), AllocError>
+    ensures found { IfOk result (λ r. (ws : List Lexeme) × Several IsReference (written_references r.0.items) ws × (lexemes words.now ≡ ws ++ lexemes r.1.now)) }
+    ensures only { (xs : List WrittenReference) (ws more : List Lexeme) → Several IsReference xs ws → EndsReferences more → lexemes words.now ≡ ws ++ more
+        → IfOk result (λ r. (written_references r.0.items ≡ xs) × (lexemes r.1.now ≡ more)) }
+{
+    let mut references = Vec::new(alloc);
+    let mut rest = words;
+    while let Some((reference, more)) = reference_at(rest) {
+        references.push(reference)?;
+        rest = more;
+    }
+    Ok((references, rest))
+}

@@ -1,0 +1,84 @@
+ghost use Rattle.std.specs.Prelude.{◌≡◌, List, ◌∷◌, ◌++◌, IfSome, IsSomeAnd, IsTrue, false};
+ghost use Rattle.cob_source.specs.Tokens.{Lexeme, lexemes};
+ghost use Rattle.cob_copybook_clauses.specs.Reading.{NotFirst};
+ghost use Rattle.cob_copybook_clauses.specs.Terms.{term_of};
+ghost use Rattle.cob_copybook_clauses.specs.declared.term.Term.TheVariants as term;
+ghost use Rattle.cob_move_statements.specs.Written.{WrittenReference, WrittenSender, written_reference, written_sender};
+ghost use Rattle.cob_move_statements.specs.Statements.{IsReference, IsSender, NameFirst, NoName};
+
+use crate::literals::is_literal_or_figurative;
+use crate::parts::{Reference, StatementSender};
+use crate::references::reference_at;
+use cob_copybook_clauses::{Term, behind, constant_at, is_name_word};
+use cob_source::Token;
+
+/// Whether a name comes first.
+fn begins_with_name(words: &[Token]) -> bool
+    ensures yes { IsTrue result → NameFirst (lexemes words.now) }
+    ensures no { result ≡ false → NoName (lexemes words.now) }
+{
+    match words.split_first() {
+        Some((first, _)) => is_name_word(first),
+        None => false,
+    }
+}
+
+/// The entry in front that is sent, and what is behind it.
+fn sent_entry_at(words: &[Token]) -> Option<(StatementSender<'_>, &[Token])>
+    requires { NameFirst (lexemes words.now) }
+    ensures found { IfSome result (λ r. (ws : List Lexeme) × IsSender (written_sender r.0) ws × (lexemes words.now ≡ ws ++ lexemes r.1.now)) }
+    ensures only { (x : WrittenSender) (ws more : List Lexeme) → IsSender x ws → NotFirst term.Of more → NotFirst term.OpenBracket more → lexemes words.now ≡ ws ++ more
+        → IsSomeAnd result (λ r. (written_sender r.0 ≡ x) × (lexemes r.1.now ≡ more)) }
+{
+    let (reference, more) = reference_at(words)?;
+    Some((StatementSender::Reference(reference), more))
+}
+
+/// The constant in front that is sent, and what is behind it.
+fn sent_constant_at(words: &[Token]) -> Option<(StatementSender<'_>, &[Token])>
+    requires { NoName (lexemes words.now) }
+    ensures found { IfSome result (λ r. (ws : List Lexeme) × IsSender (written_sender r.0) ws × (lexemes words.now ≡ ws ++ lexemes r.1.now)) }
+    ensures only { (x : WrittenSender) (ws more : List Lexeme) → IsSender x ws → NotFirst term.Of more → NotFirst term.OpenBracket more → lexemes words.now ≡ ws ++ more
+        → IsSomeAnd result (λ r. (written_sender r.0 ≡ x) × (lexemes r.1.now ≡ more)) }
+{
+    let (constant, more) = constant_at(words)?;
+    if !is_literal_or_figurative(&constant) {
+        return None;
+    }
+    Some((StatementSender::Constant(constant), more))
+}
+
+/// The sender in front, and what is behind it.
+pub fn sender_at(words: &[Token]) -> Option<(StatementSender<'_>, &[Token])>
+    ensures found { IfSome result (λ r. (ws : List Lexeme) × IsSender (written_sender r.0) ws × (lexemes words.now ≡ ws ++ lexemes r.1.now)) }
+    ensures only { (x : WrittenSender) (ws more : List Lexeme) → IsSender x ws → NotFirst term.Of more → NotFirst term.OpenBracket more → lexemes words.now ≡ ws ++ more
+        → IsSomeAnd result (λ r. (written_sender r.0 ≡ x) × (lexemes r.1.now ≡ more)) }
+{
+    if begins_with_name(words) {
+        sent_entry_at(words)
+    } else {
+        sent_constant_at(words)
+    }
+}
+
+/// The sender in front of TO, and what is behind TO.
+pub fn sender_to_at(words: &[Token]) -> Option<(StatementSender<'_>, &[Token])>
+    ensures found { IfSome result (λ r. (ws : List Lexeme) × (to : Lexeme) × IsSender (written_sender r.0) ws × (term_of to ≡ term.To) × (lexemes words.now ≡ ws ++ to ∷ lexemes r.1.now)) }
+    ensures only { (x : WrittenSender) (ws more : List Lexeme) (to : Lexeme) → IsSender x ws → term_of to ≡ term.To → lexemes words.now ≡ ws ++ to ∷ more
+        → IsSomeAnd result (λ r. (written_sender r.0 ≡ x) × (lexemes r.1.now ≡ more)) }
+{
+    let (sender, rest) = sender_at(words)?;
+    let more = behind(rest, Term::To)?;
+    Some((sender, more))
+}
+
+/// The reference in front of TO, and what is behind TO.
+pub fn reference_to_at(words: &[Token]) -> Option<(Reference<'_>, &[Token])>
+    ensures found { IfSome result (λ r. (ws : List Lexeme) × (to : Lexeme) × IsReference (written_reference r.0) ws × (term_of to ≡ term.To) × (lexemes words.now ≡ ws ++ to ∷ lexemes r.1.now)) }
+    ensures only { (x : WrittenReference) (ws more : List Lexeme) (to : Lexeme) → IsReference x ws → term_of to ≡ term.To → lexemes words.now ≡ ws ++ to ∷ more
+        → IsSomeAnd result (λ r. (written_reference r.0 ≡ x) × (lexemes r.1.now ≡ more)) }
+{
+    let (reference, rest) = reference_at(words)?;
+    let more = behind(rest, Term::To)?;
+    Some((reference, more))
+}

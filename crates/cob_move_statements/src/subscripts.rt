@@ -1,0 +1,78 @@
+ghost use Rattle.std.specs.Prelude.{◌≡◌, ◌≢◌, ◌≤◌, ◌<◌, ◌↔◌, List, ℕ, ◌∷◌, ◌++◌, [], length, IfSome, IsSomeAnd, IsTrue};
+ghost use Rattle.std.specs.List.{AllByRecursion};
+ghost use Rattle.cob_decimal.specs.Literals.{AreDigits};
+ghost use Rattle.cob_source.specs.Tokens.{Lexeme, lexeme, lexemes};
+ghost use Rattle.cob_copybook_clauses.specs.declared.term.Term.TheVariants as term;
+ghost use Rattle.cob_move_statements.specs.Written.{texts};
+ghost use Rattle.cob_move_statements.specs.Statements.{AreSubscripts, IsBracketed, IsNumeral};
+ghost use Rattle.cob_copybook_clauses.specs.Reading.{NotFirst};
+
+use crate::literals::are_digits;
+use cob_copybook_clauses::{Term, behind, is_term};
+use cob_source::Token;
+
+/// Whether a word is of digits, one at least.
+fn is_numeral(token: &Token) -> bool
+    ensures { IsTrue result ↔ IsNumeral (lexeme token.now) }
+{
+    let text = token.text.as_slice();
+    is_term(token, Term::Plain) && !text.is_empty() && are_digits(text)
+}
+
+/// The words behind the one in front, if that is of digits.
+fn behind_numeral(words: &[Token]) -> Option<&[Token]>
+    ensures found { IfSome result (λ r. (w : Lexeme) × IsNumeral w × (lexemes words.now ≡ w ∷ lexemes r.now)) }
+    ensures only { (w : Lexeme) (more : List Lexeme) → IsNumeral w → lexemes words.now ≡ w ∷ more → IsSomeAnd result (λ r. lexemes r.now ≡ more) }
+{
+    let (first, more) = words.split_first()?;
+    if !is_numeral(first) {
+        return None;
+    }
+    Some(more)
+}
+
+/// The words without this many at the end.
+fn front(words: &[Token], behind: usize) -> &[Token]
+    requires { behind ≤ length words.now }
+    ensures { (done more : List Lexeme) → lexemes words.now ≡ done ++ more → length more ≡ behind → lexemes result.now ≡ done }
+{
+    &words[..words.len() - behind]
+}
+
+/// The words of digits in front, as many as there are, and what is behind them.
+fn numerals_at(words: &[Token]) -> (&[Token], &[Token])
+    ensures are { AllByRecursion IsNumeral (lexemes result.0.now) }
+    ensures found { lexemes words.now ≡ lexemes result.0.now ++ lexemes result.1.now }
+    ensures only { (ns more : List Lexeme) → AllByRecursion IsNumeral ns → NotFirst term.Plain more → lexemes words.now ≡ ns ++ more → (lexemes result.0.now ≡ ns) × (lexemes result.1.now ≡ more) }
+{
+    let mut rest = words;
+    while let Some(more) = behind_numeral(rest) {
+        rest = more;
+    }
+    (front(words, rest.len()), rest)
+}
+
+/// The words between the brackets in front, and what is behind them.
+fn bracketed_at(words: &[Token]) -> Option<(&[Token], &[Token])>
+    ensures found { IfSome result (λ r. (before after : Lexeme) × IsBracketed before after (lexemes r.0.now) × (lexemes words.now ≡ before ∷ (lexemes r.0.now ++ after ∷ lexemes r.1.now))) }
+    ensures only { (before after : Lexeme) (ns more : List Lexeme) → IsBracketed before after ns → lexemes words.now ≡ before ∷ (ns ++ after ∷ more) → IsSomeAnd result (λ r. (lexemes r.0.now ≡ ns) × (lexemes r.1.now ≡ more)) }
+{
+    let inside = behind(words, Term::OpenBracket)?;
+    let (numbers, rest) = numerals_at(inside);
+    let more = behind(rest, Term::CloseBracket)?;
+    if numbers.is_empty() {
+        return None;
+    }
+    Some((numbers, more))
+}
+
+/// The subscripts in front, or none, and what is behind them.
+pub fn subscripts_at(words: &[Token]) -> Option<(&[Token], &[Token])>
+    ensures found { IfSome result (λ r. (ws : List Lexeme) × AreSubscripts (texts (lexemes r.0.now)) ws × (lexemes words.now ≡ ws ++ lexemes r.1.now)) }
+    ensures only { (ts : List (List ℕ)) (ws more : List Lexeme) → AreSubscripts ts ws → NotFirst term.OpenBracket more → lexemes words.now ≡ ws ++ more → IsSomeAnd result (λ r. (texts (lexemes r.0.now) ≡ ts) × (lexemes r.1.now ≡ more)) }
+{
+    match words.split_first() {
+        Some((first, _)) if is_term(first, Term::OpenBracket) => bracketed_at(words),
+        _ => Some((&words[..0], words)),
+    }
+}
