@@ -10,3 +10,4 @@ pub mod ThoseLemmas
 pub mod ByteLemmas
 pub mod NeedLemmas
 pub mod StorageLemmas
+pub mod UnreadLemmas

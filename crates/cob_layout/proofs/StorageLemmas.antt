@@ -1,9 +1,9 @@
 -- Places of senders lie within a record's bytes.
-use Rattle.std.proofs.Common.{◌≡◌, ◌⊎◌, ℕ, ◌+◌, ◌≤◌, Bool, true, false, List, [], ◌∷◌, length, Option, Some, None, refl, sym, ap, subst, ◌∙◌, arith, inl, inr, Ok, Err, Result}
+use Rattle.std.proofs.Common.{◌≡◌, ℕ, ◌+◌, ◌≤◌, Bool, true, false, List, [], ◌∷◌, Option, Some, None, refl, sym, ap, ◌∙◌, arith, inl, inr, Ok, Err, Result}
 use Rattle.std.specs.Prelude.{option_map, if◌then◌else◌}
 use Rattle.cob_copybook_tree.specs.Forests.{Tree}
 use Rattle.cob_copybook_tree.specs.Nodes.{Resolved}
-use Rattle.cob_copybook_tree.specs.Lengths.{most, sum_of}
+use Rattle.cob_copybook_tree.specs.Lengths.{sum_of}
 use Rattle.cob_copybook.specs.Books.{IsRecord}
 use Rattle.cob_fields.specs.declared.Place.{Place}
 use Rattle.cob_layout_places.specs.declared.places.Found.{Found}
@@ -15,8 +15,7 @@ use Rattle.cob_layout_places.specs.References.{Refers}
 use Rattle.cob_layout_places.proofs.ForestLemmas.{sum_le, within_always}
 use Rattle.cob_layout.specs.declared.layout.PlaceFault.{PlaceFault}
 use Rattle.cob_layout.specs.Placed.{placed}
-use Rattle.cob_layout.specs.Counting.{AreThose, CountsOf, IsSparedOf, NeededOf}
-use Rattle.cob_layout.specs.Storage.{IsStorage}
+use Rattle.cob_layout.specs.Counting.{AreThose, IsSparedOf}
 use Rattle.cob_layout.specs.Laws.{AllGiveNeeded, EndInLength, LieInStorage, OneOfNeeded}
 
 -- an answer that is a place

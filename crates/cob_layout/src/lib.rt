@@ -25,7 +25,7 @@
 //!   to its greatest (`ok`), or answers the first fault (`err`) and leaves the counts as they were (`same`).
 //! - [`Layout::needed`] takes only the counts that a reference reads: those of the tables that stand before its entry, are it, hold it, stand
 //!   beneath it or beneath a table that holds it, but not those that it is spared where it receives; the other tables have their greatest number
-//!   (`ok`, `err`, `same`).
+//!   (`ok`, `err`, `same`). [`Layout::needs_no_count`] says whether it reads none (`must`, `only`): then its place is the same in every storage.
 //! - The bytes of a storage say one thing of all counts and of those that are needed ([`one_outcome_of_counts`]). Where all are valid, those
 //!   that are needed are, and the place is that under all counts, but for the tables that the reference is spared, which have their greatest
 //!   number ([`all_give_needed`]). So a place that a sender finds lies within the record's bytes, be they all of its storage or its current
