@@ -32,4 +32,4 @@ pub use laws::one_received;
 pub use receiving::receive;
 pub use refusals::{Refusal, refusal_of};
 pub use sent::Sent;
-pub use table::{Sender, may_move};
+pub use table::{SenderKind, may_move};
