@@ -5,7 +5,7 @@
 #![tactic(auto)]
 
 ghost use Rattle.std.specs.Prelude.{length, IsTrue};
-ghost use Rattle.cob_move_initial.specs.Values.{IsStorable};
+ghost use Rattle.cob_item.specs.Items.{IsStorable};
 ghost use Rattle.cob_move_receive.specs.Sent.{sent, Occupies, IsComplete};
 
 mod constants;
