@@ -1,12 +1,14 @@
 -- Which number the bytes of an item represent, whatever its usage.
-use Rattle.std.specs.Prelude.{◌≡◌, ℕ, ◌+◌, ◌/◌, ◌<◌, ◌≤◌, Bool, true, false, List, Option, Some, None}
+use Rattle.std.specs.Prelude.{◌≡◌, ℕ, ◌+◌, ◌/◌, ◌<◌, ◌≤◌, Bool, true, false, List, Option, Some, None, MatchBool}
 use Rattle.cob_picture.specs.Positions.{Seen}
-use Rattle.cob_picture.specs.Counts.{digits, signed}
+use Rattle.cob_picture.specs.Counts.{digits, signed, size}
 use Rattle.cob_copybook_clauses.specs.declared.kinds.Usage.{Usage}
 use Rattle.cob_copybook_clauses.specs.declared.kinds.Usage.TheVariants as usage
 use Rattle.cob_copybook_clauses.specs.declared.kinds.Sign.{Sign}
 use Rattle.cob_copybook_tree.specs.declared.node.Item.{Item}
+use Rattle.cob_copybook_tree.specs.Lengths.{item_size}
 use Rattle.cob_copybook_tree.specs.Resolving.{is_numeric}
+use Rattle.cob_copybook_lengths.specs.Values.{is_number}
 use Rattle.cob_limits.specs.Limits.{most_binary_digits}
 use Rattle.cob_codec.specs.Sign.{IsHeld}
 use Rattle.cob_codec.specs.Zoned.{IsZoned, zoned_form}
@@ -82,6 +84,11 @@ pub record IsNumberItem (i : Item) : Type 0 where
   pub numeric : is_numeric i.picture.category ≡ true
   pub plain : i.blank ≡ false
   pub taken : IsTaken (form_of i) i.picture
+
+-- An item's bytes can hold what it describes: a number has a kind of storage that takes its picture, and another item has a byte for each
+-- position of its picture that has one.
+abbrev pub IsStorable : Item → Type 0
+IsStorable i = MatchBool (is_number i) (IsNumberItem i) (item_size i ≡ size i.picture.positions)
 
 -- the bytes of an item represent at most one number
 abbrev pub OneNumber : Type 0

@@ -1,16 +1,12 @@
 //! What records hold before the first move.
 
-ghost use Rattle.std.specs.Prelude.{IsTrue};
-ghost use Rattle.cob_copybook_entries.specs.Described.{constant};
-ghost use Rattle.cob_copybook_lengths.specs.Values.{IsCharacterValue};
-
 use crate::books::book_of;
 use cob_copybook_clauses::Figurative;
 use cob_copybook_entries::{Text, Value};
 use cob_layout::Layout;
 use cob_limits::MAX_LITERAL;
 use cob_move::initial;
-use cob_move_initial::write_constant;
+use cob_move_initial::write_group;
 use cob_rows::{Row, RowFault, push_digits};
 use std::alloc::Global;
 
@@ -61,25 +57,11 @@ fn value_of(alloc: Global, row: &Row) -> Result<Value, RowFault> {
     }
 }
 
-/// Whether an item of this size that is no number takes a constant.
-fn takes_characters(size: usize, value: &Value) -> bool
-    ensures { IsTrue result → IsCharacterValue size (constant value.now) }
-{
-    match value {
-        Value::Literal(text) => text.as_bytes().len() <= size,
-        Value::Number { .. } => false,
-        Value::Figurative(_) | Value::All(_) => true,
-    }
-}
-
-/// What a constant leaves in so many bytes.
+/// What a group of so many bytes holds whose VALUE is this constant.
 pub(crate) fn constant(alloc: Global, row: &Row, out: &mut String) -> Result<(), RowFault> {
     let value = value_of(alloc, row)?;
     let size: u16 = row.number(3)?;
     let mut bytes = vec![in alloc; UNWRITTEN; usize::from(size)]?;
-    if !takes_characters(bytes.len(), &value) {
-        return Err(RowFault::BadRow);
-    }
-    write_constant(&value, &mut bytes);
+    write_group(&value, &mut bytes);
     Ok(push_digits(out, bytes.as_slice())?)
 }

@@ -7,7 +7,7 @@ use Rattle.cob_copybook_tree.specs.Forests.{Forest, Grows, Tree}
 use Rattle.cob_copybook_tree.specs.Nodes.{Resolved, node}
 use Rattle.cob_copybook_tree.specs.Lengths.{most, most_by, sum_of, element}
 use Rattle.cob_layout_places.proofs.ForestLemmas.{node_out}
-use Rattle.cob_move_initial.specs.Values.{repeated}
+use Rattle.cob_move_receive.specs.Characters.{repeated}
 use Rattle.cob_move.proofs.PartLemmas.{parts_repeated}
 use Rattle.cob_move.specs.Initial.{Unless, HoldsElement}
 use Rattle.cob_move.specs.Begun.{AreElements, IsBegun}

@@ -5,7 +5,7 @@ use Rattle.cob_copybook_tree.specs.declared.node.Kind.{Kind}
 use Rattle.cob_copybook_tree.specs.declared.node.Kind.TheVariants.{Group, Item as ItemKind}
 use Rattle.cob_copybook_tree.specs.Forests.{Bare, Grows}
 use Rattle.cob_copybook_tree.specs.Lengths.{most, sum_of}
-use Rattle.cob_move_initial.specs.Laws.{OneConstant, OneItem}
+use Rattle.cob_move_initial.specs.Laws.{OneGroup, OneItem}
 use Rattle.cob_move.specs.Initial.{AreParts, Unless, HoldsElement, IsInitial}
 use Rattle.cob_move.specs.Laws.{OneInitial}
 
@@ -25,11 +25,11 @@ one_unless : (o : Option (List ℕ)) (IsPart : List ℕ → Type 0) → IsOne Is
 one_unless None IsPart one a b p q = one a b p q
 one_unless (Some name) IsPart one a b p q = p ∙ sym q
 
-module _ (constants : OneConstant) (items : OneItem) where
+module _ (groups : OneGroup) (items : OneItem) where
   one_element : (kind : Kind) (value : Option Constant) (size : ℕ) (AreBeneath : List ℕ → Type 0) → IsOne AreBeneath → IsOne (HoldsElement kind value size AreBeneath)
   one_element (ItemKind i) value size AreBeneath one a b p q = items i value a b p q
   one_element Group None size AreBeneath one a b p q = one a b p q
-  one_element Group (Some c) size AreBeneath one a b p q = constants size c a b p q
+  one_element Group (Some c) size AreBeneath one a b p q = groups size c a b p q
 
   pub one_initial : OneInitial
   one_initial Bare a b p q = p ∙ sym q

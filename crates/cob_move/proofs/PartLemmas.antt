@@ -5,7 +5,7 @@ use Rattle.std.proofs.lemmas.List.Edits.{take-paste}
 use Rattle.std.proofs.Math.Numerals.{add-one}
 use Rattle.std.specs.List.{copy_within}
 use lib.Seq.{paste}
-use Rattle.cob_move_initial.specs.Values.{repeated}
+use Rattle.cob_move_receive.specs.Characters.{repeated}
 use Rattle.cob_move.specs.Initial.{AreParts}
 
 -- one more element

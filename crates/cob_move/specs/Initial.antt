@@ -6,7 +6,7 @@ use Rattle.cob_copybook_tree.specs.declared.node.Kind.TheVariants.{Group, Item a
 use Rattle.cob_copybook_tree.specs.Forests.{Forest, Bare, Grows}
 use Rattle.cob_copybook_tree.specs.Nodes.{Resolved}
 use Rattle.cob_copybook_tree.specs.Lengths.{most, sum_of}
-use Rattle.cob_move_initial.specs.Values.{HoldCharacters, HoldsItem}
+use Rattle.cob_move_initial.specs.Values.{HoldsGroup, HoldsItem}
 
 -- so many parts, one behind another, each of which is so
 abbrev pub AreParts : (List ℕ → Type 0) → ℕ → List ℕ → Type 0
@@ -22,7 +22,7 @@ Unless (Some name) IsPart bytes = bytes ≡ []
 abbrev pub HoldsElement : Kind → Option Constant → ℕ → (List ℕ → Type 0) → List ℕ → Type 0
 HoldsElement (ItemKind i) value size AreBeneath bytes = HoldsItem i value bytes
 HoldsElement Group None size AreBeneath bytes = AreBeneath bytes
-HoldsElement Group (Some c) size AreBeneath bytes = HoldCharacters size c bytes
+HoldsElement Group (Some c) size AreBeneath bytes = HoldsGroup size c bytes
 
 -- The storage of entries side by side before the first move: in the record's order, for each entry that redefines nothing, as many elements as
 -- there are at most.

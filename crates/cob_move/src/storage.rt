@@ -4,7 +4,7 @@ ghost use Rattle.std.specs.Prelude.{◌≡◌, ℕ, ◌*◌, ◌<◌, length, ta
 ghost use Rattle.cob_copybook_tree.specs.Nodes.{node, forest};
 ghost use Rattle.cob_copybook_tree.specs.Lengths.{most, sum_of, element, whole};
 ghost use Rattle.cob_layout_places.specs.Lengths.{alone};
-ghost use Rattle.cob_move_initial.specs.Values.{repeated};
+ghost use Rattle.cob_move_receive.specs.Characters.{repeated};
 ghost use Rattle.cob_move.specs.Initial.{HoldsElement, IsInitial};
 ghost use Rattle.cob_move.specs.Begun.{AreElements, IsBegun};
 ghost use Rattle.cob_move.specs.AtPlaces.{HoldAtPlaces};
@@ -13,7 +13,7 @@ ghost use Rattle.cob_move.specs.Ready.{AreReady, IsReady};
 use cob_copybook::Book;
 use cob_copybook_tree::{Kind, Node, element_length, whole_length};
 use cob_layout::Layout;
-use cob_move_initial::{write_constant, write_item};
+use cob_move_initial::{write_group, write_item};
 use cob_sound::records_are_sound;
 
 /// Copies the first bytes, `size` of them, behind themselves, until they stand there so many times.
@@ -40,7 +40,7 @@ fn write_element(entry: &Node, bytes: &mut [u8])
     match &entry.kind {
         Kind::Item(item) => write_item(item, &entry.value, bytes),
         Kind::Group => match &entry.value {
-            Some(value) => write_constant(value, bytes),
+            Some(value) => write_group(value, bytes),
             None => write_entries(entry.children.as_slice(), bytes),
         },
     }

@@ -1,21 +1,56 @@
--- What an item holds before the first move is one thing.
-use Rattle.std.proofs.Common.{◌≡◌, ℕ, ℤ, pos, Bool, true, false, ◌&&◌, nat_lt, List, [], sym, ap, ◌∙◌, Some, None}
-use Rattle.std.specs.Prelude.{MatchBool}
-use Rattle.cob_decimal.specs.Decimal.{number_of}
-use Rattle.cob_decimal.specs.Laws.{OneList}
-use Rattle.cob_picture.specs.Counts as counts
-use Rattle.cob_picture.specs.declared.category.Category.{Category}
-use Rattle.cob_picture.specs.declared.category.Category.TheVariants.{Alphabetic, Numeric as NumericPicture, Alphanumeric, AlphanumericEdited, NumericEdited}
-use Rattle.cob_edit.specs.Pictured.{IsEdited, OneText}
-use Rattle.cob_edit.specs.Characters.{OneSpelling}
+-- What an item or a group holds before the first move is what it received.
+use Rattle.std.proofs.Common.{◌≡◌, ℕ, Bool, true, false, List, Some, None, refl, sym, subst}
+use Rattle.std.specs.Prelude.{MatchBool, if◌then◌else◌}
+use Rattle.cob_picture.specs.Positions.{shows_number}
+use Rattle.cob_copybook_clauses.specs.declared.kinds.Figurative.{Figurative}
 use Rattle.cob_copybook_clauses.specs.declared.kinds.Figurative.TheVariants.{Space, Zero, HighValue, LowValue, Quote}
 use Rattle.cob_copybook_entries.specs.Described.{Constant, Numeric, Quoted, Figure, Repeated}
+use Rattle.cob_copybook_tree.specs.declared.node.Kind.TheVariants.{Group, Item as ItemKind}
 use Rattle.cob_copybook_tree.specs.declared.node.Item.{Item}
 use Rattle.cob_copybook_tree.specs.Lengths.{item_size}
-use Rattle.cob_copybook_lengths.specs.Values.{is_number}
-use Rattle.cob_item.specs.Items.{stored_form}
-use Rattle.cob_move_initial.specs.Values.{HoldCharacters, HoldsNumber, HoldsNumeric, IsCleared}
-use Rattle.cob_move_initial.specs.Laws.{OneConstant, OneItem}
+use Rattle.cob_copybook_lengths.specs.Values.{is_number, IsNumericValue}
+use Rattle.cob_picture.specs.Positions.{Seen}
+use Rattle.cob_move_receive.specs.Sent.{Amount, Literal}
+use Rattle.cob_move_receive.specs.Numbers.{ConstantGives}
+use Rattle.cob_move_receive.specs.Received.{GetsCharacters, GetsNumber, Received, OneReceived, outcome}
+use Rattle.cob_move_receive.proofs.CharacterLemmas.{some_text}
+use Rattle.cob_move_initial.specs.Values.{figurative_for, HoldsGroup}
+use Rattle.cob_move_initial.specs.Laws.{OneGroup, OneItem}
+
+-- a constant that gives what the item asks for is received
+given : (b : Bool) (c : Constant) (i : Item) (n : ℕ) → (b ≡ true → (v : Amount) × ConstantGives c v)
+    → MatchBool b (GetsNumber (Literal c) i None) (GetsCharacters (Literal c) (ItemKind i) n None) → ⊥
+given true c i n gives none = let v = gives refl in none v.0 v.1
+given false c i n gives none = let text = some_text c n in none text.0 text.1
+
+pub received : (c : Constant) (i : Item) (n : ℕ) (b : Bool) (bytes : List ℕ) → (shows_number i.picture.category ≡ true → (v : Amount) × ConstantGives c v)
+    → Received (Literal c) (ItemKind i) n (outcome b bytes) → Received (Literal c) (ItemKind i) n (Some bytes)
+received c i n true bytes gives h = h
+received c i n false bytes gives h = absurd (given (shows_number i.picture.category) c i n gives h)
+
+-- a constant that a number may have is a number
+pub some_number : (p : Seen) (c : Constant) → IsNumericValue p c → (v : Amount) × ConstantGives c v
+some_number p (Numeric sign negative digits scale) is = (record { negative = negative; digits = digits; scale = scale }, refl)
+some_number p (Figure Zero) is = (_, refl)
+some_number p (Figure Space) is = absurd is
+some_number p (Figure HighValue) is = absurd is
+some_number p (Figure LowValue) is = absurd is
+some_number p (Figure Quote) is = absurd is
+some_number p (Quoted text) is = absurd is
+some_number p (Repeated text) is = absurd is
+
+-- ZERO is one
+pub zero_given : (shows : Bool) (f : Figurative) → f ≡ (if shows then Zero else Space) → shows ≡ true → (v : Amount) × ConstantGives (Figure f) v
+zero_given true f e is = subst (λ (g : Figurative). (v : Amount) × ConstantGives (Figure g) v) (sym e) (_, refl)
+zero_given false f e is = absurd cc
+
+-- ---- one thing
+
+same : (a b : List ℕ) → (Some a) ≡ (Some b) → a ≡ b
+same a b e = cc
+
+pub one_group : OneReceived → OneGroup
+one_group law n c a b x y = same a b (law (Literal c) Group n (Some a) (Some b) x y)
 
 -- of two cases both times the same one
 one_of : (c : Bool) (P Q : List ℕ → Type 0) (a b : List ℕ)
@@ -23,33 +58,11 @@ one_of : (c : Bool) (P Q : List ℕ → Type 0) (a b : List ℕ)
 one_of true P Q a b p q x y = p x y
 one_of false P Q a b p q x y = q x y
 
--- a number is stored in one way
-one_number : OneList → (i : Item) (negative : Bool) (sent : List ℕ) (scale : ℤ) (a b : List ℕ)
-    → HoldsNumber i negative sent scale a → HoldsNumber i negative sent scale b → a ≡ b
-one_number law i negative sent scale a b x y =
-    let digits : x.digits ≡ y.digits = law x.digits y.digits x.valid y.valid (x.count ∙ sym y.count) (x.value ∙ sym y.value) in
-    let minus : x.minus ≡ y.minus = x.sign ∙ ap (λ ds. negative && (counts.signed i.picture.positions && nat_lt 0 (number_of ds))) digits ∙ sym y.sign in
-    x.stored ∙ ap (λ m. stored_form i m x.digits) minus ∙ ap (stored_form i y.minus) digits ∙ sym y.stored
+in_item : OneReceived → (c : Constant) (i : Item) (a b : List ℕ)
+    → Received (Literal c) (ItemKind i) (item_size i) (Some a) → Received (Literal c) (ItemKind i) (item_size i) (Some b) → a ≡ b
+in_item law c i a b x y = same a b (law (Literal c) (ItemKind i) (item_size i) (Some a) (Some b) x y)
 
-one_numeric : OneList → (i : Item) (c : Constant) (a b : List ℕ) → HoldsNumeric i c a → HoldsNumeric i c b → a ≡ b
-one_numeric law i (Numeric sign negative digits scale) a b x y = one_number law i negative digits scale a b x y
-one_numeric law i (Figure Zero) a b x y = one_number law i false [] (pos 0) a b x y
-one_numeric law i (Figure Space) a b x y = absurd x
-one_numeric law i (Figure HighValue) a b x y = absurd x
-one_numeric law i (Figure LowValue) a b x y = absurd x
-one_numeric law i (Figure Quote) a b x y = absurd x
-one_numeric law i (Quoted text) a b x y = absurd x
-one_numeric law i (Repeated text) a b x y = absurd x
-
-one_cleared : OneList → OneText → OneSpelling → (category : Category) (i : Item) (a b : List ℕ) → IsCleared category i a → IsCleared category i b → a ≡ b
-one_cleared law texts spellings NumericPicture i a b x y =
-    one_of i.blank (IsEdited i.picture i.blank false [] (pos 0)) (HoldsNumber i false [] (pos 0)) a b (texts i.picture i.blank false [] (pos 0) a b) (one_number law i false [] (pos 0) a b) x y
-one_cleared law texts spellings NumericEdited i a b x y = texts i.picture i.blank false [] (pos 0) a b x y
-one_cleared law texts spellings AlphanumericEdited i a b x y = spellings i.picture.positions _ a b x y
-one_cleared law texts spellings Alphabetic i a b x y = x ∙ sym y
-one_cleared law texts spellings Alphanumeric i a b x y = x ∙ sym y
-
-pub one_item : OneList → OneText → OneSpelling → OneConstant → OneItem
-one_item law texts spellings constants i None a b x y = one_cleared law texts spellings i.picture.category i a b x y
-one_item law texts spellings constants i (Some c) a b x y =
-    one_of (is_number i) (HoldsNumeric i c) (HoldCharacters (item_size i) c) a b (one_numeric law i c a b) (constants (item_size i) c a b) x y
+pub one_item : OneReceived → OneItem
+one_item law i None a b x y = in_item law (Figure (figurative_for i)) i a b x y
+one_item law i (Some c) a b x y =
+    one_of (is_number i) (λ t. Received (Literal c) (ItemKind i) (item_size i) (Some t)) (HoldsGroup (item_size i) c) a b (in_item law c i a b) (one_group law (item_size i) c a b) x y

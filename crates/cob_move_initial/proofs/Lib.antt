@@ -1,2 +1,1 @@
-pub mod CharacterLemmas
 pub mod ItemLemmas

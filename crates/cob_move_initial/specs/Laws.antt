@@ -2,11 +2,11 @@
 use Rattle.std.specs.Prelude.{◌≡◌, ℕ, List, Option}
 use Rattle.cob_copybook_entries.specs.Described.{Constant}
 use Rattle.cob_copybook_tree.specs.declared.node.Item.{Item}
-use Rattle.cob_move_initial.specs.Values.{HoldCharacters, HoldsItem}
+use Rattle.cob_move_initial.specs.Values.{HoldsGroup, HoldsItem}
 
--- a constant has one text
-abbrev pub OneConstant : Type 0
-OneConstant = (n : ℕ) (c : Constant) (a b : List ℕ) → HoldCharacters n c a → HoldCharacters n c b → a ≡ b
+-- a group with a VALUE holds one thing
+abbrev pub OneGroup : Type 0
+OneGroup = (n : ℕ) (c : Constant) (a b : List ℕ) → HoldsGroup n c a → HoldsGroup n c b → a ≡ b
 
 -- an item holds one thing
 abbrev pub OneItem : Type 0

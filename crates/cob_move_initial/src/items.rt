@@ -1,76 +1,53 @@
-//! Items.
+//! Items, and groups with a VALUE.
 
-ghost use Rattle.std.specs.Prelude.{◌≡◌, ◌≤◌, length, option_map, pos, false, IfSome, []};
-ghost use Rattle.cob_picture.specs.declared.category.Category.TheVariants.{Numeric as NumericPicture};
-ghost use Rattle.cob_picture.specs.Counts.{size};
+ghost use Rattle.std.specs.Prelude.{◌≡◌, length, option_map, true, IfSome, Some};
+ghost use Rattle.cob_picture.specs.Positions.{shows_number};
 ghost use Rattle.cob_copybook_entries.specs.Described.{constant};
 ghost use Rattle.cob_copybook_tree.specs.Lengths.{item_size};
-ghost use Rattle.cob_copybook_lengths.specs.Values.{is_number, IsItemValue, IsNumericValue};
-ghost use Rattle.cob_item.specs.Items.{IsNumberItem};
-ghost use Rattle.cob_move_initial.specs.Values.{HoldsItem, HoldsNumber, HoldsNumeric, IsCleared, IsStorable};
+ghost use Rattle.cob_copybook_tree.specs.declared.node.Kind.TheVariants.{Item as ItemKind};
+ghost use Rattle.cob_copybook_lengths.specs.Values.{is_number, IsItemValue};
+ghost use Rattle.cob_item.specs.Items.{IsStorable};
+ghost use Rattle.cob_move_receive.specs.Sent.{Amount, Literal};
+ghost use Rattle.cob_move_receive.specs.Numbers.{ConstantGives};
+ghost use Rattle.cob_move_receive.specs.Received.{Received};
+ghost use Rattle.cob_move_initial.specs.Values.{figurative_for, HoldsGroup, HoldsItem};
 
-use crate::constants::{SPACE, write_constant};
+use cob_copybook_clauses::Figurative;
 use cob_copybook_entries::Value;
 use cob_copybook_lengths::is_number;
 use cob_copybook_tree::Item;
-use cob_decimal::{Digits, Number};
-use cob_edit::{edit, edit_text};
-use cob_item::store_number;
-use cob_picture::Category;
+use cob_move_receive::{Sent, receive_in_group, receive_in_item};
 
-/// The number 0.
-fn zero() -> Number
-    ensures negative { result.negative ≡ false }
-    ensures digits { result.digits ≡ [] }
-    ensures scale { result.scale ≡ pos 0 }
+/// Moves a constant to an item: a number to one that shows numbers.
+fn move_constant(value: &Value, item: &Item, bytes: &mut [u8])
+    requires number { shows_number item.now.picture.category ≡ true
+        → (v : Amount) × ConstantGives (constant value.now) v }
+    requires storable { IsStorable item.now }
+    requires long { length bytes.old ≡ item_size item.now }
+    ensures { Received
+        (Literal (constant value.now)) (ItemKind item.now) (item_size item.now) (Some bytes.new) }
 {
-    Number::new(false, Digits::new(), 0)
+    receive_in_item(&Sent::Constant(value), item, bytes);
 }
 
-/// Moves a number to an item that is one: its digits are aligned by the point, and its minus stays only where the item has a sign and something
-/// is left.
-fn move_number(item: &Item, number: &Number, bytes: &mut [u8])
-    requires number { IsNumberItem item.now }
-    requires long { length bytes.old ≡ item_size item.now }
-    ensures { HoldsNumber
-        item.now number.now.negative number.now.digits number.now.scale bytes.new }
+/// The figurative constant that an item without VALUE receives.
+fn figurative_for(item: &Item) -> Figurative
+    ensures { result ≡ figurative_for item.now }
 {
-    let picture = &item.picture;
-    let aligned = number.align(picture.digits(), picture.scale(), picture.signed());
-    store_number(item, &aligned, bytes);
-}
-
-/// Writes the constant of an item that is a number.
-fn write_number(item: &Item, value: &Value, bytes: &mut [u8])
-    requires number { IsNumberItem item.now }
-    requires fits { IsNumericValue item.now.picture (constant value.now) }
-    requires long { length bytes.old ≡ item_size item.now }
-    ensures { HoldsNumeric item.now (constant value.now) bytes.new }
-{
-    match value {
-        Value::Number { number, .. } => move_number(item, number, bytes),
-        // The only other constant of a number is ZERO.
-        Value::Figurative(_) | Value::Literal(_) | Value::All(_) => {
-            move_number(item, &zero(), bytes);
-        }
+    if item.picture.category().shows_number() {
+        Figurative::Zero
+    } else {
+        Figurative::Space
     }
 }
 
-/// Writes what an item without a constant holds: what MOVE ZERO leaves in a number or an edited number, and MOVE SPACE in another item.
+/// Writes what an item without VALUE holds: what MOVE ZERO leaves in a number or an edited number, and MOVE SPACE in another item.
 fn clear(item: &Item, bytes: &mut [u8])
     requires storable { IsStorable item.now }
     requires long { length bytes.old ≡ item_size item.now }
-    ensures { IsCleared item.now.picture.category item.now bytes.new }
+    ensures { HoldsItem item.now None bytes.new }
 {
-    match item.picture.category() {
-        Category::Numeric if !item.blank => move_number(item, &zero(), bytes),
-        Category::Numeric | Category::NumericEdited => {
-            edit(&item.picture, item.blank, &zero(), bytes);
-        }
-        // A sender without characters gives a space at each place that holds one.
-        Category::AlphanumericEdited => edit_text(&item.picture, &[], bytes),
-        Category::Alphabetic | Category::Alphanumeric => bytes.fill(SPACE),
-    }
+    move_constant(&Value::Figurative(figurative_for(item)), item, bytes);
 }
 
 /// Writes what one occurrence of an item holds before the first move.
@@ -88,7 +65,17 @@ pub fn write_item(item: &Item, value: &Option<Value>, bytes: &mut [u8])
 {
     match value {
         None => clear(item, bytes),
-        Some(value) if is_number(item) => write_number(item, value, bytes),
-        Some(value) => write_constant(value, bytes),
+        Some(value) if is_number(item) => move_constant(value, item, bytes),
+        Some(value) => write_group(value, bytes),
     }
+}
+
+/// Writes what a group with a VALUE holds before the first move: its characters from the left, with spaces behind them, and a figurative
+/// constant, or ALL and a literal, repeated to the last byte. (ANSI X3.23-1985, Nucleus: the VALUE clause; Language Concepts: figurative
+/// constants.)
+pub fn write_group(value: &Value, bytes: &mut [u8])
+    ensures holds { HoldsGroup (length bytes.old) (constant value.now) bytes.new }
+    ensures room { length bytes.new ≡ length bytes.old }
+{
+    receive_in_group(&Sent::Constant(value), bytes);
 }

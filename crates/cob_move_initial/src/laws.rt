@@ -1,13 +1,19 @@
 //! Laws of what items and groups hold before the first move.
 
-ghost use Rattle.cob_move_initial.specs.Laws.{OneConstant, OneItem};
+ghost use Rattle.cob_move_initial.specs.Laws.{OneGroup, OneItem};
 
-/// A constant has one text.
-pub fn one_constant()
-    ensures { OneConstant }
-{}
+use cob_move_receive::one_received;
+
+/// A group with a VALUE holds one thing before the first move.
+pub fn one_group()
+    ensures { OneGroup }
+{
+    one_received();
+}
 
 /// An item holds one thing before the first move.
 pub fn one_item()
     ensures { OneItem }
-{}
+{
+    one_received();
+}

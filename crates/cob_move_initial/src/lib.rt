@@ -2,20 +2,18 @@
 //! SPACE would leave (ANSI X3.23-1985, Nucleus: the VALUE clause; IBM Enterprise COBOL for z/OS, Language Reference, "VALUE clause").
 //!
 //! What is promised: [`write_item`] writes what `HoldsItem` of specs/Values.antt says of the item and its constant, into all bytes of one
-//! occurrence (`holds`), and [`write_constant`] what `HoldCharacters` says of a constant in a group, or in another entry that is no number.
-//! A number takes ZERO or a numeric literal, aligned by the point into its kind of storage; every other entry takes characters as they are
-//! written, from the left, with spaces behind them. JUSTIFIED, editing and BLANK WHEN ZERO don't act on a constant. The laws: a constant has
-//! one text ([`one_constant`]), and an item holds one thing ([`one_item`]).
+//! occurrence (`holds`), and [`write_group`] what `HoldsGroup` says of a constant in a group. Both are said by the rule of MOVE: a number
+//! receives its constant; every other entry holds its constant as a group receives it, characters as they are written, from the left, with
+//! spaces behind them, so that JUSTIFIED, editing and BLANK WHEN ZERO don't act; and an item without VALUE receives ZERO or SPACE. The
+//! laws: a group with a VALUE holds one thing ([`one_group`]), and so does an item ([`one_item`]).
 //!
-//! It stands on cob_copybook_tree and cob_item for items and the storage of numbers, on cob_edit for edited items, on cob_copybook_lengths for which entry takes
-//! which constant, on cob_copybook_entries for constants, on cob_picture and cob_decimal for pictures and numbers, and on cob_cp037 for the code page.
-//! Nothing here takes memory, and the work grows with the bytes that are written.
+//! It stands on cob_move_receive for the rule of MOVE, on cob_item for items that can be stored, on cob_copybook_tree and cob_picture for
+//! items and their categories, on cob_copybook_lengths for which entry takes which constant, and on cob_copybook_entries and
+//! cob_copybook_clauses for constants. Nothing here takes memory, and the work grows with the bytes that are written.
 #![tactic(auto)]
 
-mod constants;
 mod items;
 mod laws;
 
-pub use constants::write_constant;
-pub use items::write_item;
-pub use laws::{one_constant, one_item};
+pub use items::{write_group, write_item};
+pub use laws::{one_group, one_item};

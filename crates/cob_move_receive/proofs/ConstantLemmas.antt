@@ -3,18 +3,10 @@ use Rattle.std.proofs.Common.{◌≡◌, ℕ, ◌-◌, Bool, true, false, List, 
 use Rattle.std.proofs.lemmas.List.{take-append-le, take_all}
 use Rattle.cob_picture.specs.declared.category.Category.{Category}
 use Rattle.cob_picture.specs.declared.category.Category.TheVariants.{Alphabetic, Numeric, Alphanumeric, AlphanumericEdited, NumericEdited}
-use Rattle.cob_copybook_entries.specs.Described.{Constant, Numeric as Number, Quoted, Figure, Repeated}
 use Rattle.cob_copybook_tree.specs.declared.node.Item.{Item}
-use Rattle.cob_move_initial.specs.Values.{padded, HoldCharacters}
-use Rattle.cob_move_receive.specs.Characters.{GivesConstant, IsRepeated, Arranged, placement_by, has_insertions, padded_left, placement_under}
+use Rattle.cob_move_receive.specs.Characters.{Arranged, placement_by, has_insertions, padded, padded_left, placement_under}
 
--- a constant that fills the receiver gives just that
-pub repeated_gives : (c : Constant) (n : ℕ) (bytes : List ℕ) → IsRepeated c → HoldCharacters n c bytes → GivesConstant c n bytes
-repeated_gives (Number sign negative digits scale) n bytes is h = absurd is
-repeated_gives (Quoted t) n bytes is h = absurd is
-repeated_gives (Figure f) n bytes is h = h
-repeated_gives (Repeated t) n bytes is h = h
-
+-- as many bytes as there is room for stand there as they are
 pub padded_same : (n : ℕ) (bytes : List ℕ) → length bytes ≡ n → bytes ≡ padded n bytes
 padded_same n bytes e = sym (take-append-le n bytes (replicate n 0x40) (omega (arith, e)) ∙ take_all n bytes (omega (arith, e)))
 

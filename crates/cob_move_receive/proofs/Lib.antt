@@ -1,3 +1,4 @@
+pub mod CharacterLemmas
 pub mod PaddingLemmas
 pub mod ConstantLemmas
 pub mod NumberLemmas

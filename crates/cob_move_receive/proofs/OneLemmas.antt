@@ -1,7 +1,6 @@
 -- A receiver gets one thing.
-use Rattle.std.proofs.Common.{◌≡◌, ℕ, Bool, true, false, ◌&&◌, nat_lt, List, length, refl, sym, ap, subst, ◌∙◌, Option, Some, None, arith, replicate}
+use Rattle.std.proofs.Common.{◌≡◌, ℕ, Bool, true, false, ◌&&◌, nat_lt, List, refl, sym, ap, subst, ◌∙◌, Option, Some, None}
 use Rattle.std.specs.Prelude.{MatchBool, ℤ}
-use Rattle.std.proofs.lemmas.List.{take-append-le, take_all}
 use Rattle.cob_decimal.specs.Decimal.{number_of}
 use Rattle.cob_decimal.specs.Laws.{OneList}
 use Rattle.cob_picture.specs.Counts as counts
@@ -10,6 +9,7 @@ use Rattle.cob_picture.specs.declared.category.Category.{Category}
 use Rattle.cob_picture.specs.declared.category.Category.TheVariants.{Alphabetic, Numeric, Alphanumeric, AlphanumericEdited, NumericEdited}
 use Rattle.cob_copybook_clauses.specs.declared.kinds.Figurative.{Figurative}
 use Rattle.cob_copybook_clauses.specs.declared.kinds.Figurative.TheVariants.{Space, Zero, HighValue, LowValue, Quote}
+use Rattle.cob_cp037.specs.Table.{TableIsOneToOne}
 use Rattle.cob_edit.specs.Pictured.{IsEdited, OneText, OneValue}
 use Rattle.cob_edit.specs.Characters.{OneSpelling}
 use Rattle.cob_copybook_entries.specs.Described.{Constant, Quoted, Figure, Repeated}
@@ -19,18 +19,16 @@ use Rattle.cob_copybook_tree.specs.declared.node.Kind.TheVariants.{Group, Item a
 use Rattle.cob_copybook_tree.specs.declared.node.Item.{Item}
 use Rattle.cob_copybook_lengths.specs.Values.{is_number}
 use Rattle.cob_item.specs.Items.{OneNumber, stored_form}
-use Rattle.cob_move_initial.specs.Values.{padded, AreBytesOf, HoldsNumber}
-use Rattle.cob_move_initial.specs.Laws.{OneConstant}
-use Rattle.cob_move_initial.proofs.CharacterLemmas.{bytes_length}
+use Rattle.cob_move_receive.proofs.CharacterLemmas as characters
 use Rattle.cob_move_receive.specs.Sent.{Sent, Entry, Literal, Amount}
-use Rattle.cob_move_receive.specs.Characters.{GivesConstant, GivesDigits, GivesCharacters, Placement, FromLeft, FromRight, Among, Arranged, placement, numerals_to_point}
-use Rattle.cob_move_receive.specs.Numbers.{ConstantGives, FigureGives, GivesUnder, GivesNumber, HoldsAmount, IsUnedited, IsNumberIn}
+use Rattle.cob_move_receive.specs.Characters.{GivesConstant, GivesDigits, GivesCharacters, Placement, FromLeft, FromRight, Among, Arranged, padded, repeated, placement, numerals_to_point}
+use Rattle.cob_move_receive.specs.Numbers.{ConstantGives, FigureGives, GivesUnder, GivesNumber, HoldsAligned, HoldsAmount, IsUnedited, IsNumberIn}
 use Rattle.cob_move_receive.specs.Received.{GetsNumber, GetsCharacters, ItemGets, OneReceived}
 
 -- the laws below
 pub record Laws : Type 0 where
   pub list : OneList
-  pub constant : OneConstant
+  pub code : TableIsOneToOne
   pub number : OneNumber
   pub value : OneValue
   pub text : OneText
@@ -46,20 +44,11 @@ same_amount a b p q r = λ i. record { negative = p i; digits = q i; scale = r i
 
 -- ---- characters
 
-padded_same : (n : ℕ) (bytes : List ℕ) → length bytes ≡ n → bytes ≡ padded n bytes
-padded_same n bytes e = sym (take-append-le n bytes (replicate n 0x40) (omega (arith, e)) ∙ take_all n bytes (omega (arith, e)))
-
-one_coded : OneConstant → (t a b : List ℕ) → AreBytesOf t a → AreBytesOf t b → a ≡ b
-one_coded law t a b p q =
-    let long : length a ≡ length t = bytes_length t a p in
-    let same : length b ≡ length t = bytes_length t b q in
-    law (length t) (Quoted t) a b (a, p, padded_same (length t) a long) (b, q, padded_same (length t) b same)
-
-one_given : OneConstant → (c : Constant) (n : ℕ) (a b : List ℕ) → GivesConstant c n a → GivesConstant c n b → a ≡ b
+one_given : TableIsOneToOne → (c : Constant) (n : ℕ) (a b : List ℕ) → GivesConstant c n a → GivesConstant c n b → a ≡ b
 one_given law (constant.Numeric sign negative digits scale) n a b p q = p ∙ sym q
-one_given law (Quoted t) n a b p q = one_coded law t a b p q
-one_given law (Figure f) n a b p q = law n (Figure f) a b p q
-one_given law (Repeated t) n a b p q = law n (Repeated t) a b p q
+one_given law (Quoted t) n a b p q = characters.one_text law t a b p q
+one_given law (Figure f) n a b p q = p ∙ sym q
+one_given law (Repeated t) n a b p q = p.2 ∙ ap (λ coded. padded n (repeated n coded)) (characters.one_text law t p.0 q.0 p.1 q.1) ∙ sym q.2
 
 one_digits : OneNumber → (i : Item) (bytes a b : List ℕ) → GivesDigits i bytes a → GivesDigits i bytes b → a ≡ b
 one_digits law i bytes a b (m, ds, p, x) (n, es, q, y) =
@@ -67,7 +56,7 @@ one_digits law i bytes a b (m, ds, p, x) (n, es, q, y) =
     x ∙ ap (λ (d : List ℕ). numerals_to_point d (counts.scale i.picture.positions)) same.1 ∙ sym y
 
 one_text : Laws → (s : Sent) (to : Kind) (n : ℕ) (a b : List ℕ) → GivesCharacters s to n a → GivesCharacters s to n b → a ≡ b
-one_text law (Literal c) to n a b p q = one_given law.constant c n a b p q
+one_text law (Literal c) to n a b p q = one_given law.code c n a b p q
 one_text law (Entry Group bytes) to n a b p q = p ∙ sym q
 one_text law (Entry (ItemKind i) bytes) Group n a b p q = p ∙ sym q
 one_text law (Entry (ItemKind i) bytes) (ItemKind r) n a b p q =
@@ -125,7 +114,7 @@ one_amount law (Entry (ItemKind i) bytes) v w x y =
     one_of (is_number i) (IsNumberIn i bytes) (GivesUnder i.picture.category i bytes) v w (one_in law.number i bytes v w) (one_as law.value i.picture.category i bytes v w) x y
 one_amount law (Literal c) v w x y = one_constant c v w x y
 
-one_stored : OneList → (i : Item) (v : Amount) (a b : List ℕ) → HoldsNumber i v.negative v.digits v.scale a → HoldsNumber i v.negative v.digits v.scale b → a ≡ b
+one_stored : OneList → (i : Item) (v : Amount) (a b : List ℕ) → HoldsAligned i v a → HoldsAligned i v b → a ≡ b
 one_stored law i v a b x y =
     let digits : x.digits ≡ y.digits = law x.digits y.digits x.valid y.valid (x.count ∙ sym y.count) (x.value ∙ sym y.value) in
     let minus : x.minus ≡ y.minus = x.sign ∙ ap (λ ds. v.negative && (counts.signed i.picture.positions && nat_lt 0 (number_of ds))) digits ∙ sym y.sign in
@@ -133,7 +122,7 @@ one_stored law i v a b x y =
 
 one_held : Laws → (i : Item) (v : Amount) (a b : List ℕ) → HoldsAmount i v a → HoldsAmount i v b → a ≡ b
 one_held law i v a b x y =
-    one_of (is_number i) (HoldsNumber i v.negative v.digits v.scale) (IsEdited i.picture i.blank v.negative v.digits v.scale) a b
+    one_of (is_number i) (HoldsAligned i v) (IsEdited i.picture i.blank v.negative v.digits v.scale) a b
     (one_stored law.list i v a b) (law.text i.picture i.blank v.negative v.digits v.scale a b) x y
 
 one_counted : Laws → (s : Sent) (i : Item) (a b : Option (List ℕ)) → GetsNumber s i a → GetsNumber s i b → a ≡ b

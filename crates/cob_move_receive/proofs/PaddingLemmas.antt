@@ -3,7 +3,7 @@ use Rattle.std.proofs.Common.{◌≡◌, ℕ, ◌+◌, ◌-◌, List, [], ◌++�
 use Rattle.std.proofs.lemmas.Bool.{cases_lt}
 use Rattle.std.proofs.Math.Seq.{take-append-add}
 use Rattle.std.proofs.lemmas.List.{take-append-le, take-replicate, take_all}
-use Rattle.cob_move_initial.specs.Values.{padded}
+use Rattle.cob_move_receive.specs.Characters.{padded}
 
 -- characters: those that fit, and spaces after them
 pub characters_are : (n k : ℕ) (sent : List ℕ) → k ≡ min (length sent) n → take k sent ++ replicate (n - k) 0x40 ≡ padded n sent

@@ -1,10 +1,13 @@
 -- The characters that a sender gives, and how they stand in a receiver.
-use Rattle.std.specs.Prelude.{◌≡◌, ℕ, ◌+◌, ◌-◌, ℤ, pos, negsuc, Bool, true, false, List, ◌++◌, length, map, drop, replicate, MatchBool}
+use Rattle.std.specs.Prelude.{◌≡◌, ◌⊎◌, ℕ, zero, suc, ◌+◌, ◌-◌, ℤ, pos, negsuc, Bool, true, false, List, [], ◌∷◌, ◌++◌, length, map, take, drop, replicate, MatchBool}
 use Rattle.cob_picture.specs.Counts.{scale}
 use Rattle.cob_picture.specs.declared.category.Category.{Category}
 use Rattle.cob_picture.specs.declared.category.Category.TheVariants.{Alphabetic, Numeric, Alphanumeric, AlphanumericEdited, NumericEdited}
 use Rattle.cob_picture.specs.declared.position.Position.{Position}
+use Rattle.cob_cp037.specs.Table.{IsCoded, HasCode}
 use Rattle.cob_edit.specs.Characters.{HasCharacters}
+use Rattle.cob_copybook_clauses.specs.declared.kinds.Figurative.{Figurative}
+use Rattle.cob_copybook_clauses.specs.declared.kinds.Figurative.TheVariants.{Space, Zero, HighValue, LowValue, Quote}
 use Rattle.cob_copybook_entries.specs.Described.{Constant}
 use Rattle.cob_copybook_entries.specs.Described as constant
 use Rattle.cob_copybook_tree.specs.declared.node.Kind.{Kind}
@@ -12,8 +15,34 @@ use Rattle.cob_copybook_tree.specs.declared.node.Kind.TheVariants.{Group, Item a
 use Rattle.cob_copybook_tree.specs.declared.node.Item.{Item}
 use Rattle.cob_copybook_lengths.specs.Values.{is_number}
 use Rattle.cob_item.specs.Items.{Represents}
-use Rattle.cob_move_initial.specs.Values.{padded, AreBytesOf, HoldCharacters}
 use Rattle.cob_move_receive.specs.Sent.{Sent, Entry, Literal}
+
+-- the byte of a character: its own in code page 037, and a space for one that has none there, as no literal of a copybook has
+abbrev pub IsByteOf : ℕ → ℕ → Type 0
+IsByteOf character byte = IsCoded character byte ⊎ ((HasCode character → ⊥) × (byte ≡ 0x40))
+
+-- the bytes of a text's characters, in order
+abbrev pub AreBytesOf : List ℕ → List ℕ → Type 0
+AreBytesOf [] bytes = bytes ≡ []
+AreBytesOf (c ∷ cs) [] = ⊥
+AreBytesOf (c ∷ cs) (b ∷ bs) = IsByteOf c b × AreBytesOf cs bs
+
+-- n bytes of characters: left aligned, cut at the right, padded with spaces
+abbrev pub padded : ℕ → List ℕ → List ℕ
+padded n bytes = take n (bytes ++ replicate n 0x40)
+
+-- bytes so many times, one behind another
+abbrev pub repeated : ℕ → List ℕ → List ℕ
+repeated zero bytes = []
+repeated (suc n) bytes = bytes ++ repeated n bytes
+
+-- the byte of a figurative constant
+abbrev pub figurative_byte : Figurative → ℕ
+figurative_byte Space = 0x40
+figurative_byte Zero = 0xF0
+figurative_byte HighValue = 0xFF
+figurative_byte LowValue = 0x00
+figurative_byte Quote = 0x7F
 
 -- the bytes of digits as characters
 abbrev pub numerals : List ℕ → List ℕ
@@ -38,8 +67,8 @@ GivesDigits i bytes text =
 abbrev pub GivesConstant : Constant → ℕ → List ℕ → Type 0
 GivesConstant (constant.Numeric sign negative digits scale) n text = text ≡ numerals digits
 GivesConstant (constant.Quoted characters) n text = AreBytesOf characters text
-GivesConstant (constant.Figure f) n text = HoldCharacters n (constant.Figure f) text
-GivesConstant (constant.Repeated characters) n text = HoldCharacters n (constant.Repeated characters) text
+GivesConstant (constant.Figure f) n text = text ≡ replicate n (figurative_byte f)
+GivesConstant (constant.Repeated characters) n text = (coded : List ℕ) × AreBytesOf characters coded × (text ≡ padded n (repeated n coded))
 
 -- a constant that is repeated to the receiver's size
 abbrev pub IsRepeated : Constant → Type 0

@@ -1,9 +1,11 @@
 -- The number that a sender gives, and what a receiver holds of it.
-use Rattle.std.specs.Prelude.{◌≡◌, ℕ, ◌-◌, ◌<◌, ◌≤◌, pos, Bool, true, false, ◌&&◌, nat_le, List, [], length, map, MatchBool}
+use Rattle.std.specs.Prelude.{◌≡◌, ℕ, ◌-◌, ◌<◌, ◌≤◌, pos, Bool, true, false, ◌&&◌, nat_lt, nat_le, List, [], length, map, MatchBool}
 use Rattle.std.specs.List.{AllByRecursion}
 use Rattle.cob_limits.specs.Limits.{most_digits}
+use Rattle.cob_decimal.specs.Decimal.{IsDigits, number_of, aligned}
 use Rattle.cob_decimal.specs.Literals.{AreDigits, digits_in}
 use Rattle.cob_picture.specs.Counts.{scale}
+use Rattle.cob_picture.specs.Counts as counts
 use Rattle.cob_picture.specs.declared.category.Category.{Category}
 use Rattle.cob_picture.specs.declared.category.Category.TheVariants.{Alphabetic, Numeric, Alphanumeric, AlphanumericEdited, NumericEdited}
 use Rattle.cob_copybook_clauses.specs.declared.kinds.Figurative.{Figurative}
@@ -14,8 +16,7 @@ use Rattle.cob_copybook_entries.specs.Described as constant
 use Rattle.cob_copybook_tree.specs.declared.node.Kind.TheVariants.{Group, Item as ItemKind}
 use Rattle.cob_copybook_tree.specs.declared.node.Item.{Item}
 use Rattle.cob_copybook_lengths.specs.Values.{is_number}
-use Rattle.cob_item.specs.Items.{Represents}
-use Rattle.cob_move_initial.specs.Values.{HoldsNumber}
+use Rattle.cob_item.specs.Items.{Represents, stored_form}
 use Rattle.cob_move_receive.specs.Sent.{Sent, Entry, Literal, Amount}
 
 -- a whole number that isn't negative
@@ -92,8 +93,19 @@ GivesNumber (Entry Group bytes) v = ⊥
 GivesNumber (Entry (ItemKind i) bytes) v = ItemGives i bytes v
 GivesNumber (Literal c) v = ConstantGives c v
 
+-- The item's bytes are what this number leaves in it: its digits aligned by the point, and a minus only where the item has a sign and something
+-- is left, in the item's kind of storage.
+pub record HoldsAligned (i : Item) (v : Amount) (bytes : List ℕ) : Type 0 where
+  pub digits : List ℕ
+  pub valid : IsDigits digits
+  pub count : length digits ≡ counts.digits i.picture.positions
+  pub value : number_of digits ≡ aligned (number_of v.digits) v.scale (counts.scale i.picture.positions) (counts.digits i.picture.positions)
+  pub minus : Bool
+  pub sign : minus ≡ (v.negative && (counts.signed i.picture.positions && nat_lt 0 (number_of digits)))
+  pub stored : bytes ≡ stored_form i minus digits
+
 -- What a numeric or numeric edited item holds after this number is moved to it: the number aligned by the point and stored in the item's kind
 -- of storage, or its text.
 abbrev pub HoldsAmount : Item → Amount → List ℕ → Type 0
 HoldsAmount i v bytes =
-    MatchBool (is_number i) (HoldsNumber i v.negative v.digits v.scale bytes) (IsEdited i.picture i.blank v.negative v.digits v.scale bytes)
+    MatchBool (is_number i) (HoldsAligned i v bytes) (IsEdited i.picture i.blank v.negative v.digits v.scale bytes)

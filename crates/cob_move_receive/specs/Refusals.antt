@@ -13,7 +13,7 @@ use Rattle.cob_copybook_tree.specs.declared.node.Item.{Item}
 use Rattle.cob_copybook_tree.specs.Lengths.{item_size}
 use Rattle.cob_move_receive.specs.declared.refusals.Refusal.{Refusal}
 use Rattle.cob_move_receive.specs.declared.refusals.Refusal.TheVariants as refusal
-use Rattle.cob_move_receive.specs.Table.{Sender, Entry, Literal, has_fraction, may_move}
+use Rattle.cob_move_receive.specs.Table.{SenderKind, Entry, Literal, has_fraction, may_move}
 
 -- the receiver is numeric or numeric edited
 abbrev pub receives_number : Kind → Bool
@@ -51,7 +51,7 @@ is_longer_than_number Numeric i = false
 is_longer_than_number NumericEdited i = false
 
 -- a sender of more characters than a number has digits: an alphanumeric item, or a quoted literal
-abbrev pub is_too_long : Sender → Bool
+abbrev pub is_too_long : SenderKind → Bool
 is_too_long (Entry Group) = false
 is_too_long (Entry (ItemKind i)) = is_longer_than_number i.picture.category i
 is_too_long (Literal (Quoted text)) = nat_lt most_digits (length text)
@@ -59,12 +59,12 @@ is_too_long (Literal c) = false
 
 -- The move of the sender to the receiver breaks the rule: the table doesn't have it (M6), its literal isn't as the receiver asks (M7), or an
 -- alphanumeric sender of more than 31 characters is moved to a numeric or numeric edited item (M10).
-abbrev pub is_refused : Refusal → Sender → Kind → Bool
+abbrev pub is_refused : Refusal → SenderKind → Kind → Bool
 is_refused refusal.NotAllowed s to = not (may_move s to)
 is_refused refusal.Literal (Entry kind) to = false
 is_refused refusal.Literal (Literal c) to = is_wrong_literal c to
 is_refused refusal.TooLong s to = receives_number to && is_too_long s
 
 -- the move breaks no rule
-abbrev pub IsAllowed : Sender → Kind → Type 0
+abbrev pub IsAllowed : SenderKind → Kind → Type 0
 IsAllowed s to = (r : Refusal) → is_refused r s to ≡ false

@@ -5,7 +5,7 @@ use Rattle.cob_copybook_entries.specs.Described.{Constant, constant}
 use Rattle.cob_copybook_tree.specs.declared.node.Kind.{Kind}
 use Rattle.cob_copybook_tree.specs.declared.node.Kind.TheVariants.{Group, Item as ItemKind}
 use Rattle.cob_copybook_tree.specs.Lengths.{item_size}
-use Rattle.cob_move_initial.specs.Values.{IsStorable}
+use Rattle.cob_item.specs.Items.{IsStorable}
 use Rattle.cob_move_receive.specs.declared.sent.Sent as code
 use Rattle.cob_move_receive.specs.declared.sent.Sent.TheVariants as code_sent
 

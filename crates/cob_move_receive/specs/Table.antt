@@ -11,18 +11,18 @@ use Rattle.cob_copybook_tree.specs.declared.node.Kind.{Kind}
 use Rattle.cob_copybook_tree.specs.declared.node.Kind.TheVariants.{Group, Item as ItemKind}
 use Rattle.cob_copybook_tree.specs.declared.node.Item.{Item}
 use Rattle.cob_move_receive.specs.declared.table.Receivers.{Receivers}
-use Rattle.cob_move_receive.specs.declared.table.Sender as code
-use Rattle.cob_move_receive.specs.declared.table.Sender.TheVariants as code_sender
+use Rattle.cob_move_receive.specs.declared.table.SenderKind as code
+use Rattle.cob_move_receive.specs.declared.table.SenderKind.TheVariants as code_kind
 
--- What a statement names as its sender: an entry that is a group or this item, or a literal or figurative constant.
-pub data Sender : Type 0 where
-  Entry : Kind → Sender
-  Literal : Constant → Sender
+-- What is known of a sender before a record comes: it is an entry that is a group or this item, or this literal or figurative constant.
+pub data SenderKind : Type 0 where
+  Entry : Kind → SenderKind
+  Literal : Constant → SenderKind
 
 -- what the code's value stands for
-abbrev pub sender : code.Sender → Sender
-sender (code_sender.Entry kind) = Entry kind.now
-sender (code_sender.Constant value) = Literal (constant value.now)
+abbrev pub sender_kind : code.SenderKind → SenderKind
+sender_kind (code_kind.Entry kind) = Entry kind.now
+sender_kind (code_kind.Constant value) = Literal (constant value.now)
 
 -- a number has places behind the point
 abbrev pub has_fraction : ℤ → Bool
@@ -87,7 +87,7 @@ entry_may_move Group category = true
 entry_may_move (ItemKind i) category = has_receiver (item_receivers i) category
 
 -- The sender may be moved to the receiver: where a group is on either side, and else where the table says so.
-abbrev pub may_move : Sender → Kind → Bool
+abbrev pub may_move : SenderKind → Kind → Bool
 may_move s Group = true
 may_move (Literal c) (ItemKind r) = has_receiver (constant_receivers c) r.picture.category
 may_move (Entry kind) (ItemKind r) = entry_may_move kind r.picture.category

@@ -2,8 +2,8 @@
 
 ghost use Rattle.std.specs.Prelude.{◌≡◌, length};
 ghost use Rattle.cob_copybook_tree.specs.Lengths.{item_size};
-ghost use Rattle.cob_move_initial.specs.Values.{IsStorable, padded};
-ghost use Rattle.cob_move_receive.specs.Characters.{Arranged, padded_left, placement_in};
+ghost use Rattle.cob_item.specs.Items.{IsStorable};
+ghost use Rattle.cob_move_receive.specs.Characters.{Arranged, padded, padded_left, placement_in};
 
 use cob_copybook_tree::Item;
 use cob_edit::edit_text;

@@ -2,24 +2,28 @@
 
 ghost use Rattle.std.specs.Prelude.{◌≡◌, ◌≤◌, ℕ, List, length, IsTrue};
 ghost use Rattle.cob_limits.specs.Limits.{longest_literal};
-ghost use Rattle.cob_copybook_entries.specs.Described.{constant};
+ghost use Rattle.cob_copybook_entries.specs.Described.{Repeated, constant};
 ghost use Rattle.cob_copybook_tree.specs.Lengths.{item_size};
-ghost use Rattle.cob_move_initial.specs.Values.{padded, AreBytesOf, IsByteOf, IsStorable};
+ghost use Rattle.cob_item.specs.Items.{IsStorable};
 ghost use Rattle.cob_move_receive.specs.Characters.{
+  figurative_byte,
   has_insertions,
+  padded,
   placement_in,
+  AreBytesOf,
   Arranged,
   GivesConstant,
+  IsByteOf,
   IsRepeated,
 };
 
 use crate::characters::{SPACE, put, put_left};
 use crate::numerals::numerals;
+use cob_copybook_clauses::Figurative;
 use cob_copybook_entries::Value;
 use cob_copybook_tree::Item;
 use cob_cp037::encode_char;
 use cob_limits::{MAX_EDITED_SIZE, MAX_LITERAL};
-use cob_move_initial::write_constant;
 use cob_picture::Category;
 
 /// The byte of a character: its own in code page 037, and a space for one that has none there.
@@ -65,13 +69,53 @@ fn put_literal(item: &Item, text: &[u8], bytes: &mut [u8])
     put(item, coded, bytes);
 }
 
+/// The byte of a figurative constant.
+fn figurative_byte(figurative: Figurative) -> u8
+    ensures { result ≡ figurative_byte figurative }
+{
+    match figurative {
+        Figurative::Space => SPACE,
+        Figurative::Zero => 0xF0,
+        Figurative::HighValue => 0xFF,
+        Figurative::LowValue => 0x00,
+        Figurative::Quote => 0x7F,
+    }
+}
+
+/// Writes a literal one time after another, up to the last byte; spaces for a literal without characters.
+fn repeat_literal(text: &[u8], bytes: &mut [u8])
+    ensures { GivesConstant (Repeated text.now) (length bytes.old) bytes.new }
+{
+    if text.is_empty() {
+        bytes.fill(SPACE);
+        return;
+    }
+    for at in 0..bytes.len() {
+        bytes[at] = byte_of(text[at % text.len()]);
+    }
+}
+
+/// Writes a figurative constant, or ALL and a literal, one time after another, up to the last byte.
+fn repeat(value: &Value, bytes: &mut [u8])
+    requires repeated { IsRepeated (constant value.now) }
+    ensures gives { GivesConstant (constant value.now) (length bytes.old) bytes.new }
+    ensures room { length bytes.new ≡ length bytes.old }
+{
+    match value {
+        Value::Figurative(figurative) => bytes.fill(figurative_byte(*figurative)),
+        Value::All(text) => repeat_literal(text.as_bytes(), bytes),
+        // The caller has no other constant here.
+        Value::Number { .. } | Value::Literal(_) => {}
+    }
+}
+
 /// Fills a group with a figurative constant, or ALL and a literal.
 fn fill_left(value: &Value, bytes: &mut [u8])
     requires { IsRepeated (constant value.now) }
     ensures { (text : List ℕ) × GivesConstant (constant value.now) (length bytes.old) text
         × (bytes.new ≡ padded (length bytes.old) text) }
 {
-    write_constant(value, bytes);
+    repeat(value, bytes);
 }
 
 /// Whether an item has insertions between characters.
@@ -92,7 +136,7 @@ fn fill(item: &Item, value: &Value, bytes: &mut [u8])
     if has_insertions(item) {
         fill_among(item, value, bytes);
     } else {
-        write_constant(value, bytes);
+        repeat(value, bytes);
     }
 }
 
@@ -108,7 +152,7 @@ fn fill_among(item: &Item, value: &Value, bytes: &mut [u8])
     let mut buffer = [0u8; MAX_EDITED_SIZE as usize];
     let size = usize::from(item.picture.size());
     let text = &mut buffer[..size];
-    write_constant(value, text);
+    repeat(value, text);
     put(item, text, bytes);
 }
 

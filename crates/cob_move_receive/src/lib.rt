@@ -3,7 +3,8 @@
 //!
 //! What is promised: [`receive`] writes into the receiver's bytes what `Received` of specs/Received.antt says of a sender and a receiver
 //! (`gets`), or leaves them as they were and answers false where the sender's bytes represent no value that the receiver asks for
-//! (`gets`, `same`). By that definition a group on either side copies bytes; characters stand from the left, from the right under
+//! (`gets`, `same`); [`receive_in_group`] and [`receive_in_item`] are the same where it is known which of the two receives. By that
+//! definition a group on either side copies bytes; characters stand from the left, from the right under
 //! JUSTIFIED, or between the insertions of an edited item; a whole number gives its digits to characters; and a number is aligned by the
 //! point and stored, or edited. A law says that there is one answer ([`one_received`]).
 //!
@@ -13,8 +14,7 @@
 //! than a number has digits (M10).
 //!
 //! It stands on cob_copybook_tree, cob_copybook_entries and cob_copybook_clauses for items and constants, on cob_item for the storage of
-//! numbers, on cob_edit for edited items, on cob_move_initial for constants as characters, on cob_copybook_lengths for which items are
-//! numbers, on cob_picture and cob_decimal for pictures and numbers, on cob_cp037 for the code page, and on cob_limits. Nothing here
+//! numbers, on cob_edit for edited items, on cob_copybook_lengths for which items are numbers, on cob_picture and cob_decimal for pictures and numbers, on cob_cp037 for the code page, and on cob_limits. Nothing here
 //! takes memory, and the work grows with the bytes that are sent and received.
 #![tactic(auto)]
 
@@ -29,7 +29,7 @@ mod sent;
 mod table;
 
 pub use laws::one_received;
-pub use receiving::receive;
+pub use receiving::{receive, receive_in_group, receive_in_item};
 pub use refusals::{Refusal, refusal_of};
 pub use sent::Sent;
-pub use table::{Sender, may_move};
+pub use table::{SenderKind, may_move};

@@ -8,8 +8,7 @@ ghost use Rattle.cob_copybook_entries.specs.Described.{constant, Quoted};
 ghost use Rattle.cob_picture.specs.Counts.{size};
 ghost use Rattle.cob_picture.specs.Positions.{shows_number};
 ghost use Rattle.cob_copybook_tree.specs.Lengths.{item_size};
-ghost use Rattle.cob_item.specs.Items.{IsNumberItem};
-ghost use Rattle.cob_move_initial.specs.Values.{HoldsNumber, IsStorable};
+ghost use Rattle.cob_item.specs.Items.{IsStorable};
 ghost use Rattle.cob_move_receive.specs.Sent.{Amount, amount, sent, IsComplete};
 ghost use Rattle.cob_move_receive.specs.Numbers.{whole_number, digits_of, is_numeral, AreNumerals, ConstantGives, FigureGives, GivesNumber, HoldsAmount, IsDigitText, IsReadAs, IsUnedited, ItemGives};
 

@@ -1,11 +1,11 @@
 //! One receiver.
 
-ghost use Rattle.std.specs.Prelude.{◌≡◌, ◌≤◌, ℕ, List, length, false, IsTrue};
+ghost use Rattle.std.specs.Prelude.{◌≡◌, ◌≤◌, ℕ, List, length, false, IsTrue, Some};
 ghost use Rattle.cob_copybook_entries.specs.Described.{constant};
 ghost use Rattle.cob_picture.specs.Positions.{shows_number};
 ghost use Rattle.cob_copybook_tree.specs.Lengths.{item_size};
 ghost use Rattle.cob_copybook_tree.specs.declared.node.Kind.TheVariants.{Group, Item as ItemKind};
-ghost use Rattle.cob_move_initial.specs.Values.{padded, IsStorable};
+ghost use Rattle.cob_item.specs.Items.{IsStorable};
 ghost use Rattle.cob_move_receive.specs.Sent.{sent, Entry, Literal, Occupies, IsComplete};
 ghost use Rattle.cob_move_receive.specs.Characters.{GivesConstant, GivesCharacters, IsRepeated, Arranged, placement_in};
 ghost use Rattle.cob_move_receive.specs.Received.{is_group, outcome, GetsNumber, GetsCharacters, ItemGets, Received};
@@ -20,10 +20,9 @@ use cob_copybook_tree::{Item, Kind};
 use cob_item::read_number;
 use cob_picture::Category;
 
-/// Writes what a group gets: the sender's bytes, from the left.
-fn receive_in_group(given: &Sent<'_>, bytes: &mut [u8])
-    ensures { (text : List ℕ) × GivesCharacters (sent given.now) Group (length bytes.old) text
-        × (bytes.new ≡ padded (length bytes.old) text) }
+/// Writes what a group holds after the move of a sender to it, into all its bytes: the sender's bytes, from the left.
+pub fn receive_in_group(given: &Sent<'_>, bytes: &mut [u8])
+    ensures { Received (sent given.now) Group (length bytes.old) (Some bytes.new) }
 {
     match given {
         Sent::Constant(value) => constant_left(value, bytes),
@@ -123,8 +122,10 @@ fn shows_number(item: &Item) -> bool
     )
 }
 
-/// Writes what an item gets. False where the sender's bytes represent no value that it asks for.
-fn receive_in_item(given: &Sent<'_>, item: &Item, bytes: &mut [u8]) -> bool
+/// Writes what an item holds after the move of a sender to it, into all its bytes.
+///
+/// False where the sender's bytes represent no value that the item asks for: its bytes are as they were then.
+pub fn receive_in_item(given: &Sent<'_>, item: &Item, bytes: &mut [u8]) -> bool
     requires given { IsComplete (sent given.now) }
     requires storable { IsStorable item.now }
     requires long { length bytes.old ≡ item_size item.now }

@@ -3,7 +3,7 @@
 ghost use Rattle.std.specs.Prelude.{◌≡◌, true, IfNone, IfSome};
 ghost use Rattle.std.specs.List.{list_all};
 ghost use Rattle.cob_copybook_entries.specs.Described.{constant};
-ghost use Rattle.cob_move_receive.specs.Table.{sender};
+ghost use Rattle.cob_move_receive.specs.Table.{sender_kind};
 ghost use Rattle.cob_move_receive.specs.Refusals.{
   is_digit_character,
   is_refused,
@@ -16,7 +16,7 @@ ghost use Rattle.cob_move_receive.specs.Refusals.{
   IsAllowed,
 };
 
-use crate::table::{Sender, has_fraction, may_move};
+use crate::table::{SenderKind, has_fraction, may_move};
 use cob_copybook_entries::Value;
 use cob_copybook_tree::{Item, Kind};
 use cob_limits::MAX_DIGITS;
@@ -89,30 +89,30 @@ fn is_longer_than_number(item: &Item) -> bool
 }
 
 /// Whether a sender is of characters, and has more than a number has digits.
-fn is_too_long(from: &Sender<'_>) -> bool
-    ensures { result ≡ is_too_long (sender from.now) }
+fn is_too_long(from: &SenderKind<'_>) -> bool
+    ensures { result ≡ is_too_long (sender_kind from.now) }
 {
     match from {
-        Sender::Constant(Value::Literal(text)) => text.as_bytes().len() > MAX_DIGITS,
-        Sender::Entry(Kind::Item(item)) => is_longer_than_number(item),
-        Sender::Constant(_) | Sender::Entry(Kind::Group) => false,
+        SenderKind::Constant(Value::Literal(text)) => text.as_bytes().len() > MAX_DIGITS,
+        SenderKind::Entry(Kind::Item(item)) => is_longer_than_number(item),
+        SenderKind::Constant(_) | SenderKind::Entry(Kind::Group) => false,
     }
 }
 
 /// Whether the literal of a move isn't as its receiver asks.
-fn has_wrong_literal(from: &Sender<'_>, to: &Kind) -> bool
-    ensures { result ≡ is_refused Refusal.Literal (sender from.now) to.now }
+fn has_wrong_literal(from: &SenderKind<'_>, to: &Kind) -> bool
+    ensures { result ≡ is_refused Refusal.Literal (sender_kind from.now) to.now }
 {
     match from {
-        Sender::Constant(value) => is_wrong_literal(value, to),
-        Sender::Entry(_) => false,
+        SenderKind::Constant(value) => is_wrong_literal(value, to),
+        SenderKind::Entry(_) => false,
     }
 }
 
 /// The rule that the move of a sender to a receiver breaks. None exactly where it breaks none.
-pub fn refusal_of(from: &Sender<'_>, to: &Kind) -> Option<Refusal>
-    ensures broken { IfSome result (λ r. is_refused r (sender from.now) to.now ≡ true) }
-    ensures fine { IfNone result (IsAllowed (sender from.now) to.now) }
+pub fn refusal_of(from: &SenderKind<'_>, to: &Kind) -> Option<Refusal>
+    ensures broken { IfSome result (λ r. is_refused r (sender_kind from.now) to.now ≡ true) }
+    ensures fine { IfNone result (IsAllowed (sender_kind from.now) to.now) }
 {
     if receives_number(to) && is_too_long(from) {
         Some(Refusal::TooLong)

@@ -13,7 +13,7 @@ ghost use Rattle.cob_move_receive.specs.Table.{
   may_move,
   receivers_if,
   receivers_under,
-  sender,
+  sender_kind,
 };
 
 use cob_copybook_clauses::Figurative;
@@ -21,9 +21,9 @@ use cob_copybook_entries::Value;
 use cob_copybook_tree::{Item, Kind};
 use cob_picture::Category;
 
-/// What a statement names as its sender.
+/// What is known of a sender before a record comes.
 #[derive(Clone, Copy)]
-pub enum Sender<'a> {
+pub enum SenderKind<'a> {
     /// An entry: a group or an item.
     Entry(&'a Kind),
     /// A literal, or a figurative constant.
@@ -138,15 +138,15 @@ fn entry_may_move(kind: &Kind, category: Category) -> bool
 }
 
 /// Whether a sender may be moved to a receiver: where a group is on either side, and else where the table of categories says so.
-pub fn may_move(from: &Sender<'_>, to: &Kind) -> bool
-    ensures allowed { result ≡ may_move (sender from.now) to.now }
+pub fn may_move(from: &SenderKind<'_>, to: &Kind) -> bool
+    ensures allowed { result ≡ may_move (sender_kind from.now) to.now }
 {
     let Kind::Item(receiver) = to else {
         return true;
     };
     let category = receiver.picture.category();
     match from {
-        Sender::Constant(value) => has_receiver(constant_receivers(value), category),
-        Sender::Entry(kind) => entry_may_move(kind, category),
+        SenderKind::Constant(value) => has_receiver(constant_receivers(value), category),
+        SenderKind::Entry(kind) => entry_may_move(kind, category),
     }
 }

@@ -5,7 +5,7 @@
 #![tactic(auto)]
 
 ghost use Rattle.std.specs.Prelude.{length, IsTrue};
-ghost use Rattle.cob_move_initial.specs.Values.{IsStorable};
+ghost use Rattle.cob_item.specs.Items.{IsStorable};
 ghost use Rattle.cob_move_receive.specs.Sent.{sent, Occupies, IsComplete};
 
 mod constants;
@@ -16,7 +16,7 @@ use cob_copybook_entries::BookRule;
 use cob_copybook_lengths::is_number;
 use cob_copybook_tree::{Item, Kind};
 use cob_item::is_number_item;
-use cob_move_receive::{Refusal, Sender, Sent, receive, refusal_of};
+use cob_move_receive::{Refusal, SenderKind, Sent, receive, refusal_of};
 use cob_rows::{Family, Row, RowFault, print_rows, push_digits};
 use std::alloc::{AllocError, Global};
 use std::io;
@@ -66,7 +66,7 @@ fn rule_name(refusal: Refusal) -> &'static str {
 
 /// Writes what comes of the move of a sender to a receiver.
 fn push_received(
-    from: &Sender<'_>,
+    from: &SenderKind<'_>,
     given: &Sent<'_>,
     to: &Kind,
     bytes: &mut [u8],
@@ -92,7 +92,7 @@ fn push_received(
 /// Writes what comes of a move to the receiver of a field.
 fn push_move(
     alloc: Global,
-    from: &Sender<'_>,
+    from: &SenderKind<'_>,
     given: &Sent<'_>,
     row: &Row,
     place: usize,
@@ -121,7 +121,7 @@ fn move_entry(alloc: Global, row: &Row, out: &mut String) -> Result<(), RowFault
         kind,
         bytes: bytes.as_slice(),
     };
-    push_move(alloc, &Sender::Entry(kind), &given, row, 3, out)
+    push_move(alloc, &SenderKind::Entry(kind), &given, row, 3, out)
 }
 
 /// Writes what comes of the move of a constant.
@@ -129,7 +129,7 @@ fn move_constant(alloc: Global, row: &Row, out: &mut String) -> Result<(), RowFa
     let value = constant_of(row.field(1)?)?;
     push_move(
         alloc,
-        &Sender::Constant(&value),
+        &SenderKind::Constant(&value),
         &Sent::Constant(&value),
         row,
         2,

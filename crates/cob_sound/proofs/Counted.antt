@@ -27,7 +27,7 @@ use Rattle.cob_layout_places.specs.Places.{is_table, or_else, choose}
 use Rattle.cob_layout_places.specs.Needs.{Has}
 use Rattle.cob_layout_places.proofs.NeedLaw.{low, high}
 use Rattle.cob_layout_places.specs.Counts.{table_of, tables_of, kind_in, kind_one, IsCountable}
-use Rattle.cob_move_initial.specs.Values.{IsStorable}
+use Rattle.cob_item.specs.Items.{IsStorable}
 use Rattle.cob_sound.specs.Sound.{IsStorableKind, AreStorable, InTable, IsAhead}
 use Rattle.cob_sound.proofs.Lists.{all_append, all_map, first_left, others_left, same, differs}
 use Rattle.cob_sound.proofs.Numbers.{numbered, same_entries}

@@ -17,7 +17,7 @@ use Rattle.cob_layout_places.specs.Places.{is_table}
 use Rattle.cob_layout_places.specs.Needs.{Has}
 use Rattle.cob_layout_places.specs.Cover.{AreNumbered}
 use Rattle.cob_layout_places.specs.Counts.{AreCountable, tables_of}
-use Rattle.cob_move_initial.specs.Values.{IsStorable}
+use Rattle.cob_item.specs.Items.{IsStorable}
 
 -- an item can be stored
 abbrev pub IsStorableKind : Kind → Type 0

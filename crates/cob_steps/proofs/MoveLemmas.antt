@@ -12,7 +12,7 @@ use Rattle.cob_fields.specs.Fields.{field_of, with_field}
 use Rattle.cob_steps.specs.declared.plan.Category.{Category}
 use Rattle.cob_steps.specs.declared.plan.Step.{Step}
 use Rattle.cob_steps.specs.Records.{Conversion, IsStepOf, IsPrepared}
-use Rattle.cob_move_initial.specs.Values.{padded}
+use Rattle.cob_move_receive.specs.Characters.{padded}
 use Rattle.cob_steps.specs.Steps.{Moves, Converts, Stops, Receives}
 use Rattle.cob_steps.specs.Moving.{IsMoved, Lacks}
 use Rattle.cob_steps.proofs.StepLemmas.{plan_step, some_move, step_count}

@@ -4,7 +4,7 @@ use Rattle.cob_decimal.specs.Decimal.{IsDigits, number_of, aligned}
 use Rattle.cob_codec.specs.Zoned.{IsZoned, zoned_form}
 use Rattle.cob_fields.specs.declared.Place.{Place}
 use Rattle.cob_fields.specs.Fields.{field_of, with_field}
-use Rattle.cob_move_initial.specs.Values.{padded}
+use Rattle.cob_move_receive.specs.Characters.{padded}
 use Rattle.cob_move.specs.Initial.{IsInitial}
 use Rattle.cob_steps.specs.declared.plan.Category.{Category}
 use Rattle.cob_steps.specs.declared.plan.Category.TheVariants.{Alphanumeric, Numeric}

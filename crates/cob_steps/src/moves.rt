@@ -6,7 +6,7 @@ ghost use Rattle.cob_fields.specs.Fields.{field_of};
 ghost use Rattle.cob_steps.specs.Moving.{IsMoved, Lacks};
 ghost use Rattle.cob_steps.specs.Records.{IsPossible, MostDigits};
 ghost use Rattle.cob_steps.specs.Steps.{Represents, Receives};
-ghost use Rattle.cob_move_initial.specs.Values.{padded};
+ghost use Rattle.cob_move_receive.specs.Characters.{padded};
 
 use crate::plan::{Category, Side, Step, Stop, StopCause};
 use cob_codec::{Shape, Storage, Zoned};

@@ -1,5 +1,5 @@
 use Rattle.std.proofs.Common.{◌≡◌, ◌*◌, ◌<◌, length, take}
-use Rattle.cob_move_initial.specs.Values.{repeated}
+use Rattle.cob_move_receive.specs.Characters.{repeated}
 use Rattle.cob_move.proofs.storage.repeat.Given as goal
 
 abbrev pub invariant-loop-element : goal.invariant-loop-element

@@ -1,4 +1,4 @@
-use Rattle.cob_move_initial.proofs.CharacterLemmas.{byte_found}
+use Rattle.cob_move_receive.proofs.CharacterLemmas.{byte_found}
 use Rattle.cob_move_receive.proofs.constants.byte_of.Goals as goal
 
 pub returns : goal.returns

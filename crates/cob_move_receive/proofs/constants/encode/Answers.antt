@@ -1,6 +1,6 @@
 use Rattle.std.proofs.Common.{ℕ, get_or, arith}
-use Rattle.cob_move_initial.specs.Values.{IsByteOf}
-use Rattle.cob_move_initial.proofs.CharacterLemmas.{one_more, each_byte}
+use Rattle.cob_move_receive.specs.Characters.{IsByteOf}
+use Rattle.cob_move_receive.proofs.CharacterLemmas.{one_more, each_byte}
 use Rattle.cob_move_receive.proofs.constants.encode.Goals as goal
 
 pub loop-at-preserved : goal.loop-at-preserved

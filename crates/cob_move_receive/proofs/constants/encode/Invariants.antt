@@ -1,5 +1,5 @@
 use Rattle.std.proofs.Common.{ℕ, ◌<◌, get_or}
-use Rattle.cob_move_initial.specs.Values.{IsByteOf}
+use Rattle.cob_move_receive.specs.Characters.{IsByteOf}
 use Rattle.cob_move_receive.proofs.constants.encode.Given as goal
 
 abbrev pub invariant-loop-at : goal.invariant-loop-at

@@ -2,9 +2,9 @@ use Rattle.std.proofs.Common.{◌≡◌, ℕ, ◌%◌, ◌<◌, length, get_or, 
 use Rattle.std.proofs.lemmas.Bool.Decides.{nat_tests}
 use Rattle.std.proofs.lemmas.List.{nil_from_length}
 use Rattle.cob_cp037.proofs.TableLemmas.{one_to_one}
-use Rattle.cob_move_initial.specs.Values.{IsByteOf}
-use Rattle.cob_move_initial.proofs.CharacterLemmas.{one_more, nothing_repeated, repeated_is}
-use Rattle.cob_move_initial.proofs.constants.write_repeated.Goals as goal
+use Rattle.cob_move_receive.specs.Characters.{IsByteOf}
+use Rattle.cob_move_receive.proofs.CharacterLemmas.{one_more, nothing_repeated, repeated_is}
+use Rattle.cob_move_receive.proofs.constants.repeat_literal.Goals as goal
 
 pub returns-then-is_empty : goal.returns-then-is_empty
 returns-then-is_empty c =

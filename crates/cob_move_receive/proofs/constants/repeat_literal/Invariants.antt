@@ -1,6 +1,6 @@
 use Rattle.std.proofs.Common.{ℕ, ◌<◌, ◌%◌, length, get_or}
-use Rattle.cob_move_initial.specs.Values.{IsByteOf}
-use Rattle.cob_move_initial.proofs.constants.write_repeated.Given as goal
+use Rattle.cob_move_receive.specs.Characters.{IsByteOf}
+use Rattle.cob_move_receive.proofs.constants.repeat_literal.Given as goal
 
 abbrev pub invariant-loop-at : goal.invariant-loop-at
 invariant-loop-at l = (k : ℕ) → k < l.at → IsByteOf (get_or l.text (k % length l.text) 0) (get_or l.bytes k 0)

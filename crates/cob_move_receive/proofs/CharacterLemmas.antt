@@ -5,9 +5,8 @@ use Rattle.std.proofs.lemmas.Bool.{cases_lt, cases_eq}
 use Rattle.std.proofs.lemmas.List.{same_lists, get_or_default, get_or-take, get_or-append_right, get_or_append_left, get_or-replicate, get_or_past, length-take, length-replicate}
 use Rattle.std.specs.Prelude.{IfSome, unwrap_or}
 use Rattle.cob_cp037.specs.Table.{IsCoded, HasCode, IsPairOf, table, TableIsOneToOne}
-use Rattle.cob_copybook_entries.specs.Described.{Numeric, Quoted, Figure, Repeated}
-use Rattle.cob_move_initial.specs.Values.{IsByteOf, AreBytesOf, HoldCharacters, padded, repeated}
-use Rattle.cob_move_initial.specs.Laws.{OneConstant}
+use Rattle.cob_copybook_entries.specs.Described.{Constant, Numeric, Quoted, Figure, Repeated}
+use Rattle.cob_move_receive.specs.Characters.{IsByteOf, AreBytesOf, GivesConstant, padded, repeated}
 
 -- ---- one byte
 
@@ -61,14 +60,14 @@ byte_at (c ∷ cs) [] k h lt = absurd h
 byte_at (c ∷ cs) (b ∷ bs) zero h lt = h.0
 byte_at (c ∷ cs) (b ∷ bs) (suc k) h lt = byte_at cs bs k h.1 (omega arith)
 
-some_bytes : (text : List ℕ) → (bytes : List ℕ) × AreBytesOf text bytes
+pub some_bytes : (text : List ℕ) → (bytes : List ℕ) × AreBytesOf text bytes
 some_bytes [] = ([], refl)
 some_bytes (c ∷ cs) =
     let one : (b : ℕ) × IsByteOf c b = some_byte c in
     let rest : (bytes : List ℕ) × AreBytesOf cs bytes = some_bytes cs in
     (one.0 ∷ rest.0, (one.1, rest.1))
 
-one_text : TableIsOneToOne → (text a b : List ℕ) → AreBytesOf text a → AreBytesOf text b → a ≡ b
+pub one_text : TableIsOneToOne → (text a b : List ℕ) → AreBytesOf text a → AreBytesOf text b → a ≡ b
 one_text law [] a b x y = x ∙ sym y
 one_text law (c ∷ cs) [] b x y = absurd x
 one_text law (c ∷ cs) (a ∷ front) [] x y = absurd y
@@ -116,23 +115,10 @@ repeated_nothing : (n : ℕ) → repeated n [] ≡ []
 repeated_nothing zero = refl
 repeated_nothing (suc n) = repeated_nothing n
 
--- ---- what holds a constant
-
--- a literal's bytes and spaces behind them
-pub quoted_is : (text front : List ℕ) (m n : ℕ) → AreBytesOf text front → length front + m ≡ n → HoldCharacters n (Quoted text) (front ++ replicate m 0x40)
-quoted_is text front m n coded e = (
-  front,
-  coded,
-  padded_is n front (front ++ replicate m 0x40) (omega (arith, length-append front (replicate m 0x40), length-replicate {A = ℕ} m 0x40)) (λ k lt.
-      elim (cases_lt k (length front)) [
-        | inl inside ↦ get_or_append_left front (replicate m 0x40) 0 k inside ∙ get_or_default front k 0 0x40 inside
-        | inr past ↦ get_or-append_right front (replicate m 0x40) (length front) k 0 refl past
-            ∙ get_or-replicate m (k - length front) 0x40 0 (omega arith) ∙ sym (get_or_past front k 0x40 past)
-      ]),
-)
+-- ---- what a repeated literal gives
 
 -- ALL and a literal without characters
-pub nothing_repeated : (n : ℕ) → HoldCharacters n (Repeated []) (replicate n 0x40)
+pub nothing_repeated : (n : ℕ) → GivesConstant (Repeated []) n (replicate n 0x40)
 nothing_repeated n = (
   [],
   refl,
@@ -142,7 +128,7 @@ nothing_repeated n = (
 
 -- ALL and another literal: each place has the byte of the character that is its turn
 pub repeated_is : TableIsOneToOne → (text all : List ℕ) (n : ℕ) → length all ≡ n → 0 < length text
-    → ((k : ℕ) → k < n → IsByteOf (get_or text (k % length text) 0) (get_or all k 0)) → HoldCharacters n (Repeated text) all
+    → ((k : ℕ) → k < n → IsByteOf (get_or text (k % length text) 0) (get_or all k 0)) → GivesConstant (Repeated text) n all
 repeated_is law text all n e some each =
     let coded : (bytes : List ℕ) × AreBytesOf text bytes = some_bytes text in
     let long : length coded.0 ≡ length text = bytes_length text coded.0 coded.1 in (
@@ -156,8 +142,11 @@ repeated_is law text all n e some each =
           ∙ sym (repeated_at n coded.0 k (omega arith))),
     )
 
-pub one_constant : TableIsOneToOne → OneConstant
-one_constant law n (Numeric sign negative digits scale) a b x y = absurd x
-one_constant law n (Quoted text) a b x y = x.2 ∙ ap (padded n) (one_text law text x.0 y.0 x.1 y.1) ∙ sym y.2
-one_constant law n (Figure f) a b x y = x ∙ sym y
-one_constant law n (Repeated text) a b x y = x.2 ∙ ap (λ coded. padded n (repeated n coded)) (one_text law text x.0 y.0 x.1 y.1) ∙ sym y.2
+-- each constant gives characters
+pub some_text : (c : Constant) (n : ℕ) → (text : List ℕ) × GivesConstant c n text
+some_text (Numeric sign negative digits scale) n = (_, refl)
+some_text (Quoted text) n = some_bytes text
+some_text (Figure f) n = (_, refl)
+some_text (Repeated text) n =
+    let coded : (bytes : List ℕ) × AreBytesOf text bytes = some_bytes text in
+    (_, (coded.0, coded.1, refl))

@@ -1,5 +1,0 @@
-use Rattle.cob_move_initial.proofs.CharacterLemmas.{byte_found}
-use Rattle.cob_move_initial.proofs.constants.byte_of.Goals as goal
-
-pub returns : goal.returns
-returns c = byte_found c.args.character c.unwrap_or.result c.encode_char.result c.encode_char.ensures.found c.encode_char.ensures.only c.unwrap_or.ensures

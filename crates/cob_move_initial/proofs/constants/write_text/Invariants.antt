@@ -1,6 +1,0 @@
-use Rattle.std.proofs.Common.{ℕ, ◌<◌, get_or}
-use Rattle.cob_move_initial.specs.Values.{IsByteOf}
-use Rattle.cob_move_initial.proofs.constants.write_text.Given as goal
-
-abbrev pub invariant-loop-at : goal.invariant-loop-at
-invariant-loop-at l = (k : ℕ) → k < l.at → IsByteOf (get_or l.text k 0) (get_or l.bytes k 0)
