@@ -1,0 +1,5 @@
+pub mod OnceLemmas
+pub mod SubordinateLemmas
+pub mod PairLemmas
+pub mod GroupLemmas
+pub mod NodeLemmas
