@@ -61,7 +61,7 @@ constant_first (Repeated text) ws more (all, w, is, literal, same, e) = other_fi
 
 sender_first : (s : WrittenSender) (ws more : List Lexeme) → IsSender s ws → NotFirst term.Corresponding (ws ++ more)
 sender_first (SentReference r) ws more is = reference_first term.Corresponding r ws more is (λ e. cc)
-sender_first (SentConstant c) ws more (is, none) = constant_first c ws more is
+sender_first (SentConstant c) ws more (is, form, none) = constant_first c ws more is
 
 never_both : (words ws more own rest : List Lexeme) (s : WrittenSender) (rs : List WrittenReference) (a b : WrittenReference)
     → IsAction (MoveTo s rs) ws → words ≡ ws ++ more → IsAction (MoveCorresponding a b) own → words ≡ own ++ rest → ⊥

@@ -1,3 +1,4 @@
 pub mod Faults
+pub mod Literals
 pub mod Written
 pub mod Statements

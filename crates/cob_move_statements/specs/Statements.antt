@@ -11,6 +11,7 @@ use Rattle.cob_copybook_clauses.specs.Reading.{NotFirst}
 use Rattle.cob_copybook_clauses.specs.Written.{names_behind}
 use Rattle.cob_move_statements.specs.declared.fault.MoveRule.{MoveRule}
 use Rattle.cob_move_statements.specs.declared.fault.MoveRule.TheVariants as rule
+use Rattle.cob_move_statements.specs.Literals.{IsLiteralOrFigurative}
 use Rattle.cob_move_statements.specs.Written.{texts, WrittenReference, WrittenSender, SentReference, SentConstant, WrittenAction, MoveTo, MoveCorresponding, WrittenStatement}
 
 -- pieces one behind another, each of which is so
@@ -65,10 +66,10 @@ FitsReference more = NotFirst term.Of more × NotFirst term.OpenBracket more
 abbrev pub EndsReferences : List Lexeme → Type 0
 EndsReferences more = NoName more × NotFirst term.Of more × NotFirst term.OpenBracket more
 
--- a sender: a reference, or a constant, which is no name
+-- a sender: a reference, or a literal or figurative constant, which is no name
 abbrev pub IsSender : WrittenSender → List Lexeme → Type 0
 IsSender (SentReference r) ws = IsReference r ws
-IsSender (SentConstant c) ws = IsConstant c ws × NoName ws
+IsSender (SentConstant c) ws = IsConstant c ws × IsLiteralOrFigurative c × NoName ws
 
 -- what stands behind MOVE: a sender, TO, and a reference or more; or CORRESPONDING, a reference, TO, and a reference
 abbrev pub IsAction : WrittenAction → List Lexeme → Type 0
@@ -88,21 +89,21 @@ pub record IsStatement (s : WrittenStatement) (ws : List Lexeme) : Type 0 where
   pub acts : IsAction s.action behind
   pub words : ws ≡ move ∷ behind
 
--- a period that ends a ended
+-- a period, before a space or the end of a line
 abbrev pub IsPeriod : Lexeme → Type 0
 IsPeriod w = w.kind ≡ kind.Stop
 
--- no Stop comes first
+-- no period comes first
 abbrev pub NoPeriod : List Lexeme → Type 0
 NoPeriod [] = Unit {0}
 NoPeriod (w ∷ ws) = IsPeriod w → ⊥
 
--- nothing, a Stop or MOVE may follow a statement
+-- nothing, a period or MOVE may follow a statement
 abbrev pub EndsStatement : List Lexeme → Type 0
 EndsStatement [] = Unit {0}
 EndsStatement (w ∷ ws) = IsPeriod w ⊎ (term_of w ≡ term.Move)
 
--- what may follow a statement and the Stops behind it, and the last of several
+-- what may follow a statement and the periods behind it: nothing, or MOVE
 abbrev pub FollowsStatements : List Lexeme → Type 0
 FollowsStatements [] = Unit {0}
 FollowsStatements (w ∷ ws) = term_of w ≡ term.Move
@@ -110,7 +111,7 @@ FollowsStatements (w ∷ ws) = term_of w ≡ term.Move
 abbrev pub IsEnd : List Lexeme → Type 0
 IsEnd more = more ≡ []
 
--- a statement and the Stops behind it
+-- a statement, and the periods behind it
 pub record IsEndedStatement (s : WrittenStatement) (ws : List Lexeme) : Type 0 where
   pub own : List Lexeme
   pub stops : List Lexeme
@@ -118,7 +119,7 @@ pub record IsEndedStatement (s : WrittenStatement) (ws : List Lexeme) : Type 0 w
   pub are_stops : AllByRecursion IsPeriod stops
   pub words : ws ≡ own ++ stops
 
--- a name and a Stop, or nothing
+-- the name of a paragraph and a period, or nothing
 abbrev pub IsHeading : List Lexeme → Type 0
 IsHeading [] = Unit {0}
 IsHeading (w ∷ []) = ⊥
@@ -139,7 +140,7 @@ abbrev pub first_line : List Lexeme → ℕ
 first_line [] = 1
 first_line (w ∷ ws) = w.line
 
--- a statement stands in front, with all Stops behind it, before these words
+-- a statement stands in front, with all periods behind it, before these words
 pub record StatementStands (s : WrittenStatement) (words more : List Lexeme) : Type 0 where
   pub own : List Lexeme
   pub stops : List Lexeme

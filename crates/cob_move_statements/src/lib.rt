@@ -18,6 +18,7 @@
 
 mod actions;
 mod fault;
+mod literals;
 mod paragraph;
 mod parts;
 mod references;

@@ -6,6 +6,7 @@ ghost use Rattle.cob_copybook_clauses.specs.declared.term.Term.TheVariants as te
 ghost use Rattle.cob_move_statements.specs.Written.{WrittenReference, WrittenSender, written_reference, written_sender};
 ghost use Rattle.cob_move_statements.specs.Statements.{IsReference, IsSender, NameFirst, NoName};
 
+use crate::literals::is_literal_or_figurative;
 use crate::parts::{Reference, StatementSender};
 use crate::references::reference_at;
 use cob_copybook_clauses::{Term, behind, constant_at, is_name_word};
@@ -41,6 +42,9 @@ fn sent_constant_at(words: &[Token]) -> Option<(StatementSender<'_>, &[Token])>
         → IsSomeAnd result (λ r. (written_sender r.0 ≡ x) × (lexemes r.1.now ≡ more)) }
 {
     let (constant, more) = constant_at(words)?;
+    if !is_literal_or_figurative(&constant) {
+        return None;
+    }
     Some((StatementSender::Constant(constant), more))
 }
 

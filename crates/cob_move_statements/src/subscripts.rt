@@ -7,20 +7,9 @@ ghost use Rattle.cob_move_statements.specs.Written.{texts};
 ghost use Rattle.cob_move_statements.specs.Statements.{AreSubscripts, IsBracketed, IsNumeral};
 ghost use Rattle.cob_copybook_clauses.specs.Reading.{NotFirst};
 
+use crate::literals::are_digits;
 use cob_copybook_clauses::{Term, behind, is_term};
 use cob_source::Token;
-
-/// Whether each character is a digit.
-fn are_digits(text: &[u8]) -> bool
-    ensures { IsTrue result ↔ AreDigits text.now }
-{
-    for character in text {
-        if !character.is_ascii_digit() {
-            return false;
-        }
-    }
-    true
-}
 
 /// Whether a word is of digits, one at least.
 fn is_numeral(token: &Token) -> bool
