@@ -3,3 +3,4 @@ pub mod SubordinateLemmas
 pub mod PairLemmas
 pub mod GroupLemmas
 pub mod NodeLemmas
+pub mod OperandLemmas

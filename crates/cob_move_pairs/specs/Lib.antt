@@ -1,3 +1,4 @@
 pub mod Pairs
 pub mod Pairing
 pub mod Listed
+pub mod Groups

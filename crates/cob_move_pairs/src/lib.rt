@@ -14,8 +14,12 @@
 //! cob_move_receive for the table of categories, and on cob_move_statements for the rules that are broken.
 #![tactic(auto)]
 
+mod groups;
+mod laws;
 mod pairing;
 mod subordinate;
 
+pub use groups::entries_below;
+pub use laws::subordinates_are_operands;
 pub use pairing::{Pair, pairs, pairs_between, subordinates};
 pub use subordinate::Subordinate;
