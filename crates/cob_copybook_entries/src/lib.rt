@@ -41,4 +41,4 @@ pub use fault::{BookFault, BookRule, MAX_WORD};
 pub use laws::{entries_break_no_rule, one_list_of_entries};
 pub use name::Name;
 pub use reader::entries;
-pub use value::{Text, Value, value_of};
+pub use value::{Text, Value, is_numeric_literal, value_of};

@@ -138,7 +138,7 @@ fn number_of(text: &[u8]) -> Result<Number, BookRule>
 {
     match Number::of_text(text) {
         Some(number) => Ok(number),
-        None if is_literal(text) => Err(BookRule::Value),
+        None if is_numeric_literal(text) => Err(BookRule::Value),
         None => Err(BookRule::Grammar),
     }
 }
@@ -151,7 +151,7 @@ fn is_signed(text: &[u8]) -> bool
 }
 
 /// Whether a word is a numeric literal, of however many digits.
-fn is_literal(text: &[u8]) -> bool
+pub fn is_numeric_literal(text: &[u8]) -> bool
     ensures yes { IsTrue result → (l : Literal) × IsLiteralOf l text.now }
     ensures no { IsFalse result → (l : Literal) → IsLiteralOf l text.now → ⊥ }
 {

@@ -10,31 +10,31 @@ use Rattle.cob_copybook_clauses.specs.declared.term.Term.{Term}
 use Rattle.cob_copybook_clauses.specs.declared.term.Term.TheVariants as term
 use Rattle.cob_copybook_clauses.specs.Terms.{term_of}
 use Rattle.cob_copybook_clauses.specs.Reading.{NotFirst}
-use Rattle.cob_move_statements.specs.Written.{WrittenReference, texts}
+use Rattle.cob_move_statements.specs.Written.{WrittenReference, word_texts}
 use Rattle.cob_move_statements.specs.Statements.{AreSubscripts, EndsReferences, FitsReference, IsBracketed, IsReference, NoName}
 
 -- words in brackets, before the rest
 brackets : (b a : Lexeme) (ns rest : List Lexeme) → b ∷ (ns ++ a ∷ rest) ≡ (b ∷ (ns ++ a ∷ [])) ++ rest
 brackets b a ns rest = ap (λ (t : List Lexeme). b ∷ t) (sym (append_assoc ns (a ∷ []) rest))
 
-are_subscripts : (b a : Lexeme) (ns : List Lexeme) → IsBracketed b a ns → AreSubscripts (texts ns) (b ∷ (ns ++ a ∷ []))
+are_subscripts : (b a : Lexeme) (ns : List Lexeme) → IsBracketed b a ns → AreSubscripts (word_texts ns) (b ∷ (ns ++ a ∷ []))
 are_subscripts b a [] is = absurd (omega (arith, is.some))
 are_subscripts b a (n ∷ ns) is = (b, a, n ∷ ns, is, refl, refl)
 
 pub found_in : (words : List Lexeme) (o : Option (Bor (List Token) × Bor (List Token)))
     → IfSome o (λ r. (b a : Lexeme) × IsBracketed b a (lexemes r.0.now) × (words ≡ b ∷ (lexemes r.0.now ++ a ∷ lexemes r.1.now)))
-    → IfSome o (λ r. (ws : List Lexeme) × AreSubscripts (texts (lexemes r.0.now)) ws × (words ≡ ws ++ lexemes r.1.now))
+    → IfSome o (λ r. (ws : List Lexeme) × AreSubscripts (word_texts (lexemes r.0.now)) ws × (words ≡ ws ++ lexemes r.1.now))
 found_in words None h = tt
 found_in words (Some r) (b, a, is, e) = (b ∷ (lexemes r.0.now ++ a ∷ []), are_subscripts b a (lexemes r.0.now) is, e ∙ brackets b a (lexemes r.0.now) (lexemes r.1.now))
 
-some_as : (ns : List Lexeme) (ts : List (List ℕ)) (more : List Lexeme) (o : Option (Bor (List Token) × Bor (List Token))) → ts ≡ texts ns
-    → IsSomeAnd o (λ r. (lexemes r.0.now ≡ ns) × (lexemes r.1.now ≡ more)) → IsSomeAnd o (λ r. (texts (lexemes r.0.now) ≡ ts) × (lexemes r.1.now ≡ more))
+some_as : (ns : List Lexeme) (ts : List (List ℕ)) (more : List Lexeme) (o : Option (Bor (List Token) × Bor (List Token))) → ts ≡ word_texts ns
+    → IsSomeAnd o (λ r. (lexemes r.0.now ≡ ns) × (lexemes r.1.now ≡ more)) → IsSomeAnd o (λ r. (word_texts (lexemes r.0.now) ≡ ts) × (lexemes r.1.now ≡ more))
 some_as ns ts more None e h = h
-some_as ns ts more (Some r) e h = (ap texts h.0 ∙ sym e, h.1)
+some_as ns ts more (Some r) e h = (ap word_texts h.0 ∙ sym e, h.1)
 
 pub only_in : (words rest : List Lexeme) (w : Lexeme) (o : Option (Bor (List Token) × Bor (List Token))) → words ≡ w ∷ rest → term_of w ≡ term.OpenBracket
     → ((b a : Lexeme) (ns more : List Lexeme) → IsBracketed b a ns → words ≡ b ∷ (ns ++ a ∷ more) → IsSomeAnd o (λ r. (lexemes r.0.now ≡ ns) × (lexemes r.1.now ≡ more)))
-    → (ts : List (List ℕ)) (ws more : List Lexeme) → AreSubscripts ts ws → NotFirst term.OpenBracket more → words ≡ ws ++ more → IsSomeAnd o (λ r. (texts (lexemes r.0.now) ≡ ts) × (lexemes r.1.now ≡ more))
+    → (ts : List (List ℕ)) (ws more : List Lexeme) → AreSubscripts ts ws → NotFirst term.OpenBracket more → words ≡ ws ++ more → IsSomeAnd o (λ r. (word_texts (lexemes r.0.now) ≡ ts) × (lexemes r.1.now ≡ more))
 only_in words rest w o first opens only [] ws more are nf e =
     let same : more ≡ w ∷ rest = ap (λ (t : List Lexeme). t ++ more) (sym are) ∙ sym e ∙ first in
     let never : term_of w ≢ term.OpenBracket = subst (NotFirst term.OpenBracket) same nf in

@@ -10,7 +10,7 @@ use Rattle.cob_copybook_clauses.specs.Reading.{NotFirst}
 use Rattle.cob_copybook_clauses.specs.Written.{WrittenConstant, Word, Quoted, Figure, Repeated}
 use Rattle.cob_move_statements.specs.declared.parts.Reference.{Reference}
 use Rattle.cob_move_statements.specs.Written.{written_references, WrittenReference, WrittenSender, SentReference, SentConstant, WrittenAction, MoveTo, MoveCorresponding}
-use Rattle.cob_move_statements.specs.Statements.{EndsReferences, FitsReference, IsAction, IsSender}
+use Rattle.cob_move_statements.specs.Statements.{EndsReferences, FitsReference, IsAction, IsWrittenSender}
 use Rattle.cob_move_statements.proofs.ReferenceLemmas.{reference_first}
 
 -- TO may follow a reference
@@ -59,7 +59,7 @@ constant_first (Figure f) ws more (a ∷ [], w, noise, figure, e) = other_first 
 constant_first (Figure f) ws more (a ∷ b ∷ all, w, noise, figure, e) = absurd noise
 constant_first (Repeated text) ws more (all, w, is, literal, same, e) = other_first term.All all ws (w ∷ []) more is (λ f. cc) e
 
-sender_first : (s : WrittenSender) (ws more : List Lexeme) → IsSender s ws → NotFirst term.Corresponding (ws ++ more)
+sender_first : (s : WrittenSender) (ws more : List Lexeme) → IsWrittenSender s ws → NotFirst term.Corresponding (ws ++ more)
 sender_first (SentReference r) ws more is = reference_first term.Corresponding r ws more is (λ e. cc)
 sender_first (SentConstant c) ws more (is, form, none) = constant_first c ws more is
 

@@ -1,4 +1,3 @@
 pub mod Faults
-pub mod Literals
 pub mod Written
 pub mod Statements

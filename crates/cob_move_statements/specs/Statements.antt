@@ -1,18 +1,18 @@
 -- The words of a paragraph.
 use Rattle.std.specs.Prelude.{◌≡◌, ◌⊎◌, ℕ, ◌<◌, List, [], ◌∷◌, ◌++◌, length}
 use Rattle.std.specs.List.{AllByRecursion}
-use Rattle.cob_decimal.specs.Literals.{AreDigits}
+use Rattle.cob_decimal.specs.Literals.{AreDigits, Literal}
 use Rattle.cob_source.specs.Tokens.{Lexeme}
 use Rattle.cob_source.specs.declared.token.Kind.TheVariants as kind
 use Rattle.cob_copybook_clauses.specs.declared.term.Term.TheVariants as term
 use Rattle.cob_copybook_clauses.specs.Terms.{term_of}
 use Rattle.cob_copybook_clauses.specs.Clauses.{AreQualifiers, IsConstant, IsNameWord}
 use Rattle.cob_copybook_clauses.specs.Reading.{NotFirst}
-use Rattle.cob_copybook_clauses.specs.Written.{names_behind}
+use Rattle.cob_copybook_clauses.specs.Written.{WrittenConstant, Word, Quoted, Figure, Repeated, names_behind}
+use Rattle.cob_copybook_entries.specs.Parts.{IsLiteralOf}
 use Rattle.cob_move_statements.specs.declared.fault.MoveRule.{MoveRule}
 use Rattle.cob_move_statements.specs.declared.fault.MoveRule.TheVariants as rule
-use Rattle.cob_move_statements.specs.Literals.{IsLiteralOrFigurative}
-use Rattle.cob_move_statements.specs.Written.{texts, WrittenReference, WrittenSender, SentReference, SentConstant, WrittenAction, MoveTo, MoveCorresponding, WrittenStatement}
+use Rattle.cob_move_statements.specs.Written.{word_texts, WrittenReference, WrittenSender, SentReference, SentConstant, WrittenAction, MoveTo, MoveCorresponding, WrittenStatement}
 
 -- pieces one behind another, each of which is so
 abbrev pub Several : {V : Type 0} → (V → List Lexeme → Type 0) → List V → List Lexeme → Type 0
@@ -35,7 +35,7 @@ pub record IsBracketed (open_bracket close_bracket : Lexeme) (numbers : List Lex
 -- subscripts in brackets, or nothing
 abbrev pub AreSubscripts : List (List ℕ) → List Lexeme → Type 0
 AreSubscripts [] ws = ws ≡ []
-AreSubscripts (s ∷ more) ws = (before after : Lexeme) × (numbers : List Lexeme) × IsBracketed before after numbers × (s ∷ more ≡ texts numbers) × (ws ≡ before ∷ (numbers ++ after ∷ []))
+AreSubscripts (s ∷ more) ws = (before after : Lexeme) × (numbers : List Lexeme) × IsBracketed before after numbers × (s ∷ more ≡ word_texts numbers) × (ws ≡ before ∷ (numbers ++ after ∷ []))
 
 -- a reference: a name, qualifiers by OF or IN, and subscripts
 pub record IsReference (r : WrittenReference) (ws : List Lexeme) : Type 0 where
@@ -66,15 +66,22 @@ FitsReference more = NotFirst term.Of more × NotFirst term.OpenBracket more
 abbrev pub EndsReferences : List Lexeme → Type 0
 EndsReferences more = NoName more × NotFirst term.Of more × NotFirst term.OpenBracket more
 
+-- a literal or a figurative constant: a word that is written for one is a numeric literal, with however many digits
+abbrev pub IsLiteralOrFigurative : WrittenConstant → Type 0
+IsLiteralOrFigurative (Word text) = (l : Literal) × IsLiteralOf l text
+IsLiteralOrFigurative (Quoted text) = Unit {0}
+IsLiteralOrFigurative (Figure f) = Unit {0}
+IsLiteralOrFigurative (Repeated text) = Unit {0}
+
 -- a sender: a reference, or a literal or figurative constant, which is no name
-abbrev pub IsSender : WrittenSender → List Lexeme → Type 0
-IsSender (SentReference r) ws = IsReference r ws
-IsSender (SentConstant c) ws = IsConstant c ws × IsLiteralOrFigurative c × NoName ws
+abbrev pub IsWrittenSender : WrittenSender → List Lexeme → Type 0
+IsWrittenSender (SentReference r) ws = IsReference r ws
+IsWrittenSender (SentConstant c) ws = IsConstant c ws × IsLiteralOrFigurative c × NoName ws
 
 -- what stands behind MOVE: a sender, TO, and a reference or more; or CORRESPONDING, a reference, TO, and a reference
 abbrev pub IsAction : WrittenAction → List Lexeme → Type 0
 IsAction (MoveTo s rs) ws = (sender receivers : List Lexeme) × (between : Lexeme)
-    × IsSender s sender × (term_of between ≡ term.To) × (0 < length rs) × Several IsReference rs receivers
+    × IsWrittenSender s sender × (term_of between ≡ term.To) × (0 < length rs) × Several IsReference rs receivers
     × (ws ≡ sender ++ between ∷ receivers)
 IsAction (MoveCorresponding from to) ws = (corresponding between : Lexeme) × (sender receiver : List Lexeme)
     × (term_of corresponding ≡ term.Corresponding) × IsReference from sender × (term_of between ≡ term.To) × IsReference to receiver

@@ -30,11 +30,11 @@ pub record WrittenStatement : Type 0 where
   pub line : ℕ
   pub action : WrittenAction
 
-abbrev pub texts : List Lexeme → List (List ℕ)
-texts ws = map (λ w. w.text) ws
+abbrev pub word_texts : List Lexeme → List (List ℕ)
+word_texts ws = map (λ w. w.text) ws
 
 abbrev pub written_reference : Reference → WrittenReference
-written_reference r = record { name = r.name.now; qualifiers = names_behind (lexemes r.qualifiers.now); subscripts = texts (lexemes r.subscripts.now) }
+written_reference r = record { name = r.name.now; qualifiers = names_behind (lexemes r.qualifiers.now); subscripts = word_texts (lexemes r.subscripts.now) }
 
 abbrev pub written_references : List Reference → List WrittenReference
 written_references rs = map written_reference rs

@@ -2,7 +2,7 @@
 
 ghost use Rattle.std.specs.Prelude.{◌≡◌};
 ghost use Rattle.cob_move_statements.specs.declared.fault.MoveRule.TheVariants.{Memory};
-ghost use Rattle.cob_move_statements.specs.Faults.{from_source};
+ghost use Rattle.cob_move_statements.specs.Faults.{paragraph_fault};
 
 use cob_source::{SourceFault, SourceRule};
 use std::alloc::{AllocError, AllocFailed};
@@ -83,7 +83,7 @@ pub struct MoveFault {
 }
 
 impl From<SourceFault> for MoveFault {
-    ghost from_gives = { λ f e. e ≡ from_source f };
+    ghost from_gives = { λ f e. e ≡ paragraph_fault f };
 
     fn from(fault: SourceFault) -> MoveFault {
         match fault.rule {

@@ -1,15 +1,16 @@
-ghost use Rattle.std.specs.Prelude.{◌≡◌, List, ◌∷◌, ◌++◌, IfSome, IsSomeAnd, IsTrue, false};
+ghost use Rattle.std.specs.Prelude.{◌≡◌, List, ◌∷◌, ◌++◌, IfSome, IsFalse, IsSomeAnd, IsTrue, false};
 ghost use Rattle.cob_source.specs.Tokens.{Lexeme, lexemes};
 ghost use Rattle.cob_copybook_clauses.specs.Reading.{NotFirst};
 ghost use Rattle.cob_copybook_clauses.specs.Terms.{term_of};
 ghost use Rattle.cob_copybook_clauses.specs.declared.term.Term.TheVariants as term;
+ghost use Rattle.cob_copybook_clauses.specs.Written.{written_constant};
 ghost use Rattle.cob_move_statements.specs.Written.{WrittenReference, WrittenSender, written_reference, written_sender};
-ghost use Rattle.cob_move_statements.specs.Statements.{IsReference, IsSender, NameFirst, NoName};
+ghost use Rattle.cob_move_statements.specs.Statements.{IsLiteralOrFigurative, IsReference, IsWrittenSender, NameFirst, NoName};
 
-use crate::literals::is_literal_or_figurative;
 use crate::parts::{Reference, StatementSender};
 use crate::references::reference_at;
-use cob_copybook_clauses::{Term, behind, constant_at, is_name_word};
+use cob_copybook_clauses::{Constant, Term, behind, constant_at, is_name_word};
+use cob_copybook_entries::is_numeric_literal;
 use cob_source::Token;
 
 /// Whether a name comes first.
@@ -26,19 +27,30 @@ fn begins_with_name(words: &[Token]) -> bool
 /// The entry in front that is sent, and what is behind it.
 fn sent_entry_at(words: &[Token]) -> Option<(StatementSender<'_>, &[Token])>
     requires { NameFirst (lexemes words.now) }
-    ensures found { IfSome result (λ r. (ws : List Lexeme) × IsSender (written_sender r.0) ws × (lexemes words.now ≡ ws ++ lexemes r.1.now)) }
-    ensures only { (x : WrittenSender) (ws more : List Lexeme) → IsSender x ws → NotFirst term.Of more → NotFirst term.OpenBracket more → lexemes words.now ≡ ws ++ more
+    ensures found { IfSome result (λ r. (ws : List Lexeme) × IsWrittenSender (written_sender r.0) ws × (lexemes words.now ≡ ws ++ lexemes r.1.now)) }
+    ensures only { (x : WrittenSender) (ws more : List Lexeme) → IsWrittenSender x ws → NotFirst term.Of more → NotFirst term.OpenBracket more → lexemes words.now ≡ ws ++ more
         → IsSomeAnd result (λ r. (written_sender r.0 ≡ x) × (lexemes r.1.now ≡ more)) }
 {
     let (reference, more) = reference_at(words)?;
     Some((StatementSender::Reference(reference), more))
 }
 
+/// Whether a constant is a literal or a figurative constant, and no other word.
+fn is_literal_or_figurative(constant: &Constant<'_>) -> bool
+    ensures yes { IsTrue result → IsLiteralOrFigurative (written_constant constant.now) }
+    ensures no { IsFalse result → IsLiteralOrFigurative (written_constant constant.now) → ⊥ }
+{
+    match constant {
+        Constant::Word(text) => is_numeric_literal(text),
+        Constant::Literal(_) | Constant::Figurative(_) | Constant::All(_) => true,
+    }
+}
+
 /// The constant in front that is sent, and what is behind it.
 fn sent_constant_at(words: &[Token]) -> Option<(StatementSender<'_>, &[Token])>
     requires { NoName (lexemes words.now) }
-    ensures found { IfSome result (λ r. (ws : List Lexeme) × IsSender (written_sender r.0) ws × (lexemes words.now ≡ ws ++ lexemes r.1.now)) }
-    ensures only { (x : WrittenSender) (ws more : List Lexeme) → IsSender x ws → NotFirst term.Of more → NotFirst term.OpenBracket more → lexemes words.now ≡ ws ++ more
+    ensures found { IfSome result (λ r. (ws : List Lexeme) × IsWrittenSender (written_sender r.0) ws × (lexemes words.now ≡ ws ++ lexemes r.1.now)) }
+    ensures only { (x : WrittenSender) (ws more : List Lexeme) → IsWrittenSender x ws → NotFirst term.Of more → NotFirst term.OpenBracket more → lexemes words.now ≡ ws ++ more
         → IsSomeAnd result (λ r. (written_sender r.0 ≡ x) × (lexemes r.1.now ≡ more)) }
 {
     let (constant, more) = constant_at(words)?;
@@ -50,8 +62,8 @@ fn sent_constant_at(words: &[Token]) -> Option<(StatementSender<'_>, &[Token])>
 
 /// The sender in front, and what is behind it.
 pub fn sender_at(words: &[Token]) -> Option<(StatementSender<'_>, &[Token])>
-    ensures found { IfSome result (λ r. (ws : List Lexeme) × IsSender (written_sender r.0) ws × (lexemes words.now ≡ ws ++ lexemes r.1.now)) }
-    ensures only { (x : WrittenSender) (ws more : List Lexeme) → IsSender x ws → NotFirst term.Of more → NotFirst term.OpenBracket more → lexemes words.now ≡ ws ++ more
+    ensures found { IfSome result (λ r. (ws : List Lexeme) × IsWrittenSender (written_sender r.0) ws × (lexemes words.now ≡ ws ++ lexemes r.1.now)) }
+    ensures only { (x : WrittenSender) (ws more : List Lexeme) → IsWrittenSender x ws → NotFirst term.Of more → NotFirst term.OpenBracket more → lexemes words.now ≡ ws ++ more
         → IsSomeAnd result (λ r. (written_sender r.0 ≡ x) × (lexemes r.1.now ≡ more)) }
 {
     if begins_with_name(words) {
@@ -63,8 +75,8 @@ pub fn sender_at(words: &[Token]) -> Option<(StatementSender<'_>, &[Token])>
 
 /// The sender in front of TO, and what is behind TO.
 pub fn sender_to_at(words: &[Token]) -> Option<(StatementSender<'_>, &[Token])>
-    ensures found { IfSome result (λ r. (ws : List Lexeme) × (to : Lexeme) × IsSender (written_sender r.0) ws × (term_of to ≡ term.To) × (lexemes words.now ≡ ws ++ to ∷ lexemes r.1.now)) }
-    ensures only { (x : WrittenSender) (ws more : List Lexeme) (to : Lexeme) → IsSender x ws → term_of to ≡ term.To → lexemes words.now ≡ ws ++ to ∷ more
+    ensures found { IfSome result (λ r. (ws : List Lexeme) × (to : Lexeme) × IsWrittenSender (written_sender r.0) ws × (term_of to ≡ term.To) × (lexemes words.now ≡ ws ++ to ∷ lexemes r.1.now)) }
+    ensures only { (x : WrittenSender) (ws more : List Lexeme) (to : Lexeme) → IsWrittenSender x ws → term_of to ≡ term.To → lexemes words.now ≡ ws ++ to ∷ more
         → IsSomeAnd result (λ r. (written_sender r.0 ≡ x) × (lexemes r.1.now ≡ more)) }
 {
     let (sender, rest) = sender_at(words)?;

@@ -3,13 +3,24 @@ ghost use Rattle.std.specs.List.{AllByRecursion};
 ghost use Rattle.cob_decimal.specs.Literals.{AreDigits};
 ghost use Rattle.cob_source.specs.Tokens.{Lexeme, lexeme, lexemes};
 ghost use Rattle.cob_copybook_clauses.specs.declared.term.Term.TheVariants as term;
-ghost use Rattle.cob_move_statements.specs.Written.{texts};
+ghost use Rattle.cob_move_statements.specs.Written.{word_texts};
 ghost use Rattle.cob_move_statements.specs.Statements.{AreSubscripts, IsBracketed, IsNumeral};
 ghost use Rattle.cob_copybook_clauses.specs.Reading.{NotFirst};
 
-use crate::literals::are_digits;
 use cob_copybook_clauses::{Term, behind, is_term};
 use cob_source::Token;
+
+/// Whether each character is a digit.
+fn are_digits(text: &[u8]) -> bool
+    ensures { IsTrue result ↔ AreDigits text.now }
+{
+    for character in text {
+        if !character.is_ascii_digit() {
+            return false;
+        }
+    }
+    true
+}
 
 /// Whether a word is of digits, one at least.
 fn is_numeral(token: &Token) -> bool
@@ -68,8 +79,8 @@ fn bracketed_at(words: &[Token]) -> Option<(&[Token], &[Token])>
 
 /// The subscripts in front, or none, and what is behind them.
 pub fn subscripts_at(words: &[Token]) -> Option<(&[Token], &[Token])>
-    ensures found { IfSome result (λ r. (ws : List Lexeme) × AreSubscripts (texts (lexemes r.0.now)) ws × (lexemes words.now ≡ ws ++ lexemes r.1.now)) }
-    ensures only { (ts : List (List ℕ)) (ws more : List Lexeme) → AreSubscripts ts ws → NotFirst term.OpenBracket more → lexemes words.now ≡ ws ++ more → IsSomeAnd result (λ r. (texts (lexemes r.0.now) ≡ ts) × (lexemes r.1.now ≡ more)) }
+    ensures found { IfSome result (λ r. (ws : List Lexeme) × AreSubscripts (word_texts (lexemes r.0.now)) ws × (lexemes words.now ≡ ws ++ lexemes r.1.now)) }
+    ensures only { (ts : List (List ℕ)) (ws more : List Lexeme) → AreSubscripts ts ws → NotFirst term.OpenBracket more → lexemes words.now ≡ ws ++ more → IsSomeAnd result (λ r. (word_texts (lexemes r.0.now) ≡ ts) × (lexemes r.1.now ≡ more)) }
 {
     match words.split_first() {
         Some((first, _)) if is_term(first, Term::OpenBracket) => bracketed_at(words),

@@ -1,7 +1,7 @@
 use Rattle.std.proofs.Common.{◌≡◌, true, false, sym, subst, ◌∙◌}
 use Rattle.cob_copybook_entries.specs.Parts.{IsUnsigned}
 use Rattle.cob_copybook_entries.proofs.Literals.{literal_from, literal_only}
-use Rattle.cob_copybook_entries.proofs.value.is_literal.Goals as goal
+use Rattle.cob_copybook_entries.proofs.value.is_numeric_literal.Goals as goal
 
 pub returns : goal.returns
 returns c = record {

@@ -1,0 +1,6 @@
+pub mod Written
+pub mod Candidates
+pub mod Listed
+pub mod References
+pub mod Directory
+pub mod Laws
