@@ -1,0 +1,7 @@
+use Rattle.std.proofs.Common.{ap, sym, option_map, ◌∙◌}
+use Rattle.clap.specs.Words.{found_of}
+use Rattle.clap.proofs.WalkLemmas.{first_value-rows}
+use Rattle.cob_convert_line.proofs.read.named.Goals as goal
+
+pub returns-in-Some : goal.returns-in-Some
+returns-in-Some c = sym (first_value-rows (found_of c.args.options.now) c.args.name.now) ∙ sym c.get_str.ensures ∙ ap (option_map (λ s. s.now)) c.in-Some.is

@@ -1,0 +1,68 @@
+use cob_records::Form;
+
+/// What the words ask for.
+#[derive(Clone, Copy, Debug, PartialEq, Eq)]
+pub enum Line<'a> {
+    /// The job that stands on standard input: there are no words.
+    Job,
+    /// Converts a file of records.
+    Convert(ConvertLine<'a>),
+    /// Reads two copybooks and a paragraph, and says what they come to.
+    Check(CheckLine<'a>),
+    /// Lists the entries of a copybook with their places.
+    Layout(LayoutLine<'a>),
+    /// Lists the values of a file of records.
+    Show(ShowLine<'a>),
+}
+
+/// The options of `convert`.
+#[derive(Clone, Copy, Debug, PartialEq, Eq)]
+pub struct ConvertLine<'a> {
+    /// The file with the copybook of the input record.
+    pub in_book: &'a str,
+    /// The file with the copybook of the output record.
+    pub out_book: &'a str,
+    /// The file with the paragraph.
+    pub moves: &'a str,
+    /// The file that the records come from; `-` is standard input.
+    pub input: &'a str,
+    /// The file that the records go to; `-` is standard output.
+    pub output: &'a str,
+    /// How the records of the input stand.
+    pub in_form: Form,
+    /// How the records of the output stand.
+    pub out_form: Form,
+    /// Whether it tells on standard error how far it is.
+    pub progress: bool,
+}
+
+/// The options of `check`.
+#[derive(Clone, Copy, Debug, PartialEq, Eq)]
+pub struct CheckLine<'a> {
+    /// The file with the copybook of the input record.
+    pub in_book: &'a str,
+    /// The file with the copybook of the output record.
+    pub out_book: &'a str,
+    /// The file with the paragraph.
+    pub moves: &'a str,
+}
+
+/// The option of `layout`.
+#[derive(Clone, Copy, Debug, PartialEq, Eq)]
+pub struct LayoutLine<'a> {
+    /// The file with the copybook.
+    pub book: &'a str,
+}
+
+/// The options of `show`.
+#[derive(Clone, Copy, Debug, PartialEq, Eq)]
+pub struct ShowLine<'a> {
+    /// The file with the copybook of the records.
+    pub book: &'a str,
+    /// The file that the records come from; `-` is standard input.
+    pub input: &'a str,
+    /// How the records stand.
+    pub form: Form,
+    /// Whether it tells on standard error how far it is.
+    pub progress: bool,
+}

@@ -1,0 +1,127 @@
+ghost use Rattle.std.specs.Prelude.{◌≡◌, IfOk, Some, map, option_map};
+ghost use Rattle.clap.specs.Words.{first_of, found_of, one_of, rows_of};
+ghost use Rattle.cob_convert_line.specs.Lines.{IsCheck, IsCommand, IsConvert, IsLayout, IsLineOf, IsShow, form_of, is_flagged, letter_of};
+
+use crate::fault::LineFault;
+use crate::line::{CheckLine, ConvertLine, LayoutLine, Line, ShowLine};
+use crate::program::program;
+use clap::ArgMatches;
+use cob_records::Form;
+use std::alloc::Global;
+use std::convert::AsStr;
+
+// The form that a letter names.
+fn form_named(letter: &str) -> Option<Form>
+    ensures { result ≡ form_of letter.now }
+{
+    match letter {
+        "f" => Some(Form::Fixed),
+        "v" => Some(Form::Variable),
+        _ => None,
+    }
+}
+
+// What an option names, where `clap` has seen to it that it is there.
+fn named<'a>(options: &ArgMatches<'a>, name: &str) -> Result<&'a str, LineFault>
+    ensures { IfOk result (λ word.
+        first_of name.now (rows_of (found_of options.now)) ≡ Some word.now) }
+{
+    match options.get_str(name) {
+        Some(word) => Ok(word),
+        None => Err(LineFault::Form),
+    }
+}
+
+// The form that an option names.
+fn form(options: &ArgMatches<'_>, name: &str) -> Result<Form, LineFault>
+    ensures { IfOk result (λ form.
+        first_of name.now (rows_of (found_of options.now)) ≡ Some (letter_of form)) }
+{
+    form_named(named(options, name)?).ok_or(LineFault::Form)
+}
+
+// Whether a flag was given.
+fn flag(options: &ArgMatches<'_>, name: &str) -> bool
+    ensures { result ≡ is_flagged name.now (rows_of (found_of options.now)) }
+{
+    match options.get_str(name) {
+        Some(value) => value == "true",
+        None => false,
+    }
+}
+
+fn convert_line<'a>(options: &ArgMatches<'a>) -> Result<ConvertLine<'a>, LineFault>
+    ensures { IfOk result (IsConvert (rows_of (found_of options.now))) }
+{
+    Ok(ConvertLine {
+        in_book: named(options, "in-book")?,
+        out_book: named(options, "out-book")?,
+        moves: named(options, "moves")?,
+        input: named(options, "in")?,
+        output: named(options, "out")?,
+        in_form: form(options, "in-form")?,
+        out_form: form(options, "out-form")?,
+        progress: flag(options, "progress"),
+    })
+}
+
+fn check_line<'a>(options: &ArgMatches<'a>) -> Result<CheckLine<'a>, LineFault>
+    ensures { IfOk result (IsCheck (rows_of (found_of options.now))) }
+{
+    Ok(CheckLine {
+        in_book: named(options, "in-book")?,
+        out_book: named(options, "out-book")?,
+        moves: named(options, "moves")?,
+    })
+}
+
+fn layout_line<'a>(options: &ArgMatches<'a>) -> Result<LayoutLine<'a>, LineFault>
+    ensures { IfOk result (IsLayout (rows_of (found_of options.now))) }
+{
+    Ok(LayoutLine {
+        book: named(options, "book")?,
+    })
+}
+
+fn show_line<'a>(options: &ArgMatches<'a>) -> Result<ShowLine<'a>, LineFault>
+    ensures { IfOk result (IsShow (rows_of (found_of options.now))) }
+{
+    Ok(ShowLine {
+        book: named(options, "book")?,
+        input: named(options, "in")?,
+        form: form(options, "form")?,
+        progress: flag(options, "progress"),
+    })
+}
+
+// The line of a command that was named with these options.
+fn command_line<'a>(name: &str, options: &ArgMatches<'a>) -> Result<Line<'a>, LineFault>
+    ensures { IfOk result (IsCommand name.now (rows_of (found_of options.now))) }
+{
+    match name {
+        "convert" => Ok(Line::Convert(convert_line(options)?)),
+        "check" => Ok(Line::Check(check_line(options)?)),
+        "layout" => Ok(Line::Layout(layout_line(options)?)),
+        "show" => Ok(Line::Show(show_line(options)?)),
+        _ => Err(LineFault::Form),
+    }
+}
+
+/// Reads the words after the program's name: which command they ask for, and what its options name. No words at all ask for a job.
+///
+/// # Errors
+///
+/// [`LineFault::Words`] where the words are wrong or ask for help or the version, [`LineFault::Form`] where an option for a form names neither
+/// f nor v, [`LineFault::Memory`].
+pub fn line_of<'a, S: AsStr>(alloc: Global, words: &'a [S]) -> Result<Line<'a>, LineFault>
+    ensures options { IfOk result (IsLineOf (map S.text words.entry.now)) }
+{
+    if words.is_empty() {
+        return Ok(Line::Job);
+    }
+    let matches = program(alloc)?.try_get_matches_from(words)?;
+    match matches.subcommand() {
+        Some((name, options)) => command_line(name, options),
+        None => Err(LineFault::Form),
+    }
+}
