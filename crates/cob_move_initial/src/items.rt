@@ -5,7 +5,7 @@ ghost use Rattle.cob_picture.specs.Positions.{shows_number};
 ghost use Rattle.cob_copybook_entries.specs.Described.{constant};
 ghost use Rattle.cob_copybook_tree.specs.Lengths.{item_size};
 ghost use Rattle.cob_copybook_tree.specs.declared.node.Kind.TheVariants.{Item as ItemKind};
-ghost use Rattle.cob_copybook_lengths.specs.Values.{is_number, IsItemValue};
+ghost use Rattle.cob_copybook_lengths.specs.Values.{is_number, IsItemValue, IsNumericValue};
 ghost use Rattle.cob_item.specs.Items.{IsStorable};
 ghost use Rattle.cob_move_receive.specs.Sent.{Amount, Literal};
 ghost use Rattle.cob_move_receive.specs.Numbers.{ConstantGives};
@@ -28,6 +28,17 @@ fn move_constant(value: &Value, item: &Item, bytes: &mut [u8])
         (Literal (constant value.now)) (ItemKind item.now) (item_size item.now) (Some bytes.new) }
 {
     receive_in_item(&Sent::Constant(value), item, bytes);
+}
+
+/// Writes the constant of an item that is a number.
+fn write_number(item: &Item, value: &Value, bytes: &mut [u8])
+    requires fits { IsNumericValue item.now.picture (constant value.now) }
+    requires storable { IsStorable item.now }
+    requires long { length bytes.old ≡ item_size item.now }
+    ensures { Received
+        (Literal (constant value.now)) (ItemKind item.now) (item_size item.now) (Some bytes.new) }
+{
+    move_constant(value, item, bytes);
 }
 
 /// The figurative constant that an item without VALUE receives.
@@ -65,7 +76,7 @@ pub fn write_item(item: &Item, value: &Option<Value>, bytes: &mut [u8])
 {
     match value {
         None => clear(item, bytes),
-        Some(value) if is_number(item) => move_constant(value, item, bytes),
+        Some(value) if is_number(item) => write_number(item, value, bytes),
         Some(value) => write_group(value, bytes),
     }
 }

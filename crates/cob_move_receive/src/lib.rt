@@ -4,9 +4,9 @@
 //! What is promised: [`receive`] writes into the receiver's bytes what `Received` of specs/Received.antt says of a sender and a receiver
 //! (`gets`), or leaves them as they were and answers false where the sender's bytes represent no value that the receiver asks for
 //! (`gets`, `same`); [`receive_in_group`] and [`receive_in_item`] are the same where it is known which of the two receives. By that
-//! definition a group on either side copies bytes; characters stand from the left, from the right under
-//! JUSTIFIED, or between the insertions of an edited item; a whole number gives its digits to characters; and a number is aligned by the
-//! point and stored, or edited. A law says that there is one answer ([`one_received`]).
+//! definition a group on either side copies bytes; characters stand from the left, from the right under JUSTIFIED, or between the
+//! insertions of an edited item; a whole number gives its digits to characters; and a number is aligned by the point and stored, or edited.
+//! A law says that there is one answer ([`one_received`]).
 //!
 //! [`may_move`] is the table of categories that specs/Table.antt writes out (`allowed`). [`refusal_of`] gives a rule that the move of a
 //! sender to a receiver breaks, and none only where it breaks no rule (`broken`, `fine`); the rules are those of specs/Refusals.antt: a
@@ -14,8 +14,9 @@
 //! than a number has digits (M10).
 //!
 //! It stands on cob_copybook_tree, cob_copybook_entries and cob_copybook_clauses for items and constants, on cob_item for the storage of
-//! numbers, on cob_edit for edited items, on cob_copybook_lengths for which items are numbers, on cob_picture and cob_decimal for pictures and numbers, on cob_cp037 for the code page, and on cob_limits. Nothing here
-//! takes memory, and the work grows with the bytes that are sent and received.
+//! numbers, on cob_edit for edited items, on cob_copybook_lengths for which items are numbers, on cob_picture and cob_decimal for pictures
+//! and numbers, on cob_cp037 for the code page, and on cob_limits. Nothing here takes memory, and the work grows with the bytes that are
+//! sent and received.
 #![tactic(auto)]
 
 mod characters;
