@@ -20,10 +20,10 @@ use std::alloc::{AllocError, Global};
 
 /// The entries of the input record and of the output record, to be found by their names.
 ///
-/// Contracts see the entries of both records in order (`entries_named` of specs/Listed.antt).
+/// Contracts see the entries of both records in order (`entries_named` of specs/Directory.antt).
 #[derive(Drop)]
 pub struct Names<'a> {
-    pub(crate) entries: Vec<Candidate<'a>>,
+    entries: Vec<Candidate<'a>>,
     /// For each entry that has a name, the place of the last one before it of the same name.
     earlier: Vec<Option<usize>>,
     /// The place of the last entry of each name.

@@ -63,7 +63,8 @@ pub(crate) fn read_subscripts(
     ensures read { IsTrue result → subscripts.new.items
         ≡ subscripts.old.items ++ subscript_numbers (word_texts (lexemes written.now)) }
     ensures yes { IsTrue result → AreSubscriptsOf tables.now (word_texts (lexemes written.now)) }
-    ensures no { IsFalse result → AreSubscriptsOf tables.now (word_texts (lexemes written.now)) → ⊥ }
+    ensures no { IsFalse result
+        → AreSubscriptsOf tables.now (word_texts (lexemes written.now)) → ⊥ }
 {
     let Some((most, tables)) = tables.split_first() else {
         return written.is_empty();
