@@ -8,7 +8,7 @@ use Rattle.cob_copybook_clauses.specs.Reading.{NotFirst}
 use Rattle.cob_copybook_clauses.specs.Written.{WrittenConstant, Word, Quoted, Figure, Repeated}
 use Rattle.cob_copybook_clauses.proofs.OneLemmas.{qualifiers_cut, constant_cut}
 use Rattle.cob_move_statements.specs.Written.{WrittenReference, WrittenSender, SentReference, SentConstant, WrittenAction, MoveTo, MoveCorresponding, WrittenStatement, word_texts}
-use Rattle.cob_move_statements.specs.Statements.{AreSubscripts, EndsReferences, FitsReference, FollowsStatements, IsAction, IsEndedStatement, IsHeading, IsNumeral, IsParagraph, IsPeriod, IsReference, IsStatement, IsWrittenSender, NoName, NoPeriod, Several}
+use Rattle.cob_move_statements.specs.Statements.{AreSubscripts, EndsReferences, FitsReference, FollowsStatements, IsAction, IsEndedStatement, IsHeading, IsNumeral, IsPeriod, IsReference, IsStatement, IsWrittenSender, NoName, NoPeriod, Several}
 use Rattle.cob_move_statements.specs.Laws.{OneParagraph}
 use Rattle.cob_move_statements.proofs.Runs.{IsRun, fits}
 use Rattle.cob_move_statements.proofs.ReferenceLemmas.{brackets, not_of, reference_split, same_reference, references_run}

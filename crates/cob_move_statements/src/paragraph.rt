@@ -43,14 +43,14 @@ use cob_copybook_clauses::{Term, is_name_word, is_term};
 use cob_source::{Kind, Token};
 use std::alloc::{AllocError, Global};
 
-/// Whether a token is a Stop.
+/// Whether a token is a period.
 fn is_stop(token: &Token) -> bool
     ensures { IsTrue result ↔ IsPeriod (lexeme token.now) }
 {
     token.kind == Kind::Stop
 }
 
-/// The words behind the Stop in front, if there is one.
+/// The words behind the period in front, if there is one.
 fn behind_stop(words: &[Token]) -> Option<&[Token]>
     ensures found { IfSome result (λ r. (w : Lexeme) × IsPeriod w
         × (lexemes words.now ≡ w ∷ lexemes r.now)) }
@@ -64,7 +64,7 @@ fn behind_stop(words: &[Token]) -> Option<&[Token]>
     Some(more)
 }
 
-/// The words behind the Stops in front.
+/// The words behind the periods in front.
 fn behind_stops(words: &[Token]) -> &[Token]
     ensures found { (stops : List Lexeme) × AllByRecursion IsPeriod stops
         × (lexemes words.now ≡ stops ++ lexemes result.now) }
@@ -129,7 +129,7 @@ fn ends_statement(words: &[Token]) -> bool
     }
 }
 
-/// The statement in front, and what is behind it and the Stops behind it.
+/// The statement in front, and what is behind it and its periods.
 ///
 /// # Errors
 ///
@@ -169,7 +169,7 @@ fn ungrammatical(words: &[Token]) -> MoveFault
     }
 }
 
-/// The statements that words are, each with the Stops behind it.
+/// The statements that words are, each with the periods behind it.
 ///
 /// # Errors
 ///
@@ -195,7 +195,7 @@ fn ended_statements(alloc: Global, words: &[Token]) -> Result<Vec<Statement<'_>>
     Ok(statements)
 }
 
-/// The words behind a name and a Stop.
+/// The words behind a name and a period.
 fn heading_at(words: &[Token]) -> Option<&[Token]>
     ensures found { IfSome result (λ r. (name stop : Lexeme) × IsNameWord name × IsPeriod stop
         × (lexemes words.now ≡ name ∷ (stop ∷ lexemes r.now))) }
@@ -210,7 +210,7 @@ fn heading_at(words: &[Token]) -> Option<&[Token]>
     Some(more)
 }
 
-/// The words behind the paragraph's name and its Stop, if they come first.
+/// The words behind the paragraph's name and its period, if they come first.
 fn behind_heading(words: &[Token]) -> &[Token]
     ensures found { IsBody (lexemes words.now) (lexemes result.now) }
     ensures only { (ws more : List Lexeme) → IsHeading ws → NoName more
