@@ -19,9 +19,9 @@ use Rattle.cob_move_operands.specs.declared.Side.{Side}
 use Rattle.cob_move_operands.specs.declared.Side.TheVariants.{In, Out}
 use Rattle.cob_move_operands.specs.declared.Operand.{Operand}
 use Rattle.cob_move_operands.specs.Moves.{IsOperand, Records, record_of}
-use Rattle.cob_move_references.specs.declared.parts.MoveRule.{MoveRule}
-use Rattle.cob_move_references.specs.declared.parts.MoveRule.TheVariants as rule
-use Rattle.cob_move_references.specs.Written.{WrittenReference}
+use Rattle.cob_move_statements.specs.declared.fault.MoveRule.{MoveRule}
+use Rattle.cob_move_statements.specs.declared.fault.MoveRule.TheVariants as rule
+use Rattle.cob_move_statements.specs.Written.{WrittenReference}
 use Rattle.cob_move_references.specs.Candidates.{Candidate, all_entries, candidate, candidates, is_named, named, with_table}
 use Rattle.cob_move_references.specs.Laws.{NamedAreOperands}
 use Rattle.cob_move_references.specs.Listed.{AreShallow}

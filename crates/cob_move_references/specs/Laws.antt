@@ -8,8 +8,8 @@ use Rattle.cob_layout_places.specs.Lengths.{alone}
 use Rattle.cob_move_operands.specs.declared.Side.{Side}
 use Rattle.cob_move_operands.specs.declared.Operand.{Operand}
 use Rattle.cob_move_operands.specs.Moves.{IsOperand, Records, record_of}
-use Rattle.cob_move_references.specs.declared.parts.MoveRule.{MoveRule}
-use Rattle.cob_move_references.specs.Written.{WrittenReference}
+use Rattle.cob_move_statements.specs.declared.fault.MoveRule.{MoveRule}
+use Rattle.cob_move_statements.specs.Written.{WrittenReference}
 use Rattle.cob_move_references.specs.Candidates.{Candidate, all_entries, qualifies}
 use Rattle.cob_move_references.specs.References.{IsNamed, BreaksReference}
 

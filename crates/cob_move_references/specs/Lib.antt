@@ -1,4 +1,3 @@
-pub mod Written
 pub mod Candidates
 pub mod Listed
 pub mod References

@@ -5,9 +5,9 @@ use Rattle.cob_decimal.specs.Literals.{AreDigits, digits_in}
 use Rattle.cob_move_operands.specs.declared.Side.{Side}
 use Rattle.cob_move_operands.specs.declared.Side.TheVariants.{In, Out}
 use Rattle.cob_move_operands.specs.declared.Operand.{Operand}
-use Rattle.cob_move_references.specs.declared.parts.MoveRule.{MoveRule}
-use Rattle.cob_move_references.specs.declared.parts.MoveRule.TheVariants as rule
-use Rattle.cob_move_references.specs.Written.{WrittenReference}
+use Rattle.cob_move_statements.specs.declared.fault.MoveRule.{MoveRule}
+use Rattle.cob_move_statements.specs.declared.fault.MoveRule.TheVariants as rule
+use Rattle.cob_move_statements.specs.Written.{WrittenReference}
 use Rattle.cob_move_references.specs.Candidates.{Candidate, named}
 
 -- The number that a subscript's digits spell.

@@ -11,7 +11,7 @@ ghost use Rattle.cob_move_references.specs.Listed.{AreShallow, candidate_of, own
 ghost use Rattle.cob_move_references.specs.References.{BreaksName};
 
 use crate::candidate::Candidate;
-use crate::parts::MoveRule;
+use cob_move_statements::MoveRule;
 use crate::qualifiers::qualifies;
 use cob_copybook_tree::Node;
 use cob_source::Token;

@@ -6,7 +6,7 @@ ghost use Rattle.cob_source.specs.Tokens.{lexemes};
 ghost use Rattle.cob_move_operands.specs.declared.Operand.{Operand as SeenOperand};
 ghost use Rattle.cob_move_operands.specs.declared.Side.{Side as SeenSide};
 ghost use Rattle.cob_move_operands.specs.declared.Side.TheVariants.{Out};
-ghost use Rattle.cob_move_references.specs.Written.{texts, written_reference};
+ghost use Rattle.cob_move_statements.specs.Written.{word_texts, written_reference};
 ghost use Rattle.cob_move_references.specs.Candidates.{all_entries};
 ghost use Rattle.cob_move_references.specs.Directory.{entries_named};
 ghost use Rattle.cob_move_references.specs.Listed.{candidate_of};
@@ -14,7 +14,7 @@ ghost use Rattle.cob_move_references.specs.References.{AreSubscripts, BreaksRece
 
 use crate::candidate::{Candidate, list_tree};
 use crate::directory::Names;
-use crate::parts::{MoveRule, Reference};
+use cob_move_statements::{MoveRule, Reference};
 use crate::subscripts::read_subscripts;
 use arrayvec::ArrayVec;
 use cob_copybook::Book;
@@ -52,11 +52,11 @@ fn same_kind(kind: &Kind) -> Kind
 fn operand_of(entry: &Candidate<'_>, written: &[Token]) -> Option<Operand>
     requires room { length entry.now.tables.items ≤ most_dimensions }
     ensures found { IfSome result (λ o. o
-        ≡ operand (candidate_of entry.now) (subscript_numbers (texts (lexemes written.now)))) }
+        ≡ operand (candidate_of entry.now) (subscript_numbers (word_texts (lexemes written.now)))) }
     ensures yes { IfSome result
-        (λ o. AreSubscripts (candidate_of entry.now).tables (texts (lexemes written.now))) }
+        (λ o. AreSubscripts (candidate_of entry.now).tables (word_texts (lexemes written.now))) }
     ensures no { IfNone result
-        (AreSubscripts (candidate_of entry.now).tables (texts (lexemes written.now)) → ⊥) }
+        (AreSubscripts (candidate_of entry.now).tables (word_texts (lexemes written.now)) → ⊥) }
 {
     let mut subscripts = ArrayVec::new();
     if !read_subscripts(entry.tables.as_slice(), written, &mut subscripts) {

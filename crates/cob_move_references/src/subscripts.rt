@@ -4,7 +4,7 @@ ghost use Rattle.std.specs.Prelude.{◌≡◌, ◌+◌, ◌≤◌, ◌<◌, true
 ghost use Rattle.cob_decimal.specs.Literals.{AreDigits};
 ghost use Rattle.cob_limits.specs.Limits.{most_dimensions};
 ghost use Rattle.cob_source.specs.Tokens.{lexemes};
-ghost use Rattle.cob_move_references.specs.Written.{texts};
+ghost use Rattle.cob_move_statements.specs.Written.{word_texts};
 ghost use Rattle.cob_move_references.specs.References.{AreSubscripts, IsSubscript, subscript_number, subscript_numbers};
 
 use arrayvec::ArrayVec;
@@ -61,9 +61,9 @@ pub(crate) fn read_subscripts(
 ) -> bool
     requires room { length subscripts.old.items + length tables.now ≤ most_dimensions }
     ensures read { IsTrue result → subscripts.new.items
-        ≡ subscripts.old.items ++ subscript_numbers (texts (lexemes written.now)) }
-    ensures yes { IsTrue result → AreSubscripts tables.now (texts (lexemes written.now)) }
-    ensures no { IsFalse result → AreSubscripts tables.now (texts (lexemes written.now)) → ⊥ }
+        ≡ subscripts.old.items ++ subscript_numbers (word_texts (lexemes written.now)) }
+    ensures yes { IsTrue result → AreSubscripts tables.now (word_texts (lexemes written.now)) }
+    ensures no { IsFalse result → AreSubscripts tables.now (word_texts (lexemes written.now)) → ⊥ }
 {
     let Some((most, tables)) = tables.split_first() else {
         return written.is_empty();

@@ -1,7 +1,7 @@
 use Rattle.std.proofs.Common.{refl}
 use Rattle.cob_move_references.specs.Directory.{entries_named}
 use Rattle.cob_move_references.specs.Listed.{candidate_of}
-use Rattle.cob_move_references.specs.Written.{written_reference}
+use Rattle.cob_move_statements.specs.Written.{written_reference}
 use Rattle.cob_move_references.proofs.ReferenceLemmas.{shallow}
 use Rattle.cob_move_references.proofs.directory.Names.find.Goals as goal
 
