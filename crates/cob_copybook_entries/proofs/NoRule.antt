@@ -43,7 +43,7 @@ no_table None d h b = b
 no_table (Some t) None h b = h
 no_table (Some t) (Some times) h b = b.1 h.least h.most h.numbers
 
-no_constant : (o : Option WrittenConstant) (d : Option Constant) → IsOption IsConstantOf o d → BreaksConstant o → ⊥
+pub no_constant : (o : Option WrittenConstant) (d : Option Constant) → IsOption IsConstantOf o d → BreaksConstant o → ⊥
 no_constant None d h b = b
 no_constant (Some w) None h b = h
 no_constant (Some (Word text)) (Some (Numeric s n ds a)) h b = b h.0 (record { whole = h.1.whole; fraction = h.1.fraction; some = h.1.some }, h.2)
@@ -62,7 +62,7 @@ same_count l m e =
     let same : (l.whole ≡ m.whole) × (l.fraction ≡ m.fraction) = digits_same l.whole m.whole l.fraction m.fraction off in
     omega (arith, ap (length {A = ℕ}) same.0, ap (length {A = ℕ}) same.1)
 
-no_value : (o : Option WrittenConstant) (d : Option Constant) → IsOption IsConstantOf o d → BreaksValue o → ⊥
+pub no_value : (o : Option WrittenConstant) (d : Option Constant) → IsOption IsConstantOf o d → BreaksValue o → ⊥
 no_value None d h b = b
 no_value (Some w) None h b = h
 no_value (Some (Word text)) (Some (Numeric s n ds a)) h b = omega (arith, same_count h.0 b.0 (sym h.2 ∙ b.1.1), h.1.most, b.2)

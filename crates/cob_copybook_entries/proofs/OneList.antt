@@ -50,7 +50,7 @@ one_quoted text cs (Quoted ds) e k = ap (λ t. Quoted t) (sym e ∙ k.1)
 one_quoted text cs (Figure f) e k = absurd k
 one_quoted text cs (Repeated ds) e k = absurd k
 
-one_constant : (w : WrittenConstant) (a b : Constant) → IsConstantOf w a → IsConstantOf w b → a ≡ b
+pub one_constant : (w : WrittenConstant) (a b : Constant) → IsConstantOf w a → IsConstantOf w b → a ≡ b
 one_constant (Word text) (Numeric s m ds i) b h k = one_numeric text s m ds i b h k
 one_constant (Word text) (Quoted cs) b h k = absurd h
 one_constant (Word text) (Figure f) b h k = absurd h

@@ -11,12 +11,14 @@
 //! digits, and any other word the grammar. A fault of the text becomes one of the copybook on the same line, but refused memory
 //! stays refused memory, on line 0. No clause says which of several broken rules is named, nor on which line. Words are one list
 //! of entries at most (`one_list_of_entries`), and words that are entries break no rule (`entries_break_no_rule`). `Name::of`
-//! answers a name exactly for a text that is one (`found`, `only`). Names, literals and constants are copied without memory
-//! (`clone`).
+//! answers a name exactly for a text that is one (`found`, `only`). [`value_of`] answers what a constant as it is written means,
+//! or the rule that it breaks, the grammar of literals or the rule on values (`found`, `only`, `fault`). Names, literals and
+//! constants are copied without memory (`clone`).
 //!
 //! The definitions stand in `specs/`: `Described` is what contracts see of an entry, `Meaning` says what an entry's texts mean,
 //! `Parts` what a numeric literal of any length is, `Books` which entries words are and which rules they break, and `Faults` what
-//! the fault of a text becomes. `Adds`, `Breaks`, `Short` and `Signs` name the steps on the way; no public clause names them.
+//! the fault of a text becomes. `Breaks` says which rule a part of an entry breaks, a constant's among them; `Adds`, `Short` and
+//! `Signs` name the steps on the way; no public clause names them.
 //! `Laws` has the laws. The crate stands on `cob_source` for words, on `cob_copybook_clauses` for clauses as they are written, on
 //! `cob_picture` and `cob_decimal` for pictures and numbers, on `arrayvec` for texts of bounded length, and on `thiserror` for
 //! the fault's message.
@@ -39,4 +41,4 @@ pub use fault::{BookFault, BookRule, MAX_WORD};
 pub use laws::{entries_break_no_rule, one_list_of_entries};
 pub use name::Name;
 pub use reader::entries;
-pub use value::{Text, Value, is_numeric_literal};
+pub use value::{Text, Value, is_numeric_literal, value_of};

@@ -96,13 +96,13 @@ impl Value {
     }
 }
 
-/// What the constant of a VALUE clause means.
+/// What a constant of a VALUE clause or a statement means.
 ///
 /// # Errors
 ///
 /// `Grammar` for a word that is no numeric literal; `Value` where a quoted literal is too long, or is empty behind ALL, or a numeric
 /// one has too many digits.
-pub(crate) fn value_of(written: &Constant<'_>) -> Result<Value, BookRule>
+pub fn value_of(written: &Constant<'_>) -> Result<Value, BookRule>
     ensures found { IfOk result (λ v. IsConstantOf (written_constant written.now) (constant v)) }
     ensures only { (c : Meant)
         → IsConstantOf (written_constant written.now) c → IsOkAnd result (λ v. constant v ≡ c) }

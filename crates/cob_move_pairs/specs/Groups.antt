@@ -1,0 +1,39 @@
+-- What is below a group of a record, and where that refers.
+use Rattle.std.specs.Prelude.{◌≡◌, ◌⊎◌, ℕ, ◌==◌, List, [], ◌∷◌, Option, Some, None}
+use Rattle.cob_copybook_tree.specs.Forests.{Forest, Bare, Grows, Tree}
+use Rattle.cob_copybook_tree.specs.Nodes.{Resolved}
+use Rattle.cob_copybook_tree.specs.declared.node.Kind.{Kind}
+use Rattle.cob_layout_places.specs.Cover.{AreNumbered}
+use Rattle.cob_layout_places.specs.Lengths.{alone}
+use Rattle.cob_layout_places.specs.Places.{choose, or_else}
+use Rattle.cob_move_operands.specs.declared.Operand.{Operand}
+use Rattle.cob_move_operands.specs.Moves.{IsOperand}
+use Rattle.cob_move_pairs.specs.Pairs.{Subordinate, subordinates}
+
+-- what is below the first entry with this number, if there is one
+abbrev pub found_below : ℕ → Forest Resolved → Option (Forest Resolved)
+found_below number Bare = None
+found_below number (Grows e kids more) = or_else (choose (e.number == number) kids (found_below number kids)) (found_below number more)
+
+-- nothing in place of none
+abbrev pub or_bare : Option (Forest Resolved) → Forest Resolved
+or_bare None = Bare
+or_bare (Some f) = f
+
+-- What is below the entry with this number.
+abbrev pub entries_below : ℕ → Forest Resolved → Forest Resolved
+entries_below number f = or_bare (found_below number f)
+
+-- An entry below a group as an operand: it has the subscripts of the group, since no table stands between.
+abbrev pub operand_below : Operand → Subordinate → Operand
+operand_below group s = record { entry = record { node = s.number; subscripts = group.entry.subscripts }; kind = s.kind }
+
+-- this is one of these
+abbrev pub IsListed : Subordinate → List Subordinate → Type 0
+IsListed s [] = ⊥
+IsListed s (x ∷ xs) = (x ≡ s) ⊎ IsListed s xs
+
+-- Law: what may be in a pair below a group is an operand of the record, with the group's subscripts.
+abbrev pub SubordinatesAreOperands : Type 0
+SubordinatesAreOperands = (t : Tree Resolved) (group : Operand) (s : Subordinate) → AreNumbered 0 (alone t) → IsOperand t group
+    → IsListed s (subordinates [] (entries_below group.entry.node (alone t))) → IsOperand t (operand_below group s)

@@ -1,0 +1,4 @@
+pub mod Pairs
+pub mod Pairing
+pub mod Listed
+pub mod Groups

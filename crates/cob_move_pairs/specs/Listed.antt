@@ -1,0 +1,27 @@
+-- Entries and pairs without where they lie in memory.
+use Rattle.std.specs.Prelude.{ℕ, List, map}
+use Rattle.std.specs.Borrow.{Bor}
+use Rattle.cob_copybook_tree.specs.declared.node.Node.TheViews.{out-Node}
+use Rattle.cob_move_pairs.specs.declared.subordinate.Subordinate.{Subordinate as Listed}
+use Rattle.cob_move_pairs.specs.declared.pairing.Pair.{Pair as Paired}
+use Rattle.cob_move_pairs.specs.Pairs.{Subordinate, Pair}
+
+-- the names behind references
+abbrev pub path_names : List (Bor (List ℕ)) → List (List ℕ)
+path_names path = map (λ name. name.now) path
+
+-- an entry below a group
+abbrev pub subordinate : Listed → Subordinate
+subordinate s = record { number = (out-Node s.entry.now).number; path = path_names s.path.items; kind = (out-Node s.entry.now).kind }
+
+-- entries below a group
+abbrev pub listed : List Listed → List Subordinate
+listed entries = map subordinate entries
+
+-- a pair
+abbrev pub pair : Paired → Pair
+pair p = record { from = subordinate p.from.now; to = subordinate p.to.now }
+
+-- pairs in their order
+abbrev pub pairs : List Paired → List Pair
+pairs ps = map pair ps

@@ -1,0 +1,37 @@
+-- The pairs of two groups as numbers, and why there are none.
+use Rattle.std.specs.Prelude.{◌≡◌, ℕ, Bool, true, false, ◌||◌, List, [], ◌∷◌, map}
+use Rattle.cob_copybook_tree.specs.Forests.{Tree}
+use Rattle.cob_copybook_tree.specs.Nodes.{Resolved}
+use Rattle.cob_move_statements.specs.declared.fault.MoveRule.{MoveRule}
+use Rattle.cob_move_statements.specs.declared.fault.MoveRule.TheVariants as rule
+use Rattle.cob_move_pairs.specs.Pairs.{AreOnce, Pair, Subordinate, corresponding_pairs, is_elementary}
+
+-- two entries as a pair
+abbrev pub paired : Subordinate → Subordinate → Pair
+paired from to = record { from = from; to = to }
+
+-- a pair where two entries correspond
+abbrev pub if_pair : Bool → Pair → List Pair
+if_pair true p = p ∷ []
+if_pair false p = []
+
+-- the numbers of the two entries
+abbrev pub pair_numbers : Pair → ℕ × ℕ
+pair_numbers p = (p.from.number, p.to.number)
+
+-- An entry is in two of the pairs (M9), or memory was refused (M19).
+abbrev pub IsTwice : MoveRule → List Pair → Type 0
+IsTwice rule.Twice ps = AreOnce ps → ⊥
+IsTwice rule.Memory ps = Unit {0}
+IsTwice r ps = ⊥
+
+-- Both are groups, no entry is in two of their pairs, and these are the numbers of the pairs.
+pub record IsPairing (from to : Tree Resolved) (numbers : List (ℕ × ℕ)) : Type 0 where
+  pub groups : (is_elementary from.top.kind || is_elementary to.top.kind) ≡ false
+  pub once : AreOnce (corresponding_pairs from.beneath to.beneath)
+  pub pairs : numbers ≡ map pair_numbers (corresponding_pairs from.beneath to.beneath)
+
+-- One of the two is no group (M8), an entry is in two of their pairs (M9), or memory was refused (M19).
+abbrev pub IsPairingFault : MoveRule → Tree Resolved → Tree Resolved → Type 0
+IsPairingFault rule.Groups from to = (is_elementary from.top.kind || is_elementary to.top.kind) ≡ true
+IsPairingFault r from to = IsTwice r (corresponding_pairs from.beneath to.beneath)

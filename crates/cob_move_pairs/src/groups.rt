@@ -1,0 +1,36 @@
+//! What is below a group of a record.
+
+ghost use Rattle.std.specs.Prelude.{◌≡◌, Some, None, IfNone, IfSome};
+ghost use Rattle.cob_copybook_tree.specs.Nodes.{forest, node};
+ghost use Rattle.cob_layout_places.specs.Lengths.{alone};
+ghost use Rattle.cob_move_pairs.specs.Groups.{entries_below, found_below};
+
+use cob_copybook_tree::Node;
+
+/// What is below the entry with this number, if it is one of those below this entry, or this one.
+fn found_below(entry: &Node, number: usize) -> Option<&[Node]>
+    ensures found {
+      IfSome result (λ below. found_below number (alone (node entry.now)) ≡ Some (forest below.now))
+    }
+    ensures none { IfNone result (found_below number (alone (node entry.now)) ≡ None) }
+{
+    if entry.number == number {
+        return Some(entry.children.as_slice());
+    }
+    for child in entry.children.iter() {
+        if let Some(below) = found_below(child, number) {
+            return Some(below);
+        }
+    }
+    None
+}
+
+/// What is below the entry of a record with this number.
+pub fn entries_below(record: &Node, number: usize) -> &[Node]
+    ensures { forest result.now ≡ entries_below number (alone (node record.now)) }
+{
+    match found_below(record, number) {
+        Some(below) => below,
+        None => &[],
+    }
+}

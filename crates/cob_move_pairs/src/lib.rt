@@ -1,0 +1,25 @@
+//! The pairs of MOVE CORRESPONDING (ANSI X3.23-1985, Nucleus: the CORRESPONDING phrase).
+//!
+//! MOVE CORRESPONDING moves entries below a sending group to those below a receiving group that have the same name. [`pairs`] says which:
+//! two entries are a pair where they have the same name and the same named groups between, at least one of them is elementary, and the table
+//! of categories has their move (`correspond` of specs/Pairs.antt). FILLER is in no pair and adds no name, and an entry with REDEFINES or
+//! OCCURS is left out with all below it, while the two groups themselves may have these (`subordinates`).
+//!
+//! What is promised of [`pairs`]: it answers the numbers of just these pairs, in the order of the sending group, where both are groups and
+//! no entry is in two pairs (`found`); it is refused where one of them is no group (M8), where an entry is in two pairs (M9), or for want
+//! of memory (`fault`), with line 0 (`line`). Whether an alphanumeric sender is too long for a number (M10) isn't looked at: the pair
+//! stands, and its move is refused. [`subordinates`] and [`pairs_between`] are the two steps of it, for who makes the moves.
+//!
+//! It stands on cob_copybook_tree and cob_copybook_entries for entries and names, on cob_layout_places for which of them are tables, on
+//! cob_move_receive for the table of categories, and on cob_move_statements for the rules that are broken.
+#![tactic(auto)]
+
+mod groups;
+mod laws;
+mod pairing;
+mod subordinate;
+
+pub use groups::entries_below;
+pub use laws::subordinates_are_operands;
+pub use pairing::{Pair, pairs, pairs_between, subordinates};
+pub use subordinate::Subordinate;

@@ -1,0 +1,259 @@
+//! The pairs of two groups.
+
+ghost use Rattle.std.specs.Prelude.{
+  ◌≡◌,
+  ◌<◌,
+  ◌==◌,
+  ◌||◌,
+  true,
+  false,
+  List,
+  [],
+  ◌∷◌,
+  ◌++◌,
+  map,
+  IfOk,
+  IfErr,
+  OnOk,
+};
+ghost use Rattle.cob_copybook_tree.specs.Nodes.{forest, node};
+ghost use Rattle.cob_move_pairs.specs.Listed.{listed, pair, pairs, subordinate};
+ghost use Rattle.cob_move_pairs.specs.Pairing.{
+  IsPairing,
+  IsPairingFault,
+  IsTwice,
+  if_pair,
+  pair_numbers,
+  paired,
+};
+ghost use Rattle.cob_move_pairs.specs.Pairs.{
+  AreOnce,
+  correspond,
+  is_elementary,
+  pairs_among,
+  pairs_from,
+  receives,
+  sends,
+  subordinates,
+};
+
+use crate::subordinate::{Subordinate, correspond, is_elementary, list_entries};
+use cob_copybook_tree::Node;
+use cob_move_statements::{MoveFault, MoveRule};
+use std::alloc::Global;
+
+/// Two entries that correspond.
+#[derive(Clone, Copy)]
+pub struct Pair<'b, 'a> {
+    pub from: &'b Subordinate<'a>,
+    pub to: &'b Subordinate<'a>,
+}
+
+/// Whether this entry sends in a pair.
+fn is_from(number: usize, one: &Pair<'_, '_>) -> bool
+    ensures { result ≡ ((pair one.now).from.number == number) }
+{
+    one.from.entry.number == number
+}
+
+/// Whether this entry receives in a pair.
+fn is_to(number: usize, one: &Pair<'_, '_>) -> bool
+    ensures { result ≡ ((pair one.now).to.number == number) }
+{
+    one.to.entry.number == number
+}
+
+/// Whether an entry sends in one of the pairs.
+fn is_sent(number: usize, list: &[Pair<'_, '_>]) -> bool
+    ensures yes { result ≡ true → 0 < sends number (pairs list.now) }
+    ensures no { result ≡ false → sends number (pairs list.now) ≡ 0 }
+{
+    for one in list {
+        if is_from(number, one) {
+            return true;
+        }
+    }
+    false
+}
+
+/// Whether an entry receives in one of the pairs.
+fn is_received(number: usize, list: &[Pair<'_, '_>]) -> bool
+    ensures yes { result ≡ true → 0 < receives number (pairs list.now) }
+    ensures no { result ≡ false → receives number (pairs list.now) ≡ 0 }
+{
+    for one in list {
+        if is_to(number, one) {
+            return true;
+        }
+    }
+    false
+}
+
+/// Whether an entry of a pair is in one of the others.
+#[tactic(auto, using(crate::proofs::OnceLemmas::once_more))]
+fn is_paired(one: &Pair<'_, '_>, list: &[Pair<'_, '_>]) -> bool
+    ensures yes { result ≡ true → AreOnce (pairs list.now ++ pair one.now ∷ []) → ⊥ }
+    ensures no { result ≡ false → AreOnce (pairs list.now) → AreOnce (pairs list.now ++ pair one.now ∷ []) }
+{
+    is_sent(one.from.entry.number, list) || is_received(one.to.entry.number, list)
+}
+
+/// Puts a pair behind others.
+///
+/// # Errors
+///
+/// `Twice` where one of its entries is in a pair already; `Memory`.
+fn add_pair<'b, 'a>(one: Pair<'b, 'a>, list: &mut Vec<Pair<'b, 'a>>) -> Result<(), MoveRule>
+    ensures added { OnOk result (pairs list.new.items ≡ pairs list.old.items ++ pair one.entry ∷ []) }
+    ensures once { OnOk result (AreOnce (pairs list.old.items) → AreOnce (pairs list.new.items)) }
+    ensures fault { IfErr result (λ r. IsTwice r (pairs list.old.items ++ pair one.entry ∷ [])) }
+{
+    if is_paired(&one, list.as_slice()) {
+        return Err(MoveRule::Twice);
+    }
+    list.push(one)?;
+    Ok(())
+}
+
+/// Puts two entries behind pairs, if they correspond.
+///
+/// # Errors
+///
+/// `Twice` where one of them is in a pair already; `Memory`.
+fn add_if<'b, 'a>(
+    from: &'b Subordinate<'a>,
+    to: &'b Subordinate<'a>,
+    list: &mut Vec<Pair<'b, 'a>>,
+) -> Result<(), MoveRule>
+    ensures added { OnOk result (pairs list.new.items ≡ pairs list.old.items
+        ++ if_pair (correspond (subordinate from.now) (subordinate to.now))
+        (paired (subordinate from.now) (subordinate to.now))) }
+    ensures once { OnOk result (AreOnce (pairs list.old.items) → AreOnce (pairs list.new.items)) }
+    ensures fault { IfErr result (λ r. IsTwice r (pairs list.old.items
+        ++ if_pair (correspond (subordinate from.now) (subordinate to.now))
+        (paired (subordinate from.now) (subordinate to.now)))) }
+{
+    if correspond(from, to) {
+        add_pair(Pair { from, to }, list)
+    } else {
+        Ok(())
+    }
+}
+
+/// Puts the pairs of one sending entry behind others.
+///
+/// # Errors
+///
+/// `Twice` where an entry is in two pairs; `Memory`.
+fn add_pairs<'b, 'a>(
+    from: &'b Subordinate<'a>,
+    to: &'b [Subordinate<'a>],
+    list: &mut Vec<Pair<'b, 'a>>,
+) -> Result<(), MoveRule>
+    ensures added { OnOk result (pairs list.new.items ≡ pairs list.old.items
+        ++ pairs_from (listed to.now) (subordinate from.now)) }
+    ensures once { OnOk result (AreOnce (pairs list.old.items) → AreOnce (pairs list.new.items)) }
+    ensures fault { IfErr result (λ r. IsTwice r (pairs list.old.items
+        ++ pairs_from (listed to.now) (subordinate from.now))) }
+{
+    for other in to {
+        add_if(from, other, list)?;
+    }
+    Ok(())
+}
+
+/// The pairs among two lists of entries, in the order of the sending ones.
+///
+/// # Errors
+///
+/// `Twice` where an entry is in two pairs; `Memory`.
+pub fn pairs_between<'b, 'a>(
+    alloc: Global,
+    from: &'b [Subordinate<'a>],
+    to: &'b [Subordinate<'a>],
+) -> Result<Vec<Pair<'b, 'a>>, MoveRule>
+    ensures found { IfOk result (λ v. pairs v.items ≡ pairs_among (listed from.now) (listed to.now)) }
+    ensures once { IfOk result (λ v. AreOnce (pairs v.items)) }
+    ensures fault { IfErr result (λ r. IsTwice r (pairs_among (listed from.now) (listed to.now))) }
+{
+    let mut list = Vec::new(alloc);
+    for sender in from {
+        add_pairs(sender, to, &mut list)?;
+    }
+    Ok(list)
+}
+
+/// The numbers of the entries of pairs.
+fn numbers_of(alloc: Global, list: &[Pair<'_, '_>]) -> Result<Vec<(usize, usize)>, MoveRule>
+    ensures found { IfOk result (λ v. v.items ≡ map pair_numbers (pairs list.now)) }
+    ensures fault { IfErr result (λ r. r ≡ MoveRule.Memory) }
+{
+    let mut numbers = Vec::new(alloc);
+    for one in list {
+        numbers.push((one.from.entry.number, one.to.entry.number))?;
+    }
+    Ok(numbers)
+}
+
+/// The entries below a group that may be in a pair, in their order.
+///
+/// # Errors
+///
+/// `Memory`.
+pub fn subordinates<'a>(
+    alloc: Global,
+    entries: &'a [Node],
+) -> Result<Vec<Subordinate<'a>>, MoveRule>
+    ensures found { IfOk result (λ v. listed v.items ≡ subordinates [] (forest entries.now)) }
+    ensures fault { IfErr result (λ r. r ≡ MoveRule.Memory) }
+{
+    let mut list = Vec::new(alloc);
+    list_entries(alloc, &[], entries, &mut list)?;
+    Ok(list)
+}
+
+/// The entries below a group that may be in a pair, in their order.
+fn below<'a>(alloc: Global, group: &'a Node) -> Result<Vec<Subordinate<'a>>, MoveRule>
+    ensures found { IfOk result (λ v. listed v.items ≡ subordinates [] (node group.now).beneath) }
+    ensures fault { IfErr result (λ r. r ≡ MoveRule.Memory) }
+{
+    subordinates(alloc, group.children.as_slice())
+}
+
+/// Whether one of two entries is no group.
+fn is_no_group(from: &Node, to: &Node) -> bool
+    ensures { result ≡ (is_elementary (node from.now).top.kind || is_elementary (node to.now).top.kind) }
+{
+    is_elementary(&from.kind) || is_elementary(&to.kind)
+}
+
+/// The numbers of the pairs of two groups.
+fn paired(alloc: Global, from: &Node, to: &Node) -> Result<Vec<(usize, usize)>, MoveRule>
+    ensures found { IfOk result (λ v. IsPairing (node from.now) (node to.now) v.items) }
+    ensures fault { IfErr result (λ r. IsPairingFault r (node from.now) (node to.now)) }
+{
+    if is_no_group(from, to) {
+        return Err(MoveRule::Groups);
+    }
+    let senders = below(alloc, from)?;
+    let receivers = below(alloc, to)?;
+    let list = pairs_between(alloc, senders.as_slice(), receivers.as_slice())?;
+    let numbers = numbers_of(alloc, list.as_slice())?;
+    Ok(numbers)
+}
+
+/// The pairs of MOVE CORRESPONDING between two groups, by the numbers of their entries, in the order of the sending group.
+///
+/// # Errors
+///
+/// `Groups` where one of the two is no group, `Twice` where an entry is in two pairs, `Memory`; all with line 0.
+pub fn pairs(alloc: Global, from: &Node, to: &Node) -> Result<Vec<(usize, usize)>, MoveFault>
+    ensures found { IfOk result (λ v. IsPairing (node from.now) (node to.now) v.items) }
+    ensures fault { IfErr result (λ f. IsPairingFault f.rule (node from.now) (node to.now)) }
+    ensures line { IfErr result (λ f. f.line ≡ 0) }
+{
+    match paired(alloc, from, to) {
+        Ok(numbers) => Ok(numbers),
+        Err(rule) => Err(MoveFault { rule, line: 0 }),
+    }
+}

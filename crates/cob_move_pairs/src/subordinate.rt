@@ -1,0 +1,151 @@
+//! The entries below a group that may be in a pair, and which of them correspond.
+
+ghost use Rattle.std.specs.Prelude.{◌≡◌, List, [], ◌∷◌, ◌++◌, map, IfOk, OnOk, bytes_eq};
+ghost use Rattle.cob_copybook_tree.specs.declared.node.Node.TheViews.{out-Node};
+ghost use Rattle.cob_copybook_tree.specs.Nodes.{forest, resolved_entry};
+ghost use Rattle.cob_move_pairs.specs.Listed.{listed, path_names, subordinate};
+ghost use Rattle.cob_move_pairs.specs.Pairs.{
+  correspond,
+  is_elementary,
+  is_left_out,
+  may_correspond,
+  own_subordinate,
+  path_below,
+  same_path,
+  subordinates,
+};
+
+use cob_copybook_entries::Name;
+use cob_copybook_tree::{Kind, Node};
+use cob_layout_places::is_table;
+use cob_move_receive::{Sender, may_move};
+use std::alloc::{AllocError, Global};
+
+/// An entry below a group.
+#[derive(Drop)]
+pub struct Subordinate<'a> {
+    pub entry: &'a Node,
+    /// Its name, then those of the named groups between, the nearest first.
+    pub path: Vec<&'a [u8]>,
+}
+
+/// A path with one more name in front.
+fn with_name<'a>(
+    alloc: Global,
+    name: &'a Name,
+    path: &[&'a [u8]],
+) -> Result<Vec<&'a [u8]>, AllocError>
+    ensures { IfOk result (λ v. path_names v.items ≡ name.now ∷ path_names path.now) }
+{
+    let mut names = Vec::new(alloc);
+    names.push(name.as_bytes())?;
+    names.extend_from_slice(path)?;
+    Ok(names)
+}
+
+/// The path of what is below an entry: FILLER adds no name.
+fn path_below<'a>(
+    alloc: Global,
+    entry: &'a Node,
+    path: &[&'a [u8]],
+) -> Result<Vec<&'a [u8]>, AllocError>
+    ensures { IfOk result (λ v. path_names v.items ≡ path_below (out-Node entry.now).name (path_names path.now)) }
+{
+    let mut names = Vec::new(alloc);
+    if let Some(name) = &entry.name {
+        names.push(name.as_bytes())?;
+    }
+    names.extend_from_slice(path)?;
+    Ok(names)
+}
+
+/// Whether an entry is left out with all below it.
+fn is_left_out(entry: &Node) -> bool
+    ensures { result ≡ is_left_out (resolved_entry (out-Node entry.now)) }
+{
+    entry.redefines.is_some() || is_table(entry.occurs)
+}
+
+/// Puts an entry behind those that are listed, unless it is FILLER.
+fn list_entry<'a>(
+    alloc: Global,
+    path: &[&'a [u8]],
+    entry: &'a Node,
+    list: &mut Vec<Subordinate<'a>>,
+) -> Result<(), AllocError>
+    ensures { OnOk result (listed list.new.items ≡ listed list.old.items
+        ++ own_subordinate (out-Node entry.now).name (path_names path.now) (resolved_entry (out-Node entry.now))) }
+{
+    if let Some(name) = &entry.name {
+        let path = with_name(alloc, name, path)?;
+        list.push(Subordinate { entry, path })?;
+    }
+    Ok(())
+}
+
+/// Puts what may be in a pair behind what is listed: entries and what is below them, in their order.
+///
+/// # Errors
+///
+/// Memory was refused.
+pub(crate) fn list_entries<'a>(
+    alloc: Global,
+    path: &[&'a [u8]],
+    entries: &'a [Node],
+    list: &mut Vec<Subordinate<'a>>,
+) -> Result<(), AllocError>
+    ensures { OnOk result (listed list.new.items ≡ listed list.old.items
+        ++ subordinates (path_names path.now) (forest entries.now)) }
+{
+    for entry in entries {
+        if is_left_out(entry) {
+            continue;
+        }
+        list_entry(alloc, path, entry, list)?;
+        let below = path_below(alloc, entry, path)?;
+        list_entries(alloc, below.as_slice(), entry.children.as_slice(), list)?;
+    }
+    Ok(())
+}
+
+/// Whether two names are the same.
+fn is_same(a: &[u8], b: &[u8]) -> bool
+    ensures { result ≡ bytes_eq a.now b.now }
+{
+    a == b
+}
+
+/// Whether two paths are the same.
+fn same_path(a: &[&[u8]], b: &[&[u8]]) -> bool
+    ensures { result ≡ same_path (path_names a.now) (path_names b.now) }
+{
+    let Some((first, more)) = a.split_first() else {
+        return b.is_empty();
+    };
+    let Some((other, others)) = b.split_first() else {
+        return false;
+    };
+    is_same(first, other) && same_path(more, others)
+}
+
+/// Whether an entry is elementary.
+pub(crate) fn is_elementary(kind: &Kind) -> bool
+    ensures { result ≡ is_elementary kind.now }
+{
+    matches!(kind, Kind::Item(_))
+}
+
+/// Whether a move between two entries may be one of a pair.
+fn may_correspond(from: &Kind, to: &Kind) -> bool
+    ensures { result ≡ may_correspond from.now to.now }
+{
+    (is_elementary(from) || is_elementary(to)) && may_move(&Sender::Entry(from), to)
+}
+
+/// Whether two entries correspond.
+pub(crate) fn correspond(from: &Subordinate<'_>, to: &Subordinate<'_>) -> bool
+    ensures { result ≡ correspond (subordinate from.now) (subordinate to.now) }
+{
+    same_path(from.path.as_slice(), to.path.as_slice())
+        && may_correspond(&from.entry.kind, &to.entry.kind)
+}

@@ -1,0 +1,16 @@
+use Rattle.std.proofs.Common.{◌≡◌, ◌++◌, map}
+use Rattle.cob_copybook_tree.specs.Nodes.{node}
+use Rattle.cob_copybook_names.specs.Listed.{texts}
+use Rattle.cob_layout_places.specs.Lengths.{alone}
+use Rattle.cob_layout_places.proofs.ForestLemmas.{left}
+use Rattle.cob_move_references.specs.Candidates.{candidates}
+use Rattle.cob_move_references.specs.Listed.{candidate_of}
+use Rattle.cob_move_references.proofs.candidate.+list_tree.Given as goal
+
+abbrev pub decreases-list_tree : goal.decreases-list_tree
+decreases-list_tree l = goal.size-list_tree l
+
+abbrev pub invariant-loop-child : goal.invariant-loop-child
+invariant-loop-child l =
+    map candidate_of l.listed.items ++ candidates l.side (texts l.beneath.items) l.inner.items (left l.child-items l.child-index)
+    ≡ map candidate_of l.fn.listed.items ++ candidates l.side (texts l.above) l.holding (alone (node l.entry))

@@ -1,0 +1,5 @@
+pub mod Candidates
+pub mod Listed
+pub mod References
+pub mod Directory
+pub mod Laws

@@ -1,0 +1,108 @@
+//! The entries of a record with what stands above them.
+
+ghost use Rattle.std.specs.Prelude.{◌≡◌, List, [], ◌∷◌, ◌++◌, map, IfOk, OnOk};
+ghost use Rattle.cob_copybook_tree.specs.Lengths.{most};
+ghost use Rattle.cob_copybook_tree.specs.Nodes.{node, resolved_entry};
+ghost use Rattle.cob_copybook_tree.specs.declared.node.Node.TheViews.{out-Node};
+ghost use Rattle.cob_copybook_names.specs.Bearers.{with_name};
+ghost use Rattle.cob_copybook_names.specs.Listed.{texts};
+ghost use Rattle.cob_layout_places.specs.Lengths.{alone};
+ghost use Rattle.cob_layout_places.specs.Places.{is_table};
+ghost use Rattle.cob_move_references.specs.Candidates.{candidate, candidates, with_table};
+ghost use Rattle.cob_move_references.specs.Listed.{candidate_of};
+
+use cob_copybook_tree::Node;
+use cob_layout_places::is_table;
+use cob_move_operands::Side;
+use std::alloc::{AllocError, Global};
+
+/// An entry of one of the two records, with what stands above it.
+#[derive(Debug, Drop)]
+pub(crate) struct Candidate<'a> {
+    pub side: Side,
+    pub entry: &'a Node,
+    /// The names of the groups above it, the nearest first.
+    pub above: Vec<&'a [u8]>,
+    /// The greatest number of each table that holds it or that it is, the outermost first.
+    pub tables: Vec<u32>,
+}
+
+/// The names above the children of an entry, the nearest first.
+fn names_beneath<'a>(
+    alloc: Global,
+    entry: &'a Node,
+    above: &[&'a [u8]],
+) -> Result<Vec<&'a [u8]>, AllocError>
+    ensures { IfOk result
+        (λ v. texts v.items ≡ with_name (out-Node entry.now).name (texts above.now)) }
+{
+    let mut names = Vec::new(alloc);
+    if let Some(name) = &entry.name {
+        names.push(name.as_bytes())?;
+    }
+    names.extend_from_slice(above)?;
+    Ok(names)
+}
+
+/// The tables that hold an entry, and itself if it is one.
+fn tables_of(alloc: Global, entry: &Node, holding: &[u32]) -> Result<Vec<u32>, AllocError>
+    ensures { IfOk result (λ v. v.items ≡ with_table (is_table (out-Node entry.now).occurs)
+        (most (resolved_entry (out-Node entry.now))) holding.now) }
+{
+    let mut tables = Vec::new(alloc);
+    tables.extend_from_slice(holding)?;
+    if is_table(entry.occurs) {
+        tables.push(entry.occurs.most())?;
+    }
+    Ok(tables)
+}
+
+/// Puts an entry behind those that are listed.
+fn list_entry<'a>(
+    alloc: Global,
+    side: Side,
+    above: &[&'a [u8]],
+    holding: &[u32],
+    entry: &'a Node,
+    listed: &mut Vec<Candidate<'a>>,
+) -> Result<(), AllocError>
+    ensures { OnOk result (map candidate_of listed.new.items ≡ map candidate_of listed.old.items
+        ++ candidate side (texts above.now) holding.now (resolved_entry (out-Node entry.now)) ∷ []) }
+{
+    let mut names = Vec::new(alloc);
+    names.extend_from_slice(above)?;
+    let tables = tables_of(alloc, entry, holding)?;
+    listed.push(Candidate {
+        side,
+        entry,
+        above: names,
+        tables,
+    })?;
+    Ok(())
+}
+
+/// Puts an entry, and then those beneath it, behind those that are listed. The names `above` are those of the groups that it stands in, and
+/// `holding` are the tables that hold it.
+///
+/// # Errors
+///
+/// Memory for a list was refused.
+pub(crate) fn list_tree<'a>(
+    alloc: Global,
+    side: Side,
+    above: &[&'a [u8]],
+    holding: &[u32],
+    entry: &'a Node,
+    listed: &mut Vec<Candidate<'a>>,
+) -> Result<(), AllocError>
+    ensures { OnOk result (map candidate_of listed.new.items ≡ map candidate_of listed.old.items
+        ++ candidates side (texts above.now) holding.now (alone (node entry.now))) }
+{
+    list_entry(alloc, side, above, holding, entry, listed)?;
+    let beneath = names_beneath(alloc, entry, above)?;
+    let inner = tables_of(alloc, entry, holding)?;
+    for child in entry.children.iter() {
+        list_tree(alloc, side, beneath.as_slice(), inner.as_slice(), child, listed)?;
+    }
+    Ok(())
+}

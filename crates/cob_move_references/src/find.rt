@@ -1,0 +1,141 @@
+//! What a written reference names.
+
+ghost use Rattle.std.specs.Prelude.{◌≡◌, ◌≤◌, length, IfErr, IfNone, IfOk, IfSome, IsOkAnd};
+ghost use Rattle.cob_limits.specs.Limits.{most_dimensions};
+ghost use Rattle.cob_source.specs.Tokens.{lexemes};
+ghost use Rattle.cob_move_operands.specs.declared.Operand.{Operand as SeenOperand};
+ghost use Rattle.cob_move_operands.specs.declared.Side.{Side as SeenSide};
+ghost use Rattle.cob_move_operands.specs.declared.Side.TheVariants.{Out};
+ghost use Rattle.cob_move_statements.specs.Written.{word_texts, written_reference};
+ghost use Rattle.cob_move_references.specs.Candidates.{all_entries};
+ghost use Rattle.cob_move_references.specs.Directory.{entries_named};
+ghost use Rattle.cob_move_references.specs.Listed.{candidate_of};
+ghost use Rattle.cob_move_references.specs.References.{AreSubscripts, BreaksReceiver, BreaksReference, IsNamed, operand, subscript_numbers};
+
+use crate::candidate::{Candidate, list_tree};
+use crate::directory::Names;
+use cob_move_statements::{MoveRule, Reference};
+use crate::subscripts::read_subscripts;
+use arrayvec::ArrayVec;
+use cob_copybook::Book;
+use cob_copybook_tree::{Item, Kind};
+use cob_layout_places::Ref;
+use cob_move_operands::{Operand, Side};
+use cob_sound::records_are_sound;
+use cob_source::Token;
+use std::alloc::{AllocError, Global};
+
+/// What a reference names: an operand, and the record that it is one of.
+#[derive(Debug, Drop)]
+pub struct Named {
+    pub side: Side,
+    pub operand: Operand,
+}
+
+/// The same kind once more.
+fn same_kind(kind: &Kind) -> Kind
+    ensures { result ≡ kind.now }
+{
+    match kind {
+        Kind::Group => Kind::Group,
+        Kind::Item(item) => Kind::Item(Item {
+            picture: item.picture.clone(),
+            usage: item.usage,
+            sign: item.sign,
+            justified: item.justified,
+            blank: item.blank,
+        }),
+    }
+}
+
+/// An entry with its subscripts, if they are those of its tables.
+fn operand_of(entry: &Candidate<'_>, written: &[Token]) -> Option<Operand>
+    requires room { length entry.now.tables.items ≤ most_dimensions }
+    ensures found { IfSome result (λ o. o
+        ≡ operand (candidate_of entry.now) (subscript_numbers (word_texts (lexemes written.now)))) }
+    ensures yes { IfSome result
+        (λ o. AreSubscripts (candidate_of entry.now).tables (word_texts (lexemes written.now))) }
+    ensures no { IfNone result
+        (AreSubscripts (candidate_of entry.now).tables (word_texts (lexemes written.now)) → ⊥) }
+{
+    let mut subscripts = ArrayVec::new();
+    if !read_subscripts(entry.tables.as_slice(), written, &mut subscripts) {
+        return None;
+    }
+    Some(Operand {
+        entry: Ref {
+            node: entry.entry.number,
+            subscripts,
+        },
+        kind: same_kind(&entry.entry.kind),
+    })
+}
+
+impl<'a> Names<'a> {
+    /// The names of the entries of two records.
+    ///
+    /// # Errors
+    ///
+    /// Memory for a list was refused.
+    pub fn of(alloc: Global, input: &'a Book, output: &'a Book) -> Result<Names<'a>, AllocError>
+        ensures { IfOk result (λ names. entries_named names ≡ all_entries input.now output.now) }
+    {
+        records_are_sound();
+        let mut entries = Vec::new(alloc);
+        list_tree(alloc, Side::In, &[], &[], input.root(), &mut entries)?;
+        list_tree(alloc, Side::Out, &[], &[], output.root(), &mut entries)?;
+        Names::linked(alloc, entries)
+    }
+
+    /// What a written reference names.
+    ///
+    /// # Errors
+    ///
+    /// `Unknown` where no entry of the two records has the name with these qualifiers, `Ambiguous` where several have, and `Subscripts` where
+    /// the subscripts aren't one for each table of the entry, from 1 to its greatest number.
+    pub fn find(&self, reference: &Reference<'_>) -> Result<Named, MoveRule>
+        // What is found is what the reference names.
+        ensures found { IfOk result (λ n. IsNamed
+            (entries_named self.now) (written_reference reference.now) n.side n.operand) }
+        // What a reference names is found.
+        ensures only { (side : SeenSide) (o : SeenOperand)
+            → IsNamed (entries_named self.now) (written_reference reference.now) side o
+            → IsOkAnd result (λ n. (n.side ≡ side) × (n.operand ≡ o)) }
+        // A refusal names a rule that is broken.
+        ensures fault { IfErr result (λ rule. BreaksReference
+            rule (entries_named self.now) (written_reference reference.now)) }
+    {
+        let candidate = self.only_named(reference.name, reference.qualifiers)?;
+        match operand_of(candidate, reference.subscripts) {
+            Some(operand) => Ok(Named {
+                side: candidate.side,
+                operand,
+            }),
+            None => Err(MoveRule::Subscripts),
+        }
+    }
+
+    /// What a receiver's written reference names in the output record.
+    ///
+    /// # Errors
+    ///
+    /// As [`Names::find`], and `Receiver` where what it names stands in the input record.
+    pub fn find_receiver(&self, reference: &Reference<'_>) -> Result<Operand, MoveRule>
+        // What is found is what the reference names in the output record.
+        ensures found { IfOk result (λ o. IsNamed
+            (entries_named self.now) (written_reference reference.now) Out o) }
+        // What a reference names there is found.
+        ensures only { (o : SeenOperand)
+            → IsNamed (entries_named self.now) (written_reference reference.now) Out o
+            → IsOkAnd result (λ found. found ≡ o) }
+        // A refusal names a rule that is broken.
+        ensures fault { IfErr result (λ rule. BreaksReceiver
+            rule (entries_named self.now) (written_reference reference.now)) }
+    {
+        let named = self.find(reference)?;
+        match named.side {
+            Side::In => Err(MoveRule::Receiver),
+            Side::Out => Ok(named.operand),
+        }
+    }
+}

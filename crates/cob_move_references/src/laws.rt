@@ -1,0 +1,27 @@
+//! What follows from the definitions.
+
+ghost use Rattle.cob_move_references.specs.Laws.{NamedAreOperands, NamedBreakNoRule, OneNamed, QualifyingIsOne};
+
+use cob_sound::records_are_sound;
+
+/// A law: what a reference names is an operand of its record.
+pub fn named_are_operands()
+    ensures { NamedAreOperands }
+{
+    records_are_sound();
+}
+
+/// A law: a reference names one operand at most.
+pub fn one_named()
+    ensures { OneNamed }
+{}
+
+/// A law: a reference that names an operand breaks no rule.
+pub fn named_break_no_rule()
+    ensures { NamedBreakNoRule }
+{}
+
+/// A law: qualifiers qualify a reference as they qualify the name of a table's count.
+pub fn qualifying_is_one()
+    ensures { QualifyingIsOne }
+{}
