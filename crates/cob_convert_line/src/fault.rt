@@ -4,6 +4,8 @@ ghost use Rattle.cob_convert_line.specs.declared.fault.LineFault.TheVariants.{Me
 
 use clap::error::ErrorKind;
 use std::alloc::AllocError;
+use std::io;
+use std::io::{Eprint, Print};
 use thiserror::Error;
 
 /// Why the words are no command line.
@@ -15,6 +17,9 @@ pub enum LineFault {
     /// A form of records that is neither f nor v.
     #[error("bad form")]
     Form,
+    /// A word is no text in UTF-8, so that no option can take it.
+    #[error("a word is not text in UTF-8")]
+    NotText,
     /// Memory was refused.
     #[error("memory")]
     Memory,
@@ -35,6 +40,24 @@ impl From<clap::Error> for LineFault {
         match error.kind() {
             ErrorKind::OutOfMemory => LineFault::Memory,
             _ => LineFault::Words(error),
+        }
+    }
+}
+
+impl LineFault {
+    /// Whether it is no fault, but the help or the version that the words ask for.
+    pub fn is_answer(&self) -> bool {
+        match self {
+            LineFault::Words(error) => !error.use_stderr(),
+            LineFault::Form | LineFault::NotText | LineFault::Memory => false,
+        }
+    }
+
+    /// Prints help and the version on standard output, and a fault on standard error.
+    pub fn print<R: Print + Eprint>(&self, rt: &R) -> io::Result<()> {
+        match self {
+            LineFault::Words(error) => error.print(rt),
+            fault => eprintln!(rt; "{fault}"),
         }
     }
 }

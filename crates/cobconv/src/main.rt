@@ -1,25 +1,33 @@
-//! The program `cobconv`: it does the job that stands on standard input, and prints what comes of it.
+//! The program `cobconv`: it reads the words that it is called with, and does what they ask for.
 #![tactic(auto)]
 
-use cob_convert::{Status, job};
-use cob_records::{Form, ReadSource, WriteSink, put_record};
-use std::io;
-use std::io::BufWriter;
+use cob_convert_commands::{perform, refuse};
+use cob_convert_line::{LineFault, line_of};
+use std::env;
+use std::io::ErrorKind;
 use std::process::ExitCode;
 
-fn main(rt: HostRuntime) -> ExitCode {
-    let Ok(writer) = BufWriter::new(rt.alloc(), io::writer(&rt)) else {
-        let _ = put_record(
-            &mut WriteSink::new(io::writer(&rt)),
-            Form::Fixed,
-            b"memory\n",
-        );
-        return ExitCode::from(Status::Memory.code());
-    };
-    let mut sink = WriteSink::new(writer);
-    let status = job(rt.alloc(), &mut ReadSource::new(rt.stdin()), &mut sink);
-    match sink.flush() {
-        Ok(()) => ExitCode::from(status),
-        Err(_) => ExitCode::from(Status::Device.code()),
+/// The words after the program's name.
+fn words(rt: &HostRuntime) -> Result<Vec<String>, LineFault> {
+    match env::args(rt) {
+        Ok(words) => Ok(words.skip(1).collect(rt.alloc())?),
+        Err(error) if error.kind() == ErrorKind::OutOfMemory => Err(LineFault::Memory),
+        Err(_) => Err(LineFault::NotText),
     }
+}
+
+/// Does what the words ask for, and answers the status.
+fn run(rt: &HostRuntime) -> u8 {
+    let words = match words(rt) {
+        Ok(words) => words,
+        Err(fault) => return refuse(rt, &fault),
+    };
+    match line_of(rt.alloc(), words.as_slice()) {
+        Ok(line) => perform(rt, &line),
+        Err(fault) => refuse(rt, &fault),
+    }
+}
+
+fn main(rt: HostRuntime) -> ExitCode {
+    ExitCode::from(run(&rt))
 }

@@ -1,0 +1,30 @@
+-- The status with which a command ends that is not done.
+use Rattle.cob_convert.specs.declared.fault.PrepareFault.{PrepareFault}
+use Rattle.cob_convert.specs.declared.fault.PrepareFault.TheVariants as prepare
+use Rattle.cob_convert.specs.declared.jobs.Status.{Status}
+use Rattle.cob_convert.specs.declared.jobs.Status.TheVariants as status
+use Rattle.cob_convert.specs.declared.run.Cause.{Cause}
+use Rattle.cob_convert.specs.declared.run.Cause.TheVariants as cause
+use Rattle.cob_records.specs.declared.records.RecordFault.TheVariants.{ReadFailed, WriteFailed, TookNothing}
+use Rattle.cob_convert_commands.specs.declared.fault.CommandFault.{CommandFault}
+use Rattle.cob_convert_commands.specs.declared.fault.CommandFault.TheVariants as fault
+
+-- what the refusal of a text is for a command: want of memory is told as that, and never as a fault of a text
+abbrev pub refused_text : PrepareFault → CommandFault
+refused_text prepare.Memory = fault.Memory
+refused_text refused = fault.Refused refused
+
+-- a read or a write that failed is a device's, all else that stops a run is a record's
+abbrev pub status_of_stop : Cause → Status
+status_of_stop (cause.Record ReadFailed) = status.Device
+status_of_stop (cause.Record (WriteFailed taken)) = status.Device
+status_of_stop (cause.Record (TookNothing taken)) = status.Device
+status_of_stop stopped = status.Stopped
+
+-- The status of each fault: a file that is not opened or not read is a device's.
+abbrev pub status_of : CommandFault → Status
+status_of (fault.CannotOpen name) = status.Device
+status_of (fault.CannotRead name) = status.Device
+status_of (fault.Refused refused) = status.Refused
+status_of (fault.Stopped stopped) = status_of_stop stopped.cause
+status_of fault.Memory = status.Memory

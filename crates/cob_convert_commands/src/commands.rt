@@ -1,0 +1,74 @@
+use crate::checking::check;
+use crate::converting::convert;
+use crate::fault::CommandFault;
+use cob_convert::{Status, job};
+use cob_convert_line::{CheckLine, ConvertLine, Line, LineFault};
+use cob_records::{create_sink, open_source};
+use std::io;
+use std::io::{Eprint, Input, Print};
+use std::rt::Files;
+
+/// The status of a command whose last line was printed, or was not.
+fn printed(line: io::Result<()>, status: Status) -> u8 {
+    match line {
+        Ok(()) => status.code(),
+        Err(_) => Status::Device.code(),
+    }
+}
+
+/// Prints the fault of a command on standard error.
+fn fail<R: Eprint>(rt: &R, fault: CommandFault) -> u8 {
+    printed(eprintln!(rt; "{fault}"), fault.status())
+}
+
+/// Does the job that stands on standard input; its faults are printed where its output is.
+fn do_job<R: AllocGlobal + Files + Input + Print>(rt: &R) -> u8 {
+    let (Ok(mut source), Ok(mut sink)) = (open_source(rt, "-"), create_sink(rt, "-")) else {
+        return printed(println!(rt; "memory"), Status::Memory);
+    };
+    let status = job(rt.alloc(), &mut source, &mut sink);
+    match sink.flush() {
+        Ok(()) => status,
+        Err(_) => Status::Device.code(),
+    }
+}
+
+/// Converts, and prints how many records there were: on standard error where the records themselves go to standard output.
+fn do_convert<R: AllocGlobal + Files + Input + Print + Eprint>(
+    rt: &R,
+    line: &ConvertLine<'_>,
+) -> u8 {
+    match convert(rt, line) {
+        Ok(done) if line.output == "-" => printed(eprintln!(rt; "done {done}"), Status::Done),
+        Ok(done) => printed(println!(rt; "done {done}"), Status::Done),
+        Err(fault) => fail(rt, fault),
+    }
+}
+
+/// Checks, and prints what the texts come to.
+fn do_check<R: AllocGlobal + Files + Print + Eprint>(rt: &R, line: &CheckLine<'_>) -> u8 {
+    match check(rt, line) {
+        Ok(checked) => printed(println!(rt; "{checked}"), Status::Done),
+        Err(fault) => fail(rt, fault),
+    }
+}
+
+/// Carries out what a command line asks for, prints what comes of it, and answers the program's status.
+pub fn perform<R: AllocGlobal + Files + Input + Print + Eprint>(rt: &R, line: &Line<'_>) -> u8 {
+    match line {
+        Line::Job => do_job(rt),
+        Line::Convert(line) => do_convert(rt, line),
+        Line::Check(line) => do_check(rt, line),
+        Line::Layout(_) | Line::Show(_) => Status::Malformed.code(),
+    }
+}
+
+/// Prints why the words are no command line, or the help or the version that they ask for, and answers the program's status.
+pub fn refuse<R: Print + Eprint>(rt: &R, fault: &LineFault) -> u8 {
+    let status = match fault {
+        LineFault::Memory => Status::Memory,
+        fault if fault.is_answer() => Status::Done,
+        _ => Status::Malformed,
+    };
+    printed(fault.print(rt), status)
+}

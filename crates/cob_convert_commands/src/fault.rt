@@ -1,0 +1,121 @@
+ghost use Rattle.std.specs.Prelude.{◌≡◌};
+ghost use Rattle.cob_convert_commands.specs.Faults.{refused_text, status_of, status_of_stop};
+ghost use Rattle.cob_convert_commands.specs.declared.fault.CommandFault.TheVariants.{Memory, Stopped};
+
+use cob_convert::{Cause, PrepareFault, RunFault, Status};
+use cob_records::{OpenFault, RecordFault};
+use std::alloc::AllocError;
+use std::fmt;
+use thiserror::Error;
+
+/// A file by the option that names it.
+#[derive(Clone, Copy, Debug, PartialEq, Eq)]
+pub enum FileName {
+    /// The copybook of the input record.
+    InBook,
+    /// The copybook of the output record.
+    OutBook,
+    /// The paragraph.
+    Moves,
+    /// The copybook of `layout` and `show`.
+    Book,
+    /// The records that are read.
+    In,
+    /// The records that are written.
+    Out,
+}
+
+impl fmt::Display for FileName {
+    fn fmt<W: fmt::Write>(&self, f: &mut fmt::Formatter<W>) -> fmt::Result {
+        let name = match self {
+            FileName::InBook => "in-book",
+            FileName::OutBook => "out-book",
+            FileName::Moves => "moves",
+            FileName::Book => "book",
+            FileName::In => "in",
+            FileName::Out => "out",
+        };
+        write!(f, "{name}")
+    }
+}
+
+/// Why a command is not done.
+#[derive(Clone, Copy, Debug, PartialEq, Eq, Error)]
+pub enum CommandFault {
+    /// The system does not open the file, or does not make it.
+    #[error("cannot open {0}")]
+    CannotOpen(FileName),
+    /// A read of a text failed.
+    #[error("cannot read {0}")]
+    CannotRead(FileName),
+    /// A text breaks a rule.
+    #[error("{0}")]
+    Refused(PrepareFault),
+    /// A record stopped the run, or a device failed at it.
+    #[error("{0}")]
+    Stopped(RunFault),
+    /// Memory was refused.
+    #[error("memory")]
+    Memory,
+}
+
+impl From<AllocError> for CommandFault {
+    ghost from_gives = { λ _ fault. fault ≡ Memory };
+
+    fn from(_: AllocError) -> CommandFault {
+        CommandFault::Memory
+    }
+}
+
+impl From<PrepareFault> for CommandFault {
+    ghost from_gives = { λ refused fault. fault ≡ refused_text refused };
+
+    fn from(fault: PrepareFault) -> CommandFault {
+        match fault {
+            PrepareFault::Memory => CommandFault::Memory,
+            refused => CommandFault::Refused(refused),
+        }
+    }
+}
+
+impl From<RunFault> for CommandFault {
+    ghost from_gives = { λ stopped fault. fault ≡ Stopped stopped };
+
+    fn from(fault: RunFault) -> CommandFault {
+        CommandFault::Stopped(fault)
+    }
+}
+
+/// The status of a run that stopped for this cause: whether a record stopped it, or a device failed.
+fn stop_status(cause: Cause) -> Status
+    ensures { result ≡ status_of_stop cause }
+{
+    match cause {
+        Cause::Record(
+            RecordFault::ReadFailed | RecordFault::WriteFailed { .. } | RecordFault::TookNothing { .. },
+        ) => Status::Device,
+        _ => Status::Stopped,
+    }
+}
+
+impl CommandFault {
+    /// How the program ends.
+    pub fn status(self) -> Status
+        ensures status { result ≡ status_of self }
+    {
+        match self {
+            CommandFault::CannotOpen(_) | CommandFault::CannotRead(_) => Status::Device,
+            CommandFault::Refused(_) => Status::Refused,
+            CommandFault::Stopped(fault) => stop_status(fault.cause),
+            CommandFault::Memory => Status::Memory,
+        }
+    }
+
+    /// The fault of a file that was to be opened or made.
+    pub fn of_file(fault: OpenFault, name: FileName) -> CommandFault {
+        match fault {
+            OpenFault::NotOpened => CommandFault::CannotOpen(name),
+            OpenFault::Memory => CommandFault::Memory,
+        }
+    }
+}
