@@ -1,0 +1,24 @@
+-- What is done to each record of a stream.
+use Rattle.std.specs.Prelude.{ℕ, List}
+use Rattle.cob_records.specs.declared.records.Form.{Form}
+use Rattle.cob_layout.specs.Storage.{greatest_length}
+use Rattle.cob_move_operands.specs.Moves.{AreMoves, Move, Records}
+
+-- what is done to each record: in which form it comes and what it becomes goes out, the two records, and the moves between them
+pub record Conversion : Type 0 where
+  pub in_form : Form
+  pub out_form : Form
+  pub records : Records
+  pub moves : List Move
+
+-- the moves of a conversion are moves between its records
+abbrev pub IsConversion : Conversion → Type 0
+IsConversion c = AreMoves c.records c.moves
+
+-- the greatest length of an input record
+abbrev pub in_length : Conversion → ℕ
+in_length c = greatest_length c.records.input
+
+-- the greatest length of an output record
+abbrev pub out_length : Conversion → ℕ
+out_length c = greatest_length c.records.output

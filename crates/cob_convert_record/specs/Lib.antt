@@ -1,0 +1,5 @@
+pub mod Conversion
+pub mod Sizes
+pub mod Becoming
+pub mod Rooms
+pub mod Laws

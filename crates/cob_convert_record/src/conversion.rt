@@ -1,0 +1,244 @@
+//! The conversion of one record.
+
+ghost use Rattle.std.specs.Prelude.{◌≡◌, ◌<◌, ◌≤◌, ℕ, List, length, take, Err, IfOk, IfErr, OnOk};
+ghost use Rattle.cob_limits.specs.Limits.{longest_record};
+ghost use Rattle.cob_layout_places.specs.Lengths.{alone};
+ghost use Rattle.cob_layout.specs.Storage.{greatest_length};
+ghost use Rattle.cob_copybook_tree.specs.Forests.{Tree, entries_in};
+ghost use Rattle.cob_copybook_tree.specs.Nodes.{Resolved};
+ghost use Rattle.cob_layout.specs.Counting.{CountsOf};
+ghost use Rattle.cob_convert_record.specs.Becoming.{IsCountStop, IsWritten};
+ghost use Rattle.cob_convert_record.specs.Sizes.{IsMisfit, IsSized};
+ghost use Rattle.cob_records.specs.declared.records.Form.TheVariants.{Variable};
+
+use crate::misfit::Misfit;
+use crate::room::Room;
+use cob_copybook::Book;
+use cob_layout::{CountFault, Counts, Layout};
+use cob_move::initial;
+use cob_move_apply::{Moves, Stop, StopCause};
+use cob_move_operands::Side;
+use cob_records::Form;
+use std::alloc::{AllocError, Global};
+use std::marker::Model;
+
+/// What is done to each record of a stream: the forms in which records come and go, the layouts of both records, the moves between them, and the
+/// storage that each output record begins from.
+#[derive(Debug, Drop)]
+pub struct Conversion {
+    in_form: Form,
+    out_form: Form,
+    input: Layout,
+    output: Layout,
+    moves: Moves,
+    image: Vec<u8>,
+}
+
+impl Model for Conversion {
+    ghost use Rattle.std.specs.Prelude.{◌≡◌, length};
+    ghost use Rattle.cob_layout_places.specs.Lengths.{alone};
+    ghost use Rattle.cob_layout.specs.Storage.{greatest_length};
+    ghost use Rattle.cob_move.specs.Initial.{IsInitial};
+    ghost use Rattle.cob_convert_record.specs.Conversion.{Conversion};
+    ghost use Rattle.cob_move_apply.specs.Prepared.{ArePrepared, moves_of};
+    ghost use Rattle.std.specs.Coded.{codes};
+    ghost use Rattle.cob_copybook.specs.Codes.{coded_forest};
+
+    ghost Value = { Conversion };
+
+    ghost coded = { Prim.hlevel (codes, coded_forest) };
+
+    ghost view = { λ c. record { in_form = c.in_form; out_form = c.out_form; records = record { input = c.input; output = c.output }; moves = moves_of c.moves } };
+
+    ghost invariant = { λ c. ArePrepared (record { input = c.input; output = c.output }) c.moves × IsInitial (alone c.output) c.image.items × (length c.image.items ≡ greatest_length c.output) };
+}
+
+/// The fault of a record of form v whose counts give none.
+fn misfit_of(fault: CountFault) -> Misfit
+    ensures { (t : Tree Resolved) (input : List ℕ)
+        → CountsOf t input (Err fault) → IsMisfit Variable t input result }
+{
+    if fault.short {
+        Misfit::Length
+    } else {
+        Misfit::Count {
+            offset: fault.offset,
+        }
+    }
+}
+
+/// Whether a record has the length that its own counts give.
+fn measure_current(layout: &Layout, input: &[u8], counts: &mut Counts) -> Result<(), Misfit>
+    requires room { length counts.old ≡ entries_in (alone layout.now) }
+    ensures sized { OnOk result (IsSized Variable layout.now input.now) }
+    ensures misfit { IfErr result (λ why. IsMisfit Variable layout.now input.now why) }
+    ensures room { length counts.new ≡ length counts.old }
+{
+    if let Err(fault) = layout.counts_of(input, counts) {
+        return Err(misfit_of(fault));
+    }
+    if input.len() == usize::from(layout.length(counts)) {
+        Ok(())
+    } else {
+        Err(Misfit::Length)
+    }
+}
+
+/// How many bytes of an output storage are written.
+///
+/// # Errors
+///
+/// The first count of the storage that isn't valid.
+fn written_length(layout: &Layout, form: Form, storage: &[u8], counts: &mut Counts) -> Result<usize, Stop>
+    requires storage { length storage.now ≡ greatest_length layout.now }
+    requires room { length counts.old ≡ entries_in (alone layout.now) }
+    ensures size { IfOk result (λ made. (0 < made) × (made ≤ length storage.now) × (made ≤ longest_record)) }
+    ensures written { IfOk result (λ made. IsWritten form layout.now storage.now (take made storage.now)) }
+    ensures stops { IfErr result (λ stop. IsCountStop layout.now storage.now stop) }
+    ensures room { length counts.new ≡ length counts.old }
+{
+    if let Err(fault) = layout.counts_of(storage, counts) {
+        return Err(Stop {
+            side: Side::Out,
+            offset: fault.offset,
+            cause: StopCause::Count,
+        });
+    }
+    let greatest = layout.greatest();
+    let made = match form {
+        Form::Fixed => greatest,
+        Form::Variable => layout.length(counts),
+    };
+    Ok(usize::from(made))
+}
+
+impl Conversion {
+    ghost use Rattle.cob_records.specs.Frame.{IsRecord};
+    ghost use Rattle.cob_move_apply.specs.Prepared.{ArePrepared, moves_of};
+    ghost use Rattle.cob_layout.specs.Storage.{IsStorage};
+    ghost use Rattle.cob_convert_record.specs.Conversion.{in_length, out_length};
+    ghost use Rattle.cob_convert_record.specs.Sizes.{IsSized, IsMisfit};
+    ghost use Rattle.cob_convert_record.specs.Becoming.{Becomes, StopsAt};
+    ghost use Rattle.cob_convert_record.specs.Rooms.{capacity_for};
+
+    /// The conversion of records of these forms and layouts by these moves. The book is that of the output record.
+    ///
+    /// # Errors
+    ///
+    /// Where no memory is left.
+    pub fn new(
+        alloc: Global,
+        in_form: Form,
+        out_form: Form,
+        input: Layout,
+        output: Layout,
+        out_book: &Book,
+        moves: Moves,
+    ) -> Result<Conversion, AllocError>
+        requires moves { ArePrepared (record { input = input; output = output }) moves }
+        requires book { out_book.now ≡ alone output }
+        ensures { IfOk result (λ made. made ≡ record {
+          in_form = in_form;
+          out_form = out_form;
+          records = record { input = input; output = output };
+          moves = moves_of moves;
+        }) }
+    {
+        let mut image = vec![in alloc; 0u8; usize::from(output.greatest())]?;
+        initial(&output, out_book, image.as_mut_slice());
+        Ok(Conversion {
+            in_form,
+            out_form,
+            input,
+            output,
+            moves,
+            image,
+        })
+    }
+
+    /// The form in which records come.
+    pub fn in_form(&self) -> Form
+        ensures { result ≡ self.now.in_form }
+    {
+        self.in_form
+    }
+
+    /// The form in which what they become goes out.
+    pub fn out_form(&self) -> Form
+        ensures { result ≡ self.now.out_form }
+    {
+        self.out_form
+    }
+
+    /// The layouts of the input record and of the output record.
+    pub fn layouts(&self) -> (&Layout, &Layout)
+        ensures { self.now.records ≡ record { input = result.0.now; output = result.1.now } }
+    {
+        (&self.input, &self.output)
+    }
+
+    /// How many bytes an input record has at most.
+    pub fn in_length(&self) -> u16
+        ensures value { result ≡ in_length self.now }
+        ensures some { 0 < result }
+        ensures most { result ≤ longest_record }
+    {
+        self.input.greatest()
+    }
+
+    /// How many bytes an output record has at most.
+    pub fn out_length(&self) -> u16
+        ensures value { result ≡ out_length self.now }
+        ensures some { 0 < result }
+        ensures most { result ≤ longest_record }
+    {
+        self.output.greatest()
+    }
+
+    /// Whether a record that came in a frame is one of the input layout. In form f no count is looked at. It takes no memory.
+    ///
+    /// # Errors
+    ///
+    /// In form v a count of the record that isn't valid, or a length other than that which its counts give.
+    pub fn measure(&self, input: &[u8], room: &mut Room) -> Result<(), Misfit>
+        requires record { IsRecord self.now.in_form (in_length self.now) input.now }
+        requires room { room.old ≡ capacity_for self.now.records }
+        ensures sized { OnOk result (IsSized self.now.in_form self.now.records.input input.now) }
+        ensures misfit { IfErr result
+            (λ why. IsMisfit self.now.in_form self.now.records.input input.now why) }
+        ensures room { room.new ≡ room.old }
+    {
+        match self.in_form {
+            Form::Fixed => Ok(()),
+            Form::Variable => measure_current(&self.input, input, &mut room.in_counts),
+        }
+    }
+
+    /// Makes the output record of an input record: from the initial storage, by each move in turn. The answer is how many bytes of the storage
+    /// are written. It takes no memory.
+    ///
+    /// # Errors
+    ///
+    /// The first move that stops; or behind all moves the first count of the output that isn't valid.
+    pub fn convert(
+        &self,
+        input: &[u8],
+        output: &mut [u8],
+        room: &mut Room,
+    ) -> Result<usize, Stop>
+        requires input { IsStorage self.now.records.input input.now }
+        requires output { length output.old ≡ out_length self.now }
+        requires room { room.old ≡ capacity_for self.now.records }
+        ensures size { IfOk result
+            (λ made. (0 < made) × (made ≤ length output.new) × (made ≤ longest_record)) }
+        ensures converts { IfOk result (λ made. Becomes self.now input.now (take made output.new)) }
+        ensures stops { IfErr result (λ stop. StopsAt self.now input.now stop) }
+        ensures length { length output.new ≡ length output.old }
+        ensures room { room.new ≡ room.old }
+    {
+        output.copy_from_slice(self.image.as_slice());
+        self.moves
+            .apply(&self.input, &self.output, input, output, &mut room.scratch)?;
+        written_length(&self.output, self.out_form, output, &mut room.out_counts)
+    }
+}
