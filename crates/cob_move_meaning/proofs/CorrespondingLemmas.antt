@@ -3,7 +3,6 @@ use Rattle.std.proofs.Common.{◌≡◌, ℕ, ◌+◌, ◌<◌, Bool, true, fals
 use Rattle.std.specs.Prelude.{◌||◌}
 use Rattle.std.specs.List.{AllByRecursion}
 use Rattle.std.proofs.lemmas.List.{map-append}
-use Rattle.cob_copybook_tree.specs.declared.node.Kind.{Kind}
 use Rattle.cob_copybook_tree.specs.Forests.{Forest}
 use Rattle.cob_copybook_tree.specs.Nodes.{Resolved}
 use Rattle.cob_move_operands.specs.declared.Side.{Side}
@@ -22,7 +21,7 @@ use Rattle.cob_move_pairs.specs.Pairing.{IsTwice}
 use Rattle.cob_move_pairs.specs.Pairs.{Pair, is_elementary}
 use Rattle.cob_move_meaning.specs.declared.corresponding.TwoGroups.{TwoGroups}
 use Rattle.cob_move_meaning.specs.Meaning.{AreGroupsOf, IsAllowedMove, pair_move, pairs_of}
-use Rattle.cob_move_meaning.specs.Refusals.{BreaksPair, BreaksStatement, IsNoGroup, LacksGroup, SomeOf}
+use Rattle.cob_move_meaning.specs.Refusals.{BreaksPair, BreaksStatement, LacksGroup, SomeOf}
 use Rattle.cob_move_meaning.proofs.SomeLemmas.{all_append, next, none_of, some_here}
 
 pub sending_fault : (r : MoveRule) (all : List Candidate) (from to : WrittenReference) (input output : Forest Resolved)

@@ -1,5 +1,5 @@
 -- Statements, one after another.
-use Rattle.std.proofs.Common.{◌≡◌, ℕ, ◌+◌, ◌<◌, ◌≤◌, List, [], ◌∷◌, ◌++◌, length, get_or, map, drop, refl, sym, ap, subst, ◌∙◌, append_assoc, append-nil}
+use Rattle.std.proofs.Common.{◌≡◌, ℕ, ◌+◌, ◌<◌, ◌≤◌, List, [], ◌++◌, length, get_or, drop, refl, sym, ap, subst, ◌∙◌, append_assoc, append-nil}
 use Rattle.std.proofs.lemmas.List.{drop_all, map-append}
 use Rattle.cob_copybook_tree.specs.Forests.{Forest}
 use Rattle.cob_copybook_tree.specs.Nodes.{Resolved}
@@ -17,7 +17,7 @@ pub meanings_more : (all : List Candidate) (input output : Forest Resolved) (ss 
     → (more : List Move) → AreMeanings all input output (written_statements (drop (i + 1) ss)) more → AreMeanings all input output (written_statements ss) (moves new ++ more)
 meanings_more all input output ss i s now own new lt is h added before more rest =
     let same : moves now ++ (moves own ++ more) ≡ moves new ++ more =
-        sym (append_assoc (moves now) (moves own) more) ∙ ap (λ (xs : List Move). xs ++ more) (sym (map-append move now own) ∙ ap (λ (xs : List code_move.Move). moves xs) (sym added)) in
+    sym (append_assoc (moves now) (moves own) more) ∙ ap (λ (xs : List Move). xs ++ more) (sym (map-append move now own) ∙ ap (λ (xs : List code_move.Move). moves xs) (sym added)) in
     subst (λ (xs : List Move). AreMeanings all input output (written_statements ss) xs) same
     (before (moves own ++ more) (subst (λ (qs : List Statement). AreMeanings all input output (written_statements qs) (moves own ++ more)) (sym (next ss i s lt is)) (moves own, more, h, rest, refl)))
 

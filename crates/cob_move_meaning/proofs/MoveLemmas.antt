@@ -1,23 +1,23 @@
 -- The moves that statements mean are moves between the records.
-use Rattle.std.proofs.Common.{◌≡◌, ℕ, Bool, true, false, List, [], ◌∷◌, ◌++◌, map, refl, sym, ap, subst, ◌∙◌, inl, inr, ◌⊎◌}
-use Rattle.std.specs.Prelude.{filter, if◌then◌else◌}
+use Rattle.std.proofs.Common.{◌≡◌, Bool, true, false, List, [], ◌∷◌, map, refl, sym, ap, subst, ◌∙◌, inl, inr}
+use Rattle.std.specs.Prelude.{filter}
 use Rattle.std.specs.List.{AllByRecursion}
 use Rattle.cob_copybook.specs.Books.{IsRecord}
-use Rattle.cob_copybook_tree.specs.Forests.{Forest, Tree}
+use Rattle.cob_copybook_tree.specs.Forests.{Forest}
 use Rattle.cob_copybook_tree.specs.Nodes.{Resolved}
 use Rattle.cob_layout_places.specs.Lengths.{alone}
 use Rattle.cob_move_operands.specs.declared.Side.{Side}
 use Rattle.cob_move_operands.specs.declared.Side.TheVariants.{In, Out}
 use Rattle.cob_move_operands.specs.declared.Operand.{Operand}
-use Rattle.cob_move_operands.specs.Moves.{AreMoves, Entry, IsMove, IsOperand, IsSender, Literal, Move, Records, Sender, record_of}
+use Rattle.cob_move_operands.specs.Moves.{AreMoves, IsMove, IsOperand, IsSender, Move, Records, Sender, record_of}
 use Rattle.cob_move_statements.specs.Written.{WrittenReference, WrittenSender, SentReference, SentConstant, WrittenAction, MoveTo, MoveCorresponding, WrittenStatement}
 use Rattle.cob_move_references.specs.Candidates.{Candidate, all_entries}
 use Rattle.cob_move_references.specs.Laws.{NamedAreOperands}
-use Rattle.cob_move_pairs.specs.Groups.{IsListed, SubordinatesAreOperands, entries_below, operand_below}
+use Rattle.cob_move_pairs.specs.Groups.{IsListed, SubordinatesAreOperands, entries_below}
 use Rattle.cob_move_pairs.specs.Pairs.{Pair, Subordinate, correspond, pairs_among, pairs_from, subordinates}
 use Rattle.cob_sound.specs.Sound.{RecordsAreSound}
 use Rattle.cob_move_meaning.specs.declared.corresponding.TwoGroups.{TwoGroups}
-use Rattle.cob_move_meaning.specs.Meaning.{AreMeant, AreMovesOf, AreReceiversOf, IsMeaning, IsMoveOf, IsSenderOf, entries_of, pair_move, pairs_of}
+use Rattle.cob_move_meaning.specs.Meaning.{AreMeant, AreMovesOf, AreReceiversOf, IsMeaning, IsSenderOf, entries_of, pair_move, pairs_of}
 use Rattle.cob_move_meaning.specs.Laws.{MeantAreMoves}
 use Rattle.cob_move_meaning.proofs.SomeLemmas.{all_append, all_map, all_weaken}
 
@@ -98,11 +98,11 @@ are_pairs records given from to ms h =
     let froms : List Subordinate = subordinates [] (entries_below g.from.entry.node (alone (record_of records g.side))) in
     let tos : List Subordinate = subordinates [] (entries_below g.to.entry.node (alone records.output)) in
     let each : AllByRecursion (IsMove records) (map (pair_move g) (pairs_among froms tos)) =
-        all_map (IsAmong froms tos) (IsMove records) (pair_move g)
-        (λ p x. is_pair records given g p (given.named records from g.side g.from given.input given.output h.named.sending) (given.named records to Out g.to given.input given.output h.named.receiving) x)
-        (pairs_among froms tos) (among froms tos) in
+    all_map (IsAmong froms tos) (IsMove records) (pair_move g)
+    (λ p x. is_pair records given g p (given.named records from g.side g.from given.input given.output h.named.sending) (given.named records to Out g.to given.input given.output h.named.receiving) x)
+    (pairs_among froms tos) (among froms tos) in
     let same : map (pair_move g) (pairs_of (alone records.input) (alone records.output) g) ≡ map (pair_move g) (pairs_among froms tos) =
-        ap (λ (f : Forest Resolved). map (pair_move g) (pairs_among (subordinates [] (entries_below g.from.entry.node f)) tos)) (same_entries records g.side) in
+    ap (λ (f : Forest Resolved). map (pair_move g) (pairs_among (subordinates [] (entries_below g.from.entry.node f)) tos)) (same_entries records g.side) in
     subst (λ (xs : List Move). AreMoves records xs) (sym (h.moves ∙ same)) each
 
 are_moves : (records : Records) → AreGiven records → (a : WrittenAction) (ms : List Move) → IsMeaning (all_of records) (alone records.input) (alone records.output) a ms → AreMoves records ms

@@ -1,8 +1,7 @@
 -- A statement that has a meaning breaks no rule.
-use Rattle.std.proofs.Common.{◌≡◌, ℕ, Bool, true, false, List, [], ◌∷◌, ◌++◌, map, refl, sym, ap, subst, ◌∙◌, inl, inr, ◌⊎◌, Some, None}
+use Rattle.std.proofs.Common.{◌≡◌, Bool, true, false, List, [], ◌∷◌, map, refl, sym, ap, subst, ◌∙◌, inl, inr, Some}
 use Rattle.std.specs.Prelude.{◌||◌}
 use Rattle.std.specs.List.{AllByRecursion}
-use Rattle.cob_copybook_entries.specs.Described.{Constant}
 use Rattle.cob_copybook_entries.specs.Books.{BreaksConstant, BreaksValue}
 use Rattle.cob_copybook_entries.proofs.NoRule.{no_constant, no_value}
 use Rattle.cob_copybook_tree.specs.declared.node.Kind.{Kind}
@@ -11,10 +10,9 @@ use Rattle.cob_copybook_tree.specs.Nodes.{Resolved}
 use Rattle.cob_move_operands.specs.declared.Side.{Side}
 use Rattle.cob_move_operands.specs.declared.Side.TheVariants.{In, Out}
 use Rattle.cob_move_operands.specs.declared.Operand.{Operand}
-use Rattle.cob_move_operands.specs.Moves.{Sender, Entry, Literal, Move}
+use Rattle.cob_move_operands.specs.Moves.{Sender, Move}
 use Rattle.cob_move_receive.specs.Table.{Sender as SenderKind}
 use Rattle.cob_move_receive.specs.Refusals.{IsAllowed, is_refused}
-use Rattle.cob_move_receive.specs.declared.refusals.Refusal.{Refusal}
 use Rattle.cob_move_receive.specs.declared.refusals.Refusal.TheVariants as refusal
 use Rattle.cob_move_statements.specs.declared.fault.MoveFault.{MoveFault}
 use Rattle.cob_move_statements.specs.declared.fault.MoveRule.{MoveRule}
@@ -25,8 +23,8 @@ use Rattle.cob_move_references.specs.Laws.{NamedBreakNoRule, OneNamed}
 use Rattle.cob_move_references.specs.References.{BreaksReceiver, BreaksReference, IsNamed}
 use Rattle.cob_move_pairs.specs.Pairs.{AreOnce, Pair, is_elementary}
 use Rattle.cob_move_meaning.specs.declared.corresponding.TwoGroups.{TwoGroups}
-use Rattle.cob_move_meaning.specs.Meaning.{AreGroupsOf, AreMeanings, AreMovesOf, AreReceiversOf, IsAllowedMove, IsMeaning, IsMoveOf, IsSenderOf, kind_of_sender, pair_move, pairs_of}
-use Rattle.cob_move_meaning.specs.Refusals.{BreaksMove, BreaksOn, BreaksPair, BreaksReceiving, BreaksStatement, IsNoGroup, SomeBreak, SomeBroken, SomeOf, constant_sent, fault_on, receivers, references, sent_references, sent_constant}
+use Rattle.cob_move_meaning.specs.Meaning.{AreMeanings, AreReceiversOf, IsAllowedMove, IsMeaning, IsSenderOf, kind_of_sender, pair_move, pairs_of}
+use Rattle.cob_move_meaning.specs.Refusals.{BreaksMove, BreaksOn, BreaksPair, BreaksReceiving, BreaksStatement, IsNoGroup, SomeBreak, SomeOf, fault_on, receivers, references, sent_references, sent_constant}
 use Rattle.cob_move_meaning.specs.Laws.{MeaningsBreakNoRule, MeantBreakNoRule}
 use Rattle.cob_move_meaning.proofs.OneLemmas.{one_groups, one_sender}
 use Rattle.cob_move_meaning.proofs.SomeLemmas.{all_append, clash}
@@ -89,7 +87,7 @@ no_receiving law r all s [] os h a b = b
 no_receiving law r all s (w ∷ ws) os (o, more, k, ks, e) a b =
     let each : AllByRecursion (λ (x : Operand). IsAllowed (kind_of_sender s) x.kind) (o ∷ more) = subst (λ (xs : List Operand). AllByRecursion (λ (x : Operand). IsAllowed (kind_of_sender s) x.kind) xs) e a in
     elim b [
-        inl x ↦ no_move r (kind_of_sender s) x.0.kind (subst (λ (y : Operand). IsAllowed (kind_of_sender s) y.kind) ((law all w Out Out o x.0 k x.1).1) each.0) x.2
+      | inl x ↦ no_move r (kind_of_sender s) x.0.kind (subst (λ (y : Operand). IsAllowed (kind_of_sender s) y.kind) ((law all w Out Out o x.0 k x.1).1) each.0) x.2
       | inr x ↦ no_receiving law r all s ws more ks each.1 x
     ]
 

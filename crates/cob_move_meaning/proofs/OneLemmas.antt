@@ -2,17 +2,15 @@
 use Rattle.std.proofs.Common.{◌≡◌, List, [], ◌∷◌, ◌++◌, map, sym, ap, ◌∙◌}
 use Rattle.cob_copybook_entries.specs.Described.{Constant}
 use Rattle.cob_copybook_entries.proofs.OneList.{one_constant}
-use Rattle.cob_copybook_tree.specs.Forests.{Forest}
-use Rattle.cob_copybook_tree.specs.Nodes.{Resolved}
 use Rattle.cob_move_operands.specs.declared.Side.{Side}
 use Rattle.cob_move_operands.specs.declared.Side.TheVariants.{Out}
 use Rattle.cob_move_operands.specs.declared.Operand.{Operand}
 use Rattle.cob_move_operands.specs.Moves.{Sender, Entry, Literal, Move}
-use Rattle.cob_move_statements.specs.Written.{WrittenReference, WrittenSender, SentReference, SentConstant, WrittenAction, MoveTo, MoveCorresponding, WrittenStatement}
+use Rattle.cob_move_statements.specs.Written.{WrittenReference, WrittenSender, SentReference, SentConstant, MoveTo, MoveCorresponding}
 use Rattle.cob_move_references.specs.Candidates.{Candidate}
 use Rattle.cob_move_references.specs.Laws.{OneNamed}
 use Rattle.cob_move_meaning.specs.declared.corresponding.TwoGroups.{TwoGroups}
-use Rattle.cob_move_meaning.specs.Meaning.{AreGroupsOf, AreMeanings, AreReceiversOf, IsMeaning, IsMoveOf, IsSenderOf, pair_move, pairs_of}
+use Rattle.cob_move_meaning.specs.Meaning.{AreGroupsOf, AreReceiversOf, IsMoveOf, IsSenderOf, pair_move, pairs_of}
 use Rattle.cob_move_meaning.specs.Laws.{OneMeaning, OneMeant}
 
 pub one_sender : OneNamed → (all : List Candidate) (s : WrittenSender) (m n : Sender) → IsSenderOf all s m → IsSenderOf all s n → m ≡ n

@@ -1,5 +1,5 @@
 -- What a statement means between two records: its moves.
-use Rattle.std.specs.Prelude.{◌≡◌, ℕ, ◌||◌, false, List, [], ◌∷◌, ◌++◌, map}
+use Rattle.std.specs.Prelude.{◌≡◌, ◌||◌, false, List, [], ◌∷◌, ◌++◌, map}
 use Rattle.std.specs.List.{AllByRecursion}
 use Rattle.cob_copybook_entries.specs.Described.{Constant}
 use Rattle.cob_copybook_entries.specs.Meaning.{IsConstantOf}

@@ -1,12 +1,12 @@
 -- Which rules a statement breaks.
-use Rattle.std.specs.Prelude.{◌≡◌, ◌⊎◌, ℕ, ◌||◌, true, List, [], ◌∷◌, ◌++◌, Option, Some, None}
+use Rattle.std.specs.Prelude.{◌≡◌, ◌⊎◌, ℕ, true, List, [], ◌∷◌, ◌++◌, Option, Some, None}
 use Rattle.cob_copybook_clauses.specs.Written.{WrittenConstant}
 use Rattle.cob_copybook_entries.specs.Books.{BreaksConstant, BreaksValue}
 use Rattle.cob_copybook_tree.specs.declared.node.Kind.{Kind}
 use Rattle.cob_copybook_tree.specs.Forests.{Forest}
 use Rattle.cob_copybook_tree.specs.Nodes.{Resolved}
 use Rattle.cob_move_operands.specs.declared.Side.{Side}
-use Rattle.cob_move_operands.specs.declared.Side.TheVariants.{In, Out}
+use Rattle.cob_move_operands.specs.declared.Side.TheVariants.{Out}
 use Rattle.cob_move_operands.specs.declared.Operand.{Operand}
 use Rattle.cob_move_operands.specs.Moves.{Sender}
 use Rattle.cob_move_receive.specs.Table.{Sender as SenderKind, Entry as EntryOf}

@@ -29,7 +29,9 @@ use cob_copybook_tree::{Item, Kind};
 use cob_layout_places::Ref;
 use cob_limits::MAX_SUBSCRIPTS;
 use cob_move_operands::{Move, Operand, Sender, Side};
-use cob_move_pairs::{Pair, Subordinate, entries_below, is_elementary, pairs_between, subordinates};
+use cob_move_pairs::{
+    Pair, Subordinate, entries_below, is_elementary, pairs_between, subordinates,
+};
 use cob_move_references::Names;
 use cob_move_statements::{MoveRule, Reference};
 use std::alloc::Global;
@@ -63,7 +65,7 @@ fn groups_of(
         (written_reference from.now) (written_reference to.now) g) }
     ensures fault { IfErr result (λ r. (input output : Forest Resolved)
         → BreaksStatement r (entries_named names.now) input output
-          (MoveCorresponding (written_reference from.now) (written_reference to.now))) }
+        (MoveCorresponding (written_reference from.now) (written_reference to.now))) }
 {
     let sending = names.find(from)?;
     let receiving = names.find_receiver(to)?;

@@ -24,5 +24,7 @@ mod meaning;
 mod senders;
 mod single;
 
-pub use laws::{meanings_break_no_rule, meant_are_moves, meant_break_no_rule, one_meaning, one_meant};
+pub use laws::{
+    meanings_break_no_rule, meant_are_moves, meant_break_no_rule, one_meaning, one_meant,
+};
 pub use meaning::{all_meant, meaning_of};

@@ -40,10 +40,10 @@ fn single_move(
 ) -> Result<Vec<Move>, MoveRule>
     ensures found { IfOk result (λ v. (input output : Forest Resolved)
         → IsMeaning (entries_named names.now) input output
-          (MoveTo (written_sender sender.now) (written_references receivers.now)) (moves v.items)) }
+        (MoveTo (written_sender sender.now) (written_references receivers.now)) (moves v.items)) }
     ensures fault { IfErr result (λ r. (input output : Forest Resolved)
         → BreaksStatement r (entries_named names.now) input output
-          (MoveTo (written_sender sender.now) (written_references receivers.now))) }
+        (MoveTo (written_sender sender.now) (written_references receivers.now))) }
 {
     let single = move_of(alloc, names, sender, receivers)?;
     let mut list = Vec::new(alloc);

@@ -57,7 +57,10 @@ fn entry_of(names: &Names<'_>, reference: &Reference<'_>) -> Result<Sender, Move
 /// # Errors
 ///
 /// `Unknown`, `Ambiguous`, `Subscripts` for a reference; `Grammar`, `Literal` for a constant.
-pub(crate) fn sender_of(names: &Names<'_>, written: &StatementSender<'_>) -> Result<Sender, MoveRule>
+pub(crate) fn sender_of(
+    names: &Names<'_>,
+    written: &StatementSender<'_>,
+) -> Result<Sender, MoveRule>
     ensures found { IfOk result (λ s. IsSenderOf (entries_named names.now)
         (written_sender written.now) (sender s)) }
     ensures fault { IfErr result (λ r. BreaksSender r (entries_named names.now)

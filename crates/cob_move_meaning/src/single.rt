@@ -92,7 +92,7 @@ fn receivers_of(
         AllByRecursion (λ o. IsAllowed (kind_of_sender (sender from.now)) o.kind) v.items) }
     ensures fault { IfErr result (λ r. (r ≡ MoveRule.Memory)
         ⊎ SomeOf (BreaksReceipt r (entries_named names.now) (sender from.now))
-          (written_references references.now)) }
+        (written_references references.now)) }
 {
     let mut receivers = Vec::new(alloc);
     for reference in references {
@@ -117,7 +117,7 @@ pub(crate) fn move_of(
         (written_sender written.now) (written_references references.now) (move m)) }
     ensures fault { IfErr result (λ r. (input output : Forest Resolved)
         → BreaksStatement r (entries_named names.now) input output
-          (MoveTo (written_sender written.now) (written_references references.now))) }
+        (MoveTo (written_sender written.now) (written_references references.now))) }
 {
     let sender = sender_of(names, written)?;
     let receivers = receivers_of(alloc, names, &sender, references)?;

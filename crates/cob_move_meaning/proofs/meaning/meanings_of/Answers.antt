@@ -12,8 +12,8 @@ returns-in_err-own-clause-fault c =
     let p = err_from_is_err_and c.from_residual.result c.from_residual.ensures.1 in
     rw (p.1, p.2)
     (inr (c.loop-statement.invariant.broken c.in_err-own.field-0.0
-        (some_here written_statement (BreaksOn c.in_err-own.field-0.0 (entries_named c.args.names.now) c.args.input.now c.args.output.now) c.args.statements.now c.loop-statement.statement-index
-            c.statement-item.result c.loop-statement-test.true c.statement-item.is c.in_err-own.ensures.fault)))
+    (some_here written_statement (BreaksOn c.in_err-own.field-0.0 (entries_named c.args.names.now) c.args.input.now c.args.output.now) c.args.statements.now c.loop-statement.statement-index
+    c.statement-item.result c.loop-statement-test.true c.statement-item.is c.in_err-own.ensures.fault)))
 
 pub loop-statement-preserved : goal.loop-statement-preserved
 loop-statement-preserved c = record {
@@ -22,7 +22,7 @@ loop-statement-preserved c = record {
       c.loop-statement.invariant.found;
   broken = λ f h. c.loop-statement.invariant.broken f
       (some_later written_statement (BreaksOn f (entries_named c.args.names.now) c.args.input.now c.args.output.now) c.args.statements.now c.loop-statement.statement-index c.statement-item.result
-          c.loop-statement-test.true c.statement-item.is h);
+      c.loop-statement-test.true c.statement-item.is h);
 }
 
 pub returns-clause-found : goal.returns-clause-found

@@ -1,4 +1,4 @@
-use Rattle.std.proofs.Common.{◌≡◌, ◌++◌, drop, List}
+use Rattle.std.proofs.Common.{◌++◌, drop, List}
 use Rattle.cob_move_meaning.specs.Meaning.{AreMeanings}
 use Rattle.cob_move_meaning.specs.Refusals.{BreaksOn, SomeOf}
 use Rattle.cob_move_operands.specs.Moves.{Move, moves}

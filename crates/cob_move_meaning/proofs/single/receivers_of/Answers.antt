@@ -16,8 +16,8 @@ returns-in_err-receiver-clause-fault c =
     let p = err_from_is_err_and c.from_residual.result c.from_residual.ensures.1 in
     rw (p.1, p.2)
     (inr (c.loop-reference.invariant.broken c.in_err-receiver.field-0.0
-        (some_here written_reference (BreaksReceipt c.in_err-receiver.field-0.0 (entries_named c.args.names.now) (sender c.args.from.now)) c.args.references.now c.loop-reference.reference-index
-            c.reference-item.result c.loop-reference-test.true c.reference-item.is c.in_err-receiver.ensures.fault)))
+    (some_here written_reference (BreaksReceipt c.in_err-receiver.field-0.0 (entries_named c.args.names.now) (sender c.args.from.now)) c.args.references.now c.loop-reference.reference-index
+    c.reference-item.result c.loop-reference-test.true c.reference-item.is c.in_err-receiver.ensures.fault)))
 
 pub loop-reference-preserved : goal.loop-reference-preserved
 loop-reference-preserved c = record {
@@ -27,7 +27,7 @@ loop-reference-preserved c = record {
       c.in_ok-receiver.ensures.allowed c.in_ok-push.ensures.items c.loop-reference.invariant.allowed;
   broken = λ r h. c.loop-reference.invariant.broken r
       (some_later written_reference (BreaksReceipt r (entries_named c.args.names.now) (sender c.args.from.now)) c.args.references.now c.loop-reference.reference-index c.reference-item.result
-          c.loop-reference-test.true c.reference-item.is h);
+      c.loop-reference-test.true c.reference-item.is h);
 }
 
 pub returns-clause-found : goal.returns-clause-found

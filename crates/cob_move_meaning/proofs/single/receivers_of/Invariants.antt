@@ -1,4 +1,4 @@
-use Rattle.std.proofs.Common.{◌≡◌, ◌++◌, drop, List}
+use Rattle.std.proofs.Common.{◌++◌, drop, List}
 use Rattle.std.specs.List.{AllByRecursion}
 use Rattle.cob_move_meaning.specs.Meaning.{AreReceiversOf, kind_of_sender}
 use Rattle.cob_move_meaning.specs.Refusals.{BreaksReceipt, SomeOf}
