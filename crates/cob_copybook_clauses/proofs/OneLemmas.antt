@@ -68,7 +68,7 @@ names_cut [] (w ∷ m) a b p q f g e = absurd (subst (NotFirst term.Plain) e f (
 names_cut (w ∷ n) [] a b p q f g e = absurd (subst (NotFirst term.Plain) (sym e) g (name_plain w p.0))
 names_cut (w ∷ n) (v ∷ m) a b p q f g e = let tail : n ++ a ≡ m ++ b = cc in names_cut n m a b p.1 q.1 f g tail
 
-qualifiers_cut : (n m a b : List Lexeme) → AreQualifiers n → AreQualifiers m → NotFirst term.Of a → NotFirst term.Of b → n ++ a ≡ m ++ b → (names_behind n ≡ names_behind m) × (a ≡ b)
+pub qualifiers_cut : (n m a b : List Lexeme) → AreQualifiers n → AreQualifiers m → NotFirst term.Of a → NotFirst term.Of b → n ++ a ≡ m ++ b → (names_behind n ≡ names_behind m) × (a ≡ b)
 qualifiers_cut [] [] a b p q f g e = (refl, e)
 qualifiers_cut [] (w ∷ []) a b p q f g e = absurd q
 qualifiers_cut [] (w ∷ v ∷ m) a b p q f g e = absurd (subst (NotFirst term.Of) e f q.0)
@@ -230,7 +230,7 @@ read_is (Figure f) n a (all ∷ v ∷ others, w, i, is, e) = absurd i
 read_is (Repeated text) n a (all, w, i, k, s, e) =
     ap (λ x. constant_read (x ++ a)) e ∙ ap (λ t. first_read t all.text (w ∷ a)) i ∙ ap (λ t. behind_all t w.text a) (literal_term w k) ∙ ap (λ s. Some (Repeated s, a)) s
 
-constant_cut : (c d : WrittenConstant) (n m a b : List Lexeme) → IsConstant c n → IsConstant d m → n ++ a ≡ m ++ b → (c ≡ d) × (a ≡ b)
+pub constant_cut : (c d : WrittenConstant) (n m a b : List Lexeme) → IsConstant c n → IsConstant d m → n ++ a ≡ m ++ b → (c ≡ d) × (a ≡ b)
 constant_cut c d n m a b p q e =
     let both : Some (c, a) ≡ Some (d, b) = sym (read_is c n a p) ∙ ap constant_read e ∙ read_is d m b q in
     let pair = ap (λ (o : Option (WrittenConstant × List Lexeme)). unwrap_or o (c, a)) both in

@@ -9,3 +9,5 @@ pub mod AreaLemmas
 pub mod ThoseLemmas
 pub mod ByteLemmas
 pub mod NeedLemmas
+pub mod StorageLemmas
+pub mod UnreadLemmas

@@ -54,6 +54,10 @@ NeededOf t r receiving bytes result =
     (xs : List Table) × AreThose (IsRead t r receiving) (tables_of (alone t)) xs
     × Taken t bytes xs (greatest_counts t) result
 
+-- a reference to an entry reads no count: its place is the same in every storage
+abbrev pub ReadsNone : Tree Resolved → ℕ → Bool → Type 0
+ReadsNone t r receiving = AreThose (IsRead t r receiving) (tables_of (alone t)) []
+
 -- under these counts each entry occurs as often as at most: the lengths and places are the greatest ones
 pub record AreGreatest (t : Tree Resolved) (counts : List ℕ) : Type 0 where
   pub length : sum_of (times counts) (alone t) ≡ sum_of most (alone t)

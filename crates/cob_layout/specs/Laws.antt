@@ -1,10 +1,11 @@
 -- What follows from the definitions for every record.
-use Rattle.std.specs.Prelude.{◌≡◌, ◌⊎◌, ℕ, ◌+◌, ◌≤◌, Bool, true, List, length, Option, Some, None, Ok, Result, option_map}
+use Rattle.std.specs.Prelude.{◌≡◌, ◌⊎◌, ℕ, ◌+◌, ◌≤◌, Bool, true, false, List, length, Option, Some, None, Ok, Result, option_map}
 use Rattle.cob_copybook_tree.specs.Forests.{Forest, Bare, Grows, Tree}
 use Rattle.cob_copybook_tree.specs.Nodes.{Resolved}
 use Rattle.cob_copybook_tree.specs.Lengths.{sum_of}
 use Rattle.cob_copybook.specs.Books.{IsRecord}
 use Rattle.cob_layout_places.specs.declared.counts.CountFault.{CountFault}
+use Rattle.cob_fields.specs.declared.Place.{Place}
 use Rattle.cob_layout_places.specs.declared.places.Found.{Found}
 use Rattle.cob_layout_places.specs.declared.varying.Table.{Table}
 use Rattle.cob_layout_places.specs.Lengths.{alone, times}
@@ -14,7 +15,9 @@ use Rattle.cob_layout_places.specs.Needs.{greatest}
 use Rattle.cob_layout_places.specs.Agree.{DoAgree}
 use Rattle.cob_limits.specs.Limits.{most_dimensions}
 use Rattle.cob_layout_places.specs.References.{Refers}
+use Rattle.cob_layout.specs.Placed.{placed}
 use Rattle.cob_layout.specs.Counting.{greatest_counts, AreThose, CountsOf, IsRead, IsSparedOf, NeededOf}
+use Rattle.cob_layout.specs.Storage.{IsStorage}
 
 -- a legal reference has no more subscripts than a `Ref` has room for
 abbrev pub FitsRef : Type 0
@@ -27,6 +30,14 @@ EndInLength = (t : Tree Resolved) (counts : List ℕ) (r : ℕ) (subscripts : Li
     → IsRecord (alone t) → Refers r subscripts (alone t)
     → find (times counts) r (alone t) 0 0 subscripts ≡ Some found → found.within ≡ true
     → found.offset + found.length ≤ sum_of (times counts) (alone t)
+
+-- a place that a sender finds in a record's bytes, under the counts that it needs there, lies within these bytes
+abbrev pub LieInStorage : Type 0
+LieInStorage = (t : Tree Resolved) (bytes counts : List ℕ) (r : ℕ) (subscripts : List ℕ) (p : Place)
+    → IsRecord (alone t) → IsStorage t bytes → Refers r subscripts (alone t)
+    → NeededOf t r false bytes (Ok counts)
+    → option_map placed (find (times counts) r (alone t) 0 0 subscripts) ≡ Some (Ok p)
+    → p.offset + p.length ≤ length bytes
 
 -- the entry r is one of these, and all of them before it redefine an area, as it does
 abbrev pub IsBehind : ℕ → Forest Resolved → Type 0

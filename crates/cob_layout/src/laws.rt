@@ -1,4 +1,4 @@
-ghost use Rattle.cob_layout.specs.Laws.{AllGiveNeeded, BeginWithArea, EndInLength, FitsRef, OneOfAll, OneOfNeeded, OnePlaceByNeeds};
+ghost use Rattle.cob_layout.specs.Laws.{AllGiveNeeded, BeginWithArea, EndInLength, FitsRef, LieInStorage, OneOfAll, OneOfNeeded, OnePlaceByNeeds};
 
 use cob_layout_places::{needs_are_read, one_outcome, one_place, same_counts};
 use cob_sound::records_are_sound;
@@ -48,4 +48,14 @@ pub fn one_place_by_needs()
     all_give_needed();
     one_outcome_of_counts();
     same_counts();
+}
+
+/// A place that a sender finds in a record's bytes, under the counts that it needs there, lies within these bytes: all of the record's storage,
+/// or its current part.
+pub fn places_lie_in_storage()
+    ensures { LieInStorage }
+{
+    places_end_in_length();
+    all_give_needed();
+    one_outcome_of_counts();
 }

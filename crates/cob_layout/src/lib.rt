@@ -25,10 +25,11 @@
 //!   to its greatest (`ok`), or answers the first fault (`err`) and leaves the counts as they were (`same`).
 //! - [`Layout::needed`] takes only the counts that a reference reads: those of the tables that stand before its entry, are it, hold it, stand
 //!   beneath it or beneath a table that holds it, but not those that it is spared where it receives; the other tables have their greatest number
-//!   (`ok`, `err`, `same`).
+//!   (`ok`, `err`, `same`). [`Layout::needs_no_count`] says whether it reads none (`must`, `only`): then its place is the same in every storage.
 //! - The bytes of a storage say one thing of all counts and of those that are needed ([`one_outcome_of_counts`]). Where all are valid, those
 //!   that are needed are, and the place is that under all counts, but for the tables that the reference is spared, which have their greatest
-//!   number ([`all_give_needed`]). Storages that agree on what a reference reads give it one place, whichever of the two calls took the counts
+//!   number ([`all_give_needed`]). So a place that a sender finds lies within the record's bytes, be they all of its storage or its current
+//!   part ([`places_lie_in_storage`]). Storages that agree on what a reference reads give it one place, whichever of the two calls took the counts
 //!   ([`one_place_by_needs`]).
 //!
 //! The definitions: `CountsOf`, `NeededOf` and `AreGreatest` of specs/Counting.antt, `placed` of specs/Placed.antt, those of
@@ -47,6 +48,6 @@ pub use cob_layout_places::{CountFault, Ref};
 pub use counts::Counts;
 pub use laws::{
     all_give_needed, fits_ref, one_outcome_of_counts, one_place_by_needs, places_end_in_length,
-    redefinitions_begin_with_area,
+    places_lie_in_storage, redefinitions_begin_with_area,
 };
 pub use layout::{Layout, PlaceFault};

@@ -52,11 +52,11 @@ ends_fit (w ∷ ws) (inl stop) = (
 ends_fit (w ∷ ws) (inr move) =
     (move_no_name w move, λ e. let never : term.Move ≡ term.Of = sym move ∙ e in cc, λ e. let never : term.Move ≡ term.OpenBracket = sym move ∙ e in cc)
 
-fits_no_stop : (more : List Lexeme) → FollowsStatements more → NoPeriod more
+pub fits_no_stop : (more : List Lexeme) → FollowsStatements more → NoPeriod more
 fits_no_stop [] fit = tt
 fits_no_stop (w ∷ more) fit = λ stop. let never : term.Move ≡ term.Stop = sym fit ∙ stop_term w stop in cc
 
-fits_ends : (stops more : List Lexeme) → AllByRecursion IsPeriod stops → FollowsStatements more → EndsStatement (stops ++ more)
+pub fits_ends : (stops more : List Lexeme) → AllByRecursion IsPeriod stops → FollowsStatements more → EndsStatement (stops ++ more)
 fits_ends [] [] are fit = tt
 fits_ends [] (w ∷ more) are fit = inr fit
 fits_ends (w ∷ stops) more are fit = inl are.0

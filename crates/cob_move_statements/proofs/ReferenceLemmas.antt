@@ -14,7 +14,7 @@ use Rattle.cob_move_statements.specs.Written.{WrittenReference, word_texts}
 use Rattle.cob_move_statements.specs.Statements.{AreSubscripts, EndsReferences, FitsReference, IsBracketed, IsReference, NoName}
 
 -- words in brackets, before the rest
-brackets : (b a : Lexeme) (ns rest : List Lexeme) → b ∷ (ns ++ a ∷ rest) ≡ (b ∷ (ns ++ a ∷ [])) ++ rest
+pub brackets : (b a : Lexeme) (ns rest : List Lexeme) → b ∷ (ns ++ a ∷ rest) ≡ (b ∷ (ns ++ a ∷ [])) ++ rest
 brackets b a ns rest = ap (λ (t : List Lexeme). b ∷ t) (sym (append_assoc ns (a ∷ []) rest))
 
 are_subscripts : (b a : Lexeme) (ns : List Lexeme) → IsBracketed b a ns → AreSubscripts (word_texts ns) (b ∷ (ns ++ a ∷ []))

@@ -19,7 +19,7 @@ pub record SoFar {V : Type 0} (Is : V → List Lexeme → Type 0) (Ends : List L
 pub begins : {V : Type 0} (Is : V → List Lexeme → Type 0) (Ends : List Lexeme → Type 0) (words : List Lexeme) → SoFar Is Ends words words []
 begins Is Ends words = record { found = λ vs ws more s e. (ws, s, e); only = λ vs ws more s en e. (vs, ws, s, e, refl) }
 
-fits : {V : Type 0} (Is : V → List Lexeme → Type 0) (Fits Ends : List Lexeme → Type 0) → IsRun Is Fits Ends → (vs : List V) (ws more : List Lexeme) → Several Is vs ws → Ends more → Fits (ws ++ more)
+pub fits : {V : Type 0} (Is : V → List Lexeme → Type 0) (Fits Ends : List Lexeme → Type 0) → IsRun Is Fits Ends → (vs : List V) (ws more : List Lexeme) → Several Is vs ws → Ends more → Fits (ws ++ more)
 fits Is Fits Ends run [] ws more s en = subst (λ (t : List Lexeme). Fits (t ++ more)) (sym s) (run.ends_fit more en)
 fits Is Fits Ends run (v ∷ vs) ws more (own, rest, is, cut, s) en =
     subst Fits (sym (append_assoc own rest more) ∙ ap (λ (t : List Lexeme). t ++ more) (sym cut)) (run.piece_fits v own (rest ++ more) is)

@@ -63,7 +63,7 @@ sender_first : (s : WrittenSender) (ws more : List Lexeme) → IsWrittenSender s
 sender_first (SentReference r) ws more is = reference_first term.Corresponding r ws more is (λ e. cc)
 sender_first (SentConstant c) ws more (is, form, none) = constant_first c ws more is
 
-never_both : (words ws more own rest : List Lexeme) (s : WrittenSender) (rs : List WrittenReference) (a b : WrittenReference)
+pub never_both : (words ws more own rest : List Lexeme) (s : WrittenSender) (rs : List WrittenReference) (a b : WrittenReference)
     → IsAction (MoveTo s rs) ws → words ≡ ws ++ more → IsAction (MoveCorresponding a b) own → words ≡ own ++ rest → ⊥
 never_both words ws more own rest s rs a b (sender, receivers, between, sends, to, some, several, e) f (k, between', sending, receiving, is, from, to', gets, g) h =
     let moved : NotFirst term.Corresponding words =

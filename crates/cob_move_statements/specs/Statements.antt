@@ -59,10 +59,11 @@ abbrev pub NameFirst : List Lexeme → Type 0
 NameFirst [] = ⊥
 NameFirst (w ∷ ws) = IsNameWord w
 
--- what may follow a reference, and what may follow the last of several
+-- what may follow a reference: neither OF or IN nor an open bracket
 abbrev pub FitsReference : List Lexeme → Type 0
 FitsReference more = NotFirst term.Of more × NotFirst term.OpenBracket more
 
+-- what may follow the last of several references: no name either
 abbrev pub EndsReferences : List Lexeme → Type 0
 EndsReferences more = NoName more × NotFirst term.Of more × NotFirst term.OpenBracket more
 
@@ -115,6 +116,7 @@ abbrev pub FollowsStatements : List Lexeme → Type 0
 FollowsStatements [] = Unit {0}
 FollowsStatements (w ∷ ws) = term_of w ≡ term.Move
 
+-- nothing may follow
 abbrev pub IsEnd : List Lexeme → Type 0
 IsEnd more = more ≡ []
 

@@ -30,25 +30,32 @@ pub record WrittenStatement : Type 0 where
   pub line : ℕ
   pub action : WrittenAction
 
+-- the texts of words
 abbrev pub word_texts : List Lexeme → List (List ℕ)
 word_texts ws = map (λ w. w.text) ws
 
+-- a reference as it is written, without where its texts lie in memory
 abbrev pub written_reference : Reference → WrittenReference
 written_reference r = record { name = r.name.now; qualifiers = names_behind (lexemes r.qualifiers.now); subscripts = word_texts (lexemes r.subscripts.now) }
 
+-- references, likewise
 abbrev pub written_references : List Reference → List WrittenReference
 written_references rs = map written_reference rs
 
+-- what is moved, likewise
 abbrev pub written_sender : StatementSender → WrittenSender
 written_sender (sender.Reference r) = SentReference (written_reference r)
 written_sender (sender.Constant c) = SentConstant (written_constant c)
 
+-- what stands behind MOVE, likewise
 abbrev pub written_action : Action → WrittenAction
 written_action (action.Move s rs) = MoveTo (written_sender s) (written_references rs.items)
 written_action (action.Corresponding from to) = MoveCorresponding (written_reference from) (written_reference to)
 
+-- a statement, likewise
 abbrev pub written_statement : Statement → WrittenStatement
 written_statement s = record { line = s.line; action = written_action s.action }
 
+-- statements, likewise
 abbrev pub written_statements : List Statement → List WrittenStatement
 written_statements ss = map written_statement ss

@@ -43,17 +43,19 @@ use cob_copybook_clauses::{Term, is_name_word, is_term};
 use cob_source::{Kind, Token};
 use std::alloc::{AllocError, Global};
 
-/// Whether a token is a Stop.
+/// Whether a token is a period.
 fn is_stop(token: &Token) -> bool
     ensures { IsTrue result ↔ IsPeriod (lexeme token.now) }
 {
     token.kind == Kind::Stop
 }
 
-/// The words behind the Stop in front, if there is one.
+/// The words behind the period in front, if there is one.
 fn behind_stop(words: &[Token]) -> Option<&[Token]>
-    ensures found { IfSome result (λ r. (w : Lexeme) × IsPeriod w × (lexemes words.now ≡ w ∷ lexemes r.now)) }
-    ensures only { (w : Lexeme) (more : List Lexeme) → IsPeriod w → lexemes words.now ≡ w ∷ more → IsSomeAnd result (λ r. lexemes r.now ≡ more) }
+    ensures found { IfSome result (λ r. (w : Lexeme) × IsPeriod w
+        × (lexemes words.now ≡ w ∷ lexemes r.now)) }
+    ensures only { (w : Lexeme) (more : List Lexeme) → IsPeriod w → lexemes words.now ≡ w ∷ more
+        → IsSomeAnd result (λ r. lexemes r.now ≡ more) }
 {
     let (first, more) = words.split_first()?;
     if !is_stop(first) {
@@ -62,10 +64,12 @@ fn behind_stop(words: &[Token]) -> Option<&[Token]>
     Some(more)
 }
 
-/// The words behind the Stops in front.
+/// The words behind the periods in front.
 fn behind_stops(words: &[Token]) -> &[Token]
-    ensures found { (stops : List Lexeme) × AllByRecursion IsPeriod stops × (lexemes words.now ≡ stops ++ lexemes result.now) }
-    ensures only { (stops more : List Lexeme) → AllByRecursion IsPeriod stops → NoPeriod more → lexemes words.now ≡ stops ++ more → lexemes result.now ≡ more }
+    ensures found { (stops : List Lexeme) × AllByRecursion IsPeriod stops
+        × (lexemes words.now ≡ stops ++ lexemes result.now) }
+    ensures only { (stops more : List Lexeme) → AllByRecursion IsPeriod stops → NoPeriod more
+        → lexemes words.now ≡ stops ++ more → lexemes result.now ≡ more }
     ensures none { NoPeriod (lexemes result.now) }
 {
     let mut rest = words;
@@ -77,8 +81,11 @@ fn behind_stops(words: &[Token]) -> &[Token]
 
 /// The line of the MOVE in front, and what is behind it.
 fn move_line_at(words: &[Token]) -> Option<(u32, &[Token])>
-    ensures found { IfSome result (λ r. (w : Lexeme) × (term_of w ≡ term.Move) × (r.0 ≡ w.line) × (lexemes words.now ≡ w ∷ lexemes r.1.now)) }
-    ensures only { (w : Lexeme) (more : List Lexeme) → term_of w ≡ term.Move → lexemes words.now ≡ w ∷ more → IsSomeAnd result (λ r. (r.0 ≡ w.line) × (lexemes r.1.now ≡ more)) }
+    ensures found { IfSome result (λ r. (w : Lexeme) × (term_of w ≡ term.Move) × (r.0 ≡ w.line)
+        × (lexemes words.now ≡ w ∷ lexemes r.1.now)) }
+    ensures only { (w : Lexeme) (more : List Lexeme) → term_of w ≡ term.Move
+        → lexemes words.now ≡ w ∷ more → IsSomeAnd result (λ r. (r.0 ≡ w.line)
+        × (lexemes r.1.now ≡ more)) }
 {
     let (first, more) = words.split_first()?;
     if !is_term(first, Term::Move) {
@@ -96,9 +103,12 @@ fn statement_at(
     alloc: Global,
     words: &[Token],
 ) -> Result<Option<(Statement<'_>, &[Token])>, AllocError>
-    ensures found { IfOk result (λ o. IfSome o (λ r. (ws : List Lexeme) × IsStatement (written_statement r.0) ws × (lexemes words.now ≡ ws ++ lexemes r.1.now))) }
-    ensures only { (x : WrittenStatement) (ws more : List Lexeme) → IsStatement x ws → EndsReferences more → lexemes words.now ≡ ws ++ more
-        → IfOk result (λ o. IsSomeAnd o (λ r. (written_statement r.0 ≡ x) × (lexemes r.1.now ≡ more))) }
+    ensures found { IfOk result (λ o. IfSome o (λ r. (ws : List Lexeme)
+        × IsStatement (written_statement r.0) ws × (lexemes words.now ≡ ws ++ lexemes r.1.now))) }
+    ensures only { (x : WrittenStatement) (ws more : List Lexeme) → IsStatement x ws
+        → EndsReferences more → lexemes words.now ≡ ws ++ more
+        → IfOk result (λ o. IsSomeAnd o (λ r. (written_statement r.0 ≡ x)
+        × (lexemes r.1.now ≡ more))) }
 {
     let Some((line, moved)) = move_line_at(words) else {
         return Ok(None);
@@ -119,7 +129,7 @@ fn ends_statement(words: &[Token]) -> bool
     }
 }
 
-/// The statement in front, and what is behind it and the Stops behind it.
+/// The statement in front, and what is behind it and its periods.
 ///
 /// # Errors
 ///
@@ -128,9 +138,12 @@ fn ended_statement_at(
     alloc: Global,
     words: &[Token],
 ) -> Result<Option<(Statement<'_>, &[Token])>, AllocError>
-    ensures found { IfOk result (λ o. IfSome o (λ r. StatementStands (written_statement r.0) (lexemes words.now) (lexemes r.1.now))) }
-    ensures only { (x : WrittenStatement) (more : List Lexeme) → StatementStands x (lexemes words.now) more
-        → IfOk result (λ o. IsSomeAnd o (λ r. (written_statement r.0 ≡ x) × (lexemes r.1.now ≡ more))) }
+    ensures found { IfOk result (λ o. IfSome o
+        (λ r. StatementStands (written_statement r.0) (lexemes words.now) (lexemes r.1.now))) }
+    ensures only { (x : WrittenStatement) (more : List Lexeme)
+        → StatementStands x (lexemes words.now) more
+        → IfOk result (λ o. IsSomeAnd o (λ r. (written_statement r.0 ≡ x)
+        × (lexemes r.1.now ≡ more))) }
 {
     let Some((statement, more)) = statement_at(alloc, words)? else {
         return Ok(None);
@@ -156,15 +169,18 @@ fn ungrammatical(words: &[Token]) -> MoveFault
     }
 }
 
-/// The statements that words are, each with the Stops behind it.
+/// The statements that words are, each with the periods behind it.
 ///
 /// # Errors
 ///
 /// The words are no statements, or memory was refused.
 fn ended_statements(alloc: Global, words: &[Token]) -> Result<Vec<Statement<'_>>, MoveFault>
-    ensures found { IfOk result (λ v. Several IsEndedStatement (written_statements v.items) (lexemes words.now)) }
-    ensures only { (ss : List WrittenStatement) → Several IsEndedStatement ss (lexemes words.now) → IfOk result (λ v. written_statements v.items ≡ ss) }
-    ensures fault { IfErr result (λ f. (f.rule ≡ MoveRule.Memory) ⊎ ((f.rule ≡ MoveRule.Grammar) × ((ss : List WrittenStatement) → Several IsEndedStatement ss (lexemes words.now) → ⊥))) }
+    ensures found { IfOk result
+        (λ v. Several IsEndedStatement (written_statements v.items) (lexemes words.now)) }
+    ensures only { (ss : List WrittenStatement) → Several IsEndedStatement ss (lexemes words.now)
+        → IfOk result (λ v. written_statements v.items ≡ ss) }
+    ensures fault { IfErr result (λ f. (f.rule ≡ MoveRule.Memory) ⊎ ((f.rule ≡ MoveRule.Grammar)
+        × ((ss : List WrittenStatement) → Several IsEndedStatement ss (lexemes words.now) → ⊥))) }
     ensures line { IfErr result (λ f. IsLineIn f.rule f.line (lexemes words.now)) }
 {
     let mut statements = Vec::new(alloc);
@@ -179,10 +195,12 @@ fn ended_statements(alloc: Global, words: &[Token]) -> Result<Vec<Statement<'_>>
     Ok(statements)
 }
 
-/// The words behind a name and a Stop.
+/// The words behind a name and a period.
 fn heading_at(words: &[Token]) -> Option<&[Token]>
-    ensures found { IfSome result (λ r. (name stop : Lexeme) × IsNameWord name × IsPeriod stop × (lexemes words.now ≡ name ∷ (stop ∷ lexemes r.now))) }
-    ensures only { (name stop : Lexeme) (more : List Lexeme) → IsNameWord name → IsPeriod stop → lexemes words.now ≡ name ∷ (stop ∷ more) → IsSomeAnd result (λ r. lexemes r.now ≡ more) }
+    ensures found { IfSome result (λ r. (name stop : Lexeme) × IsNameWord name × IsPeriod stop
+        × (lexemes words.now ≡ name ∷ (stop ∷ lexemes r.now))) }
+    ensures only { (name stop : Lexeme) (more : List Lexeme) → IsNameWord name → IsPeriod stop
+        → lexemes words.now ≡ name ∷ (stop ∷ more) → IsSomeAnd result (λ r. lexemes r.now ≡ more) }
 {
     let (first, named) = words.split_first()?;
     if !is_name_word(first) {
@@ -192,10 +210,11 @@ fn heading_at(words: &[Token]) -> Option<&[Token]>
     Some(more)
 }
 
-/// The words behind the paragraph's name and its Stop, if they come first.
+/// The words behind the paragraph's name and its period, if they come first.
 fn behind_heading(words: &[Token]) -> &[Token]
     ensures found { IsBody (lexemes words.now) (lexemes result.now) }
-    ensures only { (ws more : List Lexeme) → IsHeading ws → NoName more → lexemes words.now ≡ ws ++ more → lexemes result.now ≡ more }
+    ensures only { (ws more : List Lexeme) → IsHeading ws → NoName more
+        → lexemes words.now ≡ ws ++ more → lexemes result.now ≡ more }
 {
     match heading_at(words) {
         Some(more) => more,
@@ -210,11 +229,15 @@ fn behind_heading(words: &[Token]) -> &[Token]
 /// The words are no paragraph, or memory was refused.
 pub fn statements(alloc: Global, words: &[Token]) -> Result<Vec<Statement<'_>>, MoveFault>
     // What is read is what the words say.
-    ensures found { IfOk result (λ v. IsParagraph (lexemes words.now) (written_statements v.items)) }
+    ensures found { IfOk result
+        (λ v. IsParagraph (lexemes words.now) (written_statements v.items)) }
     // The words of a paragraph are read, memory aside, and mean nothing else.
-    ensures only { (ss : List WrittenStatement) → IsParagraph (lexemes words.now) ss → IfOk result (λ v. written_statements v.items ≡ ss) × IfErr result (λ f. f.rule ≡ MoveRule.Memory) }
+    ensures only { (ss : List WrittenStatement) → IsParagraph (lexemes words.now) ss
+        → IfOk result (λ v. written_statements v.items ≡ ss)
+        × IfErr result (λ f. f.rule ≡ MoveRule.Memory) }
     // A refusal is for want of memory, or the words are no paragraph.
-    ensures fault { IfErr result (λ f. (f.rule ≡ MoveRule.Memory) ⊎ ((f.rule ≡ MoveRule.Grammar) × ((ss : List WrittenStatement) → IsParagraph (lexemes words.now) ss → ⊥))) }
+    ensures fault { IfErr result (λ f. (f.rule ≡ MoveRule.Memory) ⊎ ((f.rule ≡ MoveRule.Grammar)
+        × ((ss : List WrittenStatement) → IsParagraph (lexemes words.now) ss → ⊥))) }
     // It names the line where no statement begins, 1 where no word is left there, and 0 for memory.
     ensures line { IfErr result (λ f. IsLineOf f.rule f.line (lexemes words.now)) }
 {

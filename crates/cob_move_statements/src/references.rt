@@ -14,8 +14,10 @@ use std::alloc::{AllocError, Global};
 
 /// The name in front, and what is behind it.
 fn name_at(words: &[Token]) -> Option<(&[u8], &[Token])>
-    ensures found { IfSome result (λ r. (w : Lexeme) × IsNameWord w × (w.text ≡ r.0.now) × (lexemes words.now ≡ w ∷ lexemes r.1.now)) }
-    ensures only { (w : Lexeme) (more : List Lexeme) → IsNameWord w → lexemes words.now ≡ w ∷ more → IsSomeAnd result (λ r. (r.0.now ≡ w.text) × (lexemes r.1.now ≡ more)) }
+    ensures found { IfSome result (λ r. (w : Lexeme) × IsNameWord w × (w.text ≡ r.0.now)
+        × (lexemes words.now ≡ w ∷ lexemes r.1.now)) }
+    ensures only { (w : Lexeme) (more : List Lexeme) → IsNameWord w → lexemes words.now ≡ w ∷ more
+        → IsSomeAnd result (λ r. (r.0.now ≡ w.text) × (lexemes r.1.now ≡ more)) }
 {
     let (first, more) = words.split_first()?;
     if !is_name_word(first) {
@@ -26,8 +28,10 @@ fn name_at(words: &[Token]) -> Option<(&[u8], &[Token])>
 
 /// The reference in front, and what is behind it.
 pub fn reference_at(words: &[Token]) -> Option<(Reference<'_>, &[Token])>
-    ensures found { IfSome result (λ r. (ws : List Lexeme) × IsReference (written_reference r.0) ws × (lexemes words.now ≡ ws ++ lexemes r.1.now)) }
-    ensures only { (x : WrittenReference) (ws more : List Lexeme) → IsReference x ws → NotFirst term.Of more → NotFirst term.OpenBracket more → lexemes words.now ≡ ws ++ more
+    ensures found { IfSome result (λ r. (ws : List Lexeme)
+        × IsReference (written_reference r.0) ws × (lexemes words.now ≡ ws ++ lexemes r.1.now)) }
+    ensures only { (x : WrittenReference) (ws more : List Lexeme) → IsReference x ws
+        → NotFirst term.Of more → NotFirst term.OpenBracket more → lexemes words.now ≡ ws ++ more
         → IsSomeAnd result (λ r. (written_reference r.0 ≡ x) × (lexemes r.1.now ≡ more)) }
 {
     let (name, named) = name_at(words)?;
@@ -52,8 +56,11 @@ pub fn references_at<'a>(
     alloc: Global,
     words: &'a [Token],
 ) -> Result<(Vec<Reference<'a>>, &'a [Token]), AllocError>
-    ensures found { IfOk result (λ r. (ws : List Lexeme) × Several IsReference (written_references r.0.items) ws × (lexemes words.now ≡ ws ++ lexemes r.1.now)) }
-    ensures only { (xs : List WrittenReference) (ws more : List Lexeme) → Several IsReference xs ws → EndsReferences more → lexemes words.now ≡ ws ++ more
+    ensures found { IfOk result (λ r. (ws : List Lexeme)
+        × Several IsReference (written_references r.0.items) ws
+        × (lexemes words.now ≡ ws ++ lexemes r.1.now)) }
+    ensures only { (xs : List WrittenReference) (ws more : List Lexeme)
+        → Several IsReference xs ws → EndsReferences more → lexemes words.now ≡ ws ++ more
         → IfOk result (λ r. (written_references r.0.items ≡ xs) × (lexemes r.1.now ≡ more)) }
 {
     let mut references = Vec::new(alloc);

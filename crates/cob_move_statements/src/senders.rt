@@ -27,8 +27,10 @@ fn begins_with_name(words: &[Token]) -> bool
 /// The entry in front that is sent, and what is behind it.
 fn sent_entry_at(words: &[Token]) -> Option<(StatementSender<'_>, &[Token])>
     requires { NameFirst (lexemes words.now) }
-    ensures found { IfSome result (λ r. (ws : List Lexeme) × IsWrittenSender (written_sender r.0) ws × (lexemes words.now ≡ ws ++ lexemes r.1.now)) }
-    ensures only { (x : WrittenSender) (ws more : List Lexeme) → IsWrittenSender x ws → NotFirst term.Of more → NotFirst term.OpenBracket more → lexemes words.now ≡ ws ++ more
+    ensures found { IfSome result (λ r. (ws : List Lexeme)
+        × IsWrittenSender (written_sender r.0) ws × (lexemes words.now ≡ ws ++ lexemes r.1.now)) }
+    ensures only { (x : WrittenSender) (ws more : List Lexeme) → IsWrittenSender x ws
+        → NotFirst term.Of more → NotFirst term.OpenBracket more → lexemes words.now ≡ ws ++ more
         → IsSomeAnd result (λ r. (written_sender r.0 ≡ x) × (lexemes r.1.now ≡ more)) }
 {
     let (reference, more) = reference_at(words)?;
@@ -49,8 +51,10 @@ fn is_literal_or_figurative(constant: &Constant<'_>) -> bool
 /// The constant in front that is sent, and what is behind it.
 fn sent_constant_at(words: &[Token]) -> Option<(StatementSender<'_>, &[Token])>
     requires { NoName (lexemes words.now) }
-    ensures found { IfSome result (λ r. (ws : List Lexeme) × IsWrittenSender (written_sender r.0) ws × (lexemes words.now ≡ ws ++ lexemes r.1.now)) }
-    ensures only { (x : WrittenSender) (ws more : List Lexeme) → IsWrittenSender x ws → NotFirst term.Of more → NotFirst term.OpenBracket more → lexemes words.now ≡ ws ++ more
+    ensures found { IfSome result (λ r. (ws : List Lexeme)
+        × IsWrittenSender (written_sender r.0) ws × (lexemes words.now ≡ ws ++ lexemes r.1.now)) }
+    ensures only { (x : WrittenSender) (ws more : List Lexeme) → IsWrittenSender x ws
+        → NotFirst term.Of more → NotFirst term.OpenBracket more → lexemes words.now ≡ ws ++ more
         → IsSomeAnd result (λ r. (written_sender r.0 ≡ x) × (lexemes r.1.now ≡ more)) }
 {
     let (constant, more) = constant_at(words)?;
@@ -62,8 +66,10 @@ fn sent_constant_at(words: &[Token]) -> Option<(StatementSender<'_>, &[Token])>
 
 /// The sender in front, and what is behind it.
 pub fn sender_at(words: &[Token]) -> Option<(StatementSender<'_>, &[Token])>
-    ensures found { IfSome result (λ r. (ws : List Lexeme) × IsWrittenSender (written_sender r.0) ws × (lexemes words.now ≡ ws ++ lexemes r.1.now)) }
-    ensures only { (x : WrittenSender) (ws more : List Lexeme) → IsWrittenSender x ws → NotFirst term.Of more → NotFirst term.OpenBracket more → lexemes words.now ≡ ws ++ more
+    ensures found { IfSome result (λ r. (ws : List Lexeme)
+        × IsWrittenSender (written_sender r.0) ws × (lexemes words.now ≡ ws ++ lexemes r.1.now)) }
+    ensures only { (x : WrittenSender) (ws more : List Lexeme) → IsWrittenSender x ws
+        → NotFirst term.Of more → NotFirst term.OpenBracket more → lexemes words.now ≡ ws ++ more
         → IsSomeAnd result (λ r. (written_sender r.0 ≡ x) × (lexemes r.1.now ≡ more)) }
 {
     if begins_with_name(words) {
@@ -75,8 +81,11 @@ pub fn sender_at(words: &[Token]) -> Option<(StatementSender<'_>, &[Token])>
 
 /// The sender in front of TO, and what is behind TO.
 pub fn sender_to_at(words: &[Token]) -> Option<(StatementSender<'_>, &[Token])>
-    ensures found { IfSome result (λ r. (ws : List Lexeme) × (to : Lexeme) × IsWrittenSender (written_sender r.0) ws × (term_of to ≡ term.To) × (lexemes words.now ≡ ws ++ to ∷ lexemes r.1.now)) }
-    ensures only { (x : WrittenSender) (ws more : List Lexeme) (to : Lexeme) → IsWrittenSender x ws → term_of to ≡ term.To → lexemes words.now ≡ ws ++ to ∷ more
+    ensures found { IfSome result (λ r. (ws : List Lexeme) × (to : Lexeme)
+        × IsWrittenSender (written_sender r.0) ws × (term_of to ≡ term.To)
+        × (lexemes words.now ≡ ws ++ to ∷ lexemes r.1.now)) }
+    ensures only { (x : WrittenSender) (ws more : List Lexeme) (to : Lexeme)
+        → IsWrittenSender x ws → term_of to ≡ term.To → lexemes words.now ≡ ws ++ to ∷ more
         → IsSomeAnd result (λ r. (written_sender r.0 ≡ x) × (lexemes r.1.now ≡ more)) }
 {
     let (sender, rest) = sender_at(words)?;
@@ -86,8 +95,11 @@ pub fn sender_to_at(words: &[Token]) -> Option<(StatementSender<'_>, &[Token])>
 
 /// The reference in front of TO, and what is behind TO.
 pub fn reference_to_at(words: &[Token]) -> Option<(Reference<'_>, &[Token])>
-    ensures found { IfSome result (λ r. (ws : List Lexeme) × (to : Lexeme) × IsReference (written_reference r.0) ws × (term_of to ≡ term.To) × (lexemes words.now ≡ ws ++ to ∷ lexemes r.1.now)) }
-    ensures only { (x : WrittenReference) (ws more : List Lexeme) (to : Lexeme) → IsReference x ws → term_of to ≡ term.To → lexemes words.now ≡ ws ++ to ∷ more
+    ensures found { IfSome result (λ r. (ws : List Lexeme) × (to : Lexeme)
+        × IsReference (written_reference r.0) ws × (term_of to ≡ term.To)
+        × (lexemes words.now ≡ ws ++ to ∷ lexemes r.1.now)) }
+    ensures only { (x : WrittenReference) (ws more : List Lexeme) (to : Lexeme) → IsReference x ws
+        → term_of to ≡ term.To → lexemes words.now ≡ ws ++ to ∷ more
         → IsSomeAnd result (λ r. (written_reference r.0 ≡ x) × (lexemes r.1.now ≡ more)) }
 {
     let (reference, rest) = reference_at(words)?;

@@ -32,8 +32,10 @@ fn is_numeral(token: &Token) -> bool
 
 /// The words behind the one in front, if that is of digits.
 fn behind_numeral(words: &[Token]) -> Option<&[Token]>
-    ensures found { IfSome result (λ r. (w : Lexeme) × IsNumeral w × (lexemes words.now ≡ w ∷ lexemes r.now)) }
-    ensures only { (w : Lexeme) (more : List Lexeme) → IsNumeral w → lexemes words.now ≡ w ∷ more → IsSomeAnd result (λ r. lexemes r.now ≡ more) }
+    ensures found { IfSome result (λ r. (w : Lexeme) × IsNumeral w
+        × (lexemes words.now ≡ w ∷ lexemes r.now)) }
+    ensures only { (w : Lexeme) (more : List Lexeme) → IsNumeral w → lexemes words.now ≡ w ∷ more
+        → IsSomeAnd result (λ r. lexemes r.now ≡ more) }
 {
     let (first, more) = words.split_first()?;
     if !is_numeral(first) {
@@ -45,7 +47,8 @@ fn behind_numeral(words: &[Token]) -> Option<&[Token]>
 /// The words without this many at the end.
 fn front(words: &[Token], behind: usize) -> &[Token]
     requires { behind ≤ length words.now }
-    ensures { (done more : List Lexeme) → lexemes words.now ≡ done ++ more → length more ≡ behind → lexemes result.now ≡ done }
+    ensures { (done more : List Lexeme) → lexemes words.now ≡ done ++ more → length more ≡ behind
+        → lexemes result.now ≡ done }
 {
     &words[..words.len() - behind]
 }
@@ -54,7 +57,9 @@ fn front(words: &[Token], behind: usize) -> &[Token]
 fn numerals_at(words: &[Token]) -> (&[Token], &[Token])
     ensures are { AllByRecursion IsNumeral (lexemes result.0.now) }
     ensures found { lexemes words.now ≡ lexemes result.0.now ++ lexemes result.1.now }
-    ensures only { (ns more : List Lexeme) → AllByRecursion IsNumeral ns → NotFirst term.Plain more → lexemes words.now ≡ ns ++ more → (lexemes result.0.now ≡ ns) × (lexemes result.1.now ≡ more) }
+    ensures only { (ns more : List Lexeme) → AllByRecursion IsNumeral ns
+        → NotFirst term.Plain more → lexemes words.now ≡ ns ++ more
+        → (lexemes result.0.now ≡ ns) × (lexemes result.1.now ≡ more) }
 {
     let mut rest = words;
     while let Some(more) = behind_numeral(rest) {
@@ -65,8 +70,12 @@ fn numerals_at(words: &[Token]) -> (&[Token], &[Token])
 
 /// The words between the brackets in front, and what is behind them.
 fn bracketed_at(words: &[Token]) -> Option<(&[Token], &[Token])>
-    ensures found { IfSome result (λ r. (before after : Lexeme) × IsBracketed before after (lexemes r.0.now) × (lexemes words.now ≡ before ∷ (lexemes r.0.now ++ after ∷ lexemes r.1.now))) }
-    ensures only { (before after : Lexeme) (ns more : List Lexeme) → IsBracketed before after ns → lexemes words.now ≡ before ∷ (ns ++ after ∷ more) → IsSomeAnd result (λ r. (lexemes r.0.now ≡ ns) × (lexemes r.1.now ≡ more)) }
+    ensures found { IfSome result (λ r. (before after : Lexeme)
+        × IsBracketed before after (lexemes r.0.now)
+        × (lexemes words.now ≡ before ∷ (lexemes r.0.now ++ after ∷ lexemes r.1.now))) }
+    ensures only { (before after : Lexeme) (ns more : List Lexeme) → IsBracketed before after ns
+        → lexemes words.now ≡ before ∷ (ns ++ after ∷ more)
+        → IsSomeAnd result (λ r. (lexemes r.0.now ≡ ns) × (lexemes r.1.now ≡ more)) }
 {
     let inside = behind(words, Term::OpenBracket)?;
     let (numbers, rest) = numerals_at(inside);
@@ -79,8 +88,12 @@ fn bracketed_at(words: &[Token]) -> Option<(&[Token], &[Token])>
 
 /// The subscripts in front, or none, and what is behind them.
 pub fn subscripts_at(words: &[Token]) -> Option<(&[Token], &[Token])>
-    ensures found { IfSome result (λ r. (ws : List Lexeme) × AreSubscripts (word_texts (lexemes r.0.now)) ws × (lexemes words.now ≡ ws ++ lexemes r.1.now)) }
-    ensures only { (ts : List (List ℕ)) (ws more : List Lexeme) → AreSubscripts ts ws → NotFirst term.OpenBracket more → lexemes words.now ≡ ws ++ more → IsSomeAnd result (λ r. (word_texts (lexemes r.0.now) ≡ ts) × (lexemes r.1.now ≡ more)) }
+    ensures found { IfSome result (λ r. (ws : List Lexeme)
+        × AreSubscripts (word_texts (lexemes r.0.now)) ws
+        × (lexemes words.now ≡ ws ++ lexemes r.1.now)) }
+    ensures only { (ts : List (List ℕ)) (ws more : List Lexeme) → AreSubscripts ts ws
+        → NotFirst term.OpenBracket more → lexemes words.now ≡ ws ++ more
+        → IsSomeAnd result (λ r. (word_texts (lexemes r.0.now) ≡ ts) × (lexemes r.1.now ≡ more)) }
 {
     match words.split_first() {
         Some((first, _)) if is_term(first, Term::OpenBracket) => bracketed_at(words),

@@ -1,0 +1,4 @@
+pub mod PlaceLemmas
+pub mod ReceiverLemmas
+pub mod MoveLemmas
+pub mod OneLemmas

@@ -1,0 +1,53 @@
+-- Where operands stand.
+use Rattle.std.proofs.Common.{◌≡◌, ℕ, ◌==◌, Bool, true, false, List, refl, sym, ap, subst, ◌∙◌, Option, Some, None, Ok}
+use Rattle.std.specs.Prelude.{option_map}
+use Rattle.cob_copybook_tree.specs.declared.node.Item.{Item}
+use Rattle.cob_copybook_tree.specs.declared.node.Kind.{Kind}
+use Rattle.cob_copybook_tree.specs.declared.node.Kind.TheVariants.{Group, Item as ItemKind}
+use Rattle.cob_copybook_tree.specs.Forests.{Forest, Bare, Grows, Tree}
+use Rattle.cob_copybook_tree.specs.Nodes.{Resolved}
+use Rattle.cob_copybook_tree.specs.Lengths.{item_size}
+use Rattle.cob_fields.specs.declared.Place.{Place}
+use Rattle.cob_layout_places.specs.Lengths.{alone, times}
+use Rattle.cob_layout_places.specs.Places.{find, find_one, or_else, choose}
+use Rattle.cob_layout_places.specs.Counts.{kind_in, kind_one}
+use Rattle.cob_layout_places.proofs.CountLemmas.{found_size, pairs_one}
+use Rattle.cob_layout.specs.Placed.{placed}
+use Rattle.cob_layout.proofs.ReferenceLemmas.{find_alone}
+use Rattle.cob_layout.proofs.StorageLemmas.{found_by}
+use Rattle.cob_sound.specs.Sound.{IsSound, IsStorableKind, AreStorable}
+use Rattle.cob_move_receive.specs.Sent.{Occupies}
+
+-- ---- an entry's item can be stored
+
+storable_or : (o p : Option Kind) (k : Kind) → ((k : Kind) → o ≡ Some k → IsStorableKind k) → ((k : Kind) → p ≡ Some k → IsStorableKind k) → or_else o p ≡ Some k → IsStorableKind k
+storable_or None p k h j e = j k e
+storable_or (Some q) p k h j e = h k e
+
+storable_choose : (b : Bool) (q : Kind) (o : Option Kind) (k : Kind) → IsStorableKind q → ((k : Kind) → o ≡ Some k → IsStorableKind k) → choose b q o ≡ Some k → IsStorableKind k
+storable_choose true q o k s h e = let same : q ≡ k = cc in subst IsStorableKind same s
+storable_choose false q o k s h e = h k e
+
+storable_in : (number : ℕ) (f : Forest Resolved) → AreStorable f → (k : Kind) → kind_in number f ≡ Some k → IsStorableKind k
+storable_in number Bare s k e = cc
+storable_in number (Grows e kids more) s k is =
+    storable_or (choose (e.number == number) e.kind (kind_in number kids)) (kind_in number more) k
+    (λ q. storable_choose (e.number == number) e.kind (kind_in number kids) q s.0 (storable_in number kids s.1))
+    (storable_in number more s.2) is
+
+storable : (number : ℕ) (t : Tree Resolved) → AreStorable (alone t) → (k : Kind) → kind_one number t ≡ Some k → IsStorableKind k
+storable number t s k is = storable_choose (t.top.number == number) t.top.kind (kind_in number t.beneath) k s.0 (storable_in number t.beneath s.1) is
+
+-- ---- what is found has the item's length
+
+filled_by : (k : Kind) (n : ℕ) → IsStorableKind k → ((i : Item) → k ≡ ItemKind i → n ≡ item_size i) → Occupies k n
+filled_by Group n s h = tt
+filled_by (ItemKind i) n s h = (h i refl, s)
+
+pub filled : (t : Tree Resolved) (number : ℕ) (counts subscripts : List ℕ) (k : Kind) (p : Place) → IsSound t → kind_one number t ≡ Some k
+    → option_map placed (find (times counts) number (alone t) 0 0 subscripts) ≡ Some (Ok p) → Occupies k p.length
+filled t number counts subscripts k p sound is stands =
+    let (f, found, there, offset, size) = found_by (find (times counts) number (alone t) 0 0 subscripts) p stands in
+    filled_by k p.length (storable number t sound.storable k is)
+    (λ i item. size ∙ found_size (kind_one number t) (find_one (times counts) number t 0 subscripts) i f (pairs_one (times counts) number t 0 subscripts)
+    (is ∙ ap (λ (q : Kind). Some q) item) (sym (find_alone (times counts) number t subscripts) ∙ found))

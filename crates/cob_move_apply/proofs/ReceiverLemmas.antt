@@ -1,0 +1,131 @@
+-- Receivers, one after another.
+use Rattle.std.proofs.Common.{◌≡◌, ℕ, ◌+◌, ◌-◌, ◌<◌, ◌≤◌, Bool, true, false, List, ◌∷◌, ◌++◌, length, get_or, take, drop, refl, sym, ap, subst, ◌∙◌, arith, inl, inr, Ok, Err}
+use Rattle.std.proofs.lemmas.List.{drop_more, drop_all, length-take, length-drop}
+use Rattle.std.specs.List.{AllByRecursion}
+use borrow.Rule.Slice.PartMut.{put_mid}
+use Rattle.cob_copybook_tree.specs.declared.node.Kind.{Kind}
+use Rattle.cob_copybook_tree.specs.Forests.{Tree}
+use Rattle.cob_copybook_tree.specs.Nodes.{Resolved}
+use Rattle.cob_copybook_entries.specs.Described.{Constant}
+use Rattle.cob_fields.specs.declared.Place.{Place}
+use Rattle.cob_fields.specs.Fields.{with_field}
+use Rattle.cob_move_receive.specs.Received.{Received, outcome}
+use Rattle.cob_move_operands.specs.declared.Side.TheVariants.{Out}
+use Rattle.cob_move_apply.specs.declared.stop.StopCause.TheVariants.{NoValue}
+use Rattle.cob_move_operands.specs.declared.Operand.{Operand}
+use Rattle.cob_move_apply.specs.declared.stop.Stop.{Stop}
+use Rattle.cob_move_operands.specs.declared.Side.{Side}
+use Rattle.cob_move_receive.specs.Sent as sent
+use Rattle.cob_move_receive.specs.Sent.{Occupies}
+use Rattle.cob_fields.specs.Fields.{field_of}
+use Rattle.cob_move_operands.specs.Moves.{Sender, Entry, Literal, Move, Records, record_of}
+use Rattle.cob_move_apply.specs.Located.{Located, stop_at}
+use Rattle.cob_move_apply.specs.Applied.{Applied, IsMoved, storage_of, AllGet, Content, Ending, Gets, done, stopped}
+
+-- what a write to a place's bytes leaves
+pub put_is : (place : Place) (received storage : List ℕ) → put_mid place.offset (place.offset + place.length - place.offset) storage received ≡ with_field storage place received
+put_is place received storage =
+    ap (λ n. take place.offset storage ++ (received ++ drop n (drop place.offset storage))) (back place.offset place.length)
+  where
+    back : (m n : ℕ) → m + n - m ≡ n
+    back m n = omega arith
+
+-- a receiver got it
+pub got : (t : Tree Resolved) (content : Content) (o : Operand) (before bytes : List ℕ) (p : Place) (n : ℕ) (b : Bool) → Located Out t true o before (Ok p) → n ≡ p.length → b ≡ true
+    → Received content.sent o.kind n (outcome b bytes) → Gets t content o before (Ok (put_mid p.offset (p.offset + p.length - p.offset) before bytes))
+got t content o before bytes p n b at size there h =
+    let Receives : ℕ → Bool → Type 0 = λ m x. Received content.sent o.kind m (outcome x bytes) in
+    (p, bytes, at, subst (λ (m : ℕ). Receives m true) size (subst (λ (x : Bool). Receives n x) there h), put_is p bytes before)
+
+-- a value is missing
+pub lacks : (t : Tree Resolved) (content : Content) (o : Operand) (before bytes : List ℕ) (p : Place) (n : ℕ) (b : Bool) → Located Out t true o before (Ok p) → n ≡ p.length → b ≡ false
+    → Received content.sent o.kind n (outcome b bytes) → Gets t content o before (Err (stop_at content.side content.offset NoValue))
+lacks t content o before bytes p n b at size no_value h =
+    let Receives : ℕ → Bool → Type 0 = λ m x. Received content.sent o.kind m (outcome x bytes) in
+    inr (p, at, subst (λ (m : ℕ). Receives m false) size (subst (λ (x : Bool). Receives n x) no_value h), refl)
+
+-- ---- one after another
+
+pub next : {A : Type 0} (xs : List A) (i : ℕ) (x : A) → i < length xs → x ≡ get_or xs i x → drop i xs ≡ x ∷ drop (i + 1) xs
+next xs i x lt is = drop_more xs i x lt ∙ ap (λ y. y ∷ drop (i + 1) xs) (sym is)
+
+pub left_first : {A : Type 0} (P : A → Type 0) (xs : List A) (i : ℕ) (x : A) → i < length xs → x ≡ get_or xs i x → AllByRecursion P (drop i xs) → P x
+left_first {A} P xs i x lt is h = let all = subst (λ (ys : List A). AllByRecursion P ys) (next xs i x lt is) h in all.0
+
+pub left_more : {A : Type 0} (P : A → Type 0) (xs : List A) (i : ℕ) (x : A) → i < length xs → x ≡ get_or xs i x → AllByRecursion P (drop i xs) → AllByRecursion P (drop (i + 1) xs)
+left_more {A} P xs i x lt is h = let all = subst (λ (ys : List A). AllByRecursion P ys) (next xs i x lt is) h in all.1
+
+-- whatever the receivers from place i on make of the storage now, all make of the storage before
+abbrev pub GetsFrom : Tree Resolved → Content → List Operand → ℕ → List ℕ → List ℕ → Type 0
+GetsFrom t content os i before now = (end : Ending) → AllGet t content (drop i os) now end → AllGet t content os before end
+
+pub get_more : (t : Tree Resolved) (content : Content) (os : List Operand) (i : ℕ) (o : Operand) (before now after : List ℕ) → i < length os → o ≡ get_or os i o
+    → GetsFrom t content os i before now → Gets t content o now (Ok after) → GetsFrom t content os (i + 1) before after
+get_more t content os i o before now after lt is so h end rest =
+    so end (subst (λ (xs : List Operand). AllGet t content xs now end) (sym (next os i o lt is)) (inl (after, h, rest)))
+
+pub get_stops : (t : Tree Resolved) (content : Content) (os : List Operand) (i : ℕ) (o : Operand) (before now : List ℕ) (stop : Stop) → i < length os → o ≡ get_or os i o
+    → GetsFrom t content os i before now → Gets t content o now (Err stop) → AllGet t content os before (stopped stop now)
+get_stops t content os i o before now stop lt is so h =
+    so (stopped stop now) (subst (λ (xs : List Operand). AllGet t content xs now (stopped stop now)) (sym (next os i o lt is)) (inr (stop, h, refl)))
+
+pub get_all : (t : Tree Resolved) (content : Content) (os : List Operand) (i : ℕ) (before now : List ℕ) → length os ≤ i → GetsFrom t content os i before now → AllGet t content os before (done now)
+get_all t content os i before now past so = so (done now) (subst (λ (xs : List Operand). AllGet t content xs now (done now)) (sym (drop_all i os past)) refl)
+
+-- ---- one move
+
+-- the bytes of a place within a storage are as many as it has
+pub complete : (k : Kind) (p : Place) (storage bytes : List ℕ) → Occupies k p.length → p.offset + p.length ≤ length storage → bytes ≡ field_of p storage → Occupies k (length bytes)
+complete k p storage bytes filled within is =
+    let long : length bytes ≡ p.length = ap length is ∙ omega (arith, within, length-take p.length (drop p.offset storage), length-drop p.offset storage) in
+    subst (λ (n : ℕ). Occupies k n) (sym long) filled
+
+-- the sender's place is missing
+pub stops_first : (r : Records) (side : Side) (o : Operand) (os : List Operand) (input before : List ℕ) (stop : Stop)
+    → Located side (record_of r side) false o (storage_of side input before) (Err stop)
+    → IsMoved r (record { sender = Entry side o; receivers = os }) input before (stopped stop before)
+stops_first r side o os input before stop at = inr (stop, at, refl)
+
+-- the sender's bytes were taken, and the receivers got them
+pub moved : (r : Records) (side : Side) (o : Operand) (os : List Operand) (input before bytes : List ℕ) (p : Place) (end : Ending)
+    → Located side (record_of r side) false o (storage_of side input before) (Ok p) → bytes ≡ field_of p (storage_of side input before)
+    → AllGet r.output (record { sent = sent.Entry o.kind bytes; side = side; offset = p.offset }) os before end
+    → IsMoved r (record { sender = Entry side o; receivers = os }) input before end
+moved r side o os input before bytes p end at taken h =
+    let content : List ℕ → Content = λ (x : List ℕ). record { sent = sent.Entry o.kind x; side = side; offset = p.offset } in
+    inl (
+      content (field_of p (storage_of side input before)),
+      (p, at, refl),
+      subst (λ (x : List ℕ). AllGet r.output (content x) os before end) taken h,
+    )
+
+-- a constant was given
+pub given : (r : Records) (c : Constant) (os : List Operand) (input before : List ℕ) (end : Ending)
+    → AllGet r.output (record { sent = sent.Literal c; side = Out; offset = 0 }) os before end
+    → IsMoved r (record { sender = Literal c; receivers = os }) input before end
+given r c os input before end h = inl (record { sent = sent.Literal c; side = Out; offset = 0 }, refl, h)
+
+-- a move is known by its sender and its receivers
+pub moved_as : (r : Records) (m : Move) (s : Sender) (os : List Operand) (input before : List ℕ) (end : Ending) → m.sender ≡ s → os ≡ m.receivers
+    → IsMoved r (record { sender = s; receivers = os }) input before end → IsMoved r m input before end
+moved_as r m s os input before end is all h =
+    subst (λ (x : Sender). IsMoved r (record { sender = x; receivers = m.receivers }) input before end) (sym is)
+    (subst (λ (xs : List Operand). IsMoved r (record { sender = s; receivers = xs }) input before end) all h)
+
+-- ---- moves one after another
+
+abbrev pub AppliedFrom : Records → List Move → ℕ → List ℕ → List ℕ → List ℕ → Type 0
+AppliedFrom r ms i input before now = (end : Ending) → Applied r (drop i ms) input now end → Applied r ms input before end
+
+pub apply_more : (r : Records) (ms : List Move) (i : ℕ) (m : Move) (input before now after : List ℕ) → i < length ms → m ≡ get_or ms i m
+    → AppliedFrom r ms i input before now → IsMoved r m input now (done after) → AppliedFrom r ms (i + 1) input before after
+apply_more r ms i m input before now after lt is so h end rest =
+    so end (subst (λ (xs : List Move). Applied r xs input now end) (sym (next ms i m lt is)) (inl (after, h, rest)))
+
+pub apply_stops : (r : Records) (ms : List Move) (i : ℕ) (m : Move) (input before now after : List ℕ) (stop : Stop) → i < length ms → m ≡ get_or ms i m
+    → AppliedFrom r ms i input before now → IsMoved r m input now (stopped stop after) → Applied r ms input before (stopped stop after)
+apply_stops r ms i m input before now after stop lt is so h =
+    so (stopped stop after) (subst (λ (xs : List Move). Applied r xs input now (stopped stop after)) (sym (next ms i m lt is)) (inr (stop, after, h, refl)))
+
+pub apply_all : (r : Records) (ms : List Move) (i : ℕ) (input before now : List ℕ) → length ms ≤ i → AppliedFrom r ms i input before now → Applied r ms input before (done now)
+apply_all r ms i input before now past so = so (done now) (subst (λ (xs : List Move). Applied r xs input now (done now)) (sym (drop_all i ms past)) refl)

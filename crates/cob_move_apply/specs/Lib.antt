@@ -1,0 +1,4 @@
+pub mod Located
+pub mod Applied
+pub mod Room
+pub mod Prepared

@@ -1,0 +1,35 @@
+-- Where an operand stands in a storage, or why it doesn't.
+use Rattle.std.specs.Prelude.{◌≡◌, ◌⊎◌, ℕ, Bool, List, Some, Ok, Err, Result, option_map}
+use Rattle.cob_copybook_tree.specs.Forests.{Tree}
+use Rattle.cob_copybook_tree.specs.Nodes.{Resolved}
+use Rattle.cob_fields.specs.declared.Place.{Place}
+use Rattle.cob_layout_places.specs.declared.counts.CountFault.{CountFault}
+use Rattle.cob_layout_places.specs.Lengths.{alone, times}
+use Rattle.cob_layout_places.specs.Places.{find}
+use Rattle.cob_layout.specs.declared.layout.PlaceFault.{PlaceFault}
+use Rattle.cob_layout.specs.Placed.{placed}
+use Rattle.cob_layout.specs.Counting.{NeededOf}
+use Rattle.cob_move_operands.specs.declared.Side.{Side}
+use Rattle.cob_move_operands.specs.declared.Operand.{Operand}
+use Rattle.cob_move_apply.specs.declared.stop.Stop.{Stop}
+use Rattle.cob_move_apply.specs.declared.stop.StopCause.{StopCause}
+use Rattle.cob_move_apply.specs.declared.stop.StopCause.TheVariants.{Count, Subscript}
+
+-- a stop at these bytes of a record
+abbrev pub stop_at : Side → ℕ → StopCause → Stop
+stop_at side offset cause = record { side = side; offset = offset; cause = cause }
+
+-- under these counts the operand stands there, or would begin there where its element is past its table's count
+abbrev pub StandsAt : Tree Resolved → Operand → List ℕ → Result Place PlaceFault → Type 0
+StandsAt t o counts there =
+    option_map placed (find (times counts) o.entry.node (alone t) 0 0 o.entry.subscripts.items) ≡ Some there
+
+-- An operand's place in a storage, sending or receiving: where it stands under the counts that it needs there. The first of these counts that
+-- isn't valid stops at the count's item; and then a subscript past its table's count stops at the place where the element would begin.
+abbrev pub Located : Side → Tree Resolved → Bool → Operand → List ℕ → Result Place Stop → Type 0
+Located side t receiving o bytes (Ok p) =
+    (counts : List ℕ) × NeededOf t o.entry.node receiving bytes (Ok counts) × StandsAt t o counts (Ok p)
+Located side t receiving o bytes (Err stop) =
+    ((f : CountFault) × NeededOf t o.entry.node receiving bytes (Err f) × (stop ≡ stop_at side f.offset Count))
+    ⊎ ((counts : List ℕ) × (f : PlaceFault) × NeededOf t o.entry.node receiving bytes (Ok counts)
+    × StandsAt t o counts (Err f) × (stop ≡ stop_at side f.offset Subscript))

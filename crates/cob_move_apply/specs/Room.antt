@@ -1,0 +1,16 @@
+-- The room that moves are carried out in.
+use Rattle.std.specs.Prelude.{ℕ}
+use Rattle.cob_copybook_tree.specs.Forests.{entries_in}
+use Rattle.cob_layout_places.specs.Lengths.{alone}
+use Rattle.cob_layout.specs.Storage.{greatest_length}
+use Rattle.cob_move_operands.specs.Moves.{Records}
+
+-- so many counts of either record, and so many bytes of a sender
+pub record Room : Type 0 where
+  pub inputs : ℕ
+  pub outputs : ℕ
+  pub content : ℕ
+
+-- the room for moves between two records: a count for each entry of either, and the bytes of the output record
+abbrev pub room_of : Records → Room
+room_of r = record { inputs = entries_in (alone r.input); outputs = entries_in (alone r.output); content = greatest_length r.output }

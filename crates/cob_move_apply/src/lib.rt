@@ -1,0 +1,29 @@
+//! Moves carried out in order on one record, with their stops (ANSI X3.23-1985, Nucleus: the MOVE statement; IBM Enterprise COBOL for z/OS,
+//! Language Reference, "MOVE statement").
+//!
+//! [`Moves`] are the moves of a paragraph between two records, ready to be carried out. What is promised:
+//!
+//! - [`Moves::new`]: they are the moves that were given, in their order (`made`).
+//! - [`Moves::apply`] makes of the output record's storage what `Applied` of specs/Applied.antt says (`applied`), a stop included, which is
+//!   then the answer: the sender's place and bytes are taken once, as its move begins; each receiver's place is found in the storage as it
+//!   then is, just before it is stored; there the bytes become what `Received` of cob_move_receive says, and all others stay. The first thing
+//!   missing stops the moves, and the storage is as the receivers before it left it: a count that an operand needs (`Count`), an element past
+//!   its table's count (`Subscript`), or a value where the receiver asks for one (`NoValue`). Moves end in one way ([`one_ending`]).
+//!
+//! It stands on cob_move_operands for moves as data, on cob_layout for places and counts, on cob_move_receive for what one receiver gets, and
+//! on cob_sound for what holds of every record. [`Moves::apply`] takes no memory: its room is a [`Scratch`].
+#![tactic(auto)]
+
+mod application;
+mod laws;
+mod moves;
+mod places;
+mod receivers;
+mod scratch;
+mod senders;
+mod stop;
+
+pub use laws::one_ending;
+pub use moves::Moves;
+pub use scratch::Scratch;
+pub use stop::{Stop, StopCause};

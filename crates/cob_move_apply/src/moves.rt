@@ -1,0 +1,87 @@
+//! Moves that are ready to be carried out.
+
+ghost use Rattle.std.specs.Prelude.{◌≡◌, length, map, IfOk};
+ghost use Rattle.cob_layout.specs.Storage.{greatest_length, IsStorage};
+ghost use Rattle.cob_move_operands.specs.Moves.{move, AreMoves};
+ghost use Rattle.cob_move_apply.specs.Applied.{Applied, ending};
+ghost use Rattle.cob_move_apply.specs.Room.{room_of};
+
+use crate::application::apply_in;
+use crate::scratch::Scratch;
+use crate::stop::Stop;
+use cob_layout::Layout;
+use cob_move_operands::Move;
+use cob_sound::records_are_sound;
+use std::alloc::{AllocError, Global};
+
+/// Moves between two records, ready to be carried out.
+#[derive(Debug, Drop)]
+pub struct Moves {
+    pub(crate) steps: Vec<Move>,
+}
+
+impl Moves {
+    ghost use Rattle.cob_move_apply.specs.Prepared.{ArePrepared, moves_of};
+
+    /// Moves between the records of these layouts, made ready.
+    ///
+    /// # Errors
+    ///
+    /// Where no memory is left.
+    pub fn new(
+        alloc: Global,
+        moves: Vec<Move>,
+        input: &Layout,
+        output: &Layout,
+    ) -> Result<Moves, AllocError>
+        requires moves { AreMoves (record { input = input.now; output = output.now })
+            (map move moves.items) }
+        ensures made { IfOk result (λ m. moves_of m ≡ map move moves.items) }
+        ensures prepared { IfOk result
+            (λ m. ArePrepared (record { input = input.now; output = output.now }) m) }
+    {
+        Ok(Moves { steps: moves })
+    }
+
+    /// Carries out the moves in order on the storage of an output record. It takes no memory.
+    ///
+    /// The input is all of a record's storage, or its current part; the output is all of a record's storage. The room is that of
+    /// `Scratch::new` for these layouts.
+    ///
+    /// # Errors
+    ///
+    /// The first thing missing. The storage is as the moves and receivers before left it then.
+    pub fn apply(
+        &self,
+        input_layout: &Layout,
+        output_layout: &Layout,
+        input: &[u8],
+        output: &mut [u8],
+        scratch: &mut Scratch,
+    ) -> Result<(), Stop>
+        requires prepared { ArePrepared
+            (record { input = input_layout.now; output = output_layout.now }) self.now }
+        requires input { IsStorage input_layout.now input.now }
+        requires output { length output.old ≡ greatest_length output_layout.now }
+        requires room { scratch.old ≡ room_of
+            (record { input = input_layout.now; output = output_layout.now }) }
+        ensures applied { Applied (record { input = input_layout.now; output = output_layout.now })
+            (moves_of self.now) input.now output.old (ending result output.new) }
+        ensures room { scratch.new ≡ scratch.old }
+        ensures size { length output.new ≡ length output.old }
+    {
+        records_are_sound();
+        let _ = input_layout.greatest();
+        let _ = output_layout.greatest();
+        apply_in(
+            self.steps.as_slice(),
+            input_layout,
+            output_layout,
+            input,
+            output,
+            scratch.content.as_mut_slice(),
+            &mut scratch.in_counts,
+            &mut scratch.out_counts,
+        )
+    }
+}

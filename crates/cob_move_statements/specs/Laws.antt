@@ -1,0 +1,9 @@
+-- What follows from the definitions, said as laws.
+use Rattle.std.specs.Prelude.{◌≡◌, List}
+use Rattle.cob_source.specs.Tokens.{Lexeme}
+use Rattle.cob_move_statements.specs.Written.{WrittenStatement}
+use Rattle.cob_move_statements.specs.Statements.{IsParagraph}
+
+-- law: the words of a paragraph say its statements in one way
+abbrev pub OneParagraph : Type 0
+OneParagraph = (ws : List Lexeme) (a b : List WrittenStatement) → IsParagraph ws a → IsParagraph ws b → a ≡ b
