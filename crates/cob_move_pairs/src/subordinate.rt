@@ -129,7 +129,7 @@ fn same_path(a: &[&[u8]], b: &[&[u8]]) -> bool
 }
 
 /// Whether an entry is elementary.
-pub(crate) fn is_elementary(kind: &Kind) -> bool
+pub fn is_elementary(kind: &Kind) -> bool
     ensures { result ≡ is_elementary kind.now }
 {
     matches!(kind, Kind::Item(_))
