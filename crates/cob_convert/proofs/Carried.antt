@@ -1,5 +1,5 @@
 -- A run so far, one more record, and its end.
-use Rattle.std.proofs.Common.{◌≡◌, ℕ, ◌+◌, ◌-◌, ◌^◌, ◌<◌, ◌≤◌, List, [], ◌∷◌, ◌++◌, length, take, refl, sym, ◌∙◌, ap, append_assoc, append-nil, arith, inl, inr, min, None, Some, Option, Ok, Err, Result}
+use Rattle.std.proofs.Common.{◌≡◌, ℕ, ◌+◌, ◌-◌, ◌^◌, ◌<◌, ◌≤◌, List, [], ◌∷◌, ◌++◌, length, take, refl, sym, subst, ◌∙◌, ap, append_assoc, append-nil, arith, inl, inr, min, None, Some, Option, Ok, Err, Result}
 use Rattle.std.proofs.lemmas.Grind.{common_steps}
 use Rattle.std.proofs.lemmas.List.Concat.{flat_map-append}
 use Rattle.std.proofs.Math.ListN.{length-append}
@@ -9,31 +9,35 @@ use Rattle.cob_records.specs.Device.{Told, Took}
 use Rattle.cob_records.specs.Frame.{Reads, Puts, framed, IsLength, IsRecord, frame_size, taken_of}
 use Rattle.cob_records.specs.declared.records.Form.{Form}
 use Rattle.cob_records.specs.declared.records.Form.TheVariants.{Fixed, Variable}
-use Rattle.cob_convert.specs.declared.setup.Setup.{Setup}
+use Rattle.cob_convert_record.specs.Conversion.{Conversion, in_length}
 use Rattle.cob_convert.specs.declared.run.RunFault.{RunFault}
-use Rattle.cob_steps.specs.declared.plan.Stop.{Stop}
-use Rattle.cob_steps.specs.declared.plan.Side.{Side}
-use Rattle.cob_steps.specs.declared.plan.Side.TheVariants.{Out}
-use Rattle.cob_steps.specs.declared.plan.StopCause.{StopCause}
-use Rattle.cob_steps.specs.declared.plan.StopCause.TheVariants.{NoValue as StopNoValue, Count as StopCount, Subscript as StopSubscript}
+use Rattle.cob_move_apply.specs.declared.stop.Stop.{Stop}
+use Rattle.cob_move_operands.specs.declared.Side.{Side}
+use Rattle.cob_move_operands.specs.declared.Side.TheVariants.{Out}
+use Rattle.cob_move_apply.specs.declared.stop.StopCause.{StopCause}
+use Rattle.cob_move_apply.specs.declared.stop.StopCause.TheVariants.{NoValue as StopNoValue, Count as StopCount, Subscript as StopSubscript}
 use Rattle.cob_convert.specs.declared.run.Cause.{Cause}
 use Rattle.cob_convert.specs.declared.run.Cause.TheVariants.{Record}
 use Rattle.cob_records.specs.declared.records.RecordFault.{RecordFault}
 use Rattle.cob_records.specs.declared.records.RecordFault.TheVariants.{Truncated, Descriptor, Spanned, Length, ReadFailed, WriteFailed, TookNothing}
-use Rattle.cob_steps.specs.declared.plan.Side.TheVariants.{In}
-use Rattle.cob_convert.specs.declared.setup.Misfit.{Misfit}
-use Rattle.cob_convert.specs.declared.setup.Misfit.TheVariants.{Count as Uncounted, Length as Unfitting}
-use Rattle.cob_convert.specs.Conversion.{in_length, Becomes, StopsAt, IsSized, IsMisfit}
+use Rattle.cob_move_operands.specs.declared.Side.TheVariants.{In}
+use Rattle.cob_convert_record.specs.declared.misfit.Misfit.{Misfit}
+use Rattle.cob_convert_record.specs.declared.misfit.Misfit.TheVariants.{Count as Uncounted, Length as Unfitting}
+use Rattle.cob_convert_record.specs.Sizes.{IsSized, IsMisfit}
+use Rattle.cob_convert_record.specs.Becoming.{Becomes, StopsAt}
+use Rattle.cob_copybook_tree.specs.Forests.{Tree}
+use Rattle.cob_copybook_tree.specs.Nodes.{Resolved}
+use Rattle.cob_layout.specs.Storage.{IsStorage}
 use Rattle.cob_convert.specs.Run.{Ran, Ends, StopsFor, ConversionStops, LayoutStops, offset_from, refusal_from, IsConverted, cause_from, frames_in, frames_out, most_records}
 
 -- n records came, were converted and written; `written` counts their frames' bytes
-pub record Carried (setup : Setup) (n written : ℕ) (r0 r w0 w : Option (List ℕ)) : Type 0 where
+pub record Carried (conversion : Conversion) (n written : ℕ) (r0 r w0 w : Option (List ℕ)) : Type 0 where
   pub pairs : List (List ℕ × List ℕ)
-  pub each : AllByRecursion (IsConverted setup) pairs
+  pub each : AllByRecursion (IsConverted conversion) pairs
   pub count : length pairs ≡ n
-  pub sum : written ≡ min (length (frames_out setup pairs)) (2 ^ 64 - 1)
-  pub consumed : Consumes r0 r (frames_in setup pairs)
-  pub appended : w ≡ append_known w0 (frames_out setup pairs)
+  pub sum : written ≡ min (length (frames_out conversion pairs)) (2 ^ 64 - 1)
+  pub consumed : Consumes r0 r (frames_in conversion pairs)
+  pub appended : w ≡ append_known w0 (frames_out conversion pairs)
 
 consumes_none : (r : Option (List ℕ)) → Consumes r r []
 consumes_none None = tt
@@ -47,8 +51,8 @@ pub append_twice : (a b : List ℕ) (w0 w1 w2 : Option (List ℕ)) → w1 ≡ ap
 append_twice a b None w1 w2 e1 e2 = rw e1 at e2
 append_twice a b (Some xs) w1 w2 e1 e2 = (rw e1 at e2) ∙ ap Some (append_assoc xs a b)
 
-pub start : (setup : Setup) (r w : Option (List ℕ)) → Carried setup 0 0 r r w w
-start setup r w = record {
+pub start : (conversion : Conversion) (r w : Option (List ℕ)) → Carried conversion 0 0 r r w w
+start conversion r w = record {
   pairs = [];
   each = tt;
   count = refl;
@@ -70,61 +74,61 @@ consumes_from a None r t = tt
 consumes_from a (Some xs) None t = absurd t
 consumes_from a (Some xs) (Some ys) t = t
 
-each_more : (setup : Setup) (pairs : List (List ℕ × List ℕ)) (pair : List ℕ × List ℕ) → AllByRecursion (IsConverted setup) pairs
-    → IsConverted setup pair → AllByRecursion (IsConverted setup) (pairs ++ pair ∷ [])
-each_more setup [] pair each one = (one, tt)
-each_more setup (p ∷ pairs) pair each one = (each.0, each_more setup pairs pair each.1 one)
+each_more : (conversion : Conversion) (pairs : List (List ℕ × List ℕ)) (pair : List ℕ × List ℕ) → AllByRecursion (IsConverted conversion) pairs
+    → IsConverted conversion pair → AllByRecursion (IsConverted conversion) (pairs ++ pair ∷ [])
+each_more conversion [] pair each one = (one, tt)
+each_more conversion (p ∷ pairs) pair each one = (each.0, each_more conversion pairs pair each.1 one)
 
 pub length-framed : (form : Form) (body : List ℕ) → length (framed form body) ≡ frame_size form (length body)
 length-framed Fixed body = refl
 length-framed Variable body = grind arith
 
 -- one more record
-pub step : (setup : Setup) (n written size count made : ℕ) (slot room : List ℕ) (r0 r1 r2 w0 w1 w2 : Option (List ℕ))
-    → Carried setup n written r0 r1 w0 w1
-    → Told r1 r2 (Reads setup.in_form (in_length setup) slot (Ok (Some count))) → IsRecord setup.in_form (in_length setup) (take count slot)
-    → IsSized setup (take count slot) → Becomes setup (take count slot) (take made room)
-    → Took w1 w2 (Puts (framed setup.out_form (take made room)) (Ok tt))
-    → size ≡ length (framed setup.out_form (take made room))
-    → Carried setup (n + 1) (min (written + size) (2 ^ 64 - 1)) r0 r2 w0 w2
-step setup n written size count made slot room r0 r1 r2 w0 w1 w2 so_far read whole fits converts (part, is, put) sized =
+pub step : (conversion : Conversion) (n written size count made : ℕ) (slot room : List ℕ) (r0 r1 r2 w0 w1 w2 : Option (List ℕ))
+    → Carried conversion n written r0 r1 w0 w1
+    → Told r1 r2 (Reads conversion.in_form (in_length conversion) slot (Ok (Some count))) → IsRecord conversion.in_form (in_length conversion) (take count slot)
+    → IsSized conversion.in_form conversion.records.input (take count slot) → Becomes conversion (take count slot) (take made room)
+    → Took w1 w2 (Puts (framed conversion.out_form (take made room)) (Ok tt))
+    → size ≡ length (framed conversion.out_form (take made room))
+    → Carried conversion (n + 1) (min (written + size) (2 ^ 64 - 1)) r0 r2 w0 w2
+step conversion n written size count made slot room r0 r1 r2 w0 w1 w2 so_far read whole fits converts (part, is, put) sized =
     let pair : List ℕ × List ℕ = (take count slot, take made room) in
-    let ins : frames_in setup (so_far.pairs ++ pair ∷ []) ≡ frames_in setup so_far.pairs ++ framed setup.in_form (take count slot)
-    = flat_map-append (λ (p : List ℕ × List ℕ). framed setup.in_form p.0) so_far.pairs (pair ∷ []) ∙ ap (λ xs. frames_in setup so_far.pairs ++ xs) (append-nil (framed setup.in_form (take count slot))) in
-    let outs : frames_out setup (so_far.pairs ++ pair ∷ []) ≡ frames_out setup so_far.pairs ++ framed setup.out_form (take made room)
-    = flat_map-append (λ (p : List ℕ × List ℕ). framed setup.out_form p.1) so_far.pairs (pair ∷ []) ∙ ap (λ xs. frames_out setup so_far.pairs ++ xs) (append-nil (framed setup.out_form (take made room))) in
+    let ins : frames_in conversion (so_far.pairs ++ pair ∷ []) ≡ frames_in conversion so_far.pairs ++ framed conversion.in_form (take count slot)
+    = flat_map-append (λ (p : List ℕ × List ℕ). framed conversion.in_form p.0) so_far.pairs (pair ∷ []) ∙ ap (λ xs. frames_in conversion so_far.pairs ++ xs) (append-nil (framed conversion.in_form (take count slot))) in
+    let outs : frames_out conversion (so_far.pairs ++ pair ∷ []) ≡ frames_out conversion so_far.pairs ++ framed conversion.out_form (take made room)
+    = flat_map-append (λ (p : List ℕ × List ℕ). framed conversion.out_form p.1) so_far.pairs (pair ∷ []) ∙ ap (λ xs. frames_out conversion so_far.pairs ++ xs) (append-nil (framed conversion.out_form (take made room))) in
     record {
       pairs = so_far.pairs ++ pair ∷ [];
-      each = each_more setup so_far.pairs pair so_far.each (record { whole = whole; sized = fits; converts = converts });
+      each = each_more conversion so_far.pairs pair so_far.each (record { whole = whole; sized = fits; converts = converts });
       count = omega (arith, length-append so_far.pairs (pair ∷ []), so_far.count);
-      sum = rw outs (omega (arith, length-append (frames_out setup so_far.pairs) (framed setup.out_form (take made room)), so_far.sum, sized));
+      sum = rw outs (omega (arith, length-append (frames_out conversion so_far.pairs) (framed conversion.out_form (take made room)), so_far.sum, sized));
       consumed = consumes_from _ r0 r2 (told_through _ r0 r1 r2 _ _ so_far.consumed read (λ left rest p. rw (ins, p.2) (sym (append_assoc _ _ rest))));
-      appended = append_twice (frames_out setup so_far.pairs) part w0 w1 w2 so_far.appended put
-          ∙ ap (λ xs. append_known w0 xs) (ap (λ xs. frames_out setup so_far.pairs ++ xs) is ∙ sym outs);
+      appended = append_twice (frames_out conversion so_far.pairs) part w0 w1 w2 so_far.appended put
+          ∙ ap (λ xs. append_known w0 xs) (ap (λ xs. frames_out conversion so_far.pairs ++ xs) is ∙ sym outs);
     }
 
 -- the number of records and the written bytes, counted from the list of records
-ends_at : (setup : Setup) (n written count sent : ℕ) (left rest part : List ℕ) (answer : Result ℕ RunFault) → count ≡ n → written ≡ min sent (2 ^ 64 - 1)
-    → Ends setup n written left rest part answer → Ends setup count sent left rest part answer
-ends_at setup n written count sent left rest part (Ok number) e s ends = rw e ends
-ends_at setup n written count sent left rest part (Err fault) e s (number, bytes, stops) =
+ends_at : (conversion : Conversion) (n written count sent : ℕ) (left rest part : List ℕ) (answer : Result ℕ RunFault) → count ≡ n → written ≡ min sent (2 ^ 64 - 1)
+    → Ends conversion n written left rest part answer → Ends conversion count sent left rest part answer
+ends_at conversion n written count sent left rest part (Ok number) e s ends = rw e ends
+ends_at conversion n written count sent left rest part (Err fault) e s (number, bytes, stops) =
     rw e (number, omega (arith, bytes, s), stops)
 
 -- the end of a run
-pub finish : (setup : Setup) (n written : ℕ) (answer : Result ℕ RunFault) (part : List ℕ) (r0 r1 r2 w0 w1 w2 : Option (List ℕ)) (P : List ℕ → List ℕ → Type 0)
-    → Carried setup n written r0 r1 w0 w1 → Told r1 r2 P → w2 ≡ append_known w1 part
-    → ((left rest : List ℕ) → P left rest → Ends setup n written left rest part answer)
-    → Told r0 r2 (λ bytes rest. Ran setup answer bytes rest w0 w2)
-finish setup n written answer part r0 r1 r2 w0 w1 w2 P so_far read put f =
-    told_through (frames_in setup so_far.pairs) r0 r1 r2 P (λ bytes rest. Ran setup answer bytes rest w0 w2) so_far.consumed read
+pub finish : (conversion : Conversion) (n written : ℕ) (answer : Result ℕ RunFault) (part : List ℕ) (r0 r1 r2 w0 w1 w2 : Option (List ℕ)) (P : List ℕ → List ℕ → Type 0)
+    → Carried conversion n written r0 r1 w0 w1 → Told r1 r2 P → w2 ≡ append_known w1 part
+    → ((left rest : List ℕ) → P left rest → Ends conversion n written left rest part answer)
+    → Told r0 r2 (λ bytes rest. Ran conversion answer bytes rest w0 w2)
+finish conversion n written answer part r0 r1 r2 w0 w1 w2 P so_far read put f =
+    told_through (frames_in conversion so_far.pairs) r0 r1 r2 P (λ bytes rest. Ran conversion answer bytes rest w0 w2) so_far.consumed read
     (λ left rest p. record {
       pairs = so_far.pairs;
       left = left;
       part = part;
       frames = refl;
       each = so_far.each;
-      output = append_twice (frames_out setup so_far.pairs) part w0 w1 w2 so_far.appended put;
-      ends = ends_at setup n written (length so_far.pairs) (length (frames_out setup so_far.pairs)) left rest part answer so_far.count so_far.sum (f left rest p);
+      output = append_twice (frames_out conversion so_far.pairs) part w0 w1 w2 so_far.appended put;
+      ends = ends_at conversion n written (length so_far.pairs) (length (frames_out conversion so_far.pairs)) left rest part answer so_far.count so_far.sum (f left rest p);
     })
 
 pub whole_of : (form : Form) (greatest count : ℕ) (slot : List ℕ) → IsLength form greatest count → length slot ≡ greatest
@@ -140,6 +144,16 @@ sized_of form size made room e h =
     let same : length (take made room) ≡ made = grind (arith, common_steps) in
     rw (length-framed form (take made room), same) e
 
+-- a record of its layout is a storage of it
+pub storage_of_sized : (form : Form) (t : Tree Resolved) (input : List ℕ) → IsSized form t input → IsStorage t input
+storage_of_sized Fixed t input sized = inl sized
+storage_of_sized Variable t input sized = inr sized
+
+-- a frame that was put in one form was put in the same
+pub put_in : (form same : Form) (before now : Option (List ℕ)) (body : List ℕ) (answer : Result (Unit {0}) RecordFault) → form ≡ same
+    → Took before now (Puts (framed form body) answer) → Took before now (Puts (framed same body) answer)
+put_in form same before now body answer equal took = subst (λ (f : Form). Took before now (Puts (framed f body) answer)) equal took
+
 -- what was refused says nothing of the caller's slice
 refused_reading : (form : Form) (greatest : ℕ) (slot left rest : List ℕ) (fault : RecordFault) → Reads form greatest slot (Err fault) left rest → Reads form greatest [] (Err fault) left rest
 refused_reading form greatest slot left rest (Truncated seen) reads = reads
@@ -151,54 +165,54 @@ refused_reading form greatest slot left rest (WriteFailed taken) reads = absurd 
 refused_reading form greatest slot left rest (TookNothing taken) reads = absurd reads
 
 -- a run ends where a frame can't be read
-pub read_exit : (setup : Setup) (n written : ℕ) (fault : RecordFault) (slot : List ℕ) (r0 r1 r2 w0 w1 : Option (List ℕ))
-    → Carried setup n written r0 r1 w0 w1 → Told r1 r2 (Reads setup.in_form (in_length setup) slot (Err fault)) → n < most_records
-    → Told r0 r2 (λ bytes rest. Ran setup (Err (record { number = n + 1; side = In; offset = 0; cause = Record fault; written = written })) bytes rest w0 w1)
-read_exit setup n written fault slot r0 r1 r2 w0 w1 so_far read low =
-    finish setup n written (Err (record { number = n + 1; side = In; offset = 0; cause = Record fault; written = written })) []
-    r0 r1 r2 w0 w1 w1 (Reads setup.in_form (in_length setup) slot (Err fault)) so_far read (append_none w1)
-    (λ left rest p. (refl, omega (arith, so_far.sum), (low, inl (refl, (refused_reading setup.in_form (in_length setup) slot left rest fault p, refl)))))
+pub read_exit : (conversion : Conversion) (n written : ℕ) (fault : RecordFault) (slot : List ℕ) (r0 r1 r2 w0 w1 : Option (List ℕ))
+    → Carried conversion n written r0 r1 w0 w1 → Told r1 r2 (Reads conversion.in_form (in_length conversion) slot (Err fault)) → n < most_records
+    → Told r0 r2 (λ bytes rest. Ran conversion (Err (record { number = n + 1; side = In; offset = 0; cause = Record fault; written = written })) bytes rest w0 w1)
+read_exit conversion n written fault slot r0 r1 r2 w0 w1 so_far read low =
+    finish conversion n written (Err (record { number = n + 1; side = In; offset = 0; cause = Record fault; written = written })) []
+    r0 r1 r2 w0 w1 w1 (Reads conversion.in_form (in_length conversion) slot (Err fault)) so_far read (append_none w1)
+    (λ left rest p. (refl, omega (arith, so_far.sum), (low, inl (refl, (refused_reading conversion.in_form (in_length conversion) slot left rest fault p, refl)))))
 
-stops_for : (setup : Setup) (n offset : ℕ) (left rest part : List ℕ) (side : Side) (c : StopCause) → n < most_records
-    → ConversionStops setup left rest part side offset (cause_from c) → StopsFor setup n left rest part side offset (cause_from c)
-stops_for setup n offset left rest part side StopNoValue low stops = (low, inl stops)
-stops_for setup n offset left rest part side StopCount low stops = (low, inl stops)
-stops_for setup n offset left rest part side StopSubscript low stops = (low, inl stops)
+stops_for : (conversion : Conversion) (n offset : ℕ) (left rest part : List ℕ) (side : Side) (c : StopCause) → n < most_records
+    → ConversionStops conversion left rest part side offset (cause_from c) → StopsFor conversion n left rest part side offset (cause_from c)
+stops_for conversion n offset left rest part side StopNoValue low stops = (low, inl stops)
+stops_for conversion n offset left rest part side StopCount low stops = (low, inl stops)
+stops_for conversion n offset left rest part side StopSubscript low stops = (low, inl stops)
 
 -- a run ends where a record's conversion stops
-pub stop_exit : (setup : Setup) (n written count : ℕ) (cause : Cause) (stop : Stop) (slot : List ℕ) (r0 r1 r2 w0 w1 : Option (List ℕ))
-    → Carried setup n written r0 r1 w0 w1
-    → Told r1 r2 (Reads setup.in_form (in_length setup) slot (Ok (Some count))) → IsRecord setup.in_form (in_length setup) (take count slot)
-    → IsSized setup (take count slot) → StopsAt setup (take count slot) stop → cause ≡ cause_from stop.cause → n < most_records
-    → Told r0 r2 (λ bytes rest. Ran setup (Err (record { number = n + 1; side = stop.side; offset = stop.offset; cause = cause; written = written })) bytes rest w0 w1)
-stop_exit setup n written count cause stop slot r0 r1 r2 w0 w1 so_far read whole fits stops e low =
-    rw e (finish setup n written (Err (record { number = n + 1; side = stop.side; offset = stop.offset; cause = cause_from stop.cause; written = written })) []
-    r0 r1 r2 w0 w1 w1 (Reads setup.in_form (in_length setup) slot (Ok (Some count))) so_far read (append_none w1)
+pub stop_exit : (conversion : Conversion) (n written count : ℕ) (cause : Cause) (stop : Stop) (slot : List ℕ) (r0 r1 r2 w0 w1 : Option (List ℕ))
+    → Carried conversion n written r0 r1 w0 w1
+    → Told r1 r2 (Reads conversion.in_form (in_length conversion) slot (Ok (Some count))) → IsRecord conversion.in_form (in_length conversion) (take count slot)
+    → IsSized conversion.in_form conversion.records.input (take count slot) → StopsAt conversion (take count slot) stop → cause ≡ cause_from stop.cause → n < most_records
+    → Told r0 r2 (λ bytes rest. Ran conversion (Err (record { number = n + 1; side = stop.side; offset = stop.offset; cause = cause; written = written })) bytes rest w0 w1)
+stop_exit conversion n written count cause stop slot r0 r1 r2 w0 w1 so_far read whole fits stops e low =
+    rw e (finish conversion n written (Err (record { number = n + 1; side = stop.side; offset = stop.offset; cause = cause_from stop.cause; written = written })) []
+    r0 r1 r2 w0 w1 w1 (Reads conversion.in_form (in_length conversion) slot (Ok (Some count))) so_far read (append_none w1)
     (λ left rest p. (
       refl,
       omega (arith, so_far.sum),
-      stops_for setup n stop.offset left rest [] stop.side stop.cause low
+      stops_for conversion n stop.offset left rest [] stop.side stop.cause low
           (take count slot, stop, whole, p.2, fits, stops, refl, refl, refl, refl),
     )))
 
-layout_stops_for : (setup : Setup) (n offset : ℕ) (left rest part : List ℕ) (side : Side) (why : Misfit) → n < most_records
-    → LayoutStops setup left rest part side offset (refusal_from why) → StopsFor setup n left rest part side offset (refusal_from why)
-layout_stops_for setup n offset left rest part side (Uncounted at) low stops = (low, inr stops)
-layout_stops_for setup n offset left rest part side Unfitting low stops = (low, inr stops)
+layout_stops_for : (conversion : Conversion) (n offset : ℕ) (left rest part : List ℕ) (side : Side) (why : Misfit) → n < most_records
+    → LayoutStops conversion left rest part side offset (refusal_from why) → StopsFor conversion n left rest part side offset (refusal_from why)
+layout_stops_for conversion n offset left rest part side (Uncounted at) low stops = (low, inr stops)
+layout_stops_for conversion n offset left rest part side Unfitting low stops = (low, inr stops)
 
 -- a run ends where a record isn't one of the layout
-pub layout_exit : (setup : Setup) (n written count offset : ℕ) (cause : Cause) (why : Misfit) (slot : List ℕ) (r0 r1 r2 w0 w1 : Option (List ℕ))
-    → Carried setup n written r0 r1 w0 w1
-    → Told r1 r2 (Reads setup.in_form (in_length setup) slot (Ok (Some count))) → IsRecord setup.in_form (in_length setup) (take count slot)
-    → IsMisfit setup (take count slot) why → offset ≡ offset_from why → cause ≡ refusal_from why → n < most_records
-    → Told r0 r2 (λ bytes rest. Ran setup (Err (record { number = n + 1; side = In; offset = offset; cause = cause; written = written })) bytes rest w0 w1)
-layout_exit setup n written count offset cause why slot r0 r1 r2 w0 w1 so_far read whole misfit at e low =
-    rw e (finish setup n written (Err (record { number = n + 1; side = In; offset = offset; cause = refusal_from why; written = written })) []
-    r0 r1 r2 w0 w1 w1 (Reads setup.in_form (in_length setup) slot (Ok (Some count))) so_far read (append_none w1)
+pub layout_exit : (conversion : Conversion) (n written count offset : ℕ) (cause : Cause) (why : Misfit) (slot : List ℕ) (r0 r1 r2 w0 w1 : Option (List ℕ))
+    → Carried conversion n written r0 r1 w0 w1
+    → Told r1 r2 (Reads conversion.in_form (in_length conversion) slot (Ok (Some count))) → IsRecord conversion.in_form (in_length conversion) (take count slot)
+    → IsMisfit conversion.in_form conversion.records.input (take count slot) why → offset ≡ offset_from why → cause ≡ refusal_from why → n < most_records
+    → Told r0 r2 (λ bytes rest. Ran conversion (Err (record { number = n + 1; side = In; offset = offset; cause = cause; written = written })) bytes rest w0 w1)
+layout_exit conversion n written count offset cause why slot r0 r1 r2 w0 w1 so_far read whole misfit at e low =
+    rw e (finish conversion n written (Err (record { number = n + 1; side = In; offset = offset; cause = refusal_from why; written = written })) []
+    r0 r1 r2 w0 w1 w1 (Reads conversion.in_form (in_length conversion) slot (Ok (Some count))) so_far read (append_none w1)
     (λ left rest p. (
       refl,
       omega (arith, so_far.sum),
-      layout_stops_for setup n offset left rest [] In why low
+      layout_stops_for conversion n offset left rest [] In why low
           (take count slot, why, whole, p.2, misfit, refl, at, refl, refl),
     )))
 
@@ -209,16 +223,16 @@ put_size frame part (TookNothing taken) (low, e) = rw e (grind (arith, common_st
 put_size frame part _ p = absurd p
 
 -- a run ends where a frame can't be written
-pub write_exit : (setup : Setup) (n written total count made : ℕ) (fault : RecordFault) (slot room : List ℕ) (r0 r1 r2 w0 w1 w2 : Option (List ℕ))
-    → Carried setup n written r0 r1 w0 w1
-    → Told r1 r2 (Reads setup.in_form (in_length setup) slot (Ok (Some count))) → IsRecord setup.in_form (in_length setup) (take count slot)
-    → IsSized setup (take count slot) → Becomes setup (take count slot) (take made room) → Took w1 w2 (Puts (framed setup.out_form (take made room)) (Err fault))
+pub write_exit : (conversion : Conversion) (n written total count made : ℕ) (fault : RecordFault) (slot room : List ℕ) (r0 r1 r2 w0 w1 w2 : Option (List ℕ))
+    → Carried conversion n written r0 r1 w0 w1
+    → Told r1 r2 (Reads conversion.in_form (in_length conversion) slot (Ok (Some count))) → IsRecord conversion.in_form (in_length conversion) (take count slot)
+    → IsSized conversion.in_form conversion.records.input (take count slot) → Becomes conversion (take count slot) (take made room) → Took w1 w2 (Puts (framed conversion.out_form (take made room)) (Err fault))
     → total ≡ min (written + taken_of fault) (2 ^ 64 - 1) → n < most_records
-    → Told r0 r2 (λ bytes rest. Ran setup (Err (record { number = n + 1; side = Out; offset = 0; cause = Record fault; written = total })) bytes rest w0 w2)
-write_exit setup n written total count made fault slot room r0 r1 r2 w0 w1 w2 so_far read whole fits converts (part, puts, put) sum low =
-    let size : length part ≡ taken_of fault = put_size (framed setup.out_form (take made room)) part fault puts in
-    finish setup n written (Err (record { number = n + 1; side = Out; offset = 0; cause = Record fault; written = total })) part
-    r0 r1 r2 w0 w1 w2 (Reads setup.in_form (in_length setup) slot (Ok (Some count))) so_far read put
+    → Told r0 r2 (λ bytes rest. Ran conversion (Err (record { number = n + 1; side = Out; offset = 0; cause = Record fault; written = total })) bytes rest w0 w2)
+write_exit conversion n written total count made fault slot room r0 r1 r2 w0 w1 w2 so_far read whole fits converts (part, puts, put) sum low =
+    let size : length part ≡ taken_of fault = put_size (framed conversion.out_form (take made room)) part fault puts in
+    finish conversion n written (Err (record { number = n + 1; side = Out; offset = 0; cause = Record fault; written = total })) part
+    r0 r1 r2 w0 w1 w2 (Reads conversion.in_form (in_length conversion) slot (Ok (Some count))) so_far read put
     (λ left rest p. (
       refl,
       omega (arith, sum, size),

@@ -2,4 +2,4 @@ pub mod Carried
 pub mod Digits
 pub mod Headline
 pub mod One
-pub mod Planned
+pub mod Refused

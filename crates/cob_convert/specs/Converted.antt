@@ -2,22 +2,22 @@
 use Rattle.std.specs.Prelude.{◌≡◌, ℕ, false, List, [], ◌++◌, length, Option, Result}
 use Rattle.std.specs.List.{AllByRecursion}
 use Rattle.cob_records.specs.Device.{Took}
-use Rattle.cob_convert.specs.declared.setup.Setup.{Setup}
+use Rattle.cob_convert_record.specs.Conversion.{Conversion}
 use Rattle.cob_convert.specs.declared.run.RunFault.{RunFault}
 use Rattle.cob_convert.specs.Run.{IsConverted, Ends, frames_in, frames_out, is_read_stop, is_write_stop}
 
 -- These bytes are the frames of records, one after another, up to a clean end, a stop or the limit, where the rest is still to
 -- come; what is written are the frames of what these records become; and the answer says how it ended.
-pub record Converted (setup : Setup) (bytes rest written : List ℕ) (answer : Result ℕ RunFault) : Type 0 where
+pub record Converted (conversion : Conversion) (bytes rest written : List ℕ) (answer : Result ℕ RunFault) : Type 0 where
   pub pairs : List (List ℕ × List ℕ)
   pub left : List ℕ
-  pub frames : bytes ≡ frames_in setup pairs ++ left
-  pub each : AllByRecursion (IsConverted setup) pairs
-  pub output : written ≡ frames_out setup pairs
-  pub ends : Ends setup (length pairs) (length (frames_out setup pairs)) left rest [] answer
+  pub frames : bytes ≡ frames_in conversion pairs ++ left
+  pub each : AllByRecursion (IsConverted conversion) pairs
+  pub output : written ≡ frames_out conversion pairs
+  pub ends : Ends conversion (length pairs) (length (frames_out conversion pairs)) left rest [] answer
   pub read : is_read_stop answer ≡ false
   pub wrote : is_write_stop answer ≡ false
 
 -- the sink took the conversion of these bytes, up to the rest
-abbrev pub Writes : Setup → Result ℕ RunFault → List ℕ → List ℕ → Option (List ℕ) → Option (List ℕ) → Type 0
-Writes setup answer bytes rest before now = Took before now (λ written. Converted setup bytes rest written answer)
+abbrev pub Writes : Conversion → Result ℕ RunFault → List ℕ → List ℕ → Option (List ℕ) → Option (List ℕ) → Type 0
+Writes conversion answer bytes rest before now = Took before now (λ written. Converted conversion bytes rest written answer)

@@ -1,95 +1,106 @@
 ghost use Rattle.std.specs.Prelude.{◌≡◌, IfOk, IfErr, vec_len};
 ghost use Rattle.cob_records.specs.Device.{counted, Told};
-ghost use Rattle.cob_steps.specs.Records.{IsConversion, IsSteady};
-ghost use Rattle.cob_thin.specs.Paragraphs.{IsParagraph};
+ghost use Rattle.cob_layout_places.specs.Lengths.{alone};
+ghost use Rattle.cob_convert_record.specs.Conversion.{IsConversion};
+ghost use Rattle.cob_convert.specs.Paragraphs.{IsParagraphOf};
 ghost use Rattle.cob_convert.specs.Unique.{HasBytes};
 ghost use Rattle.cob_convert.specs.Means.{Means, IsMovesRefusal, IsPrepareRefusal};
 
 use crate::books;
 use crate::fault::PrepareFault;
+use crate::paragraph::Paragraph;
 use crate::run::{RunFault, run_over};
-use crate::setup::Setup;
+use cob_convert_record::{Conversion, Room};
 use cob_copybook::Book;
 use cob_layout::Layout;
+use cob_move_apply::Moves;
 use cob_records::{Form, Sink, Source};
-use cob_steps::Plan;
 use std::alloc::{AllocError, Global};
 use std::marker::Model;
 
-/// A prepared conversion, with room for a record of each side.
+/// A prepared conversion, with room for a record of each side and for all that a run needs.
 #[derive(Drop)]
 pub struct Converter {
-    setup: Setup,
+    conversion: Conversion,
     input: Vec<u8>,
     output: Vec<u8>,
+    room: Room,
 }
 
 impl Model for Converter {
     ghost use Rattle.std.specs.Prelude.{◌≡◌, vec_len};
-    ghost use Rattle.cob_steps.specs.Records.{record_length};
-    ghost use Rattle.cob_convert.specs.declared.setup.Setup.{Setup};
-    ghost use Rattle.cob_convert.specs.Conversion.{in_length};
+    ghost use Rattle.cob_convert_record.specs.Rooms.{capacity_for};
+    ghost use Rattle.cob_convert_record.specs.Conversion.{Conversion, in_length, out_length};
     ghost use Rattle.std.specs.Coded.{codes};
-    ghost use Rattle.cob_convert.specs.contracts.setup.Setup as e;
+    ghost use Rattle.cob_convert_record.specs.contracts.conversion.Conversion as e;
 
-    ghost Value = { Setup };
+    ghost Value = { Conversion };
 
     ghost coded = { Prim.hlevel (codes, e.the_row.coded) };
 
-    ghost view = { λ c. c.setup };
+    ghost view = { λ c. c.conversion };
 
-    ghost invariant = { λ c. (vec_len c.input ≡ in_length c.setup) × (vec_len c.output ≡ record_length c.setup.plan.output) };
+    ghost invariant = { λ c. (vec_len c.input ≡ in_length c.conversion) × (vec_len c.output ≡ out_length c.conversion) × (c.room ≡ capacity_for c.conversion.records) };
 }
 
-/// The plan of the moves that a paragraph says between the items of two records in which no table varies.
+/// The conversion that a paragraph says between the records of two books.
 ///
 /// # Errors
 ///
-/// [`PrepareFault::NotYet`] for the paragraph, [`PrepareFault::Memory`].
-#[tactic(auto, using(crate::proofs::Planned::planned))]
-fn plan_of(alloc: Global, moves: &[u8], input: &Book, output: &Book) -> Result<Plan, PrepareFault>
-    requires input { IsSteady input.now }
-    requires output { IsSteady output.now }
-    ensures records { IfOk result (λ plan. (plan.input ≡ input.now) × (plan.output ≡ output.now)) }
-    ensures moves { IfOk result (λ plan. IsParagraph moves.now input.now output.now plan.moves) }
-    ensures plan { IfOk result IsConversion }
-    ensures refused { IfErr result IsMovesRefusal }
+/// [`PrepareFault::Moves`], [`PrepareFault::Memory`].
+#[tactic(auto, using(crate::proofs::Refused::paragraph_refused))]
+fn conversion_of(
+    alloc: Global,
+    in_form: Form,
+    out_form: Form,
+    input: &Book,
+    output: &Book,
+    moves: &[u8],
+) -> Result<Conversion, PrepareFault>
+    ensures forms { IfOk result (λ made. (made.in_form ≡ in_form) × (made.out_form ≡ out_form)) }
+    ensures input { IfOk result (λ made. alone made.records.input ≡ input.now) }
+    ensures output { IfOk result (λ made. alone made.records.output ≡ output.now) }
+    ensures paragraph { IfOk result
+        (λ made. IsParagraphOf moves.now input.now output.now made.moves) }
+    ensures moves { IfOk result IsConversion }
+    ensures refused { IfErr result
+        (λ fault. IsMovesRefusal fault moves.now input.now output.now) }
 {
-    let moves = cob_thin::read_moves(alloc, moves, input, output)?;
+    let paragraph = Paragraph::read(alloc, input, output, moves)?;
     let in_layout = Layout::of(alloc, input)?;
     let out_layout = Layout::of(alloc, output)?;
-    Ok(Plan::new(alloc, in_layout, out_layout, output, moves)?)
+    let moves = Moves::new(alloc, paragraph.into_moves(), &in_layout, &out_layout)?;
+    Ok(Conversion::new(
+        alloc, in_form, out_form, in_layout, out_layout, output, moves,
+    )?)
 }
 
 impl Converter {
     ghost use Rattle.cob_convert.specs.Run.{Ran, is_read_stop, is_write_stop, is_write_error_stop};
     ghost use Rattle.cob_convert.specs.Converted.{Writes};
 
-    /// A converter for a plan, with room for its records.
-    fn of(alloc: Global, plan: Plan, in_form: Form, out_form: Form) -> Result<Converter, AllocError>
-        ensures made { IfOk result
-            (λ made. made ≡ record { in_form = in_form; out_form = out_form; plan = plan }) }
+    /// A converter for a conversion, with all the room that its runs need.
+    fn of(alloc: Global, conversion: Conversion) -> Result<Converter, AllocError>
+        ensures made { IfOk result (λ made. made ≡ conversion) }
         ensures records { IfOk result
-            (λ made. HasBytes made.plan.input × HasBytes made.plan.output) }
+            (λ made. HasBytes made.records.input × HasBytes made.records.output) }
     {
-        let input = vec![in alloc; 0u8; plan.in_length() as usize]?;
-        let output = vec![in alloc; 0u8; plan.out_length() as usize]?;
+        let input = vec![in alloc; 0u8; conversion.in_length() as usize]?;
+        let output = vec![in alloc; 0u8; conversion.out_length() as usize]?;
+        let room = Room::new(alloc, &conversion)?;
         Ok(Converter {
-            setup: Setup {
-                in_form,
-                out_form,
-                plan,
-            },
+            conversion,
             input,
             output,
+            room,
         })
     }
 
     /// Reads the copybooks of the two records and the paragraph of MOVE statements, and makes a converter of them.
     ///
     /// # Errors
-    /// The first text that is refused: [`PrepareFault::InBook`] or [`PrepareFault::OutBook`] for a copybook that breaks a rule, and
-    /// [`PrepareFault::NotYet`] for one with a table that varies or a paragraph that is more than plain moves of items. [`PrepareFault::Memory`].
+    /// The first text that breaks a rule: [`PrepareFault::InBook`], [`PrepareFault::OutBook`], [`PrepareFault::Moves`].
+    /// [`PrepareFault::Memory`].
     pub fn prepare(
         alloc: Global,
         in_book: &[u8],
@@ -99,20 +110,21 @@ impl Converter {
         out_form: Form,
     ) -> Result<Converter, PrepareFault>
         // What is prepared is what the texts mean, with the forms that were handed in.
-        ensures means { IfOk result (λ made. Means in_book.now out_book.now moves.now made.plan) }
+        ensures means { IfOk result (λ made. Means in_book.now out_book.now moves.now made) }
         ensures forms { IfOk result
             (λ made. (made.in_form ≡ in_form) × (made.out_form ≡ out_form)) }
-        ensures plan { IfOk result (λ made. IsConversion made.plan) }
+        ensures moves { IfOk result IsConversion }
         // Records of both sides have from 1 to 32,752 bytes.
         ensures records { IfOk result
-            (λ made. HasBytes made.plan.input × HasBytes made.plan.output) }
-        // A refusal names a text, and where it is a copybook a rule that the text breaks.
-        ensures refused { IfErr result (λ fault. IsPrepareRefusal fault in_book.now out_book.now) }
+            (λ made. HasBytes made.records.input × HasBytes made.records.output) }
+        // A refusal names a text, and a rule that it breaks.
+        ensures refused { IfErr result 
+            (λ fault. IsPrepareRefusal fault in_book.now out_book.now moves.now) }
     {
         let input = books::in_book(alloc, in_book)?;
         let output = books::out_book(alloc, out_book)?;
-        let plan = plan_of(alloc, moves, &input, &output)?;
-        Ok(Converter::of(alloc, plan, in_form, out_form)?)
+        let conversion = conversion_of(alloc, in_form, out_form, &input, &output, moves)?;
+        Ok(Converter::of(alloc, conversion)?)
     }
 
     /// Converts the records of a source, one after another, up to its end or the first stop, and answers how
@@ -132,6 +144,13 @@ impl Converter {
         ensures errors { W.errors w.new ≡ counted (is_write_error_stop result) (W.errors w.old) }
         ensures same { self.new ≡ self.old }
     {
-        run_over(&self.setup, &mut self.input, &mut self.output, r, w)
+        run_over(
+            &self.conversion,
+            &mut self.input,
+            &mut self.output,
+            &mut self.room,
+            r,
+            w,
+        )
     }
 }

@@ -2,35 +2,13 @@ ghost use Rattle.std.specs.Prelude.{◌≡◌};
 ghost use Rattle.cob_convert.specs.declared.fault.PrepareFault.TheVariants.{Memory};
 ghost use Rattle.cob_convert.specs.Means.{moves_refusal};
 
+use crate::paragraph::{MoveFault, MoveRule};
 use crate::run::{Cause, RunFault};
+use cob_convert_record::Side;
 use cob_copybook_entries::BookFault;
-use cob_steps::Side;
-use cob_thin::ThinFault;
 use std::alloc::AllocError;
 use std::fmt;
 use thiserror::Error;
-
-/// Which of the three texts.
-#[derive(Clone, Copy, Debug, PartialEq, Eq)]
-pub enum Text {
-    /// The copybook of the input record.
-    InBook,
-    /// The copybook of the output record.
-    OutBook,
-    /// The paragraph of moves.
-    Moves,
-}
-
-impl fmt::Display for Text {
-    fn fmt<W: fmt::Write>(&self, f: &mut fmt::Formatter<W>) -> fmt::Result {
-        let name = match self {
-            Text::InBook => "in-book",
-            Text::OutBook => "out-book",
-            Text::Moves => "moves",
-        };
-        write!(f, "{name}")
-    }
-}
 
 /// Why a converter is not prepared.
 #[derive(Clone, Copy, Debug, PartialEq, Eq, Error)]
@@ -41,25 +19,21 @@ pub enum PrepareFault {
     /// The copybook of the output record breaks a rule.
     #[error("out-book {0}")]
     OutBook(BookFault),
-    /// A text that is not taken so far, with the line at which it leaves what is: a copybook with a table that varies, or a paragraph that is
-    /// more than plain moves of items.
-    #[error("{text} NotYet line {line}")]
-    NotYet { text: Text, line: u32 },
+    /// The paragraph of MOVE statements breaks a rule.
+    #[error("moves {0}")]
+    Moves(MoveFault),
     /// Memory was refused.
     #[error("memory")]
     Memory,
 }
 
-impl From<ThinFault> for PrepareFault {
+impl From<MoveFault> for PrepareFault {
     ghost from_gives = { λ refused fault. fault ≡ moves_refusal refused };
 
-    fn from(fault: ThinFault) -> PrepareFault {
-        match fault {
-            ThinFault::NotYet { line } => PrepareFault::NotYet {
-                text: Text::Moves,
-                line,
-            },
-            ThinFault::Memory => PrepareFault::Memory,
+    fn from(fault: MoveFault) -> PrepareFault {
+        match fault.rule {
+            MoveRule::Memory => PrepareFault::Memory,
+            _ => PrepareFault::Moves(fault),
         }
     }
 }

@@ -9,5 +9,5 @@ pub fn conversion_is_one()
     cob_records::frames_are_one();
     cob_records::frames_read_back();
     cob_records::reading_is_one();
-    cob_steps::conversions_are_decided();
+    cob_convert_record::conversions_are_decided();
 }

@@ -32,12 +32,13 @@ mod hex;
 mod job_text;
 mod jobs;
 mod laws;
+mod paragraph;
 mod run;
-mod setup;
 
-pub use cob_steps::Side;
+pub use cob_convert_record::Side;
 pub use converter::Converter;
-pub use fault::{PrepareFault, Text};
+pub use fault::PrepareFault;
+pub use paragraph::{MoveFault, MoveRule};
 pub use jobs::{Status, job};
 pub use laws::conversion_is_one;
 pub use run::{Cause, RunFault};

@@ -1,15 +1,14 @@
-ghost use Rattle.std.specs.Prelude.{◌≡◌, ◌+◌, ◌≤◌, length, IfOk, IfErr};
+ghost use Rattle.std.specs.Prelude.{◌≡◌, ◌+◌, ◌≤◌, false, length, IfOk, IfErr, IfSome};
 ghost use Rattle.cob_records.specs.Device.{counted, Told};
-ghost use Rattle.cob_records.specs.Frame.{frame_size};
-ghost use Rattle.cob_steps.specs.Records.{record_length};
-ghost use Rattle.cob_convert.specs.Conversion.{in_length};
+ghost use Rattle.cob_records.specs.Frame.{IsLength, Reads, frame_size, is_read_failure, is_write_fault};
+ghost use Rattle.cob_convert_record.specs.Rooms.{capacity_for};
+ghost use Rattle.cob_convert_record.specs.Conversion.{in_length, out_length};
 ghost use Rattle.cob_convert.specs.Run.{Ran, cause_from, offset_from, refusal_from, is_read_stop, is_write_stop, is_write_error_stop};
 ghost use Rattle.cob_convert.specs.declared.run.TheConstants.{LIMIT};
 ghost use Rattle.cob_limits.specs.Limits.{longest_record};
 
-use crate::setup::{Misfit, Setup, convert, measure, next_input};
-use cob_records::{Form, RecordFault, Sink, Source, put_record};
-use cob_steps::{Side, StopCause};
+use cob_convert_record::{Conversion, Misfit, Room, Side, StopCause};
+use cob_records::{Form, RecordFault, Sink, Source, next_record, put_record};
 
 /// Why a run stopped.
 #[derive(Clone, Copy, Debug, PartialEq, Eq)]
@@ -100,44 +99,67 @@ fn stop_behind(done: u64, side: Side, offset: u32, cause: Cause, written: u64) -
     }
 }
 
+/// Reads the next input record.
+fn next_input<R: Source>(
+    conversion: &Conversion,
+    r: &mut R,
+    slot: &mut [u8],
+) -> Result<Option<usize>, RecordFault>
+    requires { length slot.old ≡ in_length conversion.now }
+    ensures frame { Told (R.coming r.old)
+        (R.coming r.new) (Reads conversion.now.in_form (in_length conversion.now) slot.new result) }
+    ensures size { IfOk result
+        (λ found. IfSome found (IsLength conversion.now.in_form (in_length conversion.now))) }
+    ensures kind { IfErr result (λ fault. is_write_fault fault ≡ false) }
+    ensures cause { R.failures r.new ≡ counted (is_read_failure result) (R.failures r.old) }
+{
+    next_record(r, conversion.in_form(), conversion.in_length(), slot)
+}
+
 /// Converts the records of a source, one after another, up to its end or the first stop.
+#[tactic(auto, using(crate::proofs::Carried::storage_of_sized))]
 pub fn run_over<R: Source, W: Sink>(
-    setup: &Setup,
+    conversion: &Conversion,
     input: &mut [u8],
     output: &mut [u8],
+    room: &mut Room,
     r: &mut R,
     w: &mut W,
 ) -> Result<u64, RunFault>
-    requires input { length input.old ≡ in_length setup.now }
-    requires output { length output.old ≡ record_length setup.now.plan.output }
+    requires input { length input.old ≡ in_length conversion.now }
+    requires output { length output.old ≡ out_length conversion.now }
+    requires room { room.old ≡ capacity_for conversion.now.records }
     ensures ran { Told (R.coming r.old) (R.coming r.new) (λ bytes rest.
-        Ran setup.now result bytes rest (W.taken w.old) (W.taken w.new)) }
+        Ran conversion.now result bytes rest (W.taken w.old) (W.taken w.new)) }
     ensures reads { R.failures r.new ≡ counted (is_read_stop result) (R.failures r.old) }
     ensures writes { W.failures w.new ≡ counted (is_write_stop result) (W.failures w.old) }
     ensures errors { W.errors w.new ≡ counted (is_write_error_stop result) (W.errors w.old) }
+    ensures size { (length input.new ≡ length input.old) × (length output.new ≡ length output.old) }
+    ensures room { room.new ≡ room.old }
 {
+    let out_form = conversion.out_form();
     let mut written: u64 = 0;
     for done in 0..LIMIT {
-        let count = match next_input(setup, r, input) {
+        let count = match next_input(conversion, r, input) {
             Ok(None) => return Ok(done),
             Ok(Some(count)) => count,
             Err(fault) => return Err(stop_behind(done, Side::In, 0, Cause::Record(fault), written)),
         };
-        if let Err(why) = measure(setup, &input[..count]) {
+        if let Err(why) = conversion.measure(&input[..count], room) {
             return Err(stop_behind(done, Side::In, offset_of(why), refusal_of(why), written));
         }
-        let made = match convert(setup, &input[..count], output) {
+        let made = match conversion.convert(&input[..count], output, room) {
             Ok(made) => made,
             Err(stop) => {
                 let cause = cause_of(stop.cause);
                 return Err(stop_behind(done, stop.side, stop.offset, cause, written));
             }
         };
-        if let Err(fault) = put_record(w, setup.out_form, &output[..made]) {
+        if let Err(fault) = put_record(w, out_form, &output[..made]) {
             let sent = written.saturating_add(fault.taken() as u64);
             return Err(stop_behind(done, Side::Out, 0, Cause::Record(fault), sent));
         }
-        written = written.saturating_add(frame_length(setup.out_form, made));
+        written = written.saturating_add(frame_length(out_form, made));
     }
     Err(stop_behind(LIMIT, Side::In, 0, Cause::Limit, written))
 }

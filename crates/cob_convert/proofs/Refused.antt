@@ -1,0 +1,38 @@
+-- Refusals of texts, one after another.
+use Rattle.std.proofs.Common.{◌≡◌, ℕ, List, refl}
+use Rattle.cob_copybook_tree.specs.Forests.{Forest}
+use Rattle.cob_copybook_tree.specs.Nodes.{Resolved}
+use Rattle.cob_copybook.specs.Books.{IsBookOf}
+use Rattle.cob_copybook.specs.declared.role.Role.TheVariants.{In, Out}
+use Rattle.cob_convert.specs.Paragraphs.{IsRefusalOf}
+use Rattle.cob_convert.specs.declared.paragraph.MoveFault.{MoveFault}
+use Rattle.cob_convert.specs.declared.paragraph.MoveRule.{MoveRule}
+use Rattle.cob_convert.specs.declared.paragraph.MoveRule.TheVariants as rule
+use Rattle.cob_convert.specs.declared.fault.PrepareFault.{PrepareFault}
+use Rattle.cob_convert.specs.declared.fault.PrepareFault.TheVariants.{InBook, OutBook, Moves, Memory}
+use Rattle.cob_convert.specs.Means.{IsBook, IsOfMemory, IsOutRefusal, IsMovesRefusal, IsPrepareRefusal, moves_refusal, moves_refusal_by}
+
+-- a refusal of the second copybook, where the first is a book
+pub out_refused : (f : PrepareFault) (in_book out_book moves : List ℕ) → IsBook In in_book → IsOutRefusal f out_book → IsPrepareRefusal f in_book out_book moves
+out_refused (InBook f) in_book out_book moves is refused = absurd refused
+out_refused (OutBook f) in_book out_book moves is refused = (is, refused)
+out_refused (Moves f) in_book out_book moves is refused = absurd refused
+out_refused Memory in_book out_book moves is refused = tt
+
+-- a refusal of the paragraph, where both copybooks are books
+pub moves_refused : (f : PrepareFault) (in_book out_book moves : List ℕ) (input output : Forest Resolved)
+    → IsBookOf In in_book input → IsBookOf Out out_book output → IsMovesRefusal f moves input output → IsPrepareRefusal f in_book out_book moves
+moves_refused (InBook f) in_book out_book moves input output from to refused = absurd refused
+moves_refused (OutBook f) in_book out_book moves input output from to refused = absurd refused
+moves_refused (Moves f) in_book out_book moves input output from to refused = (input, output, from, to, refused)
+moves_refused Memory in_book out_book moves input output from to refused = tt
+
+refused_by : (r : MoveRule) (f : MoveFault) (moves : List ℕ) (input output : Forest Resolved) → f.rule ≡ r → IsRefusalOf f moves input output
+    → IsMovesRefusal (moves_refusal_by r f) moves input output
+refused_by rule.Memory f moves input output is refused = tt
+refused_by rule.Grammar f moves input output is refused = (refused, λ of. rw is at of)
+
+-- what the refusal of a paragraph becomes
+pub paragraph_refused : (f : MoveFault) (moves : List ℕ) (input output : Forest Resolved) → IsRefusalOf f moves input output
+    → IsMovesRefusal (moves_refusal f) moves input output
+paragraph_refused f moves input output refused = refused_by f.rule f moves input output refl refused
