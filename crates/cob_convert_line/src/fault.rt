@@ -20,6 +20,9 @@ pub enum LineFault {
     /// A word is no text in UTF-8, so that no option can take it.
     #[error("a word is not text in UTF-8")]
     NotText,
+    /// A command or an option that has to be there is not. The parser refuses such words first, so that this is never answered.
+    #[error("an option is missing")]
+    Missing,
     /// Memory was refused.
     #[error("memory")]
     Memory,
@@ -49,7 +52,7 @@ impl LineFault {
     pub fn is_answer(&self) -> bool {
         match self {
             LineFault::Words(error) => !error.use_stderr(),
-            LineFault::Form | LineFault::NotText | LineFault::Memory => false,
+            LineFault::Form | LineFault::NotText | LineFault::Missing | LineFault::Memory => false,
         }
     }
 

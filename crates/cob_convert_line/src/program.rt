@@ -133,6 +133,7 @@ pub fn program<'a>(alloc: Global) -> Result<Command<'a>, AllocError>
     ensures { IfOk result (λ made. app_of made ≡ program_app) }
 {
     Command::new(alloc, "cobconv")
+        .bin_name("cobconv")?
         .about(
             "Converts files of COBOL records by two copybooks and a paragraph of MOVE statements. Without a command it does the job that stands on standard input.",
         )

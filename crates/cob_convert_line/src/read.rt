@@ -28,7 +28,7 @@ fn named<'a>(options: &ArgMatches<'a>, name: &str) -> Result<&'a str, LineFault>
 {
     match options.get_str(name) {
         Some(word) => Ok(word),
-        None => Err(LineFault::Form),
+        None => Err(LineFault::Missing),
     }
 }
 
@@ -103,7 +103,7 @@ fn command_line<'a>(name: &str, options: &ArgMatches<'a>) -> Result<Line<'a>, Li
         "check" => Ok(Line::Check(check_line(options)?)),
         "layout" => Ok(Line::Layout(layout_line(options)?)),
         "show" => Ok(Line::Show(show_line(options)?)),
-        _ => Err(LineFault::Form),
+        _ => Err(LineFault::Missing),
     }
 }
 
@@ -122,6 +122,6 @@ pub fn line_of<'a, S: AsStr>(alloc: Global, words: &'a [S]) -> Result<Line<'a>, 
     let matches = program(alloc)?.try_get_matches_from(words)?;
     match matches.subcommand() {
         Some((name, options)) => command_line(name, options),
-        None => Err(LineFault::Form),
+        None => Err(LineFault::Missing),
     }
 }
