@@ -11,7 +11,7 @@ use Rattle.cob_move_operands.specs.declared.Side.{Side}
 use Rattle.cob_move_operands.specs.declared.Side.TheVariants.{In, Out}
 use Rattle.cob_move_operands.specs.declared.Operand.{Operand}
 use Rattle.cob_move_operands.specs.Moves.{Sender, Move}
-use Rattle.cob_move_receive.specs.Table.{Sender as SenderKind}
+use Rattle.cob_move_receive.specs.Table.{SenderKind}
 use Rattle.cob_move_receive.specs.Refusals.{IsAllowed, is_refused}
 use Rattle.cob_move_receive.specs.declared.refusals.Refusal.TheVariants as refusal
 use Rattle.cob_move_statements.specs.declared.fault.MoveFault.{MoveFault}

@@ -9,7 +9,7 @@ use Rattle.cob_move_operands.specs.declared.Side.{Side}
 use Rattle.cob_move_operands.specs.declared.Side.TheVariants.{Out}
 use Rattle.cob_move_operands.specs.declared.Operand.{Operand}
 use Rattle.cob_move_operands.specs.Moves.{Sender}
-use Rattle.cob_move_receive.specs.Table.{Sender as SenderKind, Entry as EntryOf}
+use Rattle.cob_move_receive.specs.Table.{SenderKind, Entry as EntryOf}
 use Rattle.cob_move_receive.specs.Refusals.{is_refused}
 use Rattle.cob_move_receive.specs.declared.refusals.Refusal.TheVariants as refusal
 use Rattle.cob_move_statements.specs.declared.fault.MoveRule.{MoveRule}

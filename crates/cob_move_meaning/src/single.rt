@@ -9,7 +9,7 @@ ghost use Rattle.cob_move_meaning.specs.Refusals.{BreaksMove, BreaksReceipt, Bre
 ghost use Rattle.cob_move_operands.specs.declared.Side.TheVariants.{Out};
 ghost use Rattle.cob_move_operands.specs.Moves.{move, sender};
 ghost use Rattle.cob_move_receive.specs.Refusals.{IsAllowed};
-ghost use Rattle.cob_move_receive.specs.Table.{sender as sender_kind};
+ghost use Rattle.cob_move_receive.specs.Table.{sender_kind};
 ghost use Rattle.cob_move_references.specs.Directory.{entries_named};
 ghost use Rattle.cob_move_references.specs.References.{IsNamed};
 ghost use Rattle.cob_move_statements.specs.Written.{
@@ -22,7 +22,7 @@ ghost use Rattle.cob_move_statements.specs.Written.{
 use crate::senders::sender_of;
 use cob_copybook_tree::Kind;
 use cob_move_operands::{Move, Operand, Sender};
-use cob_move_receive::{Refusal, Sender as SenderKind, refusal_of};
+use cob_move_receive::{Refusal, SenderKind, refusal_of};
 use cob_move_references::Names;
 use cob_move_statements::{MoveRule, Reference, StatementSender};
 use std::alloc::Global;

@@ -18,7 +18,7 @@ ghost use Rattle.cob_move_pairs.specs.Pairs.{
 use cob_copybook_entries::Name;
 use cob_copybook_tree::{Kind, Node};
 use cob_layout_places::is_table;
-use cob_move_receive::{Sender, may_move};
+use cob_move_receive::{SenderKind, may_move};
 use std::alloc::{AllocError, Global};
 
 /// An entry below a group.
@@ -139,7 +139,7 @@ pub fn is_elementary(kind: &Kind) -> bool
 fn may_correspond(from: &Kind, to: &Kind) -> bool
     ensures { result ≡ may_correspond from.now to.now }
 {
-    (is_elementary(from) || is_elementary(to)) && may_move(&Sender::Entry(from), to)
+    (is_elementary(from) || is_elementary(to)) && may_move(&SenderKind::Entry(from), to)
 }
 
 /// Whether two entries correspond.
