@@ -14,8 +14,9 @@
 //!
 //! It takes no memory, and writes each byte of a record as often as tables hold it, at most: an element is written once and then copied.
 //!
-//! It stands on `cob_move_initial` for what one item or a group with a VALUE holds, on `cob_copybook_tree` for lengths, on `cob_copybook` and `cob_layout` for
-//! the record and its layout, and on `cob_sound` for what holds of every record description.
+//! It stands on `cob_move_initial`, and by it on the rule of MOVE of `cob_move_receive`, for what one item or a group with a VALUE holds, on
+//! `cob_copybook_tree` for lengths, on `cob_copybook` and `cob_layout` for the record and its layout, and on `cob_sound` for what holds of
+//! every record description.
 #![tactic(auto)]
 
 mod laws;
