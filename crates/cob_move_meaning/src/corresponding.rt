@@ -16,7 +16,7 @@ ghost use Rattle.cob_move_meaning.specs.Meaning.{
 ghost use Rattle.cob_move_meaning.specs.Refusals.{BreaksPair, BreaksStatement, SomeOf};
 ghost use Rattle.cob_move_operands.specs.Moves.{move, moves};
 ghost use Rattle.cob_move_pairs.specs.Groups.{entries_below, operand_below};
-ghost use Rattle.cob_move_pairs.specs.Listed.{listed, pair, pairs, subordinate};
+ghost use Rattle.cob_move_pairs.specs.Listed.{subordinates_listed, pair, pairs, subordinate};
 ghost use Rattle.cob_move_pairs.specs.Pairing.{IsTwice};
 ghost use Rattle.cob_move_pairs.specs.Pairs.{AreOnce, is_elementary, subordinates};
 ghost use Rattle.cob_move_references.specs.Directory.{entries_named};
@@ -171,7 +171,7 @@ fn subordinates_of<'a>(
     number: usize,
 ) -> Result<Vec<Subordinate<'a>>, MoveRule>
     ensures found { IfOk result (λ v.
-        listed v.items ≡ subordinates [] (entries_below number book.now)) }
+        subordinates_listed v.items ≡ subordinates [] (entries_below number book.now)) }
     ensures fault { IfErr result (λ r. r ≡ MoveRule.Memory) }
 {
     subordinates(alloc, entries_below(book.root(), number))
