@@ -30,7 +30,7 @@ moves_refused Memory in_book out_book moves input output from to refused = tt
 refused_by : (r : MoveRule) (f : MoveFault) (moves : List ℕ) (input output : Forest Resolved) → f.rule ≡ r → IsRefusalOf f moves input output
     → IsMovesRefusal (moves_refusal_by r f) moves input output
 refused_by rule.Memory f moves input output is refused = tt
-refused_by rule.Grammar f moves input output is refused = (refused, λ of. rw is at of)
+refused_by _ f moves input output is refused = (refused, λ of. rw is at of)
 
 -- what the refusal of a paragraph becomes
 pub paragraph_refused : (f : MoveFault) (moves : List ℕ) (input output : Forest Resolved) → IsRefusalOf f moves input output
