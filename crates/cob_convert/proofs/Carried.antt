@@ -14,21 +14,18 @@ use Rattle.cob_convert.specs.declared.run.RunFault.{RunFault}
 use Rattle.cob_move_apply.specs.declared.stop.Stop.{Stop}
 use Rattle.cob_move_operands.specs.declared.Side.{Side}
 use Rattle.cob_move_operands.specs.declared.Side.TheVariants.{Out}
-use Rattle.cob_move_apply.specs.declared.stop.StopCause.{StopCause}
-use Rattle.cob_move_apply.specs.declared.stop.StopCause.TheVariants.{NoValue as StopNoValue, Count as StopCount, Subscript as StopSubscript}
 use Rattle.cob_convert.specs.declared.run.Cause.{Cause}
 use Rattle.cob_convert.specs.declared.run.Cause.TheVariants.{Record}
 use Rattle.cob_records.specs.declared.records.RecordFault.{RecordFault}
 use Rattle.cob_records.specs.declared.records.RecordFault.TheVariants.{Truncated, Descriptor, Spanned, Length, ReadFailed, WriteFailed, TookNothing}
 use Rattle.cob_move_operands.specs.declared.Side.TheVariants.{In}
 use Rattle.cob_convert_record.specs.declared.misfit.Misfit.{Misfit}
-use Rattle.cob_convert_record.specs.declared.misfit.Misfit.TheVariants.{Count as Uncounted, Length as Unfitting}
 use Rattle.cob_convert_record.specs.Sizes.{IsSized, IsMisfit}
 use Rattle.cob_convert_record.specs.Becoming.{Becomes, StopsAt}
 use Rattle.cob_copybook_tree.specs.Forests.{Tree}
 use Rattle.cob_copybook_tree.specs.Nodes.{Resolved}
 use Rattle.cob_layout.specs.Storage.{IsStorage}
-use Rattle.cob_convert.specs.Run.{Ran, Ends, Remains, Reason, RecordStops, InRead, InLayout, InConversion, InWrite, offset_from, refusal_from, IsConverted, cause_from, frames_in, frames_out, most_records}
+use Rattle.cob_convert.specs.Run.{Ran, Ends, Remains, Reason, InRead, InLayout, InConversion, InWrite, offset_from, refusal_from, IsConverted, cause_from, frames_in, frames_out, most_records}
 
 -- n records came, were converted and written; `written` counts their frames' bytes
 pub record Carried (conversion : Conversion) (n written : ℕ) (r0 r w0 w : Option (List ℕ)) : Type 0 where
@@ -182,12 +179,15 @@ read_exit conversion n written fault slot r0 r1 r2 w0 w1 so_far read low =
     (λ left rest p. record {
       number = refl;
       written = omega (arith, so_far.sum);
-      stops = inr (low, InRead (record {
-        fault = fault;
-        reads = refused_reading conversion.in_form (in_length conversion) slot left rest fault p;
-        nothing = refl;
-        reason = refl;
-      }));
+      stops = inr (
+        low,
+        InRead (record {
+          fault = fault;
+          reads = refused_reading conversion.in_form (in_length conversion) slot left rest fault p;
+          nothing = refl;
+          reason = refl;
+        }),
+      );
     })
 
 -- a run ends where a record's conversion stops
@@ -202,15 +202,18 @@ stop_exit conversion n written count cause stop slot r0 r1 r2 w0 w1 so_far read 
     (λ left rest p. record {
       number = refl;
       written = omega (arith, so_far.sum);
-      stops = inr (low, InConversion (record {
-        input = take count slot;
-        stop = stop;
-        came = record { whole = whole; frame = p.2 };
-        sized = fits;
-        stops = stops;
-        nothing = refl;
-        reason = refl;
-      }));
+      stops = inr (
+        low,
+        InConversion (record {
+          input = take count slot;
+          stop = stop;
+          came = record { whole = whole; frame = p.2 };
+          sized = fits;
+          stops = stops;
+          nothing = refl;
+          reason = refl;
+        }),
+      );
     }))
 
 -- a run ends where a record isn't one of the layout
@@ -225,14 +228,17 @@ layout_exit conversion n written count offset cause why slot r0 r1 r2 w0 w1 so_f
     (λ left rest p. record {
       number = refl;
       written = omega (arith, so_far.sum);
-      stops = inr (low, InLayout (record {
-        input = take count slot;
-        misfit = why;
-        came = record { whole = whole; frame = p.2 };
-        misfits = misfit;
-        nothing = refl;
-        reason = ap (λ (o : ℕ). reason_at In o (refusal_from why)) at;
-      }));
+      stops = inr (
+        low,
+        InLayout (record {
+          input = take count slot;
+          misfit = why;
+          came = record { whole = whole; frame = p.2 };
+          misfits = misfit;
+          nothing = refl;
+          reason = ap (λ (o : ℕ). reason_at In o (refusal_from why)) at;
+        }),
+      );
     }))
 
 -- as many bytes of a frame went out as the fault counts
@@ -255,13 +261,16 @@ write_exit conversion n written total count made fault slot room r0 r1 r2 w0 w1 
     (λ left rest p. record {
       number = refl;
       written = omega (arith, sum, size);
-      stops = inr (low, InWrite (record {
-        input = take count slot;
-        written = take made room;
-        fault = fault;
-        converted = record { whole = whole; sized = fits; converts = converts };
-        frame = p.2;
-        puts = puts;
-        reason = refl;
-      }));
+      stops = inr (
+        low,
+        InWrite (record {
+          input = take count slot;
+          written = take made room;
+          fault = fault;
+          converted = record { whole = whole; sized = fits; converts = converts };
+          frame = p.2;
+          puts = puts;
+          reason = refl;
+        }),
+      );
     })

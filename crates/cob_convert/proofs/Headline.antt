@@ -4,10 +4,7 @@ use Rattle.std.specs.Io.KnownBytes.{append_known}
 use Rattle.cob_records.specs.Device.{Told, counted}
 use Rattle.cob_records.specs.Frame.{Puts, framed, is_read_failure, is_write_fault}
 use Rattle.cob_convert_record.specs.Conversion.{Conversion}
-use Rattle.cob_move_operands.specs.declared.Side.{Side}
-use Rattle.cob_move_operands.specs.declared.Side.TheVariants.{In, Out}
-use Rattle.cob_convert.specs.declared.run.Cause.{Cause}
-use Rattle.cob_convert.specs.declared.run.Cause.TheVariants.{NoValue, Count, Subscript, Limit, Record}
+use Rattle.cob_convert.specs.declared.run.Cause.TheVariants.{Record}
 use Rattle.cob_records.specs.declared.records.RecordFault.{RecordFault}
 use Rattle.cob_records.specs.declared.records.RecordFault.TheVariants.{WriteFailed, TookNothing}
 use Rattle.cob_convert.specs.declared.run.RunFault.{RunFault}

@@ -1,22 +1,18 @@
 -- What is written for bytes, what is answered and what is left of them is determined.
-use Rattle.std.proofs.Common.{◌≡◌, ℕ, ◌+◌, ◌<◌, ◌≤◌, ◌⊎◌, false, List, [], ◌∷◌, ◌++◌, length, refl, sym, ◌∙◌, ap, append_assoc, arith, inl, inr, None, Ok, Err, Result}
+use Rattle.std.proofs.Common.{◌≡◌, ℕ, ◌+◌, ◌<◌, ◌≤◌, false, List, [], ◌∷◌, ◌++◌, length, refl, sym, ◌∙◌, ap, append_assoc, arith, inl, inr, None, Ok, Err, Result}
 use Rattle.std.proofs.Math.ListN.{length-append}
 use Rattle.std.specs.List.{AllByRecursion}
 use Rattle.cob_records.specs.declared.records.Form.{Form}
 use Rattle.cob_records.specs.declared.records.Form.TheVariants.{Fixed, Variable}
 use Rattle.cob_records.specs.declared.records.RecordFault.{RecordFault}
-use Rattle.cob_records.specs.declared.records.RecordFault.TheVariants.{WriteFailed, TookNothing}
-use Rattle.cob_records.specs.Frame.{framed, IsRecord, Reads, is_read_failure, is_write_fault}
+use Rattle.cob_records.specs.Frame.{framed, IsRecord, Reads, is_read_failure}
 use Rattle.cob_records.specs.Unique.{FramesAreOne, FramesReadBack, ReadingIsOne}
 use Rattle.cob_convert_record.specs.Laws.{ConversionsAreDecided}
 use Rattle.cob_move_apply.specs.declared.stop.Stop.{Stop}
-use Rattle.cob_move_operands.specs.declared.Side.{Side}
-use Rattle.cob_move_operands.specs.declared.Side.TheVariants.{In, Out}
+use Rattle.cob_move_operands.specs.declared.Side.TheVariants.{In}
 use Rattle.cob_convert_record.specs.Conversion.{Conversion, in_length}
 use Rattle.cob_convert_record.specs.declared.misfit.Misfit.{Misfit}
-use Rattle.cob_convert_record.specs.declared.misfit.Misfit.TheVariants.{Count as Uncounted, Length as Unfitting}
-use Rattle.cob_convert.specs.declared.run.Cause.{Cause}
-use Rattle.cob_convert.specs.declared.run.Cause.TheVariants.{NoValue, Count, Subscript, Limit, Record}
+use Rattle.cob_convert.specs.declared.run.Cause.TheVariants.{Record}
 use Rattle.cob_convert.specs.declared.run.RunFault.{RunFault}
 use Rattle.cob_convert_record.specs.Sizes.{IsSized, IsMisfit}
 use Rattle.cob_convert_record.specs.Becoming.{Becomes, StopsAt}

@@ -10,7 +10,7 @@ use Rattle.cob_convert.specs.declared.paragraph.MoveRule.{MoveRule}
 use Rattle.cob_convert.specs.declared.paragraph.MoveRule.TheVariants as rule
 use Rattle.cob_convert.specs.declared.fault.PrepareFault.{PrepareFault}
 use Rattle.cob_convert.specs.declared.fault.PrepareFault.TheVariants.{InBook, OutBook, Moves, Memory}
-use Rattle.cob_convert.specs.Means.{IsBook, IsOfMemory, IsOutRefusal, IsMovesRefusal, IsPrepareRefusal, moves_refusal, moves_refusal_by}
+use Rattle.cob_convert.specs.Means.{IsBook, IsOutRefusal, IsMovesRefusal, IsPrepareRefusal, moves_refusal, moves_refusal_by}
 
 -- a refusal of the second copybook, where the first is a book
 pub out_refused : (f : PrepareFault) (in_book out_book moves : List ℕ) → IsBook In in_book → IsOutRefusal f out_book → IsPrepareRefusal f in_book out_book moves

@@ -43,11 +43,12 @@ cause_from StopNoValue = NoValue
 cause_from StopCount = Count
 cause_from StopSubscript = Subscript
 
--- the cause of a misfit, and the offset that goes with it
+-- the cause of a misfit: its count, or its length as a fault of the record
 abbrev pub refusal_from : Misfit → Cause
 refusal_from (Uncounted offset) = Count
 refusal_from Unfitting = Record Length
 
+-- where a misfit stands in its record: at its count, or at the front
 abbrev pub offset_from : Misfit → ℕ
 offset_from (Uncounted offset) = offset
 offset_from Unfitting = 0

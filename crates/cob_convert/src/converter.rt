@@ -115,11 +115,11 @@ impl Converter {
         ensures means { IfOk result (λ made. Means in_book.now out_book.now moves.now made) }
         ensures forms { IfOk result
             (λ made. (made.in_form ≡ in_form) × (made.out_form ≡ out_form)) }
-            // Records of both sides have from 1 to 32,752 bytes.
+        // Records of both sides have from 1 to 32,752 bytes.
         ensures records { IfOk result
             (λ made. HasBytes made.records.input × HasBytes made.records.output) }
         // A refusal names a text, and a rule that it breaks.
-        ensures refused { IfErr result 
+        ensures refused { IfErr result
             (λ fault. IsPrepareRefusal fault in_book.now out_book.now moves.now) }
     {
         let input = books::in_book(alloc, in_book)?;

@@ -37,7 +37,7 @@ mod run;
 pub use cob_convert_record::Side;
 pub use converter::Converter;
 pub use fault::PrepareFault;
-pub use paragraph::{MoveFault, MoveRule};
 pub use jobs::{Status, job};
 pub use laws::conversion_is_one;
+pub use paragraph::{MoveFault, MoveRule};
 pub use run::{Cause, RunFault};
