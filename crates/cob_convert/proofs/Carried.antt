@@ -14,21 +14,18 @@ use Rattle.cob_convert.specs.declared.run.RunFault.{RunFault}
 use Rattle.cob_move_apply.specs.declared.stop.Stop.{Stop}
 use Rattle.cob_move_operands.specs.declared.Side.{Side}
 use Rattle.cob_move_operands.specs.declared.Side.TheVariants.{Out}
-use Rattle.cob_move_apply.specs.declared.stop.StopCause.{StopCause}
-use Rattle.cob_move_apply.specs.declared.stop.StopCause.TheVariants.{NoValue as StopNoValue, Count as StopCount, Subscript as StopSubscript}
 use Rattle.cob_convert.specs.declared.run.Cause.{Cause}
 use Rattle.cob_convert.specs.declared.run.Cause.TheVariants.{Record}
 use Rattle.cob_records.specs.declared.records.RecordFault.{RecordFault}
 use Rattle.cob_records.specs.declared.records.RecordFault.TheVariants.{Truncated, Descriptor, Spanned, Length, ReadFailed, WriteFailed, TookNothing}
 use Rattle.cob_move_operands.specs.declared.Side.TheVariants.{In}
 use Rattle.cob_convert_record.specs.declared.misfit.Misfit.{Misfit}
-use Rattle.cob_convert_record.specs.declared.misfit.Misfit.TheVariants.{Count as Uncounted, Length as Unfitting}
 use Rattle.cob_convert_record.specs.Sizes.{IsSized, IsMisfit}
 use Rattle.cob_convert_record.specs.Becoming.{Becomes, StopsAt}
 use Rattle.cob_copybook_tree.specs.Forests.{Tree}
 use Rattle.cob_copybook_tree.specs.Nodes.{Resolved}
 use Rattle.cob_layout.specs.Storage.{IsStorage}
-use Rattle.cob_convert.specs.Run.{Ran, Ends, StopsFor, ConversionStops, LayoutStops, offset_from, refusal_from, IsConverted, cause_from, frames_in, frames_out, most_records}
+use Rattle.cob_convert.specs.Run.{Ran, Ends, Remains, Reason, InRead, InLayout, InConversion, InWrite, offset_from, refusal_from, IsConverted, cause_from, frames_in, frames_out, most_records}
 
 -- n records came, were converted and written; `written` counts their frames' bytes
 pub record Carried (conversion : Conversion) (n written : ℕ) (r0 r w0 w : Option (List ℕ)) : Type 0 where
@@ -108,16 +105,24 @@ step conversion n written size count made slot room r0 r1 r2 w0 w1 w2 so_far rea
     }
 
 -- the number of records and the written bytes, counted from the list of records
-ends_at : (conversion : Conversion) (n written count sent : ℕ) (left rest part : List ℕ) (answer : Result ℕ RunFault) → count ≡ n → written ≡ min sent (2 ^ 64 - 1)
-    → Ends conversion n written left rest part answer → Ends conversion count sent left rest part answer
-ends_at conversion n written count sent left rest part (Ok number) e s ends = rw e ends
-ends_at conversion n written count sent left rest part (Err fault) e s (number, bytes, stops) =
-    rw e (number, omega (arith, bytes, s), stops)
+ends_at : (conversion : Conversion) (n written count sent : ℕ) (at : Remains) (answer : Result ℕ RunFault) → count ≡ n → written ≡ min sent (2 ^ 64 - 1)
+    → Ends conversion n written at answer → Ends conversion count sent at answer
+ends_at conversion n written count sent at (Ok number) e s ends = rw e ends
+ends_at conversion n written count sent at (Err fault) e s ends =
+    rw e (record { number = ends.number; written = omega (arith, ends.written, s); stops = ends.stops })
+
+-- a reason of its parts
+abbrev pub reason_at : Side → ℕ → Cause → Reason
+reason_at side offset cause = record { side = side; offset = offset; cause = cause }
+
+-- the bytes at the end
+abbrev pub remains : List ℕ → List ℕ → List ℕ → Remains
+remains left rest part = record { left = left; rest = rest; part = part }
 
 -- the end of a run
 pub finish : (conversion : Conversion) (n written : ℕ) (answer : Result ℕ RunFault) (part : List ℕ) (r0 r1 r2 w0 w1 w2 : Option (List ℕ)) (P : List ℕ → List ℕ → Type 0)
     → Carried conversion n written r0 r1 w0 w1 → Told r1 r2 P → w2 ≡ append_known w1 part
-    → ((left rest : List ℕ) → P left rest → Ends conversion n written left rest part answer)
+    → ((left rest : List ℕ) → P left rest → Ends conversion n written (remains left rest part) answer)
     → Told r0 r2 (λ bytes rest. Ran conversion answer bytes rest w0 w2)
 finish conversion n written answer part r0 r1 r2 w0 w1 w2 P so_far read put f =
     told_through (frames_in conversion so_far.pairs) r0 r1 r2 P (λ bytes rest. Ran conversion answer bytes rest w0 w2) so_far.consumed read
@@ -128,7 +133,7 @@ finish conversion n written answer part r0 r1 r2 w0 w1 w2 P so_far read put f =
       frames = refl;
       each = so_far.each;
       output = append_twice (frames_out conversion so_far.pairs) part w0 w1 w2 so_far.appended put;
-      ends = ends_at conversion n written (length so_far.pairs) (length (frames_out conversion so_far.pairs)) left rest part answer so_far.count so_far.sum (f left rest p);
+      ends = ends_at conversion n written (length so_far.pairs) (length (frames_out conversion so_far.pairs)) (remains left rest part) answer so_far.count so_far.sum (f left rest p);
     })
 
 pub whole_of : (form : Form) (greatest count : ℕ) (slot : List ℕ) → IsLength form greatest count → length slot ≡ greatest
@@ -171,13 +176,19 @@ pub read_exit : (conversion : Conversion) (n written : ℕ) (fault : RecordFault
 read_exit conversion n written fault slot r0 r1 r2 w0 w1 so_far read low =
     finish conversion n written (Err (record { number = n + 1; side = In; offset = 0; cause = Record fault; written = written })) []
     r0 r1 r2 w0 w1 w1 (Reads conversion.in_form (in_length conversion) slot (Err fault)) so_far read (append_none w1)
-    (λ left rest p. (refl, omega (arith, so_far.sum), (low, inl (refl, (refused_reading conversion.in_form (in_length conversion) slot left rest fault p, refl)))))
-
-stops_for : (conversion : Conversion) (n offset : ℕ) (left rest part : List ℕ) (side : Side) (c : StopCause) → n < most_records
-    → ConversionStops conversion left rest part side offset (cause_from c) → StopsFor conversion n left rest part side offset (cause_from c)
-stops_for conversion n offset left rest part side StopNoValue low stops = (low, inl stops)
-stops_for conversion n offset left rest part side StopCount low stops = (low, inl stops)
-stops_for conversion n offset left rest part side StopSubscript low stops = (low, inl stops)
+    (λ left rest p. record {
+      number = refl;
+      written = omega (arith, so_far.sum);
+      stops = inr (
+        low,
+        InRead (record {
+          fault = fault;
+          reads = refused_reading conversion.in_form (in_length conversion) slot left rest fault p;
+          nothing = refl;
+          reason = refl;
+        }),
+      );
+    })
 
 -- a run ends where a record's conversion stops
 pub stop_exit : (conversion : Conversion) (n written count : ℕ) (cause : Cause) (stop : Stop) (slot : List ℕ) (r0 r1 r2 w0 w1 : Option (List ℕ))
@@ -188,17 +199,22 @@ pub stop_exit : (conversion : Conversion) (n written count : ℕ) (cause : Cause
 stop_exit conversion n written count cause stop slot r0 r1 r2 w0 w1 so_far read whole fits stops e low =
     rw e (finish conversion n written (Err (record { number = n + 1; side = stop.side; offset = stop.offset; cause = cause_from stop.cause; written = written })) []
     r0 r1 r2 w0 w1 w1 (Reads conversion.in_form (in_length conversion) slot (Ok (Some count))) so_far read (append_none w1)
-    (λ left rest p. (
-      refl,
-      omega (arith, so_far.sum),
-      stops_for conversion n stop.offset left rest [] stop.side stop.cause low
-          (take count slot, stop, whole, p.2, fits, stops, refl, refl, refl, refl),
-    )))
-
-layout_stops_for : (conversion : Conversion) (n offset : ℕ) (left rest part : List ℕ) (side : Side) (why : Misfit) → n < most_records
-    → LayoutStops conversion left rest part side offset (refusal_from why) → StopsFor conversion n left rest part side offset (refusal_from why)
-layout_stops_for conversion n offset left rest part side (Uncounted at) low stops = (low, inr stops)
-layout_stops_for conversion n offset left rest part side Unfitting low stops = (low, inr stops)
+    (λ left rest p. record {
+      number = refl;
+      written = omega (arith, so_far.sum);
+      stops = inr (
+        low,
+        InConversion (record {
+          input = take count slot;
+          stop = stop;
+          came = record { whole = whole; frame = p.2 };
+          sized = fits;
+          stops = stops;
+          nothing = refl;
+          reason = refl;
+        }),
+      );
+    }))
 
 -- a run ends where a record isn't one of the layout
 pub layout_exit : (conversion : Conversion) (n written count offset : ℕ) (cause : Cause) (why : Misfit) (slot : List ℕ) (r0 r1 r2 w0 w1 : Option (List ℕ))
@@ -209,12 +225,21 @@ pub layout_exit : (conversion : Conversion) (n written count offset : ℕ) (caus
 layout_exit conversion n written count offset cause why slot r0 r1 r2 w0 w1 so_far read whole misfit at e low =
     rw e (finish conversion n written (Err (record { number = n + 1; side = In; offset = offset; cause = refusal_from why; written = written })) []
     r0 r1 r2 w0 w1 w1 (Reads conversion.in_form (in_length conversion) slot (Ok (Some count))) so_far read (append_none w1)
-    (λ left rest p. (
-      refl,
-      omega (arith, so_far.sum),
-      layout_stops_for conversion n offset left rest [] In why low
-          (take count slot, why, whole, p.2, misfit, refl, at, refl, refl),
-    )))
+    (λ left rest p. record {
+      number = refl;
+      written = omega (arith, so_far.sum);
+      stops = inr (
+        low,
+        InLayout (record {
+          input = take count slot;
+          misfit = why;
+          came = record { whole = whole; frame = p.2 };
+          misfits = misfit;
+          nothing = refl;
+          reason = ap (λ (o : ℕ). reason_at In o (refusal_from why)) at;
+        }),
+      );
+    }))
 
 -- as many bytes of a frame went out as the fault counts
 put_size : (frame part : List ℕ) (fault : RecordFault) → Puts frame (Err fault) part → length part ≡ taken_of fault
@@ -233,8 +258,19 @@ write_exit conversion n written total count made fault slot room r0 r1 r2 w0 w1 
     let size : length part ≡ taken_of fault = put_size (framed conversion.out_form (take made room)) part fault puts in
     finish conversion n written (Err (record { number = n + 1; side = Out; offset = 0; cause = Record fault; written = total })) part
     r0 r1 r2 w0 w1 w2 (Reads conversion.in_form (in_length conversion) slot (Ok (Some count))) so_far read put
-    (λ left rest p. (
-      refl,
-      omega (arith, sum, size),
-      (low, inl (refl, ((take count slot, take made room), record { whole = whole; sized = fits; converts = converts }, p.2, puts))),
-    ))
+    (λ left rest p. record {
+      number = refl;
+      written = omega (arith, sum, size);
+      stops = inr (
+        low,
+        InWrite (record {
+          input = take count slot;
+          written = take made room;
+          fault = fault;
+          converted = record { whole = whole; sized = fits; converts = converts };
+          frame = p.2;
+          puts = puts;
+          reason = refl;
+        }),
+      );
+    })

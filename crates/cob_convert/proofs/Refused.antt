@@ -10,7 +10,7 @@ use Rattle.cob_convert.specs.declared.paragraph.MoveRule.{MoveRule}
 use Rattle.cob_convert.specs.declared.paragraph.MoveRule.TheVariants as rule
 use Rattle.cob_convert.specs.declared.fault.PrepareFault.{PrepareFault}
 use Rattle.cob_convert.specs.declared.fault.PrepareFault.TheVariants.{InBook, OutBook, Moves, Memory}
-use Rattle.cob_convert.specs.Means.{IsBook, IsOfMemory, IsOutRefusal, IsMovesRefusal, IsPrepareRefusal, moves_refusal, moves_refusal_by}
+use Rattle.cob_convert.specs.Means.{IsBook, IsOutRefusal, IsMovesRefusal, IsPrepareRefusal, moves_refusal, moves_refusal_by}
 
 -- a refusal of the second copybook, where the first is a book
 pub out_refused : (f : PrepareFault) (in_book out_book moves : List ℕ) → IsBook In in_book → IsOutRefusal f out_book → IsPrepareRefusal f in_book out_book moves
@@ -30,7 +30,7 @@ moves_refused Memory in_book out_book moves input output from to refused = tt
 refused_by : (r : MoveRule) (f : MoveFault) (moves : List ℕ) (input output : Forest Resolved) → f.rule ≡ r → IsRefusalOf f moves input output
     → IsMovesRefusal (moves_refusal_by r f) moves input output
 refused_by rule.Memory f moves input output is refused = tt
-refused_by rule.Grammar f moves input output is refused = (refused, λ of. rw is at of)
+refused_by _ f moves input output is refused = (refused, λ of. rw is at of)
 
 -- what the refusal of a paragraph becomes
 pub paragraph_refused : (f : MoveFault) (moves : List ℕ) (input output : Forest Resolved) → IsRefusalOf f moves input output

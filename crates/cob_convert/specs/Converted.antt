@@ -14,7 +14,7 @@ pub record Converted (conversion : Conversion) (bytes rest written : List ℕ) (
   pub frames : bytes ≡ frames_in conversion pairs ++ left
   pub each : AllByRecursion (IsConverted conversion) pairs
   pub output : written ≡ frames_out conversion pairs
-  pub ends : Ends conversion (length pairs) (length (frames_out conversion pairs)) left rest [] answer
+  pub ends : Ends conversion (length pairs) (length (frames_out conversion pairs)) (record { left = left; rest = rest; part = [] }) answer
   pub read : is_read_stop answer ≡ false
   pub wrote : is_write_stop answer ≡ false
 

@@ -43,48 +43,110 @@ cause_from StopNoValue = NoValue
 cause_from StopCount = Count
 cause_from StopSubscript = Subscript
 
--- a record came whole and its conversion stopped so
-abbrev pub ConversionStops : Conversion → List ℕ → List ℕ → List ℕ → Side → ℕ → Cause → Type 0
-ConversionStops conversion left rest part side offset cause =
-    (input : List ℕ) × (stop : Stop) × IsRecord conversion.in_form (in_length conversion) input × (left ≡ framed conversion.in_form input ++ rest)
-    × IsSized conversion.in_form conversion.records.input input × StopsAt conversion input stop × (side ≡ stop.side) × (offset ≡ stop.offset) × (cause ≡ cause_from stop.cause) × (part ≡ [])
-
--- a frame couldn't be read, or a record came, was converted and couldn't be written
-abbrev pub FrameStops : Conversion → List ℕ → List ℕ → List ℕ → Side → RecordFault → Type 0
-FrameStops conversion left rest part In fault = Reads conversion.in_form (in_length conversion) [] (Err fault) left rest × (part ≡ [])
-FrameStops conversion left rest part Out fault =
-    (pair : List ℕ × List ℕ) × IsConverted conversion pair × (left ≡ framed conversion.in_form pair.0 ++ rest)
-    × Puts (framed conversion.out_form pair.1) (Err fault) part
-
--- what a layout's refusal is in a run
-abbrev pub offset_from : Misfit → ℕ
-offset_from (Uncounted offset) = offset
-offset_from Unfitting = 0
-
--- and its cause
+-- the cause of a misfit: its count, or its length as a fault of the record
 abbrev pub refusal_from : Misfit → Cause
 refusal_from (Uncounted offset) = Count
 refusal_from Unfitting = Record Length
 
--- a record came whole, and it isn't one of the layout
-abbrev pub LayoutStops : Conversion → List ℕ → List ℕ → List ℕ → Side → ℕ → Cause → Type 0
-LayoutStops conversion left rest part side offset cause =
-    (input : List ℕ) × (why : Misfit) × IsRecord conversion.in_form (in_length conversion) input × (left ≡ framed conversion.in_form input ++ rest)
-    × IsMisfit conversion.in_form conversion.records.input input why × (side ≡ In) × (offset ≡ offset_from why) × (cause ≡ refusal_from why) × (part ≡ [])
+-- where a misfit stands in its record: at its count, or at the front
+abbrev pub offset_from : Misfit → ℕ
+offset_from (Uncounted offset) = offset
+offset_from Unfitting = 0
 
--- why a run stopped after n records
-abbrev pub StopsFor : Conversion → ℕ → List ℕ → List ℕ → List ℕ → Side → ℕ → Cause → Type 0
-StopsFor conversion n left rest part side offset Limit = (n ≡ most_records) × (side ≡ In) × (offset ≡ 0) × (rest ≡ left) × (part ≡ [])
-StopsFor conversion n left rest part side offset (Record fault) = (n < most_records) × ((offset ≡ 0) × FrameStops conversion left rest part side fault ⊎ LayoutStops conversion left rest part side offset (Record fault))
-StopsFor conversion n left rest part side offset cause = (n < most_records) × (ConversionStops conversion left rest part side offset cause ⊎ LayoutStops conversion left rest part side offset cause)
+-- where in a record a run stops, and why
+pub record Reason : Type 0 where
+  pub side : Side
+  pub offset : ℕ
+  pub cause : Cause
 
--- How a run ends after n records and so many bytes written, where these bytes were left then: what is still to come, the part
--- of a frame that went out, and the answer.
-abbrev pub Ends : Conversion → ℕ → ℕ → List ℕ → List ℕ → List ℕ → Result ℕ RunFault → Type 0
-Ends conversion n sent left rest part (Ok number) = (number ≡ n) × (n < most_records) × (left ≡ []) × (rest ≡ []) × (part ≡ [])
-Ends conversion n sent left rest part (Err fault) =
-    (fault.number ≡ n + 1) × (fault.written ≡ min (sent + length part) (2 ^ 64 - 1))
-    × StopsFor conversion n left rest part fault.side fault.offset fault.cause
+-- the reason that a fault tells
+abbrev pub reason_of : RunFault → Reason
+reason_of fault = record { side = fault.side; offset = fault.offset; cause = fault.cause }
+
+-- The bytes at the end of a run: those that were left behind the records that were converted, those of them that are still to come, and the part
+-- of a frame that went out without the rest of it.
+pub record Remains : Type 0 where
+  pub left : List ℕ
+  pub rest : List ℕ
+  pub part : List ℕ
+
+-- a whole frame was left first, and just this was read
+pub record Came (conversion : Conversion) (input : List ℕ) (at : Remains) : Type 0 where
+  pub whole : IsRecord conversion.in_form (in_length conversion) input
+  pub frame : at.left ≡ framed conversion.in_form input ++ at.rest
+
+-- as many records as a run converts at most were converted, and nothing behind them was read
+pub record LimitStops (n : ℕ) (at : Remains) (why : Reason) : Type 0 where
+  pub limit : n ≡ most_records
+  pub unread : at.rest ≡ at.left
+  pub nothing : at.part ≡ []
+  pub reason : why ≡ record { side = In; offset = 0; cause = Limit }
+
+-- the next frame couldn't be read
+pub record ReadStops (conversion : Conversion) (at : Remains) (why : Reason) : Type 0 where
+  pub fault : RecordFault
+  pub reads : Reads conversion.in_form (in_length conversion) [] (Err fault) at.left at.rest
+  pub nothing : at.part ≡ []
+  pub reason : why ≡ record { side = In; offset = 0; cause = Record fault }
+
+-- a record came whole, and it isn't one of its layout
+pub record LayoutStops (conversion : Conversion) (at : Remains) (why : Reason) : Type 0 where
+  pub input : List ℕ
+  pub misfit : Misfit
+  pub came : Came conversion input at
+  pub misfits : IsMisfit conversion.in_form conversion.records.input input misfit
+  pub nothing : at.part ≡ []
+  pub reason : why ≡ record { side = In; offset = offset_from misfit; cause = refusal_from misfit }
+
+-- a record of its layout came whole, and its conversion stopped
+pub record ConversionStops (conversion : Conversion) (at : Remains) (why : Reason) : Type 0 where
+  pub input : List ℕ
+  pub stop : Stop
+  pub came : Came conversion input at
+  pub sized : IsSized conversion.in_form conversion.records.input input
+  pub stops : StopsAt conversion input stop
+  pub nothing : at.part ≡ []
+  pub reason : why ≡ record { side = stop.side; offset = stop.offset; cause = cause_from stop.cause }
+
+-- a record came whole and was converted, and its frame couldn't be written
+pub record WriteStops (conversion : Conversion) (at : Remains) (why : Reason) : Type 0 where
+  pub input : List ℕ
+  pub written : List ℕ
+  pub fault : RecordFault
+  pub converted : IsConverted conversion (input, written)
+  pub frame : at.left ≡ framed conversion.in_form input ++ at.rest
+  pub puts : Puts (framed conversion.out_form written) (Err fault) at.part
+  pub reason : why ≡ record { side = Out; offset = 0; cause = Record fault }
+
+-- why the next record stops a run: its frame, its layout, its conversion, or the frame of what it became
+pub data RecordStops (conversion : Conversion) (at : Remains) (why : Reason) : Type 0 where
+  InRead : ReadStops conversion at why → RecordStops conversion at why
+  InLayout : LayoutStops conversion at why → RecordStops conversion at why
+  InConversion : ConversionStops conversion at why → RecordStops conversion at why
+  InWrite : WriteStops conversion at why → RecordStops conversion at why
+
+-- why a run stops behind n records: for their number, or for the next record
+abbrev pub StopsFor : Conversion → ℕ → Remains → Reason → Type 0
+StopsFor conversion n at why = LimitStops n at why ⊎ ((n < most_records) × RecordStops conversion at why)
+
+-- a run ends behind n records: no byte was left
+pub record EndsClean (n number : ℕ) (at : Remains) : Type 0 where
+  pub count : number ≡ n
+  pub below : n < most_records
+  pub none : at.left ≡ []
+  pub rest : at.rest ≡ []
+  pub nothing : at.part ≡ []
+
+-- a run stops at the record behind n others, whose frames and the part of its own are the bytes that were written
+pub record EndsFaulty (conversion : Conversion) (n sent : ℕ) (at : Remains) (fault : RunFault) : Type 0 where
+  pub number : fault.number ≡ n + 1
+  pub written : fault.written ≡ min (sent + length at.part) (2 ^ 64 - 1)
+  pub stops : StopsFor conversion n at (reason_of fault)
+
+-- How a run ends behind n records, of which so many bytes were written: with the number of records where no byte was left, and else with the fault.
+abbrev pub Ends : Conversion → ℕ → ℕ → Remains → Result ℕ RunFault → Type 0
+Ends conversion n sent at (Ok number) = EndsClean n number at
+Ends conversion n sent at (Err fault) = EndsFaulty conversion n sent at fault
 
 -- A run from these bytes, up to the rest, with this answer, by a sink that told `before` and tells `now`: the records that came,
 -- what they became, and the end. The answer is said also where the sink does not tell its bytes.
@@ -95,7 +157,7 @@ pub record Ran (conversion : Conversion) (answer : Result ℕ RunFault) (bytes r
   pub frames : bytes ≡ frames_in conversion pairs ++ left
   pub each : AllByRecursion (IsConverted conversion) pairs
   pub output : now ≡ append_known before (frames_out conversion pairs ++ part)
-  pub ends : Ends conversion (length pairs) (length (frames_out conversion pairs)) left rest part answer
+  pub ends : Ends conversion (length pairs) (length (frames_out conversion pairs)) (record { left = left; rest = rest; part = part }) answer
 
 -- the answer is that a read failed
 abbrev pub is_read_stop : Result ℕ RunFault → Bool

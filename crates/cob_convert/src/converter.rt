@@ -1,7 +1,6 @@
 ghost use Rattle.std.specs.Prelude.{◌≡◌, IfOk, IfErr, vec_len};
 ghost use Rattle.cob_records.specs.Device.{counted, Told};
 ghost use Rattle.cob_layout_places.specs.Lengths.{alone};
-ghost use Rattle.cob_convert_record.specs.Conversion.{IsConversion};
 ghost use Rattle.cob_convert.specs.Paragraphs.{IsParagraphOf};
 ghost use Rattle.cob_convert.specs.Unique.{HasBytes};
 ghost use Rattle.cob_convert.specs.Means.{Means, IsMovesRefusal, IsPrepareRefusal};
@@ -13,7 +12,6 @@ use crate::run::{RunFault, run_over};
 use cob_convert_record::{Conversion, Room};
 use cob_copybook::Book;
 use cob_layout::Layout;
-use cob_move_apply::Moves;
 use cob_records::{Form, Sink, Source};
 use std::alloc::{AllocError, Global};
 use std::marker::Model;
@@ -62,16 +60,20 @@ fn conversion_of(
     ensures output { IfOk result (λ made. alone made.records.output ≡ output.now) }
     ensures paragraph { IfOk result
         (λ made. IsParagraphOf moves.now input.now output.now made.moves) }
-    ensures moves { IfOk result IsConversion }
     ensures refused { IfErr result
         (λ fault. IsMovesRefusal fault moves.now input.now output.now) }
 {
     let paragraph = Paragraph::read(alloc, input, output, moves)?;
     let in_layout = Layout::of(alloc, input)?;
     let out_layout = Layout::of(alloc, output)?;
-    let moves = Moves::new(alloc, paragraph.into_moves(), &in_layout, &out_layout)?;
     Ok(Conversion::new(
-        alloc, in_form, out_form, in_layout, out_layout, output, moves,
+        alloc,
+        in_form,
+        out_form,
+        in_layout,
+        out_layout,
+        output,
+        paragraph.into_moves(),
     )?)
 }
 
@@ -113,12 +115,11 @@ impl Converter {
         ensures means { IfOk result (λ made. Means in_book.now out_book.now moves.now made) }
         ensures forms { IfOk result
             (λ made. (made.in_form ≡ in_form) × (made.out_form ≡ out_form)) }
-        ensures moves { IfOk result IsConversion }
         // Records of both sides have from 1 to 32,752 bytes.
         ensures records { IfOk result
             (λ made. HasBytes made.records.input × HasBytes made.records.output) }
         // A refusal names a text, and a rule that it breaks.
-        ensures refused { IfErr result 
+        ensures refused { IfErr result
             (λ fault. IsPrepareRefusal fault in_book.now out_book.now moves.now) }
     {
         let input = books::in_book(alloc, in_book)?;

@@ -6,8 +6,8 @@
 //!
 //! What is promised:
 //!
-//! - What is prepared is what the texts mean (`means`), with the record forms that were handed in (`forms`); a refusal names a text, and of a
-//!   copybook the rule that it breaks (`refused`). Want of memory is never told as a fault of a text.
+//! - What is prepared is what the texts mean (`means`), with the record forms that were handed in (`forms`); a refusal names a text, and the
+//!   rule that it breaks (`refused`). Want of memory is never told as a fault of a text.
 //! - Where the source tells its bytes and no call of an end failed, what a run writes is, record by record, the framed storage that the
 //!   moves give from the initial values and the values that the input's bytes represent; and a run that stops names the first record
 //!   and offset where its fault stands, having written just the records before it: the clause `headline`, by `Converted` of
@@ -20,9 +20,8 @@
 //!
 //! What a job prints, and its status, is shown by tests.
 //!
-//! It stands on `cob_records` for the frames, on `cob_copybook` and `cob_layout` for the records, on `cob_thin` for the paragraph, on
-//! `cob_steps` for what becomes of one record, on `arrayvec`
-//! for lines without memory and on `thiserror` for what faults print.
+//! It stands on `cob_records` for the frames, on `cob_copybook` and `cob_layout` for the records, on `cob_move` for the paragraph, on
+//! `cob_convert_record` for what becomes of one record, on `arrayvec` for lines without memory and on `thiserror` for what faults print.
 #![tactic(auto)]
 
 mod books;
@@ -38,7 +37,7 @@ mod run;
 pub use cob_convert_record::Side;
 pub use converter::Converter;
 pub use fault::PrepareFault;
-pub use paragraph::{MoveFault, MoveRule};
 pub use jobs::{Status, job};
 pub use laws::conversion_is_one;
+pub use paragraph::{MoveFault, MoveRule};
 pub use run::{Cause, RunFault};

@@ -1,15 +1,14 @@
-//! The reader of paragraphs stands in here: it reads none.
+//! The reader of paragraphs stands in here until cob_move has it: it reads none.
 
-ghost use Rattle.std.specs.Prelude.{◌≡◌, map, IfOk, IfErr};
+ghost use Rattle.std.specs.Prelude.{◌≡◌, IfOk, IfErr};
 ghost use Rattle.cob_layout_places.specs.Lengths.{alone};
-ghost use Rattle.cob_move_operands.specs.Moves.{AreMoves, Records, move};
-ghost use Rattle.cob_convert.specs.Paragraphs.{IsParagraphOf, IsRefusalOf};
+ghost use Rattle.cob_move_operands.specs.Moves.{Records};
+ghost use Rattle.cob_convert.specs.Paragraphs.{IsParagraphOf, IsReadyFor, IsRefusalOf, moves_in};
 
 use cob_copybook::Book;
-use cob_move_operands::Move;
-use std::alloc::{AllocError, Global};
+use cob_move_apply::Moves;
+use std::alloc::Global;
 use std::fmt;
-use std::marker::Model;
 use thiserror::Error;
 
 #[derive(Clone, Copy, Debug, PartialEq, Eq)]
@@ -36,12 +35,10 @@ pub struct MoveFault {
 
 #[derive(Debug, Drop)]
 pub struct Paragraph {
-    moves: Vec<Move>,
+    moves: Moves,
 }
 
 impl Paragraph {
-    ghost use Rattle.cob_convert.specs.Paragraphs.{moves_in};
-
     pub fn read(
         alloc: Global,
         input: &Book,
@@ -50,10 +47,9 @@ impl Paragraph {
     ) -> Result<Paragraph, MoveFault>
         ensures found { IfOk result
             (λ p. IsParagraphOf text.now input.now output.now (moves_in p)) }
-        ensures moves { IfOk result (λ p. (r : Records)
-            → alone r.input ≡ input.now → alone r.output ≡ output.now → AreMoves r (moves_in p)) }
-        ensures fault { IfErr result
-            (λ f. IsRefusalOf f text.now input.now output.now) }
+        ensures ready { IfOk result (λ p. (r : Records)
+            → alone r.input ≡ input.now → alone r.output ≡ output.now → IsReadyFor r p) }
+        ensures fault { IfErr result (λ f. IsRefusalOf f text.now input.now output.now) }
     {
         Err(MoveFault {
             rule: MoveRule::Memory,
@@ -61,8 +57,8 @@ impl Paragraph {
         })
     }
 
-    pub fn into_moves(self) -> Vec<Move>
-        ensures { map move result.items ≡ moves_in self }
+    pub fn into_moves(self) -> Moves
+        ensures { result ≡ self.moves }
     {
         self.moves
     }

@@ -105,7 +105,7 @@ one_output law initial ending c input a b p q =
 one_stop : OneOfAll → OneInitial → OneEnding → (c : Conversion) (input : List ℕ) (a b : Stop) → StopsAt c input a → StopsAt c input b → a ≡ b
 one_stop law initial ending c input a b p q =
     let agree : (x y : Ending) → Applied c.records c.moves input p.initial x → Applied c.records c.moves input q.initial y → x ≡ y
-        = λ x y s t. endings_agree initial ending c input p.initial q.initial x y p.begins q.begins s t in
+    = λ x y s t. endings_agree initial ending c input p.initial q.initial x y p.begins q.begins s t in
     elim p.stops [
       | inl s ↦ elim q.stops [
         | inl t ↦ same_stop a b p.last q.last (agree (stopped a p.last) (stopped b q.last) s t)
@@ -125,7 +125,7 @@ one_stop law initial ending c input a b p q =
 not_both : OneOfAll → OneInitial → OneEnding → (c : Conversion) (input written : List ℕ) (stop : Stop) → Becomes c input written → StopsAt c input stop → ⊥
 not_both law initial ending c input written stop p q =
     let agree : (y : Ending) → Applied c.records c.moves input q.initial y → done p.last ≡ y
-        = λ y t. endings_agree initial ending c input p.initial q.initial (done p.last) y p.begins q.begins p.applied t in
+    = λ y t. endings_agree initial ending c input p.initial q.initial (done p.last) y p.begins q.begins p.applied t in
     elim q.stops [
       | inl t ↦ stopped_or_done stop q.last p.last (sym (agree (stopped stop q.last) t))
       | inr (t, missing) ↦

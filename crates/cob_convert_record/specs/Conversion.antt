@@ -2,7 +2,7 @@
 use Rattle.std.specs.Prelude.{ℕ, List}
 use Rattle.cob_records.specs.declared.records.Form.{Form}
 use Rattle.cob_layout.specs.Storage.{greatest_length}
-use Rattle.cob_move_operands.specs.Moves.{AreMoves, Move, Records}
+use Rattle.cob_move_operands.specs.Moves.{Move, Records}
 
 -- what is done to each record: in which form it comes and what it becomes goes out, the two records, and the moves between them
 pub record Conversion : Type 0 where
@@ -10,10 +10,6 @@ pub record Conversion : Type 0 where
   pub out_form : Form
   pub records : Records
   pub moves : List Move
-
--- the moves of a conversion are moves between its records
-abbrev pub IsConversion : Conversion → Type 0
-IsConversion c = AreMoves c.records c.moves
 
 -- the greatest length of an input record
 abbrev pub in_length : Conversion → ℕ

@@ -89,11 +89,18 @@ fn measure_current(layout: &Layout, input: &[u8], counts: &mut Counts) -> Result
 /// # Errors
 ///
 /// The first count of the storage that isn't valid.
-fn written_length(layout: &Layout, form: Form, storage: &[u8], counts: &mut Counts) -> Result<usize, Stop>
+fn written_length(
+    layout: &Layout,
+    form: Form,
+    storage: &[u8],
+    counts: &mut Counts,
+) -> Result<usize, Stop>
     requires storage { length storage.now ≡ greatest_length layout.now }
     requires room { length counts.old ≡ entries_in (alone layout.now) }
-    ensures size { IfOk result (λ made. (0 < made) × (made ≤ length storage.now) × (made ≤ longest_record)) }
-    ensures written { IfOk result (λ made. IsWritten form layout.now storage.now (take made storage.now)) }
+    ensures size { IfOk result
+        (λ made. (0 < made) × (made ≤ length storage.now) × (made ≤ longest_record)) }
+    ensures written { IfOk result
+        (λ made. IsWritten form layout.now storage.now (take made storage.now)) }
     ensures stops { IfErr result (λ stop. IsCountStop layout.now storage.now stop) }
     ensures room { length counts.new ≡ length counts.old }
 {
@@ -220,12 +227,7 @@ impl Conversion {
     /// # Errors
     ///
     /// The first move that stops; or behind all moves the first count of the output that isn't valid.
-    pub fn convert(
-        &self,
-        input: &[u8],
-        output: &mut [u8],
-        room: &mut Room,
-    ) -> Result<usize, Stop>
+    pub fn convert(&self, input: &[u8], output: &mut [u8], room: &mut Room) -> Result<usize, Stop>
         requires input { IsStorage self.now.records.input input.now }
         requires output { length output.old ≡ out_length self.now }
         requires room { room.old ≡ capacity_for self.now.records }
@@ -237,8 +239,7 @@ impl Conversion {
         ensures room { room.new ≡ room.old }
     {
         output.copy_from_slice(self.image.as_slice());
-        self.moves
-            .apply(&self.input, &self.output, input, output, &mut room.scratch)?;
+        self.moves.apply(&self.input, &self.output, input, output, &mut room.scratch)?;
         written_length(&self.output, self.out_form, output, &mut room.out_counts)
     }
 }

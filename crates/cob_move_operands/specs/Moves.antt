@@ -65,12 +65,3 @@ pub record IsMove (r : Records) (m : Move) : Type 0 where
 -- each of these is a move between the records
 abbrev pub AreMoves : Records → List Move → Type 0
 AreMoves r ms = AllByRecursion (IsMove r) ms
-
--- what is done to each record: the two records, and the moves between them
-pub record Conversion : Type 0 where
-  pub records : Records
-  pub moves : List Move
-
--- the moves of a conversion are moves between its records
-abbrev pub IsConversion : Conversion → Type 0
-IsConversion c = AreMoves c.records c.moves

@@ -15,9 +15,9 @@ returns-in_err-apply-clause-stops c =
     let own : Conversion = record { in_form = c.self.inside.in_form; out_form = c.self.inside.out_form; records = record { input = c.self.inside.input; output = c.self.inside.output }; moves = moves_of c.self.inside.moves } in
     let image : c.copy_from_slice.new.self ≡ c.self.inside.image.items = c.copy_from_slice.ensures.after ∙ c.as_slice.ensures.value in
     let begins : IsInitial (alone c.self.inside.output) c.copy_from_slice.new.self
-        = subst (λ (x : List ℕ). IsInitial (alone c.self.inside.output) x) (sym image) c.self.invariant.1 in
+    = subst (λ (x : List ℕ). IsInitial (alone c.self.inside.output) x) (sym image) c.self.invariant.1 in
     let stops : StopsAt own c.args.input.now c.in_err-apply.field-0.0
-        = at_move own c.args.input.now c.copy_from_slice.new.self c.apply.new.output c.in_err-apply.field-0.0 begins c.in_err-apply.ensures.applied in
+    = at_move own c.args.input.now c.copy_from_slice.new.self c.apply.new.output c.in_err-apply.field-0.0 begins c.in_err-apply.ensures.applied in
     rw (p.1, p.2) (subst (λ (x : Conversion). StopsAt x c.args.input.now c.in_err-apply.field-0.0) c.self.view_is stops)
 
 pub returns-clause-stops : goal.returns-clause-stops
@@ -25,7 +25,7 @@ returns-clause-stops c =
     let own : Conversion = record { in_form = c.self.inside.in_form; out_form = c.self.inside.out_form; records = record { input = c.self.inside.input; output = c.self.inside.output }; moves = moves_of c.self.inside.moves } in
     let image : c.copy_from_slice.new.self ≡ c.self.inside.image.items = c.copy_from_slice.ensures.after ∙ c.as_slice.ensures.value in
     let begins : IsInitial (alone c.self.inside.output) c.copy_from_slice.new.self
-        = subst (λ (x : List ℕ). IsInitial (alone c.self.inside.output) x) (sym image) c.self.invariant.1 in
+    = subst (λ (x : List ℕ). IsInitial (alone c.self.inside.output) x) (sym image) c.self.invariant.1 in
     if_error c.written_length.result (λ (stop : Stop). IsCountStop c.self.inside.output c.apply.new.output stop)
     (λ (stop : Stop). StopsAt c.args.self.now c.args.input.now stop) c.written_length.ensures.stops
     (λ stop faulty. subst (λ (x : Conversion). StopsAt x c.args.input.now stop) c.self.view_is
@@ -36,7 +36,7 @@ returns-clause-converts c =
     let own : Conversion = record { in_form = c.self.inside.in_form; out_form = c.self.inside.out_form; records = record { input = c.self.inside.input; output = c.self.inside.output }; moves = moves_of c.self.inside.moves } in
     let image : c.copy_from_slice.new.self ≡ c.self.inside.image.items = c.copy_from_slice.ensures.after ∙ c.as_slice.ensures.value in
     let begins : IsInitial (alone c.self.inside.output) c.copy_from_slice.new.self
-        = subst (λ (x : List ℕ). IsInitial (alone c.self.inside.output) x) (sym image) c.self.invariant.1 in
+    = subst (λ (x : List ℕ). IsInitial (alone c.self.inside.output) x) (sym image) c.self.invariant.1 in
     if_value c.written_length.result (λ (made : ℕ). IsWritten c.self.inside.out_form c.self.inside.output c.apply.new.output (take made c.apply.new.output))
     (λ (made : ℕ). Becomes c.args.self.now c.args.input.now (take made c.apply.new.output)) c.written_length.ensures.written
     (λ made writes. subst (λ (x : Conversion). Becomes x c.args.input.now (take made c.apply.new.output)) c.self.view_is
