@@ -1,0 +1,12 @@
+-- No call of the sink has failed so far.
+use Rattle.std.proofs.Common.{◌≡◌, length}
+use Rattle.cob_convert_show.proofs.elements.+put_elements.Given as goal
+
+abbrev pub decreases-put_elements : goal.decreases-put_elements
+decreases-put_elements g l = length l.tables.now
+
+abbrev pub invariant-loop-subscript : goal.invariant-loop-subscript
+invariant-loop-subscript g l = record {
+  writes : g.W.Sink.failures l.w ≡ g.W.Sink.failures l.fn.w;
+  errors : g.W.Sink.errors l.w ≡ g.W.Sink.errors l.fn.w;
+}

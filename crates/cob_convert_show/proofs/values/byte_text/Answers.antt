@@ -1,0 +1,12 @@
+-- A byte that has a character has no other, and is shown by it where it is no mark.
+use Rattle.std.proofs.Common.{rules}
+use Rattle.cob_convert_show.proofs.values.byte_text.Goals as goal
+
+pub returns-in-Some-clause-plain : goal.returns-in-Some-clause-plain
+returns-in-Some-clause-plain c = λ character coded plain. let found = c.plain_character.ensures.only character coded plain in search rules
+
+pub returns-in-Some-clause-none : goal.returns-in-Some-clause-none
+returns-in-Some-clause-none c = λ none. absurd (none c.in-Some.character c.in-Some.ensures.found)
+
+pub returns-in-None-clause-plain : goal.returns-in-None-clause-plain
+returns-in-None-clause-plain c = λ character coded plain. let found = c.plain_character.ensures.only character coded plain in absurd (cc)

@@ -1,0 +1,36 @@
+-- Which end failed where records are shown.
+use Rattle.std.specs.Prelude.{ℕ, Bool, false, Ok, Err, Result}
+use Rattle.cob_records.specs.declared.records.RecordFault.{RecordFault}
+use Rattle.cob_records.specs.Frame.{is_read_failure, is_write_error, is_write_fault}
+use Rattle.cob_convert.specs.declared.run.Cause.{Cause}
+use Rattle.cob_convert.specs.declared.run.Cause.TheVariants.{Record}
+use Rattle.cob_convert.specs.declared.run.RunFault.{RunFault}
+use Rattle.cob_convert_show.specs.declared.records.ShowFault.{ShowFault}
+use Rattle.cob_convert_show.specs.declared.records.ShowFault.TheVariants.{Memory, Run}
+use Rattle.cob_convert_show.specs.declared.records.Stop.{Stop}
+
+-- the cause is that a read failed
+abbrev pub is_read_cause : Cause → Bool
+is_read_cause (Record fault) = is_read_failure (Err fault)
+is_read_cause _ = false
+
+-- the cause is that a write failed or took nothing
+abbrev pub is_write_cause : Cause → Bool
+is_write_cause (Record fault) = is_write_fault fault
+is_write_cause _ = false
+
+-- the cause is that a write failed, and not that one took nothing
+abbrev pub is_error_cause : Cause → Bool
+is_error_cause (Record fault) = is_write_error (Err fault)
+is_error_cause _ = false
+
+-- a record stopped it, for a cause of this kind
+abbrev pub stopped_by : (Cause → Bool) → Result ℕ ShowFault → Bool
+stopped_by is (Ok number) = false
+stopped_by is (Err Memory) = false
+stopped_by is (Err (Run fault)) = is fault.cause
+
+-- the next record is not shown, for a cause of this kind
+abbrev pub refused_by : (Cause → Bool) → Result Bool Stop → Bool
+refused_by is (Ok found) = false
+refused_by is (Err stop) = is stop.cause

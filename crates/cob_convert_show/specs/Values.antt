@@ -1,0 +1,24 @@
+-- How values are shown.
+use Rattle.std.specs.Prelude.{◌≡◌, ℕ, ◌+◌, ◌/◌, ◌%◌, Bool, ◌==◌, ◌||◌, nat_lt, if◌then◌else◌, List, [], ◌∷◌}
+use Rattle.cob_copybook_tree.specs.declared.node.Item.{Item}
+use Rattle.cob_decimal.specs.Decimal.{number_of}
+use Rattle.cob_decimal.specs.Literals.{IsNumberText}
+use Rattle.cob_item.specs.Items.{Represents}
+use Rattle.cob_picture.specs.Counts.{scale}
+
+-- the text is that of the number that the bytes of the item represent, at the scale of its picture
+abbrev pub IsNumberShown : Item → List ℕ → List ℕ → Type 0
+IsNumberShown i bytes text = (negative : Bool) × (digits : List ℕ) × Represents i bytes negative digits
+    × IsNumberText negative (number_of digits) (scale i.picture.positions) text
+
+-- the character of a hexadecimal digit, a capital from ten on
+abbrev pub digit_character : ℕ → ℕ
+digit_character value = if nat_lt value 10 then 48 + value else 55 + value
+
+-- a backslash, an x, and the two hexadecimal digits of a byte
+abbrev pub escaped : ℕ → List ℕ
+escaped byte = 92 ∷ 120 ∷ digit_character (byte / 16) ∷ digit_character (byte % 16) ∷ []
+
+-- the byte is that of a quotation mark or of a backslash
+abbrev pub is_mark : ℕ → Bool
+is_mark byte = byte == 127 || byte == 224

@@ -1,0 +1,215 @@
+//! The records of a file.
+
+ghost use Rattle.std.specs.Prelude.{◌≡◌, length, IfErr, is_err, true, false};
+ghost use Rattle.cob_copybook_tree.specs.Lengths.{most, sum_of};
+ghost use Rattle.cob_copybook_tree.specs.Forests.{entries_in};
+ghost use Rattle.cob_layout_places.specs.Lengths.{alone};
+ghost use Rattle.cob_records.specs.Device.{counted};
+ghost use Rattle.cob_records.specs.Frame.{is_write_error, is_write_fault};
+ghost use Rattle.cob_convert_show.specs.Records.{is_read_cause, is_write_cause, is_error_cause, stopped_by, refused_by};
+ghost use Rattle.cob_convert_show.specs.declared.records.ShowFault.TheVariants.{Memory, Run};
+
+use crate::elements::{Contents, Tables, put_items};
+use crate::text::{put, put_number};
+use cob_convert::{Cause, RunFault, Side};
+use cob_copybook::Book;
+use cob_copybook_tree::Node;
+use cob_layout::{CountFault, Counts, Layout};
+use cob_records::{Form, RecordFault, Sink, Source, next_record};
+use std::alloc::{AllocError, Global};
+
+/// Why not all records were shown.
+#[derive(Clone, Copy, Debug, PartialEq, Eq)]
+pub enum ShowFault {
+    /// Memory was refused, before a record was read.
+    Memory,
+    /// A record stopped it.
+    Run(RunFault),
+}
+
+impl From<AllocError> for ShowFault {
+    ghost from_gives = { λ _ fault. fault ≡ Memory };
+
+    fn from(_: AllocError) -> ShowFault {
+        ShowFault::Memory
+    }
+}
+
+/// How many records are shown at most.
+const LIMIT: u64 = u64::MAX - 1;
+
+/// What the records are that are shown.
+#[derive(Clone, Copy)]
+struct Shown<'a> {
+    /// Their description.
+    root: &'a Node,
+    layout: &'a Layout,
+    /// How they stand in their stream.
+    form: Form,
+}
+
+/// Why a record is not shown.
+#[derive(Clone, Copy)]
+struct Stop {
+    offset: u32,
+    cause: Cause,
+}
+
+/// The stop at a frame that cannot be read, or that is not one of the layout.
+fn frame_stop(fault: RecordFault) -> Stop
+    ensures { result.cause ≡ Cause.Record fault }
+{
+    Stop {
+        offset: 0,
+        cause: Cause::Record(fault),
+    }
+}
+
+/// The stop at a count that isn't valid, or whose item ends past the record.
+fn count_stop(fault: CountFault) -> Stop
+    ensures read { is_read_cause result.cause ≡ false }
+    ensures wrote { is_write_cause result.cause ≡ false }
+    ensures errors { is_error_cause result.cause ≡ false }
+{
+    if fault.short {
+        return frame_stop(RecordFault::Length);
+    }
+    Stop {
+        offset: fault.offset,
+        cause: Cause::Count,
+    }
+}
+
+/// Reads the next record and its counts, and says whether there was one. It is as long as its counts say, and in form f as at most.
+fn read_record<R: Source>(
+    layout: &Layout,
+    form: Form,
+    r: &mut R,
+    bytes: &mut [u8],
+    counts: &mut Counts,
+) -> Result<bool, Stop>
+    requires bytes { length bytes.old ≡ sum_of most (alone layout.now) }
+    requires counts { length counts.old ≡ entries_in (alone layout.now) }
+    ensures counts { length counts.new ≡ length counts.old }
+    ensures wrote { IfErr result (λ stop. is_write_cause stop.cause ≡ false) }
+    ensures errors { IfErr result (λ stop. is_error_cause stop.cause ≡ false) }
+    ensures reads { R.failures r.new ≡ counted (refused_by is_read_cause result) (R.failures r.old) }
+{
+    let count = match next_record(r, form, layout.greatest(), bytes) {
+        Ok(None) => return Ok(false),
+        Ok(Some(count)) => count,
+        Err(fault) => return Err(frame_stop(fault)),
+    };
+    if let Err(fault) = layout.counts_of(&bytes[..count], counts) {
+        return Err(count_stop(fault));
+    }
+    if form == Form::Variable && count != usize::from(layout.length(counts)) {
+        return Err(frame_stop(RecordFault::Length));
+    }
+    Ok(true)
+}
+
+/// Writes the lines of a record, the one with its number first.
+fn put_lines<W: Sink>(
+    w: &mut W,
+    sent: &mut u64,
+    number: u64,
+    contents: Contents,
+    root: &Node,
+) -> Result<(), RecordFault>
+    requires { length contents.bytes.now ≡ sum_of most (alone contents.layout.now) }
+    ensures kind { IfErr result (λ fault. is_write_fault fault ≡ true) }
+    ensures cause { W.failures w.new ≡ counted (is_err result) (W.failures w.old) }
+    ensures errors { W.errors w.new ≡ counted (is_write_error result) (W.errors w.old) }
+{
+    put(w, sent, b"record ")?;
+    put_number(w, sent, number)?;
+    put(w, sent, b"\n")?;
+    put_items(w, sent, contents, root, &mut Tables::new())
+}
+
+/// The fault of a record that stopped it.
+fn stop_at(number: u64, side: Side, offset: u32, cause: Cause, written: u64) -> ShowFault
+    ensures { result ≡ Run record { number = number; side = side; offset = offset; cause = cause; written = written } }
+{
+    ShowFault::Run(RunFault {
+        number,
+        side,
+        offset,
+        cause,
+        written,
+    })
+}
+
+/// Shows the records of a source, one after another, up to its end or the first stop.
+fn show_records<R: Source, W: Sink>(
+    shown: Shown,
+    bytes: &mut [u8],
+    counts: &mut Counts,
+    r: &mut R,
+    w: &mut W,
+) -> Result<u64, ShowFault>
+    requires bytes { length bytes.old ≡ sum_of most (alone shown.layout.now) }
+    requires counts { length counts.old ≡ entries_in (alone shown.layout.now) }
+    ensures reads { R.failures r.new ≡ counted (stopped_by is_read_cause result) (R.failures r.old) }
+    ensures writes { W.failures w.new ≡ counted
+        (stopped_by is_write_cause result) (W.failures w.old) }
+    ensures errors { W.errors w.new ≡ counted
+        (stopped_by is_error_cause result) (W.errors w.old) }
+{
+    let mut written: u64 = 0;
+    for done in 0..LIMIT {
+        match read_record(shown.layout, shown.form, r, bytes, counts) {
+            Ok(false) => return Ok(done),
+            Ok(true) => {}
+            Err(Stop { offset, cause }) => {
+                return Err(stop_at(done + 1, Side::In, offset, cause, written));
+            }
+        }
+        let contents = Contents {
+            layout: shown.layout,
+            counts,
+            bytes,
+        };
+        if let Err(fault) = put_lines(w, &mut written, done + 1, contents, shown.root) {
+            return Err(stop_at(done + 1, Side::Out, 0, Cause::Record(fault), written));
+        }
+    }
+    Err(stop_at(LIMIT + 1, Side::In, 0, Cause::Limit, written))
+}
+
+/// Reads records, and writes for each a line with its number, and then a line for each element of each named elementary item, in
+/// the order of the entries, the last subscript the fastest: its name with its subscripts, its offset and its value. The answer is
+/// the number of records. The layout is that of the book.
+///
+/// A value is a number as text, or `?` and the bytes in hexadecimal digits where they represent no number; or it is characters in
+/// quotation marks, where a byte that has no character, or is a quotation mark or a backslash, is `\x` and its two digits.
+///
+/// # Errors
+///
+/// [`ShowFault::Run`] for the first record that can't be read, whose counts are not all valid, or whose lines can't be written, with
+/// the bytes that the sink took; of a record of the first two kinds nothing is written. [`ShowFault::Memory`].
+pub fn show<R: Source, W: Sink>(
+    alloc: Global,
+    book: &Book,
+    layout: &Layout,
+    form: Form,
+    r: &mut R,
+    w: &mut W,
+) -> Result<u64, ShowFault>
+    // A read failed, a write failed or took nothing, and a write failed, exactly where the answer says so.
+    ensures reads { R.failures r.new ≡ counted (stopped_by is_read_cause result) (R.failures r.old) }
+    ensures writes { W.failures w.new ≡ counted
+        (stopped_by is_write_cause result) (W.failures w.old) }
+    ensures errors { W.errors w.new ≡ counted
+        (stopped_by is_error_cause result) (W.errors w.old) }
+{
+    let mut bytes = vec![in alloc; 0u8; usize::from(layout.greatest())]?;
+    let mut counts = layout.new_counts(alloc)?;
+    let shown = Shown {
+        root: book.root(),
+        layout,
+        form,
+    };
+    show_records(shown, &mut bytes, &mut counts, r, w)
+}

@@ -1,0 +1,136 @@
+//! The values of items.
+
+ghost use Rattle.std.specs.Prelude.{◌≡◌, ◌≤◌, ◌<◌, length, IfErr, IfSome, IfNone, Some, None, is_err, true, false, Bool, List, [], ◌∷◌, ℕ};
+ghost use Rattle.cob_copybook_tree.specs.Lengths.{item_size};
+ghost use Rattle.cob_cp037.specs.Table.{IsCoded};
+ghost use Rattle.cob_item.specs.Items.{IsNumberItem, Represents};
+ghost use Rattle.cob_convert_show.specs.Values.{IsNumberShown, is_mark, escaped, digit_character};
+ghost use Rattle.cob_records.specs.Device.{counted};
+ghost use Rattle.cob_records.specs.Frame.{is_write_error, is_write_fault};
+
+use crate::text::put;
+use arrayvec::ArrayVec;
+use cob_copybook_tree::Item;
+use cob_cp037::decode_byte;
+use cob_item::{is_number_item, read_number};
+use cob_records::{RecordFault, Sink};
+
+/// The quotation mark of code page 037.
+const QUOTE: u8 = 0x7F;
+
+/// The backslash of code page 037.
+const BACKSLASH: u8 = 0xE0;
+
+/// The character of a hexadecimal digit.
+fn digit(value: u8) -> u8
+    requires { value < 16 }
+    ensures { result ≡ digit_character value }
+{
+    if value < 10 {
+        b'0' + value
+    } else {
+        b'A' + (value - 10)
+    }
+}
+
+/// Whether a byte is that of a quotation mark or of a backslash, which have a meaning of their own in what is shown.
+fn is_mark(byte: u8) -> bool
+    ensures { result ≡ is_mark byte }
+{
+    byte == QUOTE || byte == BACKSLASH
+}
+
+/// The character that shows a byte, where one does.
+fn plain_character(byte: u8) -> Option<u8>
+    ensures found { IfSome result (λ character. IsCoded character byte) }
+    ensures only { (character : ℕ) → IsCoded character byte → is_mark byte ≡ false
+        → result ≡ Some character }
+    ensures mark { is_mark byte ≡ true → result ≡ None }
+{
+    if is_mark(byte) {
+        return None;
+    }
+    decode_byte(byte)
+}
+
+/// How a byte is shown among characters: as its character, or where it has none, or is a quotation mark or a backslash, as `\x`
+/// and its two hexadecimal digits.
+fn byte_text(byte: u8) -> ArrayVec<u8, 4>
+    ensures plain { (character : ℕ) → IsCoded character byte → is_mark byte ≡ false
+        → result.items ≡ character ∷ [] }
+    ensures mark { is_mark byte ≡ true → result.items ≡ escaped byte }
+    ensures none { ((character : ℕ) → IsCoded character byte → ⊥)
+        → result.items ≡ escaped byte }
+{
+    let mut text = ArrayVec::new();
+    match plain_character(byte) {
+        Some(character) => text.push(character),
+        None => {
+            text.push(b'\\');
+            text.push(b'x');
+            text.push(digit(byte / 16));
+            text.push(digit(byte % 16));
+        }
+    }
+    text
+}
+
+/// The text of the number that the bytes of an item represent, where they represent one.
+fn number_text(item: &Item, bytes: &[u8]) -> Option<ArrayVec<u8, 64>>
+    requires number { IsNumberItem item.now }
+    requires long { length bytes.now ≡ item_size item.now }
+    ensures found { IfSome result (λ text. IsNumberShown item.now bytes.now text.items) }
+    ensures none { IfNone result ((negative : Bool) (digits : List ℕ)
+        → Represents item.now bytes.now negative digits → ⊥) }
+{
+    let number = read_number(item, bytes)?;
+    let mut text = ArrayVec::new();
+    number.write_text(&mut text);
+    Some(text)
+}
+
+/// Writes bytes as characters, in quotation marks.
+fn put_characters<W: Sink>(w: &mut W, sent: &mut u64, bytes: &[u8]) -> Result<(), RecordFault>
+    ensures kind { IfErr result (λ fault. is_write_fault fault ≡ true) }
+    ensures cause { W.failures w.new ≡ counted (is_err result) (W.failures w.old) }
+    ensures errors { W.errors w.new ≡ counted (is_write_error result) (W.errors w.old) }
+{
+    put(w, sent, b"\"")?;
+    for byte in bytes {
+        put(w, sent, byte_text(*byte).as_slice())?;
+    }
+    put(w, sent, b"\"")
+}
+
+/// Writes bytes that represent no number: a question mark and their hexadecimal digits.
+fn put_unknown<W: Sink>(w: &mut W, sent: &mut u64, bytes: &[u8]) -> Result<(), RecordFault>
+    ensures kind { IfErr result (λ fault. is_write_fault fault ≡ true) }
+    ensures cause { W.failures w.new ≡ counted (is_err result) (W.failures w.old) }
+    ensures errors { W.errors w.new ≡ counted (is_write_error result) (W.errors w.old) }
+{
+    put(w, sent, b"?")?;
+    for byte in bytes {
+        put(w, sent, &[digit(*byte / 16), digit(*byte % 16)])?;
+    }
+    Ok(())
+}
+
+/// Writes the value of an item with these bytes: a number, `?` and the bytes of a number item that represent none, or characters.
+pub(crate) fn put_value<W: Sink>(
+    w: &mut W,
+    sent: &mut u64,
+    item: &Item,
+    bytes: &[u8],
+) -> Result<(), RecordFault>
+    ensures kind { IfErr result (λ fault. is_write_fault fault ≡ true) }
+    ensures cause { W.failures w.new ≡ counted (is_err result) (W.failures w.old) }
+    ensures errors { W.errors w.new ≡ counted (is_write_error result) (W.errors w.old) }
+{
+    if !is_number_item(item) || bytes.len() != usize::from(item.size()) {
+        return put_characters(w, sent, bytes);
+    }
+    match number_text(item, bytes) {
+        Some(text) => put(w, sent, text.as_slice()),
+        None => put_unknown(w, sent, bytes),
+    }
+}
