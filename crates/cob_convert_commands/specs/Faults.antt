@@ -5,6 +5,13 @@ use Rattle.cob_convert.specs.declared.jobs.Status.{Status}
 use Rattle.cob_convert.specs.declared.jobs.Status.TheVariants as status
 use Rattle.cob_convert.specs.declared.run.Cause.{Cause}
 use Rattle.cob_convert.specs.declared.run.Cause.TheVariants as cause
+use Rattle.cob_convert.specs.declared.run.RunFault.{RunFault}
+use Rattle.cob_convert_show.specs.declared.records.ShowFault.{ShowFault}
+use Rattle.cob_convert_show.specs.declared.records.ShowFault.TheVariants as listing
+use Rattle.cob_copybook_entries.specs.declared.fault.BookFault.{BookFault}
+use Rattle.cob_copybook_entries.specs.declared.fault.BookRule.{BookRule}
+use Rattle.cob_copybook_entries.specs.declared.fault.BookRule.TheVariants as rule
+use Rattle.cob_source.specs.declared.fault.SourceRule.TheVariants as source
 use Rattle.cob_records.specs.declared.records.RecordFault.TheVariants.{ReadFailed, WriteFailed, TookNothing}
 use Rattle.cob_convert_commands.specs.declared.fault.CommandFault.{CommandFault}
 use Rattle.cob_convert_commands.specs.declared.fault.CommandFault.TheVariants as fault
@@ -13,6 +20,25 @@ use Rattle.cob_convert_commands.specs.declared.fault.CommandFault.TheVariants as
 abbrev pub refused_text : PrepareFault → CommandFault
 refused_text prepare.Memory = fault.Memory
 refused_text refused = fault.Refused refused
+
+-- what the refusal of a listing's copybook is for a command: want of memory is told as that
+abbrev pub book_fault_by : BookRule → BookFault → CommandFault
+book_fault_by rule.Memory refused = fault.Memory
+book_fault_by (rule.Source source.Memory) refused = fault.Memory
+book_fault_by broken refused = fault.Book refused
+
+abbrev pub refused_book : BookFault → CommandFault
+refused_book refused = book_fault_by refused.rule refused
+
+-- what stops a listing of records is for a command: a line that is not written is told by no other
+abbrev pub show_fault_by : Cause → RunFault → CommandFault
+show_fault_by (cause.Record (WriteFailed taken)) stopped = fault.Unprinted
+show_fault_by (cause.Record (TookNothing taken)) stopped = fault.Unprinted
+show_fault_by stop stopped = fault.Stopped stopped
+
+abbrev pub show_fault : ShowFault → CommandFault
+show_fault listing.Memory = fault.Memory
+show_fault (listing.Run stopped) = show_fault_by stopped.cause stopped
 
 -- a read or a write that failed is a device's, all else that stops a run is a record's
 abbrev pub status_of_stop : Cause → Status
@@ -27,4 +53,6 @@ status_of (fault.CannotOpen name) = status.Device
 status_of (fault.CannotRead name) = status.Device
 status_of (fault.Refused refused) = status.Refused
 status_of (fault.Stopped stopped) = status_of_stop stopped.cause
+status_of (fault.Book refused) = status.Refused
+status_of fault.Unprinted = status.Device
 status_of fault.Memory = status.Memory

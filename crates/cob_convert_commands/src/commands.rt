@@ -1,8 +1,9 @@
 use crate::checking::check;
 use crate::converting::convert;
 use crate::fault::CommandFault;
+use crate::listing::{list_entries, list_records};
 use cob_convert::{Status, job};
-use cob_convert_line::{CheckLine, ConvertLine, Line, LineFault};
+use cob_convert_line::{CheckLine, ConvertLine, LayoutLine, Line, LineFault, ShowLine};
 use cob_records::{create_sink, open_source};
 use std::io;
 use std::io::{Eprint, Input, Print};
@@ -16,9 +17,12 @@ fn printed(line: io::Result<()>, status: Status) -> u8 {
     }
 }
 
-/// Prints the fault of a command on standard error.
+/// Prints the fault of a command on standard error, but for the fault that a line cannot be printed.
 fn fail<R: Eprint>(rt: &R, fault: CommandFault) -> u8 {
-    printed(eprintln!(rt; "{fault}"), fault.status())
+    match fault {
+        CommandFault::Unprinted => fault.status().code(),
+        fault => printed(eprintln!(rt; "{fault}"), fault.status()),
+    }
 }
 
 /// Does the job that stands on standard input; its faults are printed where its output is.
@@ -53,13 +57,30 @@ fn do_check<R: AllocGlobal + Files + Print + Eprint>(rt: &R, line: &CheckLine<'_
     }
 }
 
+/// Lists the entries of a copybook.
+fn do_layout<R: AllocGlobal + Files + Print + Eprint>(rt: &R, line: &LayoutLine<'_>) -> u8 {
+    match list_entries(rt, line) {
+        Ok(()) => Status::Done.code(),
+        Err(fault) => fail(rt, fault),
+    }
+}
+
+/// Lists the values of records, and prints how many there were.
+fn do_show<R: AllocGlobal + Files + Input + Print + Eprint>(rt: &R, line: &ShowLine<'_>) -> u8 {
+    match list_records(rt, line) {
+        Ok(done) => printed(println!(rt; "done {done}"), Status::Done),
+        Err(fault) => fail(rt, fault),
+    }
+}
+
 /// Carries out what a command line asks for, prints what comes of it, and answers the program's status.
 pub fn perform<R: AllocGlobal + Files + Input + Print + Eprint>(rt: &R, line: &Line<'_>) -> u8 {
     match line {
         Line::Job => do_job(rt),
         Line::Convert(line) => do_convert(rt, line),
         Line::Check(line) => do_check(rt, line),
-        Line::Layout(_) | Line::Show(_) => Status::Malformed.code(),
+        Line::Layout(line) => do_layout(rt, line),
+        Line::Show(line) => do_show(rt, line),
     }
 }
 

@@ -1,9 +1,12 @@
 ghost use Rattle.std.specs.Prelude.{◌≡◌};
-ghost use Rattle.cob_convert_commands.specs.Faults.{refused_text, status_of, status_of_stop};
+ghost use Rattle.cob_convert_commands.specs.Faults.{refused_book, show_fault, refused_text, status_of, status_of_stop};
 ghost use Rattle.cob_convert_commands.specs.declared.fault.CommandFault.TheVariants.{Memory, Stopped};
 
 use cob_convert::{Cause, PrepareFault, RunFault, Status};
+use cob_convert_show::ShowFault;
+use cob_copybook_entries::{BookFault, BookRule};
 use cob_records::{OpenFault, RecordFault};
+use cob_source::SourceRule;
 use std::alloc::AllocError;
 use std::fmt;
 use thiserror::Error;
@@ -48,12 +51,18 @@ pub enum CommandFault {
     /// A read of a text failed.
     #[error("cannot read {0}")]
     CannotRead(FileName),
-    /// A text breaks a rule.
+    /// A text of a conversion breaks a rule.
     #[error("{0}")]
     Refused(PrepareFault),
+    /// The copybook of a listing breaks a rule.
+    #[error("book {0}")]
+    Book(BookFault),
     /// A record stopped the run, or a device failed at it.
     #[error("{0}")]
     Stopped(RunFault),
+    /// A line of a listing could not be printed, so that no fault line is printed either.
+    #[error("cannot print")]
+    Unprinted,
     /// Memory was refused.
     #[error("memory")]
     Memory,
@@ -86,13 +95,45 @@ impl From<RunFault> for CommandFault {
     }
 }
 
+impl From<BookFault> for CommandFault {
+    ghost from_gives = { λ refused fault. fault ≡ refused_book refused };
+
+    fn from(fault: BookFault) -> CommandFault {
+        match fault.rule {
+            BookRule::Memory | BookRule::Source(SourceRule::Memory) => CommandFault::Memory,
+            _ => CommandFault::Book(fault),
+        }
+    }
+}
+
+impl From<ShowFault> for CommandFault {
+    ghost from_gives = { λ stopped fault. fault ≡ show_fault stopped };
+
+    fn from(fault: ShowFault) -> CommandFault {
+        match fault {
+            ShowFault::Memory => CommandFault::Memory,
+            ShowFault::Run(
+                RunFault {
+                    cause: Cause::Record(
+                        RecordFault::WriteFailed { .. } | RecordFault::TookNothing { .. },
+                    ),
+                    ..
+                },
+            ) => CommandFault::Unprinted,
+            ShowFault::Run(stop) => CommandFault::Stopped(stop),
+        }
+    }
+}
+
 /// The status of a run that stopped for this cause: whether a record stopped it, or a device failed.
 fn stop_status(cause: Cause) -> Status
     ensures { result ≡ status_of_stop cause }
 {
     match cause {
         Cause::Record(
-            RecordFault::ReadFailed | RecordFault::WriteFailed { .. } | RecordFault::TookNothing { .. },
+            RecordFault::ReadFailed
+            | RecordFault::WriteFailed { .. }
+            | RecordFault::TookNothing { .. },
         ) => Status::Device,
         _ => Status::Stopped,
     }
@@ -104,8 +145,10 @@ impl CommandFault {
         ensures status { result ≡ status_of self }
     {
         match self {
-            CommandFault::CannotOpen(_) | CommandFault::CannotRead(_) => Status::Device,
-            CommandFault::Refused(_) => Status::Refused,
+            CommandFault::CannotOpen(_) | CommandFault::CannotRead(_) | CommandFault::Unprinted => {
+                Status::Device
+            }
+            CommandFault::Refused(_) | CommandFault::Book(_) => Status::Refused,
             CommandFault::Stopped(fault) => stop_status(fault.cause),
             CommandFault::Memory => Status::Memory,
         }
