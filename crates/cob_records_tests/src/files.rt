@@ -1,7 +1,9 @@
 //! Ends over files and standard streams, with their buffers.
 
+use crate::frames::FRAME;
 use cob_records::{
-    Form, OpenFault, Opened, RecordFault, Sink, create_sink, next_record, open_source, put_record,
+    Form, MemSource, OpenFault, Opened, Progress, RecordFault, Sink, create_sink, next_record,
+    open_source, put_record,
 };
 
 /// How many records of ten bytes: more than one buffer holds.
@@ -96,5 +98,18 @@ fn a_full_device_fails_when_the_buffer_is_handed_on(rt: HostRuntime) {
             assert_eq!(rt; sink.flush().is_ok(), true);
         }
         Err(fault) => assert_eq!(rt; fault, OpenFault::Memory),
+    }
+}
+
+/// A source that tells its progress gives what the one inside gives. Nothing is told before a second has gone by.
+#[test]
+fn progress_changes_nothing(rt: HostRuntime) {
+    for form in [Form::Variable, Form::Fixed] {
+        let mut slot = [0u8; 8];
+        let mut source = Progress::new(MemSource::new(FRAME), &rt, form, 8);
+        let read = next_record(&mut source, form, 8, &mut slot);
+        let size = if form == Form::Fixed { 8 } else { 4 };
+        assert_eq!(rt; read, Ok(Some(size)));
+        assert_eq!(rt; next_record(&mut source, form, 8, &mut slot), Ok(None));
     }
 }
