@@ -116,10 +116,10 @@ stands_step : (path : List (List ℕ)) (n : ℕ) (e : Resolved) (kids more : For
 stands_step path n e kids more s true h left a b o = stands_later n s.number [] s.kind e kids more h (b o)
 stands_step path n e kids more s false h kept a b o =
     elim (one_of s (own_subordinate e.name path e ++ subordinates (path_below e.name path) kids) (subordinates path more) o) [
-        inl x ↦ elim (one_of s (own_subordinate e.name path e) (subordinates (path_below e.name path) kids) x) [
-            inl y ↦ stands_own path n e kids more e.name s h kept y
-          | inr y ↦ stands_plain n s.number s.kind e kids more h (no_table (is_some e.redefines) (is_table e.occurs) kept) (a y)
-        ]
+      | inl x ↦ elim (one_of s (own_subordinate e.name path e) (subordinates (path_below e.name path) kids) x) [
+        | inl y ↦ stands_own path n e kids more e.name s h kept y
+        | inr y ↦ stands_plain n s.number s.kind e kids more h (no_table (is_some e.redefines) (is_table e.occurs) kept) (a y)
+      ]
       | inr x ↦ stands_later n s.number [] s.kind e kids more h (b x)
     ]
 
@@ -141,33 +141,42 @@ HasGroup n r subscripts f = (g : Forest Resolved) × Group n r subscripts f g
 
 group_here : (n r : ℕ) (subscripts : List ℕ) (e : Resolved) (kids more : Forest Resolved) → AreNumbered n (Grows e kids more)
     → IsSubscripted (is_table e.occurs) (most e) subscripts → e.number ≡ r → later (is_table e.occurs) subscripts ≡ [] → HasGroup n r subscripts (Grows e kids more)
-group_here n r subscripts e kids more h s number none = (kids, record {
-  from = omega (arith, h.0, number);
-  found = hit (e.number == r) kids (found_below r kids) (found_below r more) (equal e.number r number);
-  first = n + 1;
-  numbered = h.1;
-  all = λ q k w. stands_inside n q subscripts k e kids more h s (subst (λ (xs : List ℕ). Stands (n + 1) q xs k kids) (sym none) w);
-})
+group_here n r subscripts e kids more h s number none = (
+  kids,
+  record {
+    from = omega (arith, h.0, number);
+    found = hit (e.number == r) kids (found_below r kids) (found_below r more) (equal e.number r number);
+    first = n + 1;
+    numbered = h.1;
+    all = λ q k w. stands_inside n q subscripts k e kids more h s (subst (λ (xs : List ℕ). Stands (n + 1) q xs k kids) (sym none) w);
+  },
+)
 
 group_inside : (n r : ℕ) (subscripts : List ℕ) (e : Resolved) (kids more : Forest Resolved) → AreNumbered n (Grows e kids more)
     → IsSubscripted (is_table e.occurs) (most e) subscripts → HasGroup (n + 1) r (later (is_table e.occurs) subscripts) kids → HasGroup n r subscripts (Grows e kids more)
-group_inside n r subscripts e kids more h s (g, i) = (g, record {
-  from = omega (arith, i.from);
-  found = inside (e.number == r) kids g (found_below r kids) (found_below r more) (differ e.number r (omega (arith, h.0, i.from))) i.found;
-  first = i.first;
-  numbered = i.numbered;
-  all = λ q k w. stands_inside n q subscripts k e kids more h s (i.all q k w);
-})
+group_inside n r subscripts e kids more h s (g, i) = (
+  g,
+  record {
+    from = omega (arith, i.from);
+    found = inside (e.number == r) kids g (found_below r kids) (found_below r more) (differ e.number r (omega (arith, h.0, i.from))) i.found;
+    first = i.first;
+    numbered = i.numbered;
+    all = λ q k w. stands_inside n q subscripts k e kids more h s (i.all q k w);
+  },
+)
 
 group_later : (n r : ℕ) (subscripts : List ℕ) (e : Resolved) (kids more : Forest Resolved) → AreNumbered n (Grows e kids more)
     → HasGroup (n + 1 + entries_in kids) r subscripts more → HasGroup n r subscripts (Grows e kids more)
-group_later n r subscripts e kids more h (g, i) = (g, record {
-  from = omega (arith, i.from);
-  found = skip (e.number == r) kids (found_below r kids) (found_below r more) (differ e.number r (omega (arith, h.0, i.from))) (none_below (n + 1) r kids h.1 (omega (arith, i.from))) ∙ i.found;
-  first = i.first;
-  numbered = i.numbered;
-  all = λ q k w. stands_later n q subscripts k e kids more h (i.all q k w);
-})
+group_later n r subscripts e kids more h (g, i) = (
+  g,
+  record {
+    from = omega (arith, i.from);
+    found = skip (e.number == r) kids (found_below r kids) (found_below r more) (differ e.number r (omega (arith, h.0, i.from))) (none_below (n + 1) r kids h.1 (omega (arith, i.from))) ∙ i.found;
+    first = i.first;
+    numbered = i.numbered;
+    all = λ q k w. stands_later n q subscripts k e kids more h (i.all q k w);
+  },
+)
 
 group_at : (n r : ℕ) (subscripts : List ℕ) (f : Forest Resolved) → AreNumbered n f → Refers r subscripts f → HasGroup n r subscripts f
 group_at n r subscripts Bare h is = absurd is

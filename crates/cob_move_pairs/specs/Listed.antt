@@ -15,8 +15,8 @@ abbrev pub subordinate : Listed → Subordinate
 subordinate s = record { number = (out-Node s.entry.now).number; path = path_names s.path.items; kind = (out-Node s.entry.now).kind }
 
 -- entries below a group
-abbrev pub listed : List Listed → List Subordinate
-listed entries = map subordinate entries
+abbrev pub subordinates_listed : List Listed → List Subordinate
+subordinates_listed entries = map subordinate entries
 
 -- a pair
 abbrev pub pair : Paired → Pair

@@ -9,9 +9,8 @@ use cob_copybook_tree::Node;
 
 /// What is below the entry with this number, if it is one of those below this entry, or this one.
 fn found_below(entry: &Node, number: usize) -> Option<&[Node]>
-    ensures found {
-      IfSome result (λ below. found_below number (alone (node entry.now)) ≡ Some (forest below.now))
-    }
+    ensures found { IfSome result
+        (λ below. found_below number (alone (node entry.now)) ≡ Some (forest below.now)) }
     ensures none { IfNone result (found_below number (alone (node entry.now)) ≡ None) }
 {
     if entry.number == number {

@@ -22,4 +22,4 @@ mod subordinate;
 pub use groups::entries_below;
 pub use laws::subordinates_are_operands;
 pub use pairing::{Pair, pairs, pairs_between, subordinates};
-pub use subordinate::Subordinate;
+pub use subordinate::{Subordinate, is_elementary};

@@ -17,7 +17,7 @@ ghost use Rattle.std.specs.Prelude.{
   OnOk,
 };
 ghost use Rattle.cob_copybook_tree.specs.Nodes.{forest, node};
-ghost use Rattle.cob_move_pairs.specs.Listed.{listed, pair, pairs, subordinate};
+ghost use Rattle.cob_move_pairs.specs.Listed.{subordinates_listed, pair, pairs, subordinate};
 ghost use Rattle.cob_move_pairs.specs.Pairing.{
   IsPairing,
   IsPairingFault,
@@ -93,7 +93,8 @@ fn is_received(number: usize, list: &[Pair<'_, '_>]) -> bool
 #[tactic(auto, using(crate::proofs::OnceLemmas::once_more))]
 fn is_paired(one: &Pair<'_, '_>, list: &[Pair<'_, '_>]) -> bool
     ensures yes { result ≡ true → AreOnce (pairs list.now ++ pair one.now ∷ []) → ⊥ }
-    ensures no { result ≡ false → AreOnce (pairs list.now) → AreOnce (pairs list.now ++ pair one.now ∷ []) }
+    ensures no { result ≡ false → AreOnce (pairs list.now)
+        → AreOnce (pairs list.now ++ pair one.now ∷ []) }
 {
     is_sent(one.from.entry.number, list) || is_received(one.to.entry.number, list)
 }
@@ -104,7 +105,8 @@ fn is_paired(one: &Pair<'_, '_>, list: &[Pair<'_, '_>]) -> bool
 ///
 /// `Twice` where one of its entries is in a pair already; `Memory`.
 fn add_pair<'b, 'a>(one: Pair<'b, 'a>, list: &mut Vec<Pair<'b, 'a>>) -> Result<(), MoveRule>
-    ensures added { OnOk result (pairs list.new.items ≡ pairs list.old.items ++ pair one.entry ∷ []) }
+    ensures added { OnOk result
+        (pairs list.new.items ≡ pairs list.old.items ++ pair one.entry ∷ []) }
     ensures once { OnOk result (AreOnce (pairs list.old.items) → AreOnce (pairs list.new.items)) }
     ensures fault { IfErr result (λ r. IsTwice r (pairs list.old.items ++ pair one.entry ∷ [])) }
 {
@@ -151,10 +153,10 @@ fn add_pairs<'b, 'a>(
     list: &mut Vec<Pair<'b, 'a>>,
 ) -> Result<(), MoveRule>
     ensures added { OnOk result (pairs list.new.items ≡ pairs list.old.items
-        ++ pairs_from (listed to.now) (subordinate from.now)) }
+        ++ pairs_from (subordinates_listed to.now) (subordinate from.now)) }
     ensures once { OnOk result (AreOnce (pairs list.old.items) → AreOnce (pairs list.new.items)) }
     ensures fault { IfErr result (λ r. IsTwice r (pairs list.old.items
-        ++ pairs_from (listed to.now) (subordinate from.now))) }
+        ++ pairs_from (subordinates_listed to.now) (subordinate from.now))) }
 {
     for other in to {
         add_if(from, other, list)?;
@@ -172,9 +174,11 @@ pub fn pairs_between<'b, 'a>(
     from: &'b [Subordinate<'a>],
     to: &'b [Subordinate<'a>],
 ) -> Result<Vec<Pair<'b, 'a>>, MoveRule>
-    ensures found { IfOk result (λ v. pairs v.items ≡ pairs_among (listed from.now) (listed to.now)) }
+    ensures found { IfOk result (λ v. pairs v.items
+        ≡ pairs_among (subordinates_listed from.now) (subordinates_listed to.now)) }
     ensures once { IfOk result (λ v. AreOnce (pairs v.items)) }
-    ensures fault { IfErr result (λ r. IsTwice r (pairs_among (listed from.now) (listed to.now))) }
+    ensures fault { IfErr result (λ r. IsTwice r
+        (pairs_among (subordinates_listed from.now) (subordinates_listed to.now))) }
 {
     let mut list = Vec::new(alloc);
     for sender in from {
@@ -204,7 +208,8 @@ pub fn subordinates<'a>(
     alloc: Global,
     entries: &'a [Node],
 ) -> Result<Vec<Subordinate<'a>>, MoveRule>
-    ensures found { IfOk result (λ v. listed v.items ≡ subordinates [] (forest entries.now)) }
+    ensures found { IfOk result
+        (λ v. subordinates_listed v.items ≡ subordinates [] (forest entries.now)) }
     ensures fault { IfErr result (λ r. r ≡ MoveRule.Memory) }
 {
     let mut list = Vec::new(alloc);
@@ -214,7 +219,8 @@ pub fn subordinates<'a>(
 
 /// The entries below a group that may be in a pair, in their order.
 fn below<'a>(alloc: Global, group: &'a Node) -> Result<Vec<Subordinate<'a>>, MoveRule>
-    ensures found { IfOk result (λ v. listed v.items ≡ subordinates [] (node group.now).beneath) }
+    ensures found { IfOk result
+        (λ v. subordinates_listed v.items ≡ subordinates [] (node group.now).beneath) }
     ensures fault { IfErr result (λ r. r ≡ MoveRule.Memory) }
 {
     subordinates(alloc, group.children.as_slice())
@@ -222,7 +228,8 @@ fn below<'a>(alloc: Global, group: &'a Node) -> Result<Vec<Subordinate<'a>>, Mov
 
 /// Whether one of two entries is no group.
 fn is_no_group(from: &Node, to: &Node) -> bool
-    ensures { result ≡ (is_elementary (node from.now).top.kind || is_elementary (node to.now).top.kind) }
+    ensures { result
+        ≡ (is_elementary (node from.now).top.kind || is_elementary (node to.now).top.kind) }
 {
     is_elementary(&from.kind) || is_elementary(&to.kind)
 }

@@ -3,7 +3,7 @@
 ghost use Rattle.std.specs.Prelude.{◌≡◌, List, [], ◌∷◌, ◌++◌, map, IfOk, OnOk, bytes_eq};
 ghost use Rattle.cob_copybook_tree.specs.declared.node.Node.TheViews.{out-Node};
 ghost use Rattle.cob_copybook_tree.specs.Nodes.{forest, resolved_entry};
-ghost use Rattle.cob_move_pairs.specs.Listed.{listed, path_names, subordinate};
+ghost use Rattle.cob_move_pairs.specs.Listed.{subordinates_listed, path_names, subordinate};
 ghost use Rattle.cob_move_pairs.specs.Pairs.{
   correspond,
   is_elementary,
@@ -49,7 +49,8 @@ fn path_below<'a>(
     entry: &'a Node,
     path: &[&'a [u8]],
 ) -> Result<Vec<&'a [u8]>, AllocError>
-    ensures { IfOk result (λ v. path_names v.items ≡ path_below (out-Node entry.now).name (path_names path.now)) }
+    ensures { IfOk result
+        (λ v. path_names v.items ≡ path_below (out-Node entry.now).name (path_names path.now)) }
 {
     let mut names = Vec::new(alloc);
     if let Some(name) = &entry.name {
@@ -73,8 +74,9 @@ fn list_entry<'a>(
     entry: &'a Node,
     list: &mut Vec<Subordinate<'a>>,
 ) -> Result<(), AllocError>
-    ensures { OnOk result (listed list.new.items ≡ listed list.old.items
-        ++ own_subordinate (out-Node entry.now).name (path_names path.now) (resolved_entry (out-Node entry.now))) }
+    ensures { OnOk result (subordinates_listed list.new.items ≡ subordinates_listed list.old.items
+        ++ own_subordinate (out-Node entry.now).name (path_names path.now)
+        (resolved_entry (out-Node entry.now))) }
 {
     if let Some(name) = &entry.name {
         let path = with_name(alloc, name, path)?;
@@ -94,7 +96,7 @@ pub(crate) fn list_entries<'a>(
     entries: &'a [Node],
     list: &mut Vec<Subordinate<'a>>,
 ) -> Result<(), AllocError>
-    ensures { OnOk result (listed list.new.items ≡ listed list.old.items
+    ensures { OnOk result (subordinates_listed list.new.items ≡ subordinates_listed list.old.items
         ++ subordinates (path_names path.now) (forest entries.now)) }
 {
     for entry in entries {
@@ -129,7 +131,7 @@ fn same_path(a: &[&[u8]], b: &[&[u8]]) -> bool
 }
 
 /// Whether an entry is elementary.
-pub(crate) fn is_elementary(kind: &Kind) -> bool
+pub fn is_elementary(kind: &Kind) -> bool
     ensures { result ≡ is_elementary kind.now }
 {
     matches!(kind, Kind::Item(_))

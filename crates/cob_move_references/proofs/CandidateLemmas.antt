@@ -1,22 +1,17 @@
 -- Entries as they are listed.
-use Rattle.std.proofs.Common.{◌≡◌, ℕ, ◌+◌, ◌<◌, ◌≤◌, List, [], ◌∷◌, ◌++◌, length, sym, ap, ◌∙◌, append_assoc, append-nil, length-append, arith, Bool, refl}
-use Rattle.std.specs.List.{AllByRecursion}
-use Rattle.cob_limits.specs.Limits.{most_dimensions}
-use Rattle.cob_copybook_tree.specs.declared.node.Node.{Node}
-use Rattle.cob_copybook_tree.specs.declared.node.Node.TheViews.{out-Node}
+use Rattle.std.proofs.Common.{◌≡◌, ℕ, ◌+◌, List, [], ◌∷◌, ◌++◌, length, length-append, arith, refl}
 use Rattle.cob_copybook_tree.specs.declared.node.Times.{Times}
 use Rattle.cob_copybook_tree.specs.declared.node.Times.TheVariants.{Once, Fixed, Varying}
 use Rattle.cob_copybook_tree.specs.Forests.{Forest, Bare, Grows, Tree}
 use Rattle.cob_copybook_tree.specs.Lengths.{most}
-use Rattle.cob_copybook_tree.specs.Nodes.{Resolved, forest, node, resolved_entry}
+use Rattle.cob_copybook_tree.specs.Nodes.{Resolved}
 use Rattle.cob_copybook_names.specs.Bearers.{with_name}
 use Rattle.cob_layout_places.specs.Lengths.{alone}
 use Rattle.cob_layout_places.specs.Places.{is_table}
-use Rattle.cob_layout_places.proofs.ForestLemmas.{node_out}
 use Rattle.cob_sound.specs.Sound.{AreNested, own_dimension}
 use Rattle.cob_move_operands.specs.declared.Side.{Side}
 use Rattle.cob_move_operands.specs.declared.Side.TheVariants.{In, Out}
-use Rattle.cob_move_references.specs.Candidates.{Candidate, all_entries, candidate, candidates, with_table}
+use Rattle.cob_move_references.specs.Candidates.{Candidate, all_entries, candidates, with_table}
 use Rattle.cob_move_references.specs.Listed.{AreShallow}
 
 -- no entry stands in more tables than may stand within one another
@@ -32,11 +27,12 @@ both (x ∷ xs) ys h k = (h.0, both xs ys h.1 k)
 shallow_side : (side : Side) (above : List (List ℕ)) (tables : List ℕ) (n : ℕ) (f : Forest Resolved) → length tables ≡ n → AreNested n f → AreShallow (candidates side above tables f)
 shallow_side side above tables n Bare is h = tt
 shallow_side side above tables n (Grows e kids more) is h =
-    let inner : length (with_table (is_table e.occurs) (most e) tables) ≡ n + own_dimension e.occurs = deeper e.occurs (most e) n tables is in
-    (omega (arith, inner, h.0),
-     both (candidates side (with_name e.name above) (with_table (is_table e.occurs) (most e) tables) kids) (candidates side above tables more)
-     (shallow_side side (with_name e.name above) (with_table (is_table e.occurs) (most e) tables) (n + own_dimension e.occurs) kids inner h.1)
-     (shallow_side side above tables n more is h.2))
+    let inner : length (with_table (is_table e.occurs) (most e) tables) ≡ n + own_dimension e.occurs = deeper e.occurs (most e) n tables is in (
+      omega (arith, inner, h.0),
+      both (candidates side (with_name e.name above) (with_table (is_table e.occurs) (most e) tables) kids) (candidates side above tables more)
+          (shallow_side side (with_name e.name above) (with_table (is_table e.occurs) (most e) tables) (n + own_dimension e.occurs) kids inner h.1)
+          (shallow_side side above tables n more is h.2),
+    )
 
 pub all_shallow : (input output : Tree Resolved) → AreNested 0 (alone input) → AreNested 0 (alone output) → AreShallow (all_entries (alone input) (alone output))
 all_shallow input output h k = both (candidates In [] [] (alone input)) (candidates Out [] [] (alone output)) (shallow_side In [] [] 0 (alone input) refl h) (shallow_side Out [] [] 0 (alone output) refl k)

@@ -1,8 +1,7 @@
 -- The entries that a name names, from the last one that bears it to the one before it, and so on.
-use Rattle.std.proofs.Common.{◌≡◌, ℕ, zero, suc, ◌+◌, ◌<◌, ◌≤◌, Bool, true, false, ◌&&◌, List, [], ◌∷◌, ◌++◌, length, get_or, map, take, refl, sym, ap, subst, ◌∙◌, arith, Option, Some, None, is_some, Bor, append_assoc, append-nil, length-append, add-one}
-use Rattle.std.specs.Prelude.{filter}
+use Rattle.std.proofs.Common.{◌≡◌, ℕ, zero, suc, ◌<◌, ◌≤◌, Bool, true, false, ◌&&◌, List, [], ◌∷◌, ◌++◌, length, get_or, map, take, refl, sym, ap, subst, ◌∙◌, arith, Option, Some, None, is_some, Bor, append_assoc, append-nil, length-append, add-one}
 use Rattle.std.proofs.Math.Seq.{take-length}
-use Rattle.std.proofs.lemmas.List.{get_or_default, length-map}
+use Rattle.std.proofs.lemmas.List.{get_or_default}
 use Rattle.std.proofs.lemmas.List.Elements.{filter-append}
 use Rattle.std.proofs.lemmas.Slice.Eq.{bytes_eq-Decides}
 use Rattle.cob_copybook_names.specs.Links.{AreLinked, BearsAt, IsLast, reach}
@@ -76,7 +75,7 @@ pub walk_at : (name : List ℕ) (qs : List (List ℕ)) (all : List Candidate) (p
 walk_at name qs all place p c t rest front bears test so =
     so ∙ ap (λ (cs : List Candidate). named name qs cs ++ rest) front
     ∙ ap (λ (cs : List Candidate). cs ++ rest)
-      (filter-append (λ x. is_named name qs x) (take p all) (c ∷ []) ∙ ap (λ (cs : List Candidate). named name qs (take p all) ++ cs) (named_one name qs c t (named_by name qs c bears ∙ test)))
+    (filter-append (λ x. is_named name qs x) (take p all) (c ∷ []) ∙ ap (λ (cs : List Candidate). named name qs (take p all) ++ cs) (named_one name qs c t (named_by name qs c bears ∙ test)))
     ∙ append_assoc (named name qs (take p all)) (only_if t c) rest
 
 -- and goes on to the one before it

@@ -1,7 +1,6 @@
 -- What a reference names is an operand of its record, and no other.
-use Rattle.std.proofs.Common.{◌≡◌, ℕ, ◌+◌, ◌<◌, ◌≤◌, ◌==◌, Bool, true, false, List, [], ◌∷◌, ◌++◌, map, refl, sym, ap, subst, ◌∙◌, inl, inr, ◌⊎◌, arith, Option, Some, None, append_assoc, append-nil}
+use Rattle.std.proofs.Common.{◌≡◌, ℕ, ◌+◌, ◌<◌, ◌≤◌, ◌==◌, Bool, true, false, List, [], ◌∷◌, ◌++◌, refl, sym, ap, subst, ◌∙◌, inl, inr, ◌⊎◌, arith, Option, Some, None, append_assoc, append-nil}
 use Rattle.std.specs.Prelude.{filter}
-use Rattle.std.specs.List.{AllByRecursion}
 use Rattle.std.proofs.lemmas.Bool.Decides.{nat_tests}
 use Rattle.cob_limits.specs.Limits.{most_dimensions}
 use Rattle.std.proofs.Common.{length}
@@ -25,7 +24,7 @@ use Rattle.cob_move_statements.specs.Written.{WrittenReference}
 use Rattle.cob_move_references.specs.Candidates.{Candidate, all_entries, candidate, candidates, is_named, named, with_table}
 use Rattle.cob_move_references.specs.Laws.{NamedAreOperands}
 use Rattle.cob_move_references.specs.Listed.{AreShallow}
-use Rattle.cob_move_references.specs.References.{AreSubscripts, BreaksName, BreaksReceiver, BreaksReference, IsNamed, operand, subscript_numbers}
+use Rattle.cob_move_references.specs.References.{AreSubscriptsOf, BreaksName, BreaksReceiver, BreaksReference, operand, subscript_numbers}
 
 -- ---- entries of a list
 
@@ -66,7 +65,7 @@ AreWithin [] (s ∷ subscripts) = ⊥
 AreWithin (n ∷ tables) [] = ⊥
 AreWithin (n ∷ tables) (s ∷ subscripts) = (0 < s) × (s ≤ n) × AreWithin tables subscripts
 
-within : (tables : List ℕ) (texts : List (List ℕ)) → AreSubscripts tables texts → AreWithin tables (subscript_numbers texts)
+within : (tables : List ℕ) (texts : List (List ℕ)) → AreSubscriptsOf tables texts → AreWithin tables (subscript_numbers texts)
 within [] [] h = tt
 within [] (t ∷ texts) h = absurd h
 within (n ∷ tables) [] h = absurd h
@@ -179,7 +178,7 @@ whole : {A : Type 0} (x : Option A) → x ≡ or_else x None
 whole None = refl
 whole (Some a) = refl
 
-operand_in : (side : Side) (t : Tree Resolved) (c : Candidate) (texts : List (List ℕ)) → Stands side 0 [] (alone t) c → AreSubscripts c.tables texts → IsOperand t (operand c (subscript_numbers texts))
+operand_in : (side : Side) (t : Tree Resolved) (c : Candidate) (texts : List (List ℕ)) → Stands side 0 [] (alone t) c → AreSubscriptsOf c.tables texts → IsOperand t (operand c (subscript_numbers texts))
 operand_in side t c texts s h = record {
   refers = s.refers (subscript_numbers texts) (subst (λ (tables : List ℕ). AreWithin tables (subscript_numbers texts)) s.tables (within c.tables texts h));
   is = whole (kind_one c.number t) ∙ s.kind;

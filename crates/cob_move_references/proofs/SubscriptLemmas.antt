@@ -14,8 +14,8 @@ times n p h = let one : 1 ≤ p = omega arith in omega (arith, mul-le-mul_right 
 pub at_least : (cs : List ℕ) (i : ℕ) → number_of (digits_in (take i cs)) ≤ number_of (digits_in cs)
 at_least cs i =
     let e : number_of (digits_in cs) ≡ number_of (digits_in (take i cs)) * 10 ^ length (digits_in (drop i cs)) + number_of (digits_in (drop i cs)) =
-        ap (λ (xs : List ℕ). number_of (digits_in xs)) (sym (take-append-drop i cs)) ∙ ap number_of (map-append (λ c. c - 48) (take i cs) (drop i cs))
-        ∙ number_of-append (digits_in (take i cs)) (digits_in (drop i cs)) in
+    ap (λ (xs : List ℕ). number_of (digits_in xs)) (sym (take-append-drop i cs)) ∙ ap number_of (map-append (λ c. c - 48) (take i cs) (drop i cs))
+    ∙ number_of-append (digits_in (take i cs)) (digits_in (drop i cs)) in
     omega (arith, e, times (number_of (digits_in (take i cs))) (10 ^ length (digits_in (drop i cs))) (ten_pos (length (digits_in (drop i cs)))))
 
 -- one digit more

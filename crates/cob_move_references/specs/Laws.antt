@@ -1,7 +1,5 @@
 -- What follows from the definitions, said as laws.
 use Rattle.std.specs.Prelude.{◌≡◌, ◌↔◌, ℕ, List, IsTrue}
-use Rattle.cob_copybook_tree.specs.Forests.{Tree}
-use Rattle.cob_copybook_tree.specs.Nodes.{Resolved}
 use Rattle.cob_copybook_names.specs.Bearers.{Qualify}
 use Rattle.cob_copybook.specs.Books.{IsRecord}
 use Rattle.cob_layout_places.specs.Lengths.{alone}

@@ -3,7 +3,7 @@ use Rattle.std.specs.Prelude.{◌≡◌, ℕ, ◌<◌, ◌≤◌, List, [], ◌�
 use Rattle.cob_decimal.specs.Decimal.{number_of}
 use Rattle.cob_decimal.specs.Literals.{AreDigits, digits_in}
 use Rattle.cob_move_operands.specs.declared.Side.{Side}
-use Rattle.cob_move_operands.specs.declared.Side.TheVariants.{In, Out}
+use Rattle.cob_move_operands.specs.declared.Side.TheVariants.{In}
 use Rattle.cob_move_operands.specs.declared.Operand.{Operand}
 use Rattle.cob_move_statements.specs.declared.fault.MoveRule.{MoveRule}
 use Rattle.cob_move_statements.specs.declared.fault.MoveRule.TheVariants as rule
@@ -18,18 +18,18 @@ subscript_number text = number_of (digits_in text)
 abbrev pub subscript_numbers : List (List ℕ) → List ℕ
 subscript_numbers texts = map subscript_number texts
 
--- A subscript of a table is digits, and from 1 to the table's greatest number.
-pub record IsSubscript (most : ℕ) (text : List ℕ) : Type 0 where
+-- A subscript of a table is digits that spell a number from 1 to the table's greatest number.
+pub record IsSubscriptOf (most : ℕ) (text : List ℕ) : Type 0 where
   pub digits : AreDigits text
   pub first : 0 < subscript_number text
   pub last : subscript_number text ≤ most
 
 -- There is one subscript for each table, in order, and no other.
-abbrev pub AreSubscripts : List ℕ → List (List ℕ) → Type 0
-AreSubscripts [] [] = Unit {0}
-AreSubscripts [] (text ∷ texts) = ⊥
-AreSubscripts (most ∷ tables) [] = ⊥
-AreSubscripts (most ∷ tables) (text ∷ texts) = IsSubscript most text × AreSubscripts tables texts
+abbrev pub AreSubscriptsOf : List ℕ → List (List ℕ) → Type 0
+AreSubscriptsOf [] [] = Unit {0}
+AreSubscriptsOf [] (text ∷ texts) = ⊥
+AreSubscriptsOf (most ∷ tables) [] = ⊥
+AreSubscriptsOf (most ∷ tables) (text ∷ texts) = IsSubscriptOf most text × AreSubscriptsOf tables texts
 
 -- An entry with subscripts.
 abbrev pub operand : Candidate → List ℕ → Operand
@@ -40,7 +40,7 @@ operand c subscripts = record { entry = record { node = c.number; subscripts = r
 pub record IsNamed (all : List Candidate) (r : WrittenReference) (side : Side) (o : Operand) : Type 0 where
   pub entry : Candidate
   pub only : named r.name r.qualifiers all ≡ entry ∷ []
-  pub subscripts : AreSubscripts entry.tables r.subscripts
+  pub subscripts : AreSubscriptsOf entry.tables r.subscripts
   pub stands : side ≡ entry.side
   pub is : o ≡ operand entry (subscript_numbers r.subscripts)
 
@@ -52,7 +52,7 @@ BreaksName other cs = ⊥
 
 -- A reference breaks a rule: its name and qualifiers name no entry, or several, or one whose tables haven't these subscripts.
 abbrev pub BreaksReference : MoveRule → List Candidate → WrittenReference → Type 0
-BreaksReference rule.Subscripts all r = (c : Candidate) × (named r.name r.qualifiers all ≡ c ∷ []) × (AreSubscripts c.tables r.subscripts → ⊥)
+BreaksReference rule.Subscripts all r = (c : Candidate) × (named r.name r.qualifiers all ≡ c ∷ []) × (AreSubscriptsOf c.tables r.subscripts → ⊥)
 BreaksReference other all r = BreaksName other (named r.name r.qualifiers all)
 
 -- A receiver breaks a rule as any reference does, or by standing in the input record.

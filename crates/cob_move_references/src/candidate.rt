@@ -102,7 +102,14 @@ pub(crate) fn list_tree<'a>(
     let beneath = names_beneath(alloc, entry, above)?;
     let inner = tables_of(alloc, entry, holding)?;
     for child in entry.children.iter() {
-        list_tree(alloc, side, beneath.as_slice(), inner.as_slice(), child, listed)?;
+        list_tree(
+            alloc,
+            side,
+            beneath.as_slice(),
+            inner.as_slice(),
+            child,
+            listed,
+        )?;
     }
     Ok(())
 }

@@ -11,19 +11,19 @@ ghost use Rattle.cob_move_references.specs.Listed.{AreShallow, candidate_of, own
 ghost use Rattle.cob_move_references.specs.References.{BreaksName};
 
 use crate::candidate::Candidate;
-use cob_move_statements::MoveRule;
 use crate::qualifiers::qualifies;
 use cob_copybook_tree::Node;
+use cob_move_statements::MoveRule;
 use cob_source::Token;
 use indexmap::IndexMap;
 use std::alloc::{AllocError, Global};
 
 /// The entries of the input record and of the output record, to be found by their names.
 ///
-/// Contracts see the entries of both records in order (`entries_named` of specs/Listed.antt).
+/// Contracts see the entries of both records in order (`entries_named` of specs/Directory.antt).
 #[derive(Drop)]
 pub struct Names<'a> {
-    pub(crate) entries: Vec<Candidate<'a>>,
+    entries: Vec<Candidate<'a>>,
     /// For each entry that has a name, the place of the last one before it of the same name.
     earlier: Vec<Option<usize>>,
     /// The place of the last entry of each name.
@@ -56,7 +56,10 @@ fn note<'a>(
 
 impl<'a> Names<'a> {
     /// The names of these entries.
-    pub(crate) fn linked(alloc: Global, entries: Vec<Candidate<'a>>) -> Result<Names<'a>, AllocError>
+    pub(crate) fn linked(
+        alloc: Global,
+        entries: Vec<Candidate<'a>>,
+    ) -> Result<Names<'a>, AllocError>
         requires { AreShallow (map candidate_of entries.items) }
         ensures { IfOk result (λ names. map candidate_of names.entries.items
             ≡ map candidate_of entries.entry.items) }
@@ -75,7 +78,11 @@ impl<'a> Names<'a> {
     }
 
     /// The only entry that a name with its qualifiers names.
-    pub(crate) fn only_named(&self, name: &[u8], qualifiers: &[Token]) -> Result<&Candidate<'a>, MoveRule>
+    pub(crate) fn only_named(
+        &self,
+        name: &[u8],
+        qualifiers: &[Token],
+    ) -> Result<&Candidate<'a>, MoveRule>
         ensures found { IfOk result (λ c. named name.now (names_behind (lexemes qualifiers.now))
             (map candidate_of self.now.entries.items) ≡ candidate_of c.now ∷ []) }
         ensures fault { IfErr result (λ rule. BreaksName rule (named name.now

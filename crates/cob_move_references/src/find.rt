@@ -10,17 +10,17 @@ ghost use Rattle.cob_move_statements.specs.Written.{word_texts, written_referenc
 ghost use Rattle.cob_move_references.specs.Candidates.{all_entries};
 ghost use Rattle.cob_move_references.specs.Directory.{entries_named};
 ghost use Rattle.cob_move_references.specs.Listed.{candidate_of};
-ghost use Rattle.cob_move_references.specs.References.{AreSubscripts, BreaksReceiver, BreaksReference, IsNamed, operand, subscript_numbers};
+ghost use Rattle.cob_move_references.specs.References.{AreSubscriptsOf, BreaksReceiver, BreaksReference, IsNamed, operand, subscript_numbers};
 
 use crate::candidate::{Candidate, list_tree};
 use crate::directory::Names;
-use cob_move_statements::{MoveRule, Reference};
 use crate::subscripts::read_subscripts;
 use arrayvec::ArrayVec;
 use cob_copybook::Book;
 use cob_copybook_tree::{Item, Kind};
 use cob_layout_places::Ref;
 use cob_move_operands::{Operand, Side};
+use cob_move_statements::{MoveRule, Reference};
 use cob_sound::records_are_sound;
 use cob_source::Token;
 use std::alloc::{AllocError, Global};
@@ -54,9 +54,9 @@ fn operand_of(entry: &Candidate<'_>, written: &[Token]) -> Option<Operand>
     ensures found { IfSome result (λ o. o
         ≡ operand (candidate_of entry.now) (subscript_numbers (word_texts (lexemes written.now)))) }
     ensures yes { IfSome result
-        (λ o. AreSubscripts (candidate_of entry.now).tables (word_texts (lexemes written.now))) }
+        (λ o. AreSubscriptsOf (candidate_of entry.now).tables (word_texts (lexemes written.now))) }
     ensures no { IfNone result
-        (AreSubscripts (candidate_of entry.now).tables (word_texts (lexemes written.now)) → ⊥) }
+        (AreSubscriptsOf (candidate_of entry.now).tables (word_texts (lexemes written.now)) → ⊥) }
 {
     let mut subscripts = ArrayVec::new();
     if !read_subscripts(entry.tables.as_slice(), written, &mut subscripts) {

@@ -5,7 +5,7 @@ ghost use Rattle.cob_decimal.specs.Literals.{AreDigits};
 ghost use Rattle.cob_limits.specs.Limits.{most_dimensions};
 ghost use Rattle.cob_source.specs.Tokens.{lexemes};
 ghost use Rattle.cob_move_statements.specs.Written.{word_texts};
-ghost use Rattle.cob_move_references.specs.References.{AreSubscripts, IsSubscript, subscript_number, subscript_numbers};
+ghost use Rattle.cob_move_references.specs.References.{AreSubscriptsOf, IsSubscriptOf, subscript_number, subscript_numbers};
 
 use arrayvec::ArrayVec;
 use cob_limits::MAX_SUBSCRIPTS;
@@ -42,9 +42,9 @@ fn number_within(text: &[u8], most: u32) -> Option<u32>
 
 /// The number of a subscript of a table whose greatest number this is.
 fn subscript_of(text: &[u8], most: u32) -> Option<u32>
-    ensures found { IfSome result (λ n. IsSubscript most text.now) }
+    ensures found { IfSome result (λ n. IsSubscriptOf most text.now) }
     ensures value { IfSome result (λ n. n ≡ subscript_number text.now) }
-    ensures none { IfNone result (IsSubscript most text.now → ⊥) }
+    ensures none { IfNone result (IsSubscriptOf most text.now → ⊥) }
 {
     let number = number_within(text, most)?;
     if number == 0 {
@@ -62,8 +62,9 @@ pub(crate) fn read_subscripts(
     requires room { length subscripts.old.items + length tables.now ≤ most_dimensions }
     ensures read { IsTrue result → subscripts.new.items
         ≡ subscripts.old.items ++ subscript_numbers (word_texts (lexemes written.now)) }
-    ensures yes { IsTrue result → AreSubscripts tables.now (word_texts (lexemes written.now)) }
-    ensures no { IsFalse result → AreSubscripts tables.now (word_texts (lexemes written.now)) → ⊥ }
+    ensures yes { IsTrue result → AreSubscriptsOf tables.now (word_texts (lexemes written.now)) }
+    ensures no { IsFalse result
+        → AreSubscriptsOf tables.now (word_texts (lexemes written.now)) → ⊥ }
 {
     let Some((most, tables)) = tables.split_first() else {
         return written.is_empty();

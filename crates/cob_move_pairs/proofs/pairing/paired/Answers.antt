@@ -4,7 +4,7 @@ use Rattle.cob_copybook_tree.specs.Nodes.{node}
 use Rattle.cob_move_pairs.specs.declared.subordinate.Subordinate.{Subordinate as Listed}
 use Rattle.cob_move_pairs.specs.declared.pairing.Pair.{Pair as Paired}
 use Rattle.cob_move_pairs.specs.Pairing.{pair_numbers}
-use Rattle.cob_move_pairs.specs.Listed.{listed, pairs}
+use Rattle.cob_move_pairs.specs.Listed.{subordinates_listed, pairs}
 use Rattle.cob_move_pairs.proofs.GroupLemmas.{pairing, pairing_fault}
 use Rattle.cob_move_pairs.proofs.pairing.paired.Goals as goal
 
@@ -12,16 +12,16 @@ pub returns-in_err-list-clause-fault : goal.returns-in_err-list-clause-fault
 returns-in_err-list-clause-fault c =
     let p = err_from_is_err_and c.from_residual-in_err-list.result c.from_residual-in_err-list.ensures.1 in
     rw (p.1, p.2)
-    (pairing_fault c.in_err-list.field-0.0 (node c.args.from.now) (node c.args.to.now) (listed c.as_slice.result.now) (listed c.as_slice-2.result.now)
-    (ap (λ (bs : List Listed). listed bs) c.as_slice.ensures.value ∙ c.in_ok-senders.ensures.found)
-    (ap (λ (bs : List Listed). listed bs) c.as_slice-2.ensures.value ∙ c.in_ok-receivers.ensures.found)
+    (pairing_fault c.in_err-list.field-0.0 (node c.args.from.now) (node c.args.to.now) (subordinates_listed c.as_slice.result.now) (subordinates_listed c.as_slice-2.result.now)
+    (ap (λ (bs : List Listed). subordinates_listed bs) c.as_slice.ensures.value ∙ c.in_ok-senders.ensures.found)
+    (ap (λ (bs : List Listed). subordinates_listed bs) c.as_slice-2.ensures.value ∙ c.in_ok-receivers.ensures.found)
     c.in_err-list.ensures.fault)
 
 pub returns-clause-found : goal.returns-clause-found
 returns-clause-found c =
-    pairing (node c.args.from.now) (node c.args.to.now) (listed c.as_slice.result.now) (listed c.as_slice-2.result.now) (pairs c.in_ok-list.list.items) c.in_ok-numbers.numbers.items
-    (ap (λ (bs : List Listed). listed bs) c.as_slice.ensures.value ∙ c.in_ok-senders.ensures.found)
-    (ap (λ (bs : List Listed). listed bs) c.as_slice-2.ensures.value ∙ c.in_ok-receivers.ensures.found)
+    pairing (node c.args.from.now) (node c.args.to.now) (subordinates_listed c.as_slice.result.now) (subordinates_listed c.as_slice-2.result.now) (pairs c.in_ok-list.list.items) c.in_ok-numbers.numbers.items
+    (ap (λ (bs : List Listed). subordinates_listed bs) c.as_slice.ensures.value ∙ c.in_ok-senders.ensures.found)
+    (ap (λ (bs : List Listed). subordinates_listed bs) c.as_slice-2.ensures.value ∙ c.in_ok-receivers.ensures.found)
     c.in_ok-list.ensures.found c.in_ok-list.ensures.once
     (c.in_ok-numbers.ensures.found ∙ ap (λ (ps : List Paired). map pair_numbers (pairs ps)) c.as_slice-3.ensures.value)
     (sym c.is_no_group.ensures ∙ c.if-is_no_group.false)

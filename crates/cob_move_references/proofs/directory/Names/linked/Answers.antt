@@ -1,5 +1,4 @@
 use Rattle.std.proofs.Common.{◌≡◌, ℕ, List, get_or, ap, map, length, sym, subst, ◌∙◌, arith, length-append}
-use Rattle.cob_copybook_tree.specs.declared.node.Node.TheViews.{out-Node}
 use Rattle.cob_copybook_names.specs.Links.{IsLast, AreLinked, noted_for}
 use Rattle.cob_copybook_names.proofs.Links.{linked_more, latest_more}
 use Rattle.cob_move_references.specs.declared.candidate.Candidate.{Candidate as Listed}

@@ -14,9 +14,9 @@ linked-requires c =
     let input = node c.root.result.now in
     let output = node c.root-2.result.now in
     let first : map candidate_of c.list_tree.new.listed.items ≡ candidates In [] [] (alone input) =
-        c.in_ok-list_tree.ensures ∙ ap (λ (xs : List Listed). map candidate_of xs ++ candidates In [] [] (alone input)) c.new-entries.ensures.items in
+    c.in_ok-list_tree.ensures ∙ ap (λ (xs : List Listed). map candidate_of xs ++ candidates In [] [] (alone input)) c.new-entries.ensures.items in
     let both : map candidate_of c.list_tree-2.new.listed.items ≡ all_entries (alone input) (alone output) =
-        c.in_ok-list_tree-2.ensures ∙ ap (λ (xs : List Candidate). xs ++ candidates Out [] [] (alone output)) first in
+    c.in_ok-list_tree-2.ensures ∙ ap (λ (xs : List Candidate). xs ++ candidates Out [] [] (alone output)) first in
     subst AreShallow (sym both)
     (all_shallow input output (c.records_are_sound.ensures input (subst IsRecord (sym c.root.ensures.tree) c.root.ensures.record)).nested
-     (c.records_are_sound.ensures output (subst IsRecord (sym c.root-2.ensures.tree) c.root-2.ensures.record)).nested)
+    (c.records_are_sound.ensures output (subst IsRecord (sym c.root-2.ensures.tree) c.root-2.ensures.record)).nested)

@@ -1,11 +1,11 @@
-use Rattle.std.proofs.Common.{◌≡◌, [], ◌∷◌, ◌++◌, ◌+◌, ◌<◌, ℕ, List, Option, Bor, false, map, length, take, true, refl, sym, subst, ap, ◌∙◌, arith}
+use Rattle.std.proofs.Common.{◌≡◌, ◌++◌, ◌+◌, ◌<◌, ℕ, List, Option, Bor, false, map, length, take, true, sym, subst, ap, ◌∙◌, arith}
 use Rattle.std.proofs.lemmas.List.{length-map}
 use Rattle.cob_copybook_clauses.specs.Written.{names_behind}
 use Rattle.cob_copybook_names.specs.Links.{reach, IsLast}
 use Rattle.cob_copybook_names.specs.Listed.{texts}
 use Rattle.cob_source.specs.Tokens.{lexemes}
 use Rattle.cob_move_references.specs.declared.candidate.Candidate.{Candidate as Listed}
-use Rattle.cob_move_references.specs.Candidates.{Candidate, named, qualifies}
+use Rattle.cob_move_references.specs.Candidates.{named, qualifies}
 use Rattle.cob_move_references.specs.Listed.{candidate_of, found_list, own_names}
 use Rattle.cob_move_references.proofs.NameLemmas.{front_at, inside_at, link_at, name_at, walk_at, walk_meet, walk_start, walk_step, walk_twice}
 use Rattle.cob_move_references.proofs.directory.Names.only_named.Goals as goal
