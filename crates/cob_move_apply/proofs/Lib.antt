@@ -1,4 +1,4 @@
 pub mod PlaceLemmas
+pub mod ListLemmas
 pub mod ReceiverLemmas
-pub mod MoveLemmas
 pub mod OneLemmas

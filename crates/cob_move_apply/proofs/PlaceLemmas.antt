@@ -1,6 +1,6 @@
 -- Where operands stand.
-use Rattle.std.proofs.Common.{◌≡◌, ℕ, ◌==◌, Bool, true, false, List, refl, sym, ap, subst, ◌∙◌, Option, Some, None, Ok}
-use Rattle.std.specs.Prelude.{option_map}
+use Rattle.std.proofs.Common.{◌≡◌, ℕ, ◌+◌, ◌≤◌, [], ◌==◌, Bool, true, false, List, refl, sym, ap, subst, ◌∙◌, Option, Some, None, Ok}
+use Rattle.std.specs.Prelude.{option_map, IfSome}
 use Rattle.cob_copybook_tree.specs.declared.node.Item.{Item}
 use Rattle.cob_copybook_tree.specs.declared.node.Kind.{Kind}
 use Rattle.cob_copybook_tree.specs.declared.node.Kind.TheVariants.{Group, Item as ItemKind}
@@ -15,6 +15,14 @@ use Rattle.cob_layout_places.proofs.CountLemmas.{found_size, pairs_one}
 use Rattle.cob_layout.specs.Placed.{placed}
 use Rattle.cob_layout.proofs.ReferenceLemmas.{find_alone}
 use Rattle.cob_layout.proofs.StorageLemmas.{found_by}
+use Rattle.cob_layout.specs.Counting.{greatest_counts, ReadsNone}
+use Rattle.cob_layout.specs.Storage.{greatest_length}
+use Rattle.cob_move_operands.specs.declared.Side.{Side}
+use Rattle.cob_move_operands.specs.declared.Operand.{Operand}
+use Rattle.cob_move_operands.specs.Moves.{IsOperand}
+use Rattle.cob_move_apply.specs.declared.step.PlacedOperand.{PlacedOperand}
+use Rattle.cob_move_apply.specs.Located.{Located, StandsAt}
+use Rattle.cob_move_apply.specs.Placed.{IsFixed, IsPlaced}
 use Rattle.cob_sound.specs.Sound.{IsSound, IsStorableKind, AreStorable}
 use Rattle.cob_move_receive.specs.Sent.{Occupies}
 
@@ -51,3 +59,21 @@ filled t number counts subscripts k p sound is stands =
     filled_by k p.length (storable number t sound.storable k is)
     (λ i item. size ∙ found_size (kind_one number t) (find_one (times counts) number t 0 subscripts) i f (pairs_one (times counts) number t 0 subscripts)
     (is ∙ ap (λ (q : Kind). Some q) item) (sym (find_alone (times counts) number t subscripts) ∙ found))
+
+pub filled_at : (side : Side) (t : Tree Resolved) (receiving : Bool) (o : Operand) (bytes : List ℕ) (p : Place) → IsSound t → IsOperand t o
+    → Located side t receiving o bytes (Ok p) → Occupies o.kind p.length
+filled_at side t receiving o bytes p sound is (counts, needs, stands) =
+    filled t o.entry.node counts o.entry.subscripts.items o.kind p sound is.is stands
+
+-- ---- a place that is noted
+
+pub fixed_in : (t : Tree Resolved) (receiving : Bool) (o : PlacedOperand) (p : Place) → IsPlaced t receiving o → o.place ≡ Some p → IsFixed t receiving o.operand p
+fixed_in t receiving o p is e = subst (λ (q : Option Place). IfSome q (λ place. IsFixed t receiving o.operand place)) e is.place
+
+-- where no count is read
+pub fixed : (t : Tree Resolved) (receiving : Bool) (o : Operand) (p : Place) → ReadsNone t o.entry.node receiving → StandsAt t o (greatest_counts t) (Ok p)
+    → p.offset + p.length ≤ greatest_length t → IsFixed t receiving o p
+fixed t receiving o p none stands within = record {
+  place = λ side bytes. (greatest_counts t, ([], none, refl), stands);
+  within = within;
+}

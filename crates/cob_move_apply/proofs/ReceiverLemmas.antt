@@ -1,12 +1,10 @@
 -- Receivers, one after another.
-use Rattle.std.proofs.Common.{◌≡◌, ℕ, ◌+◌, ◌-◌, ◌<◌, ◌≤◌, Bool, true, false, List, ◌∷◌, ◌++◌, length, get_or, take, drop, refl, sym, ap, subst, ◌∙◌, arith, inl, inr, Ok, Err}
-use Rattle.std.proofs.lemmas.List.{drop_more, drop_all, length-take, length-drop}
-use Rattle.std.specs.List.{AllByRecursion}
+use Rattle.std.proofs.Common.{◌≡◌, ℕ, ◌+◌, ◌-◌, ◌<◌, ◌≤◌, Bool, true, false, List, ◌++◌, length, get_or, take, drop, refl, sym, ap, subst, ◌∙◌, arith, inl, inr, Ok, Err}
+use Rattle.std.proofs.lemmas.List.{drop_all, length-take, length-drop}
 use borrow.Rule.Slice.PartMut.{put_mid}
 use Rattle.cob_copybook_tree.specs.declared.node.Kind.{Kind}
 use Rattle.cob_copybook_tree.specs.Forests.{Tree}
 use Rattle.cob_copybook_tree.specs.Nodes.{Resolved}
-use Rattle.cob_copybook_entries.specs.Described.{Constant}
 use Rattle.cob_fields.specs.declared.Place.{Place}
 use Rattle.cob_fields.specs.Fields.{with_field}
 use Rattle.cob_move_receive.specs.Received.{Received, outcome}
@@ -18,7 +16,8 @@ use Rattle.cob_move_operands.specs.declared.Side.{Side}
 use Rattle.cob_move_receive.specs.Sent as sent
 use Rattle.cob_move_receive.specs.Sent.{Occupies}
 use Rattle.cob_fields.specs.Fields.{field_of}
-use Rattle.cob_move_operands.specs.Moves.{Sender, Entry, Literal, Move, Records, record_of}
+use Rattle.cob_move_operands.specs.Moves.{Sender, Entry, Move, Records, record_of}
+use Rattle.cob_move_apply.proofs.ListLemmas.{next}
 use Rattle.cob_move_apply.specs.Located.{Located, stop_at}
 use Rattle.cob_move_apply.specs.Applied.{Applied, IsMoved, storage_of, AllGet, Content, Ending, Gets, done, stopped}
 
@@ -45,15 +44,6 @@ lacks t content o before bytes p n b at size no_value h =
     inr (p, at, subst (λ (m : ℕ). Receives m false) size (subst (λ (x : Bool). Receives n x) no_value h), refl)
 
 -- ---- one after another
-
-pub next : {A : Type 0} (xs : List A) (i : ℕ) (x : A) → i < length xs → x ≡ get_or xs i x → drop i xs ≡ x ∷ drop (i + 1) xs
-next xs i x lt is = drop_more xs i x lt ∙ ap (λ y. y ∷ drop (i + 1) xs) (sym is)
-
-pub left_first : {A : Type 0} (P : A → Type 0) (xs : List A) (i : ℕ) (x : A) → i < length xs → x ≡ get_or xs i x → AllByRecursion P (drop i xs) → P x
-left_first {A} P xs i x lt is h = let all = subst (λ (ys : List A). AllByRecursion P ys) (next xs i x lt is) h in all.0
-
-pub left_more : {A : Type 0} (P : A → Type 0) (xs : List A) (i : ℕ) (x : A) → i < length xs → x ≡ get_or xs i x → AllByRecursion P (drop i xs) → AllByRecursion P (drop (i + 1) xs)
-left_more {A} P xs i x lt is h = let all = subst (λ (ys : List A). AllByRecursion P ys) (next xs i x lt is) h in all.1
 
 -- whatever the receivers from place i on make of the storage now, all make of the storage before
 abbrev pub GetsFrom : Tree Resolved → Content → List Operand → ℕ → List ℕ → List ℕ → Type 0
@@ -98,12 +88,6 @@ moved r side o os input before bytes p end at taken h =
       (p, at, refl),
       subst (λ (x : List ℕ). AllGet r.output (content x) os before end) taken h,
     )
-
--- a constant was given
-pub given : (r : Records) (c : Constant) (os : List Operand) (input before : List ℕ) (end : Ending)
-    → AllGet r.output (record { sent = sent.Literal c; side = Out; offset = 0 }) os before end
-    → IsMoved r (record { sender = Literal c; receivers = os }) input before end
-given r c os input before end h = inl (record { sent = sent.Literal c; side = Out; offset = 0 }, refl, h)
 
 -- a move is known by its sender and its receivers
 pub moved_as : (r : Records) (m : Move) (s : Sender) (os : List Operand) (input before : List ℕ) (end : Ending) → m.sender ≡ s → os ≡ m.receivers

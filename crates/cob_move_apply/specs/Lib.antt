@@ -1,4 +1,5 @@
 pub mod Located
 pub mod Applied
 pub mod Room
+pub mod Placed
 pub mod Prepared

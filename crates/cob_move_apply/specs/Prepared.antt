@@ -1,12 +1,13 @@
 -- Moves that are ready to be carried out.
-use Rattle.std.specs.Prelude.{List}
-use Rattle.cob_move_operands.specs.Moves.{AreMoves, Move, Records, moves}
+use Rattle.std.specs.Prelude.{List, map}
+use Rattle.cob_move_operands.specs.Moves.{Move, Records}
 use Rattle.cob_move_apply.specs.declared.moves.Moves.{Moves}
+use Rattle.cob_move_apply.specs.Placed.{ArePlacedMoves, move_of}
 
 -- the moves that were made ready, in their order
 abbrev pub moves_of : Moves → List Move
-moves_of m = moves m.steps.items
+moves_of m = map move_of m.steps.items
 
--- they are moves between these records, and were made ready for them
+-- they are moves between these records, and the places that they keep are the same in every storage of these
 abbrev pub ArePrepared : Records → Moves → Type 0
-ArePrepared r m = AreMoves r (moves_of m)
+ArePrepared r m = ArePlacedMoves r m.steps.items

@@ -1,17 +1,17 @@
 //! Moves, one after another.
 
-ghost use Rattle.std.specs.Prelude.{◌≡◌, length};
+ghost use Rattle.std.specs.Prelude.{◌≡◌, length, map};
 ghost use Rattle.cob_copybook_tree.specs.Forests.{entries_in};
 ghost use Rattle.cob_layout_places.specs.Lengths.{alone};
 ghost use Rattle.cob_sound.specs.Sound.{IsSound};
 ghost use Rattle.cob_layout.specs.Storage.{greatest_length, IsStorage};
-ghost use Rattle.cob_move_operands.specs.Moves.{AreMoves, moves};
 ghost use Rattle.cob_move_apply.specs.Applied.{Applied, ending};
+ghost use Rattle.cob_move_apply.specs.Placed.{ArePlacedMoves, move_of};
 
 use crate::senders::make_move;
+use crate::step::Step;
 use crate::stop::Stop;
 use cob_layout::{Counts, Layout};
-use cob_move_operands::Move;
 
 /// Carries out moves in order.
 ///
@@ -19,7 +19,7 @@ use cob_move_operands::Move;
 ///
 /// The first thing missing. The storage is as the moves and receivers before left it then.
 pub(crate) fn apply_in(
-    steps: &[Move],
+    steps: &[Step],
     in_layout: &Layout,
     out_layout: &Layout,
     input: &[u8],
@@ -30,15 +30,15 @@ pub(crate) fn apply_in(
 ) -> Result<(), Stop>
     requires in_sound { IsSound in_layout.now }
     requires out_sound { IsSound out_layout.now }
-    requires steps { AreMoves (record { input = in_layout.now; output = out_layout.now })
-        (moves steps.now) }
+    requires steps { ArePlacedMoves (record { input = in_layout.now; output = out_layout.now })
+        steps.now }
     requires input { IsStorage in_layout.now input.now }
     requires output { length output.old ≡ greatest_length out_layout.now }
     requires content { length content.old ≡ greatest_length out_layout.now }
     requires in_room { length in_counts.old ≡ entries_in (alone in_layout.now) }
     requires out_room { length out_counts.old ≡ entries_in (alone out_layout.now) }
     ensures applied { Applied (record { input = in_layout.now; output = out_layout.now })
-        (moves steps.now) input.now output.old (ending result output.new) }
+        (map move_of steps.now) input.now output.old (ending result output.new) }
     ensures in_room { length in_counts.new ≡ length in_counts.old }
     ensures out_room { length out_counts.new ≡ length out_counts.old }
 {

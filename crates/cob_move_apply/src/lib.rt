@@ -18,9 +18,11 @@ mod application;
 mod laws;
 mod moves;
 mod places;
+mod preparation;
 mod receivers;
 mod scratch;
 mod senders;
+mod step;
 mod stop;
 
 pub use laws::one_ending;

@@ -7,7 +7,9 @@ ghost use Rattle.cob_move_apply.specs.Applied.{Applied, ending};
 ghost use Rattle.cob_move_apply.specs.Room.{room_of};
 
 use crate::application::apply_in;
+use crate::preparation::placed_moves;
 use crate::scratch::Scratch;
+use crate::step::Step;
 use crate::stop::Stop;
 use cob_layout::Layout;
 use cob_move_operands::Move;
@@ -17,13 +19,13 @@ use std::alloc::{AllocError, Global};
 /// Moves between two records, ready to be carried out.
 #[derive(Debug, Drop)]
 pub struct Moves {
-    pub(crate) steps: Vec<Move>,
+    pub(crate) steps: Vec<Step>,
 }
 
 impl Moves {
     ghost use Rattle.cob_move_apply.specs.Prepared.{ArePrepared, moves_of};
 
-    /// Moves between the records of these layouts, made ready.
+    /// Moves between the records of these layouts, made ready: a place that is the same in every storage is found here.
     ///
     /// # Errors
     ///
@@ -40,7 +42,8 @@ impl Moves {
         ensures prepared { IfOk result
             (λ m. ArePrepared (record { input = input.now; output = output.now }) m) }
     {
-        Ok(Moves { steps: moves })
+        let steps = placed_moves(alloc, moves, input, output)?;
+        Ok(Moves { steps })
     }
 
     /// Carries out the moves in order on the storage of an output record. It takes no memory.

@@ -1,19 +1,20 @@
 //! The receivers of a move, one after another.
 
-ghost use Rattle.std.specs.Prelude.{◌≡◌, ◌+◌, ◌≤◌, List, length, IfErr, OnErr, OnOk};
+ghost use Rattle.std.specs.Prelude.{◌≡◌, ◌+◌, ◌≤◌, List, length, map, IfErr, OnErr, OnOk, true};
 ghost use Rattle.std.specs.List.{AllByRecursion};
 ghost use Rattle.cob_copybook_tree.specs.Forests.{entries_in};
 ghost use Rattle.cob_layout_places.specs.Lengths.{alone};
 ghost use Rattle.cob_sound.specs.Sound.{IsSound};
 ghost use Rattle.cob_layout.specs.Storage.{greatest_length};
-ghost use Rattle.cob_move_operands.specs.Moves.{IsOperand};
 ghost use Rattle.cob_move_receive.specs.Sent.{sent, IsComplete};
 ghost use Rattle.cob_move_apply.specs.Applied.{AllGet, Gets, ending, kept};
+ghost use Rattle.cob_move_apply.specs.Placed.{IsPlaced, operand_of};
 
 use crate::places::locate;
+use crate::step::PlacedOperand;
 use crate::stop::{Stop, StopCause};
 use cob_layout::{Counts, Layout};
-use cob_move_operands::{Operand, Side};
+use cob_move_operands::Side;
 use cob_move_receive::{Sent, receive};
 
 /// Moves what a sender gives to one receiver, at its place in the storage as it is now.
@@ -26,25 +27,25 @@ fn receive_one(
     given: &Sent<'_>,
     side: Side,
     offset: u32,
-    operand: &Operand,
+    receiver: &PlacedOperand,
     output: &mut [u8],
     counts: &mut Counts,
 ) -> Result<(), Stop>
     requires sound { IsSound layout.now }
     requires given { IsComplete (sent given.now) }
-    requires operand { IsOperand layout.now operand.now }
+    requires receiver { IsPlaced layout.now true receiver.now }
     requires output { length output.old ≡ greatest_length layout.now }
     requires room { length counts.old ≡ entries_in (alone layout.now) }
     ensures gets { Gets layout.now
         (record { sent = sent given.now; side = side; offset = offset })
-        operand.now output.old (kept result output.new) }
+        receiver.now.operand output.old (kept result output.new) }
     ensures same { OnErr result (output.new ≡ output.old) }
     ensures room { length counts.new ≡ length counts.old }
 {
-    let place = locate(layout, Side::Out, operand, true, output, counts)?;
+    let place = locate(layout, Side::Out, receiver, true, output, counts)?;
     let start = place.offset as usize;
     let end = start + place.length as usize;
-    if receive(given, &operand.kind, &mut output[start..end]) {
+    if receive(given, &receiver.operand.kind, &mut output[start..end]) {
         Ok(())
     } else {
         Err(Stop {
@@ -65,18 +66,18 @@ pub(crate) fn receive_all(
     given: &Sent<'_>,
     side: Side,
     offset: u32,
-    receivers: &[Operand],
+    receivers: &[PlacedOperand],
     output: &mut [u8],
     counts: &mut Counts,
 ) -> Result<(), Stop>
     requires sound { IsSound layout.now }
     requires given { IsComplete (sent given.now) }
-    requires receivers { AllByRecursion (IsOperand layout.now) receivers.now }
+    requires receivers { AllByRecursion (IsPlaced layout.now true) receivers.now }
     requires output { length output.old ≡ greatest_length layout.now }
     requires room { length counts.old ≡ entries_in (alone layout.now) }
     ensures get { AllGet layout.now
         (record { sent = sent given.now; side = side; offset = offset })
-        receivers.now output.old (ending result output.new) }
+        (map operand_of receivers.now) output.old (ending result output.new) }
     ensures room { length counts.new ≡ length counts.old }
 {
     for receiver in receivers {

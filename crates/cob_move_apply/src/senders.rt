@@ -1,22 +1,23 @@
 //! One move: what its sender gives, and its receivers in turn.
 
-ghost use Rattle.std.specs.Prelude.{◌≡◌, ◌+◌, ◌≤◌, List, length, take, IfErr, IfOk, OnErr, OnOk};
+ghost use Rattle.std.specs.Prelude.{◌≡◌, ◌+◌, ◌≤◌, List, length, map, take, true, false, IfErr, IfOk, OnErr, OnOk};
 ghost use Rattle.std.specs.List.{AllByRecursion};
-ghost use Rattle.cob_copybook.specs.Books.{IsRecord};
 ghost use Rattle.cob_copybook_tree.specs.Forests.{entries_in};
 ghost use Rattle.cob_fields.specs.Fields.{field_of};
 ghost use Rattle.cob_layout_places.specs.Lengths.{alone};
 ghost use Rattle.cob_sound.specs.Sound.{IsSound};
 ghost use Rattle.cob_layout.specs.Storage.{greatest_length, IsStorage};
-ghost use Rattle.cob_move_operands.specs.Moves.{IsMove, IsOperand, Entry, move};
+ghost use Rattle.cob_move_operands.specs.Moves.{Entry};
 ghost use Rattle.cob_move_operands.specs.declared.Side.TheVariants.{In, Out};
 ghost use Rattle.cob_move_apply.specs.Applied.{IsMoved, ending};
+ghost use Rattle.cob_move_apply.specs.Placed.{IsPlaced, IsPlacedMove, move_of, operand_of};
 
 use crate::places::locate;
 use crate::receivers::receive_all;
+use crate::step::{PlacedOperand, PlacedSender, Step};
 use crate::stop::Stop;
 use cob_layout::{Counts, Layout, Place, field, places_lie_in_storage};
-use cob_move_operands::{Move, Operand, Sender, Side};
+use cob_move_operands::Side;
 use cob_move_receive::Sent;
 
 /// Copies the bytes of a place to the front of `content`.
@@ -35,8 +36,8 @@ fn copy_field(place: Place, bytes: &[u8], content: &mut [u8])
 ///
 /// The first thing missing.
 fn move_from_input(
-    operand: &Operand,
-    receivers: &[Operand],
+    sender: &PlacedOperand,
+    receivers: &[PlacedOperand],
     in_layout: &Layout,
     out_layout: &Layout,
     input: &[u8],
@@ -46,24 +47,24 @@ fn move_from_input(
 ) -> Result<(), Stop>
     requires in_sound { IsSound in_layout.now }
     requires out_sound { IsSound out_layout.now }
-    requires operand { IsOperand in_layout.now operand.now }
-    requires receivers { AllByRecursion (IsOperand out_layout.now) receivers.now }
+    requires sender { IsPlaced in_layout.now false sender.now }
+    requires receivers { AllByRecursion (IsPlaced out_layout.now true) receivers.now }
     requires input { IsStorage in_layout.now input.now }
     requires output { length output.old ≡ greatest_length out_layout.now }
     requires in_room { length in_counts.old ≡ entries_in (alone in_layout.now) }
     requires out_room { length out_counts.old ≡ entries_in (alone out_layout.now) }
     ensures moved { IsMoved
         (record { input = in_layout.now; output = out_layout.now })
-        (record { sender = Entry In operand.now; receivers = receivers.now })
+        (record { sender = Entry In sender.now.operand; receivers = map operand_of receivers.now })
         input.now output.old (ending result output.new) }
     ensures in_room { length in_counts.new ≡ length in_counts.old }
     ensures out_room { length out_counts.new ≡ length out_counts.old }
 {
     let _ = in_layout.greatest();
     places_lie_in_storage();
-    let place = locate(in_layout, Side::In, operand, false, input, in_counts)?;
+    let place = locate(in_layout, Side::In, sender, false, input, in_counts)?;
     let given = Sent::Entry {
-        kind: &operand.kind,
+        kind: &sender.operand.kind,
         bytes: field(input, place),
     };
     receive_all(
@@ -83,8 +84,8 @@ fn move_from_input(
 ///
 /// The first thing missing.
 fn move_within_output(
-    operand: &Operand,
-    receivers: &[Operand],
+    sender: &PlacedOperand,
+    receivers: &[PlacedOperand],
     in_layout: &Layout,
     layout: &Layout,
     input: &[u8],
@@ -93,21 +94,21 @@ fn move_within_output(
     counts: &mut Counts,
 ) -> Result<(), Stop>
     requires sound { IsSound layout.now }
-    requires operand { IsOperand layout.now operand.now }
-    requires receivers { AllByRecursion (IsOperand layout.now) receivers.now }
+    requires sender { IsPlaced layout.now false sender.now }
+    requires receivers { AllByRecursion (IsPlaced layout.now true) receivers.now }
     requires output { length output.old ≡ greatest_length layout.now }
     requires content { length content.old ≡ greatest_length layout.now }
     requires room { length counts.old ≡ entries_in (alone layout.now) }
     ensures moved { IsMoved
         (record { input = in_layout.now; output = layout.now })
-        (record { sender = Entry Out operand.now; receivers = receivers.now })
+        (record { sender = Entry Out sender.now.operand; receivers = map operand_of receivers.now })
         input.now output.old (ending result output.new) }
     ensures room { length counts.new ≡ length counts.old }
 {
-    let place = locate(layout, Side::Out, operand, false, output, counts)?;
+    let place = locate(layout, Side::Out, sender, false, output, counts)?;
     copy_field(place, output, content);
     let given = Sent::Entry {
-        kind: &operand.kind,
+        kind: &sender.operand.kind,
         bytes: &content[..place.length as usize],
     };
     receive_all(
@@ -127,7 +128,7 @@ fn move_within_output(
 ///
 /// The first thing missing. The storage is as the receivers before left it then.
 pub(crate) fn make_move(
-    step: &Move,
+    step: &Step,
     in_layout: &Layout,
     out_layout: &Layout,
     input: &[u8],
@@ -138,21 +139,21 @@ pub(crate) fn make_move(
 ) -> Result<(), Stop>
     requires in_sound { IsSound in_layout.now }
     requires out_sound { IsSound out_layout.now }
-    requires step { IsMove (record { input = in_layout.now; output = out_layout.now })
-        (move step.now) }
+    requires step { IsPlacedMove
+        (record { input = in_layout.now; output = out_layout.now }) step.now }
     requires input { IsStorage in_layout.now input.now }
     requires output { length output.old ≡ greatest_length out_layout.now }
     requires content { length content.old ≡ greatest_length out_layout.now }
     requires in_room { length in_counts.old ≡ entries_in (alone in_layout.now) }
     requires out_room { length out_counts.old ≡ entries_in (alone out_layout.now) }
     ensures moved { IsMoved (record { input = in_layout.now; output = out_layout.now })
-        (move step.now) input.now output.old (ending result output.new) }
+        (move_of step.now) input.now output.old (ending result output.new) }
     ensures in_room { length in_counts.new ≡ length in_counts.old }
     ensures out_room { length out_counts.new ≡ length out_counts.old }
 {
     let receivers = step.receivers.as_slice();
     match &step.sender {
-        Sender::Entry { side, operand } => match *side {
+        PlacedSender::Entry { side, operand } => match *side {
             Side::In => move_from_input(
                 operand, receivers, in_layout, out_layout, input, output, in_counts, out_counts,
             ),
@@ -160,7 +161,7 @@ pub(crate) fn make_move(
                 operand, receivers, in_layout, out_layout, input, output, content, out_counts,
             ),
         },
-        Sender::Constant(value) => {
+        PlacedSender::Constant(value) => {
             let given = Sent::Constant(value);
             receive_all(
                 out_layout,

@@ -1,23 +1,23 @@
-use Rattle.std.proofs.Common.{◌∙◌}
+use Rattle.std.proofs.Common.{◌∙◌, map}
 use Rattle.std.proofs.lemmas.Result.{err_from_is_err_and}
-use Rattle.cob_move_operands.specs.Moves.{IsMove, Records, move, moves}
-use Rattle.cob_move_apply.proofs.ReceiverLemmas.{apply_more, apply_stops, apply_all, left_first, left_more}
-use Rattle.cob_move_apply.proofs.MoveLemmas.{at, below, past}
+use Rattle.cob_move_operands.specs.Moves.{Records}
+use Rattle.cob_move_apply.specs.Placed.{IsPlacedMove, move_of}
+use Rattle.cob_move_apply.proofs.ReceiverLemmas.{apply_more, apply_stops, apply_all}
+use Rattle.cob_move_apply.proofs.ListLemmas.{at, below, past, left_first, left_more}
 use Rattle.cob_move_apply.proofs.application.apply_in.Goals as goal
 
 pub make_move-requires-clause-step : goal.make_move-requires-clause-step
 make_move-requires-clause-step c =
-    left_first (IsMove (record { input = c.args.in_layout.now; output = c.args.out_layout.now })) (moves c.args.steps.now) c.loop-step.step-index (move c.step-item.result)
-    (below c.args.steps.now c.loop-step.step-index c.loop-step-test.true) (at c.args.steps.now c.loop-step.step-index c.step-item.result c.loop-step-test.true c.step-item.is) c.loop-step.invariant.left
+    left_first (IsPlacedMove (record { input = c.args.in_layout.now; output = c.args.out_layout.now })) c.args.steps.now c.loop-step.step-index c.step-item.result
+    c.loop-step-test.true c.step-item.is c.loop-step.invariant.left
 
 pub loop-step-preserved : goal.loop-step-preserved
 loop-step-preserved c =
     let r : Records = record { input = c.args.in_layout.now; output = c.args.out_layout.now } in record {
-      applied = apply_more r (moves c.args.steps.now) c.loop-step.step-index (move c.step-item.result) c.args.input.now c.args.output.now c.loop-step.output c.make_move.new.output
-          (below c.args.steps.now c.loop-step.step-index c.loop-step-test.true) (at c.args.steps.now c.loop-step.step-index c.step-item.result c.loop-step-test.true c.step-item.is)
+      applied = apply_more r (map move_of c.args.steps.now) c.loop-step.step-index (move_of c.step-item.result) c.args.input.now c.args.output.now c.loop-step.output c.make_move.new.output
+          (below move_of c.args.steps.now c.loop-step.step-index c.loop-step-test.true) (at move_of c.args.steps.now c.loop-step.step-index c.step-item.result c.loop-step-test.true c.step-item.is)
           c.loop-step.invariant.applied c.in_ok-make_move.ensures.moved;
-      left = left_more (IsMove r) (moves c.args.steps.now) c.loop-step.step-index (move c.step-item.result)
-          (below c.args.steps.now c.loop-step.step-index c.loop-step-test.true) (at c.args.steps.now c.loop-step.step-index c.step-item.result c.loop-step-test.true c.step-item.is) c.loop-step.invariant.left;
+      left = left_more (IsPlacedMove r) c.args.steps.now c.loop-step.step-index c.step-item.result c.loop-step-test.true c.step-item.is c.loop-step.invariant.left;
       output = c.make_move.auto.output ∙ c.loop-step.invariant.output;
       content = c.make_move.auto.content ∙ c.loop-step.invariant.content;
       in_room = c.in_ok-make_move.ensures.in_room ∙ c.loop-step.invariant.in_room;
@@ -28,10 +28,10 @@ pub returns-in_err-make_move-clause-applied : goal.returns-in_err-make_move-clau
 returns-in_err-make_move-clause-applied c =
     let p = err_from_is_err_and c.from_residual.result c.from_residual.ensures.1 in
     rw (p.1, p.2)
-    (apply_stops (record { input = c.args.in_layout.now; output = c.args.out_layout.now }) (moves c.args.steps.now) c.loop-step.step-index (move c.step-item.result) c.args.input.now c.args.output.now c.loop-step.output c.make_move.new.output c.in_err-make_move.field-0.0
-    (below c.args.steps.now c.loop-step.step-index c.loop-step-test.true) (at c.args.steps.now c.loop-step.step-index c.step-item.result c.loop-step-test.true c.step-item.is)
+    (apply_stops (record { input = c.args.in_layout.now; output = c.args.out_layout.now }) (map move_of c.args.steps.now) c.loop-step.step-index (move_of c.step-item.result) c.args.input.now c.args.output.now c.loop-step.output c.make_move.new.output c.in_err-make_move.field-0.0
+    (below move_of c.args.steps.now c.loop-step.step-index c.loop-step-test.true) (at move_of c.args.steps.now c.loop-step.step-index c.step-item.result c.loop-step-test.true c.step-item.is)
     c.loop-step.invariant.applied c.in_err-make_move.ensures.moved)
 
 pub returns-clause-applied : goal.returns-clause-applied
 returns-clause-applied c =
-    apply_all (record { input = c.args.in_layout.now; output = c.args.out_layout.now }) (moves c.args.steps.now) c.loop-step.step-index c.args.input.now c.args.output.now c.loop-step.output (past c.args.steps.now c.loop-step.step-index c.loop-step-test.false) c.loop-step.invariant.applied
+    apply_all (record { input = c.args.in_layout.now; output = c.args.out_layout.now }) (map move_of c.args.steps.now) c.loop-step.step-index c.args.input.now c.args.output.now c.loop-step.output (past move_of c.args.steps.now c.loop-step.step-index c.loop-step-test.false) c.loop-step.invariant.applied

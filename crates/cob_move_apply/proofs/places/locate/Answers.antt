@@ -1,8 +1,13 @@
-use Rattle.std.proofs.Common.{◌∙◌, ap, Some}
-use Rattle.cob_move_apply.proofs.PlaceLemmas.{filled}
+use Rattle.cob_move_apply.proofs.PlaceLemmas.{filled_at, fixed_in}
 use Rattle.cob_move_apply.proofs.places.locate.Goals as goal
 
-pub returns-in-Ok-clause-filled : goal.returns-in-Ok-clause-filled
-returns-in-Ok-clause-filled c =
-    filled c.args.layout.now c.args.operand.now.entry.node c.needed.new.counts c.args.operand.now.entry.subscripts.items c.args.operand.now.kind c.in-Ok.place c.requires.sound c.requires.operand.is
-    (c.place.ensures.value ∙ ap (λ r. Some r) c.in-Ok.is)
+pub returns-in-Some-clause-located : goal.returns-in-Some-clause-located
+returns-in-Some-clause-located c =
+    let fixed = fixed_in c.args.layout.now c.args.receiving c.args.placed.now c.in-Some.place c.requires.placed c.in-Some.is in
+    fixed.place c.args.side c.args.bytes.now
+
+pub returns-in-Some-clause-filled : goal.returns-in-Some-clause-filled
+returns-in-Some-clause-filled c =
+    let fixed = fixed_in c.args.layout.now c.args.receiving c.args.placed.now c.in-Some.place c.requires.placed c.in-Some.is in
+    filled_at c.args.side c.args.layout.now c.args.receiving c.args.placed.now.operand c.args.bytes.now c.in-Some.place c.requires.sound c.requires.placed.operand
+    (fixed.place c.args.side c.args.bytes.now)

@@ -9,5 +9,5 @@ returns-then-receive-clause-gets c =
     let start : ℕ = c.in_ok-place.place.offset in
     let end : ℕ = start + c.in_ok-place.place.length in
     let back : end - start ≡ c.in_ok-place.place.length = omega arith in
-    got c.args.layout.now (record { sent = sent c.args.given.now; side = c.args.side; offset = c.args.offset }) c.args.operand.now c.args.output.now c.receive.new.bytes c.in_ok-place.place _ c.receive.result
+    got c.args.layout.now (record { sent = sent c.args.given.now; side = c.args.side; offset = c.args.offset }) c.args.receiver.now.operand c.args.output.now c.receive.new.bytes c.in_ok-place.place _ c.receive.result
     c.in_ok-place.ensures.located (mid_len start end c.args.output.now (omega (arith, c.in_ok-place.ensures.fits, c.requires.output)) ∙ back) c.if-receive.true c.receive.ensures.gets

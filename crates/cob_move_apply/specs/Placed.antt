@@ -1,0 +1,53 @@
+-- Moves whose operands have their places, where these are the same in every storage.
+use Rattle.std.specs.Prelude.{ℕ, ◌+◌, ◌≤◌, Bool, true, false, List, map, Ok, IfSome}
+use Rattle.std.specs.List.{AllByRecursion}
+use Rattle.cob_copybook_entries.specs.Described.{constant}
+use Rattle.cob_copybook_tree.specs.Forests.{Tree}
+use Rattle.cob_copybook_tree.specs.Nodes.{Resolved}
+use Rattle.cob_fields.specs.declared.Place.{Place}
+use Rattle.cob_layout.specs.Storage.{greatest_length}
+use Rattle.cob_move_operands.specs.declared.Side.{Side}
+use Rattle.cob_move_operands.specs.declared.Operand.{Operand}
+use Rattle.cob_move_operands.specs.Moves.{IsOperand, Move, Records, Sender, Entry, Literal, record_of}
+use Rattle.cob_move_apply.specs.Located.{Located}
+use Rattle.cob_move_apply.specs.declared.step.PlacedOperand.{PlacedOperand}
+use Rattle.cob_move_apply.specs.declared.step.PlacedSender.{PlacedSender}
+use Rattle.cob_move_apply.specs.declared.step.PlacedSender.TheVariants as placed_sender
+use Rattle.cob_move_apply.specs.declared.step.Step.{Step}
+
+-- the operand itself
+abbrev pub operand_of : PlacedOperand → Operand
+operand_of p = p.operand
+
+-- the sender itself
+abbrev pub sender_of : PlacedSender → Sender
+sender_of (placed_sender.Entry side p) = Entry side p.operand
+sender_of (placed_sender.Constant value) = Literal (constant value)
+
+-- the move itself
+abbrev pub move_of : Step → Move
+move_of s = record { sender = sender_of s.sender; receivers = map operand_of s.receivers.items }
+
+-- this is the operand's place in every storage, sending or receiving, and it lies within the record
+pub record IsFixed (t : Tree Resolved) (receiving : Bool) (o : Operand) (p : Place) : Type 0 where
+  pub place : (side : Side) (bytes : List ℕ) → Located side t receiving o bytes (Ok p)
+  pub within : p.offset + p.length ≤ greatest_length t
+
+-- an operand of the record, whose place, where it is noted, is the same in every storage
+pub record IsPlaced (t : Tree Resolved) (receiving : Bool) (p : PlacedOperand) : Type 0 where
+  pub operand : IsOperand t p.operand
+  pub place : IfSome p.place (λ place. IsFixed t receiving p.operand place)
+
+-- so is a sender
+abbrev pub IsPlacedSender : Records → PlacedSender → Type 0
+IsPlacedSender r (placed_sender.Entry side p) = IsPlaced (record_of r side) false p
+IsPlacedSender r (placed_sender.Constant value) = Unit {0}
+
+-- and so are the sender and the receivers of a move
+pub record IsPlacedMove (r : Records) (s : Step) : Type 0 where
+  pub sender : IsPlacedSender r s.sender
+  pub receivers : AllByRecursion (IsPlaced r.output true) s.receivers.items
+
+-- moves between these records, with their places
+abbrev pub ArePlacedMoves : Records → List Step → Type 0
+ArePlacedMoves r steps = AllByRecursion (IsPlacedMove r) steps
