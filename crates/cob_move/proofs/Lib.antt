@@ -4,3 +4,4 @@ pub mod InitialLemmas
 pub mod BegunLemmas
 pub mod AtPlaceLemmas
 pub mod OneInitialLaw
+pub mod ParagraphLemmas

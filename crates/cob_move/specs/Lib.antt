@@ -2,4 +2,5 @@ pub mod Initial
 pub mod Ready
 pub mod Begun
 pub mod AtPlaces
+pub mod Paragraphs
 pub mod Laws

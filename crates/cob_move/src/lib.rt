@@ -20,7 +20,12 @@
 #![tactic(auto)]
 
 mod laws;
+mod paragraph;
 mod storage;
 
-pub use laws::one_initial;
+pub use cob_move_apply::{Scratch, Stop, StopCause};
+pub use cob_move_pairs::pairs;
+pub use cob_move_statements::{MoveFault, MoveRule};
+pub use laws::{one_initial, one_paragraph, paragraph_breaks_no_rule};
+pub use paragraph::{Paragraph, apply};
 pub use storage::initial;

@@ -9,7 +9,7 @@ use Rattle.cob_copybook_clauses.specs.Written.{WrittenConstant, Word, Quoted, Fi
 use Rattle.cob_copybook_clauses.proofs.OneLemmas.{qualifiers_cut, constant_cut}
 use Rattle.cob_move_statements.specs.Written.{WrittenReference, WrittenSender, SentReference, SentConstant, WrittenAction, MoveTo, MoveCorresponding, WrittenStatement, word_texts}
 use Rattle.cob_move_statements.specs.Statements.{AreSubscripts, EndsReferences, FitsReference, FollowsStatements, IsAction, IsEndedStatement, IsHeading, IsNumeral, IsPeriod, IsReference, IsStatement, IsWrittenSender, NoName, NoPeriod, Several}
-use Rattle.cob_move_statements.specs.Laws.{OneParagraph}
+use Rattle.cob_move_statements.specs.Laws.{OneListOfStatements}
 use Rattle.cob_move_statements.proofs.Runs.{IsRun, fits}
 use Rattle.cob_move_statements.proofs.ReferenceLemmas.{brackets, not_of, reference_split, same_reference, references_run}
 use Rattle.cob_move_statements.proofs.StatementLemmas.{to_fits, corresponding_split, move_split, same_move, never_both}
@@ -156,8 +156,8 @@ body_one (w ∷ stop ∷ []) (v ∷ pots ∷ []) a b p q f g e = cc
 body_one (w ∷ stop ∷ []) (v ∷ pots ∷ u ∷ k) a b p q f g e = absurd q
 body_one (w ∷ stop ∷ v ∷ h) k a b p q f g e = absurd p
 
-pub one_paragraph : OneParagraph
-one_paragraph ws a b p q =
+pub one_list_of_statements : OneListOfStatements
+one_list_of_statements ws a b p q =
     let bodies : p.body ≡ q.body = body_one p.heading q.heading p.body q.body p.named q.named (no_name ws a p) (no_name ws b q) (sym p.words ∙ q.words) in
     let same : p.body ++ [] ≡ q.body ++ [] = append-nil p.body ∙ bodies ∙ sym (append-nil q.body) in
     (run_one IsEndedStatement FollowsStatements (λ (t : List Lexeme). t ≡ []) statements_run ended_one a b p.body q.body [] [] p.statements q.statements refl refl same).0

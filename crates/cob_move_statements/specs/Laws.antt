@@ -5,5 +5,5 @@ use Rattle.cob_move_statements.specs.Written.{WrittenStatement}
 use Rattle.cob_move_statements.specs.Statements.{IsParagraph}
 
 -- law: the words of a paragraph say its statements in one way
-abbrev pub OneParagraph : Type 0
-OneParagraph = (ws : List Lexeme) (a b : List WrittenStatement) → IsParagraph ws a → IsParagraph ws b → a ≡ b
+abbrev pub OneListOfStatements : Type 0
+OneListOfStatements = (ws : List Lexeme) (a b : List WrittenStatement) → IsParagraph ws a → IsParagraph ws b → a ≡ b

@@ -8,7 +8,7 @@
 //! What is promised of [`statements`]: `Ok` has exactly the statements that the words say (clause `found`; `IsParagraph` of
 //! specs/Statements.antt); the words of a paragraph are read, memory aside, and say nothing else (`only`); a refusal is for want of
 //! memory, or the words are no paragraph (`fault`), and it names the line of the first word where no statement stands (`line`). Words are the
-//! statements of a paragraph in one way ([`one_paragraph`]).
+//! statements of a paragraph in one way ([`one_list_of_statements`]).
 //!
 //! [`MoveRule`] names every rule that a paragraph may break, for all crates that read one, and prints as `M1` to `M10` and `M19`, or as the rule of
 //! the text; [`MoveFault`] adds the line.
@@ -28,6 +28,6 @@ mod senders;
 mod subscripts;
 
 pub use fault::{MoveFault, MoveRule};
-pub use laws::one_paragraph;
+pub use laws::one_list_of_statements;
 pub use paragraph::statements;
 pub use parts::{Action, Reference, Statement, StatementSender};

@@ -1,0 +1,7 @@
+use Rattle.std.proofs.lemmas.Result.{err_from_is_err_and}
+use Rattle.cob_move.proofs.paragraph.Paragraph.read.Goals as goal
+
+pub returns-in_err-meant-clause-only : goal.returns-in_err-meant-clause-only
+returns-in_err-meant-clause-only c = λ ms is.
+    let p = err_from_is_err_and c.from_residual.result c.from_residual.ensures.1 in
+    rw (p.1, p.2) (tt, c.paragraph_breaks_no_rule.ensures c.args.text.now c.args.input.now c.args.output.now ms c.in_err-meant.field-0.0 is c.in_err-meant.ensures.fault)

@@ -1,0 +1,184 @@
+//! Paragraphs.
+
+ghost use Rattle.std.specs.Prelude.{◌≡◌, length, map, IfErr, IfOk, List, ℕ, ◌+◌};
+ghost use Rattle.cob_copybook.specs.Books.{IsRecord};
+ghost use Rattle.cob_layout.specs.Storage.{IsStorage, greatest_length};
+ghost use Rattle.cob_layout_places.specs.Lengths.{alone};
+ghost use Rattle.cob_move_apply.specs.Applied.{Applied, ending};
+ghost use Rattle.cob_move_apply.specs.Prepared.{ArePrepared, moves_of};
+ghost use Rattle.cob_move_apply.specs.Room.{room_of};
+ghost use Rattle.cob_move_operands.specs.Moves.{AreMoves, Move as Meant, Records, moves};
+ghost use Rattle.cob_move_statements.specs.declared.fault.MoveRule.TheVariants.{Memory};
+ghost use Rattle.cob_move.specs.Paragraphs.{
+  IsCountOf,
+  IsParagraphOf,
+  IsReadyFor,
+  IsRefusalOf,
+  count_single,
+  moves_in,
+};
+
+use crate::laws::{one_paragraph, paragraph_breaks_no_rule};
+use cob_copybook::Book;
+use cob_layout::Layout;
+use cob_move_apply::{Moves, Scratch, Stop};
+use cob_move_meaning::{all_meant, meant_are_moves};
+use cob_move_operands::Move;
+use cob_move_statements::{MoveFault, statements};
+use cob_source::paragraph_tokens;
+use std::alloc::{AllocError, Global};
+
+/// The moves that a paragraph says between two records, ready to be carried out.
+#[derive(Debug, Drop)]
+pub struct Paragraph {
+    moves: Moves,
+    single: u32,
+}
+
+/// The moves that a text says between the records of two books.
+///
+/// # Errors
+///
+/// A rule that the text breaks, with its line.
+fn meant_moves(
+    alloc: Global,
+    input: &Book,
+    output: &Book,
+    text: &[u8],
+) -> Result<Vec<Move>, MoveFault>
+    ensures found { IfOk result
+        (λ v. IsParagraphOf text.now input.now output.now (moves v.items)) }
+    ensures fault { IfErr result (λ f. IsRefusalOf f text.now input.now output.now) }
+{
+    let words = paragraph_tokens(alloc, text)?;
+    let statements = statements(alloc, words.as_slice())?;
+    let meant = all_meant(alloc, input, output, statements.as_slice())?;
+    Ok(meant)
+}
+
+/// The moves made ready for the records of two books.
+///
+/// # Errors
+///
+/// Memory was refused.
+fn prepared(
+    alloc: Global,
+    meant: Vec<Move>,
+    input: &Book,
+    output: &Book,
+) -> Result<Moves, AllocError>
+    requires moves { (r : Records) → alone r.input ≡ input.now → alone r.output ≡ output.now
+        → AreMoves r (moves meant.items) }
+    ensures made { IfOk result (λ m. moves_of m ≡ moves meant.items) }
+    ensures prepared { IfOk result (λ m. (r : Records)
+        → alone r.input ≡ input.now → alone r.output ≡ output.now → ArePrepared r m) }
+{
+    let in_layout = Layout::of(alloc, input)?;
+    let out_layout = Layout::of(alloc, output)?;
+    let ready = Moves::new(alloc, meant, &in_layout, &out_layout)?;
+    Ok(ready)
+}
+
+/// A count with more added to it, as far as 32 bits go.
+fn added(count: u32, more: usize) -> u32
+    ensures { (total : ℕ) → IsCountOf total count → IsCountOf (total + more) result }
+{
+    let room = (u32::MAX - count) as usize;
+    if more > room {
+        u32::MAX
+    } else {
+        count + more as u32
+    }
+}
+
+/// How many single moves there are.
+fn count_single(list: &[Move]) -> u32
+    ensures { IsCountOf (count_single (moves list.now)) result }
+{
+    let mut count = 0;
+    for one in list {
+        count = added(count, one.receivers.len());
+    }
+    count
+}
+
+impl Paragraph {
+    /// The paragraph that a text is, between the records of two books: the words of the text are MOVE statements, and each means its
+    /// moves. (ANSI X3.23-1985, Nucleus: the MOVE statement.)
+    ///
+    /// # Errors
+    /// A rule that the text breaks, with the line of the statement that breaks it, or for a rule of the reference format that line itself.
+    /// Want of memory, with line 0.
+    pub fn read(
+        alloc: Global,
+        input: &Book,
+        output: &Book,
+        text: &[u8],
+    ) -> Result<Paragraph, MoveFault>
+        // What is read are the moves that the text says.
+        ensures found { IfOk result
+            (λ p. IsParagraphOf text.now input.now output.now (moves_in p)) }
+        // They are ready for the records of these books.
+        ensures ready { IfOk result (λ p. (r : Records)
+            → alone r.input ≡ input.now → alone r.output ≡ output.now → IsReadyFor r p) }
+        // They are counted.
+        ensures counted { IfOk result (λ p. IsCountOf (count_single (moves_in p)) p.single) }
+        // A text that is a paragraph is read, memory aside.
+        ensures only { (ms : List Meant) → IsParagraphOf text.now input.now output.now ms
+            → IfOk result (λ p. moves_in p ≡ ms) × IfErr result (λ f. f.rule ≡ Memory) }
+        // A refusal names a rule that is broken.
+        ensures fault { IfErr result (λ f. IsRefusalOf f text.now input.now output.now) }
+    {
+        one_paragraph();
+        paragraph_breaks_no_rule();
+        meant_are_moves();
+        let meant = meant_moves(alloc, input, output, text)?;
+        let single = count_single(meant.as_slice());
+        let moves = prepared(alloc, meant, input, output)?;
+        Ok(Paragraph { moves, single })
+    }
+
+    /// The number of single moves, each of a sender to one of its receivers; the greatest number of 32 bits where there are more.
+    pub fn moves(&self) -> u32
+        ensures { result ≡ self.now.single }
+    {
+        self.single
+    }
+
+    /// The moves themselves.
+    pub fn into_moves(self) -> Moves
+        ensures { result ≡ self.moves }
+    {
+        self.moves
+    }
+}
+
+/// Carries out a paragraph's moves in order on the storage of an output record. It takes no memory.
+///
+/// The input is all of a record's storage, or its current part; the output is all of a record's storage. The room is that of
+/// `Scratch::new` for these layouts.
+///
+/// # Errors
+///
+/// The first thing missing. The storage is as the moves and receivers before left it then.
+pub fn apply(
+    paragraph: &Paragraph,
+    in_layout: &Layout,
+    out_layout: &Layout,
+    input: &[u8],
+    output: &mut [u8],
+    scratch: &mut Scratch,
+) -> Result<(), Stop>
+    requires ready { IsReadyFor
+        (record { input = in_layout.now; output = out_layout.now }) paragraph.now }
+    requires input { IsStorage in_layout.now input.now }
+    requires output { length output.old ≡ greatest_length out_layout.now }
+    requires room { scratch.old ≡ room_of
+        (record { input = in_layout.now; output = out_layout.now }) }
+    ensures applied { Applied (record { input = in_layout.now; output = out_layout.now })
+        (moves_in paragraph.now) input.now output.old (ending result output.new) }
+    ensures room { scratch.new ≡ scratch.old }
+    ensures size { length output.new ≡ length output.old }
+{
+    paragraph.moves.apply(in_layout, out_layout, input, output, scratch)
+}
