@@ -4,10 +4,10 @@ use Rattle.cob_copybook_tree.specs.Forests.{Forest}
 use Rattle.cob_copybook_tree.specs.Nodes.{Resolved}
 use Rattle.cob_copybook.specs.Books.{IsBookOf}
 use Rattle.cob_copybook.specs.declared.role.Role.TheVariants.{In, Out}
-use Rattle.cob_convert.specs.Paragraphs.{IsRefusalOf}
-use Rattle.cob_convert.specs.declared.paragraph.MoveFault.{MoveFault}
-use Rattle.cob_convert.specs.declared.paragraph.MoveRule.{MoveRule}
-use Rattle.cob_convert.specs.declared.paragraph.MoveRule.TheVariants as rule
+use Rattle.cob_move.specs.Paragraphs.{IsRefusalOf}
+use Rattle.cob_move_statements.specs.declared.fault.MoveFault.{MoveFault}
+use Rattle.cob_move_statements.specs.declared.fault.MoveRule.{MoveRule}
+use Rattle.cob_move_statements.specs.declared.fault.MoveRule.TheVariants as rule
 use Rattle.cob_convert.specs.declared.fault.PrepareFault.{PrepareFault}
 use Rattle.cob_convert.specs.declared.fault.PrepareFault.TheVariants.{InBook, OutBook, Moves, Memory}
 use Rattle.cob_convert.specs.Means.{IsBook, IsOutRefusal, IsMovesRefusal, IsPrepareRefusal, moves_refusal, moves_refusal_by}

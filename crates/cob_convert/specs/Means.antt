@@ -8,10 +8,10 @@ use Rattle.cob_copybook.specs.Books.{IsBookOf, IsRefusal, IsMemory}
 use Rattle.cob_copybook_entries.specs.declared.fault.BookFault.{BookFault}
 use Rattle.cob_layout_places.specs.Lengths.{alone}
 use Rattle.cob_convert_record.specs.Conversion.{Conversion}
-use Rattle.cob_convert.specs.Paragraphs.{IsParagraphOf, IsRefusalOf}
-use Rattle.cob_convert.specs.declared.paragraph.MoveFault.{MoveFault}
-use Rattle.cob_convert.specs.declared.paragraph.MoveRule.{MoveRule}
-use Rattle.cob_convert.specs.declared.paragraph.MoveRule.TheVariants as rule
+use Rattle.cob_move.specs.Paragraphs.{IsParagraphOf, IsRefusalOf}
+use Rattle.cob_move_statements.specs.declared.fault.MoveFault.{MoveFault}
+use Rattle.cob_move_statements.specs.declared.fault.MoveRule.{MoveRule}
+use Rattle.cob_move_statements.specs.declared.fault.MoveRule.TheVariants as rule
 use Rattle.cob_convert.specs.declared.fault.PrepareFault.{PrepareFault}
 use Rattle.cob_convert.specs.declared.fault.PrepareFault.TheVariants.{InBook, OutBook, Moves, Memory}
 

@@ -1,13 +1,13 @@
 ghost use Rattle.std.specs.Prelude.{◌≡◌, IfOk, IfErr, vec_len};
 ghost use Rattle.cob_records.specs.Device.{counted, Told};
 ghost use Rattle.cob_layout_places.specs.Lengths.{alone};
-ghost use Rattle.cob_convert.specs.Paragraphs.{IsParagraphOf};
+ghost use Rattle.cob_move.specs.Paragraphs.{IsParagraphOf};
 ghost use Rattle.cob_convert.specs.Unique.{HasBytes};
 ghost use Rattle.cob_convert.specs.Means.{Means, IsMovesRefusal, IsPrepareRefusal};
 
 use crate::books;
 use crate::fault::PrepareFault;
-use crate::paragraph::Paragraph;
+use cob_move::Paragraph;
 use crate::run::{RunFault, run_over};
 use cob_convert_record::{Conversion, Room};
 use cob_copybook::Book;

@@ -31,7 +31,6 @@ mod hex;
 mod job_text;
 mod jobs;
 mod laws;
-mod paragraph;
 mod run;
 
 pub use cob_convert_record::Side;
@@ -39,5 +38,5 @@ pub use converter::Converter;
 pub use fault::PrepareFault;
 pub use jobs::{Status, job};
 pub use laws::conversion_is_one;
-pub use paragraph::{MoveFault, MoveRule};
+pub use cob_move::{MoveFault, MoveRule};
 pub use run::{Cause, RunFault};

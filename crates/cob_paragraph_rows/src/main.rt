@@ -1,0 +1,51 @@
+//! Answers tables of rows about paragraphs of MOVE statements: how statements are written, what references name, which moves there are,
+//! and the pairs of CORRESPONDING.
+//!
+//! A row is the question, the copybook of the input record and that of the output record, both as entries that are parted by bars, one a
+//! line, and the paragraph: for `read` as lines that are parted by bars, from column 8 on; for `raw` as the whole text. The answer is the
+//! number of single moves, or the rule that the paragraph breaks with its line. What must be printed stands in `stdout`, worked out by hand
+//! from the rules of COBOL.
+#![tactic(auto)]
+
+use cob_copybook::{Book, Role};
+use cob_move::{MoveRule, Paragraph};
+use cob_rows::{Family, Row, RowFault, print_rows};
+use std::alloc::Global;
+use std::fmt::Write;
+use std::io;
+
+/// The tables on paragraphs.
+struct Paragraphs;
+
+/// The copybook of a row, which is a good one.
+fn book_of(alloc: Global, row: &Row, role: Role, place: usize) -> Result<Book, RowFault> {
+    let text = row.lines(alloc, place)?;
+    Book::read(alloc, role, text.as_slice()).map_err(|_| RowFault::BadRow)
+}
+
+/// The paragraph of a row.
+fn text_of(alloc: Global, row: &Row) -> Result<Vec<u8>, RowFault> {
+    match row.field(0)? {
+        "read" => row.lines(alloc, 3),
+        "raw" => row.text(alloc, 3),
+        _ => Err(RowFault::BadRow),
+    }
+}
+
+impl Family for Paragraphs {
+    fn answer(alloc: Global, _table: &str, row: &Row, out: &mut String) -> Result<(), RowFault> {
+        let input = book_of(alloc, row, Role::In, 1)?;
+        let output = book_of(alloc, row, Role::Out, 2)?;
+        let text = text_of(alloc, row)?;
+        match Paragraph::read(alloc, &input, &output, text.as_slice()) {
+            Ok(paragraph) => write!(out, "moves {}", paragraph.moves())?,
+            Err(fault) if fault.rule == MoveRule::Memory => return Err(RowFault::Memory),
+            Err(fault) => write!(out, "{fault}")?,
+        }
+        Ok(())
+    }
+}
+
+fn main(rt: HostRuntime) -> io::Result<()> {
+    print_rows::<Paragraphs, HostRuntime>(&rt)
+}

@@ -1,4 +1,0 @@
-pub mod Records
-pub mod Steps
-pub mod Moving
-pub mod Decided

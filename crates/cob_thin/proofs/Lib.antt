@@ -1,5 +1,0 @@
-pub mod WordLemmas
-pub mod BearerLemmas
-pub mod NodeLemmas
-pub mod OperandLemmas
-pub mod MoveLemmas
