@@ -1,10 +1,13 @@
 //! The copybooks of a conversion.
 
-ghost use Rattle.std.specs.Prelude.{ℕ, List, IfOk, IfErr};
+ghost use Rattle.std.specs.Prelude.{◌≡◌, ℕ, List, IfOk, IfErr};
 ghost use Rattle.std.specs.Bool.{Decides};
+ghost use Rattle.cob_copybook_tree.specs.Forests.{Forest};
+ghost use Rattle.cob_copybook_tree.specs.Nodes.{Resolved};
 ghost use Rattle.cob_copybook.specs.Books.{IsBookOf, IsRefusal, IsMemory};
 ghost use Rattle.cob_convert.specs.Means.{IsInRefusal, IsOutRefusal};
 ghost use Rattle.cob_copybook.specs.declared.role.Role.TheVariants.{In, Out};
+ghost use Rattle.cob_convert.specs.declared.fault.PrepareFault.TheVariants.{Memory};
 
 use crate::fault::PrepareFault;
 use cob_copybook::{Book, Role};
@@ -24,7 +27,9 @@ fn is_memory(rule: BookRule) -> bool
 
 /// The refusal of the copybook of the input record.
 fn in_refusal(fault: BookFault) -> PrepareFault
-    ensures { (text : List ℕ) → IsRefusal In fault.rule fault.line text → IsInRefusal result text }
+    ensures refused { (text : List ℕ)
+        → IsRefusal In fault.rule fault.line text → IsInRefusal result text }
+    ensures memory { IsMemory fault.rule → result ≡ Memory }
 {
     if is_memory(fault.rule) {
         PrepareFault::Memory
@@ -40,6 +45,8 @@ fn in_refusal(fault: BookFault) -> PrepareFault
 /// [`PrepareFault::InBook`], [`PrepareFault::Memory`].
 pub fn in_book(alloc: Global, text: &[u8]) -> Result<Book, PrepareFault>
     ensures found { IfOk result (λ b. IsBookOf In text.now b) }
+    ensures only { (t : Forest Resolved) → IsBookOf In text.now t
+        → IfOk result (λ b. b ≡ t) × IfErr result (λ f. f ≡ Memory) }
     ensures refused { IfErr result (λ f. IsInRefusal f text.now) }
 {
     match Book::read(alloc, Role::In, text) {
@@ -50,8 +57,9 @@ pub fn in_book(alloc: Global, text: &[u8]) -> Result<Book, PrepareFault>
 
 /// The refusal of the copybook of the output record.
 fn out_refusal(fault: BookFault) -> PrepareFault
-    ensures { (text : List ℕ)
+    ensures refused { (text : List ℕ)
         → IsRefusal Out fault.rule fault.line text → IsOutRefusal result text }
+    ensures memory { IsMemory fault.rule → result ≡ Memory }
 {
     if is_memory(fault.rule) {
         PrepareFault::Memory
@@ -67,6 +75,8 @@ fn out_refusal(fault: BookFault) -> PrepareFault
 /// [`PrepareFault::OutBook`], [`PrepareFault::Memory`].
 pub fn out_book(alloc: Global, text: &[u8]) -> Result<Book, PrepareFault>
     ensures found { IfOk result (λ b. IsBookOf Out text.now b) }
+    ensures only { (t : Forest Resolved) → IsBookOf Out text.now t
+        → IfOk result (λ b. b ≡ t) × IfErr result (λ f. f ≡ Memory) }
     ensures refused { IfErr result (λ f. IsOutRefusal f text.now) }
 {
     match Book::read(alloc, Role::Out, text) {

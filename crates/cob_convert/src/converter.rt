@@ -1,7 +1,10 @@
-ghost use Rattle.std.specs.Prelude.{◌≡◌, IfOk, IfErr, vec_len};
+ghost use Rattle.std.specs.Prelude.{◌≡◌, List, IfOk, IfErr, vec_len};
 ghost use Rattle.cob_records.specs.Device.{counted, Told};
 ghost use Rattle.cob_layout_places.specs.Lengths.{alone};
 ghost use Rattle.cob_move.specs.Paragraphs.{IsParagraphOf};
+ghost use Rattle.cob_move_operands.specs.Moves.{Move};
+ghost use Rattle.cob_convert_record.specs.Conversion.{Conversion as Meant};
+ghost use Rattle.cob_convert.specs.declared.fault.PrepareFault.TheVariants.{Memory};
 ghost use Rattle.cob_convert.specs.Unique.{HasBytes};
 ghost use Rattle.cob_convert.specs.Means.{Means, IsMovesRefusal, IsPrepareRefusal};
 
@@ -60,6 +63,8 @@ fn conversion_of(
     ensures output { IfOk result (λ made. alone made.records.output ≡ output.now) }
     ensures paragraph { IfOk result
         (λ made. IsParagraphOf moves.now input.now output.now made.moves) }
+    ensures only { (ms : List Move) → IsParagraphOf moves.now input.now output.now ms
+        → IfErr result (λ fault. fault ≡ Memory) }
     ensures refused { IfErr result
         (λ fault. IsMovesRefusal fault moves.now input.now output.now) }
 {
@@ -118,6 +123,9 @@ impl Converter {
         // Records of both sides have from 1 to 32,752 bytes.
         ensures records { IfOk result
             (λ made. HasBytes made.records.input × HasBytes made.records.output) }
+        // Three texts that say a conversion are prepared, memory aside.
+        ensures only { (c : Meant) → Means in_book.now out_book.now moves.now c
+            → IfErr result (λ fault. fault ≡ Memory) }
         // A refusal names a text, and a rule that it breaks.
         ensures refused { IfErr result
             (λ fault. IsPrepareRefusal fault in_book.now out_book.now moves.now) }

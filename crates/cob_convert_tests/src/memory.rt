@@ -2,9 +2,40 @@
 
 use crate::jobs::{JOB, PRINTED};
 use crate::runs::{INPUT, OUTPUT, prepared};
-use cob_convert::job;
+use cob_convert::{Converter, PrepareFault, job};
 use cob_records::{Form, MemSink, MemSource};
+use std::alloc::Global;
 use std::test::Fail;
+
+/// Copybooks with a table that varies, one whole record to the other, and records of form v with one element and with none.
+const IN_BOOK: &[u8] = b"       01  I.\n           05  N PIC 9.\n           05  T PIC X(2) OCCURS 0 TO 3 DEPENDING ON N.\n";
+const OUT_BOOK: &[u8] = b"       01  O.\n           05  P PIC 9.\n           05  U PIC X(2) OCCURS 0 TO 3 DEPENDING ON P.\n";
+const MOVES: &[u8] = b"           MOVE I TO O.\n";
+const RECORDS: &[u8; 12] = b"\x00\x07\x00\x00\xF1\xC1\xC2\x00\x05\x00\x00\xF0";
+
+/// A converter of these records. Where a request for memory is refused, the answer is `Memory`, and the next call succeeds.
+fn varying(alloc: Global) -> Result<Converter, PrepareFault> {
+    let form = Form::Variable;
+    match Converter::prepare(alloc, IN_BOOK, OUT_BOOK, MOVES, form, form) {
+        Err(PrepareFault::Memory) => {
+            Converter::prepare(alloc, IN_BOOK, OUT_BOOK, MOVES, form, form)
+        }
+        answer => answer,
+    }
+}
+
+/// A run over records with a table that varies makes no request for memory: none is there to be refused behind `prepare`.
+#[test]
+fn varying_records_take_no_memory(rt: HostRuntime) -> Result<(), Fail> {
+    let mut converter = varying(rt.alloc())?;
+    for _ in 0..2 {
+        let mut room = [0u8; 12];
+        let mut sink = MemSink::new(&mut room);
+        assert_eq!(rt; converter.run(&mut MemSource::new(RECORDS), &mut sink), Ok(2));
+        assert_eq!(rt; sink.taken(), RECORDS.as_slice());
+    }
+    Ok(())
+}
 
 /// Where one request for memory is refused, a job prints `memory`, and the same job is done when it is tried again;
 /// a run that follows `prepare` makes no request.
