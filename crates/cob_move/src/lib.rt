@@ -1,15 +1,15 @@
-//! Paragraphs of MOVE statements, and the storage that they begin from (ANSI X3.23-1985, Nucleus: the MOVE statement; IBM Enterprise COBOL
-//! for z/OS, Language Reference, "MOVE statement", "VALUE clause").
+//! What a paragraph of MOVE statements does to records (ANSI X3.23-1985, Nucleus: the MOVE statement; IBM Enterprise COBOL for z/OS, Language
+//! Reference, "MOVE statement" and "VALUE clause").
 //!
 //! What is promised:
 //!
-//! - [`Paragraph::read`] reads a text between the records of two books: what it answers are the moves that the text says (clause `found`;
-//!   `IsParagraphOf` of specs/Paragraphs.antt), made ready for records of these books (`ready`), with their count (`counted`); a text that is a
-//!   paragraph is read, memory aside, and as just its moves (`only`); a refusal names a rule that is broken, M1 to M10 or one of the reference
-//!   format (`fault`). A text says its moves in one way ([`one_paragraph`]), and one that says some breaks no rule
-//!   ([`paragraph_breaks_no_rule`]).
-//! - [`apply`] carries the moves out in order, up to the first count, subscript or value that lacks, and what the storage holds then is part of
-//!   the promise (`applied`; `Applied` of cob_move_apply). It takes no memory: [`Scratch`] has all its room.
+//! - [`Paragraph::read`] reads a text between the records of two books. What it answers are the moves that the text says (clause `found`;
+//!   `IsParagraphOf` of specs/Paragraphs.antt): the words of the text, cut apart at brackets and commas, spell statements, and these mean the
+//!   moves, in their order. They are ready for the records of these books (`ready`). A text that is a paragraph is read, memory aside
+//!   (`only`), and a refusal names a rule that is broken, with its line (`fault`; `IsRefusalOf`): by the text, by its words, or by one of its
+//!   statements. A text says its moves in one way ([`one_paragraph`]), and then breaks no rule ([`paragraph_breaks_no_rule`]).
+//! - [`Paragraph::moves`] counts single moves, each of a sender to one of its receivers (`counted`).
+//! - [`apply`] carries the moves out on one record (`applied`; `Applied` of cob_move_apply), and [`pairs`] answers the pairs of CORRESPONDING.
 //! - [`initial`] writes the storage that a record has before the first move (clause `initial`; `IsInitial` of specs/Initial.antt): for each entry
 //!   that redefines nothing, as many elements as there are at most, one behind another, in the record's order; an element of an item holds the
 //!   item's VALUE, or without one what MOVE ZERO or MOVE SPACE leaves; an element of a group holds the group's VALUE, or the entries beneath it.
@@ -20,12 +20,12 @@
 //! - [`one_initial`] is the law that a record has one such storage.
 //!
 //! [`initial`] takes no memory, and writes each byte of a record as often as tables hold it, at most: an element is written once and then
-//! copied.
+//! copied. [`apply`] takes no memory either.
 //!
-//! It stands on `cob_source` for words, on `cob_move_statements` for statements, on `cob_move_meaning` for what they mean, on `cob_move_apply` for
-//! carrying them out, on `cob_move_initial`, and by it on the rule of MOVE of `cob_move_receive`, for what one item or a group with a VALUE
-//! holds, on `cob_copybook_tree` for lengths, on `cob_copybook` and `cob_layout` for the record and its layout, and on `cob_sound` for what
-//! holds of every record description.
+//! It puts the reading of a paragraph together: it stands on `cob_source` for words, on `cob_move_statements` for statements, on
+//! `cob_move_meaning` for the moves that they mean, and on `cob_move_apply` for what these do. For the storage before the first move it stands
+//! on `cob_move_initial`, and by it on the rule of MOVE of `cob_move_receive`, for what one item or a group with a VALUE holds, on `cob_copybook_tree` for lengths, on `cob_copybook` and `cob_layout` for
+//! the record and its layout, and on `cob_sound` for what holds of every record description.
 #![tactic(auto)]
 
 mod laws;

@@ -132,6 +132,8 @@ impl Paragraph {
         one_paragraph();
         paragraph_breaks_no_rule();
         meant_are_moves();
+        let _ = input.root();
+        let _ = output.root();
         let meant = meant_moves(alloc, input, output, text)?;
         let single = count_single(meant.as_slice());
         let moves = prepared(alloc, meant, input, output)?;
@@ -180,5 +182,7 @@ pub fn apply(
     ensures room { scratch.new ≡ scratch.old }
     ensures size { length output.new ≡ length output.old }
 {
-    paragraph.moves.apply(in_layout, out_layout, input, output, scratch)
+    paragraph
+        .moves
+        .apply(in_layout, out_layout, input, output, scratch)
 }

@@ -8,5 +8,5 @@ pub loop-one-preserved : goal.loop-one-preserved
 loop-one-preserved c =
     let before : ℕ = count_single (moves (take c.loop-one.one-index c.args.list.now)) in
     let next : count_single (moves (take (c.loop-one.one-index + 1) c.args.list.now)) ≡ before + c.len.result =
-    counted_next c.args.list.now c.loop-one.one-index c.one-item.result c.loop-one-test.true c.one-item.is ∙ ap (λ (n : ℕ). before + n) (sym c.len.ensures) in
+    counted_next c.args.list.now c.loop-one.one-index c.one-item.result c.loop-one-test.true c.one-item.is ∙ ap (λ (n : ℕ). before + n) (sym (c.len.ensures ∙ c.one-item.result.receivers.ok.0)) in
     subst (λ (total : ℕ). IsCountOf total c.added-count.result) (sym next) (c.added-count.ensures before c.loop-one.invariant)
