@@ -1,9 +1,9 @@
 -- Which end failed where records are shown.
-use Rattle.std.specs.Prelude.{ℕ, Bool, false, Ok, Err, Result}
+use Rattle.std.specs.Prelude.{◌≡◌, ℕ, ◌<◌, Bool, false, Ok, Err, Result}
 use Rattle.cob_records.specs.declared.records.RecordFault.{RecordFault}
 use Rattle.cob_records.specs.Frame.{is_read_failure, is_write_error, is_write_fault}
 use Rattle.cob_convert.specs.declared.run.Cause.{Cause}
-use Rattle.cob_convert.specs.declared.run.Cause.TheVariants.{Record}
+use Rattle.cob_convert.specs.declared.run.Cause.TheVariants.{Count, Limit, Record}
 use Rattle.cob_convert.specs.declared.run.RunFault.{RunFault}
 use Rattle.cob_convert_show.specs.declared.records.ShowFault.{ShowFault}
 use Rattle.cob_convert_show.specs.declared.records.ShowFault.TheVariants.{Memory, Run}
@@ -34,3 +34,15 @@ stopped_by is (Err (Run fault)) = is fault.cause
 abbrev pub refused_by : (Cause → Bool) → Result Bool Stop → Bool
 refused_by is (Ok found) = false
 refused_by is (Err stop) = is stop.cause
+
+-- what stops a record: a count that is not valid, at its offset, or a frame, or the number of records, which have none
+abbrev pub IsStop : ℕ → Cause → Type 0
+IsStop offset Count = Unit {0}
+IsStop offset Limit = offset ≡ 0
+IsStop offset (Record fault) = offset ≡ 0
+IsStop offset _ = ⊥
+
+-- a record stopped it, which has a number from 1 on, or memory was refused
+abbrev pub IsShowFault : ShowFault → Type 0
+IsShowFault Memory = Unit {0}
+IsShowFault (Run fault) = (0 < fault.number) × IsStop fault.offset fault.cause

@@ -1,5 +1,6 @@
 -- How values are shown.
-use Rattle.std.specs.Prelude.{◌≡◌, ℕ, ◌+◌, ◌/◌, ◌%◌, Bool, ◌==◌, ◌||◌, nat_lt, if◌then◌else◌, List, [], ◌∷◌}
+use Rattle.std.specs.Prelude.{ℕ, Bool, ◌==◌, ◌||◌, List, ◌∷◌}
+use Rattle.cob_convert.specs.Hex.{byte_text}
 use Rattle.cob_copybook_tree.specs.declared.node.Item.{Item}
 use Rattle.cob_decimal.specs.Decimal.{number_of}
 use Rattle.cob_decimal.specs.Literals.{IsNumberText}
@@ -11,14 +12,10 @@ abbrev pub IsNumberShown : Item → List ℕ → List ℕ → Type 0
 IsNumberShown i bytes text = (negative : Bool) × (digits : List ℕ) × Represents i bytes negative digits
     × IsNumberText negative (number_of digits) (scale i.picture.positions) text
 
--- the character of a hexadecimal digit, a capital from ten on
-abbrev pub digit_character : ℕ → ℕ
-digit_character value = if nat_lt value 10 then 48 + value else 55 + value
-
 -- a backslash, an x, and the two hexadecimal digits of a byte
 abbrev pub escaped : ℕ → List ℕ
-escaped byte = 92 ∷ 120 ∷ digit_character (byte / 16) ∷ digit_character (byte % 16) ∷ []
+escaped byte = 92 ∷ 120 ∷ byte_text byte
 
--- the byte is that of a quotation mark or of a backslash
-abbrev pub is_mark : ℕ → Bool
-is_mark byte = byte == 127 || byte == 224
+-- the byte is that of a quotation mark or of a backslash, which are shown by their digits
+abbrev pub is_escaped : ℕ → Bool
+is_escaped byte = byte == 127 || byte == 224

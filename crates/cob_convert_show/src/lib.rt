@@ -7,9 +7,10 @@
 //!   offset and value.
 //!
 //! What is promised: a fault is one of writing, or for `show` also one of reading, exactly where a call of that end failed
-//! (`reads`, `writes`, `errors` of [`show`]; `cause`, `errors` of [`layout_text`]); the text of a number is that of the number that the item's bytes
+//! (`reads`, `writes`, `errors` of [`show`]; `cause`, `errors` of [`layout_text`]); a stop of [`show`] names a record and is one of a count, of a
+//! frame or of the number of records, and where memory is refused nothing was read or written (`fault`, `memory`); the text of a number is that of the number that the item's bytes
 //! represent, and there is none only where they represent none (`found` and `none` of `number_text`, by `IsNumberShown` of
-//! specs/Values.antt); the text of a byte is its character or its two digits, and no two bytes have one text (`byte_text`). What the
+//! specs/Values.antt); the text of a byte is its character or its two digits, and no two bytes have one text (`shown_byte`). What the
 //! lines look like is shown by the rows of `cob_convert_show_rows`.
 //!
 //! It stands on `cob_layout` for places and counts, on `cob_item` for the numbers of items, on `cob_cp037` for characters, on

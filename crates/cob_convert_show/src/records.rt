@@ -1,12 +1,12 @@
 //! The records of a file.
 
-ghost use Rattle.std.specs.Prelude.{◌≡◌, length, IfErr, is_err, true, false};
+ghost use Rattle.std.specs.Prelude.{◌≡◌, length, IfErr, Err, is_err, true, false};
 ghost use Rattle.cob_copybook_tree.specs.Lengths.{most, sum_of};
 ghost use Rattle.cob_copybook_tree.specs.Forests.{entries_in};
 ghost use Rattle.cob_layout_places.specs.Lengths.{alone};
 ghost use Rattle.cob_records.specs.Device.{counted};
 ghost use Rattle.cob_records.specs.Frame.{is_write_error, is_write_fault};
-ghost use Rattle.cob_convert_show.specs.Records.{is_read_cause, is_write_cause, is_error_cause, stopped_by, refused_by};
+ghost use Rattle.cob_convert_show.specs.Records.{is_read_cause, is_write_cause, is_error_cause, stopped_by, refused_by, IsStop, IsShowFault};
 ghost use Rattle.cob_convert_show.specs.declared.records.ShowFault.TheVariants.{Memory, Run};
 
 use crate::elements::{Contents, Tables, put_items};
@@ -57,7 +57,8 @@ struct Stop {
 
 /// The stop at a frame that cannot be read, or that is not one of the layout.
 fn frame_stop(fault: RecordFault) -> Stop
-    ensures { result.cause ≡ Cause.Record fault }
+    ensures cause { result.cause ≡ Cause.Record fault }
+    ensures stop { IsStop result.offset result.cause }
 {
     Stop {
         offset: 0,
@@ -67,6 +68,7 @@ fn frame_stop(fault: RecordFault) -> Stop
 
 /// The stop at a count that isn't valid, or whose item ends past the record.
 fn count_stop(fault: CountFault) -> Stop
+    ensures stop { IsStop result.offset result.cause }
     ensures read { is_read_cause result.cause ≡ false }
     ensures wrote { is_write_cause result.cause ≡ false }
     ensures errors { is_error_cause result.cause ≡ false }
@@ -91,9 +93,11 @@ fn read_record<R: Source>(
     requires bytes { length bytes.old ≡ sum_of most (alone layout.now) }
     requires counts { length counts.old ≡ entries_in (alone layout.now) }
     ensures counts { length counts.new ≡ length counts.old }
+    ensures stop { IfErr result (λ stop. IsStop stop.offset stop.cause) }
     ensures wrote { IfErr result (λ stop. is_write_cause stop.cause ≡ false) }
     ensures errors { IfErr result (λ stop. is_error_cause stop.cause ≡ false) }
-    ensures reads { R.failures r.new ≡ counted (refused_by is_read_cause result) (R.failures r.old) }
+    ensures reads { R.failures r.new ≡ counted
+        (refused_by is_read_cause result) (R.failures r.old) }
 {
     let count = match next_record(r, form, layout.greatest(), bytes) {
         Ok(None) => return Ok(false),
@@ -130,7 +134,13 @@ fn put_lines<W: Sink>(
 
 /// The fault of a record that stopped it.
 fn stop_at(number: u64, side: Side, offset: u32, cause: Cause, written: u64) -> ShowFault
-    ensures { result ≡ Run record { number = number; side = side; offset = offset; cause = cause; written = written } }
+    ensures { result ≡ Run record {
+      number = number;
+      side = side;
+      offset = offset;
+      cause = cause;
+      written = written;
+    } }
 {
     ShowFault::Run(RunFault {
         number,
@@ -151,7 +161,10 @@ fn show_records<R: Source, W: Sink>(
 ) -> Result<u64, ShowFault>
     requires bytes { length bytes.old ≡ sum_of most (alone shown.layout.now) }
     requires counts { length counts.old ≡ entries_in (alone shown.layout.now) }
-    ensures reads { R.failures r.new ≡ counted (stopped_by is_read_cause result) (R.failures r.old) }
+    ensures fault { IfErr result IsShowFault }
+    ensures record { result ≡ Err Memory → ⊥ }
+    ensures reads { R.failures r.new ≡ counted
+        (stopped_by is_read_cause result) (R.failures r.old) }
     ensures writes { W.failures w.new ≡ counted
         (stopped_by is_write_cause result) (W.failures w.old) }
     ensures errors { W.errors w.new ≡ counted
@@ -197,8 +210,14 @@ pub fn show<R: Source, W: Sink>(
     r: &mut R,
     w: &mut W,
 ) -> Result<u64, ShowFault>
+    // A stop names a record, and is one of a count, of a frame, or of the number of records.
+    ensures fault { IfErr result IsShowFault }
+    // Where memory is refused nothing was read or written.
+    ensures memory { result ≡ Err Memory
+        → (R.coming r.new ≡ R.coming r.old) × (W.taken w.new ≡ W.taken w.old) }
     // A read failed, a write failed or took nothing, and a write failed, exactly where the answer says so.
-    ensures reads { R.failures r.new ≡ counted (stopped_by is_read_cause result) (R.failures r.old) }
+    ensures reads { R.failures r.new ≡ counted
+        (stopped_by is_read_cause result) (R.failures r.old) }
     ensures writes { W.failures w.new ≡ counted
         (stopped_by is_write_cause result) (W.failures w.old) }
     ensures errors { W.errors w.new ≡ counted

@@ -1,10 +1,11 @@
 //! The values of items.
 
 ghost use Rattle.std.specs.Prelude.{◌≡◌, ◌≤◌, ◌<◌, length, IfErr, IfSome, IfNone, Some, None, is_err, true, false, Bool, List, [], ◌∷◌, ℕ};
+ghost use Rattle.cob_convert.specs.Hex.{digit_character};
 ghost use Rattle.cob_copybook_tree.specs.Lengths.{item_size};
 ghost use Rattle.cob_cp037.specs.Table.{IsCoded};
 ghost use Rattle.cob_item.specs.Items.{IsNumberItem, Represents};
-ghost use Rattle.cob_convert_show.specs.Values.{IsNumberShown, is_mark, escaped, digit_character};
+ghost use Rattle.cob_convert_show.specs.Values.{IsNumberShown, is_escaped, escaped};
 ghost use Rattle.cob_records.specs.Device.{counted};
 ghost use Rattle.cob_records.specs.Frame.{is_write_error, is_write_fault};
 
@@ -34,8 +35,8 @@ fn digit(value: u8) -> u8
 }
 
 /// Whether a byte is that of a quotation mark or of a backslash, which have a meaning of their own in what is shown.
-fn is_mark(byte: u8) -> bool
-    ensures { result ≡ is_mark byte }
+fn is_escaped(byte: u8) -> bool
+    ensures { result ≡ is_escaped byte }
 {
     byte == QUOTE || byte == BACKSLASH
 }
@@ -43,11 +44,11 @@ fn is_mark(byte: u8) -> bool
 /// The character that shows a byte, where one does.
 fn plain_character(byte: u8) -> Option<u8>
     ensures found { IfSome result (λ character. IsCoded character byte) }
-    ensures only { (character : ℕ) → IsCoded character byte → is_mark byte ≡ false
+    ensures only { (character : ℕ) → IsCoded character byte → is_escaped byte ≡ false
         → result ≡ Some character }
-    ensures mark { is_mark byte ≡ true → result ≡ None }
+    ensures mark { is_escaped byte ≡ true → result ≡ None }
 {
-    if is_mark(byte) {
+    if is_escaped(byte) {
         return None;
     }
     decode_byte(byte)
@@ -55,10 +56,10 @@ fn plain_character(byte: u8) -> Option<u8>
 
 /// How a byte is shown among characters: as its character, or where it has none, or is a quotation mark or a backslash, as `\x`
 /// and its two hexadecimal digits.
-fn byte_text(byte: u8) -> ArrayVec<u8, 4>
-    ensures plain { (character : ℕ) → IsCoded character byte → is_mark byte ≡ false
+fn shown_byte(byte: u8) -> ArrayVec<u8, 4>
+    ensures plain { (character : ℕ) → IsCoded character byte → is_escaped byte ≡ false
         → result.items ≡ character ∷ [] }
-    ensures mark { is_mark byte ≡ true → result.items ≡ escaped byte }
+    ensures mark { is_escaped byte ≡ true → result.items ≡ escaped byte }
     ensures none { ((character : ℕ) → IsCoded character byte → ⊥)
         → result.items ≡ escaped byte }
 {
@@ -97,7 +98,7 @@ fn put_characters<W: Sink>(w: &mut W, sent: &mut u64, bytes: &[u8]) -> Result<()
 {
     put(w, sent, b"\"")?;
     for byte in bytes {
-        put(w, sent, byte_text(*byte).as_slice())?;
+        put(w, sent, shown_byte(*byte).as_slice())?;
     }
     put(w, sent, b"\"")
 }

@@ -1,6 +1,6 @@
 -- A byte that has a character has no other, and is shown by it where it is no mark.
 use Rattle.std.proofs.Common.{rules}
-use Rattle.cob_convert_show.proofs.values.byte_text.Goals as goal
+use Rattle.cob_convert_show.proofs.values.shown_byte.Goals as goal
 
 pub returns-in-Some-clause-plain : goal.returns-in-Some-clause-plain
 returns-in-Some-clause-plain c = λ character coded plain. let found = c.plain_character.ensures.only character coded plain in search rules
