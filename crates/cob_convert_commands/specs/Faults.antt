@@ -54,5 +54,6 @@ status_of (fault.CannotRead name) = status.Device
 status_of (fault.Refused refused) = status.Refused
 status_of (fault.Stopped stopped) = status_of_stop stopped.cause
 status_of (fault.Book refused) = status.Refused
+status_of fault.OneFile = status.Malformed
 status_of fault.Unprinted = status.Device
 status_of fault.Memory = status.Memory

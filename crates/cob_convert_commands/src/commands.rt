@@ -7,7 +7,7 @@ use cob_convert_line::{CheckLine, ConvertLine, LayoutLine, Line, LineFault, Show
 use cob_records::{create_sink, open_source};
 use std::io;
 use std::io::{Eprint, Input, Print};
-use std::rt::Files;
+use std::rt::{Clock, Files};
 
 /// The status of a command whose last line was printed, or was not.
 fn printed(line: io::Result<()>, status: Status) -> u8 {
@@ -38,7 +38,7 @@ fn do_job<R: AllocGlobal + Files + Input + Print>(rt: &R) -> u8 {
 }
 
 /// Converts, and prints how many records there were: on standard error where the records themselves go to standard output.
-fn do_convert<R: AllocGlobal + Files + Input + Print + Eprint>(
+fn do_convert<R: AllocGlobal + Files + Input + Print + Eprint + Clock>(
     rt: &R,
     line: &ConvertLine<'_>,
 ) -> u8 {
@@ -66,7 +66,10 @@ fn do_layout<R: AllocGlobal + Files + Print + Eprint>(rt: &R, line: &LayoutLine<
 }
 
 /// Lists the values of records, and prints how many there were.
-fn do_show<R: AllocGlobal + Files + Input + Print + Eprint>(rt: &R, line: &ShowLine<'_>) -> u8 {
+fn do_show<R: AllocGlobal + Files + Input + Print + Eprint + Clock>(
+    rt: &R,
+    line: &ShowLine<'_>,
+) -> u8 {
     match list_records(rt, line) {
         Ok(done) => printed(println!(rt; "done {done}"), Status::Done),
         Err(fault) => fail(rt, fault),
@@ -74,7 +77,10 @@ fn do_show<R: AllocGlobal + Files + Input + Print + Eprint>(rt: &R, line: &ShowL
 }
 
 /// Carries out what a command line asks for, prints what comes of it, and answers the program's status.
-pub fn perform<R: AllocGlobal + Files + Input + Print + Eprint>(rt: &R, line: &Line<'_>) -> u8 {
+pub fn perform<R: AllocGlobal + Files + Input + Print + Eprint + Clock>(
+    rt: &R,
+    line: &Line<'_>,
+) -> u8 {
     match line {
         Line::Job => do_job(rt),
         Line::Convert(line) => do_convert(rt, line),

@@ -57,6 +57,9 @@ pub enum CommandFault {
     /// The copybook of a listing breaks a rule.
     #[error("book {0}")]
     Book(BookFault),
+    /// The input and the output of a conversion are one file by their names, which making the output would empty.
+    #[error("in and out are one file")]
+    OneFile,
     /// A record stopped the run, or a device failed at it.
     #[error("{0}")]
     Stopped(RunFault),
@@ -149,6 +152,7 @@ impl CommandFault {
                 Status::Device
             }
             CommandFault::Refused(_) | CommandFault::Book(_) => Status::Refused,
+            CommandFault::OneFile => Status::Malformed,
             CommandFault::Stopped(fault) => stop_status(fault.cause),
             CommandFault::Memory => Status::Memory,
         }

@@ -1,14 +1,16 @@
 //! What the commands of `cobconv` do: they open and read files, call the converter, and print.
 //!
 //! [`perform`] carries out what a command line asks for and answers the status of the program. [`convert`] and [`check`] do the work of
-//! one command without printing; [`list_entries`] and [`list_records`] print what `layout` and `show` list. The files for texts are opened and read in the order of the options, and the texts are prepared before
-//! any file for records is opened; the output is made last, so that a text that is refused leaves no output.
+//! one command without printing; [`list_entries`] and [`list_records`] print what `layout` and `show` list. The files for texts are opened
+//! and read in the order of the options, and the texts are prepared before any file for records is opened; the output is made last, and not
+//! where it has the name of the input, so that a text that is refused leaves no output and no input is lost.
 //!
-//! What is promised is that each call returns and is safe; a fault names the file that it speaks of (`name`), and its status is that of
-//! its kind (`status`). What files hold and what is printed is shown by running the program.
+//! What is promised is that each call returns and is safe, and that the status of a fault is that of its kind (`status`). What files hold and
+//! what is printed is shown by running the program.
 //!
-//! It stands on `cob_convert_line` for the command line, on `cob_convert` for what is done, on `cob_convert_show`,
-//! `cob_layout` and `cob_copybook` for listings, on `cob_copybook` and `cob_source` for the figures of `check`, on `cob_records` for the ends over files, and on `thiserror` for what faults print.
+//! It stands on `cob_convert_line` for the command line, on `cob_convert` for what is done, on `cob_convert_show`, `cob_layout` and
+//! `cob_copybook` for listings, on `cob_records` for the ends over files, on `cob_limits` for the longest text, and on `thiserror` for what
+//! faults print.
 #![tactic(auto)]
 
 mod checking;

@@ -4,9 +4,9 @@ use cob_convert_line::{LayoutLine, ShowLine};
 use cob_convert_show::{layout_text, show};
 use cob_copybook::{Book, Role};
 use cob_layout::Layout;
-use cob_records::{create_sink, open_source};
-use std::io::{Input, Print};
-use std::rt::Files;
+use cob_records::{Progress, create_sink, open_source};
+use std::io::{Eprint, Input, Print};
+use std::rt::{Clock, Files};
 
 /// Reads the copybook that `--book` names.
 fn read_book<R: AllocGlobal + Files>(rt: &R, path: &str) -> Result<Book, CommandFault> {
@@ -40,7 +40,7 @@ pub fn list_entries<R: AllocGlobal + Files + Print>(
 ///
 /// A file that is not opened or not read, a copybook that is refused, a record that stops the listing, a line that is not printed, want of
 /// memory. The lines of the records before it are printed.
-pub fn list_records<R: AllocGlobal + Files + Input + Print>(
+pub fn list_records<R: AllocGlobal + Files + Input + Print + Eprint + Clock>(
     rt: &R,
     line: &ShowLine<'_>,
 ) -> Result<u64, CommandFault> {
@@ -53,14 +53,12 @@ pub fn list_records<R: AllocGlobal + Files + Input + Print>(
     let Ok(mut sink) = create_sink(rt, "-") else {
         return Err(CommandFault::Memory);
     };
-    let answer = show(
-        rt.alloc(),
-        &book,
-        &layout,
-        line.form,
-        &mut source,
-        &mut sink,
-    );
+    let answer = if line.progress {
+        let mut told = Progress::new(source, rt, line.form, layout.greatest());
+        show(rt.alloc(), &book, &layout, line.form, &mut told, &mut sink)
+    } else {
+        show(rt.alloc(), &book, &layout, line.form, &mut source, &mut sink)
+    };
     if sink.flush().is_err() {
         return Err(CommandFault::Unprinted);
     }

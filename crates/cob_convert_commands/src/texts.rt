@@ -1,6 +1,7 @@
 use crate::fault::{CommandFault, FileName};
+use cob_convert::Converter;
 use cob_limits::MAX_TEXT_BYTES;
-use cob_records::{ReadSource, Source};
+use cob_records::{Form, ReadSource, Source};
 use std::alloc::Global;
 use std::fs::File;
 use std::rt::Files;
@@ -42,4 +43,36 @@ pub fn read_text<R: AllocGlobal + Files>(
         Ok(file) => read_all(rt.alloc(), &mut ReadSource::new(file), name),
         Err(_) => Err(CommandFault::CannotOpen(name)),
     }
+}
+
+/// The files of the three texts of a conversion.
+#[derive(Clone, Copy)]
+pub struct Texts<'a> {
+    pub in_book: &'a str,
+    pub out_book: &'a str,
+    pub moves: &'a str,
+}
+
+/// Reads the three texts of a conversion, and prepares it.
+///
+/// # Errors
+///
+/// A file that is not opened or not read, a text that is refused, want of memory.
+pub fn prepared<R: AllocGlobal + Files>(
+    rt: &R,
+    texts: Texts<'_>,
+    in_form: Form,
+    out_form: Form,
+) -> Result<Converter, CommandFault> {
+    let in_book = read_text(rt, texts.in_book, FileName::InBook)?;
+    let out_book = read_text(rt, texts.out_book, FileName::OutBook)?;
+    let moves = read_text(rt, texts.moves, FileName::Moves)?;
+    Ok(Converter::prepare(
+        rt.alloc(),
+        &in_book,
+        &out_book,
+        &moves,
+        in_form,
+        out_form,
+    )?)
 }
