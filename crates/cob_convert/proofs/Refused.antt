@@ -1,5 +1,5 @@
 -- Refusals of texts, one after another.
-use Rattle.std.proofs.Common.{◌≡◌, ℕ, List, refl}
+use Rattle.std.proofs.Common.{◌≡◌, ℕ, List, ap, refl}
 use Rattle.cob_copybook_tree.specs.Forests.{Forest}
 use Rattle.cob_copybook_tree.specs.Nodes.{Resolved}
 use Rattle.cob_copybook.specs.Books.{IsBookOf}
@@ -36,3 +36,7 @@ refused_by _ f moves input output is refused = (refused, λ of. rw is at of)
 pub paragraph_refused : (f : MoveFault) (moves : List ℕ) (input output : Forest Resolved) → IsRefusalOf f moves input output
     → IsMovesRefusal (moves_refusal f) moves input output
 paragraph_refused f moves input output refused = refused_by f.rule f moves input output refl refused
+
+-- refused memory stays refused memory
+pub refused_memory : (f : MoveFault) → f.rule ≡ rule.Memory → moves_refusal f ≡ Memory
+refused_memory f is = ap (λ (r : MoveRule). moves_refusal_by r f) is

@@ -1,0 +1,4 @@
+use Rattle.cob_convert.proofs.books.in_book.Goals as goal
+
+pub returns-in-Err-clause-only : goal.returns-in-Err-clause-only
+returns-in-Err-clause-only c = λ t is. (tt, c.in_refusal.ensures.memory ((rw c.in-Err.is at c.read.ensures.only) t is).1)
