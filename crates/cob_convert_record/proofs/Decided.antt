@@ -1,5 +1,5 @@
 -- What becomes of one record is determined.
-use Rattle.std.proofs.Common.{◌≡◌, ℕ, List, length, take, refl, sym, ◌∙◌, ap, subst, Option, Some, None, Ok, Err, Result, inl, inr, true, false}
+use Rattle.std.proofs.Common.{◌≡◌, ℕ, List, take, refl, sym, ◌∙◌, ap, subst, Option, Some, None, Ok, Err, Result, inl, inr, true, false}
 use Rattle.cob_records.specs.declared.records.Form.{Form}
 use Rattle.cob_records.specs.declared.records.Form.TheVariants.{Fixed, Variable}
 use Rattle.cob_copybook_tree.specs.Forests.{Tree}
@@ -21,7 +21,7 @@ use Rattle.cob_convert_record.specs.declared.misfit.Misfit.{Misfit}
 use Rattle.cob_convert_record.specs.declared.misfit.Misfit.TheVariants.{Count, Length}
 use Rattle.cob_convert_record.specs.Sizes.{IsSized, IsMisfit}
 use Rattle.cob_convert_record.specs.Becoming.{Becomes, StopsAt, IsWritten}
-use Rattle.cob_convert_record.specs.Laws.{IsDecided, ConversionsAreDecided}
+use Rattle.cob_convert_record.specs.Laws.{ConversionsAreDecided}
 
 -- counts that are valid are no fault
 valid_or_not : OneOfAll → (t : Tree Resolved) (bytes counts : List ℕ) (fault : CountFault)

@@ -1,5 +1,5 @@
 -- What becomes of a record, and where its conversion stops.
-use Rattle.std.proofs.Common.{◌≡◌, ℕ, List, inl, inr, IfErr, IfOk, Ok, Err, Result}
+use Rattle.std.proofs.Common.{ℕ, List, inl, inr, IfErr, IfOk, Ok, Err, Result}
 use Rattle.cob_layout_places.specs.Lengths.{alone}
 use Rattle.cob_move.specs.Initial.{IsInitial}
 use Rattle.cob_convert_record.specs.Conversion.{Conversion}

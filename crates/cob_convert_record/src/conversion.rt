@@ -123,6 +123,7 @@ impl Conversion {
     ghost use Rattle.cob_records.specs.Frame.{IsRecord};
     ghost use Rattle.cob_move_apply.specs.Prepared.{ArePrepared, moves_of};
     ghost use Rattle.cob_layout.specs.Storage.{IsStorage};
+    ghost use Rattle.cob_move.specs.Initial.{IsInitial};
     ghost use Rattle.cob_convert_record.specs.Conversion.{in_length, out_length};
     ghost use Rattle.cob_convert_record.specs.Sizes.{IsSized, IsMisfit};
     ghost use Rattle.cob_convert_record.specs.Becoming.{Becomes, StopsAt};
@@ -221,6 +222,15 @@ impl Conversion {
         }
     }
 
+    /// Begins an output record: its storage holds its initial values, and nothing of a record before.
+    fn begin(&self, output: &mut [u8])
+        requires { length output.old ≡ out_length self.now }
+        ensures begins { IsInitial (alone self.now.records.output) output.new }
+        ensures length { length output.new ≡ length output.old }
+    {
+        output.copy_from_slice(self.image.as_slice());
+    }
+
     /// Makes the output record of an input record: from the initial storage, by each move in turn. The answer is how many bytes of the storage
     /// are written. It takes no memory.
     ///
@@ -238,7 +248,7 @@ impl Conversion {
         ensures length { length output.new ≡ length output.old }
         ensures room { room.new ≡ room.old }
     {
-        output.copy_from_slice(self.image.as_slice());
+        self.begin(output);
         self.moves.apply(&self.input, &self.output, input, output, &mut room.scratch)?;
         written_length(&self.output, self.out_form, output, &mut room.out_counts)
     }
