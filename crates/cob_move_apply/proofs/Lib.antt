@@ -2,3 +2,4 @@ pub mod PlaceLemmas
 pub mod ListLemmas
 pub mod ReceiverLemmas
 pub mod OneLemmas
+pub mod CountLemmas

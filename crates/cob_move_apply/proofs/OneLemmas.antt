@@ -19,7 +19,7 @@ use Rattle.cob_move_operands.specs.declared.Operand.{Operand}
 use Rattle.cob_move_apply.specs.declared.stop.Stop.{Stop}
 use Rattle.cob_move_apply.specs.declared.stop.StopCause.TheVariants.{Count, Subscript}
 use Rattle.cob_move_operands.specs.Moves.{Sender, Entry, Literal, Move, Records, record_of}
-use Rattle.cob_move_apply.specs.Located.{Located, StandsAt, stop_at}
+use Rattle.cob_move_apply.specs.Located.{Located, StandsUnder, stop_at}
 use Rattle.cob_move_apply.specs.Applied.{AllGet, Applied, Content, Ending, EntryGives, Gets, Gives, IsMoved, OneEnding, content_at, done, stopped, storage_of}
 
 some_is : {A : Type 0} (a b : A) → Some a ≡ Some b → a ≡ b
@@ -36,7 +36,7 @@ ok_not a b e = cc
 
 -- ---- a place
 
-one_standing : (t : Tree Resolved) (o : Operand) (c d : List ℕ) (a b : Result Place PlaceFault) → c ≡ d → StandsAt t o c a → StandsAt t o d b → a ≡ b
+one_standing : (t : Tree Resolved) (o : Operand) (c d : List ℕ) (a b : Result Place PlaceFault) → c ≡ d → StandsUnder t o c a → StandsUnder t o d b → a ≡ b
 one_standing t o c d a b same x y =
     some_is a b (sym x ∙ ap (λ (k : List ℕ). option_map placed (find (times k) o.entry.node (alone t) 0 0 o.entry.subscripts.items)) same ∙ y)
 

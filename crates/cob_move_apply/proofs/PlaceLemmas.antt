@@ -21,7 +21,7 @@ use Rattle.cob_move_operands.specs.declared.Side.{Side}
 use Rattle.cob_move_operands.specs.declared.Operand.{Operand}
 use Rattle.cob_move_operands.specs.Moves.{IsOperand}
 use Rattle.cob_move_apply.specs.declared.step.PlacedOperand.{PlacedOperand}
-use Rattle.cob_move_apply.specs.Located.{Located, StandsAt}
+use Rattle.cob_move_apply.specs.Located.{Located, StandsUnder}
 use Rattle.cob_move_apply.specs.Placed.{IsFixed, IsPlaced}
 use Rattle.cob_sound.specs.Sound.{IsSound, IsStorableKind, AreStorable}
 use Rattle.cob_move_receive.specs.Sent.{Occupies}
@@ -71,7 +71,7 @@ pub fixed_in : (t : Tree Resolved) (receiving : Bool) (o : PlacedOperand) (p : P
 fixed_in t receiving o p is e = subst (λ (q : Option Place). IfSome q (λ place. IsFixed t receiving o.operand place)) e is.place
 
 -- where no count is read
-pub fixed : (t : Tree Resolved) (receiving : Bool) (o : Operand) (p : Place) → ReadsNone t o.entry.node receiving → StandsAt t o (greatest_counts t) (Ok p)
+pub fixed : (t : Tree Resolved) (receiving : Bool) (o : Operand) (p : Place) → ReadsNone t o.entry.node receiving → StandsUnder t o (greatest_counts t) (Ok p)
     → p.offset + p.length ≤ greatest_length t → IsFixed t receiving o p
 fixed t receiving o p none stands within = record {
   place = λ side bytes. (greatest_counts t, ([], none, refl), stands);

@@ -1,5 +1,5 @@
 -- Moves that are ready to be carried out.
-use Rattle.std.specs.Prelude.{List, map}
+use Rattle.std.specs.Prelude.{ℕ, ◌+◌, List, [], ◌∷◌, length, map}
 use Rattle.cob_move_operands.specs.Moves.{Move, Records}
 use Rattle.cob_move_apply.specs.declared.moves.Moves.{Moves}
 use Rattle.cob_move_apply.specs.Placed.{ArePlacedMoves, move_of}
@@ -11,3 +11,8 @@ moves_of m = map move_of m.steps.items
 -- they are moves between these records, and the places that they keep are the same in every storage of these
 abbrev pub ArePrepared : Records → Moves → Type 0
 ArePrepared r m = ArePlacedMoves r m.steps.items
+
+-- how many single moves these are: each is a sender with one of its receivers
+abbrev pub single_moves : List Move → ℕ
+single_moves [] = 0
+single_moves (m ∷ ms) = length m.receivers + single_moves ms

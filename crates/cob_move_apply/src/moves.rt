@@ -1,6 +1,6 @@
 //! Moves that are ready to be carried out.
 
-ghost use Rattle.std.specs.Prelude.{◌≡◌, length, map, IfOk};
+ghost use Rattle.std.specs.Prelude.{◌≡◌, length, map, min, IfOk};
 ghost use Rattle.cob_layout.specs.Storage.{greatest_length, IsStorage};
 ghost use Rattle.cob_move_operands.specs.Moves.{move, AreMoves};
 ghost use Rattle.cob_move_apply.specs.Applied.{Applied, ending};
@@ -16,6 +16,17 @@ use cob_move_operands::Move;
 use cob_sound::records_are_sound;
 use std::alloc::{AllocError, Global};
 
+/// A number, or the greatest u32 where it is more.
+fn at_most_u32(count: usize) -> u32
+    ensures { result ≡ min count 4294967295 }
+{
+    if count < u32::MAX as usize {
+        count as u32
+    } else {
+        u32::MAX
+    }
+}
+
 /// Moves between two records, ready to be carried out.
 #[derive(Debug, Drop)]
 pub struct Moves {
@@ -23,7 +34,7 @@ pub struct Moves {
 }
 
 impl Moves {
-    ghost use Rattle.cob_move_apply.specs.Prepared.{ArePrepared, moves_of};
+    ghost use Rattle.cob_move_apply.specs.Prepared.{ArePrepared, moves_of, single_moves};
 
     /// Moves between the records of these layouts, made ready: a place that is the same in every storage is found here.
     ///
@@ -44,6 +55,17 @@ impl Moves {
     {
         let steps = placed_moves(alloc, moves, input, output)?;
         Ok(Moves { steps })
+    }
+
+    /// How many single moves these are: each is a sender with one of its receivers. More than a u32 holds come as the greatest u32.
+    pub fn single_moves(&self) -> u32
+        ensures { result ≡ min (single_moves (moves_of self.now)) 4294967295 }
+    {
+        let mut count: usize = 0;
+        for step in self.steps.iter() {
+            count = count.saturating_add(step.receivers.len());
+        }
+        at_most_u32(count)
     }
 
     /// Carries out the moves in order on the storage of an output record. It takes no memory.
