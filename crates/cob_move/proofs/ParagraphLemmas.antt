@@ -1,11 +1,11 @@
 -- Paragraphs.
-use Rattle.std.proofs.Common.{◌≡◌, ℕ, ◌+◌, List, [], ◌∷◌, ◌++◌, length, refl, sym, ap, subst, ◌∙◌, arith, inl, inr, ◌⊎◌}
+use Rattle.std.proofs.Common.{◌≡◌, ℕ, List, refl, sym, ap, subst, inl, inr, ◌⊎◌}
 use Rattle.cob_source.specs.Tokens.{Lexeme}
 use Rattle.cob_source.specs.declared.fault.SourceRule.{SourceRule}
 use Rattle.cob_source.specs.declared.fault.SourceRule.TheVariants as source
-use Rattle.cob_source.specs.Words.{AreParagraphWordsOf, IsBroken, IsRefusal, ParagraphWordsAreOne}
+use Rattle.cob_source.specs.Words.{AreParagraphWordsOf, IsRefusal, ParagraphWordsAreOne}
 use Rattle.cob_copybook.specs.Books.{IsRecord}
-use Rattle.cob_copybook_tree.specs.Forests.{Forest, Tree}
+use Rattle.cob_copybook_tree.specs.Forests.{Forest}
 use Rattle.cob_copybook_tree.specs.Nodes.{Resolved}
 use Rattle.cob_layout_places.specs.Lengths.{alone}
 use Rattle.cob_move_statements.specs.declared.fault.MoveFault.{MoveFault}
@@ -19,7 +19,7 @@ use Rattle.cob_move_operands.specs.Moves.{AreMoves, Move, Records}
 use Rattle.cob_move_meaning.specs.Meaning.{AreMeant}
 use Rattle.cob_move_meaning.specs.Laws.{MeantAreMoves, MeantBreakNoRule, OneMeant}
 use Rattle.cob_move_references.specs.Candidates.{all_entries}
-use Rattle.cob_move.specs.Paragraphs.{BreaksGrammar, BreaksParagraph, IsParagraphOf, IsRefusalOf}
+use Rattle.cob_move.specs.Paragraphs.{BreaksParagraph, IsParagraphOf, IsRefusalOf}
 use Rattle.cob_move.specs.Laws.{OneParagraph, ParagraphBreaksNoRule}
 
 -- ---- refusals
