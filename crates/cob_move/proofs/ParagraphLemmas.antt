@@ -1,12 +1,11 @@
 -- Paragraphs.
-use Rattle.std.proofs.Common.{◌≡◌, ℕ, ◌+◌, List, [], ◌∷◌, ◌++◌, length, refl, sym, ap, subst, ◌∙◌, arith, inl, inr, ◌⊎◌, ◌<◌, take, get_or}
-use Rattle.std.proofs.lemmas.List.{map-append, take_more}
+use Rattle.std.proofs.Common.{◌≡◌, ℕ, List, refl, sym, ap, subst, inl, inr, ◌⊎◌}
 use Rattle.cob_source.specs.Tokens.{Lexeme}
 use Rattle.cob_source.specs.declared.fault.SourceRule.{SourceRule}
 use Rattle.cob_source.specs.declared.fault.SourceRule.TheVariants as source
-use Rattle.cob_source.specs.Words.{AreParagraphWordsOf, IsBroken, IsRefusal, ParagraphWordsAreOne}
+use Rattle.cob_source.specs.Words.{AreParagraphWordsOf, IsRefusal, ParagraphWordsAreOne}
 use Rattle.cob_copybook.specs.Books.{IsRecord}
-use Rattle.cob_copybook_tree.specs.Forests.{Forest, Tree}
+use Rattle.cob_copybook_tree.specs.Forests.{Forest}
 use Rattle.cob_copybook_tree.specs.Nodes.{Resolved}
 use Rattle.cob_layout_places.specs.Lengths.{alone}
 use Rattle.cob_move_statements.specs.declared.fault.MoveFault.{MoveFault}
@@ -16,12 +15,11 @@ use Rattle.cob_move_statements.specs.Faults.{paragraph_fault_by}
 use Rattle.cob_move_statements.specs.Written.{WrittenStatement}
 use Rattle.cob_move_statements.specs.Statements.{IsLineOf, IsParagraph}
 use Rattle.cob_move_statements.specs.Laws.{OneListOfStatements}
-use Rattle.cob_move_operands.specs.declared.Move as code_move
-use Rattle.cob_move_operands.specs.Moves.{AreMoves, Move, Records, move, moves}
+use Rattle.cob_move_operands.specs.Moves.{AreMoves, Move, Records}
 use Rattle.cob_move_meaning.specs.Meaning.{AreMeant}
 use Rattle.cob_move_meaning.specs.Laws.{MeantAreMoves, MeantBreakNoRule, OneMeant}
 use Rattle.cob_move_references.specs.Candidates.{all_entries}
-use Rattle.cob_move.specs.Paragraphs.{BreaksGrammar, BreaksText, IsCountOf, IsParagraphOf, IsRefusalOf, count_single}
+use Rattle.cob_move.specs.Paragraphs.{BreaksParagraph, IsParagraphOf, IsRefusalOf}
 use Rattle.cob_move.specs.Laws.{OneParagraph, ParagraphBreaksNoRule}
 
 -- ---- refusals
@@ -63,7 +61,7 @@ one_paragraph words_one statements_one meant_one text input output a b p q =
     meant_one (all_entries input output) input output p.statements a b p.meant (subst (λ (ss : List WrittenStatement). AreMeant input output ss b) same q.meant)
 
 text_unbroken : ParagraphWordsAreOne → (r : MoveRule) (line : ℕ) (text : List ℕ) (input output : Forest Resolved) (ms : List Move)
-    → IsParagraphOf text input output ms → BreaksText r line text → r ≡ rule.Memory
+    → IsParagraphOf text input output ms → BreaksParagraph r line text → r ≡ rule.Memory
 text_unbroken words_one (rule.Source r) line text input output ms p broken = absurd (p.are_words.breaks_none r line broken)
 text_unbroken words_one rule.Grammar line text input output ms p broken =
     let words : p.words ≡ broken.words = words_one text p.words broken.words p.are_words broken.are_words in
@@ -93,20 +91,3 @@ pub are_moves : MeantAreMoves → (r : Records) (text : List ℕ) (input output 
 are_moves law r text input output ms a b in_record out_record p =
     law r p.statements ms (subst IsRecord (sym a) in_record) (subst IsRecord (sym b) out_record)
     (subst (λ (f : Forest Resolved). AreMeant (alone r.input) f p.statements ms) (sym b) (subst (λ (f : Forest Resolved). AreMeant f output p.statements ms) (sym a) p.meant))
-
--- ---- the number of single moves
-
-pub nothing_counted : IsCountOf 0 0
-nothing_counted = inl (omega arith, refl)
-
-pub count_more : (ms : List Move) (m : Move) → count_single (ms ++ m ∷ []) ≡ count_single ms + length m.receivers
-count_more [] m = omega arith
-count_more (n ∷ ms) m = omega (arith, count_more ms m)
-
-pub counted_next : (ms : List code_move.Move) (i : ℕ) (m : code_move.Move) → i < length ms → m ≡ get_or ms i m
-    → count_single (moves (take (i + 1) ms)) ≡ count_single (moves (take i ms)) + length m.receivers.items
-counted_next ms i m lt is =
-    ap (λ (xs : List code_move.Move). count_single (moves xs)) (take_more ms i m lt)
-    ∙ ap count_single (map-append move (take i ms) (get_or ms i m ∷ []))
-    ∙ count_more (moves (take i ms)) (move (get_or ms i m))
-    ∙ ap (λ (x : code_move.Move). count_single (moves (take i ms)) + length x.receivers.items) (sym is)

@@ -1,5 +1,5 @@
 -- Which moves the text of a paragraph says between two records, and which rules it breaks.
-use Rattle.std.specs.Prelude.{◌≡◌, ◌⊎◌, ◌+◌, ◌≤◌, ◌<◌, ℕ, List, [], ◌∷◌, length}
+use Rattle.std.specs.Prelude.{◌≡◌, ◌⊎◌, ℕ, List}
 use Rattle.cob_source.specs.Tokens.{Lexeme}
 use Rattle.cob_source.specs.Words.{AreParagraphWordsOf, IsBroken as BreaksSource}
 use Rattle.cob_copybook_tree.specs.Forests.{Forest}
@@ -39,24 +39,15 @@ pub record BreaksMeaning (f : MoveFault) (text : List ℕ) (input output : Fores
   pub broken : AreBroken f input output statements
 
 -- The text breaks a rule of the reference format, or the grammar of statements, on this line; refused memory has line 0.
-abbrev pub BreaksText : MoveRule → ℕ → List ℕ → Type 0
-BreaksText (rule.Source r) line text = BreaksSource r line text
-BreaksText rule.Grammar line text = BreaksGrammar text line
-BreaksText rule.Memory line text = line ≡ 0
-BreaksText other line text = ⊥
+abbrev pub BreaksParagraph : MoveRule → ℕ → List ℕ → Type 0
+BreaksParagraph (rule.Source r) line text = BreaksSource r line text
+BreaksParagraph rule.Grammar line text = BreaksGrammar text line
+BreaksParagraph rule.Memory line text = line ≡ 0
+BreaksParagraph other line text = ⊥
 
 -- A refusal names a rule that is broken: by the text, or by one of its statements.
 abbrev pub IsRefusalOf : MoveFault → List ℕ → Forest Resolved → Forest Resolved → Type 0
-IsRefusalOf f text input output = BreaksText f.rule f.line text ⊎ BreaksMeaning f text input output
-
--- How many single moves there are, each of a sender to one of its receivers.
-abbrev pub count_single : List Move → ℕ
-count_single [] = 0
-count_single (m ∷ ms) = length m.receivers + count_single ms
-
--- The count of a total: the total, or the greatest number of 32 bits where there are more.
-abbrev pub IsCountOf : ℕ → ℕ → Type 0
-IsCountOf total count = ((total ≤ 4294967295) × (count ≡ total)) ⊎ ((4294967295 < total) × (count ≡ 4294967295))
+IsRefusalOf f text input output = BreaksParagraph f.rule f.line text ⊎ BreaksMeaning f text input output
 
 -- the moves of a paragraph, in their order
 abbrev pub moves_in : Paragraph → List Move

@@ -8,7 +8,7 @@
 //!   moves, in their order. They are ready for the records of these books (`ready`). A text that is a paragraph is read, memory aside
 //!   (`only`), and a refusal names a rule that is broken, with its line (`fault`; `IsRefusalOf`): by the text, by its words, or by one of its
 //!   statements. A text says its moves in one way ([`one_paragraph`]), and then breaks no rule ([`paragraph_breaks_no_rule`]).
-//! - [`Paragraph::moves`] counts single moves, each of a sender to one of its receivers (`counted`).
+//! - [`Paragraph::moves`] counts single moves, each of a sender to one of its receivers.
 //! - [`apply`] carries the moves out on one record (`applied`; `Applied` of cob_move_apply), and [`pairs`] answers the pairs of CORRESPONDING.
 //! - [`initial`] writes the storage that a record has before the first move (clause `initial`; `IsInitial` of specs/Initial.antt): for each entry
 //!   that redefines nothing, as many elements as there are at most, one behind another, in the record's order; an element of an item holds the

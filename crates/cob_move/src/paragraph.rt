@@ -1,22 +1,15 @@
 //! Paragraphs.
 
-ghost use Rattle.std.specs.Prelude.{◌≡◌, length, map, IfErr, IfOk, List, ℕ, ◌+◌};
+ghost use Rattle.std.specs.Prelude.{◌≡◌, length, map, min, IfErr, IfOk, List};
 ghost use Rattle.cob_copybook.specs.Books.{IsRecord};
 ghost use Rattle.cob_layout.specs.Storage.{IsStorage, greatest_length};
 ghost use Rattle.cob_layout_places.specs.Lengths.{alone};
 ghost use Rattle.cob_move_apply.specs.Applied.{Applied, ending};
-ghost use Rattle.cob_move_apply.specs.Prepared.{ArePrepared, moves_of};
+ghost use Rattle.cob_move_apply.specs.Prepared.{ArePrepared, moves_of, single_moves};
 ghost use Rattle.cob_move_apply.specs.Room.{room_of};
 ghost use Rattle.cob_move_operands.specs.Moves.{AreMoves, Move as Meant, Records, moves};
 ghost use Rattle.cob_move_statements.specs.declared.fault.MoveRule.TheVariants.{Memory};
-ghost use Rattle.cob_move.specs.Paragraphs.{
-  IsCountOf,
-  IsParagraphOf,
-  IsReadyFor,
-  IsRefusalOf,
-  count_single,
-  moves_in,
-};
+ghost use Rattle.cob_move.specs.Paragraphs.{IsParagraphOf, IsReadyFor, IsRefusalOf, moves_in};
 
 use crate::laws::{one_paragraph, paragraph_breaks_no_rule};
 use cob_copybook::Book;
@@ -32,7 +25,6 @@ use std::alloc::{AllocError, Global};
 #[derive(Debug, Drop)]
 pub struct Paragraph {
     moves: Moves,
-    single: u32,
 }
 
 /// The moves that a text says between the records of two books.
@@ -79,29 +71,6 @@ fn prepared(
     Ok(ready)
 }
 
-/// A count with more added to it, as far as 32 bits go.
-fn added(count: u32, more: usize) -> u32
-    ensures { (total : ℕ) → IsCountOf total count → IsCountOf (total + more) result }
-{
-    let room = (u32::MAX - count) as usize;
-    if more > room {
-        u32::MAX
-    } else {
-        count + more as u32
-    }
-}
-
-/// How many single moves there are.
-fn count_single(list: &[Move]) -> u32
-    ensures { IsCountOf (count_single (moves list.now)) result }
-{
-    let mut count = 0;
-    for one in list {
-        count = added(count, one.receivers.len());
-    }
-    count
-}
-
 impl Paragraph {
     /// The paragraph that a text is, between the records of two books: the words of the text are MOVE statements, and each means its
     /// moves. (ANSI X3.23-1985, Nucleus: the MOVE statement.)
@@ -121,8 +90,6 @@ impl Paragraph {
         // They are ready for the records of these books.
         ensures ready { IfOk result (λ p. (r : Records)
             → alone r.input ≡ input.now → alone r.output ≡ output.now → IsReadyFor r p) }
-        // They are counted.
-        ensures counted { IfOk result (λ p. IsCountOf (count_single (moves_in p)) p.single) }
         // A text that is a paragraph is read, memory aside.
         ensures only { (ms : List Meant) → IsParagraphOf text.now input.now output.now ms
             → IfOk result (λ p. moves_in p ≡ ms) × IfErr result (λ f. f.rule ≡ Memory) }
@@ -135,16 +102,15 @@ impl Paragraph {
         let _ = input.root();
         let _ = output.root();
         let meant = meant_moves(alloc, input, output, text)?;
-        let single = count_single(meant.as_slice());
         let moves = prepared(alloc, meant, input, output)?;
-        Ok(Paragraph { moves, single })
+        Ok(Paragraph { moves })
     }
 
-    /// The number of single moves, each of a sender to one of its receivers; the greatest number of 32 bits where there are more.
+    /// The number of single moves, each of a sender to one of its receivers. More than a u32 holds come as the greatest u32.
     pub fn moves(&self) -> u32
-        ensures { result ≡ self.now.single }
+        ensures { result ≡ min (single_moves (moves_in self.now)) 4294967295 }
     {
-        self.single
+        self.moves.single_moves()
     }
 
     /// The moves themselves.
