@@ -70,7 +70,7 @@ below_is n = ap (λ (t : Tree Resolved). t.beneath) (node_out n)
 pub below_possible : (n : Node) → MayOccur (alone (node n)) → MayOccur (below n)
 below_possible n h = subst MayOccur (below_is n) h.1
 
-element_out : (c : Resolved → ℕ) (n : Node) → element c (node n).top (node n).beneath ≡ one (out-Node n).kind (sum_of c (below n))
+pub element_out : (c : Resolved → ℕ) (n : Node) → element c (node n).top (node n).beneath ≡ one (out-Node n).kind (sum_of c (below n))
 element_out c n = ap (λ (t : Tree Resolved). element c t.top t.beneath) (node_out n)
 
 pub element_item : (c : Resolved → ℕ) (n : Node) (i : Item) → (out-Node n).kind ≡ ItemKind i → element c (node n).top (node n).beneath ≡ item_size i
@@ -92,6 +92,13 @@ left kids k = forest (drop k kids)
 pub left_is : (kids : List Node) (k : ℕ) (n : Node) → k < length kids → n ≡ get_or kids k n
     → left kids k ≡ Grows (node n).top (node n).beneath (left kids (k + 1))
 left_is kids k n lt is = ap (λ (ns : List Node). forest ns) (drop_more kids k n lt ∙ ap (λ (m : Node). m ∷ drop (k + 1) kids) (sym is))
+
+-- the entries that are left are as long as the next one and those behind it
+pub left_sum : (c : Resolved → ℕ) (kids : List Node) (k : ℕ) (n : Node) → k < length kids → n ≡ get_or kids k n
+    → sum_of c (left kids k) ≡ room (out-Node n).redefines (whole c (node n).top (node n).beneath) + sum_of c (left kids (k + 1))
+left_sum c kids k n lt is =
+    ap (sum_of c) (left_is kids k n lt is)
+    ∙ ap (λ (o : Option (List ℕ)). room o (whole c (node n).top (node n).beneath) + sum_of c (left kids (k + 1))) (redefines_of n)
 
 -- what is known of the next entry and of those behind it
 pub record Next (n : Node) (now after : Forest Resolved) : Type 0 where

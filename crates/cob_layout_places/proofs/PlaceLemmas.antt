@@ -191,3 +191,13 @@ pub further : (c : Resolved → ℕ) (number : ℕ) (kids : List Node) (k : ℕ)
 further c number kids k n at area subscripts begin step lt is none b q =
     find_left c number kids k n at area subscripts lt is
     ∙ none_first c number (node n) (left kids (k + 1)) at area subscripts begin (whole c (node n).top (node n).beneath) (out-Node n).redefines step none b q
+
+-- an entry that is found in a child is found there among those that are left
+pub in_first : (c : Resolved → ℕ) (number : ℕ) (kids : List Node) (k : ℕ) (n : Node) (at area : ℕ) (subscripts : List ℕ) (begin : ℕ) (found : Found)
+    → k < length kids → n ≡ get_or kids k n
+    → find_one c number (node n) begin subscripts ≡ Some found → begin ≡ begins (out-Node n).redefines at area
+    → find c number (left kids k) at area subscripts ≡ Some found
+in_first c number kids k n at area subscripts begin found lt is h b =
+    find_left c number kids k n at area subscripts lt is
+    ∙ ap (λ (p : Option Found). or_else p (find c number (left kids (k + 1)) (at + room (out-Node n).redefines (whole c (node n).top (node n).beneath)) (begins (out-Node n).redefines at area) subscripts))
+    (ap (λ (m : ℕ). find_one c number (node n) m subscripts) (sym b) ∙ h)

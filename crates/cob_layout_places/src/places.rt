@@ -1,12 +1,13 @@
-ghost use Rattle.std.specs.Prelude.{◌≡◌, ℕ, ◌+◌, ◌*◌, ◌<◌, ◌≤◌, Bool, List, length, Option, Some};
+ghost use Rattle.std.specs.Prelude.{◌≡◌, ℕ, ◌+◌, ◌*◌, ◌<◌, ◌≤◌, Bool, List, length, Option, Some, None, IfOk, IfErr};
 ghost use Rattle.cob_copybook_tree.specs.Nodes.{node};
-ghost use Rattle.cob_copybook_tree.specs.Lengths.{most_by, room};
-ghost use Rattle.cob_layout_places.specs.Lengths.{times, IsFit};
+ghost use Rattle.cob_copybook_tree.specs.Lengths.{element, most, most_by, one, room, whole};
+ghost use Rattle.cob_layout_places.specs.Lengths.{alone, times, IsFit, MayOccur};
+ghost use Rattle.cob_limits.specs.Limits.{longest_record};
 ghost use Rattle.cob_layout_places.specs.Places.{also, begins, find_one, is_table, is_there, later, skipped};
 
 use crate::lengths::{element_of, times_of};
 use cob_copybook_entries::Name;
-use cob_copybook_tree::{Node, Times};
+use cob_copybook_tree::{Kind, Node, Times};
 
 /// Where an element stands, in bytes from the start of the record, and whether it is one of those that are there.
 #[derive(Clone, Copy, Debug, PartialEq, Eq)]
@@ -66,6 +67,72 @@ fn room_of(redefines: &Option<Name>, length: u32) -> u32
     }
 }
 
+/// Where the elements of an entry that starts there go on behind those that are skipped.
+fn behind_skipped(entry: &Node, counts: &[u32], start: u32, skipped: u32) -> u32
+    requires possible { MayOccur (alone (node entry.now)) }
+    requires small { whole most (node entry.now).top (node entry.now).beneath ≤ longest_record }
+    requires room { start + skipped * element (times counts.now) (node entry.now).top
+        (node entry.now).beneath ≤ longest_record }
+    ensures { result ≡ start + skipped * element (times counts.now) (node entry.now).top
+        (node entry.now).beneath }
+{
+    if skipped == 0 {
+        return start;
+    }
+    start + skipped * element_of(entry, counts)
+}
+
+/// The length of one element of an entry of this kind, where those beneath it have this length.
+fn element_by(kind: &Kind, sum: u32) -> u32
+    ensures { result ≡ one kind.now sum }
+{
+    match kind {
+        Kind::Item(item) => u32::from(item.size()),
+        Kind::Group => sum,
+    }
+}
+
+/// Where the entry with this number stands in an entry that begins at `start`; or the length of one element of this entry, where it neither
+/// is that one nor holds it, so that one walk looks for an entry and measures those before it.
+fn seek_or_measure(
+    entry: &Node,
+    number: usize,
+    counts: &[u32],
+    start: u32,
+    subscripts: &[u32],
+) -> Result<Found, u32>
+    requires { IsFit start (node entry.now) }
+    ensures found { IfOk result (λ found. find_one (times counts.now) number (node entry.now) start
+        subscripts.now ≡ Some found) }
+    ensures none { IfErr result (λ _. find_one (times counts.now) number (node entry.now) start
+        subscripts.now ≡ None) }
+    ensures length { IfErr result (λ length. length ≡ element (times counts.now)
+        (node entry.now).top (node entry.now).beneath) }
+{
+    let (skipped, within, inner) = step(entry.occurs, times_of(entry, counts), subscripts);
+    let offset = behind_skipped(entry, counts, start, skipped);
+    if entry.number == number {
+        return Ok(Found {
+            offset,
+            length: element_of(entry, counts),
+            within,
+        });
+    }
+    let mut at = offset;
+    let mut area = offset;
+    for child in entry.children.iter() {
+        let begin = begins_at(&child.redefines, at, area);
+        let length = match seek_or_measure(child, number, counts, begin, inner) {
+            Ok(found) => return Ok(also_there(within, found)),
+            Err(length) => length,
+        };
+        at += room_of(&child.redefines, times_of(child, counts) * length);
+        area = begin;
+    }
+    let sum = at - offset;
+    Err(element_by(&entry.kind, sum))
+}
+
 /// Where the entry with this number stands in an entry that begins at `start`, under these counts and with these subscripts.
 ///
 /// The subscripts are those of the tables that hold the entry or are it, the outermost first, from 1; where they end before the tables do,
@@ -80,28 +147,5 @@ pub fn seek(
     requires { IsFit start (node entry.now) }
     ensures { result ≡ find_one (times counts.now) number (node entry.now) start subscripts.now }
 {
-    let length = element_of(entry, counts);
-    let (skipped, within, inner) = step(entry.occurs, times_of(entry, counts), subscripts);
-    let offset = start + skipped * length;
-    if entry.number == number {
-        return Some(Found {
-            offset,
-            length,
-            within,
-        });
-    }
-    let mut at = offset;
-    let mut area = offset;
-    for child in entry.children.iter() {
-        let begin = begins_at(&child.redefines, at, area);
-        if let Some(found) = seek(child, number, counts, begin, inner) {
-            return Some(also_there(within, found));
-        }
-        at += room_of(
-            &child.redefines,
-            times_of(child, counts) * element_of(child, counts),
-        );
-        area = begin;
-    }
-    None
+    seek_or_measure(entry, number, counts, start, subscripts).ok()
 }
