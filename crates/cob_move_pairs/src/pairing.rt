@@ -22,13 +22,10 @@ ghost use Rattle.cob_move_pairs.specs.Pairing.{
   IsPairing,
   IsPairingFault,
   IsTwice,
-  if_pair,
   pair_numbers,
-  paired,
 };
 ghost use Rattle.cob_move_pairs.specs.Pairs.{
   AreOnce,
-  correspond,
   is_elementary,
   pairs_among,
   pairs_from,
