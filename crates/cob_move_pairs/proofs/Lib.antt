@@ -4,3 +4,4 @@ pub mod PairLemmas
 pub mod GroupLemmas
 pub mod NodeLemmas
 pub mod OperandLemmas
+pub mod PartnerLemmas

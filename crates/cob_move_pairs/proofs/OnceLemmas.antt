@@ -1,15 +1,16 @@
 -- How often an entry is in a pair.
-use Rattle.std.proofs.Common.{◌≡◌, ℕ, ◌+◌, ◌<◌, ◌≤◌, ◌==◌, Bool, true, false, List, [], ◌∷◌, ◌++◌, length, get_or, drop, refl, sym, ap, subst, ◌∙◌, arith}
+use Rattle.std.proofs.Common.{◌≡◌, ℕ, suc, ◌+◌, ◌<◌, ◌≤◌, ◌==◌, Bool, true, false, List, [], ◌∷◌, ◌++◌, length, get_or, map, drop, refl, sym, ap, subst, ◌∙◌, arith}
 use Rattle.std.specs.Prelude.{filter}
 use Rattle.std.proofs.lemmas.Bool.Decides.{nat_tests}
 use Rattle.std.proofs.lemmas.List.{at_drop_more, length-append}
 use Rattle.std.proofs.lemmas.List.Elements.{filter-append}
 use Rattle.cob_move_statements.specs.declared.fault.MoveRule.{MoveRule}
 use Rattle.cob_move_statements.specs.declared.fault.MoveRule.TheVariants as rule
-use Rattle.cob_move_pairs.specs.Pairs.{AreOnce, Pair, receives, sends}
+use Rattle.cob_move_pairs.specs.Pairs.{AreOnce, Pair, Subordinate, pairs_from, partners, receives, sends}
 use Rattle.cob_move_pairs.specs.declared.pairing.Pair.{Pair as Paired}
 use Rattle.cob_move_pairs.specs.Listed.{pair, pairs}
-use Rattle.cob_move_pairs.specs.Pairing.{IsTwice}
+use Rattle.cob_move_pairs.specs.Pairing.{IsTwice, paired}
+use Rattle.cob_move_pairs.specs.Partners.{MoreThanOne}
 
 abbrev one_if : Bool → ℕ
 one_if true = 1
@@ -82,3 +83,18 @@ pub twice_front : (r : MoveRule) (xs ys all : List Pair) → all ≡ xs ++ ys �
 twice_front rule.Twice xs ys all e h = λ o. h (once_front xs ys (subst (λ (ps : List Pair). AreOnce ps) e o))
 twice_front rule.Memory xs ys all e h = tt
 twice_front r xs ys all e h = absurd h
+
+one_longer : (a b : ℕ) → a ≡ b → 1 + a ≡ suc b
+one_longer a b e = omega (arith, e)
+
+-- a sending entry is in as many pairs as it has partners
+sends_all : (x : Subordinate) (ys : List Subordinate) → sends x.number (map (paired x) ys) ≡ length ys
+sends_all x [] = refl
+sends_all x (y ∷ ys) = counted (λ (q : Pair). q.from.number == x.number) (paired x y) (map (paired x) ys) true (own_number x.number) ∙ one_longer (sends x.number (map (paired x) ys)) (length ys) (sends_all x ys)
+
+-- one that has several is in several pairs
+pub more_twice : (r : MoveRule) (now : List Pair) (x : Subordinate) (tos : List Subordinate) → MoreThanOne r (partners tos x) → IsTwice r (now ++ pairs_from tos x)
+more_twice r now x tos h = subst (λ (y : MoveRule). IsTwice y (now ++ pairs_from tos x)) (sym h.0) (λ once. too_many once)
+  where
+    too_many : AreOnce (now ++ pairs_from tos x) → ⊥
+    too_many once = omega (arith, (once x.number).0, sends_append x.number now (pairs_from tos x), sends_all x (partners tos x), h.1)

@@ -14,7 +14,7 @@ use Rattle.cob_layout_places.specs.References.{IsSubscripted, Refers}
 use Rattle.cob_move_operands.specs.declared.Operand.{Operand}
 use Rattle.cob_move_operands.specs.Moves.{IsOperand}
 use Rattle.cob_move_pairs.specs.Groups.{IsListed, SubordinatesAreOperands, entries_below, found_below, operand_below, or_bare}
-use Rattle.cob_move_pairs.specs.Pairs.{Subordinate, is_left_out, own_subordinate, path_below, subordinates}
+use Rattle.cob_move_pairs.specs.Pairs.{Subordinate, is_left_out, own_subordinate, between_below, subordinates}
 
 skip : {A : Type 0} (b : Bool) (k : A) (x y : Option A) → b ≡ false → x ≡ None → or_else (choose b k x) y ≡ y
 skip true k x y e n = cc
@@ -109,14 +109,14 @@ stands_own path n e kids more (Some name) s h kept (inl x) =
 stands_own path n e kids more (Some name) s h kept (inr x) = absurd x
 
 stands_step : (path : List (List ℕ)) (n : ℕ) (e : Resolved) (kids more : Forest Resolved) (s : Subordinate) (t : Bool) → AreNumbered n (Grows e kids more) → is_left_out e ≡ t
-    → (IsListed s (subordinates (path_below e.name path) kids) → Stands (n + 1) s.number [] s.kind kids)
+    → (IsListed s (subordinates (between_below e.name path) kids) → Stands (n + 1) s.number [] s.kind kids)
     → (IsListed s (subordinates path more) → Stands (n + 1 + entries_in kids) s.number [] s.kind more)
-    → IsListed s ((if t then [] else own_subordinate e.name path e ++ subordinates (path_below e.name path) kids) ++ subordinates path more)
+    → IsListed s ((if t then [] else own_subordinate e.name path e ++ subordinates (between_below e.name path) kids) ++ subordinates path more)
     → Stands n s.number [] s.kind (Grows e kids more)
 stands_step path n e kids more s true h left a b o = stands_later n s.number [] s.kind e kids more h (b o)
 stands_step path n e kids more s false h kept a b o =
-    elim (one_of s (own_subordinate e.name path e ++ subordinates (path_below e.name path) kids) (subordinates path more) o) [
-      | inl x ↦ elim (one_of s (own_subordinate e.name path e) (subordinates (path_below e.name path) kids) x) [
+    elim (one_of s (own_subordinate e.name path e ++ subordinates (between_below e.name path) kids) (subordinates path more) o) [
+      | inl x ↦ elim (one_of s (own_subordinate e.name path e) (subordinates (between_below e.name path) kids) x) [
         | inl y ↦ stands_own path n e kids more e.name s h kept y
         | inr y ↦ stands_plain n s.number s.kind e kids more h (no_table (is_some e.redefines) (is_table e.occurs) kept) (a y)
       ]
@@ -126,7 +126,7 @@ stands_step path n e kids more s false h kept a b o =
 stands_below : (path : List (List ℕ)) (n : ℕ) (f : Forest Resolved) (s : Subordinate) → AreNumbered n f → IsListed s (subordinates path f) → Stands n s.number [] s.kind f
 stands_below path n Bare s h o = absurd o
 stands_below path n (Grows e kids more) s h o =
-    stands_step path n e kids more s (is_left_out e) h refl (stands_below (path_below e.name path) (n + 1) kids s h.1) (stands_below path (n + 1 + entries_in kids) more s h.2) o
+    stands_step path n e kids more s (is_left_out e) h refl (stands_below (between_below e.name path) (n + 1) kids s h.1) (stands_below path (n + 1 + entries_in kids) more s h.2) o
 
 -- what is below the entry that a number and subscripts refer to
 record Group (n r : ℕ) (subscripts : List ℕ) (f g : Forest Resolved) : Type 0 where

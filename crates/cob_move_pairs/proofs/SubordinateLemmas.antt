@@ -4,8 +4,8 @@ use Rattle.std.specs.Prelude.{if◌then◌else◌}
 use Rattle.std.proofs.lemmas.Bool.Decides.{nat_tests}
 use Rattle.cob_copybook_tree.specs.Forests.{Forest, Grows}
 use Rattle.cob_copybook_tree.specs.Nodes.{Resolved}
-use Rattle.cob_move_pairs.specs.Pairs.{Subordinate, subordinates, path_below, is_left_out, own_subordinate, same_path}
-use Rattle.cob_move_pairs.specs.Listed.{path_names}
+use Rattle.cob_move_pairs.specs.Pairs.{Subordinate, subordinates, between_below, is_left_out, own_subordinate, same_names}
+use Rattle.cob_move_pairs.specs.Listed.{names_between}
 
 if_true : {A : Type 0} (t : Bool) (a b : A) → t ≡ true → (if t then a else b) ≡ a
 if_true true a b e = refl
@@ -20,11 +20,11 @@ regroup m o k r = ap (λ t. m ++ t) (append_assoc o k r) ∙ sym (append_assoc m
 
 -- an entry and those beneath it go from what is left to what is done
 pub step_kept : (all m m1 m2 : List Subordinate) (path beneath : List (List ℕ)) (e : Resolved) (kids more : Forest Resolved)
-    → all ≡ m ++ subordinates path (Grows e kids more) → is_left_out e ≡ false → beneath ≡ path_below e.name path
+    → all ≡ m ++ subordinates path (Grows e kids more) → is_left_out e ≡ false → beneath ≡ between_below e.name path
     → m1 ≡ m ++ own_subordinate e.name path e → m2 ≡ m1 ++ subordinates beneath kids → all ≡ m2 ++ subordinates path more
 step_kept all m m1 m2 path beneath e kids more start kept names f g =
-    start ∙ ap (λ (t : List Subordinate). m ++ (t ++ subordinates path more)) (if_false (is_left_out e) [] (own_subordinate e.name path e ++ subordinates (path_below e.name path) kids) kept)
-    ∙ regroup m (own_subordinate e.name path e) (subordinates (path_below e.name path) kids) (subordinates path more)
+    start ∙ ap (λ (t : List Subordinate). m ++ (t ++ subordinates path more)) (if_false (is_left_out e) [] (own_subordinate e.name path e ++ subordinates (between_below e.name path) kids) kept)
+    ∙ regroup m (own_subordinate e.name path e) (subordinates (between_below e.name path) kids) (subordinates path more)
     ∙ ap (λ (p : List (List ℕ)). ((m ++ own_subordinate e.name path e) ++ subordinates p kids) ++ subordinates path more) (sym names)
     ∙ ap (λ (t : List Subordinate). (t ++ subordinates beneath kids) ++ subordinates path more) (sym f)
     ∙ ap (λ (t : List Subordinate). t ++ subordinates path more) (sym g)
@@ -33,9 +33,9 @@ step_kept all m m1 m2 path beneath e kids more start kept names f g =
 pub step_left : (all m : List Subordinate) (path : List (List ℕ)) (e : Resolved) (kids more : Forest Resolved)
     → all ≡ m ++ subordinates path (Grows e kids more) → is_left_out e ≡ true → all ≡ m ++ subordinates path more
 step_left all m path e kids more start left =
-    start ∙ ap (λ (t : List Subordinate). m ++ (t ++ subordinates path more)) (if_true (is_left_out e) [] (own_subordinate e.name path e ++ subordinates (path_below e.name path) kids) left)
+    start ∙ ap (λ (t : List Subordinate). m ++ (t ++ subordinates path more)) (if_true (is_left_out e) [] (own_subordinate e.name path e ++ subordinates (between_below e.name path) kids) left)
 
 -- no text is left
-pub none_left : (bs : List (Bor (List ℕ))) → (length bs == 0) ≡ same_path [] (path_names bs)
+pub none_left : (bs : List (Bor (List ℕ))) → (length bs == 0) ≡ same_names [] (names_between bs)
 none_left [] = refl
 none_left (b ∷ bs) = grind (arith, nat_tests)

@@ -7,12 +7,12 @@ use Rattle.cob_move_pairs.specs.declared.pairing.Pair.{Pair as Paired}
 use Rattle.cob_move_pairs.specs.Pairs.{Subordinate, Pair}
 
 -- the names behind references
-abbrev pub path_names : List (Bor (List ℕ)) → List (List ℕ)
-path_names path = map (λ name. name.now) path
+abbrev pub names_between : List (Bor (List ℕ)) → List (List ℕ)
+names_between names = map (λ name. name.now) names
 
 -- an entry below a group
 abbrev pub subordinate : Listed → Subordinate
-subordinate s = record { number = (out-Node s.entry.now).number; path = path_names s.path.items; kind = (out-Node s.entry.now).kind }
+subordinate s = record { number = (out-Node s.entry.now).number; name = s.name.now; between = names_between s.between.items; kind = (out-Node s.entry.now).kind }
 
 -- entries below a group
 abbrev pub subordinates_listed : List Listed → List Subordinate

@@ -1,5 +1,5 @@
 -- The pairs of two groups as numbers, and why there are none.
-use Rattle.std.specs.Prelude.{◌≡◌, ℕ, Bool, true, false, ◌||◌, List, [], ◌∷◌, map}
+use Rattle.std.specs.Prelude.{◌≡◌, ℕ, true, false, ◌||◌, List, map}
 use Rattle.cob_copybook_tree.specs.Forests.{Tree}
 use Rattle.cob_copybook_tree.specs.Nodes.{Resolved}
 use Rattle.cob_move_statements.specs.declared.fault.MoveRule.{MoveRule}
@@ -9,11 +9,6 @@ use Rattle.cob_move_pairs.specs.Pairs.{AreOnce, Pair, Subordinate, corresponding
 -- two entries as a pair
 abbrev pub paired : Subordinate → Subordinate → Pair
 paired from to = record { from = from; to = to }
-
--- a pair where two entries correspond
-abbrev pub if_pair : Bool → Pair → List Pair
-if_pair true p = p ∷ []
-if_pair false p = []
 
 -- the numbers of the two entries
 abbrev pub pair_numbers : Pair → ℕ × ℕ

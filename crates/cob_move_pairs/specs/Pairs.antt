@@ -8,10 +8,11 @@ use Rattle.cob_copybook_tree.specs.Nodes.{Resolved}
 use Rattle.cob_layout_places.specs.Places.{is_table}
 use Rattle.cob_move_receive.specs.Table.{Entry, may_move}
 
--- An entry below a group: its number, its name with those of the named groups between, the nearest first, and what it describes.
+-- An entry below a group: its number, its name, the names of the groups between, the nearest first, and what it describes.
 pub record Subordinate : Type 0 where
   pub number : ℕ
-  pub path : List (List ℕ)
+  pub name : List ℕ
+  pub between : List (List ℕ)
   pub kind : Kind
 
 -- An entry with REDEFINES or OCCURS is left out with all below it.
@@ -20,26 +21,26 @@ is_left_out e = is_some e.redefines || is_table e.occurs
 
 -- FILLER is in no pair.
 abbrev pub own_subordinate : Option (List ℕ) → List (List ℕ) → Resolved → List Subordinate
-own_subordinate None path e = []
-own_subordinate (Some name) path e = record { number = e.number; path = name ∷ path; kind = e.kind } ∷ []
+own_subordinate None between e = []
+own_subordinate (Some name) between e = record { number = e.number; name = name; between = between; kind = e.kind } ∷ []
 
 -- A FILLER group adds no name for those below it.
-abbrev pub path_below : Option (List ℕ) → List (List ℕ) → List (List ℕ)
-path_below None path = path
-path_below (Some name) path = name ∷ path
+abbrev pub between_below : Option (List ℕ) → List (List ℕ) → List (List ℕ)
+between_below None between = between
+between_below (Some name) between = name ∷ between
 
 -- The entries below a group that may be in a pair, in their order.
 abbrev pub subordinates : List (List ℕ) → Forest Resolved → List Subordinate
-subordinates path Bare = []
-subordinates path (Grows e kids more) =
-    (if is_left_out e then [] else own_subordinate e.name path e ++ subordinates (path_below e.name path) kids) ++ subordinates path more
+subordinates between Bare = []
+subordinates between (Grows e kids more) =
+    (if is_left_out e then [] else own_subordinate e.name between e ++ subordinates (between_below e.name between) kids) ++ subordinates between more
 
 -- Two lists of names are the same.
-abbrev pub same_path : List (List ℕ) → List (List ℕ) → Bool
-same_path [] [] = true
-same_path [] (b ∷ bs) = false
-same_path (a ∷ more) [] = false
-same_path (a ∷ more) (b ∷ bs) = bytes_eq a b && same_path more bs
+abbrev pub same_names : List (List ℕ) → List (List ℕ) → Bool
+same_names [] [] = true
+same_names [] (b ∷ bs) = false
+same_names (a ∷ more) [] = false
+same_names (a ∷ more) (b ∷ bs) = bytes_eq a b && same_names more bs
 
 -- an elementary item, which is no group
 abbrev pub is_elementary : Kind → Bool
@@ -52,16 +53,20 @@ may_correspond from to = (is_elementary from || is_elementary to) && may_move (E
 
 -- Two entries correspond: they have the same name, the same named groups between, and a move that may be made.
 abbrev pub correspond : Subordinate → Subordinate → Bool
-correspond from to = same_path from.path to.path && may_correspond from.kind to.kind
+correspond from to = bytes_eq from.name to.name && (same_names from.between to.between && may_correspond from.kind to.kind)
 
 -- the sending and the receiving entry of one move
 pub record Pair : Type 0 where
   pub from : Subordinate
   pub to : Subordinate
 
--- the pairs of one sending entry
+-- The entries that correspond to a sending one.
+abbrev pub partners : List Subordinate → Subordinate → List Subordinate
+partners tos from = filter (λ to. correspond from to) tos
+
+-- The pairs of one sending entry.
 abbrev pub pairs_from : List Subordinate → Subordinate → List Pair
-pairs_from tos from = map (λ to. record { from = from; to = to }) (filter (λ to. correspond from to) tos)
+pairs_from tos from = map (λ to. record { from = from; to = to }) (partners tos from)
 
 -- The pairs among two lists of entries, in the order of the sending ones.
 abbrev pub pairs_among : List Subordinate → List Subordinate → List Pair

@@ -25,10 +25,10 @@ fn found_below(entry: &Node, number: usize) -> Option<&[Node]>
 }
 
 /// What is below the entry of a record with this number.
-pub fn entries_below(record: &Node, number: usize) -> &[Node]
-    ensures { forest result.now ≡ entries_below number (alone (node record.now)) }
+pub fn entries_below(top: &Node, number: usize) -> &[Node]
+    ensures { forest result.now ≡ entries_below number (alone (node top.now)) }
 {
-    match found_below(record, number) {
+    match found_below(top, number) {
         Some(below) => below,
         None => &[],
     }

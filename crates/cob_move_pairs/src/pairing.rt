@@ -22,13 +22,10 @@ ghost use Rattle.cob_move_pairs.specs.Pairing.{
   IsPairing,
   IsPairingFault,
   IsTwice,
-  if_pair,
   pair_numbers,
-  paired,
 };
 ghost use Rattle.cob_move_pairs.specs.Pairs.{
   AreOnce,
-  correspond,
   is_elementary,
   pairs_among,
   pairs_from,
@@ -37,7 +34,8 @@ ghost use Rattle.cob_move_pairs.specs.Pairs.{
   subordinates,
 };
 
-use crate::subordinate::{Subordinate, correspond, is_elementary, list_entries};
+use crate::partners::Partners;
+use crate::subordinate::{Subordinate, is_elementary, list_entries};
 use cob_copybook_tree::Node;
 use cob_move_statements::{MoveFault, MoveRule};
 use std::alloc::Global;
@@ -117,51 +115,26 @@ fn add_pair<'b, 'a>(one: Pair<'b, 'a>, list: &mut Vec<Pair<'b, 'a>>) -> Result<(
     Ok(())
 }
 
-/// Puts two entries behind pairs, if they correspond.
-///
-/// # Errors
-///
-/// `Twice` where one of them is in a pair already; `Memory`.
-fn add_if<'b, 'a>(
-    from: &'b Subordinate<'a>,
-    to: &'b Subordinate<'a>,
-    list: &mut Vec<Pair<'b, 'a>>,
-) -> Result<(), MoveRule>
-    ensures added { OnOk result (pairs list.new.items ≡ pairs list.old.items
-        ++ if_pair (correspond (subordinate from.now) (subordinate to.now))
-        (paired (subordinate from.now) (subordinate to.now))) }
-    ensures once { OnOk result (AreOnce (pairs list.old.items) → AreOnce (pairs list.new.items)) }
-    ensures fault { IfErr result (λ r. IsTwice r (pairs list.old.items
-        ++ if_pair (correspond (subordinate from.now) (subordinate to.now))
-        (paired (subordinate from.now) (subordinate to.now)))) }
-{
-    if correspond(from, to) {
-        add_pair(Pair { from, to }, list)
-    } else {
-        Ok(())
-    }
-}
-
-/// Puts the pairs of one sending entry behind others.
+/// Puts the pair of a sending entry behind others, if it has one.
 ///
 /// # Errors
 ///
 /// `Twice` where an entry is in two pairs; `Memory`.
-fn add_pairs<'b, 'a>(
+fn add_pair_of<'b, 'a>(
     from: &'b Subordinate<'a>,
-    to: &'b [Subordinate<'a>],
+    partners: &Partners<'b, 'a>,
     list: &mut Vec<Pair<'b, 'a>>,
 ) -> Result<(), MoveRule>
     ensures added { OnOk result (pairs list.new.items ≡ pairs list.old.items
-        ++ pairs_from (subordinates_listed to.now) (subordinate from.now)) }
+        ++ pairs_from (subordinates_listed partners.now.entries.now) (subordinate from.now)) }
     ensures once { OnOk result (AreOnce (pairs list.old.items) → AreOnce (pairs list.new.items)) }
     ensures fault { IfErr result (λ r. IsTwice r (pairs list.old.items
-        ++ pairs_from (subordinates_listed to.now) (subordinate from.now))) }
+        ++ pairs_from (subordinates_listed partners.now.entries.now) (subordinate from.now))) }
 {
-    for other in to {
-        add_if(from, other, list)?;
+    match partners.partner_of(from)? {
+        Some(to) => add_pair(Pair { from, to }, list),
+        None => Ok(()),
     }
-    Ok(())
 }
 
 /// The pairs among two lists of entries, in the order of the sending ones.
@@ -180,9 +153,10 @@ pub fn pairs_between<'b, 'a>(
     ensures fault { IfErr result (λ r. IsTwice r
         (pairs_among (subordinates_listed from.now) (subordinates_listed to.now))) }
 {
+    let partners = Partners::of(alloc, to)?;
     let mut list = Vec::new(alloc);
     for sender in from {
-        add_pairs(sender, to, &mut list)?;
+        add_pair_of(sender, &partners, &mut list)?;
     }
     Ok(list)
 }

@@ -3,15 +3,15 @@
 ghost use Rattle.std.specs.Prelude.{◌≡◌, List, [], ◌∷◌, ◌++◌, map, IfOk, OnOk, bytes_eq};
 ghost use Rattle.cob_copybook_tree.specs.declared.node.Node.TheViews.{out-Node};
 ghost use Rattle.cob_copybook_tree.specs.Nodes.{forest, resolved_entry};
-ghost use Rattle.cob_move_pairs.specs.Listed.{subordinates_listed, path_names, subordinate};
+ghost use Rattle.cob_move_pairs.specs.Listed.{names_between, subordinate, subordinates_listed};
 ghost use Rattle.cob_move_pairs.specs.Pairs.{
+  between_below,
   correspond,
   is_elementary,
   is_left_out,
   may_correspond,
   own_subordinate,
-  path_below,
-  same_path,
+  same_names,
   subordinates,
 };
 
@@ -25,38 +25,25 @@ use std::alloc::{AllocError, Global};
 #[derive(Drop)]
 pub struct Subordinate<'a> {
     pub entry: &'a Node,
-    /// Its name, then those of the named groups between, the nearest first.
-    pub path: Vec<&'a [u8]>,
+    pub name: &'a [u8],
+    /// The names of the groups between, the nearest first.
+    pub between: Vec<&'a [u8]>,
 }
 
-/// A path with one more name in front.
-fn with_name<'a>(
-    alloc: Global,
-    name: &'a Name,
-    path: &[&'a [u8]],
-) -> Result<Vec<&'a [u8]>, AllocError>
-    ensures { IfOk result (λ v. path_names v.items ≡ name.now ∷ path_names path.now) }
-{
-    let mut names = Vec::new(alloc);
-    names.push(name.as_bytes())?;
-    names.extend_from_slice(path)?;
-    Ok(names)
-}
-
-/// The path of what is below an entry: FILLER adds no name.
-fn path_below<'a>(
+/// The names of the groups between that stand above what is below an entry: FILLER adds none.
+fn between_below<'a>(
     alloc: Global,
     entry: &'a Node,
-    path: &[&'a [u8]],
+    between: &[&'a [u8]],
 ) -> Result<Vec<&'a [u8]>, AllocError>
-    ensures { IfOk result
-        (λ v. path_names v.items ≡ path_below (out-Node entry.now).name (path_names path.now)) }
+    ensures { IfOk result (λ v. names_between v.items
+        ≡ between_below (out-Node entry.now).name (names_between between.now)) }
 {
     let mut names = Vec::new(alloc);
     if let Some(name) = &entry.name {
         names.push(name.as_bytes())?;
     }
-    names.extend_from_slice(path)?;
+    names.extend_from_slice(between)?;
     Ok(names)
 }
 
@@ -70,17 +57,22 @@ fn is_left_out(entry: &Node) -> bool
 /// Puts an entry behind those that are listed, unless it is FILLER.
 fn list_entry<'a>(
     alloc: Global,
-    path: &[&'a [u8]],
+    between: &[&'a [u8]],
     entry: &'a Node,
     list: &mut Vec<Subordinate<'a>>,
 ) -> Result<(), AllocError>
     ensures { OnOk result (subordinates_listed list.new.items ≡ subordinates_listed list.old.items
-        ++ own_subordinate (out-Node entry.now).name (path_names path.now)
+        ++ own_subordinate (out-Node entry.now).name (names_between between.now)
         (resolved_entry (out-Node entry.now))) }
 {
     if let Some(name) = &entry.name {
-        let path = with_name(alloc, name, path)?;
-        list.push(Subordinate { entry, path })?;
+        let mut names = Vec::new(alloc);
+        names.extend_from_slice(between)?;
+        list.push(Subordinate {
+            entry,
+            name: name.as_bytes(),
+            between: names,
+        })?;
     }
     Ok(())
 }
@@ -92,19 +84,19 @@ fn list_entry<'a>(
 /// Memory was refused.
 pub(crate) fn list_entries<'a>(
     alloc: Global,
-    path: &[&'a [u8]],
+    between: &[&'a [u8]],
     entries: &'a [Node],
     list: &mut Vec<Subordinate<'a>>,
 ) -> Result<(), AllocError>
     ensures { OnOk result (subordinates_listed list.new.items ≡ subordinates_listed list.old.items
-        ++ subordinates (path_names path.now) (forest entries.now)) }
+        ++ subordinates (names_between between.now) (forest entries.now)) }
 {
     for entry in entries {
         if is_left_out(entry) {
             continue;
         }
-        list_entry(alloc, path, entry, list)?;
-        let below = path_below(alloc, entry, path)?;
+        list_entry(alloc, between, entry, list)?;
+        let below = between_below(alloc, entry, between)?;
         list_entries(alloc, below.as_slice(), entry.children.as_slice(), list)?;
     }
     Ok(())
@@ -117,9 +109,9 @@ fn is_same(a: &[u8], b: &[u8]) -> bool
     a == b
 }
 
-/// Whether two paths are the same.
-fn same_path(a: &[&[u8]], b: &[&[u8]]) -> bool
-    ensures { result ≡ same_path (path_names a.now) (path_names b.now) }
+/// Whether two lists of names are the same.
+fn same_names(a: &[&[u8]], b: &[&[u8]]) -> bool
+    ensures { result ≡ same_names (names_between a.now) (names_between b.now) }
 {
     let Some((first, more)) = a.split_first() else {
         return b.is_empty();
@@ -127,7 +119,7 @@ fn same_path(a: &[&[u8]], b: &[&[u8]]) -> bool
     let Some((other, others)) = b.split_first() else {
         return false;
     };
-    is_same(first, other) && same_path(more, others)
+    is_same(first, other) && same_names(more, others)
 }
 
 /// Whether an entry is elementary.
@@ -148,6 +140,7 @@ fn may_correspond(from: &Kind, to: &Kind) -> bool
 pub(crate) fn correspond(from: &Subordinate<'_>, to: &Subordinate<'_>) -> bool
     ensures { result ≡ correspond (subordinate from.now) (subordinate to.now) }
 {
-    same_path(from.path.as_slice(), to.path.as_slice())
+    is_same(from.name, to.name)
+        && same_names(from.between.as_slice(), to.between.as_slice())
         && may_correspond(&from.entry.kind, &to.entry.kind)
 }
