@@ -1,7 +1,8 @@
-ghost use Rattle.std.specs.Prelude.{◌≡◌, ◌≤◌, List, IfOk, IfErr, vec_len};
+ghost use Rattle.std.specs.Prelude.{◌≡◌, ◌≤◌, List, IfOk, IfErr, min, vec_len};
+ghost use Rattle.cob_move_apply.specs.Prepared.{single_moves};
 ghost use Rattle.cob_records.specs.Device.{counted, Told};
 ghost use Rattle.cob_layout_places.specs.Lengths.{alone};
-ghost use Rattle.cob_move.specs.Paragraphs.{IsCountOf, IsParagraphOf, count_single};
+ghost use Rattle.cob_move.specs.Paragraphs.{IsParagraphOf};
 ghost use Rattle.cob_limits.specs.Limits.{longest_record};
 ghost use Rattle.cob_convert_record.specs.Conversion.{in_length, out_length};
 ghost use Rattle.cob_move_operands.specs.Moves.{Move};
@@ -25,7 +26,6 @@ use std::marker::Model;
 #[derive(Drop)]
 pub struct Converter {
     conversion: Conversion,
-    single: u32,
     input: Vec<u8>,
     output: Vec<u8>,
     room: Room,
@@ -34,7 +34,6 @@ pub struct Converter {
 impl Model for Converter {
     ghost use Rattle.std.specs.Prelude.{◌≡◌, vec_len};
     ghost use Rattle.cob_convert_record.specs.Rooms.{capacity_for};
-    ghost use Rattle.cob_move.specs.Paragraphs.{IsCountOf, count_single};
     ghost use Rattle.cob_convert_record.specs.Conversion.{Conversion, in_length, out_length};
     ghost use Rattle.std.specs.Coded.{codes};
     ghost use Rattle.cob_convert_record.specs.contracts.conversion.Conversion as e;
@@ -45,10 +44,10 @@ impl Model for Converter {
 
     ghost view = { λ c. c.conversion };
 
-    ghost invariant = { λ c. (vec_len c.input ≡ in_length c.conversion) × (vec_len c.output ≡ out_length c.conversion) × (c.room ≡ capacity_for c.conversion.records) × IsCountOf (count_single c.conversion.moves) c.single };
+    ghost invariant = { λ c. (vec_len c.input ≡ in_length c.conversion) × (vec_len c.output ≡ out_length c.conversion) × (c.room ≡ capacity_for c.conversion.records) };
 }
 
-/// The conversion that a paragraph says between the records of two books, and how many single moves it has.
+/// The conversion that a paragraph says between the records of two books.
 ///
 /// # Errors
 ///
@@ -61,24 +60,21 @@ fn conversion_of(
     input: &Book,
     output: &Book,
     moves: &[u8],
-) -> Result<(Conversion, u32), PrepareFault>
-    ensures forms { IfOk result
-        (λ made. (made.0.in_form ≡ in_form) × (made.0.out_form ≡ out_form)) }
-    ensures input { IfOk result (λ made. alone made.0.records.input ≡ input.now) }
-    ensures output { IfOk result (λ made. alone made.0.records.output ≡ output.now) }
+) -> Result<Conversion, PrepareFault>
+    ensures forms { IfOk result (λ made. (made.in_form ≡ in_form) × (made.out_form ≡ out_form)) }
+    ensures input { IfOk result (λ made. alone made.records.input ≡ input.now) }
+    ensures output { IfOk result (λ made. alone made.records.output ≡ output.now) }
     ensures paragraph { IfOk result
-        (λ made. IsParagraphOf moves.now input.now output.now made.0.moves) }
-    ensures counted { IfOk result (λ made. IsCountOf (count_single made.0.moves) made.1) }
+        (λ made. IsParagraphOf moves.now input.now output.now made.moves) }
     ensures only { (ms : List Move) → IsParagraphOf moves.now input.now output.now ms
         → IfErr result (λ fault. fault ≡ Memory) }
     ensures refused { IfErr result
         (λ fault. IsMovesRefusal fault moves.now input.now output.now) }
 {
     let paragraph = Paragraph::read(alloc, input, output, moves)?;
-    let single = paragraph.moves();
     let in_layout = Layout::of(alloc, input)?;
     let out_layout = Layout::of(alloc, output)?;
-    let conversion = Conversion::new(
+    Ok(Conversion::new(
         alloc,
         in_form,
         out_form,
@@ -86,17 +82,15 @@ fn conversion_of(
         out_layout,
         output,
         paragraph.into_moves(),
-    )?;
-    Ok((conversion, single))
+    )?)
 }
 
 impl Converter {
     ghost use Rattle.cob_convert.specs.Run.{Ran, is_read_stop, is_write_stop, is_write_error_stop};
     ghost use Rattle.cob_convert.specs.Converted.{Writes};
 
-    /// A converter for a conversion with so many single moves, with all the room that its runs need.
-    fn of(alloc: Global, conversion: Conversion, single: u32) -> Result<Converter, AllocError>
-        requires counted { IsCountOf (count_single conversion.moves) single }
+    /// A converter for a conversion, with all the room that its runs need.
+    fn of(alloc: Global, conversion: Conversion) -> Result<Converter, AllocError>
         ensures made { IfOk result (λ made. made ≡ conversion) }
         ensures records { IfOk result
             (λ made. HasBytes made.records.input × HasBytes made.records.output) }
@@ -106,7 +100,6 @@ impl Converter {
         let room = Room::new(alloc, &conversion)?;
         Ok(Converter {
             conversion,
-            single,
             input,
             output,
             room,
@@ -142,9 +135,8 @@ impl Converter {
     {
         let input = books::in_book(alloc, in_book)?;
         let output = books::out_book(alloc, out_book)?;
-        let (conversion, single) =
-            conversion_of(alloc, in_form, out_form, &input, &output, moves)?;
-        Ok(Converter::of(alloc, conversion, single)?)
+        let conversion = conversion_of(alloc, in_form, out_form, &input, &output, moves)?;
+        Ok(Converter::of(alloc, conversion)?)
     }
 
     /// How many bytes an input record has at most.
@@ -165,9 +157,9 @@ impl Converter {
 
     /// How many single moves there are, each of a sender to one of its receivers; the greatest number of 32 bits where there are more.
     pub fn moves(&self) -> u32
-        ensures { IsCountOf (count_single self.now.moves) result }
+        ensures { result ≡ min (single_moves self.now.moves) 4294967295 }
     {
-        self.single
+        self.conversion.single_moves()
     }
 
     /// Converts the records of a source, one after another, up to its end or the first stop, and answers how

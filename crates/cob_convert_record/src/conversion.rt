@@ -1,6 +1,6 @@
 //! The conversion of one record.
 
-ghost use Rattle.std.specs.Prelude.{◌≡◌, ◌<◌, ◌≤◌, ℕ, List, length, take, Err, IfOk, IfErr, OnOk};
+ghost use Rattle.std.specs.Prelude.{◌≡◌, ◌<◌, ◌≤◌, ℕ, List, length, min, take, Err, IfOk, IfErr, OnOk};
 ghost use Rattle.cob_limits.specs.Limits.{longest_record};
 ghost use Rattle.cob_layout_places.specs.Lengths.{alone};
 ghost use Rattle.cob_layout.specs.Storage.{greatest_length};
@@ -121,7 +121,7 @@ fn written_length(
 
 impl Conversion {
     ghost use Rattle.cob_records.specs.Frame.{IsRecord};
-    ghost use Rattle.cob_move_apply.specs.Prepared.{ArePrepared, moves_of};
+    ghost use Rattle.cob_move_apply.specs.Prepared.{ArePrepared, moves_of, single_moves};
     ghost use Rattle.cob_layout.specs.Storage.{IsStorage};
     ghost use Rattle.cob_move.specs.Initial.{IsInitial};
     ghost use Rattle.cob_convert_record.specs.Conversion.{in_length, out_length};
@@ -201,6 +201,13 @@ impl Conversion {
         ensures most { result ≤ longest_record }
     {
         self.output.greatest()
+    }
+
+    /// How many single moves there are, each of a sender to one of its receivers; the greatest number of 32 bits where there are more.
+    pub fn single_moves(&self) -> u32
+        ensures { result ≡ min (single_moves self.now.moves) 4294967295 }
+    {
+        self.moves.single_moves()
     }
 
     /// Whether a record that came in a frame is one of the input layout. In form f no count is looked at. It takes no memory.
