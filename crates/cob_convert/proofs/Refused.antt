@@ -4,7 +4,8 @@ use Rattle.cob_copybook_tree.specs.Forests.{Forest}
 use Rattle.cob_copybook_tree.specs.Nodes.{Resolved}
 use Rattle.cob_copybook.specs.Books.{IsBookOf}
 use Rattle.cob_copybook.specs.declared.role.Role.TheVariants.{In, Out}
-use Rattle.cob_move.specs.Paragraphs.{IsRefusalOf}
+use Rattle.cob_move_operands.specs.Moves.{Move}
+use Rattle.cob_move.specs.Paragraphs.{IsParagraphOf, IsRefusalOf}
 use Rattle.cob_move_statements.specs.declared.fault.MoveFault.{MoveFault}
 use Rattle.cob_move_statements.specs.declared.fault.MoveRule.{MoveRule}
 use Rattle.cob_move_statements.specs.declared.fault.MoveRule.TheVariants as rule
@@ -40,3 +41,8 @@ paragraph_refused f moves input output refused = refused_by f.rule f moves input
 -- refused memory stays refused memory
 pub refused_memory : (f : MoveFault) → f.rule ≡ rule.Memory → moves_refusal f ≡ Memory
 refused_memory f is = ap (λ (r : MoveRule). moves_refusal_by r f) is
+
+-- a paragraph between two records is one between the same records
+pub paragraph_too : (moves : List ℕ) (input output a b : Forest Resolved) (ms : List Move) → input ≡ a → output ≡ b → IsParagraphOf moves a b ms
+    → IsParagraphOf moves input output ms
+paragraph_too moves input output a b ms p q h = rw (p, q) h
