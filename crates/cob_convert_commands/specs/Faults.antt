@@ -27,6 +27,7 @@ book_fault_by rule.Memory refused = fault.Memory
 book_fault_by (rule.Source source.Memory) refused = fault.Memory
 book_fault_by broken refused = fault.Book refused
 
+-- what the refusal of a listing's copybook is for a command
 abbrev pub refused_book : BookFault → CommandFault
 refused_book refused = book_fault_by refused.rule refused
 
@@ -36,6 +37,7 @@ show_fault_by (cause.Record (WriteFailed taken)) stopped = fault.Unprinted
 show_fault_by (cause.Record (TookNothing taken)) stopped = fault.Unprinted
 show_fault_by stop stopped = fault.Stopped stopped
 
+-- what a stopped listing of records is for a command
 abbrev pub show_fault : ShowFault → CommandFault
 show_fault listing.Memory = fault.Memory
 show_fault (listing.Run stopped) = show_fault_by stopped.cause stopped

@@ -4,7 +4,7 @@ use Rattle.std.specs.Prelude.{not, is_some, unwrap_or}
 use Rattle.clap.specs.Words.{Row, Text, app_of, subcommand_of}
 use Rattle.clap.specs.declared.builder.command.Command.{Command}
 use Rattle.clap.specs.declared.builder.command.Command.TheViews.{out-Command}
-use Rattle.cob_convert_line.specs.Lines.{IsCommand, IsLineOf, IsReading}
+use Rattle.cob_convert_line.specs.Lines.{IsCommand, IsCommandLineOf, IsReading}
 use Rattle.cob_convert_line.specs.Program.{program_app}
 use Rattle.cob_convert_line.specs.declared.line.Line.{Line}
 use Rattle.cob_convert_line.specs.declared.line.Line.TheVariants as line
@@ -28,12 +28,12 @@ both_parts (Some x) name_of rows_of name rows n r =
     ap₂ (λ (a : Text) (b : List Row). Some (a, b)) (ap (λ o. unwrap_or o name) n) (ap (λ o. unwrap_or o rows) r)
 
 -- the reading of words that are there is the line's
-pub said_by : (words : List Text) (said : Line) → (words ≡ [] → ⊥) → IsReading (subcommand_of program_app words) said → IsLineOf words said
+pub said_by : (words : List Text) (said : Line) → (words ≡ [] → ⊥) → IsReading (subcommand_of program_app words) said → IsCommandLineOf words said
 said_by [] said some h = absurd (some refl)
 said_by (word ∷ words) said some h = h
 
 -- no words are a job
-pub none_said : {X : Type 0} (text : X → Text) (words : List X) → (length words == 0) ≡ true → IsLineOf (map text words) line.Job
+pub none_said : {X : Type 0} (text : X → Text) (words : List X) → (length words == 0) ≡ true → IsCommandLineOf (map text words) line.Job
 none_said text [] e = refl
 none_said text (word ∷ words) e = absurd (omega (arith, eqb-true _ _ e))
 

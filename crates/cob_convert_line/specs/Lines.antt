@@ -23,6 +23,7 @@ abbrev pub fault_by_kind : ErrorKind → Error → LineFault
 fault_by_kind kind.OutOfMemory error = fault.Memory
 fault_by_kind _ error = fault.Words error
 
+-- what an error of the parser is for the command line
 abbrev pub words_fault : Error → LineFault
 words_fault error = fault_by_kind (kind_of error) error
 
@@ -32,8 +33,8 @@ letter_of Fixed = codes "f"
 letter_of Variable = codes "v"
 
 -- the form of a letter
-abbrev pub form_of : Text → Option Form
-form_of letter = if bytes_eq letter (codes "f") then Some Fixed
+abbrev pub form_by_letter : Text → Option Form
+form_by_letter letter = if bytes_eq letter (codes "f") then Some Fixed
     else (if bytes_eq letter (codes "v") then Some Variable else None)
 
 -- the flag was given
@@ -82,6 +83,6 @@ IsReading None said = ⊥
 IsReading (Some command) said = IsCommand command.0 command.1 said
 
 -- What the words behind the program's name say: none at all are a job, others name a command with its options.
-abbrev pub IsLineOf : List Text → Line → Type 0
-IsLineOf [] said = said ≡ line.Job
-IsLineOf (word ∷ words) said = IsReading (subcommand_of program_app (word ∷ words)) said
+abbrev pub IsCommandLineOf : List Text → Line → Type 0
+IsCommandLineOf [] said = said ≡ line.Job
+IsCommandLineOf (word ∷ words) said = IsReading (subcommand_of program_app (word ∷ words)) said

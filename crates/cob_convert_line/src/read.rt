@@ -1,6 +1,6 @@
 ghost use Rattle.std.specs.Prelude.{◌≡◌, IfOk, Some, map, option_map};
 ghost use Rattle.clap.specs.Words.{first_of, found_of, one_of, rows_of};
-ghost use Rattle.cob_convert_line.specs.Lines.{IsCheck, IsCommand, IsConvert, IsLayout, IsLineOf, IsShow, form_of, is_flagged, letter_of};
+ghost use Rattle.cob_convert_line.specs.Lines.{IsCheck, IsCommand, IsConvert, IsLayout, IsCommandLineOf, IsShow, form_by_letter, is_flagged, letter_of};
 
 use crate::fault::LineFault;
 use crate::line::{CheckLine, ConvertLine, LayoutLine, Line, ShowLine};
@@ -12,7 +12,7 @@ use std::convert::AsStr;
 
 // The form that a letter names.
 fn form_named(letter: &str) -> Option<Form>
-    ensures { result ≡ form_of letter.now }
+    ensures { result ≡ form_by_letter letter.now }
 {
     match letter {
         "f" => Some(Form::Fixed),
@@ -114,7 +114,7 @@ fn command_line<'a>(name: &str, options: &ArgMatches<'a>) -> Result<Line<'a>, Li
 /// [`LineFault::Words`] where the words are wrong or ask for help or the version, [`LineFault::Form`] where an option for a form names neither
 /// f nor v, [`LineFault::Memory`].
 pub fn line_of<'a, S: AsStr>(alloc: Global, words: &'a [S]) -> Result<Line<'a>, LineFault>
-    ensures options { IfOk result (IsLineOf (map S.text words.entry.now)) }
+    ensures options { IfOk result (IsCommandLineOf (map S.text words.entry.now)) }
 {
     if words.is_empty() {
         return Ok(Line::Job);
