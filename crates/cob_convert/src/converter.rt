@@ -13,11 +13,11 @@ ghost use Rattle.cob_convert.specs.Means.{Means, IsMovesRefusal, IsPrepareRefusa
 
 use crate::books;
 use crate::fault::PrepareFault;
-use cob_move::Paragraph;
 use crate::run::{RunFault, run_over};
 use cob_convert_record::{Conversion, Room};
 use cob_copybook::Book;
 use cob_layout::Layout;
+use cob_move::Paragraph;
 use cob_records::{Form, Sink, Source};
 use std::alloc::{AllocError, Global};
 use std::marker::Model;

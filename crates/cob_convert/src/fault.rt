@@ -2,10 +2,10 @@ ghost use Rattle.std.specs.Prelude.{◌≡◌};
 ghost use Rattle.cob_convert.specs.declared.fault.PrepareFault.TheVariants.{Memory};
 ghost use Rattle.cob_convert.specs.Means.{moves_refusal};
 
-use cob_move::{MoveFault, MoveRule};
 use crate::run::{Cause, RunFault};
 use cob_convert_record::Side;
 use cob_copybook_entries::BookFault;
+use cob_move::{MoveFault, MoveRule};
 use std::alloc::AllocError;
 use std::fmt;
 use thiserror::Error;

@@ -34,9 +34,9 @@ mod laws;
 mod run;
 
 pub use cob_convert_record::Side;
+pub use cob_move::{MoveFault, MoveRule};
 pub use converter::Converter;
 pub use fault::PrepareFault;
 pub use jobs::{Status, job};
 pub use laws::conversion_is_one;
-pub use cob_move::{MoveFault, MoveRule};
 pub use run::{Cause, RunFault};

@@ -44,10 +44,7 @@ fn answer_of<R: AllocGlobal + Files + Input + Print + Eprint + Clock>(
 ) -> Result<u64, RunFault> {
     if line.progress {
         let length = converter.in_length();
-        converter.run(
-            &mut Progress::new(source, rt, line.in_form, length),
-            sink,
-        )
+        converter.run(&mut Progress::new(source, rt, line.in_form, length), sink)
     } else {
         converter.run(&mut source, sink)
     }

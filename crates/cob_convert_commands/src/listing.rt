@@ -57,7 +57,14 @@ pub fn list_records<R: AllocGlobal + Files + Input + Print + Eprint + Clock>(
         let mut told = Progress::new(source, rt, line.form, layout.greatest());
         show(rt.alloc(), &book, &layout, line.form, &mut told, &mut sink)
     } else {
-        show(rt.alloc(), &book, &layout, line.form, &mut source, &mut sink)
+        show(
+            rt.alloc(),
+            &book,
+            &layout,
+            line.form,
+            &mut source,
+            &mut sink,
+        )
     };
     if sink.flush().is_err() {
         return Err(CommandFault::Unprinted);

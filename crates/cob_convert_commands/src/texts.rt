@@ -67,12 +67,5 @@ pub fn prepared<R: AllocGlobal + Files>(
     let in_book = read_text(rt, texts.in_book, FileName::InBook)?;
     let out_book = read_text(rt, texts.out_book, FileName::OutBook)?;
     let moves = read_text(rt, texts.moves, FileName::Moves)?;
-    Ok(Converter::prepare(
-        rt.alloc(),
-        &in_book,
-        &out_book,
-        &moves,
-        in_form,
-        out_form,
-    )?)
+    Ok(Converter::prepare(rt.alloc(), &in_book, &out_book, &moves, in_form, out_form)?)
 }

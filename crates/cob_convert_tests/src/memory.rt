@@ -8,9 +8,14 @@ use std::alloc::Global;
 use std::test::Fail;
 
 /// Copybooks with a table that varies, one whole record to the other, and records of form v with one element and with none.
-const IN_BOOK: &[u8] = b"       01  I.\n           05  N PIC 9.\n           05  T PIC X(2) OCCURS 0 TO 3 DEPENDING ON N.\n";
-const OUT_BOOK: &[u8] = b"       01  O.\n           05  P PIC 9.\n           05  U PIC X(2) OCCURS 0 TO 3 DEPENDING ON P.\n";
+const IN_BOOK: &[u8] =
+    b"       01  I.\n           05  N PIC 9.\n           05  T PIC X(2) OCCURS 0 TO 3 DEPENDING ON N.\n";
+
+const OUT_BOOK: &[u8] =
+    b"       01  O.\n           05  P PIC 9.\n           05  U PIC X(2) OCCURS 0 TO 3 DEPENDING ON P.\n";
+
 const MOVES: &[u8] = b"           MOVE I TO O.\n";
+
 const RECORDS: &[u8; 12] = b"\x00\x07\x00\x00\xF1\xC1\xC2\x00\x05\x00\x00\xF0";
 
 /// A converter of these records. Where a request for memory is refused, the answer is `Memory`, and the next call succeeds.
@@ -31,7 +36,10 @@ fn varying_records_take_no_memory(rt: HostRuntime) -> Result<(), Fail> {
     for _ in 0..2 {
         let mut room = [0u8; 12];
         let mut sink = MemSink::new(&mut room);
-        assert_eq!(rt; converter.run(&mut MemSource::new(RECORDS), &mut sink), Ok(2));
+        assert_eq!(rt;
+            converter.run(&mut MemSource::new(RECORDS), &mut sink),
+            Ok(2)
+        );
         assert_eq!(rt; sink.taken(), RECORDS.as_slice());
     }
     Ok(())
