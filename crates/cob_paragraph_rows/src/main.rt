@@ -8,6 +8,7 @@
 #![tactic(auto)]
 
 use cob_copybook::{Book, Role};
+use cob_copybook_entries::BookRule;
 use cob_move::{MoveRule, Paragraph};
 use cob_rows::{Family, Row, RowFault, print_rows};
 use std::alloc::Global;
@@ -20,7 +21,11 @@ struct Paragraphs;
 /// The copybook of a row, which is a good one.
 fn book_of(alloc: Global, row: &Row, role: Role, place: usize) -> Result<Book, RowFault> {
     let text = row.lines(alloc, place)?;
-    Book::read(alloc, role, text.as_slice()).map_err(|_| RowFault::BadRow)
+    match Book::read(alloc, role, text.as_slice()) {
+        Ok(book) => Ok(book),
+        Err(fault) if fault.rule == BookRule::Memory => Err(RowFault::Memory),
+        Err(_) => Err(RowFault::BadRow),
+    }
 }
 
 /// The paragraph of a row.
