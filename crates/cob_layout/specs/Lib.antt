@@ -2,3 +2,4 @@ pub mod Placed
 pub mod Counting
 pub mod Storage
 pub mod Laws
+pub mod Standing

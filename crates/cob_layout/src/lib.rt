@@ -42,6 +42,7 @@ mod copy;
 mod counts;
 mod laws;
 mod layout;
+mod places;
 
 pub use cob_fields::{Place, field, field_mut};
 pub use cob_layout_places::{CountFault, Ref};
@@ -51,3 +52,4 @@ pub use laws::{
     places_lie_in_storage, redefinitions_begin_with_area,
 };
 pub use layout::{Layout, PlaceFault};
+pub use places::Places;

@@ -1,0 +1,42 @@
+-- The counts of a record's tables, and where its entries stand under them.
+use Rattle.std.specs.Prelude.{◌≡◌, ℕ, ◌+◌, ◌≤◌, Bool, List, [], length, Ok}
+use Rattle.cob_copybook_tree.specs.Forests.{Tree, entries_in}
+use Rattle.cob_copybook_tree.specs.Nodes.{Resolved}
+use Rattle.cob_fields.specs.declared.Place.{Place}
+use Rattle.cob_fields.specs.Fields.{with_field}
+use Rattle.cob_layout_places.specs.Lengths.{alone}
+use Rattle.cob_layout_places.specs.Counts.{tables_of}
+use Rattle.cob_layout.specs.Counting.{AreThose, CountsOf, IsSparedOf}
+
+-- how a record stands: the counts of its tables, by the numbers of its entries
+pub record Standing : Type 0 where
+  pub counts : List ℕ
+
+-- for how many entries there is room
+abbrev pub room_in : Standing → ℕ
+room_in s = length s.counts
+
+-- there is room for this record
+abbrev pub IsRoomFor : Tree Resolved → Standing → Type 0
+IsRoomFor t s = room_in s ≡ entries_in (alone t)
+
+-- the record has these counts, and its entries stand where they do under them
+abbrev pub ArePlaces : Tree Resolved → List ℕ → Standing → Type 0
+ArePlaces t counts s = s.counts ≡ counts
+
+-- so it is under some counts
+abbrev pub Stands : Tree Resolved → Standing → Type 0
+Stands t s = (counts : List ℕ) × ArePlaces t counts s
+
+-- so it is under the counts that the bytes of a storage give
+abbrev pub StandsIn : Tree Resolved → List ℕ → Standing → Type 0
+StandsIn t bytes s = (counts : List ℕ) × CountsOf t bytes (Ok counts) × ArePlaces t counts s
+
+-- Where the bytes of this place alone change in a storage whose counts these are, the counts stay as they are.
+abbrev pub KeepsCounts : Tree Resolved → Place → Standing → Type 0
+KeepsCounts t p s = (counts before field : List ℕ) → ArePlaces t counts s → p.offset + p.length ≤ length before → length field ≡ p.length
+    → CountsOf t before (Ok counts) → CountsOf t (with_field before p field) (Ok counts)
+
+-- a reference to an entry, which receives or not, is spared no count
+abbrev pub SparesNone : Tree Resolved → ℕ → Bool → Type 0
+SparesNone t r receiving = AreThose (IsSparedOf t r receiving) (tables_of (alone t)) []
