@@ -28,6 +28,7 @@ mod lengths;
 mod needs;
 mod places;
 mod reference;
+mod spots;
 mod varying;
 
 pub use counts::{CountFault, take_counts};
@@ -38,4 +39,5 @@ pub use lengths::{element_of, times_of};
 pub use needs::{is_table, take_needed};
 pub use places::{Found, seek};
 pub use reference::{Ref, refers};
+pub use spots::{Spot, put_spots};
 pub use varying::{Table, tables};
