@@ -11,3 +11,4 @@ pub mod ByteLemmas
 pub mod NeedLemmas
 pub mod StorageLemmas
 pub mod UnreadLemmas
+pub mod SpotLaw

@@ -43,6 +43,7 @@ mod counts;
 mod laws;
 mod layout;
 mod places;
+mod ways;
 
 pub use cob_fields::{Place, field, field_mut};
 pub use cob_layout_places::{CountFault, Ref};
