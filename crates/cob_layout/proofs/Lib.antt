@@ -12,3 +12,4 @@ pub mod NeedLemmas
 pub mod StorageLemmas
 pub mod UnreadLemmas
 pub mod SpotLaw
+pub mod SpotMoves

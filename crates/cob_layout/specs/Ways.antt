@@ -45,3 +45,16 @@ moved spots (t ∷ ts) (s ∷ subscripts) f =
 -- the first element of an entry
 abbrev pub first_element : List Spot → ℕ → Found
 first_element spots k = let own = spot_at spots k in record { offset = own.offset; length = own.length; within = true }
+
+-- what is held of an entry
+abbrev pub held_at : List Held → ℕ → Held
+held_at all k = slice_index_or all k (record { tables = []; end = 0 })
+
+-- the outermost of these tables, else the entry itself
+abbrev pub outermost : List ℕ → ℕ → ℕ
+outermost [] r = r
+outermost (t ∷ ts) r = t
+
+-- the number behind the last entry beneath the outermost table that holds the entry or that it is, else beneath the entry
+abbrev pub end_of_table : List Held → ℕ → ℕ
+end_of_table all r = (held_at all (outermost (held_at all r).tables r)).end

@@ -1,13 +1,13 @@
 //! What is known of the entries of a record whatever its counts: the tables that hold them, and where those beneath them end.
 
-ghost use Rattle.std.specs.Prelude.{◌≡◌, ◌+◌, ◌++◌, ◌≤◌, [], length, map, IfOk};
+ghost use Rattle.std.specs.Prelude.{◌≡◌, ◌==◌, ◌&&◌, ◌+◌, ◌++◌, ◌≤◌, [], length, map, IfOk};
 ghost use Rattle.cob_copybook_tree.specs.Forests.{entries_in};
 ghost use Rattle.cob_copybook_tree.specs.Nodes.{node};
 ghost use Rattle.cob_layout_places.specs.Lengths.{alone};
 ghost use Rattle.cob_layout_places.specs.Cover.{AreNumbered};
 ghost use Rattle.cob_sound.specs.Sound.{own_dimension, AreNested};
 ghost use Rattle.cob_limits.specs.Limits.{most_dimensions};
-ghost use Rattle.cob_layout.specs.Ways.{held, held_in, own_table};
+ghost use Rattle.cob_layout.specs.Ways.{end_of_table, held, held_at, held_in, own_table};
 
 use arrayvec::ArrayVec;
 use cob_copybook_tree::Node;
@@ -86,4 +86,42 @@ pub(crate) fn ways(alloc: Global, root: &Node, end: usize) -> Result<Vec<Way>, A
     let mut ways = Vec::new(alloc);
     push_ways(root, end, &[], &mut ways)?;
     Ok(ways)
+}
+
+/// The tables that hold an entry or that it is, the outermost first.
+pub(crate) fn tables_at(ways: &[Way], number: usize) -> &[usize]
+    ensures { result.now ≡ (held_at (map held ways.now) number).tables }
+{
+    match ways.get(number) {
+        Some(way) => way.tables.as_slice(),
+        None => &[],
+    }
+}
+
+/// The number behind the last entry beneath an entry.
+fn end_at(ways: &[Way], number: usize) -> usize
+    ensures { result ≡ (held_at (map held ways.now) number).end }
+{
+    match ways.get(number) {
+        Some(way) => way.end,
+        None => 0,
+    }
+}
+
+/// The number behind the last entry beneath the outermost table that holds an entry or that it is, else beneath the entry.
+pub(crate) fn end_of_table(ways: &[Way], number: usize) -> usize
+    ensures { result ≡ end_of_table (map held ways.now) number }
+{
+    match tables_at(ways, number).first() {
+        Some(table) => end_at(ways, *table),
+        None => end_at(ways, number),
+    }
+}
+
+/// Whether an entry receives, and no later one outside it follows.
+pub(crate) fn is_last_receiver(ways: &[Way], number: usize, receiving: bool) -> bool
+    ensures { result ≡ (receiving
+        && ((held_at (map held ways.now) number).end == length ways.now)) }
+{
+    receiving && end_at(ways, number) == ways.len()
 }
