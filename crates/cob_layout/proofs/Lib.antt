@@ -13,3 +13,7 @@ pub mod StorageLemmas
 pub mod UnreadLemmas
 pub mod SpotLaw
 pub mod SpotMoves
+pub mod WayLaw
+pub mod ReadLaw
+pub mod KeepLaw
+pub mod StandingLemmas

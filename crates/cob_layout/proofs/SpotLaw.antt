@@ -133,10 +133,10 @@ also_moved spots b (t ∷ ts) (s ∷ subscripts) f =
 
 -- ---- a reference
 
-found_own : (b : Bool) (f : Found) (o p : Option Found) → b ≡ true → or_else (choose b f o) p ≡ Some f
+pub found_own : (b : Bool) (f : Found) (o p : Option Found) → b ≡ true → or_else (choose b f o) p ≡ Some f
 found_own b f o p e = rw e refl
 
-found_kid : (b : Bool) (f : Found) (there : Bool) (o p : Option Found) (g : Found) → b ≡ false → o ≡ Some g → or_else (choose b f (also there o)) p ≡ also there (Some g)
+pub found_kid : (b : Bool) (f : Found) (there : Bool) (o p : Option Found) (g : Found) → b ≡ false → o ≡ Some g → or_else (choose b f (also there o)) p ≡ also there (Some g)
 found_kid b f there o p g e is = rw (e, is) refl
 
 begins_further : (o : Option (List ℕ)) (at area d : ℕ) → begins o (at + d) (area + d) ≡ begins o at area + d
@@ -153,7 +153,7 @@ record Stood (spots : List Spot) (all : List Held) (over : List ℕ) (r d : ℕ)
   held : (x : Held) → (get_or all r x).tables ≡ over ++ tables
   stands : o ≡ Some (moved spots tables subscripts (further spots r d))
 
-abbrev nowhere : Spot
+abbrev pub nowhere : Spot
 nowhere = record { offset = 0; length = 0; times = 0 }
 
 stood : (c : Resolved → ℕ) (spots : List Spot) (all : List Held) (f : Forest Resolved) (n at area d : ℕ) (over subscripts : List ℕ) (r : ℕ) → AreNumbered n f → AreSpots spots c f at area → AreHeld all over f

@@ -21,6 +21,7 @@ use cob_fields::Place;
 use cob_layout_places::{
     CountFault, Found, Ref, Spot, needs_are_read, one_place, places_end_in_record, same_counts,
 };
+use cob_sound::records_are_sound;
 use std::alloc::{AllocError, Global};
 use std::marker::Model;
 
@@ -120,8 +121,8 @@ impl Layout {
             → p.offset + p.length ≤ sum_of (times counts) (alone self.now)) }
         ensures fits { IfOk result (λ p. p.offset + p.length ≤ sum_of most (alone self.now)) }
     {
-        places_end_in_record();
         places_end_in_length();
+        let _ = self.greatest();
         placed(self.element(r, &places.spots))
     }
 
@@ -133,6 +134,8 @@ impl Layout {
         ensures least { 0 < result }
         ensures most { result ≤ sum_of most (alone self.now) }
     {
+        records_are_sound();
+        let _ = self.greatest();
         let record = spot_at(&places.spots, 0);
         (record.times * record.length) as u16
     }
@@ -146,11 +149,14 @@ impl Layout {
         ensures fits { IfSome result (λ p. p.offset + p.length ≤ sum_of most (alone self.now)) }
         ensures none { IfNone result (ReadsNone self.now r.now.node receiving → ⊥) }
     {
-        places_end_in_record();
+        places_end_in_length();
         if !self.reads_none(r.node, receiving) {
             return None;
         }
-        placed(self.element(r, &self.spots)).ok()
+        match placed(self.element(r, &self.spots)) {
+            Ok(place) => Some(place),
+            Err(_) => None,
+        }
     }
 
     /// Whether a reference is spared no count: then it stands where it does under all counts of a storage.
