@@ -1,11 +1,10 @@
 -- A place that meets no count: its bytes change, and the counts stay.
-use Rattle.std.proofs.Common.{◌≡◌, ◌⊎◌, ℕ, ◌+◌, ◌-◌, ◌*◌, ◌<◌, ◌≤◌, Bool, true, false, ◌&&◌, ◌==◌, List, [], ◌∷◌, ◌++◌, length, take, drop, get_or, Option, Some, None, refl, sym, ap, subst, ◌∙◌, arith, inl, inr, Ok, Err, Result, append-nil}
-use Rattle.std.specs.Prelude.{slice_set, slice_index}
+use Rattle.std.proofs.Common.{◌≡◌, ◌⊎◌, ℕ, ◌+◌, ◌*◌, ◌<◌, ◌≤◌, Bool, true, false, ◌&&◌, ◌==◌, List, [], ◌∷◌, length, take, drop, Option, Some, refl, sym, ap, subst, ◌∙◌, arith, inl, inr, Ok, Err, Result, append-nil}
+use Rattle.std.specs.Prelude.{slice_set}
 use Rattle.std.specs.List.{AllByRecursion}
 use Rattle.std.proofs.lemmas.List.{drop-take, length-drop, length-take-le}
 use Rattle.std.proofs.lemmas.Slice.{take-put_mid_below, drop-put_mid}
-use borrow.Rule.Slice.PartMut.{put_mid, same_len_mid}
-use Rattle.cob_copybook_tree.specs.declared.node.Kind.{Kind}
+use borrow.Rule.Slice.PartMut.{same_len_mid}
 use Rattle.cob_copybook_tree.specs.Forests.{Forest, Bare, Grows, Tree, entries_in}
 use Rattle.cob_copybook_tree.specs.Nodes.{Resolved}
 use Rattle.cob_copybook_tree.specs.Lengths.{most, element, whole, room}
@@ -17,16 +16,16 @@ use Rattle.cob_layout_places.specs.declared.places.Found.{Found}
 use Rattle.cob_layout_places.specs.declared.spots.Spot.{Spot}
 use Rattle.cob_layout_places.specs.declared.varying.Table.{Table}
 use Rattle.cob_layout_places.specs.Lengths.{alone, times}
-use Rattle.cob_layout_places.specs.Places.{find, find_one, or_else, choose, also, begins, is_table, is_there, later, skipped}
+use Rattle.cob_layout_places.specs.Places.{find, find_one, also, begins, is_table, is_there, later, skipped}
 use Rattle.cob_layout_places.specs.Cover.{AreNumbered}
-use Rattle.cob_layout_places.specs.Counts.{tables_of, part_of, IsCounted, Taken}
-use Rattle.cob_layout_places.specs.Needs.{Has, Needs}
+use Rattle.cob_layout_places.specs.Counts.{tables_of, part_of, Taken}
+use Rattle.cob_layout_places.specs.Needs.{Has}
 use Rattle.cob_layout_places.specs.Agree.{DoAgree, OnePlace, SameCounts}
 use Rattle.cob_layout_places.specs.Spots.{spots_of}
 use Rattle.cob_layout_places.proofs.CoverLaw.{not_or}
 use Rattle.cob_layout_places.proofs.CountLemmas.{one_counted}
-use Rattle.cob_layout.specs.Counting.{greatest_counts, CountsOf}
-use Rattle.cob_layout.specs.Standing.{Standing, ArePlaces, IsApart, KeepsCounts}
+use Rattle.cob_layout.specs.Counting.{greatest_counts}
+use Rattle.cob_layout.specs.Standing.{Standing, IsApart, KeepsCounts}
 use Rattle.cob_layout.specs.Ways.{spot_at, first_element}
 use Rattle.cob_layout.proofs.ReferenceLemmas.{find_alone}
 use Rattle.cob_layout.proofs.EndLemmas.{numbered}

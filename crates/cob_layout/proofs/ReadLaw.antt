@@ -1,10 +1,10 @@
 -- Whether a reference reads or is spared no count, by the numbers behind entries.
-use Rattle.std.proofs.Common.{◌≡◌, ℕ, ◌+◌, ◌<◌, ◌≤◌, ◌==◌, ◌&&◌, nat_lt, Bool, true, false, List, [], ◌∷◌, length, map, Some, refl, sym, ap, subst, ◌∙◌, arith, inl, inr, ◌⊎◌}
+use Rattle.std.proofs.Common.{◌≡◌, ℕ, ◌+◌, ◌≤◌, ◌==◌, ◌&&◌, nat_lt, Bool, true, false, List, [], ◌∷◌, length, map, Some, refl, sym, ap, subst, ◌∙◌, arith}
 use Rattle.std.specs.Prelude.{not}
 use Rattle.std.specs.List.{slice_get}
 use Rattle.std.proofs.lemmas.List.{length-map}
 use Rattle.std.proofs.lemmas.Bool.Decides.{nat_tests}
-use Rattle.cob_copybook_tree.specs.Forests.{Forest, Tree, entries_in}
+use Rattle.cob_copybook_tree.specs.Forests.{Tree, entries_in}
 use Rattle.cob_copybook_tree.specs.Nodes.{Resolved}
 use Rattle.cob_sound.specs.Sound.{IsSound}
 use Rattle.cob_layout_places.specs.declared.varying.Table.{Table}
@@ -15,9 +15,9 @@ use Rattle.cob_layout_places.proofs.NeedLaw.{Passes, spared_passes, passes_spare
 use Rattle.cob_layout_places.proofs.NeedLemmas.{needed_is}
 use Rattle.cob_layout.specs.declared.ways.Way.{Way}
 use Rattle.cob_layout.specs.Counting.{AreThose, IsRead, IsSparedOf, ReadsNone}
-use Rattle.cob_layout.specs.Standing.{are_none, is_spared, SparesNone}
-use Rattle.cob_layout.specs.Ways.{Held, held, held_in, held_at, end_of_table}
-use Rattle.cob_layout.proofs.ThoseLemmas.{IsIn, same_those, kept_those, keep_no, Rise, rise_all, rise_low}
+use Rattle.cob_layout.specs.Standing.{are_none, is_spared}
+use Rattle.cob_layout.specs.Ways.{held, held_in, held_at, end_of_table}
+use Rattle.cob_layout.proofs.ThoseLemmas.{same_those, kept_those, keep_no, Rise, rise_all}
 use Rattle.cob_layout.proofs.NeedLemmas.{those_needed, known, table_has}
 use Rattle.cob_layout.proofs.SpotLaw.{length_held}
 use Rattle.cob_layout.proofs.WayLaw.{reach_end, reach_table_end}

@@ -1,5 +1,5 @@
 -- Where references stand, as a layout answers it.
-use Rattle.std.proofs.Common.{◌≡◌, ℕ, ◌+◌, ◌-◌, ◌*◌, ◌<◌, ◌≤◌, ◌==◌, ◌&&◌, nat_le, Bool, true, false, List, [], ◌∷◌, length, map, Option, Some, None, refl, sym, ap, subst, ◌∙◌, arith, inl, inr, Ok, Err, Result}
+use Rattle.std.proofs.Common.{◌≡◌, ℕ, ◌+◌, ◌*◌, ◌<◌, ◌≤◌, ◌==◌, ◌&&◌, nat_le, Bool, true, false, List, [], ◌∷◌, map, Option, Some, refl, sym, ap, subst, ◌∙◌, arith, inl, inr, Ok, Err, Result}
 use Rattle.std.specs.Prelude.{option_map, if◌then◌else◌, IfOk}
 use Rattle.std.proofs.lemmas.Bool.Decides.{nat_tests}
 use Rattle.cob_copybook_tree.specs.Forests.{Forest, Bare, Grows, Tree, entries_in}
@@ -12,7 +12,7 @@ use Rattle.cob_layout.specs.declared.layout.PlaceFault.{PlaceFault}
 use Rattle.cob_layout_places.specs.declared.places.Found.{Found}
 use Rattle.cob_layout_places.specs.declared.spots.Spot.{Spot}
 use Rattle.cob_layout_places.specs.Lengths.{alone, times}
-use Rattle.cob_layout_places.specs.Places.{find, find_one, or_else, choose, also, begins, is_table, is_there, later, skipped, EndInRecord, EndsBy}
+use Rattle.cob_layout_places.specs.Places.{find, find_one, begins, is_table, is_there, later, skipped, EndInRecord, EndsBy}
 use Rattle.cob_layout_places.specs.Cover.{AreNumbered}
 use Rattle.cob_layout_places.specs.References.{IsSubscripted, Refers}
 use Rattle.cob_layout_places.specs.Spots.{spots_of}
@@ -24,7 +24,7 @@ use Rattle.cob_layout.specs.Placed.{placed}
 use Rattle.cob_layout.specs.Standing.{Standing, ArePlaces}
 use Rattle.cob_layout.specs.Ways.{held, held_in, held_at, moved, first_element, spot_at}
 use Rattle.cob_layout.proofs.ReferenceLemmas.{find_alone, found_there, refers_has}
-use Rattle.cob_layout.proofs.EndLemmas.{numbered, found_has, pick, some_is, differs, same, both, current}
+use Rattle.cob_layout.proofs.EndLemmas.{numbered, found_has, pick, some_is, differs, same, current}
 use Rattle.cob_layout.proofs.GreatestLemmas.{are_greatest}
 use Rattle.cob_copybook.specs.Bytes.{TakeBytes}
 use Rattle.cob_layout.proofs.RecordLemmas.{length_is, length_small}

@@ -1,6 +1,5 @@
-use Rattle.std.proofs.Common.{◌≡◌, ℕ, ◌-◌, ◌*◌, ◌+◌, drop, sym, ap, ◌∙◌, arith}
+use Rattle.std.proofs.Common.{drop, sym, ap, ◌∙◌, arith}
 use Rattle.cob_layout_places.specs.declared.places.Found.{Found}
-use Rattle.cob_layout.specs.Ways.{first_element, moved, spot_at}
 use Rattle.cob_layout.proofs.SpotMoves.{end_moved, next_fits}
 use Rattle.cob_layout.proofs.spots.element_at.Goals as goal
 

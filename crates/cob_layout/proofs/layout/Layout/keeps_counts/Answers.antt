@@ -1,4 +1,4 @@
-use Rattle.std.proofs.Common.{◌≡◌, ap, ◌∙◌}
+use Rattle.std.proofs.Common.{ap, ◌∙◌}
 use Rattle.cob_copybook_tree.specs.Nodes.{node}
 use Rattle.cob_layout.specs.Standing.{Standing}
 use Rattle.cob_layout.proofs.KeepLaw.{keep_in}

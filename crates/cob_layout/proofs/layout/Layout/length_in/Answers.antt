@@ -1,4 +1,4 @@
-use Rattle.std.proofs.Common.{◌≡◌, ap, ◌∙◌, arith}
+use Rattle.std.proofs.Common.{ap, ◌∙◌, arith}
 use Rattle.cob_layout.specs.Standing.{Standing}
 use Rattle.cob_layout.proofs.StandingLemmas.{length_by}
 use Rattle.cob_layout.proofs.layout.Layout.length_in.Goals as goal

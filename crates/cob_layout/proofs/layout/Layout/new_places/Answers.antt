@@ -1,4 +1,4 @@
-use Rattle.std.proofs.Common.{◌≡◌, sym, ap, subst, ◌∙◌, length}
+use Rattle.std.proofs.Common.{sym, ap, ◌∙◌, length}
 use Rattle.cob_copybook_tree.specs.Forests.{entries_in}
 use Rattle.cob_copybook_tree.specs.Nodes.{node}
 use Rattle.cob_layout_places.specs.Lengths.{alone, times}
