@@ -2,8 +2,9 @@
 //! and REDEFINES clauses; IBM Enterprise COBOL for z/OS, Language Reference, "Data division--data description entry").
 //!
 //! A [`Layout`] is made once of a copybook's `Book` and then answers every question about places. It holds a copy of the record's tree, its
-//! tables that vary, and their greatest counts. A [`Counts`] says how often these tables occur in one record, and a [`Ref`] names one element
-//! of one entry: the entry by its number, and a subscript for each table that holds it or that it is.
+//! tables that vary, and their greatest counts, and by the numbers of the entries the tables that hold each, and where it stands under the
+//! greatest counts. A [`Counts`] says how often these tables occur in one record, a [`Places`] that and where each entry stands then, and a
+//! [`Ref`] names one element of one entry: the entry by its number, and a subscript for each table that holds it or that it is.
 //!
 //! What is promised:
 //!
@@ -26,16 +27,22 @@
 //! - [`Layout::needed`] takes only the counts that a reference reads: those of the tables that stand before its entry, are it, hold it, stand
 //!   beneath it or beneath a table that holds it, but not those that it is spared where it receives; the other tables have their greatest number
 //!   (`ok`, `err`, `same`). [`Layout::needs_no_count`] says whether it reads none (`must`, `only`): then its place is the same in every storage.
+//! - [`Layout::places_of`] takes all counts of a record's bytes and where its entries stand under them, in one walk and with no memory, into
+//!   [`Places`] that [`Layout::new_places`] made (`ok`), or answers the first fault (`err`). In them [`Layout::place_in`] finds a reference by
+//!   its number and its subscripts alone, with the answer of [`Layout::place`] under these counts (`value`, `current`, `fits`), and
+//!   [`Layout::length_in`] is that of [`Layout::length`]. [`Layout::fixed_place`] does so for a reference that reads no count (`fixed`,
+//!   `value`, `none`), and [`Layout::spares_none`] says whether a reference is spared none (`must`, `only`), so that all counts give it its
+//!   place. Where [`Layout::keeps_counts`] says so of a place, its bytes may change and the counts stay (`keeps`).
 //! - The bytes of a storage say one thing of all counts and of those that are needed ([`one_outcome_of_counts`]). Where all are valid, those
 //!   that are needed are, and the place is that under all counts, but for the tables that the reference is spared, which have their greatest
 //!   number ([`all_give_needed`]). So a place that a sender finds lies within the record's bytes, be they all of its storage or its current
 //!   part ([`places_lie_in_storage`]). Storages that agree on what a reference reads give it one place, whichever of the two calls took the counts
 //!   ([`one_place_by_needs`]).
 //!
-//! The definitions: `CountsOf`, `NeededOf` and `AreGreatest` of specs/Counting.antt, `placed` of specs/Placed.antt, those of
-//! the laws of specs/Laws.antt, and what they name of `cob_copybook` (`TakeBytes`) and of `cob_layout_places`, which has the arithmetic of lengths
-//! and places. `cob_fields` lends the bytes of a place ([`field`], [`field_mut`]).
-//! Only [`Layout::of`] and [`Layout::new_counts`] take memory.
+//! The definitions: `CountsOf`, `NeededOf` and `AreGreatest` of specs/Counting.antt, `placed` of specs/Placed.antt, `ArePlaces`, `StandsIn`,
+//! `KeepsCounts` and `SparesNone` of specs/Standing.antt, those of the laws of specs/Laws.antt, and what they name of `cob_copybook`
+//! (`TakeBytes`) and of `cob_layout_places`, which has the arithmetic of lengths and places. `cob_fields` lends the bytes of a place ([`field`], [`field_mut`]).
+//! Only [`Layout::of`], [`Layout::new_counts`] and [`Layout::new_places`] take memory.
 #![tactic(auto)]
 
 mod copy;

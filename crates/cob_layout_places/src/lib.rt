@@ -9,12 +9,15 @@
 //!   it with all their occurrences, and a redefinition where its area begins. The law [`places_end_in_record`] says that a place ends within
 //!   the record's greatest length, and [`covering`] that each byte of a record is in exactly one occurrence of an item that stands in no
 //!   redefinition (specs/Cover.antt).
+//! - [`put_spots`] writes where the first element of each entry stands, how long it is, and how often the entry occurs, in one walk over the
+//!   record (`spots_one` of specs/Spots.antt).
 //! - [`refers`] says whether a number with subscripts is a legal reference to an entry: `Refers` of specs/References.antt. A [`Ref`] holds one.
 //! - [`tables`] lists the tables that vary, and [`take_counts`] takes their counts from a storage, one behind another, or answers the first count
 //!   that ends past the bytes or gives no number within its table's bounds (`Taken` of specs/Counts.antt). There is one such outcome
 //!   ([`one_outcome`]), and storages that agree where the counts stand have the same one ([`same_counts`]).
 //! - [`take_needed`] takes only the counts that the place of one entry needs, and none that a receiver is spared (`needed` of specs/Needs.antt).
-//!   [`needs_are_read`] says which these are in the words of COBOL, and [`one_place`] that counts that agree on them give the entry one place.
+//!   [`is_needed`] is its test of a table. [`needs_are_read`] says which these are in the words of COBOL, and [`one_place`] that counts that
+//!   agree on them give the entry one place.
 //!
 //! What holds of the entries of every record is asked for as `IsFit` of specs/Lengths.antt: each entry may occur, groups alone have entries
 //! beneath them, no redefinition is longer than its area, and the record isn't too long.
