@@ -62,7 +62,7 @@ none_there : (b : Bool) (k : ℕ) → is_there b k [] ≡ true
 none_there false k = refl
 none_there true k = refl
 
-first_found : (c : Resolved → ℕ) (spots : List Spot) (f : Forest Resolved) (n at area r : ℕ) → AreNumbered n f → AreSpots spots c f at area → Has r f → find c r f at area [] ≡ Some (first_element spots r)
+pub first_found : (c : Resolved → ℕ) (spots : List Spot) (f : Forest Resolved) (n at area r : ℕ) → AreNumbered n f → AreSpots spots c f at area → Has r f → find c r f at area [] ≡ Some (first_element spots r)
 first_found c spots Bare n at area r num sp has = absurd has
 first_found c spots (Grows e kids more) n at area r num sp has =
     let start : ℕ = begins e.redefines at area in

@@ -17,3 +17,4 @@ pub mod WayLaw
 pub mod ReadLaw
 pub mod KeepLaw
 pub mod StandingLemmas
+pub mod TakingLemmas

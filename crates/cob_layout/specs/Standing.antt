@@ -50,6 +50,11 @@ abbrev pub are_none : List Table → Bool
 are_none [] = true
 are_none (x ∷ xs) = false
 
+-- the number of the first of these tables
+abbrev pub first_of : List Table → ℕ
+first_of [] = 0
+first_of (x ∷ xs) = x.number
+
 -- a reference to entry r is spared the count of the table, where r receives and is the last one or not
 abbrev pub is_spared : (last : Bool) → (r : ℕ) → Table → Bool
 is_spared last r x = last && (nat_lt r x.number && nat_lt r x.count)

@@ -44,7 +44,7 @@ pub struct PlaceFault {
 pub struct Layout {
     pub(crate) root: Node,
     pub(crate) tables: Vec<Table>,
-    counts: Counts,
+    pub(crate) counts: Counts,
     greatest: u16,
     pub(crate) ways: Vec<Way>,
     /// Where the entries stand under the greatest counts.

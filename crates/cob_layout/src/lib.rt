@@ -52,6 +52,7 @@ mod layout;
 mod places;
 mod reads;
 mod spots;
+mod taking;
 mod ways;
 
 pub use cob_fields::{Place, field, field_mut};

@@ -11,11 +11,11 @@ ghost use Rattle.cob_layout.specs.Placed.{placed};
 ghost use Rattle.cob_layout.specs.Counting.{greatest_counts, CountsOf, ReadsNone};
 ghost use Rattle.cob_layout.specs.Standing.{ArePlaces, IsRoomFor, KeepsCounts, SparesNone, Stands, StandsIn};
 
-use crate::counts::Counts;
 use crate::laws::places_end_in_length;
 use crate::layout::{Layout, PlaceFault, placed};
 use crate::reads::{meets_no_count, none_needed, none_spared};
 use crate::spots::{element_at, new_spots, put_all_spots, spot_at};
+use crate::taking::{copied_counts, take_all_counts};
 use crate::ways::{end_of_table, is_last_receiver, tables_at};
 use cob_fields::Place;
 use cob_layout_places::{
@@ -28,7 +28,7 @@ use std::marker::Model;
 /// The counts of a record's tables, and where its entries stand under them.
 #[derive(Debug, Drop)]
 pub struct Places {
-    counts: Counts,
+    counts: Vec<u32>,
     spots: Vec<Spot>,
 }
 
@@ -38,9 +38,9 @@ impl Model for Places {
 
     ghost Value = { Standing };
 
-    ghost view = { λ p. record { counts = p.counts; spots = p.spots.items } };
+    ghost view = { λ p. record { counts = p.counts.items; spots = p.spots.items } };
 
-    ghost invariant = { λ p. length p.spots.items ≡ length p.counts };
+    ghost invariant = { λ p. length p.spots.items ≡ length p.counts.items };
 }
 
 impl Layout {
@@ -84,8 +84,8 @@ impl Layout {
         ensures places { IfOk result (λ p. ArePlaces self.now (greatest_counts self.now) p) }
         ensures room { IfOk result (λ p. IsRoomFor self.now p) }
     {
-        let counts = self.new_counts(alloc)?;
-        let spots = new_spots(alloc, &self.root, counts.as_slice())?;
+        let counts = copied_counts(alloc, self.counts.as_slice())?;
+        let spots = new_spots(alloc, &self.root, &counts)?;
         Ok(Places { counts, spots })
     }
 
@@ -100,8 +100,15 @@ impl Layout {
         ensures err { IfErr result (λ e. CountsOf self.now bytes.now (Err e)) }
         ensures room { IsRoomFor self.now places.new }
     {
-        self.counts_of(bytes, &mut places.counts)?;
-        put_all_spots(&self.root, places.counts.as_slice(), &mut places.spots);
+        places.counts.copy_from_slice(self.counts.as_slice());
+        take_all_counts(
+            &self.root,
+            &self.tables,
+            &self.spots,
+            bytes,
+            &mut places.counts,
+        )?;
+        put_all_spots(&self.root, &places.counts, &mut places.spots);
         Ok(())
     }
 

@@ -1,6 +1,6 @@
 -- The counts of tables, one behind another.
 use Rattle.std.proofs.Common.{◌≡◌, ℕ, ◌+◌, ◌-◌, ◌*◌, ◌<◌, ◌≤◌, List, [], ◌∷◌, ◌++◌, length, get_or, take, drop, refl, sym, ap, subst, ◌∙◌, arith, Option, Some, None, Bool, true, false, Ok, Err, Result, inl, inr, ◌==◌, append-nil, append_assoc}
-use Rattle.std.specs.Prelude.{slice_set}
+use Rattle.std.specs.Prelude.{slice_set, IfOk, IfErr}
 use Rattle.std.proofs.lemmas.List.{drop_more, drop_all, take_more, take-append-drop}
 use Rattle.cob_decimal.specs.Decimal.{number_of}
 use Rattle.cob_decimal.proofs.DecimalLemmas.{number_of-push}
@@ -166,3 +166,24 @@ all_taken t bytes xs k c h = subst (λ (ys : List Table). Taken t bytes ys c (Ok
 
 pub part_same : (bytes : List ℕ) (start size : ℕ) → take (start + size - start) (drop start bytes) ≡ take size (drop start bytes)
 part_same bytes start size = ap (λ (n : ℕ). take n (drop start bytes)) (omega arith)
+
+-- what the bytes say where a count stands, they say of its table under whatever counts it stands there
+pub counted_ok : (t : Tree Resolved) (bytes : List ℕ) (x : Table) (i : Item) (f : Found) (r : Result ℕ CountFault) → kind_one x.count t ≡ Some (ItemKind i) → IfOk r (λ v. Says i x f bytes (Ok v))
+    → IfOk r (λ v. (c : List ℕ) → find_one (times c) x.count t 0 [] ≡ Some f → IsCounted t bytes x c (Ok v))
+counted_ok t bytes x i f (Ok v) is says = λ c stands. record { item = i; is = is; found = f; stands = stands; says = says }
+counted_ok t bytes x i f (Err e) is says = tt
+
+pub counted_err : (t : Tree Resolved) (bytes : List ℕ) (x : Table) (i : Item) (f : Found) (r : Result ℕ CountFault) → kind_one x.count t ≡ Some (ItemKind i) → IfErr r (λ e. Says i x f bytes (Err e))
+    → IfErr r (λ e. (c : List ℕ) → find_one (times c) x.count t 0 [] ≡ Some f → IsCounted t bytes x c (Err e))
+counted_err t bytes x i f (Ok v) is says = tt
+counted_err t bytes x i f (Err e) is says = λ c stands. record { item = i; is = is; found = f; stands = stands; says = says }
+
+pub at_counts : (t : Tree Resolved) (bytes : List ℕ) (x : Table) (f : Found) (c : List ℕ) (r : Result ℕ CountFault) → find_one (times c) x.count t 0 [] ≡ Some f
+    → IfOk r (λ v. (d : List ℕ) → find_one (times d) x.count t 0 [] ≡ Some f → IsCounted t bytes x d (Ok v)) → IfOk r (λ v. IsCounted t bytes x c (Ok v))
+at_counts t bytes x f c (Ok v) stands h = h c stands
+at_counts t bytes x f c (Err e) stands h = tt
+
+pub fault_at_counts : (t : Tree Resolved) (bytes : List ℕ) (x : Table) (f : Found) (c : List ℕ) (r : Result ℕ CountFault) → find_one (times c) x.count t 0 [] ≡ Some f
+    → IfErr r (λ e. (d : List ℕ) → find_one (times d) x.count t 0 [] ≡ Some f → IsCounted t bytes x d (Err e)) → IfErr r (λ e. IsCounted t bytes x c (Err e))
+fault_at_counts t bytes x f c (Ok v) stands h = tt
+fault_at_counts t bytes x f c (Err e) stands h = h c stands

@@ -1,11 +1,12 @@
-ghost use Rattle.std.specs.Prelude.{◌≡◌, ◌≢◌, ℕ, ◌+◌, ◌<◌, ◌≤◌, List, length, Ok, Err, Result, Some, OnOk, IfOk, IfErr, IfSome, IfNone};
+ghost use Rattle.std.specs.Prelude.{◌≡◌, ◌≢◌, ℕ, ◌+◌, ◌<◌, ◌≤◌, List, [], length, Ok, Err, Result, Some, OnOk, IfOk, IfErr, IfSome, IfNone};
 ghost use Rattle.cob_decimal.specs.Decimal.{IsDigits, number_of};
 ghost use Rattle.cob_copybook_tree.specs.declared.node.Item.{Item};
 ghost use Rattle.cob_copybook_tree.specs.declared.node.Kind.TheVariants.{Item as ItemKind};
 ghost use Rattle.cob_copybook_tree.specs.Nodes.{node};
 ghost use Rattle.cob_copybook_tree.specs.Lengths.{item_size};
 ghost use Rattle.cob_item.specs.Items.{IsNumberItem};
-ghost use Rattle.cob_layout_places.specs.Lengths.{IsFit};
+ghost use Rattle.cob_layout_places.specs.Lengths.{times, IsFit};
+ghost use Rattle.cob_layout_places.specs.Places.{find_one};
 ghost use Rattle.cob_layout_places.specs.Counts.{AreCountable, HaveSlots, IsCount, IsCountable, IsCounted, kind_one, Says, Taken};
 
 use crate::places::{Found, seek};
@@ -99,23 +100,41 @@ fn item_with(root: &Node, number: usize) -> Option<&Item>
     }
 }
 
+/// What the bytes say of a table whose count stands there under some counts.
+///
+/// # Errors
+///
+/// The count gives no number from its table's least to its greatest one, or ends past the bytes.
+pub fn count_there(root: &Node, table: Table, found: Found, bytes: &[u8]) -> Result<u32, CountFault>
+    requires countable { IsCountable (node root.now) table }
+    requires stands { (counts : List ℕ)
+        × (find_one (times counts) table.count (node root.now) 0 [] ≡ Some found) }
+    ensures ok { IfOk result (λ v. (counts : List ℕ)
+        → find_one (times counts) table.count (node root.now) 0 [] ≡ Some found
+        → IsCounted (node root.now) bytes.now table counts (Ok v)) }
+    ensures err { IfErr result (λ e. (counts : List ℕ)
+        → find_one (times counts) table.count (node root.now) 0 [] ≡ Some found
+        → IsCounted (node root.now) bytes.now table counts (Err e)) }
+{
+    match item_with(root, table.count) {
+        Some(item) => count_at(item, table, found, bytes),
+        None => Err(NOWHERE),
+    }
+}
+
 /// What the bytes say of a table under the counts so far.
-pub(crate) fn count_of(
-    root: &Node,
-    table: Table,
-    bytes: &[u8],
-    counts: &[u32],
-) -> Result<u32, CountFault>
+///
+/// # Errors
+///
+/// The count gives no number from its table's least to its greatest one, or ends past the bytes.
+pub fn count_of(root: &Node, table: Table, bytes: &[u8], counts: &[u32]) -> Result<u32, CountFault>
     requires fit { IsFit 0 (node root.now) }
     requires countable { IsCountable (node root.now) table }
     ensures ok { IfOk result (λ v. IsCounted (node root.now) bytes.now table counts.now (Ok v)) }
     ensures err { IfErr result (λ e. IsCounted (node root.now) bytes.now table counts.now (Err e)) }
 {
-    let Some(item) = item_with(root, table.count) else {
-        return Err(NOWHERE);
-    };
     match seek(root, table.count, counts, 0, &[]) {
-        Some(found) => count_at(item, table, found, bytes),
+        Some(found) => count_there(root, table, found, bytes),
         None => Err(NOWHERE),
     }
 }

@@ -14,7 +14,7 @@
 //! - [`refers`] says whether a number with subscripts is a legal reference to an entry: `Refers` of specs/References.antt. A [`Ref`] holds one.
 //! - [`tables`] lists the tables that vary, and [`take_counts`] takes their counts from a storage, one behind another, or answers the first count
 //!   that ends past the bytes or gives no number within its table's bounds (`Taken` of specs/Counts.antt). There is one such outcome
-//!   ([`one_outcome`]), and storages that agree where the counts stand have the same one ([`same_counts`]).
+//!   ([`one_outcome`]; [`count_of`] and [`count_there`] take one count), and storages that agree where the counts stand have the same one ([`same_counts`]).
 //! - [`take_needed`] takes only the counts that the place of one entry needs, and none that a receiver is spared (`needed` of specs/Needs.antt).
 //!   [`is_needed`] is its test of a table. [`needs_are_read`] says which these are in the words of COBOL, and [`one_place`] that counts that
 //!   agree on them give the entry one place.
@@ -34,7 +34,7 @@ mod reference;
 mod spots;
 mod varying;
 
-pub use counts::{CountFault, take_counts};
+pub use counts::{CountFault, count_of, count_there, take_counts};
 pub use laws::{
     covering, needs_are_read, one_outcome, one_place, places_end_in_record, same_counts,
 };
