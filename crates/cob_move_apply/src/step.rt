@@ -1,14 +1,25 @@
-//! Moves with the places of their operands that are the same in every storage.
+//! Moves with how the places of their operands are found.
 
 use cob_copybook_entries::Value;
 use cob_layout::Place;
 use cob_move_operands::{Operand, Side};
 
-/// An operand, with its place where that is the same in every storage.
+/// How the place of an operand is found.
+#[derive(Clone, Copy, Debug)]
+pub(crate) enum Way {
+    /// It is the same in every storage.
+    Fixed(Place),
+    /// Under all counts of the storage: it is spared none of them.
+    ByCounts,
+    /// Under the counts that it needs.
+    ByNeeds,
+}
+
+/// An operand, with how its place is found.
 #[derive(Debug, Drop)]
 pub(crate) struct PlacedOperand {
     pub(crate) operand: Operand,
-    pub(crate) place: Option<Place>,
+    pub(crate) way: Way,
 }
 
 /// What is moved.
