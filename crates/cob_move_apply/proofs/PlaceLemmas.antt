@@ -25,10 +25,10 @@ use Rattle.cob_move_operands.specs.declared.Side.{Side}
 use Rattle.cob_move_operands.specs.declared.Operand.{Operand}
 use Rattle.cob_move_operands.specs.Moves.{IsOperand}
 use Rattle.cob_move_apply.specs.declared.step.PlacedOperand.{PlacedOperand}
-use Rattle.cob_move_apply.specs.declared.step.Way.TheVariants as way
+use Rattle.cob_move_apply.specs.declared.step.Basis.TheVariants as basis
 use Rattle.cob_move_apply.specs.declared.stop.StopCause.TheVariants.{Subscript}
 use Rattle.cob_move_apply.specs.Located.{Located, StandsUnder, stop_at}
-use Rattle.cob_move_apply.specs.Placed.{IsFixed, IsPlaced, Leads}
+use Rattle.cob_move_apply.specs.Placed.{IsFixed, IsPlaced, IsBasis}
 use Rattle.cob_sound.specs.Sound.{IsSound, IsStorableKind, AreStorable}
 use Rattle.cob_move_receive.specs.Sent.{Occupies}
 
@@ -71,13 +71,10 @@ pub filled_at : (side : Side) (t : Tree Resolved) (receiving : Bool) (o : Operan
 filled_at side t receiving o bytes p sound is (counts, needs, stands) =
     filled t o.entry.node counts o.entry.subscripts.items o.kind p sound is.is stands
 
--- ---- the way in which a place is found
+-- ---- what a place rests on
 
-pub fixed_in : (t : Tree Resolved) (receiving : Bool) (o : PlacedOperand) (p : Place) → IsPlaced t receiving o → o.way ≡ way.Fixed p → IsFixed t receiving o.operand p
-fixed_in t receiving o p is e = subst (Leads t receiving o.operand) e is.way
-
-pub spares_none_in : (t : Tree Resolved) (receiving : Bool) (o : PlacedOperand) → IsPlaced t receiving o → o.way ≡ way.ByCounts → SparesNone t o.operand.entry.node receiving
-spares_none_in t receiving o is e = subst (Leads t receiving o.operand) e is.way
+pub fixed_in : (t : Tree Resolved) (receiving : Bool) (o : PlacedOperand) (p : Place) → IsPlaced t receiving o → o.basis ≡ basis.Fixed p → IsFixed t receiving o.operand p
+fixed_in t receiving o p is e = subst (IsBasis t receiving o.operand) e is.basis
 
 -- where all counts of a storage are valid, and the operand is spared none
 pub under_all : AllGiveNeeded → (t : Tree Resolved) (receiving : Bool) (o : Operand) (bytes : List ℕ) (places : Standing) (there : Result Place PlaceFault)

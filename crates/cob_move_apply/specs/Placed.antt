@@ -1,4 +1,4 @@
--- Moves whose operands have their places, or the way in which these are found.
+-- Moves with the places of their operands, or what these rest on.
 use Rattle.std.specs.Prelude.{ℕ, ◌+◌, ◌≤◌, Bool, true, false, List, map, Ok}
 use Rattle.std.specs.List.{AllByRecursion}
 use Rattle.cob_copybook_entries.specs.Described.{constant}
@@ -18,8 +18,8 @@ use Rattle.cob_move_apply.specs.declared.step.PlacedOperand.{PlacedOperand}
 use Rattle.cob_move_apply.specs.declared.step.PlacedSender.{PlacedSender}
 use Rattle.cob_move_apply.specs.declared.step.PlacedSender.TheVariants as placed_sender
 use Rattle.cob_move_apply.specs.declared.step.Step.{Step}
-use Rattle.cob_move_apply.specs.declared.step.Way.{Way}
-use Rattle.cob_move_apply.specs.declared.step.Way.TheVariants as way
+use Rattle.cob_move_apply.specs.declared.step.Basis.{Basis}
+use Rattle.cob_move_apply.specs.declared.step.Basis.TheVariants as basis
 
 -- the operand itself
 abbrev pub operand_of : PlacedOperand → Operand
@@ -43,17 +43,17 @@ pub record IsFixed (t : Tree Resolved) (receiving : Bool) (o : Operand) (p : Pla
   pub place : (side : Side) (bytes : List ℕ) → Located side t receiving o bytes (Ok p)
   pub within : p.offset + p.length ≤ greatest_length t
 
--- The way in which an operand's place is found finds it: a place that is noted is the same in every storage; and the operand's place is that under all
--- counts only where it is spared none.
-abbrev pub Leads : Tree Resolved → Bool → Operand → Way → Type 0
-Leads t receiving o (way.Fixed p) = IsFixed t receiving o p
-Leads t receiving o way.ByCounts = SparesNone t o.entry.node receiving
-Leads t receiving o way.ByNeeds = Unit {0}
+-- An operand's place, sending or receiving, may rest on this: on no count where it is noted and the same in every storage; on all counts where the
+-- operand is spared none; and on those that it needs.
+abbrev pub IsBasis : Tree Resolved → Bool → Operand → Basis → Type 0
+IsBasis t receiving o (basis.Fixed p) = IsFixed t receiving o p
+IsBasis t receiving o basis.AllCounts = SparesNone t o.entry.node receiving
+IsBasis t receiving o basis.NeededCounts = Unit {0}
 
--- an operand of the record, and the way in which its place is found
+-- an operand of the record, with what its place rests on
 pub record IsPlaced (t : Tree Resolved) (receiving : Bool) (p : PlacedOperand) : Type 0 where
   pub operand : IsOperand t p.operand
-  pub way : Leads t receiving p.operand p.way
+  pub basis : IsBasis t receiving p.operand p.basis
 
 -- so is a sender
 abbrev pub IsPlacedSender : Records → PlacedSender → Type 0

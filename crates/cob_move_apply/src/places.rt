@@ -13,7 +13,7 @@ ghost use Rattle.cob_move_apply.specs.Placed.{IsPlaced};
 ghost use Rattle.cob_move_apply.specs.declared.stop.StopCause.TheVariants.{Subscript};
 ghost use Rattle.cob_move_apply.specs.Surveyed.{IsSurvey};
 
-use crate::step::{PlacedOperand, Way};
+use crate::step::{Basis, PlacedOperand};
 use crate::stop::{Stop, StopCause};
 use crate::survey::Survey;
 use cob_layout::{Counts, Layout, Place, PlaceFault, Places, all_give_needed};
@@ -124,15 +124,15 @@ pub(crate) fn locate(
     ensures survey { IsSurvey stored.now.layout.now stored.now.bytes.now survey.new }
 {
     let operand = &placed.operand;
-    match placed.way {
-        Way::Fixed(place) => Ok(place),
-        Way::ByCounts => {
+    match placed.basis {
+        Basis::Fixed(place) => Ok(place),
+        Basis::AllCounts => {
             if survey.take(stored.layout, stored.bytes) {
                 place_by_counts(stored, operand, receiving, &survey.places)
             } else {
                 place_by_needs(stored, operand, receiving, &mut survey.needed)
             }
         }
-        Way::ByNeeds => place_by_needs(stored, operand, receiving, &mut survey.needed),
+        Basis::NeededCounts => place_by_needs(stored, operand, receiving, &mut survey.needed),
     }
 }

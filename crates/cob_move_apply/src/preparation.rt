@@ -1,41 +1,41 @@
-//! Moves made ready: the places that are the same in every storage, found once, and the way in which each other one is found.
+//! Moves made ready: the places that are the same in every storage, found once, and what each other one rests on.
 
 ghost use Rattle.std.specs.Prelude.{◌≡◌, map, true, false, IfOk};
 ghost use Rattle.std.specs.List.{AllByRecursion};
 ghost use Rattle.cob_move_operands.specs.Moves.{AreMoves, IsMove, IsOperand, IsSender, move, sender};
-ghost use Rattle.cob_move_apply.specs.Placed.{ArePlacedMoves, IsPlaced, IsPlacedMove, IsPlacedSender, Leads, move_of, operand_of, sender_of};
+ghost use Rattle.cob_move_apply.specs.Placed.{ArePlacedMoves, IsPlaced, IsPlacedMove, IsPlacedSender, IsBasis, move_of, operand_of, sender_of};
 
-use crate::step::{PlacedOperand, PlacedSender, Step, Way};
+use crate::step::{Basis, PlacedOperand, PlacedSender, Step};
 use cob_layout::Layout;
 use cob_move_operands::{Move, Operand, Sender, Side};
 use std::alloc::{AllocError, Global};
 
-/// The way in which an operand's place is found: no count is needed, or all are taken, or those that it needs.
-fn way_of(layout: &Layout, operand: &Operand, receiving: bool) -> Way
+/// What an operand's place rests on.
+fn basis_of(layout: &Layout, operand: &Operand, receiving: bool) -> Basis
     requires operand { IsOperand layout.now operand.now }
-    ensures { Leads layout.now receiving operand.now result }
+    ensures { IsBasis layout.now receiving operand.now result }
 {
     if let Some(place) = layout.fixed_place(&operand.entry, receiving) {
-        return Way::Fixed(place);
+        return Basis::Fixed(place);
     }
     if layout.spares_none(&operand.entry, receiving) {
-        Way::ByCounts
+        Basis::AllCounts
     } else {
-        Way::ByNeeds
+        Basis::NeededCounts
     }
 }
 
-/// An operand, with the way in which its place is found.
+/// An operand, with what its place rests on.
 fn placed(layout: &Layout, operand: Operand, receiving: bool) -> PlacedOperand
     requires operand { IsOperand layout.now operand }
     ensures same { operand_of result ≡ operand }
     ensures placed { IsPlaced layout.now receiving result }
 {
-    let way = way_of(layout, &operand, receiving);
-    PlacedOperand { operand, way }
+    let basis = basis_of(layout, &operand, receiving);
+    PlacedOperand { operand, basis }
 }
 
-/// A sender, with the way in which its place is found.
+/// A sender, with what its place rests on.
 fn placed_sender(given: Sender, input: &Layout, output: &Layout) -> PlacedSender
     requires given { IsSender (record { input = input.now; output = output.now }) (sender given) }
     ensures same { sender_of result ≡ sender given }
@@ -56,7 +56,7 @@ fn placed_sender(given: Sender, input: &Layout, output: &Layout) -> PlacedSender
     }
 }
 
-/// Receivers, each with the way in which its place is found.
+/// Receivers, each with what its place rests on.
 ///
 /// # Errors
 ///
@@ -77,7 +77,7 @@ fn placed_receivers(
     Ok(all)
 }
 
-/// A move, with the ways in which the places of its operands are found.
+/// A move, with what the places of its operands rest on.
 ///
 /// # Errors
 ///
@@ -99,7 +99,7 @@ fn placed_move(
     Ok(Step { sender, receivers })
 }
 
-/// Moves, with the ways in which the places of their operands are found.
+/// Moves, with what the places of their operands rest on.
 ///
 /// # Errors
 ///

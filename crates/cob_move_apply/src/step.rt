@@ -1,25 +1,25 @@
-//! Moves with how the places of their operands are found.
+//! Moves with what the places of their operands rest on.
 
 use cob_copybook_entries::Value;
 use cob_layout::Place;
 use cob_move_operands::{Operand, Side};
 
-/// How the place of an operand is found.
+/// What the place of an operand rests on.
 #[derive(Clone, Copy, Debug)]
-pub(crate) enum Way {
-    /// It is the same in every storage.
+pub(crate) enum Basis {
+    /// On no count: it is the same in every storage.
     Fixed(Place),
-    /// Under all counts of the storage: it is spared none of them.
-    ByCounts,
-    /// Under the counts that it needs.
-    ByNeeds,
+    /// On all counts of the storage, of which the operand is spared none.
+    AllCounts,
+    /// On the counts that the operand needs.
+    NeededCounts,
 }
 
-/// An operand, with how its place is found.
+/// An operand, with what its place rests on.
 #[derive(Debug, Drop)]
 pub(crate) struct PlacedOperand {
     pub(crate) operand: Operand,
-    pub(crate) way: Way,
+    pub(crate) basis: Basis,
 }
 
 /// What is moved.
