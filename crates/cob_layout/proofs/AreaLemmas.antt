@@ -26,13 +26,13 @@ none_or None never = refl
 none_or (Some f) never = absurd (never f refl)
 
 -- an entry isn't found among others
-absent : (c : Resolved → ℕ) (r : ℕ) (f : Forest Resolved) (at area : ℕ) (subscripts : List ℕ) → (Has r f → ⊥) → find c r f at area subscripts ≡ None
+pub absent : (c : Resolved → ℕ) (r : ℕ) (f : Forest Resolved) (at area : ℕ) (subscripts : List ℕ) → (Has r f → ⊥) → find c r f at area subscripts ≡ None
 absent c r f at area subscripts never = none_or (find c r f at area subscripts) (λ p is. never (found_has c r f at area subscripts p is))
 
-is_same : (a b : ℕ) → a ≡ b → (a == b) ≡ true
+pub is_same : (a b : ℕ) → a ≡ b → (a == b) ≡ true
 is_same a b e = grind (arith, nat_tests)
 
-is_other : (a b : ℕ) → (a ≡ b → ⊥) → (a == b) ≡ false
+pub is_other : (a b : ℕ) → (a ≡ b → ⊥) → (a == b) ≡ false
 is_other a b h = by (a == b) refl
   where
     by : (t : Bool) → (a == b) ≡ t → t ≡ false

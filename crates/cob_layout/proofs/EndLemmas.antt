@@ -23,10 +23,10 @@ use Rattle.cob_layout.proofs.ReferenceLemmas.{found_there, refers_has}
 use Rattle.cob_layout.specs.Laws.{EndInLength}
 use Rattle.cob_layout.proofs.SteadyLemmas.{AreInAreasBy, areas_by}
 
-some_is : {A : Type 0} (a b : A) → Some a ≡ Some b → a ≡ b
+pub some_is : {A : Type 0} (a b : A) → Some a ≡ Some b → a ≡ b
 some_is a b e = cc
 
-pick : (b : Bool) (here : Found) (there : Bool) (fk fm : Option Found) (p : Found) → or_else (choose b here (also there fk)) fm ≡ Some p
+pub pick : (b : Bool) (here : Found) (there : Bool) (fk fm : Option Found) (p : Found) → or_else (choose b here (also there fk)) fm ≡ Some p
     → ((b ≡ true) × (here ≡ p)) ⊎ (((f : Found) × (b ≡ false) × (fk ≡ Some f) × (also there (Some f) ≡ Some p)) ⊎ ((b ≡ false) × (fk ≡ None) × (fm ≡ Some p)))
 pick true here there fk fm p e = inl (refl, some_is here p e)
 pick false here there None fm p e = inr (inr (refl, refl, e))
@@ -39,10 +39,10 @@ numbered r n (Grows e kids more) a (inl h) = (omega (arith, a.0, h), omega (arit
 numbered r n (Grows e kids more) a (inr (inl h)) = let k = numbered r (n + 1) kids a.1 h in (omega (arith, k.0), omega (arith, k.1))
 numbered r n (Grows e kids more) a (inr (inr h)) = let k = numbered r (n + 1 + entries_in kids) more a.2 h in (omega (arith, k.0), omega (arith, k.1))
 
-same : (a b : ℕ) → (a == b) ≡ true → a ≡ b
+pub same : (a b : ℕ) → (a == b) ≡ true → a ≡ b
 same a b e = grind (arith, nat_tests)
 
-differs : (a b : ℕ) → (a == b) ≡ false → a ≡ b → ⊥
+pub differs : (a b : ℕ) → (a == b) ≡ false → a ≡ b → ⊥
 differs a b h e = grind (arith, nat_tests)
 
 -- what is found is there
@@ -88,7 +88,7 @@ beneath c Group kids leaf = omega arith
 beneath c (ItemKind i) Bare leaf = omega arith
 beneath c (ItemKind i) (Grows e kids more) leaf = absurd leaf
 
-both : (a b : Bool) → (a && b) ≡ true → (a ≡ true) × (b ≡ true)
+pub both : (a b : Bool) → (a && b) ≡ true → (a ≡ true) × (b ≡ true)
 both true true e = (refl, refl)
 both true false e = cc
 both false b e = cc

@@ -11,3 +11,9 @@ pub mod ByteLemmas
 pub mod NeedLemmas
 pub mod StorageLemmas
 pub mod UnreadLemmas
+pub mod SpotLaw
+pub mod SpotMoves
+pub mod WayLaw
+pub mod ReadLaw
+pub mod KeepLaw
+pub mod StandingLemmas

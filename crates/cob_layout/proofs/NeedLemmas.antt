@@ -63,7 +63,7 @@ both_index c d i k v lt long agree = elim (same_or_not k i) [
 ]
 
 -- counts that are taken into others leave those of other tables
-untouched : (t : Tree Resolved) (bytes : List ℕ) (xs : List Table) (c d : List ℕ) (k : ℕ) → ((x : Table) → IsIn x xs → x.number ≡ k → ⊥) → Taken t bytes xs c (Ok d) → slice_index d k ≡ slice_index c k
+pub untouched : (t : Tree Resolved) (bytes : List ℕ) (xs : List Table) (c d : List ℕ) (k : ℕ) → ((x : Table) → IsIn x xs → x.number ≡ k → ⊥) → Taken t bytes xs c (Ok d) → slice_index d k ≡ slice_index c k
 untouched t bytes [] c d k other taken = ap (λ (e : List ℕ). slice_index e k) (same_ok d c taken)
 untouched t bytes (x ∷ xs) c d k other (inl taken) =
     untouched t bytes xs (slice_set c x.number taken.0) d k (λ y i. other y (inr i)) taken.2
@@ -71,7 +71,7 @@ untouched t bytes (x ∷ xs) c d k other (inl taken) =
 untouched t bytes (x ∷ xs) c d k other (inr taken) = absurd (no_fault d taken.0 taken.2)
 
 -- there are as many
-as_long : (t : Tree Resolved) (bytes : List ℕ) (xs : List Table) (c d : List ℕ) → Taken t bytes xs c (Ok d) → length d ≡ length c
+pub as_long : (t : Tree Resolved) (bytes : List ℕ) (xs : List Table) (c d : List ℕ) → Taken t bytes xs c (Ok d) → length d ≡ length c
 as_long t bytes [] c d taken = ap length (same_ok d c taken)
 as_long t bytes (x ∷ xs) c d (inl taken) = as_long t bytes xs (slice_set c x.number taken.0) d taken.2 ∙ length-set c x.number taken.0
 as_long t bytes (x ∷ xs) c d (inr taken) = absurd (no_fault d taken.0 taken.2)
@@ -219,12 +219,12 @@ item_bare n a b i (Grows e kids more) num l is (inr (inr h)) =
     ]
 
 -- what is known of the count of a table of a record
-record Known (t : Tree Resolved) (x : Table) : Type 0 where
-  has : Has x.count (alone t)
-  before : x.count < x.number
-  earlier : (y : ℕ) → Needs x.count y (alone t) → y ≤ x.count
+pub record Known (t : Tree Resolved) (x : Table) : Type 0 where
+  pub has : Has x.count (alone t)
+  pub before : x.count < x.number
+  pub earlier : (y : ℕ) → Needs x.count y (alone t) → y ≤ x.count
 
-known : (t : Tree Resolved) (x : Table) → IsSound t → IsIn x (tables_of (alone t)) → Known t x
+pub known : (t : Tree Resolved) (x : Table) → IsSound t → IsIn x (tables_of (alone t)) → Known t x
 known t x s i =
     let countable = of_all (IsCountable t) (tables_of (alone t)) x s.countable i in
     let ahead = of_all (IsAhead (alone t)) (tables_of (alone t)) x s.ahead i in
@@ -313,7 +313,7 @@ needs_below read t r x numbered has there needs =
     let is = (read t r false y numbered has there there).1 (needs, λ e spared. not_receiving e) in
     less_must x (reach true r (alone t)) (sym (and_true (nat_lt x (reach true r (alone t)))) ∙ is)
 
-table_has : (t : Tree Resolved) (x : Table) → AreNumbered 0 (alone t) → IsIn x (tables_of (alone t)) → Has x.number (alone t)
+pub table_has : (t : Tree Resolved) (x : Table) → AreNumbered 0 (alone t) → IsIn x (tables_of (alone t)) → Has x.number (alone t)
 table_has t x numbered i =
     let rise = rise_all (alone t) 0 (0 + entries_in (alone t)) numbered refl in
     has_number 0 x.number (alone t) numbered (omega arith) (rise_high 0 (0 + entries_in (alone t)) (tables_of (alone t)) x rise i)

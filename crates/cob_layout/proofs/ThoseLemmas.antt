@@ -73,7 +73,7 @@ two_ways false = inr refl
 keep_yes : (test : Table → Bool) (x : Table) (xs : List Table) → test x ≡ true → keep test (x ∷ xs) ≡ x ∷ keep test xs
 keep_yes test x xs e = rw e refl
 
-keep_no : (test : Table → Bool) (x : Table) (xs : List Table) → test x ≡ false → keep test (x ∷ xs) ≡ keep test xs
+pub keep_no : (test : Table → Bool) (x : Table) (xs : List Table) → test x ≡ false → keep test (x ∷ xs) ≡ keep test xs
 keep_no test x xs e = rw e refl
 
 not_both : (b : Bool) → b ≡ true → b ≡ false → ⊥

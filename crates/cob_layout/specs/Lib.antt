@@ -2,4 +2,5 @@ pub mod Placed
 pub mod Counting
 pub mod Storage
 pub mod Laws
+pub mod Ways
 pub mod Standing

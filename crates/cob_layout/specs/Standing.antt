@@ -1,16 +1,20 @@
 -- The counts of a record's tables, and where its entries stand under them.
-use Rattle.std.specs.Prelude.{◌≡◌, ℕ, ◌+◌, ◌≤◌, Bool, List, [], length, Ok}
+use Rattle.std.specs.Prelude.{◌≡◌, ◌⊎◌, ◌&&◌, nat_lt, ℕ, ◌+◌, ◌≤◌, Bool, true, false, List, [], ◌∷◌, length, Ok}
 use Rattle.cob_copybook_tree.specs.Forests.{Tree, entries_in}
 use Rattle.cob_copybook_tree.specs.Nodes.{Resolved}
 use Rattle.cob_fields.specs.declared.Place.{Place}
 use Rattle.cob_fields.specs.Fields.{with_field}
-use Rattle.cob_layout_places.specs.Lengths.{alone}
+use Rattle.cob_layout_places.specs.declared.spots.Spot.{Spot}
+use Rattle.cob_layout_places.specs.declared.varying.Table.{Table}
+use Rattle.cob_layout_places.specs.Lengths.{alone, times}
+use Rattle.cob_layout_places.specs.Spots.{spots_of}
 use Rattle.cob_layout_places.specs.Counts.{tables_of}
 use Rattle.cob_layout.specs.Counting.{AreThose, CountsOf, IsSparedOf}
 
--- how a record stands: the counts of its tables, by the numbers of its entries
+-- how a record stands: the counts of its tables and the spots of its entries, by the numbers of the entries
 pub record Standing : Type 0 where
   pub counts : List ℕ
+  pub spots : List Spot
 
 -- for how many entries there is room
 abbrev pub room_in : Standing → ℕ
@@ -22,7 +26,7 @@ IsRoomFor t s = room_in s ≡ entries_in (alone t)
 
 -- the record has these counts, and its entries stand where they do under them
 abbrev pub ArePlaces : Tree Resolved → List ℕ → Standing → Type 0
-ArePlaces t counts s = s.counts ≡ counts
+ArePlaces t counts s = (s.counts ≡ counts) × (s.spots ≡ spots_of (times counts) (alone t) 0 0)
 
 -- so it is under some counts
 abbrev pub Stands : Tree Resolved → Standing → Type 0
@@ -40,3 +44,16 @@ KeepsCounts t p s = (counts before field : List ℕ) → ArePlaces t counts s �
 -- a reference to an entry, which receives or not, is spared no count
 abbrev pub SparesNone : Tree Resolved → ℕ → Bool → Type 0
 SparesNone t r receiving = AreThose (IsSparedOf t r receiving) (tables_of (alone t)) []
+
+-- none of these tables
+abbrev pub are_none : List Table → Bool
+are_none [] = true
+are_none (x ∷ xs) = false
+
+-- a reference to entry r is spared the count of the table, where r receives and is the last one or not
+abbrev pub is_spared : (last : Bool) → (r : ℕ) → Table → Bool
+is_spared last r x = last && (nat_lt r x.number && nat_lt r x.count)
+
+-- the place meets no byte of the first element that stands there
+abbrev pub IsApart : Place → Spot → Type 0
+IsApart p s = (p.offset + p.length ≤ s.offset) ⊎ (s.offset + s.length ≤ p.offset)

@@ -16,13 +16,15 @@ ghost use Rattle.cob_layout.specs.Counting.{greatest_counts, AreGreatest, Counts
 use crate::copy::copied;
 use crate::counts::{Counts, greatest_in_order};
 use crate::laws::{fits_ref, places_end_in_length};
+use crate::spots::new_spots;
+use crate::ways::{Way, ways};
 use arrayvec::ArrayVec;
 use cob_copybook::Book;
 use cob_copybook_tree::Node;
 use cob_fields::Place;
 use cob_layout_places::{
-    CountFault, Found, Ref, Table, covering, element_of, needs_are_read, places_end_in_record,
-    refers, seek, tables, take_counts, take_needed, times_of,
+    CountFault, Found, Ref, Spot, Table, covering, element_of, needs_are_read,
+    places_end_in_record, refers, seek, tables, take_counts, take_needed, times_of,
 };
 use cob_sound::records_are_sound;
 use std::alloc::{AllocError, Global};
@@ -40,20 +42,25 @@ pub struct PlaceFault {
 /// Contracts see its tree, the record with the entries beneath it.
 #[derive(Debug, Drop)]
 pub struct Layout {
-    root: Node,
-    tables: Vec<Table>,
+    pub(crate) root: Node,
+    pub(crate) tables: Vec<Table>,
     counts: Counts,
     greatest: u16,
+    pub(crate) ways: Vec<Way>,
+    /// Where the entries stand under the greatest counts.
+    pub(crate) spots: Vec<Spot>,
 }
 
 impl Model for Layout {
-    ghost use Rattle.std.specs.Prelude.{◌≡◌};
+    ghost use Rattle.std.specs.Prelude.{◌≡◌, [], map};
     ghost use Rattle.cob_copybook_tree.specs.Forests.{Tree};
     ghost use Rattle.cob_copybook_tree.specs.Nodes.{Resolved, node};
     ghost use Rattle.cob_copybook_tree.specs.Lengths.{most, sum_of};
     ghost use Rattle.cob_copybook.specs.Books.{IsRecord};
-    ghost use Rattle.cob_layout_places.specs.Lengths.{alone};
+    ghost use Rattle.cob_layout_places.specs.Lengths.{alone, times};
     ghost use Rattle.cob_layout_places.specs.Counts.{tables_of};
+    ghost use Rattle.cob_layout_places.specs.Spots.{spots_of};
+    ghost use Rattle.cob_layout.specs.Ways.{held, held_in};
     ghost use Rattle.cob_sound.specs.Sound.{IsSound};
     ghost use Rattle.cob_layout.specs.Counting.{greatest_counts};
     ghost use Rattle.cob_copybook.specs.Bytes.{TakeBytes};
@@ -66,11 +73,11 @@ impl Model for Layout {
 
     ghost view = { λ l. node l.root };
 
-    ghost invariant = { λ l. IsRecord (alone (node l.root)) × IsSound (node l.root) × (l.tables.items ≡ tables_of (alone (node l.root))) × (l.counts ≡ greatest_counts (node l.root)) × (l.greatest ≡ sum_of most (alone (node l.root))) × TakeBytes (alone (node l.root)) };
+    ghost invariant = { λ l. IsRecord (alone (node l.root)) × IsSound (node l.root) × (l.tables.items ≡ tables_of (alone (node l.root))) × (l.counts ≡ greatest_counts (node l.root)) × (l.greatest ≡ sum_of most (alone (node l.root))) × TakeBytes (alone (node l.root)) × (map held l.ways.items ≡ held_in [] (alone (node l.root))) × (l.spots.items ≡ spots_of (times (greatest_counts (node l.root))) (alone (node l.root)) 0 0) };
 }
 
 /// The place of an element, or the fault where it isn't one of those that there are.
-fn placed(found: Found) -> Result<Place, PlaceFault>
+pub(crate) fn placed(found: Found) -> Result<Place, PlaceFault>
     ensures { result ≡ placed found }
 {
     if found.within {
@@ -100,11 +107,16 @@ impl Layout {
         let in_order = greatest_in_order(alloc, &root)?;
         let counts = Counts::of(alloc, &in_order)?;
         let greatest = book.greatest();
+        let entries = in_order.len();
+        let ways = ways(alloc, &root, entries)?;
+        let spots = new_spots(alloc, &root, &in_order)?;
         Ok(Layout {
             root,
             tables,
             counts,
             greatest,
+            ways,
+            spots,
         })
     }
 

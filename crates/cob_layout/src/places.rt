@@ -1,18 +1,27 @@
 //! The places of a record: the counts of its tables, and where its entries stand under them.
 
-ghost use Rattle.std.specs.Prelude.{◌≡◌, ◌<◌, ◌≤◌, ◌+◌, ℕ, List, Ok, Err, Some, OnOk, IfOk, IfErr, IfSome, IsTrue, option_map};
+ghost use Rattle.std.specs.Prelude.{◌≡◌, ◌<◌, ◌≤◌, ◌+◌, ℕ, List, Ok, Err, Some, OnOk, IfOk, IfErr, IfNone, IfSome, IsFalse, IsTrue, option_map};
 ghost use Rattle.cob_copybook_tree.specs.Lengths.{most, sum_of};
 ghost use Rattle.cob_layout_places.specs.Lengths.{alone, times};
 ghost use Rattle.cob_layout_places.specs.Places.{find};
+ghost use Rattle.cob_layout_places.specs.Needs.{Has};
 ghost use Rattle.cob_layout_places.specs.References.{Refers};
+ghost use Rattle.cob_layout_places.specs.Spots.{spots_of};
 ghost use Rattle.cob_layout.specs.Placed.{placed};
 ghost use Rattle.cob_layout.specs.Counting.{greatest_counts, CountsOf, ReadsNone};
 ghost use Rattle.cob_layout.specs.Standing.{ArePlaces, IsRoomFor, KeepsCounts, SparesNone, Stands, StandsIn};
 
 use crate::counts::Counts;
-use crate::layout::{Layout, PlaceFault};
+use crate::laws::places_end_in_length;
+use crate::layout::{Layout, PlaceFault, placed};
+use crate::reads::{meets_no_count, none_needed, none_spared};
+use crate::spots::{element_at, new_spots, put_all_spots, spot_at};
+use crate::ways::{end_of_table, is_last_receiver, tables_at};
 use cob_fields::Place;
-use cob_layout_places::{CountFault, Ref};
+use cob_layout_places::{
+    CountFault, Found, Ref, Spot, needs_are_read, one_place, places_end_in_record, same_counts,
+};
+use cob_sound::records_are_sound;
 use std::alloc::{AllocError, Global};
 use std::marker::Model;
 
@@ -20,17 +29,52 @@ use std::marker::Model;
 #[derive(Debug, Drop)]
 pub struct Places {
     counts: Counts,
+    spots: Vec<Spot>,
 }
 
 impl Model for Places {
+    ghost use Rattle.std.specs.Prelude.{◌≡◌, length};
     ghost use Rattle.cob_layout.specs.Standing.{Standing};
 
     ghost Value = { Standing };
 
-    ghost view = { λ p. record { counts = p.counts } };
+    ghost view = { λ p. record { counts = p.counts; spots = p.spots.items } };
+
+    ghost invariant = { λ p. length p.spots.items ≡ length p.counts };
 }
 
 impl Layout {
+    /// The element of a reference under the counts whose spots these are.
+    fn element(&self, r: &Ref, spots: &[Spot]) -> Found
+        requires refers { Refers r.now.node r.now.subscripts.items (alone self.now) }
+        requires spots { (counts : List ℕ)
+            × (spots.now ≡ spots_of (times counts) (alone self.now) 0 0) }
+        ensures { (counts : List ℕ) → spots.now ≡ spots_of (times counts) (alone self.now) 0 0
+            → find (times counts) r.now.node (alone self.now) 0 0 r.now.subscripts.items
+            ≡ Some result }
+    {
+        places_end_in_record();
+        let tables = tables_at(&self.ways, r.node);
+        element_at(spots, r.node, tables, r.subscripts.as_slice())
+    }
+
+    /// Whether a reference to an entry, which receives or not, reads no count.
+    fn reads_none(&self, number: usize, receiving: bool) -> bool
+        requires there { Has number (alone self.now) }
+        ensures must { IsTrue result → ReadsNone self.now number receiving }
+        ensures only { IsFalse result → ReadsNone self.now number receiving → ⊥ }
+    {
+        needs_are_read();
+        let behind = end_of_table(&self.ways, number);
+        match self.tables.first() {
+            Some(first) if first.number < behind => {
+                let last = is_last_receiver(&self.ways, number, receiving);
+                none_needed(&self.tables, behind, last, number)
+            }
+            _ => true,
+        }
+    }
+
     /// New places, under which each table has its greatest number of elements.
     ///
     /// # Errors
@@ -41,7 +85,8 @@ impl Layout {
         ensures room { IfOk result (λ p. IsRoomFor self.now p) }
     {
         let counts = self.new_counts(alloc)?;
-        Ok(Places { counts })
+        let spots = new_spots(alloc, &self.root, counts.as_slice())?;
+        Ok(Places { counts, spots })
     }
 
     /// Takes the counts of all tables that vary from a record's bytes, and the places of its entries under them. It takes no memory.
@@ -55,7 +100,9 @@ impl Layout {
         ensures err { IfErr result (λ e. CountsOf self.now bytes.now (Err e)) }
         ensures room { IsRoomFor self.now places.new }
     {
-        self.counts_of(bytes, &mut places.counts)
+        self.counts_of(bytes, &mut places.counts)?;
+        put_all_spots(&self.root, places.counts.as_slice(), &mut places.spots);
+        Ok(())
     }
 
     /// Where a reference stands under the counts of these places, in a time that doesn't grow with the record.
@@ -74,7 +121,9 @@ impl Layout {
             → p.offset + p.length ≤ sum_of (times counts) (alone self.now)) }
         ensures fits { IfOk result (λ p. p.offset + p.length ≤ sum_of most (alone self.now)) }
     {
-        self.place(r, &places.counts)
+        places_end_in_length();
+        let _ = self.greatest();
+        placed(self.element(r, &places.spots))
     }
 
     /// The record's length in bytes under the counts of these places.
@@ -85,7 +134,10 @@ impl Layout {
         ensures least { 0 < result }
         ensures most { result ≤ sum_of most (alone self.now) }
     {
-        self.length(&places.counts)
+        records_are_sound();
+        let _ = self.greatest();
+        let record = spot_at(&places.spots, 0);
+        (record.times * record.length) as u16
     }
 
     /// The place of a reference that needs no count, so that it is the same in every storage; None where it needs one.
@@ -95,16 +147,26 @@ impl Layout {
         ensures value { IfSome result (λ p. option_map placed (find (times (greatest_counts
             self.now)) r.now.node (alone self.now) 0 0 r.now.subscripts.items) ≡ Some (Ok p)) }
         ensures fits { IfSome result (λ p. p.offset + p.length ≤ sum_of most (alone self.now)) }
+        ensures none { IfNone result (ReadsNone self.now r.now.node receiving → ⊥) }
     {
-        None
+        places_end_in_length();
+        if !self.reads_none(r.node, receiving) {
+            return None;
+        }
+        match placed(self.element(r, &self.spots)) {
+            Ok(place) => Some(place),
+            Err(_) => None,
+        }
     }
 
     /// Whether a reference is spared no count: then it stands where it does under all counts of a storage.
     pub fn spares_none(&self, r: &Ref, receiving: bool) -> bool
         requires refers { Refers r.now.node r.now.subscripts.items (alone self.now) }
         ensures must { IsTrue result → SparesNone self.now r.now.node receiving }
+        ensures only { IsFalse result → SparesNone self.now r.now.node receiving → ⊥ }
     {
-        false
+        let last = is_last_receiver(&self.ways, r.node, receiving);
+        none_spared(&self.tables, last, r.node)
     }
 
     /// Whether the counts of a storage stay as they are where the bytes of this place alone change: the place meets the item of no count.
@@ -112,6 +174,8 @@ impl Layout {
         requires room { IsRoomFor self.now places.now }
         ensures keeps { IsTrue result → KeepsCounts self.now place places.now }
     {
-        false
+        one_place();
+        same_counts();
+        meets_no_count(&self.tables, &places.spots, place)
     }
 }

@@ -120,7 +120,7 @@ same_some a b o e f = let g : Some a ≡ Some b = sym e ∙ f in cc
 same_item : (a b : Item) (o : Option Kind) → o ≡ Some (ItemKind a) → o ≡ Some (ItemKind b) → a ≡ b
 same_item a b o e f = let g : Some (ItemKind a) ≡ Some (ItemKind b) = sym e ∙ f in cc
 
-one_counted : (t : Tree Resolved) (bytes : List ℕ) (x : Table) (c : List ℕ) (r s : Result ℕ CountFault) → IsCounted t bytes x c r → IsCounted t bytes x c s → r ≡ s
+pub one_counted : (t : Tree Resolved) (bytes : List ℕ) (x : Table) (c : List ℕ) (r s : Result ℕ CountFault) → IsCounted t bytes x c r → IsCounted t bytes x c s → r ≡ s
 one_counted t bytes x c r s a b =
     let i : a.item ≡ b.item = same_item a.item b.item (kind_one x.count t) a.is b.is in
     let f : a.found ≡ b.found = same_some a.found b.found (find_one (times c) x.count t 0 []) a.stands b.stands in

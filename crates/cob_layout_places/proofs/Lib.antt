@@ -8,3 +8,4 @@ pub mod NeedLaw
 pub mod NeedLemmas
 pub mod AgreeLaw
 pub mod PlaceLaw
+pub mod SpotLemmas

@@ -264,16 +264,16 @@ not_must false e = refl
 not_must true e = absurd (cc)
 
 -- the test of what is spared
-abbrev Passes : Tree Resolved → ℕ → Bool → Table → Bool
+abbrev pub Passes : Tree Resolved → ℕ → Bool → Table → Bool
 Passes t r receiving x = (receiving && (reach false r (alone t) == 1 + entries_in t.beneath)) && (nat_lt r x.number && nat_lt r x.count)
 
-spared_passes : (t : Tree Resolved) (r : ℕ) (receiving : Bool) (x : Table) → AreNumbered 0 (alone t) → Has r (alone t) → receiving ≡ true → IsSpared r x (alone t) → Passes t r receiving x ≡ true
+pub spared_passes : (t : Tree Resolved) (r : ℕ) (receiving : Bool) (x : Table) → AreNumbered 0 (alone t) → Has r (alone t) → receiving ≡ true → IsSpared r x (alone t) → Passes t r receiving x ≡ true
 spared_passes t r receiving x h a v s =
     let e = holds_last r (alone t) h a s.last in
     and_both _ _ (and_both _ _ v (is_same _ _ (omega (arith, e))))
     (and_both _ _ (lt_yes r x.number (holds_behind 0 r x.number (alone t) h s.table)) (lt_yes r x.count (holds_behind 0 r x.count (alone t) h s.count)))
 
-passes_spared : (t : Tree Resolved) (r : ℕ) (receiving : Bool) (x : Table) → AreNumbered 0 (alone t) → Has r (alone t) → Has x.number (alone t) → Has x.count (alone t)
+pub passes_spared : (t : Tree Resolved) (r : ℕ) (receiving : Bool) (x : Table) → AreNumbered 0 (alone t) → Has r (alone t) → Has x.number (alone t) → Has x.count (alone t)
     → Passes t r receiving x ≡ true → (receiving ≡ true) × IsSpared r x (alone t)
 passes_spared t r receiving x h a b d p =
     let front = and_first _ _ p in

@@ -5,3 +5,4 @@ pub mod Counts
 pub mod Needs
 pub mod Agree
 pub mod References
+pub mod Spots

@@ -28,6 +28,7 @@ mod lengths;
 mod needs;
 mod places;
 mod reference;
+mod spots;
 mod varying;
 
 pub use counts::{CountFault, take_counts};
@@ -35,7 +36,8 @@ pub use laws::{
     covering, needs_are_read, one_outcome, one_place, places_end_in_record, same_counts,
 };
 pub use lengths::{element_of, times_of};
-pub use needs::{is_table, take_needed};
+pub use needs::{is_needed, is_table, take_needed};
 pub use places::{Found, seek};
 pub use reference::{Ref, refers};
+pub use spots::{Spot, put_spots};
 pub use varying::{Table, tables};

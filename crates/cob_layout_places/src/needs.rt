@@ -55,7 +55,7 @@ fn is_last_receiver(root: &Node, end: usize, number: usize, receiving: bool) -> 
 }
 
 /// Whether a table's count is needed below this number, for the last entry of a record that receives or not.
-fn is_needed(behind: usize, last: bool, number: usize, table: Table) -> bool
+pub fn is_needed(behind: usize, last: bool, number: usize, table: Table) -> bool
     ensures { result ≡ is_needed behind last number table }
 {
     let spared = last && number < table.number && number < table.count;

@@ -48,7 +48,7 @@ fn also_there(there: bool, found: Found) -> Found
 }
 
 /// Where an entry begins: a redefinition where its area does.
-fn begins_at(redefines: &Option<Name>, at: u32, area: u32) -> u32
+pub(crate) fn begins_at(redefines: &Option<Name>, at: u32, area: u32) -> u32
     ensures { result ≡ begins redefines.now at area }
 {
     match redefines {
@@ -58,7 +58,7 @@ fn begins_at(redefines: &Option<Name>, at: u32, area: u32) -> u32
 }
 
 /// The room of an entry of this length: a redefinition takes none of its own.
-fn room_of(redefines: &Option<Name>, length: u32) -> u32
+pub(crate) fn room_of(redefines: &Option<Name>, length: u32) -> u32
     ensures { result ≡ room redefines.now length }
 {
     match redefines {
@@ -83,7 +83,7 @@ fn behind_skipped(entry: &Node, counts: &[u32], start: u32, skipped: u32) -> u32
 }
 
 /// The length of one element of an entry of this kind, where those beneath it have this length.
-fn element_by(kind: &Kind, sum: u32) -> u32
+pub(crate) fn element_by(kind: &Kind, sum: u32) -> u32
     ensures { result ≡ one kind.now sum }
 {
     match kind {

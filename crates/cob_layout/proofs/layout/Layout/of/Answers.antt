@@ -1,9 +1,10 @@
-use Rattle.std.proofs.Common.{◌≡◌, sym, ap, subst, ◌∙◌}
+use Rattle.std.proofs.Common.{◌≡◌, ℕ, List, length, sym, ap, subst, ◌∙◌, arith}
 use Rattle.cob_copybook_tree.specs.Nodes.{node}
 use Rattle.cob_copybook_tree.specs.Lengths.{most, sum_of}
 use Rattle.cob_copybook.specs.Books.{IsRecord}
-use Rattle.cob_layout_places.specs.Lengths.{alone}
-use Rattle.cob_layout.proofs.GreatestLemmas.{greatest_is}
+use Rattle.cob_layout_places.specs.Lengths.{alone, times}
+use Rattle.cob_layout_places.specs.Spots.{spots_of}
+use Rattle.cob_layout.proofs.GreatestLemmas.{greatest_is, length_in_order}
 use Rattle.cob_layout.proofs.layout.Layout.of.Goals as goal
 
 pub invariant_of-result : goal.invariant_of-result
@@ -13,4 +14,14 @@ invariant_of-result c =
     let is : IsRecord (alone t) = subst IsRecord (sym same) c.root.ensures.record in
     let sound = c.records_are_sound.ensures t is in
     let counts = c.in_ok-counts.ensures ∙ c.deref.ensures.value ∙ c.in_ok-in_order.ensures ∙ sym (greatest_is t sound.numbered) in
-    (is, sound, c.in_ok-tables.ensures, counts, c.greatest-greatest.ensures.value ∙ ap (sum_of most) (sym same), c.in_ok-root.ensures.bytes)
+    (is, sound, c.in_ok-tables.ensures, counts, c.greatest-greatest.ensures.value ∙ ap (sum_of most) (sym same), c.in_ok-root.ensures.bytes, c.in_ok-ways.ensures, c.in_ok-spots.ensures ∙ ap (λ (cs : List ℕ). spots_of (times cs) (alone t) 0 0) (c.deref-2.ensures.value ∙ c.in_ok-in_order.ensures ∙ sym (greatest_is t sound.numbered)))
+
+pub ways-requires-clause-end : goal.ways-requires-clause-end
+ways-requires-clause-end c =
+    let t = node c.in_ok-root.root in
+    omega (arith, c.len-entries.ensures, c.deref.ensures.len, ap length (c.deref.ensures.value ∙ c.in_ok-in_order.ensures), length_in_order (alone t))
+
+pub new_spots-requires-clause-room : goal.new_spots-requires-clause-room
+new_spots-requires-clause-room c =
+    let t = node c.in_ok-root.root in
+    ap length (c.deref-2.ensures.value ∙ c.in_ok-in_order.ensures) ∙ length_in_order (alone t)

@@ -1,0 +1,59 @@
+-- Elements that subscripts move, and the spots of a record by itself.
+use Rattle.std.proofs.Common.{◌≡◌, ℕ, ◌+◌, ◌-◌, ◌*◌, ◌<◌, ◌≤◌, ◌&&◌, nat_le, List, [], ◌∷◌, length, get_or, drop, Option, Some, None, refl, ap, ◌∙◌, arith, append-nil}
+use Rattle.std.proofs.lemmas.List.{drop_more, drop_all}
+use Rattle.cob_copybook_tree.specs.Forests.{Tree}
+use Rattle.cob_copybook_tree.specs.Nodes.{Resolved}
+use Rattle.cob_copybook_tree.specs.Lengths.{element}
+use Rattle.cob_layout_places.specs.declared.places.Found.{Found}
+use Rattle.cob_layout_places.specs.declared.spots.Spot.{Spot}
+use Rattle.cob_layout_places.specs.Lengths.{alone}
+use Rattle.cob_layout_places.specs.Places.{begins}
+use Rattle.cob_layout_places.specs.Spots.{spots_of, spots_one}
+use Rattle.cob_layout.specs.Ways.{moved, spot_at}
+
+begins_first : (o : Option (List ℕ)) → begins o 0 0 ≡ 0
+begins_first None = refl
+begins_first (Some name) = refl
+
+-- the spots of a record are those of the entry that it is
+pub spots_alone : (c : Resolved → ℕ) (t : Tree Resolved) → spots_of c (alone t) 0 0 ≡ spots_one c t 0
+spots_alone c t =
+    ap (λ (zs : List Spot). record { offset = begins t.top.redefines 0 0; length = element c t.top t.beneath; times = c t.top } ∷ zs)
+    (append-nil (spots_of c t.beneath (begins t.top.redefines 0 0) (begins t.top.redefines 0 0)))
+    ∙ ap (λ (n : ℕ). spots_one c t n) (begins_first t.top.redefines)
+
+-- subscripts move no element back
+pub no_less : (spots : List Spot) (ts subscripts : List ℕ) (f : Found) → f.offset ≤ (moved spots ts subscripts f).offset
+no_less spots [] subscripts f = omega arith
+no_less spots (t ∷ ts) [] f = omega arith
+no_less spots (t ∷ ts) (s ∷ subscripts) f =
+    let table = spot_at spots t in
+    omega (arith, no_less spots ts subscripts (record { offset = f.offset + (s - 1) * table.length; length = f.length; within = f.within && nat_le s table.times }))
+
+-- the next table and its subscript
+pub next_moved : (spots : List Spot) (tables : List ℕ) (k d : ℕ) (s : ℕ) (subscripts : List ℕ) (f : Found) → k < length tables
+    → moved spots (drop k tables) (s ∷ subscripts) f
+    ≡ moved spots (drop (k + 1) tables) subscripts (record { offset = f.offset + (s - 1) * (spot_at spots (get_or tables k d)).length; length = f.length; within = f.within && nat_le s (spot_at spots (get_or tables k d)).times })
+next_moved spots tables k d s subscripts f lt = ap (λ (ts : List ℕ). moved spots ts (s ∷ subscripts) f) (drop_more tables k d lt)
+
+none_moved : (spots : List Spot) (ts : List ℕ) (f : Found) → moved spots ts [] f ≡ f
+none_moved spots [] f = refl
+none_moved spots (t ∷ ts) f = refl
+
+-- no subscript is left
+pub end_moved : (spots : List Spot) (ts subscripts : List ℕ) (f : Found) → length subscripts ≡ 0 → moved spots ts subscripts f ≡ f
+end_moved spots ts [] f none = none_moved spots ts f
+end_moved spots ts (s ∷ subscripts) f none = absurd (omega (arith, none))
+
+-- the next subscript moves no further than all
+pub next_fits : (spots : List Spot) (tables : List ℕ) (k d s : ℕ) (rest subscripts : List ℕ) (f : Found) (m : ℕ) → k < length tables → rest ≡ s ∷ subscripts → (moved spots (drop k tables) rest f).offset ≤ m
+    → f.offset + (s - 1) * (spot_at spots (get_or tables k d)).length ≤ m
+next_fits spots tables k d s rest subscripts f m lt is le =
+    let table = spot_at spots (get_or tables k d) in
+    let on : moved spots (drop k tables) rest f ≡ moved spots (drop (k + 1) tables) subscripts (record { offset = f.offset + (s - 1) * table.length; length = f.length; within = f.within && nat_le s table.times })
+    = ap (λ (ss : List ℕ). moved spots (drop k tables) ss f) is ∙ next_moved spots tables k d s subscripts f lt in
+    omega (arith, ap (λ (g : Found). g.offset) on, le, no_less spots (drop (k + 1) tables) subscripts (record { offset = f.offset + (s - 1) * table.length; length = f.length; within = f.within && nat_le s table.times }))
+
+-- and no table
+pub last_moved : (spots : List Spot) (tables : List ℕ) (k : ℕ) (subscripts : List ℕ) (f : Found) → length tables ≤ k → moved spots (drop k tables) subscripts f ≡ f
+last_moved spots tables k subscripts f le = ap (λ (ts : List ℕ). moved spots ts subscripts f) (drop_all k tables le)

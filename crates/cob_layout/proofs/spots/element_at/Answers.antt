@@ -1,0 +1,14 @@
+use Rattle.std.proofs.Common.{drop, sym, ap, ◌∙◌, arith}
+use Rattle.cob_layout_places.specs.declared.places.Found.{Found}
+use Rattle.cob_layout.proofs.SpotMoves.{end_moved, next_fits}
+use Rattle.cob_layout.proofs.spots.element_at.Goals as goal
+
+pub returns-in_default : goal.returns-in_default
+returns-in_default c = sym (end_moved c.args.spots.now (drop c.loop-table.table-index c.args.tables.now) c.loop-table.rest.now c.loop-table.found c.in_default.ensures.cases) ∙ c.loop-table.invariant.same
+
+pub moved_by-found-requires : goal.moved_by-found-requires
+moved_by-found-requires c =
+    let all = ap (λ (g : Found). g.offset) c.loop-table.invariant.same in
+    let fits = next_fits c.args.spots.now c.args.tables.now c.loop-table.table-index 0 c.in-Some.subscript.now c.loop-table.rest.now c.in-Some.later.now c.loop-table.found 32752 c.loop-table-test.true c.in-Some.ensures.cases.0
+    (omega (arith, all, c.requires.room)) in
+    record { room = rw c.spot_at.ensures fits }

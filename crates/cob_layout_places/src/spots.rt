@@ -1,0 +1,49 @@
+//! Where the first elements of all entries stand, found in one walk.
+
+ghost use Rattle.std.specs.Prelude.{◌≡◌, ◌++◌, ◌+◌, ◌≤◌, drop, length};
+ghost use Rattle.cob_copybook_tree.specs.Forests.{entries_in};
+ghost use Rattle.cob_copybook_tree.specs.Lengths.{sum_of};
+ghost use Rattle.cob_copybook_tree.specs.Nodes.{forest, node};
+ghost use Rattle.cob_layout_places.specs.Lengths.{alone, times, IsFit};
+ghost use Rattle.cob_layout_places.specs.Spots.{spots_of, spots_one};
+
+use crate::lengths::times_of;
+use crate::places::{begins_at, element_by, room_of};
+use cob_copybook_tree::Node;
+
+/// Where an entry stands: its first element, and how often it occurs.
+#[derive(Clone, Copy, Debug, PartialEq, Eq)]
+pub struct Spot {
+    /// The bytes of the record in front of it.
+    pub offset: u32,
+    /// The bytes of one element.
+    pub length: u32,
+    /// How many elements there are.
+    pub times: u32,
+}
+
+/// Writes the spots of an entry that begins at `start` and of those beneath it, in their order; the answer is how many these are.
+pub fn put_spots(entry: &Node, counts: &[u32], start: u32, spots: &mut [Spot]) -> usize
+    requires fit { IsFit start (node entry.now) }
+    requires room { 1 + entries_in (node entry.now).beneath ≤ length spots.old }
+    ensures count { result ≡ 1 + entries_in (node entry.now).beneath }
+    ensures spots { spots.new ≡ spots_one (times counts.now) (node entry.now) start
+        ++ drop result spots.old }
+{
+    let mut next = 1;
+    let mut at = start;
+    let mut area = start;
+    for child in entry.children.iter() {
+        let begin = begins_at(&child.redefines, at, area);
+        let count = put_spots(child, counts, begin, &mut spots[next..]);
+        at += room_of(&child.redefines, spots[next].times * spots[next].length);
+        area = begin;
+        next += count;
+    }
+    spots[0] = Spot {
+        offset: start,
+        length: element_by(&entry.kind, at - start),
+        times: times_of(entry, counts),
+    };
+    next
+}
