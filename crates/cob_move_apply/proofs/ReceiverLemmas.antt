@@ -1,6 +1,7 @@
 -- Receivers, one after another.
 use Rattle.std.proofs.Common.{◌≡◌, ℕ, ◌+◌, ◌-◌, ◌<◌, ◌≤◌, Bool, true, false, List, ◌++◌, length, get_or, take, drop, refl, sym, ap, subst, ◌∙◌, arith, inl, inr, Ok, Err}
 use Rattle.std.proofs.lemmas.List.{drop_all, length-take, length-drop}
+use Rattle.std.proofs.Math.Seq.{take-append_seam}
 use borrow.Rule.Slice.PartMut.{put_mid}
 use Rattle.cob_copybook_tree.specs.declared.node.Kind.{Kind}
 use Rattle.cob_copybook_tree.specs.Forests.{Tree}
@@ -69,6 +70,10 @@ pub complete : (k : Kind) (p : Place) (storage bytes : List ℕ) → Occupies k 
 complete k p storage bytes filled within is =
     let long : length bytes ≡ p.length = ap length is ∙ omega (arith, within, length-take p.length (drop p.offset storage), length-drop p.offset storage) in
     subst (λ (n : ℕ). Occupies k n) (sym long) filled
+
+-- what was written to the front of a room is there
+pub front_is : (n : ℕ) (written rest : List ℕ) → n ≡ length written → take n (written ++ rest) ≡ written
+front_is n written rest size = ap (λ k. take k (written ++ rest)) size ∙ take-append_seam written rest
 
 -- the sender's place is missing
 pub stops_first : (r : Records) (side : Side) (o : Operand) (os : List Operand) (input before : List ℕ) (stop : Stop)

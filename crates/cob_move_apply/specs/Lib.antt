@@ -3,3 +3,4 @@ pub mod Applied
 pub mod Room
 pub mod Placed
 pub mod Prepared
+pub mod Surveyed

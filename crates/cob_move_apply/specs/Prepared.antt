@@ -8,7 +8,7 @@ use Rattle.cob_move_apply.specs.Placed.{ArePlacedMoves, move_of}
 abbrev pub moves_of : Moves → List Move
 moves_of m = map move_of m.steps.items
 
--- they are moves between these records, and the places that they keep are the same in every storage of these
+-- they are moves between these records, and their operands are placed in these
 abbrev pub ArePrepared : Records → Moves → Type 0
 ArePrepared r m = ArePlacedMoves r m.steps.items
 

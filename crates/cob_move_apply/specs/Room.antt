@@ -5,12 +5,20 @@ use Rattle.cob_layout_places.specs.Lengths.{alone}
 use Rattle.cob_layout.specs.Storage.{greatest_length}
 use Rattle.cob_move_operands.specs.Moves.{Records}
 
--- so many counts of either record, and so many bytes of a sender
+-- so many counts and so many places of either record, and so many bytes of a sender
 pub record Room : Type 0 where
   pub inputs : ℕ
+  pub input_places : ℕ
   pub outputs : ℕ
+  pub output_places : ℕ
   pub content : ℕ
 
--- the room for moves between two records: a count for each entry of either, and the bytes of the output record
+-- The room for moves between two records: a count for each entry of either, the places of either, and the bytes of the output record.
 abbrev pub room_of : Records → Room
-room_of r = record { inputs = entries_in (alone r.input); outputs = entries_in (alone r.output); content = greatest_length r.output }
+room_of r = record {
+  inputs = entries_in (alone r.input);
+  input_places = entries_in (alone r.input);
+  outputs = entries_in (alone r.output);
+  output_places = entries_in (alone r.output);
+  content = greatest_length r.output;
+}

@@ -11,6 +11,9 @@
 //!   missing stops the moves, and the storage is as the receivers before it left it: a count that an operand needs (`Count`), an element past
 //!   its table's count (`Subscript`), or a value where the receiver asks for one (`NoValue`). Moves end in one way ([`one_ending`]).
 //!
+//! A place that depends on counts is found by all counts of the storage, where the operand is spared none of them and all are valid: they are
+//! taken once, and again only behind a receiver whose place meets the item of a count. Else it is found by those that the operand needs.
+//!
 //! It stands on cob_move_operands for moves as data, on cob_layout for places and counts, on cob_move_receive for what one receiver gets, and
 //! on cob_sound for what holds of every record. [`Moves::apply`] takes no memory: its room is a [`Scratch`].
 #![tactic(auto)]
@@ -25,6 +28,8 @@ mod scratch;
 mod senders;
 mod step;
 mod stop;
+mod survey;
+mod workspace;
 
 pub use laws::one_ending;
 pub use moves::Moves;

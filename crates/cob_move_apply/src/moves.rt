@@ -11,6 +11,7 @@ use crate::preparation::placed_moves;
 use crate::scratch::Scratch;
 use crate::step::Step;
 use crate::stop::Stop;
+use crate::workspace::Layouts;
 use cob_layout::Layout;
 use cob_move_operands::Move;
 use cob_sound::records_are_sound;
@@ -98,15 +99,16 @@ impl Moves {
         records_are_sound();
         let _ = input_layout.greatest();
         let _ = output_layout.greatest();
+        let layouts = Layouts {
+            input: input_layout,
+            output: output_layout,
+        };
         apply_in(
             self.steps.as_slice(),
-            input_layout,
-            output_layout,
+            &layouts,
             input,
             output,
-            scratch.content.as_mut_slice(),
-            &mut scratch.in_counts,
-            &mut scratch.out_counts,
+            &mut scratch.space,
         )
     }
 }

@@ -5,77 +5,134 @@ ghost use Rattle.cob_copybook_tree.specs.Forests.{entries_in};
 ghost use Rattle.cob_layout_places.specs.Lengths.{alone};
 ghost use Rattle.cob_sound.specs.Sound.{IsSound};
 ghost use Rattle.cob_layout.specs.Storage.{greatest_length};
+ghost use Rattle.cob_layout.specs.Standing.{SparesNone, StandsIn};
 ghost use Rattle.cob_move_operands.specs.Moves.{IsOperand};
 ghost use Rattle.cob_move_receive.specs.Sent.{Occupies};
-ghost use Rattle.cob_move_apply.specs.Located.{Located};
+ghost use Rattle.cob_move_apply.specs.Located.{Located, stop_at};
 ghost use Rattle.cob_move_apply.specs.Placed.{IsPlaced};
+ghost use Rattle.cob_move_apply.specs.declared.stop.StopCause.TheVariants.{Subscript};
+ghost use Rattle.cob_move_apply.specs.Surveyed.{IsSurvey};
 
-use crate::step::PlacedOperand;
+use crate::step::{Basis, PlacedOperand};
 use crate::stop::{Stop, StopCause};
-use cob_layout::{Counts, Layout, Place};
+use crate::survey::Survey;
+use cob_layout::{Counts, Layout, Place, PlaceFault, Places, all_give_needed};
 use cob_move_operands::{Operand, Side};
 
-/// Where an operand stands in a record's storage, sending or receiving, by the counts there.
+/// The storage of the record of one side.
+#[derive(Clone, Copy)]
+pub(crate) struct Stored<'a> {
+    pub(crate) side: Side,
+    pub(crate) layout: &'a Layout,
+    pub(crate) bytes: &'a [u8],
+}
+
+/// The stop at an element past its table's count.
+fn past_count(side: Side, fault: PlaceFault) -> Stop
+    ensures { result ≡ stop_at side fault.offset Subscript }
+{
+    Stop {
+        side,
+        offset: fault.offset,
+        cause: StopCause::Subscript,
+    }
+}
+
+/// Where an operand stands in a storage, sending or receiving, by the counts there that it needs.
 ///
 /// # Errors
 ///
 /// The first count that it needs and that isn't valid; a subscript past its table's count.
-fn find_place(
-    layout: &Layout,
-    side: Side,
+fn place_by_needs(
+    stored: &Stored<'_>,
     operand: &Operand,
     receiving: bool,
-    bytes: &[u8],
     counts: &mut Counts,
 ) -> Result<Place, Stop>
-    requires sound { IsSound layout.now }
-    requires operand { IsOperand layout.now operand.now }
-    requires room { length counts.old ≡ entries_in (alone layout.now) }
-    ensures located { Located side layout.now receiving operand.now bytes.now result }
-    ensures fits { IfOk result (λ p. p.offset + p.length ≤ greatest_length layout.now) }
+    requires sound { IsSound stored.now.layout.now }
+    requires operand { IsOperand stored.now.layout.now operand.now }
+    requires room { length counts.old ≡ entries_in (alone stored.now.layout.now) }
+    ensures located { Located stored.now.side stored.now.layout.now receiving operand.now
+        stored.now.bytes.now result }
+    ensures fits { IfOk result
+        (λ p. p.offset + p.length ≤ greatest_length stored.now.layout.now) }
     ensures filled { IfOk result (λ p. Occupies operand.now.kind p.length) }
     ensures room { length counts.new ≡ length counts.old }
 {
-    if let Err(fault) = layout.needed(&operand.entry, receiving, bytes, counts) {
+    let layout = stored.layout;
+    if let Err(fault) = layout.needed(&operand.entry, receiving, stored.bytes, counts) {
         return Err(Stop {
-            side,
+            side: stored.side,
             offset: fault.offset,
             cause: StopCause::Count,
         });
     }
     match layout.place(&operand.entry, counts) {
         Ok(place) => Ok(place),
-        Err(fault) => Err(Stop {
-            side,
-            offset: fault.offset,
-            cause: StopCause::Subscript,
-        }),
+        Err(fault) => Err(past_count(stored.side, fault)),
     }
 }
 
-/// Where an operand stands in a record's storage, sending or receiving.
+/// Where an operand stands in a storage whose counts are all valid, under these: it is spared none of them.
+///
+/// # Errors
+///
+/// A subscript past its table's count.
+fn place_by_counts(
+    stored: &Stored<'_>,
+    operand: &Operand,
+    receiving: bool,
+    places: &Places,
+) -> Result<Place, Stop>
+    requires sound { IsSound stored.now.layout.now }
+    requires operand { IsOperand stored.now.layout.now operand.now }
+    requires spared { SparesNone stored.now.layout.now operand.now.entry.node receiving }
+    requires taken { StandsIn stored.now.layout.now stored.now.bytes.now places.now }
+    ensures located { Located stored.now.side stored.now.layout.now receiving operand.now
+        stored.now.bytes.now result }
+    ensures fits { IfOk result
+        (λ p. p.offset + p.length ≤ greatest_length stored.now.layout.now) }
+    ensures filled { IfOk result (λ p. Occupies operand.now.kind p.length) }
+{
+    let _ = stored.layout.greatest();
+    all_give_needed();
+    match stored.layout.place_in(&operand.entry, places) {
+        Ok(place) => Ok(place),
+        Err(fault) => Err(past_count(stored.side, fault)),
+    }
+}
+
+/// Where an operand stands in a storage, sending or receiving.
 ///
 /// # Errors
 ///
 /// The first count that it needs and that isn't valid; a subscript past its table's count.
 pub(crate) fn locate(
-    layout: &Layout,
-    side: Side,
+    stored: &Stored<'_>,
     placed: &PlacedOperand,
     receiving: bool,
-    bytes: &[u8],
-    counts: &mut Counts,
+    survey: &mut Survey,
 ) -> Result<Place, Stop>
-    requires sound { IsSound layout.now }
-    requires placed { IsPlaced layout.now receiving placed.now }
-    requires room { length counts.old ≡ entries_in (alone layout.now) }
-    ensures located { Located side layout.now receiving placed.now.operand bytes.now result }
-    ensures fits { IfOk result (λ p. p.offset + p.length ≤ greatest_length layout.now) }
+    requires sound { IsSound stored.now.layout.now }
+    requires placed { IsPlaced stored.now.layout.now receiving placed.now }
+    requires survey { IsSurvey stored.now.layout.now stored.now.bytes.now survey.old }
+    ensures located { Located stored.now.side stored.now.layout.now receiving placed.now.operand
+        stored.now.bytes.now result }
+    ensures fits { IfOk result
+        (λ p. p.offset + p.length ≤ greatest_length stored.now.layout.now) }
     ensures filled { IfOk result (λ p. Occupies placed.now.operand.kind p.length) }
-    ensures room { length counts.new ≡ length counts.old }
+    ensures survey { IsSurvey stored.now.layout.now stored.now.bytes.now survey.new }
 {
-    match placed.place {
-        Some(place) => Ok(place),
-        None => find_place(layout, side, &placed.operand, receiving, bytes, counts),
+    let operand = &placed.operand;
+    match placed.basis {
+        Basis::Fixed(place) => Ok(place),
+        Basis::AllCounts => {
+            if survey.take(stored.layout, stored.bytes) {
+                place_by_counts(stored, operand, receiving, &survey.places)
+            } else {
+                place_by_needs(stored, operand, receiving, &mut survey.needed)
+            }
+        }
+        Basis::NeededCounts => place_by_needs(stored, operand, receiving, &mut survey.needed),
     }
 }

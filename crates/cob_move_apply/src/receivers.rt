@@ -1,21 +1,29 @@
 //! The receivers of a move, one after another.
 
-ghost use Rattle.std.specs.Prelude.{◌≡◌, ◌+◌, ◌≤◌, List, length, map, IfErr, OnErr, OnOk, true};
+ghost use Rattle.std.specs.Prelude.{◌≡◌, length, map, OnErr, true};
 ghost use Rattle.std.specs.List.{AllByRecursion};
-ghost use Rattle.cob_copybook_tree.specs.Forests.{entries_in};
-ghost use Rattle.cob_layout_places.specs.Lengths.{alone};
 ghost use Rattle.cob_sound.specs.Sound.{IsSound};
 ghost use Rattle.cob_layout.specs.Storage.{greatest_length};
 ghost use Rattle.cob_move_receive.specs.Sent.{sent, IsComplete};
 ghost use Rattle.cob_move_apply.specs.Applied.{AllGet, Gets, ending, kept};
-ghost use Rattle.cob_move_apply.specs.Placed.{IsPlaced, operand_of};
+ghost use Rattle.cob_move_apply.specs.Placed.{IsPlaced, content_of, operand_of};
+ghost use Rattle.cob_move_apply.specs.Surveyed.{IsSurvey};
 
-use crate::places::locate;
+use crate::places::{Stored, locate};
 use crate::step::PlacedOperand;
 use crate::stop::{Stop, StopCause};
-use cob_layout::{Counts, Layout};
+use crate::survey::Survey;
+use cob_layout::Layout;
 use cob_move_operands::Side;
 use cob_move_receive::{Sent, receive};
+
+/// What a sender gives to each of its receivers, and where it lies.
+#[derive(Clone, Copy)]
+pub(crate) struct Given<'a> {
+    pub(crate) sent: Sent<'a>,
+    pub(crate) side: Side,
+    pub(crate) offset: u32,
+}
 
 /// Moves what a sender gives to one receiver, at its place in the storage as it is now.
 ///
@@ -24,33 +32,36 @@ use cob_move_receive::{Sent, receive};
 /// The first thing missing: a count of the receiver, its element, a value of the sender. The storage is as it was then.
 fn receive_one(
     layout: &Layout,
-    given: &Sent<'_>,
-    side: Side,
-    offset: u32,
+    given: &Given<'_>,
     receiver: &PlacedOperand,
     output: &mut [u8],
-    counts: &mut Counts,
+    survey: &mut Survey,
 ) -> Result<(), Stop>
     requires sound { IsSound layout.now }
-    requires given { IsComplete (sent given.now) }
+    requires given { IsComplete (sent given.now.sent) }
     requires receiver { IsPlaced layout.now true receiver.now }
     requires output { length output.old ≡ greatest_length layout.now }
-    requires room { length counts.old ≡ entries_in (alone layout.now) }
-    ensures gets { Gets layout.now
-        (record { sent = sent given.now; side = side; offset = offset })
-        receiver.now.operand output.old (kept result output.new) }
+    requires survey { IsSurvey layout.now output.old survey.old }
+    ensures gets { Gets layout.now (content_of given.now) receiver.now.operand output.old
+        (kept result output.new) }
     ensures same { OnErr result (output.new ≡ output.old) }
-    ensures room { length counts.new ≡ length counts.old }
+    ensures survey { IsSurvey layout.now output.new survey.new }
 {
-    let place = locate(layout, Side::Out, receiver, true, output, counts)?;
+    let stored = Stored {
+        side: Side::Out,
+        layout,
+        bytes: &*output,
+    };
+    let place = locate(&stored, receiver, true, survey)?;
     let start = place.offset as usize;
     let end = start + place.length as usize;
-    if receive(given, &receiver.operand.kind, &mut output[start..end]) {
+    if receive(&given.sent, &receiver.operand.kind, &mut output[start..end]) {
+        survey.change(layout, place);
         Ok(())
     } else {
         Err(Stop {
-            side,
-            offset,
+            side: given.side,
+            offset: given.offset,
             cause: StopCause::NoValue,
         })
     }
@@ -63,25 +74,22 @@ fn receive_one(
 /// The first thing missing. The storage is as the receivers before left it then.
 pub(crate) fn receive_all(
     layout: &Layout,
-    given: &Sent<'_>,
-    side: Side,
-    offset: u32,
+    given: &Given<'_>,
     receivers: &[PlacedOperand],
     output: &mut [u8],
-    counts: &mut Counts,
+    survey: &mut Survey,
 ) -> Result<(), Stop>
     requires sound { IsSound layout.now }
-    requires given { IsComplete (sent given.now) }
+    requires given { IsComplete (sent given.now.sent) }
     requires receivers { AllByRecursion (IsPlaced layout.now true) receivers.now }
     requires output { length output.old ≡ greatest_length layout.now }
-    requires room { length counts.old ≡ entries_in (alone layout.now) }
-    ensures get { AllGet layout.now
-        (record { sent = sent given.now; side = side; offset = offset })
-        (map operand_of receivers.now) output.old (ending result output.new) }
-    ensures room { length counts.new ≡ length counts.old }
+    requires survey { IsSurvey layout.now output.old survey.old }
+    ensures get { AllGet layout.now (content_of given.now) (map operand_of receivers.now) output.old
+        (ending result output.new) }
+    ensures survey { IsSurvey layout.now output.new survey.new }
 {
     for receiver in receivers {
-        receive_one(layout, given, side, offset, receiver, output, counts)?;
+        receive_one(layout, given, receiver, output, survey)?;
     }
     Ok(())
 }

@@ -3,27 +3,26 @@
 ghost use Rattle.std.specs.Prelude.{◌≡◌, IfOk};
 ghost use Rattle.cob_move_apply.specs.Room.{room_of};
 
-use cob_layout::{Counts, Layout};
+use crate::workspace::Workspace;
+use cob_layout::Layout;
 use std::alloc::{AllocError, Global};
 use std::marker::Model;
 
-/// Room for the counts of both records, and for the bytes of a sender that lies in the output record.
+/// Room for the counts and places of both records, and for the bytes of a sender that lies in the output record.
 ///
 /// Contracts see how much of it there is.
 #[derive(Debug, Drop)]
 pub struct Scratch {
-    pub(crate) in_counts: Counts,
-    pub(crate) out_counts: Counts,
-    pub(crate) content: Vec<u8>,
+    pub(crate) space: Workspace,
 }
 
 impl Model for Scratch {
-    ghost use Rattle.std.specs.Prelude.{length, vec_len};
     ghost use Rattle.cob_move_apply.specs.Room.{Room};
+    ghost use Rattle.cob_move_apply.specs.Surveyed.{room_in_space};
 
     ghost Value = { Room };
 
-    ghost view = { λ s. record { inputs = length s.in_counts; outputs = length s.out_counts; content = vec_len s.content } };
+    ghost view = { λ s. room_in_space s.space };
 }
 
 impl Scratch {
@@ -36,13 +35,7 @@ impl Scratch {
         ensures { IfOk result
             (λ s. s ≡ room_of (record { input = input.now; output = output.now })) }
     {
-        let in_counts = input.new_counts(alloc)?;
-        let out_counts = output.new_counts(alloc)?;
-        let content = vec![in alloc; 0u8; output.greatest() as usize]?;
-        Ok(Scratch {
-            in_counts,
-            out_counts,
-            content,
-        })
+        let space = Workspace::new(alloc, input, output)?;
+        Ok(Scratch { space })
     }
 }

@@ -1,22 +1,22 @@
 //! One move: what its sender gives, and its receivers in turn.
 
-ghost use Rattle.std.specs.Prelude.{◌≡◌, ◌+◌, ◌≤◌, List, length, map, take, true, false, IfErr, IfOk, OnErr, OnOk};
+ghost use Rattle.std.specs.Prelude.{◌≡◌, ◌+◌, ◌≤◌, ℕ, List, length, map, take, true, false};
 ghost use Rattle.std.specs.List.{AllByRecursion};
-ghost use Rattle.cob_copybook_tree.specs.Forests.{entries_in};
 ghost use Rattle.cob_fields.specs.Fields.{field_of};
-ghost use Rattle.cob_layout_places.specs.Lengths.{alone};
 ghost use Rattle.cob_sound.specs.Sound.{IsSound};
 ghost use Rattle.cob_layout.specs.Storage.{greatest_length, IsStorage};
 ghost use Rattle.cob_move_operands.specs.Moves.{Entry};
 ghost use Rattle.cob_move_operands.specs.declared.Side.TheVariants.{In, Out};
 ghost use Rattle.cob_move_apply.specs.Applied.{IsMoved, ending};
 ghost use Rattle.cob_move_apply.specs.Placed.{IsPlaced, IsPlacedMove, move_of, operand_of};
+ghost use Rattle.cob_move_apply.specs.Surveyed.{IsWorkspace, records};
 
-use crate::places::locate;
-use crate::receivers::receive_all;
+use crate::places::{Stored, locate};
+use crate::receivers::{Given, receive_all};
 use crate::step::{PlacedOperand, PlacedSender, Step};
 use crate::stop::Stop;
-use cob_layout::{Counts, Layout, Place, field, places_lie_in_storage};
+use crate::workspace::{Layouts, Workspace};
+use cob_layout::{Place, field, places_lie_in_storage};
 use cob_move_operands::Side;
 use cob_move_receive::Sent;
 
@@ -38,44 +38,40 @@ fn copy_field(place: Place, bytes: &[u8], content: &mut [u8])
 fn move_from_input(
     sender: &PlacedOperand,
     receivers: &[PlacedOperand],
-    in_layout: &Layout,
-    out_layout: &Layout,
+    layouts: &Layouts<'_>,
     input: &[u8],
     output: &mut [u8],
-    in_counts: &mut Counts,
-    out_counts: &mut Counts,
+    space: &mut Workspace,
 ) -> Result<(), Stop>
-    requires in_sound { IsSound in_layout.now }
-    requires out_sound { IsSound out_layout.now }
-    requires sender { IsPlaced in_layout.now false sender.now }
-    requires receivers { AllByRecursion (IsPlaced out_layout.now true) receivers.now }
-    requires input { IsStorage in_layout.now input.now }
-    requires output { length output.old ≡ greatest_length out_layout.now }
-    requires in_room { length in_counts.old ≡ entries_in (alone in_layout.now) }
-    requires out_room { length out_counts.old ≡ entries_in (alone out_layout.now) }
-    ensures moved { IsMoved
-        (record { input = in_layout.now; output = out_layout.now })
+    requires in_sound { IsSound layouts.now.input.now }
+    requires out_sound { IsSound layouts.now.output.now }
+    requires sender { IsPlaced layouts.now.input.now false sender.now }
+    requires receivers { AllByRecursion (IsPlaced layouts.now.output.now true) receivers.now }
+    requires input { IsStorage layouts.now.input.now input.now }
+    requires output { length output.old ≡ greatest_length layouts.now.output.now }
+    requires space { IsWorkspace (records layouts.now) input.now output.old space.old }
+    ensures moved { IsMoved (records layouts.now)
         (record { sender = Entry In sender.now.operand; receivers = map operand_of receivers.now })
         input.now output.old (ending result output.new) }
-    ensures in_room { length in_counts.new ≡ length in_counts.old }
-    ensures out_room { length out_counts.new ≡ length out_counts.old }
+    ensures space { IsWorkspace (records layouts.now) input.now output.new space.new }
 {
-    let _ = in_layout.greatest();
+    let _ = layouts.input.greatest();
     places_lie_in_storage();
-    let place = locate(in_layout, Side::In, sender, false, input, in_counts)?;
-    let given = Sent::Entry {
-        kind: &sender.operand.kind,
-        bytes: field(input, place),
+    let stored = Stored {
+        side: Side::In,
+        layout: layouts.input,
+        bytes: input,
     };
-    receive_all(
-        out_layout,
-        &given,
-        Side::In,
-        place.offset,
-        receivers,
-        output,
-        out_counts,
-    )
+    let place = locate(&stored, sender, false, &mut space.input)?;
+    let given = Given {
+        sent: Sent::Entry {
+            kind: &sender.operand.kind,
+            bytes: field(input, place),
+        },
+        side: Side::In,
+        offset: place.offset,
+    };
+    receive_all(layouts.output, &given, receivers, output, &mut space.output)
 }
 
 /// Moves an entry of the output record, whose bytes are copied as the move begins, since its receivers may change them.
@@ -86,40 +82,37 @@ fn move_from_input(
 fn move_within_output(
     sender: &PlacedOperand,
     receivers: &[PlacedOperand],
-    in_layout: &Layout,
-    layout: &Layout,
+    layouts: &Layouts<'_>,
     input: &[u8],
     output: &mut [u8],
-    content: &mut [u8],
-    counts: &mut Counts,
+    space: &mut Workspace,
 ) -> Result<(), Stop>
-    requires sound { IsSound layout.now }
-    requires sender { IsPlaced layout.now false sender.now }
-    requires receivers { AllByRecursion (IsPlaced layout.now true) receivers.now }
-    requires output { length output.old ≡ greatest_length layout.now }
-    requires content { length content.old ≡ greatest_length layout.now }
-    requires room { length counts.old ≡ entries_in (alone layout.now) }
-    ensures moved { IsMoved
-        (record { input = in_layout.now; output = layout.now })
+    requires sound { IsSound layouts.now.output.now }
+    requires sender { IsPlaced layouts.now.output.now false sender.now }
+    requires receivers { AllByRecursion (IsPlaced layouts.now.output.now true) receivers.now }
+    requires output { length output.old ≡ greatest_length layouts.now.output.now }
+    requires space { IsWorkspace (records layouts.now) input.now output.old space.old }
+    ensures moved { IsMoved (records layouts.now)
         (record { sender = Entry Out sender.now.operand; receivers = map operand_of receivers.now })
         input.now output.old (ending result output.new) }
-    ensures room { length counts.new ≡ length counts.old }
+    ensures space { IsWorkspace (records layouts.now) input.now output.new space.new }
 {
-    let place = locate(layout, Side::Out, sender, false, output, counts)?;
-    copy_field(place, output, content);
-    let given = Sent::Entry {
-        kind: &sender.operand.kind,
-        bytes: &content[..place.length as usize],
+    let stored = Stored {
+        side: Side::Out,
+        layout: layouts.output,
+        bytes: &*output,
     };
-    receive_all(
-        layout,
-        &given,
-        Side::Out,
-        place.offset,
-        receivers,
-        output,
-        counts,
-    )
+    let place = locate(&stored, sender, false, &mut space.output)?;
+    copy_field(place, output, space.content.as_mut_slice());
+    let given = Given {
+        sent: Sent::Entry {
+            kind: &sender.operand.kind,
+            bytes: &space.content.as_slice()[..place.length as usize],
+        },
+        side: Side::Out,
+        offset: place.offset,
+    };
+    receive_all(layouts.output, &given, receivers, output, &mut space.output)
 }
 
 /// Carries out one move.
@@ -129,49 +122,34 @@ fn move_within_output(
 /// The first thing missing. The storage is as the receivers before left it then.
 pub(crate) fn make_move(
     step: &Step,
-    in_layout: &Layout,
-    out_layout: &Layout,
+    layouts: &Layouts<'_>,
     input: &[u8],
     output: &mut [u8],
-    content: &mut [u8],
-    in_counts: &mut Counts,
-    out_counts: &mut Counts,
+    space: &mut Workspace,
 ) -> Result<(), Stop>
-    requires in_sound { IsSound in_layout.now }
-    requires out_sound { IsSound out_layout.now }
-    requires step { IsPlacedMove
-        (record { input = in_layout.now; output = out_layout.now }) step.now }
-    requires input { IsStorage in_layout.now input.now }
-    requires output { length output.old ≡ greatest_length out_layout.now }
-    requires content { length content.old ≡ greatest_length out_layout.now }
-    requires in_room { length in_counts.old ≡ entries_in (alone in_layout.now) }
-    requires out_room { length out_counts.old ≡ entries_in (alone out_layout.now) }
-    ensures moved { IsMoved (record { input = in_layout.now; output = out_layout.now })
-        (move_of step.now) input.now output.old (ending result output.new) }
-    ensures in_room { length in_counts.new ≡ length in_counts.old }
-    ensures out_room { length out_counts.new ≡ length out_counts.old }
+    requires in_sound { IsSound layouts.now.input.now }
+    requires out_sound { IsSound layouts.now.output.now }
+    requires step { IsPlacedMove (records layouts.now) step.now }
+    requires input { IsStorage layouts.now.input.now input.now }
+    requires output { length output.old ≡ greatest_length layouts.now.output.now }
+    requires space { IsWorkspace (records layouts.now) input.now output.old space.old }
+    ensures moved { IsMoved (records layouts.now) (move_of step.now) input.now output.old
+        (ending result output.new) }
+    ensures space { IsWorkspace (records layouts.now) input.now output.new space.new }
 {
     let receivers = step.receivers.as_slice();
     match &step.sender {
         PlacedSender::Entry { side, operand } => match *side {
-            Side::In => move_from_input(
-                operand, receivers, in_layout, out_layout, input, output, in_counts, out_counts,
-            ),
-            Side::Out => move_within_output(
-                operand, receivers, in_layout, out_layout, input, output, content, out_counts,
-            ),
+            Side::In => move_from_input(operand, receivers, layouts, input, output, space),
+            Side::Out => move_within_output(operand, receivers, layouts, input, output, space),
         },
         PlacedSender::Constant(value) => {
-            let given = Sent::Constant(value);
-            receive_all(
-                out_layout,
-                &given,
-                Side::Out,
-                0,
-                receivers,
-                output,
-                out_counts,
-            )
+            let given = Given {
+                sent: Sent::Constant(value),
+                side: Side::Out,
+                offset: 0,
+            };
+            receive_all(layouts.output, &given, receivers, output, &mut space.output)
         }
     }
 }

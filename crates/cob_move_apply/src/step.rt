@@ -1,14 +1,25 @@
-//! Moves with the places of their operands that are the same in every storage.
+//! Moves with what the places of their operands rest on.
 
 use cob_copybook_entries::Value;
 use cob_layout::Place;
 use cob_move_operands::{Operand, Side};
 
-/// An operand, with its place where that is the same in every storage.
+/// What the place of an operand rests on.
+#[derive(Clone, Copy, Debug)]
+pub(crate) enum Basis {
+    /// On no count: it is the same in every storage.
+    Fixed(Place),
+    /// On all counts of the storage, of which the operand is spared none.
+    AllCounts,
+    /// On the counts that the operand needs.
+    NeededCounts,
+}
+
+/// An operand, with what its place rests on.
 #[derive(Debug, Drop)]
 pub(crate) struct PlacedOperand {
     pub(crate) operand: Operand,
-    pub(crate) place: Option<Place>,
+    pub(crate) basis: Basis,
 }
 
 /// What is moved.

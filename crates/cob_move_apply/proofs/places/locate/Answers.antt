@@ -1,13 +1,13 @@
 use Rattle.cob_move_apply.proofs.PlaceLemmas.{filled_at, fixed_in}
 use Rattle.cob_move_apply.proofs.places.locate.Goals as goal
 
-pub returns-in-Some-clause-located : goal.returns-in-Some-clause-located
-returns-in-Some-clause-located c =
-    let fixed = fixed_in c.args.layout.now c.args.receiving c.args.placed.now c.in-Some.place c.requires.placed c.in-Some.is in
-    fixed.place c.args.side c.args.bytes.now
+pub returns-in-Fixed-clause-located : goal.returns-in-Fixed-clause-located
+returns-in-Fixed-clause-located c =
+    let fixed = fixed_in c.args.stored.now.layout.now c.args.receiving c.args.placed.now c.in-Fixed.place c.requires.placed c.in-Fixed.is in
+    fixed.place c.args.stored.now.side c.args.stored.now.bytes.now
 
-pub returns-in-Some-clause-filled : goal.returns-in-Some-clause-filled
-returns-in-Some-clause-filled c =
-    let fixed = fixed_in c.args.layout.now c.args.receiving c.args.placed.now c.in-Some.place c.requires.placed c.in-Some.is in
-    filled_at c.args.side c.args.layout.now c.args.receiving c.args.placed.now.operand c.args.bytes.now c.in-Some.place c.requires.sound c.requires.placed.operand
-    (fixed.place c.args.side c.args.bytes.now)
+pub returns-in-Fixed-clause-filled : goal.returns-in-Fixed-clause-filled
+returns-in-Fixed-clause-filled c =
+    let fixed = fixed_in c.args.stored.now.layout.now c.args.receiving c.args.placed.now c.in-Fixed.place c.requires.placed c.in-Fixed.is in
+    filled_at c.args.stored.now.side c.args.stored.now.layout.now c.args.receiving c.args.placed.now.operand c.args.stored.now.bytes.now c.in-Fixed.place c.requires.sound c.requires.placed.operand
+    (fixed.place c.args.stored.now.side c.args.stored.now.bytes.now)

@@ -1,14 +1,15 @@
-use Rattle.std.proofs.Common.{◌∙◌, ap, map}
+use Rattle.std.proofs.Common.{ap, map}
 use Rattle.std.specs.Vec.Iter.{into_iter_items}
 use Rattle.cob_move_operands.specs.Moves.{IsMove, Records, move}
 use Rattle.cob_move_apply.specs.Placed.{IsPlacedMove, move_of}
 use Rattle.cob_move_apply.proofs.ListLemmas.{all_first, all_more, all_rest, counted_less, moved_on, none_left, none_mapped}
 use Rattle.cob_move_apply.proofs.preparation.placed_moves.Goals as goal
 
-pub placed_move-requires-clause-given : goal.placed_move-requires-clause-given
-placed_move-requires-clause-given c =
-    all_first (IsMove (record { input = c.args.input.now; output = c.args.output.now })) (map move (into_iter_items c.loop-one.one-iterator)) (move c.in-Some.one)
-    (map move (into_iter_items c.next.new.self)) (ap (map move) c.in-Some.ensures.steps.0) c.loop-one.invariant.left
+pub placed_move-requires : goal.placed_move-requires
+placed_move-requires c = record {
+  given = all_first (IsMove (record { input = c.args.input.now; output = c.args.output.now })) (map move (into_iter_items c.loop-one.one-iterator)) (move c.in-Some.one)
+      (map move (into_iter_items c.next.new.self)) (ap (map move) c.in-Some.ensures.steps.0) c.loop-one.invariant.left;
+}
 
 pub loop-one-preserved : goal.loop-one-preserved
 loop-one-preserved c =
@@ -21,8 +22,6 @@ loop-one-preserved c =
           (ap (map move) c.in-Some.ensures.steps.0) c.loop-one.invariant.left;
       count = counted_less (into_iter_items c.loop-one.one-iterator) c.in-Some.one (into_iter_items c.next.new.self) _ _
           c.loop-one.invariant.count c.in-Some.ensures.steps.0 c.in-Some.ensures.steps.1;
-      in_room = c.in_ok-step.ensures.in_room ∙ c.loop-one.invariant.in_room;
-      out_room = c.in_ok-step.ensures.out_room ∙ c.loop-one.invariant.out_room;
     }
 
 pub returns-clause-same : goal.returns-clause-same

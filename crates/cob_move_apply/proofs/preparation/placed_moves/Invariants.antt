@@ -1,7 +1,5 @@
 use Rattle.std.proofs.Common.{◌≡◌, ◌++◌, length, map}
 use Rattle.std.specs.Vec.Iter.{into_iter_items, into_iter_len}
-use Rattle.cob_copybook_tree.specs.Forests.{entries_in}
-use Rattle.cob_layout_places.specs.Lengths.{alone}
 use Rattle.cob_move_operands.specs.Moves.{AreMoves, move}
 use Rattle.cob_move_apply.specs.Placed.{ArePlacedMoves, move_of}
 use Rattle.cob_move_apply.proofs.preparation.placed_moves.Given as goal
@@ -12,6 +10,4 @@ invariant-loop-one l = record {
   placed : ArePlacedMoves (record { input = l.input; output = l.output }) l.steps.items;
   left : AreMoves (record { input = l.input; output = l.output }) (map move (into_iter_items l.one-iterator));
   count : into_iter_len l.one-iterator ≡ length (into_iter_items l.one-iterator);
-  in_room : length l.in_counts ≡ entries_in (alone l.input);
-  out_room : length l.out_counts ≡ entries_in (alone l.output);
 }

@@ -1,16 +1,15 @@
-use Rattle.std.proofs.Common.{◌∙◌, true}
+use Rattle.std.proofs.Common.{true}
 use Rattle.std.specs.Vec.Iter.{into_iter_items}
 use Rattle.cob_move_operands.specs.Moves.{IsOperand}
 use Rattle.cob_move_apply.specs.Placed.{IsPlaced, operand_of}
 use Rattle.cob_move_apply.proofs.ListLemmas.{all_first, all_more, all_rest, counted_less, moved_on, none_left}
 use Rattle.cob_move_apply.proofs.preparation.placed_receivers.Goals as goal
 
-pub placed-requires-clause-operand : goal.placed-requires-clause-operand
-placed-requires-clause-operand c = all_first (IsOperand c.args.layout.now) (into_iter_items c.loop-receiver.receiver-iterator) c.in-Some.receiver (into_iter_items c.next.new.self)
-    c.in-Some.ensures.steps.0 c.loop-receiver.invariant.left
-
-pub placed-requires-clause-room : goal.placed-requires-clause-room
-placed-requires-clause-room c = c.loop-receiver.invariant.room ∙ c.requires.room
+pub placed-requires : goal.placed-requires
+placed-requires c = record {
+  operand = all_first (IsOperand c.args.layout.now) (into_iter_items c.loop-receiver.receiver-iterator) c.in-Some.receiver (into_iter_items c.next.new.self)
+      c.in-Some.ensures.steps.0 c.loop-receiver.invariant.left;
+}
 
 pub loop-receiver-preserved : goal.loop-receiver-preserved
 loop-receiver-preserved c = record {
@@ -22,7 +21,6 @@ loop-receiver-preserved c = record {
       c.in-Some.ensures.steps.0 c.loop-receiver.invariant.left;
   count = counted_less (into_iter_items c.loop-receiver.receiver-iterator) c.in-Some.receiver (into_iter_items c.next.new.self) _ _
       c.loop-receiver.invariant.count c.in-Some.ensures.steps.0 c.in-Some.ensures.steps.1;
-  room = c.placed.ensures.room ∙ c.loop-receiver.invariant.room;
 }
 
 pub returns-clause-same : goal.returns-clause-same

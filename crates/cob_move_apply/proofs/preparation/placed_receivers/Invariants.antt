@@ -11,5 +11,4 @@ invariant-loop-receiver l = record {
   placed : AllByRecursion (IsPlaced l.layout true) l.all.items;
   left : AllByRecursion (IsOperand l.layout) (into_iter_items l.receiver-iterator);
   count : into_iter_len l.receiver-iterator ≡ length (into_iter_items l.receiver-iterator);
-  room : length l.counts ≡ length l.fn.counts;
 }

@@ -1,0 +1,56 @@
+//! What moves on one record work with.
+
+ghost use Rattle.std.specs.Prelude.{◌≡◌, List, ℕ, IfOk};
+ghost use Rattle.cob_move_operands.specs.Moves.{Records};
+ghost use Rattle.cob_move_apply.specs.Surveyed.{HasSpace, IsWorkspace};
+
+use crate::survey::Survey;
+use cob_layout::Layout;
+use std::alloc::{AllocError, Global};
+
+/// The layouts of both records.
+#[derive(Clone, Copy)]
+pub(crate) struct Layouts<'a> {
+    pub(crate) input: &'a Layout,
+    pub(crate) output: &'a Layout,
+}
+
+/// What is known of both records' storages, and room for the bytes of a sender that lies in the output record.
+#[derive(Debug, Drop)]
+pub(crate) struct Workspace {
+    pub(crate) input: Survey,
+    pub(crate) output: Survey,
+    pub(crate) content: Vec<u8>,
+}
+
+impl Workspace {
+    /// What moves between records of these layouts work with.
+    ///
+    /// # Errors
+    ///
+    /// Where no memory is left.
+    pub(crate) fn new(
+        alloc: Global,
+        input: &Layout,
+        output: &Layout,
+    ) -> Result<Workspace, AllocError>
+        ensures { IfOk result
+            (λ space. HasSpace (record { input = input.now; output = output.now }) space) }
+    {
+        let content = vec![in alloc; 0u8; output.greatest() as usize]?;
+        Ok(Workspace {
+            input: Survey::new(alloc, input)?,
+            output: Survey::new(alloc, output)?,
+            content,
+        })
+    }
+
+    /// Forgets what is known of the records before.
+    pub(crate) fn forget(&mut self)
+        ensures { (r : Records) (input output : List ℕ)
+            → HasSpace r self.old → IsWorkspace r input output self.new }
+    {
+        self.input.forget();
+        self.output.forget();
+    }
+}
