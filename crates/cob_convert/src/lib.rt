@@ -28,6 +28,7 @@ mod books;
 mod converter;
 mod fault;
 mod hex;
+mod job_data;
 mod job_text;
 mod jobs;
 mod laws;
