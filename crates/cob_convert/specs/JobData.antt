@@ -20,12 +20,12 @@ abbrev pub is_no_space : ℕ → Bool
 is_no_space c = not (c == 32)
 
 -- the digits of a line of data: what is no space
-abbrev pub digits_of : List ℕ → List ℕ
-digits_of line = filter is_no_space line
+abbrev pub line_digits : List ℕ → List ℕ
+line_digits line = filter is_no_space line
 
 -- the digits of lines, one line behind the other
-abbrev pub digits_of_lines : List (List ℕ) → List ℕ
-digits_of_lines ls = flat_map digits_of ls
+abbrev pub data_digits : List (List ℕ) → List ℕ
+data_digits ls = flat_map line_digits ls
 
 -- all of these are lines of data
 abbrev pub AreDataLines : List (List ℕ) → Type 0
@@ -38,7 +38,7 @@ AreDigitsOf digits bytes = map to_ascii_uppercase digits ≡ hex_text bytes
 -- the data are these bytes
 pub record IsData (text bytes : List ℕ) : Type 0 where
   pub each : AreDataLines (lines text)
-  pub digits : AreDigitsOf (digits_of_lines (lines text)) bytes
+  pub digits : AreDigitsOf (data_digits (lines text)) bytes
 
 -- the number of the line behind so many others, the first of which has the number `first`; from the greatest u32 on it is that one
 abbrev pub number_behind : ℕ → ℕ → ℕ
@@ -57,7 +57,7 @@ pub record IsFirstBad (text : List ℕ) (first number : ℕ) : Type 0 where
 -- all are lines of data, with an odd number of digits, and this is the last
 pub record IsLastOfOdd (text : List ℕ) (first number : ℕ) : Type 0 where
   pub each : AreDataLines (lines text)
-  pub odd : length (digits_of_lines (lines text)) % 2 ≡ 1
+  pub odd : length (data_digits (lines text)) % 2 ≡ 1
   pub number_is : number ≡ number_behind first (length (lines text) - 1)
 
 -- data whose first line has the number `first` are refused by this fault; want of memory says nothing of them

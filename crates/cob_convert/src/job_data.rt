@@ -2,7 +2,7 @@ ghost use Rattle.std.specs.Prelude.{◌≡◌, ◌≤◌, ◌<◌, ◌+◌, ◌*
 ghost use Rattle.std.specs.List.{list_all};
 ghost use Rattle.std.specs.Char.{is_ascii_hexdigit, to_ascii_uppercase};
 ghost use Rattle.cob_convert.specs.Hex.{byte_text, digit_character};
-ghost use Rattle.cob_convert.specs.JobData.{is_data_line, digits_of, AreDigitsOf, IsData, IsRefusedBy, number_behind};
+ghost use Rattle.cob_convert.specs.JobData.{is_data_line, line_digits, AreDigitsOf, IsData, IsRefusedBy, number_behind};
 ghost use Rattle.cob_convert.specs.declared.job_data.DataFault.TheVariants.{Memory};
 
 use crate::job_text::{Lines, split_line};
@@ -45,7 +45,8 @@ fn byte_of(high: u8, low: u8) -> u8
     digit_value(high) * 16 + digit_value(low)
 }
 
-/// Whether a line holds nothing but digits and spaces.
+/// Whether a line holds nothing but digits and spaces. It looks at each character, since a loop that does not end early is made into
+/// vector instructions.
 fn is_data(line: &[u8]) -> bool
     ensures { result ≡ is_data_line line.now }
 {
@@ -58,7 +59,7 @@ fn is_data(line: &[u8]) -> bool
 
 /// Adds the digits of a line.
 fn add_digits(digits: &mut Vec<u8>, line: &[u8]) -> Result<(), AllocError>
-    ensures { OnOk result (digits.new.items ≡ digits.old.items ++ digits_of line.now) }
+    ensures { OnOk result (digits.new.items ≡ digits.old.items ++ line_digits line.now) }
 {
     let mut rest = line;
     while let Some(at) = memchr(b' ', rest) {
@@ -90,7 +91,8 @@ fn bytes_of(alloc: Global, digits: &[u8]) -> Result<Vec<u8>, AllocError>
     Ok(bytes)
 }
 
-/// The bytes of data: hexadecimal digits in pairs, spaces and line ends ignored.
+/// The bytes of data, whose first line has this number in the job: hexadecimal digits in pairs, with spaces and line ends anywhere
+/// between them. It takes room for the digits and for the bytes.
 pub fn decode(alloc: Global, text: &[u8], first_line: u32) -> Result<Vec<u8>, DataFault>
     ensures bytes { IfOk result (λ bytes. IsData text.now bytes.items) }
     ensures refused { IfErr result (λ fault. IsRefusedBy text.now first_line fault) }
