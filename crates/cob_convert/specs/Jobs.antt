@@ -1,8 +1,8 @@
 -- Why a job is not done, and what each fault of its parts is for the job: want of memory is told as that, and never as a fault of a text.
 use Rattle.cob_convert.specs.declared.fault.PrepareFault.{PrepareFault}
 use Rattle.cob_convert.specs.declared.fault.PrepareFault.TheVariants as prepare
-use Rattle.cob_convert.specs.declared.job_text.DataFault.{DataFault}
-use Rattle.cob_convert.specs.declared.job_text.DataFault.TheVariants as digits
+use Rattle.cob_convert.specs.declared.job_data.DataFault.{DataFault}
+use Rattle.cob_convert.specs.declared.job_data.DataFault.TheVariants as digits
 use Rattle.cob_convert.specs.declared.jobs.JobFault.{JobFault}
 use Rattle.cob_convert.specs.declared.jobs.JobFault.TheVariants as job
 

@@ -2,7 +2,6 @@ ghost use Rattle.std.specs.Prelude.{◌≡◌, ◌<◌, ◌≤◌, ◌*◌, ◌%
 ghost use Rattle.cob_records.specs.Device.{Took, counted, took_nothing};
 ghost use Rattle.cob_convert.specs.Hex.{PutsPairs, PutsText, digit_character, hex_text};
 
-use arrayvec::ArrayVec;
 use cob_records::{DeviceFault, Sink};
 
 /// How many bytes are turned into digits at a time.
@@ -45,18 +44,15 @@ fn character(digit: u8) -> u8
     }
 }
 
-/// The text of some bytes.
-fn text_of(bytes: &[u8]) -> ArrayVec<u8, DIGITS>
-    requires { length bytes.now ≤ PIECE }
-    ensures text { result.items ≡ hex_text bytes.now }
-    ensures size { length result.items ≡ 2 * length bytes.now }
+/// Fills a buffer with the text of some bytes.
+fn write_text(bytes: &[u8], text: &mut [u8])
+    requires { length text.old ≡ 2 * length bytes.now }
+    ensures { text.new ≡ hex_text bytes.now }
 {
-    let mut text = ArrayVec::new();
-    for byte in bytes {
-        text.push(character(*byte / 16));
-        text.push(character(*byte % 16));
+    for (at, byte) in bytes.iter().enumerate() {
+        text[2 * at] = character(*byte / 16);
+        text[2 * at + 1] = character(*byte % 16);
     }
-    text
 }
 
 /// Writes digits, two for each byte, and says for how many bytes both went out. Where it is for none, one
@@ -90,9 +86,11 @@ impl<W: Sink> HexSink<'_, W> {
         ensures errors { W.errors self.new.inner.now
             ≡ counted (is_err result) (W.errors self.old.inner.now) }
     {
-        let now = &bytes[..bytes.len().min(PIECE)];
-        let text = text_of(now);
-        let count = put_pairs(&mut *self.inner, text.as_slice())?;
+        let size = bytes.len().min(PIECE);
+        let mut digits = [0; DIGITS];
+        let text = &mut digits[..2 * size];
+        write_text(&bytes[..size], text);
+        let count = put_pairs(&mut *self.inner, text)?;
         self.begun = self.begun || count > 0;
         Ok(count)
     }

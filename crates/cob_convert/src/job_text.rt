@@ -1,8 +1,8 @@
-ghost use Rattle.std.specs.Prelude.{◌≡◌, ◌≤◌, ◌<◌, ◌+◌, length, IfOk, vec_len, IfSome};
-ghost use Rattle.cob_convert.specs.declared.job_text.DataFault.TheVariants.{Memory};
+ghost use Rattle.std.specs.Prelude.{◌≡◌, ◌<◌, ◌+◌, ◌∷◌, length};
+ghost use Rattle.cob_source.specs.Lines.{lines, cut_return};
 
 use cob_records::Form;
-use std::alloc::{AllocError, Global};
+use memchr::memchr;
 
 /// The parts of a job: three texts, the form of the records on each side, and the input's data, in digits.
 #[derive(Drop)]
@@ -19,34 +19,32 @@ pub struct JobText<'a> {
 
 /// The lines of a text that are still to come.
 #[derive(Clone, Copy)]
-struct Lines<'a> {
-    rest: &'a [u8],
+pub struct Lines<'a> {
+    pub rest: &'a [u8],
     /// The number of the next line, from 1.
-    number: u32,
+    pub number: u32,
 }
 
 /// A text's first line, without its end, and what follows it.
-fn split_line(text: &[u8]) -> (&[u8], &[u8])
-    ensures line { length result.0.now ≤ length text.now }
-    ensures rest { length result.1.now ≤ length text.now }
-    ensures shorter { 0 < length text.now → length result.1.now < length text.now }
+pub fn split_line(text: &[u8]) -> (&[u8], &[u8])
+    requires { 0 < length text.now }
+    ensures line { lines text.now ≡ result.0.now ∷ lines result.1.now }
+    ensures shorter { length result.1.now < length text.now }
 {
-    for (at, byte) in text.iter().enumerate() {
-        if *byte == b'\n' {
-            return (without_return(&text[..at]), &text[at + 1..]);
-        }
+    match memchr(b'\n', text) {
+        Some(at) => (without_return(&text[..at]), &text[at + 1..]),
+        None => (text, &[]),
     }
-    (text, &[])
 }
 
 /// A line without the carriage return at its end.
 fn without_return(line: &[u8]) -> &[u8]
-    ensures { length result.now ≤ length line.now }
+    ensures { result.now ≡ cut_return line.now }
 {
-    match line {
-        [front @ .., b'\r'] => front,
-        _ => line,
-    }
+    let Some((last, front)) = line.split_last() else {
+        return line;
+    };
+    if *last == b'\r' { front } else { line }
 }
 
 impl<'a> Lines<'a> {
@@ -117,87 +115,5 @@ impl<'a> JobText<'a> {
             data: lines.rest,
             data_line: lines.number,
         })
-    }
-}
-
-/// Why data are not read.
-#[derive(Clone, Copy, Debug, PartialEq, Eq)]
-pub enum DataFault {
-    /// A bad line, with its number in the job.
-    Line(u32),
-    /// Memory was refused.
-    Memory,
-}
-
-impl From<AllocError> for DataFault {
-    ghost from_gives = { λ _ fault. fault ≡ Memory };
-
-    fn from(_: AllocError) -> DataFault {
-        DataFault::Memory
-    }
-}
-
-/// The value of a hexadecimal digit.
-fn digit_value(character: u8) -> Option<u8>
-    ensures { IfSome result (λ value. value < 16) }
-{
-    match character {
-        b'0'..=b'9' => Some(character - b'0'),
-        b'A'..=b'F' => Some(character - b'A' + 10),
-        b'a'..=b'f' => Some(character - b'a' + 10),
-        _ => None,
-    }
-}
-
-/// The bytes that are being put together from digits.
-#[derive(Drop)]
-struct Bytes {
-    items: Vec<u8>,
-    /// The first digit of a pair, where the second is still to come.
-    high: Option<u8>,
-}
-
-impl Bytes {
-    /// Adds the digits of a line; false where it holds anything but digits and spaces.
-    fn add_line(&mut self, line: &[u8]) -> Result<bool, AllocError> {
-        for character in line {
-            if *character == b' ' {
-                continue;
-            }
-            let Some(value) = digit_value(*character) else {
-                return Ok(false);
-            };
-            match self.high.take() {
-                None => self.high = Some(value),
-                Some(high) => self.items.push(high.wrapping_mul(16) | value)?,
-            }
-        }
-        Ok(true)
-    }
-}
-
-/// The bytes of data: hexadecimal digits in pairs, spaces and line ends ignored.
-pub fn decode(alloc: Global, data: &[u8], first_line: u32) -> Result<Vec<u8>, DataFault> {
-    let mut bytes = Bytes {
-        items: Vec::with_capacity(alloc, data.len() / 2)?,
-        high: None,
-    };
-    let mut lines = Lines {
-        rest: data,
-        number: first_line,
-    };
-    let mut last = first_line;
-    while !lines.rest.is_empty() {
-        last = lines.number;
-        let (line, rest) = split_line(lines.rest);
-        if !bytes.add_line(line)? {
-            return Err(DataFault::Line(last));
-        }
-        lines.rest = rest;
-        lines.number = last.saturating_add(1);
-    }
-    match bytes.high {
-        None => Ok(bytes.items),
-        Some(_) => Err(DataFault::Line(last)),
     }
 }

@@ -5,7 +5,8 @@ ghost use Rattle.cob_convert.specs.declared.jobs.JobFault.TheVariants.{CannotRea
 use crate::converter::Converter;
 use crate::fault::PrepareFault;
 use crate::hex::HexSink;
-use crate::job_text::{DataFault, JobText, decode};
+use crate::job_data::{DataFault, decode};
+use crate::job_text::JobText;
 use crate::run::{Cause, RunFault};
 use arrayvec::ArrayString;
 use cob_limits::MAX_JOB_BYTES;
