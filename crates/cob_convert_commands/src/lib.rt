@@ -21,7 +21,7 @@ mod listing;
 mod texts;
 
 pub use checking::{Checked, check};
-pub use commands::{perform, refuse};
+pub use commands::{answer, perform, refuse};
 pub use converting::convert;
 pub use fault::{CommandFault, FileName};
 pub use listing::{list_entries, list_records};
