@@ -1,4 +1,5 @@
--- The status with which a command ends that is not done.
+-- What a command is told to come to that is not done, and the status with which it ends.
+use Rattle.std.specs.Prelude.{◌==◌, ◌||◌, ◌-◌, nat_le, ℕ, Bool, true, false, Result, Ok, Err, ⊤, if◌then◌else◌}
 use Rattle.cob_convert.specs.declared.fault.PrepareFault.{PrepareFault}
 use Rattle.cob_convert.specs.declared.fault.PrepareFault.TheVariants as prepare
 use Rattle.cob_convert.specs.declared.jobs.Status.{Status}
@@ -12,6 +13,7 @@ use Rattle.cob_copybook_entries.specs.declared.fault.BookFault.{BookFault}
 use Rattle.cob_copybook_entries.specs.declared.fault.BookRule.{BookRule}
 use Rattle.cob_copybook_entries.specs.declared.fault.BookRule.TheVariants as rule
 use Rattle.cob_source.specs.declared.fault.SourceRule.TheVariants as source
+use Rattle.cob_records.specs.declared.device.DeviceFault.{DeviceFault}
 use Rattle.cob_records.specs.declared.records.RecordFault.TheVariants.{ReadFailed, WriteFailed, TookNothing}
 use Rattle.cob_convert_commands.specs.declared.fault.CommandFault.{CommandFault}
 use Rattle.cob_convert_commands.specs.declared.fault.CommandFault.TheVariants as fault
@@ -57,5 +59,25 @@ status_of (fault.Refused refused) = status.Refused
 status_of (fault.Stopped stopped) = status_of_stop stopped.cause
 status_of (fault.Book refused) = status.Refused
 status_of fault.OneFile = status.Malformed
+status_of (fault.Unflushed last) = status.Device
 status_of fault.Unprinted = status.Device
 status_of fault.Memory = status.Memory
+
+-- a write of the record failed
+abbrev pub is_write_cause : Cause → Bool
+is_write_cause (cause.Record (WriteFailed taken)) = true
+is_write_cause (cause.Record (TookNothing taken)) = true
+is_write_cause stop = false
+
+-- What is told of a run whose last bytes were not handed to the device: a write that failed before; else that the last record that was put is not
+-- written whole, also in the place of a stop; where none was put the output lacks none, and a stop is told.
+abbrev pub unflushed_fault : Result ℕ RunFault → CommandFault
+unflushed_fault (Ok done) = if done == 0 then fault.Unprinted else fault.Unflushed done
+unflushed_fault (Err stopped) = if nat_le stopped.number 1 || is_write_cause stopped.cause
+    then fault.Stopped stopped else fault.Unflushed (stopped.number - 1)
+
+-- what a run comes to behind the last flush of its output
+abbrev pub finished_run : Result ℕ RunFault → Result ⊤ DeviceFault → Result ℕ CommandFault
+finished_run (Ok done) (Ok flushed) = Ok done
+finished_run (Err stopped) (Ok flushed) = Err (fault.Stopped stopped)
+finished_run answer (Err failed) = Err (unflushed_fault answer)

@@ -3,8 +3,9 @@ use crate::converting::convert;
 use crate::fault::CommandFault;
 use crate::listing::{list_entries, list_records};
 use cob_convert::{Status, job};
-use cob_convert_line::{CheckLine, ConvertLine, LayoutLine, Line, LineFault, ShowLine};
+use cob_convert_line::{CheckLine, ConvertLine, LayoutLine, Line, LineFault, ShowLine, line_of};
 use cob_records::{create_sink, open_source};
+use std::convert::AsStr;
 use std::io;
 use std::io::{Eprint, Input, Print};
 use std::rt::{Clock, Files};
@@ -98,4 +99,15 @@ pub fn refuse<R: Print + Eprint>(rt: &R, fault: &LineFault) -> u8 {
         _ => Status::Malformed,
     };
     printed(fault.print(rt), status)
+}
+
+/// Does what the words after the program's name ask for, and answers the program's status.
+pub fn answer<R: AllocGlobal + Files + Input + Print + Eprint + Clock, S: AsStr>(
+    rt: &R,
+    words: &[S],
+) -> u8 {
+    match line_of(rt.alloc(), words) {
+        Ok(line) => perform(rt, &line),
+        Err(fault) => refuse(rt, &fault),
+    }
 }

@@ -1,6 +1,9 @@
+ghost use Rattle.std.specs.Prelude.{◌≡◌};
+ghost use Rattle.cob_convert_commands.specs.Faults.{finished_run, is_write_cause, unflushed_fault};
+
 use crate::fault::{CommandFault, FileName};
 use crate::texts::{Texts, prepared};
-use cob_convert::{Cause, Converter, RunFault, Side};
+use cob_convert::{Cause, Converter, RunFault};
 use cob_convert_line::ConvertLine;
 use cob_records::{
     DeviceFault, FileSink, FileSource, Progress, RecordFault, create_sink, open_source,
@@ -8,29 +11,43 @@ use cob_records::{
 use std::io::{Eprint, Input, Print, Printer};
 use std::rt::{Clock, Files};
 
-/// The answer of a run whose last bytes could not be handed to the device: its last record that was put was not written whole.
-fn unflushed(answer: Result<u64, RunFault>) -> Result<u64, RunFault> {
-    let (put, written) = match answer {
-        Ok(done) => (done, 0),
-        Err(fault) => (fault.number.saturating_sub(1), fault.written),
-    };
-    Err(RunFault {
-        number: put.max(1),
-        side: Side::Out,
-        offset: 0,
-        cause: Cause::Record(RecordFault::WriteFailed { taken: 0 }),
-        written,
-    })
+/// Whether a write of the record failed that the fault names.
+fn is_failed_write(cause: Cause) -> bool
+    ensures { result ≡ is_write_cause cause }
+{
+    matches!(
+        cause,
+        Cause::Record(RecordFault::WriteFailed { .. } | RecordFault::TookNothing { .. })
+    )
+}
+
+/// What is told of a run whose last bytes could not be handed to the device: a write that failed before, as it is; else that the last record that
+/// was put is not written whole, in the place of a stop behind it. Where no record was put the output lacks none, so that a stop is told as it is.
+fn unflushed(answer: Result<u64, RunFault>) -> CommandFault
+    ensures { result ≡ unflushed_fault answer }
+{
+    match answer {
+        Ok(0) => CommandFault::Unprinted,
+        Ok(done) => CommandFault::Unflushed { last: done },
+        Err(fault) if fault.number <= 1 || is_failed_write(fault.cause) => {
+            CommandFault::Stopped(fault)
+        }
+        Err(fault) => CommandFault::Unflushed {
+            last: fault.number - 1,
+        },
+    }
 }
 
 /// What a run comes to behind its last flush.
 fn finished(
     answer: Result<u64, RunFault>,
     flushed: Result<(), DeviceFault>,
-) -> Result<u64, RunFault> {
+) -> Result<u64, CommandFault>
+    ensures { result ≡ finished_run answer flushed }
+{
     match flushed {
-        Ok(()) => answer,
-        Err(DeviceFault) => unflushed(answer),
+        Ok(()) => Ok(answer?),
+        Err(DeviceFault) => Err(unflushed(answer)),
     }
 }
 
@@ -79,5 +96,5 @@ pub fn convert<R: AllocGlobal + Files + Input + Print + Eprint + Clock>(
         Err(fault) => return Err(CommandFault::of_file(fault, FileName::Out)),
     };
     let answer = answer_of(rt, line, &mut converter, source, &mut sink);
-    Ok(finished(answer, sink.flush())?)
+    finished(answer, sink.flush())
 }

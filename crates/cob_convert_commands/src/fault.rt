@@ -63,7 +63,10 @@ pub enum CommandFault {
     /// A record stopped the run, or a device failed at it.
     #[error("{0}")]
     Stopped(RunFault),
-    /// A line of a listing could not be printed, so that no fault line is printed either.
+    /// The last bytes of the output could not be handed to the device, so that this record, the last one that was put, is not written whole.
+    #[error("record {last} out offset 0 F6")]
+    Unflushed { last: u64 },
+    /// What is printed could not be, or the device of an output without records failed, so that no fault line is printed either.
     #[error("cannot print")]
     Unprinted,
     /// Memory was refused.
@@ -148,9 +151,10 @@ impl CommandFault {
         ensures status { result ≡ status_of self }
     {
         match self {
-            CommandFault::CannotOpen(_) | CommandFault::CannotRead(_) | CommandFault::Unprinted => {
-                Status::Device
-            }
+            CommandFault::CannotOpen(_)
+            | CommandFault::CannotRead(_)
+            | CommandFault::Unflushed { .. }
+            | CommandFault::Unprinted => Status::Device,
             CommandFault::Refused(_) | CommandFault::Book(_) => Status::Refused,
             CommandFault::OneFile => Status::Malformed,
             CommandFault::Stopped(fault) => stop_status(fault.cause),

@@ -1,8 +1,8 @@
 //! The program `cobconv`: it reads the words that it is called with, and does what they ask for.
 #![tactic(auto)]
 
-use cob_convert_commands::{perform, refuse};
-use cob_convert_line::{LineFault, line_of};
+use cob_convert_commands::{answer, refuse};
+use cob_convert_line::LineFault;
 use std::env;
 use std::io::ErrorKind;
 use std::process::ExitCode;
@@ -18,12 +18,8 @@ fn words(rt: &HostRuntime) -> Result<Vec<String>, LineFault> {
 
 /// Does what the words ask for, and answers the status.
 fn run(rt: &HostRuntime) -> u8 {
-    let words = match words(rt) {
-        Ok(words) => words,
-        Err(fault) => return refuse(rt, &fault),
-    };
-    match line_of(rt.alloc(), words.as_slice()) {
-        Ok(line) => perform(rt, &line),
+    match words(rt) {
+        Ok(words) => answer(rt, words.as_slice()),
         Err(fault) => refuse(rt, &fault),
     }
 }

@@ -1,0 +1,9 @@
+           MOVE POLICY-NO OF POLICY-OLD TO POLICY-NO OF POLICY-NEW.
+           MOVE AGENT OF POLICY-OLD TO AGENT OF POLICY-NEW.
+      * The counts come first: they say how long the tables are.
+           MOVE COVER-COUNT OF POLICY-OLD
+               TO COVER-COUNT OF POLICY-NEW.
+           MOVE CLAIM-COUNT OF POLICY-OLD
+               TO CLAIM-COUNT OF POLICY-NEW.
+           MOVE COVERS OF POLICY-OLD TO COVERS OF POLICY-NEW.
+           MOVE "N" TO STATE-CODE.
