@@ -11,7 +11,7 @@ ghost use Rattle.cob_convert.specs.declared.fault.PrepareFault.TheVariants.{Memo
 
 use crate::fault::PrepareFault;
 use cob_copybook::{Book, Role};
-use cob_copybook_entries::{BookFault, BookRule};
+use cob_entry::{BookFault, BookRule};
 use cob_source::SourceRule;
 use std::alloc::Global;
 

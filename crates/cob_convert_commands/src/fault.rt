@@ -4,7 +4,7 @@ ghost use Rattle.cob_convert_commands.specs.declared.fault.CommandFault.TheVaria
 
 use cob_convert::{Cause, PrepareFault, RunFault, Status};
 use cob_convert_show::ShowFault;
-use cob_copybook_entries::{BookFault, BookRule};
+use cob_entry::{BookFault, BookRule};
 use cob_records::{OpenFault, RecordFault};
 use cob_source::SourceRule;
 use std::alloc::AllocError;

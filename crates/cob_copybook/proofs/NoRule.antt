@@ -6,11 +6,11 @@ use Rattle.cob_source.specs.declared.token.Cutting.TheVariants.{Whole}
 use Rattle.cob_source.specs.declared.fault.SourceRule.{SourceRule}
 use Rattle.cob_source.specs.declared.fault.SourceRule.TheVariants as source
 use Rattle.cob_source.specs.Words.{WordsAreOne, WordsBreakNoRule}
-use Rattle.cob_copybook_entries.specs.Described.{Described}
+use Rattle.cob_entry.specs.Described.{Described}
 use Rattle.cob_copybook_entries.specs.Books.{AreEntriesOf, IsBroken}
 use Rattle.cob_copybook_entries.specs.Laws.{OneListOfEntries, EntriesBreakNoRule}
-use Rattle.cob_copybook_entries.specs.declared.fault.BookRule.{BookRule}
-use Rattle.cob_copybook_entries.specs.declared.fault.BookRule.TheVariants as rule
+use Rattle.cob_entry.specs.declared.fault.BookRule.{BookRule}
+use Rattle.cob_entry.specs.declared.fault.BookRule.TheVariants as rule
 use Rattle.cob_copybook_tree.specs.Forests.{Forest}
 use Rattle.cob_copybook_tree.specs.Nodes.{Resolved}
 use Rattle.cob_copybook_tree.specs.Resolving.{resolved}

@@ -2,13 +2,14 @@
 //! call's own requests is refused, the answer is whole.
 
 ghost use Rattle.std.specs.Prelude.{◌≤◌, length, map, IsTrue};
-ghost use Rattle.cob_copybook_entries.specs.Described.{described};
+ghost use Rattle.cob_entry.specs.Described.{described};
 ghost use Rattle.cob_copybook_tree.specs.Branches.{AreLevels};
 
 use cob_copybook::{Book, Role};
-use cob_copybook_entries::{BookFault, BookRule, Entry, entries};
+use cob_copybook_entries::entries;
 use cob_copybook_names::counts;
 use cob_copybook_tree::{Node, as_many_entries, planted, resolve, whole_length};
+use cob_entry::{BookFault, BookRule, Entry};
 use cob_source::{SourceFault, SourceRule, Token, tokens};
 use std::alloc::{AllocError, Global};
 use std::test::Fail;
