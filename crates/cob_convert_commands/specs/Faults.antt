@@ -11,7 +11,6 @@ use Rattle.cob_convert_show.specs.declared.records.ShowFault.TheVariants as list
 use Rattle.cob_entry.specs.declared.fault.BookFault.{BookFault}
 use Rattle.cob_entry.specs.declared.fault.BookRule.{BookRule}
 use Rattle.cob_entry.specs.declared.fault.BookRule.TheVariants as rule
-use Rattle.cob_source.specs.declared.fault.SourceRule.TheVariants as source
 use Rattle.cob_records.specs.declared.records.RecordFault.TheVariants.{ReadFailed, WriteFailed, TookNothing}
 use Rattle.cob_convert_commands.specs.declared.fault.CommandFault.{CommandFault}
 use Rattle.cob_convert_commands.specs.declared.fault.CommandFault.TheVariants as fault
@@ -24,7 +23,6 @@ refused_text refused = fault.Refused refused
 -- what the refusal of a listing's copybook is for a command: want of memory is told as that
 abbrev pub book_fault_by : BookRule → BookFault → CommandFault
 book_fault_by rule.Memory refused = fault.Memory
-book_fault_by (rule.Source source.Memory) refused = fault.Memory
 book_fault_by broken refused = fault.Book refused
 
 -- what the refusal of a listing's copybook is for a command

@@ -6,7 +6,6 @@ use cob_convert::{Cause, PrepareFault, RunFault, Status};
 use cob_convert_show::ShowFault;
 use cob_entry::{BookFault, BookRule};
 use cob_records::{OpenFault, RecordFault};
-use cob_source::SourceRule;
 use std::alloc::AllocError;
 use std::fmt;
 use thiserror::Error;
@@ -103,7 +102,7 @@ impl From<BookFault> for CommandFault {
 
     fn from(fault: BookFault) -> CommandFault {
         match fault.rule {
-            BookRule::Memory | BookRule::Source(SourceRule::Memory) => CommandFault::Memory,
+            BookRule::Memory => CommandFault::Memory,
             _ => CommandFault::Book(fault),
         }
     }

@@ -50,7 +50,7 @@ impl Book {
     ///
     /// # Errors
     /// A rule that the text breaks, with the line of the entry that breaks it, or for a rule of the reference format that line itself.
-    /// Want of memory, with line 0.
+    /// Want of memory, with line 0, is told as that alone.
     pub fn read(alloc: Global, role: Role, text: &[u8]) -> Result<Book, BookFault>
         // What is read is the tree of the text.
         ensures found { IfOk result (λ b. IsBookOf role text.now b) }
