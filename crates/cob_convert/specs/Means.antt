@@ -5,7 +5,7 @@ use Rattle.cob_copybook_tree.specs.Nodes.{Resolved}
 use Rattle.cob_copybook.specs.declared.role.Role.{Role}
 use Rattle.cob_copybook.specs.declared.role.Role.TheVariants.{In, Out}
 use Rattle.cob_copybook.specs.Books.{IsBookOf, IsRefusal, IsMemory}
-use Rattle.cob_copybook_entries.specs.declared.fault.BookFault.{BookFault}
+use Rattle.cob_entry.specs.declared.fault.BookFault.{BookFault}
 use Rattle.cob_layout_places.specs.Lengths.{alone}
 use Rattle.cob_convert_record.specs.Conversion.{Conversion}
 use Rattle.cob_move.specs.Paragraphs.{IsParagraphOf, IsRefusalOf}

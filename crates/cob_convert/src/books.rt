@@ -11,18 +11,14 @@ ghost use Rattle.cob_convert.specs.declared.fault.PrepareFault.TheVariants.{Memo
 
 use crate::fault::PrepareFault;
 use cob_copybook::{Book, Role};
-use cob_copybook_entries::{BookFault, BookRule};
-use cob_source::SourceRule;
+use cob_entry::{BookFault, BookRule};
 use std::alloc::Global;
 
 /// Whether a book is refused for want of memory.
 fn is_memory(rule: BookRule) -> bool
     ensures { Decides result (IsMemory rule) }
 {
-    matches!(
-        rule,
-        BookRule::Memory | BookRule::Source(SourceRule::Memory)
-    )
+    matches!(rule, BookRule::Memory)
 }
 
 /// The refusal of the copybook of the input record.

@@ -4,7 +4,7 @@ ghost use Rattle.cob_convert.specs.Means.{moves_refusal};
 
 use crate::run::{Cause, RunFault};
 use cob_convert_record::Side;
-use cob_copybook_entries::BookFault;
+use cob_entry::BookFault;
 use cob_move::{MoveFault, MoveRule};
 use std::alloc::AllocError;
 use std::fmt;

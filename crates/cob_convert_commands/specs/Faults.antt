@@ -26,7 +26,6 @@ refused_text refused = fault.Refused refused
 -- what the refusal of a listing's copybook is for a command: want of memory is told as that
 abbrev pub book_fault_by : BookRule → BookFault → CommandFault
 book_fault_by rule.Memory refused = fault.Memory
-book_fault_by (rule.Source source.Memory) refused = fault.Memory
 book_fault_by broken refused = fault.Book refused
 
 -- what the refusal of a listing's copybook is for a command

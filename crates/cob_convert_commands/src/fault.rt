@@ -4,9 +4,8 @@ ghost use Rattle.cob_convert_commands.specs.declared.fault.CommandFault.TheVaria
 
 use cob_convert::{Cause, PrepareFault, RunFault, Status};
 use cob_convert_show::ShowFault;
-use cob_copybook_entries::{BookFault, BookRule};
+use cob_entry::{BookFault, BookRule};
 use cob_records::{OpenFault, RecordFault};
-use cob_source::SourceRule;
 use std::alloc::AllocError;
 use std::fmt;
 use thiserror::Error;
@@ -106,7 +105,7 @@ impl From<BookFault> for CommandFault {
 
     fn from(fault: BookFault) -> CommandFault {
         match fault.rule {
-            BookRule::Memory | BookRule::Source(SourceRule::Memory) => CommandFault::Memory,
+            BookRule::Memory => CommandFault::Memory,
             _ => CommandFault::Book(fault),
         }
     }

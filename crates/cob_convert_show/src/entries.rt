@@ -7,9 +7,8 @@ ghost use Rattle.cob_records.specs.Frame.{is_write_error, is_write_fault, taken_
 use crate::elements::{Subscripts, place_of};
 use crate::text::{put, put_behind_space};
 use cob_copybook::Book;
-use cob_copybook_clauses::{Sign, Usage};
-use cob_copybook_entries::Name;
 use cob_copybook_tree::{Item, Kind, Node, Times};
+use cob_entry::{Name, Sign, Usage};
 use cob_layout::{Layout, Place};
 use cob_layout_places::is_table;
 use cob_picture::Category;

@@ -11,7 +11,7 @@
 
 use cob_convert_show::{ShowFault, layout_text, show};
 use cob_copybook::{Book, Role};
-use cob_copybook_entries::BookRule;
+use cob_entry::BookRule;
 use cob_layout::Layout;
 use cob_records::{Form, MemSink, MemSource, RecordFault};
 use cob_rows::{Family, Row, RowFault, bytes_of, print_rows};

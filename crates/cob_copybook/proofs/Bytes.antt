@@ -8,11 +8,11 @@ use Rattle.cob_picture.specs.Positions.{Seen}
 use Rattle.cob_picture.specs.Counts.{size, digits}
 use Rattle.cob_picture.specs.Pictures.{IsPictureOf}
 use Rattle.cob_picture.specs.Laws.{TakesBytes}
-use Rattle.cob_copybook_clauses.specs.declared.kinds.Usage.{Usage}
-use Rattle.cob_copybook_clauses.specs.declared.kinds.Usage.TheVariants.{Display, Binary, Packed}
-use Rattle.cob_copybook_clauses.specs.declared.kinds.Sign.{Sign}
+use Rattle.cob_entry.specs.declared.kinds.Usage.{Usage}
+use Rattle.cob_entry.specs.declared.kinds.Usage.TheVariants.{Display, Binary, Packed}
+use Rattle.cob_entry.specs.declared.kinds.Sign.{Sign}
 use Rattle.cob_copybook_clauses.specs.Entries.{is_condition}
-use Rattle.cob_copybook_entries.specs.Described.{Described}
+use Rattle.cob_entry.specs.Described.{Described}
 use Rattle.cob_copybook_entries.specs.Meaning.{IsOption}
 use Rattle.cob_copybook_entries.specs.Books.{IsSentence, AreDescribed}
 use Rattle.cob_copybook_tree.specs.Forests.{Forest, Bare, Grows, Tree, flat, entries_in}

@@ -3,14 +3,12 @@ use Rattle.std.proofs.Common.{◌≡◌, sym, subst, ap, ◌∙◌, ℕ, List, i
 use Rattle.std.specs.Prelude.{None}
 use Rattle.cob_source.specs.Tokens.{Lexeme}
 use Rattle.cob_source.specs.declared.token.Cutting.TheVariants.{Whole}
-use Rattle.cob_source.specs.declared.fault.SourceRule.{SourceRule}
-use Rattle.cob_source.specs.declared.fault.SourceRule.TheVariants as source
 use Rattle.cob_source.specs.Words.{WordsAreOne, WordsBreakNoRule}
-use Rattle.cob_copybook_entries.specs.Described.{Described}
+use Rattle.cob_entry.specs.Described.{Described}
 use Rattle.cob_copybook_entries.specs.Books.{AreEntriesOf, IsBroken}
 use Rattle.cob_copybook_entries.specs.Laws.{OneListOfEntries, EntriesBreakNoRule}
-use Rattle.cob_copybook_entries.specs.declared.fault.BookRule.{BookRule}
-use Rattle.cob_copybook_entries.specs.declared.fault.BookRule.TheVariants as rule
+use Rattle.cob_entry.specs.declared.fault.BookRule.{BookRule}
+use Rattle.cob_entry.specs.declared.fault.BookRule.TheVariants as rule
 use Rattle.cob_copybook_tree.specs.Forests.{Forest}
 use Rattle.cob_copybook_tree.specs.Nodes.{Resolved}
 use Rattle.cob_copybook_tree.specs.Resolving.{resolved}
@@ -32,16 +30,13 @@ OneListOfCounts = (t : Forest Described) (a b : List ℕ) → AreCountsOf t a �
 
 -- ---- the text and its words
 
-source_memory : (r : SourceRule) → r ≡ source.Memory → IsMemory (rule.Source r)
-source_memory r e = subst (λ (s : SourceRule). IsMemory (rule.Source s)) (sym e) tt
-
 words_keep : WordsAreOne → EntriesBreakNoRule → (role : Role) (text : List ℕ) (ds : List Described) (r : BookRule) → HasEntries role text ds → BreaksText r text → IsMemory r
 words_keep one none role text ds r has (words, are, breaks) =
     let here : IsBroken r has.words = subst (IsBroken r) (one text words has.words are has.are_words) breaks in
     memory r (none has.words has.entries r has.are_entries here)
 
 text_keeps : WordsAreOne → WordsBreakNoRule → EntriesBreakNoRule → (role : Role) (text : List ℕ) (ds : List Described) (r : BookRule) (line : ℕ) → HasEntries role text ds → IsTextRefusal r line text → IsMemory r
-text_keeps one fit none role text ds (rule.Source s) line has h = source_memory s (fit Whole text has.words s line has.are_words h)
+text_keeps one fit none role text ds (rule.Source s) line has h = absurd (h.0 (fit Whole text has.words s line has.are_words h.1))
 text_keeps one fit none role text ds rule.Memory line has h = tt
 text_keeps one fit none role text ds r line has h = words_keep one none role text ds r has h
 

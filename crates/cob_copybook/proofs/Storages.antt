@@ -1,9 +1,9 @@
 -- Resolved trees: each entry occurs at least once.
 use Rattle.std.proofs.Common.{◌≡◌, sym, subst, ap, ◌∙◌, ℕ, ◌+◌, ◌<◌, List, arith}
 use Rattle.std.specs.Prelude.{Option, Some, None, Bool, slice_index, unwrap_or}
-use Rattle.cob_copybook_clauses.specs.declared.kinds.Usage.{Usage}
-use Rattle.cob_copybook_clauses.specs.declared.kinds.Sign.{Sign}
-use Rattle.cob_copybook_entries.specs.Described.{Described, Times, Fixed, Varying}
+use Rattle.cob_entry.specs.declared.kinds.Usage.{Usage}
+use Rattle.cob_entry.specs.declared.kinds.Sign.{Sign}
+use Rattle.cob_entry.specs.Described.{Described, Times, Fixed, Varying}
 use Rattle.cob_copybook_tree.specs.Forests.{Forest, Bare, Grows, entries_in}
 use Rattle.cob_copybook_tree.specs.Nodes.{Resolved}
 use Rattle.cob_copybook_tree.specs.Lengths.{most_by}
@@ -12,9 +12,9 @@ use Rattle.cob_copybook_rules.specs.Tables.{AreTables, IsPossible, dimension}
 use Rattle.cob_copybook_lengths.specs.Areas.{ArePossible, MayHold}
 use Rattle.cob_copybook_rules.specs.Filled.{AreFilled, IsFilled}
 use Rattle.cob_picture.specs.Positions.{Seen}
-use Rattle.cob_copybook_clauses.specs.declared.kinds.Usage.TheVariants.{Display}
+use Rattle.cob_entry.specs.declared.kinds.Usage.TheVariants.{Display}
 use Rattle.cob_copybook_lengths.specs.Rules.{IsFit, Breaks, FitBreaksNone}
-use Rattle.cob_copybook_entries.specs.declared.fault.BookRule.{BookRule}
+use Rattle.cob_entry.specs.declared.fault.BookRule.{BookRule}
 use Rattle.cob_copybook.specs.Records.{IsStored}
 
 occurs_some : (o : Option Times) (count : ℕ) → IsPossible o → 0 < most_by (times_of o count)

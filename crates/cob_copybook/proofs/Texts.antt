@@ -4,9 +4,9 @@ use Rattle.std.proofs.Common.{inl, inr}
 use Rattle.cob_source.specs.Tokens.{Lexeme}
 use Rattle.cob_source.specs.Words.{AreWordsOf, WordsAreOne}
 use Rattle.cob_source.specs.declared.fault.SourceRule.{SourceRule}
-use Rattle.cob_copybook_entries.specs.declared.fault.BookRule.{BookRule}
-use Rattle.cob_copybook_entries.specs.declared.fault.BookRule.TheVariants as rule
-use Rattle.cob_copybook_entries.specs.Described.{Described}
+use Rattle.cob_entry.specs.declared.fault.BookRule.{BookRule}
+use Rattle.cob_entry.specs.declared.fault.BookRule.TheVariants as rule
+use Rattle.cob_entry.specs.Described.{Described}
 use Rattle.cob_copybook_entries.specs.Books.{AreEntriesOf, BreaksBy, OneBreaks, IsBroken}
 use Rattle.cob_copybook.specs.declared.role.Role.{Role}
 use Rattle.cob_copybook.specs.Books.{HasEntries, with_record, IsTextRefusal, IsMemory}

@@ -1,12 +1,12 @@
 -- Which tree a copybook's text stands for, and which rule it breaks.
-use Rattle.std.specs.Prelude.{◌≡◌, ◌⊎◌, ℕ, false, ◌==◌, if◌then◌else◌, List, [], ◌∷◌, codes, Some, None}
+use Rattle.std.specs.Prelude.{◌≡◌, ◌≢◌, ◌⊎◌, ℕ, false, ◌==◌, if◌then◌else◌, List, [], ◌∷◌, codes, Some, None}
 use Rattle.cob_source.specs.Tokens.{Lexeme}
 use Rattle.cob_source.specs.Words.{AreWordsOf, IsRefusal as IsSourceRefusal}
 use Rattle.cob_source.specs.declared.fault.SourceRule.TheVariants as source
-use Rattle.cob_copybook_entries.specs.Described.{Described}
+use Rattle.cob_entry.specs.Described.{Described}
 use Rattle.cob_copybook_entries.specs.Books.{AreEntriesOf, IsBroken as BreaksWords}
-use Rattle.cob_copybook_entries.specs.declared.fault.BookRule.{BookRule}
-use Rattle.cob_copybook_entries.specs.declared.fault.BookRule.TheVariants as rule
+use Rattle.cob_entry.specs.declared.fault.BookRule.{BookRule}
+use Rattle.cob_entry.specs.declared.fault.BookRule.TheVariants as rule
 use Rattle.cob_copybook_tree.specs.Forests.{Forest}
 use Rattle.cob_copybook_tree.specs.Nodes.{Resolved}
 use Rattle.cob_copybook.specs.declared.role.Role.{Role}
@@ -64,9 +64,10 @@ BreaksText r text = (words : List Lexeme) × AreWordsOf text words × BreaksWord
 abbrev pub BreaksEntries : Role → BookRule → List ℕ → Type 0
 BreaksEntries role r text = (ds : List Described) × HasEntries role text ds × BreaksRecord r ds
 
--- the text breaks the rule of the reference format on this line, or its words break the rule; want of memory is no line's
+-- the text breaks the rule of the reference format on this line, or its words break the rule; want of memory is no line's, and no rule
+-- of the reference format
 abbrev pub IsTextRefusal : BookRule → ℕ → List ℕ → Type 0
-IsTextRefusal (rule.Source r) line text = IsSourceRefusal r line text
+IsTextRefusal (rule.Source r) line text = (r ≢ source.Memory) × IsSourceRefusal r line text
 IsTextRefusal rule.Memory line text = line ≡ 0
 IsTextRefusal r line text = BreaksText r text
 
@@ -74,8 +75,7 @@ IsTextRefusal r line text = BreaksText r text
 abbrev pub IsRefusal : Role → BookRule → ℕ → List ℕ → Type 0
 IsRefusal role r line text = IsTextRefusal r line text ⊎ BreaksEntries role r text
 
--- want of memory, of the reader of words or of another one
+-- want of memory
 abbrev pub IsMemory : BookRule → Type 0
-IsMemory (rule.Source source.Memory) = Unit {0}
 IsMemory rule.Memory = Unit {0}
 IsMemory r = ⊥

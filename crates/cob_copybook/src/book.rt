@@ -12,8 +12,8 @@ use crate::role::Role;
 use crate::storage::storage_of;
 use crate::tree::tree_of;
 use crate::words::entries_of;
-use cob_copybook_entries::BookFault;
 use cob_copybook_tree::{Node, whole_length};
+use cob_entry::BookFault;
 use std::alloc::Global;
 use std::marker::Model;
 
@@ -50,7 +50,7 @@ impl Book {
     ///
     /// # Errors
     /// A rule that the text breaks, with the line of the entry that breaks it, or for a rule of the reference format that line itself.
-    /// Want of memory, with line 0.
+    /// Want of memory, with line 0, is told as that alone.
     pub fn read(alloc: Global, role: Role, text: &[u8]) -> Result<Book, BookFault>
         // What is read is the tree of the text.
         ensures found { IfOk result (λ b. IsBookOf role text.now b) }

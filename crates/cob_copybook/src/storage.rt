@@ -1,18 +1,18 @@
 //! The record that a tree of entries describes.
 
 ghost use Rattle.std.specs.Prelude.{◌≡◌, ◌≤◌, [], ◌∷◌, IfOk, IfErr};
-ghost use Rattle.cob_copybook_entries.specs.Described.{Described};
-ghost use Rattle.cob_copybook_entries.specs.declared.fault.BookRule.TheVariants.{Memory};
+ghost use Rattle.cob_entry.specs.Described.{Described};
+ghost use Rattle.cob_entry.specs.declared.fault.BookRule.TheVariants.{Memory};
 ghost use Rattle.cob_copybook_tree.specs.Forests.{Forest, entries_in};
 ghost use Rattle.cob_copybook_tree.specs.Branches.{forest_of};
 ghost use Rattle.cob_copybook_tree.specs.Nodes.{Resolved, forest};
 ghost use Rattle.cob_copybook_rules.specs.Rules.{AgreeAll};
 ghost use Rattle.cob_copybook.specs.Records.{IsStored, IsStorageRefusal};
 
-use cob_copybook_entries::BookFault;
 use cob_copybook_lengths::{breaks_no_rule, judged};
 use cob_copybook_names::counts;
 use cob_copybook_tree::{Branch, Node, resolve};
+use cob_entry::BookFault;
 use std::alloc::Global;
 
 /// The record that a tree of entries whose clauses agree describes.

@@ -2,11 +2,12 @@
 
 ghost use Rattle.std.specs.Prelude.{◌≡◌, ℕ, ◌≤◌, ◌<◌, List, length, map, IfOk, IfErr};
 ghost use Rattle.cob_limits.specs.Limits.{longest_name};
-ghost use Rattle.cob_copybook_entries.specs.Described.{Described, described};
+ghost use Rattle.cob_entry.specs.Described.{Described, described};
 ghost use Rattle.cob_copybook.specs.Books.{record_name, implied, with_record, HasEntries, IsTextRefusal, IsMemory};
 
 use crate::role::Role;
-use cob_copybook_entries::{BookFault, Entry, Name, entries};
+use cob_copybook_entries::entries;
+use cob_entry::{BookFault, Entry, Name};
 use cob_source::{tokens, words_are_one};
 use std::alloc::{AllocFailed, Global};
 

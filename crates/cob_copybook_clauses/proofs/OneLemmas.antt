@@ -7,9 +7,9 @@ use Rattle.cob_source.specs.Tokens.{Lexeme}
 use Rattle.cob_copybook_clauses.specs.declared.term.Term.{Term}
 use Rattle.cob_copybook_clauses.specs.declared.term.Term.TheVariants as term
 use Rattle.cob_copybook_clauses.specs.declared.clause.ClauseKind.TheVariants as clause_kind
-use Rattle.cob_copybook_clauses.specs.declared.kinds.Usage.{Usage}
-use Rattle.cob_copybook_clauses.specs.declared.kinds.Sign.{Sign}
-use Rattle.cob_copybook_clauses.specs.declared.kinds.Figurative.{Figurative}
+use Rattle.cob_entry.specs.declared.kinds.Usage.{Usage}
+use Rattle.cob_entry.specs.declared.kinds.Sign.{Sign}
+use Rattle.cob_entry.specs.declared.kinds.Figurative.{Figurative}
 use Rattle.cob_copybook_clauses.specs.Terms.{term_of, term_of_kind}
 use Rattle.cob_copybook_clauses.specs.Written.{WrittenConstant, Word, Quoted, Figure, Repeated, WrittenName, WrittenTable, WrittenClauses, names_behind}
 use Rattle.cob_copybook_clauses.specs.Clauses.{Noise, IsOrAre, IsWord, IsFree, IsNameWord, AreNames, AreQualifiers, IsPrefix, IsSeparate, AreKeys, Indexes, Keyed, IsLeast, IsCount, IsVaried, IsTable, IsConstant, usage_of, leading_of, figurative_of, Clause, Redefines, Picture, Stored, Signed, Occurs, Value, Justified, Blank, Spells}

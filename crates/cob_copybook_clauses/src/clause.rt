@@ -29,11 +29,11 @@ ghost use Rattle.std.specs.Prelude.{
 };
 
 use crate::constant::constant_at;
-use crate::kinds::{Sign, Usage};
 use crate::parts::{Constant, Table};
 use crate::table::table_at;
 use crate::term::{Term, term_of};
 use crate::words::{behind, other_word_at, skip, skip_is_or_are, skip_prefix, word_at};
+use cob_entry::{Sign, Usage};
 use cob_source::Token;
 
 /// The kind of a clause.

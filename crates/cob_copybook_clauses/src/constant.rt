@@ -5,10 +5,10 @@ ghost use Rattle.cob_source.specs.declared.token.Kind.TheVariants as kind;
 ghost use Rattle.cob_source.specs.Tokens.{Lexeme, lexemes};
 ghost use Rattle.std.specs.Prelude.{◌++◌, ◌∷◌, ◌≡◌, IfSome, IsSomeAnd, List};
 
-use crate::kinds::Figurative;
 use crate::parts::Constant;
 use crate::term::{Term, term_of};
 use crate::words::{behind, free_at, is_literal};
+use cob_entry::Figurative;
 use cob_source::Token;
 
 /// The figurative constant that a word is.

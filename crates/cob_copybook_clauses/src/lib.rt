@@ -15,13 +15,13 @@
 //! The definitions stand in `specs/`: `Terms` has the tables of reserved words, `Names` what a name is, `Written` an entry
 //! without where its texts lie in memory, `Clauses` the words of each clause, `Entries` those of an entry, of level 88 and
 //! of what is left out, and the sentences of a text. `Reading` holds what the readers of words say to one another; no
-//! public clause names it. The crate stands on `cob_source` for its tokens.
+//! public clause names it. The crate stands on `cob_source` for its tokens, and on `cob_entry` for usages, signs and
+//! figurative constants.
 #![tactic(auto)]
 
 mod clause;
 mod constant;
 mod entry;
-mod kinds;
 mod laws;
 mod names;
 mod parts;
@@ -33,7 +33,6 @@ mod words;
 
 pub use constant::constant_at;
 pub use entry::written;
-pub use kinds::{Figurative, Sign, Usage};
 pub use laws::{one_entry, sentences_cut, sentences_end};
 pub use names::is_name;
 pub use parts::{Clauses, Constant, Count, Table, Written};

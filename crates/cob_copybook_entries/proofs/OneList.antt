@@ -4,12 +4,12 @@ use Rattle.cob_source.specs.Tokens.{Lexeme}
 use Rattle.cob_picture.specs.Positions.{Seen}
 use Rattle.cob_picture.specs.Pictures.{IsPictureOf}
 use Rattle.cob_picture.proofs.OnePicture.{one_picture}
-use Rattle.cob_copybook_clauses.specs.declared.kinds.Usage.{Usage}
-use Rattle.cob_copybook_clauses.specs.declared.kinds.Sign.{Sign}
+use Rattle.cob_entry.specs.declared.kinds.Usage.{Usage}
+use Rattle.cob_entry.specs.declared.kinds.Sign.{Sign}
 use Rattle.cob_copybook_clauses.specs.Written.{WrittenConstant, Word, Quoted as QuotedText, Figure as FigureWord, Repeated as RepeatedText, WrittenName, WrittenTable, WrittenEntry}
 use Rattle.cob_copybook_clauses.specs.Entries.{is_condition}
 use Rattle.cob_copybook_clauses.specs.Laws.{OneEntry}
-use Rattle.cob_copybook_entries.specs.Described.{Constant, Numeric, Quoted, Figure, Repeated, Times, Fixed, Varying, Described}
+use Rattle.cob_entry.specs.Described.{Constant, Numeric, Quoted, Figure, Repeated, Times, Fixed, Varying, Described}
 use Rattle.cob_copybook_entries.specs.Meaning.{IsWhole, IsLeastOf, IsTimesBy, IsTimes, IsConstantOf, IsOption, IsNamed, Means}
 use Rattle.cob_copybook_entries.specs.Books.{IsSentence, AreDescribed}
 use Rattle.cob_copybook_entries.proofs.Constants.{one_numeric}

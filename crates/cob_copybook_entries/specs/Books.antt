@@ -7,9 +7,9 @@ use Rattle.cob_decimal.specs.Literals.{Literal, AreDigits}
 use Rattle.cob_copybook_clauses.specs.Names.{IsName}
 use Rattle.cob_copybook_clauses.specs.Written.{WrittenConstant, Word, Quoted, Repeated, WrittenTable, WrittenEntry}
 use Rattle.cob_copybook_clauses.specs.Entries.{IsWritten, IsCondition, is_condition, IsLeftOut, sentences}
-use Rattle.cob_copybook_entries.specs.declared.fault.BookRule.{BookRule}
-use Rattle.cob_copybook_entries.specs.declared.fault.BookRule.TheVariants as rule
-use Rattle.cob_copybook_entries.specs.Described.{Described}
+use Rattle.cob_entry.specs.declared.fault.BookRule.{BookRule}
+use Rattle.cob_entry.specs.declared.fault.BookRule.TheVariants as rule
+use Rattle.cob_entry.specs.Described.{Described}
 use Rattle.cob_copybook_entries.specs.Meaning.{Means, IsWhole, AreNumbers}
 use Rattle.cob_copybook_entries.specs.Parts.{IsLiteralOf, count_digits}
 

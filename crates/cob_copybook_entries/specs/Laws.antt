@@ -1,9 +1,9 @@
 -- What follows from the definitions, said as laws.
 use Rattle.std.specs.Prelude.{◌≡◌, List}
 use Rattle.cob_source.specs.Tokens.{Lexeme}
-use Rattle.cob_copybook_entries.specs.Described.{Described}
-use Rattle.cob_copybook_entries.specs.declared.fault.BookRule.{BookRule}
-use Rattle.cob_copybook_entries.specs.declared.fault.BookRule.TheVariants.{Memory}
+use Rattle.cob_entry.specs.Described.{Described}
+use Rattle.cob_entry.specs.declared.fault.BookRule.{BookRule}
+use Rattle.cob_entry.specs.declared.fault.BookRule.TheVariants.{Memory}
 use Rattle.cob_copybook_entries.specs.Books.{AreEntriesOf, IsBroken}
 
 -- words are one list of entries at most

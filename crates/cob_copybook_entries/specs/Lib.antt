@@ -1,5 +1,3 @@
-pub mod Faults
-pub mod Described
 pub mod Meaning
 pub mod Parts
 pub mod Books

@@ -6,7 +6,7 @@ use Rattle.cob_picture.specs.Pictures.{IsPictureOf}
 use Rattle.cob_copybook_clauses.specs.Names.{IsName}
 use Rattle.cob_copybook_clauses.specs.Written.{WrittenConstant, Word, Quoted as QuotedText, Figure as FigureWord, Repeated as RepeatedText, WrittenName, WrittenTable, WrittenEntry}
 use Rattle.cob_limits.specs.Limits.{longest_literal}
-use Rattle.cob_copybook_entries.specs.Described.{Constant, Numeric, Quoted, Figure, Repeated, Times, Fixed, Varying, Described}
+use Rattle.cob_entry.specs.Described.{Constant, Numeric, Quoted, Figure, Repeated, Times, Fixed, Varying, Described}
 
 -- a whole number without a sign, in so many digits at most
 pub record IsWhole (most : ℕ) (text : List ℕ) (n : ℕ) : Type 0 where

@@ -1,31 +1,25 @@
 //! The entries of a copybook, each by itself (ANSI X3.23-1985, Nucleus: the data description entry).
 //!
-//! A copybook is a list of record description entries, each ended by a period. `entries` reads the words of a text into that list.
-//! The levels, names, pictures, numbers and literals in an entry's clauses are read here, and a text that is none of these is
-//! refused by the rule that it breaks. Entries of level 88 name a value and aren't kept. How entries make a tree, and which rules
-//! hold between them, is for the crates above.
+//! A copybook is a list of record description entries, each ended by a period. `entries` reads the words of a text into that list,
+//! whose entries are those of `cob_entry`. The levels, names, pictures, numbers and literals in an entry's clauses are read here, and
+//! a text that is none of these is refused by the rule that it breaks. Entries of level 88 name a value and aren't kept. How entries
+//! make a tree, and which rules hold between them, is for the crates above.
 //!
 //! What is promised: `entries` answers `Ok` with the entries of the words (clause `found`), of which there is one at least
 //! (`some`); words that are entries are read, memory aside, and as these entries (`only`); and a refusal names a rule that the
 //! words break (`fault`). A VALUE's word that is a numeric literal by its parts breaks the rule on values where it has too many
-//! digits, and any other word the grammar. A fault of the text becomes one of the copybook on the same line, but refused memory
-//! stays refused memory, on line 0. No clause says which of several broken rules is named, nor on which line. Words are one list
-//! of entries at most (`one_list_of_entries`), and words that are entries break no rule (`entries_break_no_rule`). `Name::of`
-//! answers a name exactly for a text that is one (`found`, `only`). [`value_of`] answers what a constant as it is written means,
-//! or the rule that it breaks, the grammar of literals or the rule on values (`found`, `only`, `fault`). Names, literals and
-//! constants are copied without memory (`clone`).
+//! digits, and any other word the grammar. No clause says which of several broken rules is named, nor on which line. Words are one
+//! list of entries at most (`one_list_of_entries`), and words that are entries break no rule (`entries_break_no_rule`).
+//! [`name_of_text`] answers a name exactly for a text that is one (`found`, `only`). [`value_of`] answers what a constant as it is
+//! written means, or the rule that it breaks, the grammar of literals or the rule on values (`found`, `only`, `fault`).
 //!
-//! The definitions stand in `specs/`: `Described` is what contracts see of an entry, `Meaning` says what an entry's texts mean,
-//! `Parts` what a numeric literal of any length is, `Books` which entries words are and which rules they break, and `Faults` what
-//! the fault of a text becomes. `Breaks` says which rule a part of an entry breaks, a constant's among them; `Adds`, `Short` and
-//! `Signs` name the steps on the way; no public clause names them.
-//! `Laws` has the laws. The crate stands on `cob_source` for words, on `cob_copybook_clauses` for clauses as they are written, on
-//! `cob_picture` and `cob_decimal` for pictures and numbers, on `arrayvec` for texts of bounded length, and on `thiserror` for
-//! the fault's message.
+//! The definitions stand in `specs/`: `Meaning` says what an entry's texts mean, `Parts` what a numeric literal of any length is, and
+//! `Books` which entries words are and which rules they break. `Breaks` says which rule a part of an entry breaks, a constant's among
+//! them; `Adds`, `Short` and `Signs` name the steps on the way; no public clause names them. `Laws` has the laws. The crate stands on `cob_source` for words, on `cob_copybook_clauses` for clauses as they are written, on
+//! `cob_entry` for entries, on `cob_picture` and `cob_decimal` for pictures and numbers, and on `arrayvec` for texts of bounded
+//! length.
 #![tactic(auto)]
 
-mod entry;
-mod fault;
 mod laws;
 mod meaning;
 mod name;
@@ -35,10 +29,7 @@ mod reader;
 mod sentence;
 mod value;
 
-pub use cob_limits::MAX_LITERAL;
-pub use entry::{Entry, Occurs, Qualified};
-pub use fault::{BookFault, BookRule, MAX_WORD};
 pub use laws::{entries_break_no_rule, one_list_of_entries};
-pub use name::Name;
+pub use name::name_of_text;
 pub use reader::entries;
-pub use value::{Text, Value, is_numeric_literal, value_of};
+pub use value::{is_numeric_literal, value_of};

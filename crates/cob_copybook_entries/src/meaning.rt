@@ -5,20 +5,19 @@ ghost use Rattle.cob_picture.specs.declared.fault.PictureFault.{PictureFault};
 ghost use Rattle.cob_picture.specs.Positions.{Seen};
 ghost use Rattle.cob_picture.specs.Pictures.{IsBroken, IsPictureOf};
 ghost use Rattle.cob_copybook_clauses.specs.Written.{written_constant, written_entry, written_table};
-ghost use Rattle.cob_copybook_entries.specs.declared.fault.BookRule.TheVariants as rule;
-ghost use Rattle.cob_copybook_entries.specs.Described.{Constant as Meant, Described, Times, constant, described, times};
+ghost use Rattle.cob_entry.specs.declared.fault.BookRule.TheVariants as rule;
+ghost use Rattle.cob_entry.specs.Described.{Constant as Meant, Described, Times, constant, described, times};
 ghost use Rattle.cob_copybook_entries.specs.Meaning.{IsConstantOf, IsNamed, IsOption, IsTimes, IsWhole, Means};
 ghost use Rattle.cob_copybook_entries.specs.Books.{BreaksEntry, IsNoName};
 ghost use Rattle.cob_copybook_entries.specs.Breaks.{IsConstantFault, IsTableFault, OfOption};
 ghost use Rattle.cob_copybook_entries.specs.Short.{HasShortCount};
 
-use crate::entry::{Entry, Occurs};
-use crate::fault::BookRule;
-use crate::name::Name;
+use crate::name::name_of_text;
 use crate::number::whole;
 use crate::occurs::occurs_of;
-use crate::value::{Value, value_of};
+use crate::value::value_of;
 use cob_copybook_clauses::{Constant, Table, Written};
+use cob_entry::{BookRule, Entry, Name, Occurs, Value};
 use cob_picture::Picture;
 use std::alloc::Global;
 
@@ -91,7 +90,7 @@ fn name_of(text: Option<&[u8]>) -> Result<Option<Name>, BookRule>
     let Some(text) = text else {
         return Ok(None);
     };
-    match Name::of(text) {
+    match name_of_text(text) {
         Some(name) => Ok(Some(name)),
         None => Err(BookRule::Name),
     }

@@ -1,79 +1,19 @@
 //! Names of entries.
 
-ghost use Rattle.std.specs.Prelude.{◌≡◌, ℕ, ◌≤◌, List, length, IfSome, IsSomeAnd};
+ghost use Rattle.std.specs.Prelude.{◌≡◌, IfSome, IsSomeAnd};
 ghost use Rattle.cob_copybook_clauses.specs.Names.{IsName};
-ghost use Rattle.cob_limits.specs.Limits.{longest_name};
 
-use arrayvec::ArrayVec;
 use cob_copybook_clauses::is_name;
-use cob_limits::MAX_NAME;
-use std::fmt;
-use std::marker::Model;
+use cob_entry::Name;
 
-/// The name of an entry: at most 30 characters, in capitals.
-///
-/// Contracts see the list of the characters, in ASCII.
-#[derive(Debug, Drop, PartialEq, Eq)]
-pub struct Name {
-    characters: ArrayVec<u8, MAX_NAME>,
-}
-
-impl Model for Name {
-    ghost use Rattle.std.specs.Prelude.{List, ℕ};
-
-    ghost Value = { List ℕ };
-
-    ghost view = { λ n. n.characters.items };
-
-    ghost inverse = { λ cs. record { characters = record { items = cs } } };
-}
-
-impl Name {
-    /// The name that a text in capitals is, and `None` where it is none or is a reserved word.
-    pub fn of(text: &[u8]) -> Option<Name>
-        ensures found { IfSome result (λ n. IsName text.now × (n ≡ text.now)) }
-        ensures only { IsName text.now → IsSomeAnd result (λ n. n ≡ text.now) }
-    {
-        if is_name(text) {
-            Some(Name::from_characters(text))
-        } else {
-            None
-        }
-    }
-
-    /// The name of these characters, at most [`MAX_NAME`], which need not be a name that the rules allow.
-    pub fn from_characters(text: &[u8]) -> Name
-        requires { length text.now ≤ longest_name }
-        ensures { result ≡ text.now }
-    {
-        let mut characters = ArrayVec::new();
-        for character in text {
-            characters.push(*character);
-        }
-        Name { characters }
-    }
-
-    /// The characters, in ASCII.
-    pub fn as_bytes(&self) -> &[u8]
-        ensures value { result.now ≡ self.now }
-        ensures short { length result.now ≤ longest_name }
-    {
-        self.characters.as_slice()
-    }
-
-    /// The same name once more. It takes no memory, and so cannot fail.
-    pub fn clone(&self) -> Name
-        ensures { result ≡ self.now }
-    {
-        Name::from_characters(self.as_bytes())
-    }
-}
-
-impl fmt::Display for Name {
-    fn fmt<W: fmt::Write>(&self, f: &mut fmt::Formatter<W>) -> fmt::Result {
-        for character in self.as_bytes() {
-            f.write_char(char::from(*character))?;
-        }
-        Ok(())
+/// The name that a text in capitals is, and `None` where it is none or is a reserved word.
+pub fn name_of_text(text: &[u8]) -> Option<Name>
+    ensures found { IfSome result (λ n. IsName text.now × (n ≡ text.now)) }
+    ensures only { IsName text.now → IsSomeAnd result (λ n. n ≡ text.now) }
+{
+    if is_name(text) {
+        Some(Name::from_characters(text))
+    } else {
+        None
     }
 }

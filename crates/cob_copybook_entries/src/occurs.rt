@@ -4,18 +4,17 @@ ghost use Rattle.std.specs.Prelude.{◌≡◌, ℕ, ◌⊎◌, ◌↔◌, Ok, So
 ghost use Rattle.cob_source.specs.Tokens.{lexemes};
 ghost use Rattle.cob_copybook_clauses.specs.Names.{IsName};
 ghost use Rattle.cob_copybook_clauses.specs.Written.{names_behind, written_name, written_table};
-ghost use Rattle.cob_copybook_entries.specs.declared.fault.BookRule.TheVariants as rule;
-ghost use Rattle.cob_copybook_entries.specs.Described.{Times, times};
+ghost use Rattle.cob_entry.specs.declared.fault.BookRule.TheVariants as rule;
+ghost use Rattle.cob_entry.specs.Described.{Times, times};
 ghost use Rattle.cob_copybook_entries.specs.Meaning.{IsLeastOf, IsRange, AreNumbers, IsTimes};
 ghost use Rattle.cob_copybook_entries.specs.Books.{BreaksNumber, BreaksTable};
 ghost use Rattle.cob_copybook_entries.specs.Breaks.{IsTableFault};
 ghost use Rattle.cob_copybook_entries.specs.Short.{AreShort, HasShortQualifiers};
 
-use crate::entry::{Occurs, Qualified};
-use crate::fault::BookRule;
-use crate::name::Name;
+use crate::name::name_of_text;
 use crate::number::{are_digits, whole};
 use cob_copybook_clauses::{Count, Table};
+use cob_entry::{BookRule, Name, Occurs, Qualified};
 use cob_source::Token;
 use std::alloc::{AllocError, Global};
 
@@ -129,7 +128,7 @@ fn qualified_of(alloc: Global, count: &Count<'_>) -> Result<Qualified, BookRule>
     ensures fault { IfErr result
         (λ r. (r ≡ rule.Memory) ⊎ ((r ≡ rule.Name) × (IsName (written_name count.now).name → ⊥))) }
 {
-    let Some(name) = Name::of(count.name) else {
+    let Some(name) = name_of_text(count.name) else {
         return Err(BookRule::Name);
     };
     let qualifiers = names_in(alloc, count.qualifiers)?;

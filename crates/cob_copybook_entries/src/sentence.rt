@@ -3,17 +3,16 @@
 ghost use Rattle.std.specs.Prelude.{◌≡◌, ◌⊎◌, ◌<◌, ◌≤◌, Option, length, IfErr, IfOk, IsOk, OnOk, option_map};
 ghost use Rattle.std.specs.List.{AllByRecursion};
 ghost use Rattle.cob_source.specs.Tokens.{lexemes};
-ghost use Rattle.cob_copybook_entries.specs.declared.fault.BookRule.TheVariants as rule;
-ghost use Rattle.cob_copybook_entries.specs.declared.fault.TheConstants.{MAX_WORD};
-ghost use Rattle.cob_copybook_entries.specs.Described.{Described, described};
+ghost use Rattle.cob_entry.specs.declared.fault.BookRule.TheVariants as rule;
+ghost use Rattle.cob_entry.specs.declared.fault.TheConstants.{MAX_WORD};
+ghost use Rattle.cob_entry.specs.Described.{Described, described};
 ghost use Rattle.cob_copybook_entries.specs.Books.{BreaksCondition, BreaksData, BreaksSentence, IsConditionEntry, IsEntry};
 ghost use Rattle.cob_copybook_entries.specs.Adds.{Adds};
 
-use crate::entry::Entry;
-use crate::fault::{BookRule, MAX_WORD};
 use crate::meaning::entry_of;
 use arrayvec::ArrayString;
 use cob_copybook_clauses::{condition, is_condition, is_name, left_out, written};
+use cob_entry::{BookRule, Entry, MAX_WORD};
 use cob_source::Token;
 use std::alloc::Global;
 

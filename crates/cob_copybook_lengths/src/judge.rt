@@ -9,8 +9,8 @@ ghost use Rattle.cob_copybook_lengths.specs.Rules.{IsFit, Breaks};
 
 use crate::areas::wrong_area;
 use crate::values::wrong_value;
-use cob_copybook_entries::{BookFault, BookRule};
 use cob_copybook_tree::{Node, whole_length};
+use cob_entry::{BookFault, BookRule};
 use cob_limits::MAX_RECORD;
 use std::slice;
 

@@ -15,7 +15,7 @@
 //! A record is judged only if each of its entries occurs at least once, and its items have no entries beneath them (the clause
 //! `possible`): what reads entries, and the rules that clauses keep among themselves, see to that.
 //!
-//! It takes no memory. It stands on `cob_copybook_tree` for the tree and its lengths, on `cob_copybook_entries` for names, values and the fault, on
+//! It takes no memory. It stands on `cob_copybook_tree` for the tree and its lengths, on `cob_entry` for names, values and the fault, on
 //! `cob_picture` for what a picture holds, and on `cob_decimal` for numbers.
 #![tactic(auto)]
 

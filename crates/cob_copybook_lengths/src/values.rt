@@ -2,15 +2,14 @@
 
 ghost use Rattle.std.specs.Prelude.{◌≡◌, ℕ, ◌||◌, IsTrue};
 ghost use Rattle.std.specs.Option.{IsNone, is_some};
-ghost use Rattle.cob_copybook_entries.specs.Described.{constant};
+ghost use Rattle.cob_entry.specs.Described.{constant};
 ghost use Rattle.cob_copybook_tree.specs.Nodes.{node, forest};
 ghost use Rattle.cob_copybook_tree.specs.Lengths.{most, element};
 ghost use Rattle.cob_copybook_lengths.specs.Values.{is_number, IsNumericValue, IsCharacterValue, IsValueFor, MayHaveValue, AreValues};
 
 use crate::fitting::fits_number;
-use cob_copybook_clauses::Figurative;
-use cob_copybook_entries::Value;
 use cob_copybook_tree::{Item, Kind, Node, element_length};
+use cob_entry::{Figurative, Value};
 use cob_picture::{Category, Picture};
 
 /// Whether an item is a number that isn't edited.

@@ -1,6 +1,6 @@
 -- The only one of a list that is so.
 use Rattle.std.proofs.Common.{◌≡◌, ℕ, ◌+◌, List, [], ◌∷◌, Option, Some, None, sym, ap, ◌∙◌, inl, inr}
-use Rattle.cob_copybook_entries.specs.Described.{Described, Times, Fixed, Varying}
+use Rattle.cob_entry.specs.Described.{Described, Times, Fixed, Varying}
 use Rattle.cob_copybook_names.specs.Bearers.{Bearer, Names, NoneIs, IsOnlyOne}
 use Rattle.cob_copybook_names.specs.Counts.{IsCount, IsCountOf, AreCounts}
 

@@ -10,7 +10,7 @@
 //! The rules are stated in `specs/Counts.antt` over the record's entries by their names (`specs/Bearers.antt`). The law
 //! `one_list_of_counts` says that a tree has its counts in one way.
 //!
-//! It stands on `cob_copybook_tree` for the tree of entries as written, on `cob_copybook_entries` for an entry and the fault, on `cob_picture` for a
+//! It stands on `cob_copybook_tree` for the tree of entries as written, on `cob_entry` for an entry and the fault, on `cob_picture` for a
 //! count's picture, and on `indexmap`, by which names are found.
 #![tactic(auto)]
 

@@ -3,7 +3,8 @@
 use crate::refusal::Refusal;
 use crate::texts::{entries_of, many_of, push_word};
 use arrayvec::ArrayVec;
-use cob_copybook_entries::{Entry, Name, Occurs, Value};
+use cob_copybook_entries::name_of_text;
+use cob_entry::{Entry, Occurs, Value};
 use cob_rows::{Row, RowFault};
 use std::alloc::{AllocError, Global};
 use std::fmt::Write;
@@ -24,7 +25,7 @@ pub(crate) fn answer(alloc: Global, row: &Row, out: &mut String) -> Result<(), R
             let list = entries_of(alloc, text.as_slice())?;
             write!(out, "{} entries", list.len())?;
         }
-        b"name" => match Name::of(row.field(1)?.as_bytes()) {
+        b"name" => match name_of_text(row.field(1)?.as_bytes()) {
             Some(name) => write!(out, "{name}")?,
             None => out.push_str("none")?,
         },

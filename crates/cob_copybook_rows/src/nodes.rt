@@ -1,7 +1,7 @@
 //! Records as they are written in answers.
 
-use cob_copybook_clauses::Usage;
 use cob_copybook_tree::{Item, Kind, Node, Times};
+use cob_entry::Usage;
 use std::alloc::AllocError;
 use std::fmt::Write;
 

@@ -1,6 +1,6 @@
 //! Why a row's question isn't answered as it is asked.
 
-use cob_copybook_entries::BookFault;
+use cob_entry::BookFault;
 use cob_rows::RowFault;
 use std::alloc::AllocError;
 

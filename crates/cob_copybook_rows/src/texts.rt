@@ -1,6 +1,7 @@
 //! Texts of rows: their words, and their entries.
 
-use cob_copybook_entries::{BookFault, Entry, entries};
+use cob_copybook_entries::entries;
+use cob_entry::{BookFault, Entry};
 use cob_rows::{Row, RowFault, lines_of};
 use cob_source::{Token, tokens};
 use std::alloc::{AllocError, Global};

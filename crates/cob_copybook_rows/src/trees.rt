@@ -1,17 +1,17 @@
 //! The tree that entries stand for, and its lengths.
 
 ghost use Rattle.std.specs.Prelude.{◌≤◌, [], ◌∷◌, map, IsTrue, IfOk};
-ghost use Rattle.cob_copybook_entries.specs.Described.{described};
+ghost use Rattle.cob_entry.specs.Described.{described};
 ghost use Rattle.cob_copybook_tree.specs.Branches.{AreLevels, forest_of};
 ghost use Rattle.cob_copybook_tree.specs.Forests.{entries_in};
 
 use crate::nodes::{push_each, push_tree};
 use crate::refusal::Refusal;
 use crate::texts::entries_of;
-use cob_copybook_entries::Entry;
 use cob_copybook_tree::{
     Branch, Kind, Node, as_many_entries, element_length, planted, resolve, whole_length,
 };
+use cob_entry::Entry;
 use cob_rows::{Row, RowFault};
 use std::alloc::{AllocError, Global};
 use std::fmt::Write;

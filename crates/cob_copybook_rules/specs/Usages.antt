@@ -3,9 +3,9 @@ use Rattle.std.specs.Prelude.{◌≡◌, ◌≤◌, pos, ◌-ℤ◌, ◌≤ℤ�
 use Rattle.cob_limits.specs.Limits.{most_binary_digits}
 use Rattle.cob_picture.specs.Positions.{Seen}
 use Rattle.cob_picture.specs.Counts.{digits, scale}
-use Rattle.cob_copybook_clauses.specs.declared.kinds.Usage.{Usage}
-use Rattle.cob_copybook_clauses.specs.declared.kinds.Usage.TheVariants.{Display, Binary, Packed}
-use Rattle.cob_copybook_entries.specs.Described.{Described}
+use Rattle.cob_entry.specs.declared.kinds.Usage.{Usage}
+use Rattle.cob_entry.specs.declared.kinds.Usage.TheVariants.{Display, Binary, Packed}
+use Rattle.cob_entry.specs.Described.{Described}
 use Rattle.cob_copybook_tree.specs.Forests.{Forest, Bare, Grows}
 use Rattle.cob_copybook_tree.specs.Resolving.{inherited, is_numeric}
 

@@ -12,8 +12,8 @@
 //! tree does both is the law [`breaks_no_rule`]. So the answer is an `Ok` exactly for the trees whose clauses agree. No clause says
 //! which line is named for a broken rule: it is the first of an entry that breaks it, a parent before its children.
 //!
-//! It takes no memory. It stands on `cob_copybook_tree` for the tree, on `cob_copybook_entries` for its entries and for the fault, on `cob_copybook_clauses`
-//! for what a clause says, and on `cob_picture` for what a picture says.
+//! It takes no memory. It stands on `cob_copybook_tree` for the tree, on `cob_entry` for its entries, what
+//! their clauses say and the fault, and on `cob_picture` for what a picture says.
 #![tactic(auto)]
 
 mod filled;

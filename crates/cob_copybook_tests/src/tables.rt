@@ -1,8 +1,8 @@
 //! Tables that no text of entries describes, since an entry by itself may not be one.
 
-use cob_copybook_entries::{BookFault, BookRule, Entry, Name, Occurs, Qualified};
 use cob_copybook_rules::judged;
 use cob_copybook_tree::Branch;
+use cob_entry::{BookFault, BookRule, Entry, Name, Occurs, Qualified};
 use cob_picture::Picture;
 use std::alloc::Global;
 use std::test::Fail;

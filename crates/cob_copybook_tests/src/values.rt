@@ -1,9 +1,9 @@
 //! Names, constants and faults by themselves.
 
 use arrayvec::ArrayVec;
-use cob_copybook_clauses::Figurative;
-use cob_copybook_entries::{BookFault, BookRule, Name, Text, Value};
+use cob_copybook_entries::name_of_text;
 use cob_decimal::Number;
+use cob_entry::{BookFault, BookRule, Figurative, Name, Text, Value};
 use cob_source::SourceRule;
 use std::alloc::Global;
 use std::fmt::Write;
@@ -14,7 +14,7 @@ use std::test::Fail;
 #[test]
 fn copies_of_names(rt: HostRuntime) -> Result<(), Fail> {
     for text in ["A", "1-A", "A_B-1"] {
-        match Name::of(text.as_bytes()) {
+        match name_of_text(text.as_bytes()) {
             Some(name) => {
                 assert_eq!(rt; name.as_bytes(), text.as_bytes());
                 assert_eq!(rt; format!(in rt.alloc(); "{}", name.clone())?.as_str(), text);

@@ -1,7 +1,7 @@
 -- A list of entries has at most one tree.
 use Rattle.std.proofs.Common.{◌≡◌, ℕ, ◌<◌, ◌≤◌, List, [], ◌∷◌, ◌++◌, refl, sym, subst, ◌∙◌, append_assoc, arith}
 use Rattle.std.specs.List.{AllByRecursion}
-use Rattle.cob_copybook_entries.specs.Described.{Described}
+use Rattle.cob_entry.specs.Described.{Described}
 use Rattle.cob_copybook_tree.specs.Forests.{Forest, Bare, Grows, flat, IsTree, AreDeeper, NotDeeper}
 use Rattle.cob_copybook_tree.specs.Branches.{level_of}
 

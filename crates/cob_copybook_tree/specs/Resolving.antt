@@ -4,11 +4,11 @@ use Rattle.cob_picture.specs.Positions.{Seen}
 use Rattle.cob_picture.specs.Counts.{signed}
 use Rattle.cob_picture.specs.declared.category.Category.{Category}
 use Rattle.cob_picture.specs.declared.category.Category.TheVariants.{Alphabetic, Numeric, Alphanumeric, AlphanumericEdited, NumericEdited}
-use Rattle.cob_copybook_clauses.specs.declared.kinds.Usage.{Usage}
-use Rattle.cob_copybook_clauses.specs.declared.kinds.Usage.TheVariants.{Display, Binary, Packed}
-use Rattle.cob_copybook_clauses.specs.declared.kinds.Sign.{Sign}
-use Rattle.cob_copybook_entries.specs.Described as described
-use Rattle.cob_copybook_entries.specs.Described.{Described}
+use Rattle.cob_entry.specs.declared.kinds.Usage.{Usage}
+use Rattle.cob_entry.specs.declared.kinds.Usage.TheVariants.{Display, Binary, Packed}
+use Rattle.cob_entry.specs.declared.kinds.Sign.{Sign}
+use Rattle.cob_entry.specs.Described as described
+use Rattle.cob_entry.specs.Described.{Described}
 use Rattle.cob_copybook_tree.specs.declared.node.Times.{Times}
 use Rattle.cob_copybook_tree.specs.declared.node.Times.TheVariants.{Once, Fixed, Varying}
 use Rattle.cob_copybook_tree.specs.declared.node.Kind.{Kind}

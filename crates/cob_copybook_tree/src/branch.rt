@@ -1,4 +1,4 @@
-use cob_copybook_entries::Entry;
+use cob_entry::Entry;
 
 /// An entry with those beneath it, as they are written.
 #[derive(Debug, Drop)]

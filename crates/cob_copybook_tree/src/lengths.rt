@@ -4,7 +4,7 @@ ghost use Rattle.cob_copybook_tree.specs.Nodes.{node};
 ghost use Rattle.cob_copybook_tree.specs.Lengths.{binary_size, element, item_size, most, most_by, sign_byte, whole};
 
 use crate::node::{Item, Kind, Node, Times};
-use cob_copybook_clauses::{Sign, Usage};
+use cob_entry::{Sign, Usage};
 
 /// The length that each greater one counts as.
 pub const MANY: u32 = 65_536;

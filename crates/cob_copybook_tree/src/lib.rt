@@ -14,13 +14,14 @@
 //! - [`Item::size`] is the bytes of an item, [`Times::most`] how often an entry occurs at most, and [`element_length`] and
 //!   [`whole_length`] are the greatest lengths of one element of an entry and of all of them (`item_size`, `most_by`, `element` and
 //!   `whole` of specs/Lengths.antt); one of over [`MANY`] bytes counts as [`MANY`].
+//! - [`Kind::clone`] is what an entry describes, once more, and takes no memory.
 //! - [`branch_opens`] and [`node_opens`] are the laws that say what a branch and a node are to contracts, an entry and those beneath
 //!   it, and [`as_many_entries`] says that a tree has as many entries as their list is long.
 //!
 //! Contracts see branches and nodes as a `Forest` (specs/Forests.antt), so that no clause speaks of where they lie in memory. A fault is
 //! only that memory was refused: which levels, usages, signs and tables are allowed, the crates above say.
 //!
-//! It stands on `cob_copybook_entries` for the entries, on `cob_copybook_clauses` for usages and signs, and on `cob_picture` for the sizes of items.
+//! It stands on `cob_entry` for the entries, their usages and signs, and on `cob_picture` for the sizes of items.
 #![tactic(auto)]
 
 mod branch;

@@ -1,5 +1,8 @@
-use cob_copybook_clauses::{Sign, Usage};
-use cob_copybook_entries::{Name, Value};
+//! The entries of a record with what they inherit.
+
+ghost use Rattle.std.specs.Prelude.{◌≡◌};
+
+use cob_entry::{Name, Sign, Usage, Value};
 use cob_picture::Picture;
 
 /// How often an entry occurs.
@@ -27,11 +30,38 @@ pub struct Item {
     pub blank: bool,
 }
 
+impl Item {
+    /// The same item once more. It takes no memory, and so cannot fail.
+    pub fn clone(&self) -> Item
+        ensures { result ≡ self.now }
+    {
+        Item {
+            picture: self.picture.clone(),
+            usage: self.usage,
+            sign: self.sign,
+            justified: self.justified,
+            blank: self.blank,
+        }
+    }
+}
+
 /// What an entry describes.
 #[derive(Debug, Drop)]
 pub enum Kind {
     Group,
     Item(Item),
+}
+
+impl Kind {
+    /// What an entry describes, once more. It takes no memory, and so cannot fail.
+    pub fn clone(&self) -> Kind
+        ensures same { result ≡ self.now }
+    {
+        match self {
+            Kind::Group => Kind::Group,
+            Kind::Item(item) => Kind::Item(item.clone()),
+        }
+    }
 }
 
 /// An entry of a record with those beneath it.

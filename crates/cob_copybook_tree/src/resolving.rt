@@ -1,6 +1,6 @@
 ghost use Rattle.std.specs.Prelude.{◌≡◌, ◌+◌, ◌≤◌, [], ◌∷◌, slice_index, None, unwrap_or, option_map, IfOk, OnOk};
-ghost use Rattle.cob_copybook_clauses.specs.declared.kinds.Usage.TheVariants.{Display};
-ghost use Rattle.cob_copybook_entries.specs.Described.{described, times};
+ghost use Rattle.cob_entry.specs.declared.kinds.Usage.TheVariants.{Display};
+ghost use Rattle.cob_entry.specs.Described.{described, times};
 ghost use Rattle.cob_copybook_tree.specs.Forests.{entries_in};
 ghost use Rattle.cob_copybook_tree.specs.Branches.{forest_of};
 ghost use Rattle.cob_copybook_tree.specs.Nodes.{node, forest};
@@ -8,8 +8,7 @@ ghost use Rattle.cob_copybook_tree.specs.Resolving.{inherited, keeps_sign, kind_
 
 use crate::branch::Branch;
 use crate::node::{Item, Kind, Node, Times};
-use cob_copybook_clauses::{Sign, Usage};
-use cob_copybook_entries::{Entry, Name, Occurs, Value};
+use cob_entry::{Entry, Name, Occurs, Sign, Usage, Value};
 use cob_picture::{Category, Picture};
 use std::alloc::{AllocError, Global};
 

@@ -6,8 +6,8 @@ ghost use Rattle.cob_copybook_tree.specs.declared.node.Node.TheViews.{out-Node};
 ghost use Rattle.cob_layout_places.specs.Lengths.{alone};
 ghost use Rattle.cob_copybook.specs.Bytes.{TakesByte, TakeBytes};
 
-use cob_copybook_entries::{Name, Value};
 use cob_copybook_tree::{Item, Kind, Node};
+use cob_entry::{Name, Value};
 use std::alloc::{AllocError, Global};
 
 /// What an entry describes, once more. It takes no memory, and so cannot fail. An item takes a byte, since its picture does.

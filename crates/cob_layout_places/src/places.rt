@@ -6,8 +6,8 @@ ghost use Rattle.cob_limits.specs.Limits.{longest_record};
 ghost use Rattle.cob_layout_places.specs.Places.{also, begins, find_one, is_table, is_there, later, skipped};
 
 use crate::lengths::{element_of, times_of};
-use cob_copybook_entries::Name;
 use cob_copybook_tree::{Kind, Node, Times};
+use cob_entry::Name;
 
 /// Where an element stands, in bytes from the start of the record, and whether it is one of those that are there.
 #[derive(Clone, Copy, Debug, PartialEq, Eq)]

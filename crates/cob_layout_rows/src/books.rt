@@ -6,8 +6,8 @@ ghost use Rattle.cob_layout_places.specs.References.{Refers};
 
 use arrayvec::ArrayVec;
 use cob_copybook::{Book, Role};
-use cob_copybook_entries::BookRule;
 use cob_copybook_tree::Node;
+use cob_entry::BookRule;
 use cob_layout::{Layout, Ref};
 use cob_limits::MAX_SUBSCRIPTS;
 use cob_rows::{Row, RowFault};

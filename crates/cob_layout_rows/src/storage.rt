@@ -1,8 +1,7 @@
 //! What records hold before the first move.
 
 use crate::books::book_of;
-use cob_copybook_clauses::Figurative;
-use cob_copybook_entries::{Text, Value};
+use cob_entry::{Figurative, Text, Value};
 use cob_layout::Layout;
 use cob_limits::MAX_LITERAL;
 use cob_move::initial;

@@ -1,7 +1,7 @@
 -- Moves with the places of their operands, or what these rest on.
 use Rattle.std.specs.Prelude.{ℕ, ◌+◌, ◌≤◌, Bool, true, false, List, map, Ok}
 use Rattle.std.specs.List.{AllByRecursion}
-use Rattle.cob_copybook_entries.specs.Described.{constant}
+use Rattle.cob_entry.specs.Described.{constant}
 use Rattle.cob_copybook_tree.specs.Forests.{Tree}
 use Rattle.cob_copybook_tree.specs.Nodes.{Resolved}
 use Rattle.cob_fields.specs.declared.Place.{Place}

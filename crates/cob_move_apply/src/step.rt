@@ -1,6 +1,6 @@
 //! Moves with what the places of their operands rest on.
 
-use cob_copybook_entries::Value;
+use cob_entry::Value;
 use cob_layout::Place;
 use cob_move_operands::{Operand, Side};
 

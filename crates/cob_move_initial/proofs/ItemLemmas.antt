@@ -2,9 +2,9 @@
 use Rattle.std.proofs.Common.{◌≡◌, ℕ, Bool, true, false, List, Some, None, refl, sym, subst}
 use Rattle.std.specs.Prelude.{MatchBool, if◌then◌else◌}
 use Rattle.cob_picture.specs.Positions.{shows_number}
-use Rattle.cob_copybook_clauses.specs.declared.kinds.Figurative.{Figurative}
-use Rattle.cob_copybook_clauses.specs.declared.kinds.Figurative.TheVariants.{Space, Zero, HighValue, LowValue, Quote}
-use Rattle.cob_copybook_entries.specs.Described.{Constant, Numeric, Quoted, Figure, Repeated}
+use Rattle.cob_entry.specs.declared.kinds.Figurative.{Figurative}
+use Rattle.cob_entry.specs.declared.kinds.Figurative.TheVariants.{Space, Zero, HighValue, LowValue, Quote}
+use Rattle.cob_entry.specs.Described.{Constant, Numeric, Quoted, Figure, Repeated}
 use Rattle.cob_copybook_tree.specs.declared.node.Kind.TheVariants.{Group, Item as ItemKind}
 use Rattle.cob_copybook_tree.specs.declared.node.Item.{Item}
 use Rattle.cob_copybook_tree.specs.Lengths.{item_size}

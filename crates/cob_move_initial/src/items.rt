@@ -2,7 +2,7 @@
 
 ghost use Rattle.std.specs.Prelude.{◌≡◌, length, option_map, true, IfSome, Some};
 ghost use Rattle.cob_picture.specs.Positions.{shows_number};
-ghost use Rattle.cob_copybook_entries.specs.Described.{constant};
+ghost use Rattle.cob_entry.specs.Described.{constant};
 ghost use Rattle.cob_copybook_tree.specs.Lengths.{item_size};
 ghost use Rattle.cob_copybook_tree.specs.declared.node.Kind.TheVariants.{Item as ItemKind};
 ghost use Rattle.cob_copybook_lengths.specs.Values.{is_number, IsItemValue, IsNumericValue};
@@ -12,10 +12,9 @@ ghost use Rattle.cob_move_receive.specs.Numbers.{ConstantGives};
 ghost use Rattle.cob_move_receive.specs.Received.{Received};
 ghost use Rattle.cob_move_initial.specs.Values.{figurative_for, HoldsGroup, HoldsItem};
 
-use cob_copybook_clauses::Figurative;
-use cob_copybook_entries::Value;
 use cob_copybook_lengths::is_number;
 use cob_copybook_tree::Item;
+use cob_entry::{Figurative, Value};
 use cob_move_receive::{Sent, receive_in_group, receive_in_item};
 
 /// Moves a constant to an item: a number to one that shows numbers.

@@ -8,8 +8,8 @@
 //! laws: a group with a VALUE holds one thing ([`one_group`]), and so does an item ([`one_item`]).
 //!
 //! It stands on cob_move_receive for the rule of MOVE, on cob_item for items that can be stored, on cob_copybook_tree and cob_picture for
-//! items and their categories, on cob_copybook_lengths for which entry takes which constant, and on cob_copybook_entries and
-//! cob_copybook_clauses for constants. Nothing here takes memory, and the work grows with the bytes that are written.
+//! items and their categories, on cob_copybook_lengths for which entry takes which constant, and on cob_entry for constants.
+//! Nothing here takes memory, and the work grows with the bytes that are written.
 #![tactic(auto)]
 
 mod items;

@@ -1,6 +1,6 @@
 -- A statement has one meaning at most.
 use Rattle.std.proofs.Common.{◌≡◌, List, [], ◌∷◌, ◌++◌, map, sym, ap, ◌∙◌}
-use Rattle.cob_copybook_entries.specs.Described.{Constant}
+use Rattle.cob_entry.specs.Described.{Constant}
 use Rattle.cob_copybook_entries.proofs.OneList.{one_constant}
 use Rattle.cob_move_operands.specs.declared.Side.{Side}
 use Rattle.cob_move_operands.specs.declared.Side.TheVariants.{Out}

@@ -1,7 +1,7 @@
 -- What a statement means between two records: its moves.
 use Rattle.std.specs.Prelude.{◌≡◌, ◌||◌, false, List, [], ◌∷◌, ◌++◌, map}
 use Rattle.std.specs.List.{AllByRecursion}
-use Rattle.cob_copybook_entries.specs.Described.{Constant}
+use Rattle.cob_entry.specs.Described.{Constant}
 use Rattle.cob_copybook_entries.specs.Meaning.{IsConstantOf}
 use Rattle.cob_copybook_tree.specs.Forests.{Forest}
 use Rattle.cob_copybook_tree.specs.Nodes.{Resolved}

@@ -25,7 +25,6 @@ ghost use Rattle.cob_move_statements.specs.Written.{MoveCorresponding, written_r
 use crate::single::judge;
 use arrayvec::ArrayVec;
 use cob_copybook::Book;
-use cob_copybook_tree::{Item, Kind};
 use cob_layout_places::Ref;
 use cob_limits::MAX_SUBSCRIPTS;
 use cob_move_operands::{Move, Operand, Sender, Side};
@@ -91,22 +90,6 @@ fn same_subscripts(subscripts: &[u32]) -> ArrayVec<u32, MAX_SUBSCRIPTS>
     same
 }
 
-/// What an entry describes, once more.
-fn same_kind(kind: &Kind) -> Kind
-    ensures { result ≡ kind.now }
-{
-    match kind {
-        Kind::Group => Kind::Group,
-        Kind::Item(item) => Kind::Item(Item {
-            picture: item.picture.clone(),
-            usage: item.usage,
-            sign: item.sign,
-            justified: item.justified,
-            blank: item.blank,
-        }),
-    }
-}
-
 /// An entry below a group as an operand, with the group's subscripts.
 fn operand_below(group: &Operand, below: &Subordinate<'_>) -> Operand
     ensures { result ≡ operand_below group.now (subordinate below.now) }
@@ -116,7 +99,7 @@ fn operand_below(group: &Operand, below: &Subordinate<'_>) -> Operand
             node: below.entry.number,
             subscripts: same_subscripts(group.entry.subscripts.as_slice()),
         },
-        kind: same_kind(&below.entry.kind),
+        kind: below.entry.kind.clone(),
     }
 }
 

@@ -14,8 +14,8 @@
 //! ([`meanings_break_no_rule`], [`meant_break_no_rule`]); and what they mean are moves between the two records ([`meant_are_moves`]).
 //!
 //! It stands on cob_move_statements for statements as they are written, on cob_move_references for what a reference names, on cob_move_pairs
-//! for pairs, on cob_move_receive for the rules of one move, on cob_move_operands for moves, on cob_copybook for the two records, and on
-//! cob_copybook_entries for constants.
+//! for pairs, on cob_move_receive for the rules of one move, on cob_move_operands for moves, on cob_copybook for the two records, on
+//! cob_entry for constants, and on cob_copybook_clauses and cob_copybook_entries for what a written one means.
 #![tactic(auto)]
 
 mod corresponding;

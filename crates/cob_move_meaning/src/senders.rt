@@ -2,7 +2,7 @@
 
 ghost use Rattle.std.specs.Prelude.{◌≡◌, List, IfErr, IfOk};
 ghost use Rattle.cob_copybook_clauses.specs.Written.{written_constant};
-ghost use Rattle.cob_copybook_entries.specs.Described.{constant};
+ghost use Rattle.cob_entry.specs.Described.{constant};
 ghost use Rattle.cob_copybook_entries.specs.Meaning.{IsConstantOf};
 ghost use Rattle.cob_move_meaning.specs.Meaning.{IsSenderOf};
 ghost use Rattle.cob_move_meaning.specs.Refusals.{BreaksSender};
@@ -12,7 +12,8 @@ ghost use Rattle.cob_move_references.specs.Directory.{entries_named};
 ghost use Rattle.cob_move_statements.specs.Written.{SentConstant, SentReference, written_reference, written_sender};
 
 use cob_copybook_clauses::Constant;
-use cob_copybook_entries::{BookRule, Value, value_of};
+use cob_copybook_entries::value_of;
+use cob_entry::{BookRule, Value};
 use cob_move_operands::Sender;
 use cob_move_references::Names;
 use cob_move_statements::{MoveRule, Reference, StatementSender};

@@ -5,11 +5,11 @@
 //! reader of paragraphs makes and the application of moves carries out. specs/Moves.antt says when they are moves between two given records:
 //! each operand refers to an entry of its record, and is of the kind that the record says (`IsMove`).
 //!
-//! It stands on cob_layout_places for references, on cob_copybook_tree for kinds of entries and on cob_copybook_entries for constants.
+//! It stands on cob_layout_places for references, on cob_copybook_tree for kinds of entries and on cob_entry for constants.
 #![tactic(auto)]
 
-use cob_copybook_entries::Value;
 use cob_copybook_tree::Kind;
+use cob_entry::Value;
 use cob_layout_places::Ref;
 
 /// The record in which an entry or a fault stands.

@@ -15,8 +15,8 @@ ghost use Rattle.cob_move_pairs.specs.Pairs.{
   subordinates,
 };
 
-use cob_copybook_entries::Name;
 use cob_copybook_tree::{Kind, Node};
+use cob_entry::Name;
 use cob_layout_places::is_table;
 use cob_move_receive::{SenderKind, may_move};
 use std::alloc::{AllocError, Global};

@@ -1,5 +1,5 @@
-use cob_copybook_entries::Value;
 use cob_copybook_tree::Kind;
+use cob_entry::Value;
 
 /// What a statement sends to each of its receivers.
 #[derive(Clone, Copy)]

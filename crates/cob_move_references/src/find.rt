@@ -17,7 +17,6 @@ use crate::directory::Names;
 use crate::subscripts::read_subscripts;
 use arrayvec::ArrayVec;
 use cob_copybook::Book;
-use cob_copybook_tree::{Item, Kind};
 use cob_layout_places::Ref;
 use cob_move_operands::{Operand, Side};
 use cob_move_statements::{MoveRule, Reference};
@@ -30,22 +29,6 @@ use std::alloc::{AllocError, Global};
 pub struct Named {
     pub side: Side,
     pub operand: Operand,
-}
-
-/// The same kind once more.
-fn same_kind(kind: &Kind) -> Kind
-    ensures { result ≡ kind.now }
-{
-    match kind {
-        Kind::Group => Kind::Group,
-        Kind::Item(item) => Kind::Item(Item {
-            picture: item.picture.clone(),
-            usage: item.usage,
-            sign: item.sign,
-            justified: item.justified,
-            blank: item.blank,
-        }),
-    }
 }
 
 /// An entry with its subscripts, if they are those of its tables.
@@ -67,7 +50,7 @@ fn operand_of(entry: &Candidate<'_>, written: &[Token]) -> Option<Operand>
             node: entry.entry.number,
             subscripts,
         },
-        kind: same_kind(&entry.entry.kind),
+        kind: entry.entry.kind.clone(),
     })
 }
 

@@ -1,8 +1,7 @@
 //! Constants as they are written in rows.
 
-use cob_copybook_clauses::Figurative;
-use cob_copybook_entries::{Text, Value};
 use cob_decimal::Number;
+use cob_entry::{Figurative, Text, Value};
 use cob_limits::MAX_LITERAL;
 use cob_rows::RowFault;
 

@@ -12,9 +12,9 @@ mod constants;
 
 use crate::constants::constant_of;
 use cob_copybook::{Book, Role};
-use cob_copybook_entries::BookRule;
 use cob_copybook_lengths::is_number;
 use cob_copybook_tree::{Item, Kind};
+use cob_entry::BookRule;
 use cob_item::is_number_item;
 use cob_move_receive::{Refusal, SenderKind, Sent, receive, refusal_of};
 use cob_rows::{Family, Row, RowFault, print_rows, push_digits};

@@ -8,7 +8,7 @@
 #![tactic(auto)]
 
 use cob_copybook::{Book, Role};
-use cob_copybook_entries::BookRule;
+use cob_entry::BookRule;
 use cob_move::{MoveRule, Paragraph};
 use cob_rows::{Family, Row, RowFault, print_rows};
 use std::alloc::Global;

@@ -5,11 +5,11 @@ use Rattle.std.specs.List.{AllByRecursion}
 use Rattle.std.proofs.lemmas.Bool.{MatchBool-at_true}
 use Rattle.cob_picture.specs.Positions.{Seen}
 use Rattle.cob_picture.specs.Counts.{scale, size}
-use Rattle.cob_copybook_clauses.specs.declared.kinds.Usage.{Usage}
-use Rattle.cob_copybook_clauses.specs.declared.kinds.Usage.TheVariants.{Display}
-use Rattle.cob_copybook_clauses.specs.declared.kinds.Sign.{Sign}
-use Rattle.cob_copybook_entries.specs.Described as described
-use Rattle.cob_copybook_entries.specs.Described.{Described}
+use Rattle.cob_entry.specs.declared.kinds.Usage.{Usage}
+use Rattle.cob_entry.specs.declared.kinds.Usage.TheVariants.{Display}
+use Rattle.cob_entry.specs.declared.kinds.Sign.{Sign}
+use Rattle.cob_entry.specs.Described as described
+use Rattle.cob_entry.specs.Described.{Described}
 use Rattle.cob_copybook_tree.specs.declared.node.Item.{Item}
 use Rattle.cob_copybook_tree.specs.declared.node.Kind.{Kind}
 use Rattle.cob_copybook_tree.specs.declared.node.Kind.TheVariants.{Item as ItemKind}

@@ -2,11 +2,11 @@
 use Rattle.std.proofs.Common.{◌≡◌, subst, ℕ, ◌+◌, ◌≤◌, List, refl, Option, Some, None, Bool}
 use Rattle.std.specs.Prelude.{slice_index, unwrap_or}
 use Rattle.cob_picture.specs.Positions.{Seen}
-use Rattle.cob_copybook_clauses.specs.declared.kinds.Usage.{Usage}
-use Rattle.cob_copybook_clauses.specs.declared.kinds.Usage.TheVariants.{Display}
-use Rattle.cob_copybook_clauses.specs.declared.kinds.Sign.{Sign}
-use Rattle.cob_copybook_entries.specs.Described as described
-use Rattle.cob_copybook_entries.specs.Described.{Described}
+use Rattle.cob_entry.specs.declared.kinds.Usage.{Usage}
+use Rattle.cob_entry.specs.declared.kinds.Usage.TheVariants.{Display}
+use Rattle.cob_entry.specs.declared.kinds.Sign.{Sign}
+use Rattle.cob_entry.specs.Described as described
+use Rattle.cob_entry.specs.Described.{Described}
 use Rattle.cob_copybook_tree.specs.Forests.{Forest, Bare, Grows, entries_in}
 use Rattle.cob_copybook_tree.specs.Resolving.{inherited, times_of, kind_of, resolved}
 use Rattle.cob_copybook_rules.specs.Filled as rules

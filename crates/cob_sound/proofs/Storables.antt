@@ -5,10 +5,10 @@ use Rattle.cob_picture.specs.Positions.{Seen}
 use Rattle.cob_picture.specs.Counts.{size, signed}
 use Rattle.cob_picture.specs.declared.category.Category.{Category}
 use Rattle.cob_picture.specs.declared.category.Category.TheVariants.{Alphabetic, Numeric, Alphanumeric, AlphanumericEdited, NumericEdited}
-use Rattle.cob_copybook_clauses.specs.declared.kinds.Usage.{Usage}
-use Rattle.cob_copybook_clauses.specs.declared.kinds.Usage.TheVariants.{Display, Binary, Packed}
-use Rattle.cob_copybook_clauses.specs.declared.kinds.Sign.{Sign}
-use Rattle.cob_copybook_entries.specs.Described.{Described}
+use Rattle.cob_entry.specs.declared.kinds.Usage.{Usage}
+use Rattle.cob_entry.specs.declared.kinds.Usage.TheVariants.{Display, Binary, Packed}
+use Rattle.cob_entry.specs.declared.kinds.Sign.{Sign}
+use Rattle.cob_entry.specs.Described.{Described}
 use Rattle.cob_copybook_tree.specs.declared.node.Item.{Item}
 use Rattle.cob_copybook_tree.specs.Forests.{Forest, Bare, Grows, entries_in}
 use Rattle.cob_copybook_tree.specs.Lengths.{stored_size}

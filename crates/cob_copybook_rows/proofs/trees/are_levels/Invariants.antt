@@ -1,6 +1,6 @@
 use Rattle.std.proofs.Common.{map, drop}
 use Rattle.std.specs.List.{AllByRecursion}
-use Rattle.cob_copybook_entries.specs.Described.{described}
+use Rattle.cob_entry.specs.Described.{described}
 use Rattle.cob_copybook_tree.specs.Branches.{IsBelow}
 use Rattle.cob_copybook_rows.proofs.trees.are_levels.Given as goal
 

@@ -1,4 +1,4 @@
-use Rattle.cob_copybook_entries.specs.Described.{constant}
+use Rattle.cob_entry.specs.Described.{constant}
 use Rattle.cob_move_initial.proofs.ItemLemmas.{some_number}
 use Rattle.cob_move_initial.proofs.items.write_number.Goals as goal
 

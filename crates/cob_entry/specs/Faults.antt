@@ -3,8 +3,8 @@ use Rattle.std.specs.Prelude.{ℕ}
 use Rattle.cob_source.specs.declared.fault.SourceRule.{SourceRule}
 use Rattle.cob_source.specs.declared.fault.SourceRule.TheVariants as source
 use Rattle.cob_source.specs.declared.fault.SourceFault.{SourceFault}
-use Rattle.cob_copybook_entries.specs.declared.fault.BookFault.{BookFault}
-use Rattle.cob_copybook_entries.specs.declared.fault.BookRule.TheVariants as rule
+use Rattle.cob_entry.specs.declared.fault.BookFault.{BookFault}
+use Rattle.cob_entry.specs.declared.fault.BookRule.TheVariants as rule
 
 -- refused memory stays refused memory, and has line 0; a rule of the reference format is told as such, on its line
 abbrev pub from_source_by : SourceRule → ℕ → BookFault

@@ -1,8 +1,8 @@
 //! What an entry says.
 
+use crate::kinds::{Sign, Usage};
 use crate::name::Name;
 use crate::value::Value;
-use cob_copybook_clauses::{Sign, Usage};
 use cob_picture::Picture;
 
 /// A name with its qualifiers, the nearest first.

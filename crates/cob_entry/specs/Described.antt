@@ -1,14 +1,14 @@
 -- An entry without where it lies in memory, and without its line.
 use Rattle.std.specs.Prelude.{ℕ, ℤ, Bool, List, Option, option_map}
 use Rattle.cob_picture.specs.Positions.{Seen}
-use Rattle.cob_copybook_clauses.specs.declared.kinds.Usage.{Usage}
-use Rattle.cob_copybook_clauses.specs.declared.kinds.Sign.{Sign}
-use Rattle.cob_copybook_clauses.specs.declared.kinds.Figurative.{Figurative}
-use Rattle.cob_copybook_entries.specs.declared.value.Value.{Value}
-use Rattle.cob_copybook_entries.specs.declared.value.Value.TheVariants as value
-use Rattle.cob_copybook_entries.specs.declared.entry.Entry.{Entry}
-use Rattle.cob_copybook_entries.specs.declared.entry.Occurs.{Occurs}
-use Rattle.cob_copybook_entries.specs.declared.entry.Occurs.TheVariants as occurs
+use Rattle.cob_entry.specs.declared.kinds.Usage.{Usage}
+use Rattle.cob_entry.specs.declared.kinds.Sign.{Sign}
+use Rattle.cob_entry.specs.declared.kinds.Figurative.{Figurative}
+use Rattle.cob_entry.specs.declared.value.Value.{Value}
+use Rattle.cob_entry.specs.declared.value.Value.TheVariants as value
+use Rattle.cob_entry.specs.declared.entry.Entry.{Entry}
+use Rattle.cob_entry.specs.declared.entry.Occurs.{Occurs}
+use Rattle.cob_entry.specs.declared.entry.Occurs.TheVariants as occurs
 
 -- the constant of a VALUE clause: whether a number's sign is written, its minus, digits and scale; a literal's characters; a figurative
 -- constant; or ALL and a literal's characters

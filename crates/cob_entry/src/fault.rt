@@ -1,8 +1,8 @@
 //! Rules of copybooks, and faults.
 
-ghost use Rattle.std.specs.Prelude.{◌≡◌};
-ghost use Rattle.cob_copybook_entries.specs.declared.fault.BookRule.TheVariants.{Memory};
-ghost use Rattle.cob_copybook_entries.specs.Faults.{from_source};
+ghost use Rattle.std.specs.Prelude.{◌≡◌, ◌≢◌};
+ghost use Rattle.cob_entry.specs.declared.fault.BookRule.TheVariants.{Memory};
+ghost use Rattle.cob_entry.specs.Faults.{from_source};
 
 use arrayvec::ArrayString;
 use cob_picture::PictureFault;
@@ -55,9 +55,10 @@ pub enum BookRule {
 
 impl BookRule {
     /// The fault of an entry that begins on this line; memory has line 0.
-    pub(crate) fn on(self, line: u32) -> BookFault
+    pub fn on(self, line: u32) -> BookFault
         ensures rule { result.rule ≡ self }
         ensures memory { self ≡ Memory → result.line ≡ 0 }
+        ensures line { self ≢ Memory → result.line ≡ line }
     {
         let is_memory = matches!(self, BookRule::Memory);
         let line = if is_memory { 0 } else { line };
