@@ -9,9 +9,9 @@ use Rattle.cob_convert.specs.declared.run.Cause.TheVariants as cause
 use Rattle.cob_convert.specs.declared.run.RunFault.{RunFault}
 use Rattle.cob_convert_show.specs.declared.records.ShowFault.{ShowFault}
 use Rattle.cob_convert_show.specs.declared.records.ShowFault.TheVariants as listing
-use Rattle.cob_copybook_entries.specs.declared.fault.BookFault.{BookFault}
-use Rattle.cob_copybook_entries.specs.declared.fault.BookRule.{BookRule}
-use Rattle.cob_copybook_entries.specs.declared.fault.BookRule.TheVariants as rule
+use Rattle.cob_entry.specs.declared.fault.BookFault.{BookFault}
+use Rattle.cob_entry.specs.declared.fault.BookRule.{BookRule}
+use Rattle.cob_entry.specs.declared.fault.BookRule.TheVariants as rule
 use Rattle.cob_source.specs.declared.fault.SourceRule.TheVariants as source
 use Rattle.cob_records.specs.declared.device.DeviceFault.{DeviceFault}
 use Rattle.cob_records.specs.declared.records.RecordFault.TheVariants.{ReadFailed, WriteFailed, TookNothing}
