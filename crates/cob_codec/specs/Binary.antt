@@ -38,7 +38,7 @@ abbrev pub whole_digits : ℕ → ℕ
 whole_digits count = if nat_le count 4 then 5 else (if nat_le count 9 then 10 else 20)
 
 -- The number of the bytes, whether the picture's digits hold it or not: 5, 10 or 20 digits, negative where it is below zero.
-pub record IsWhole (count : ℕ) (signed : Bool) (bytes : List ℕ) (negative : Bool) (digits : List ℕ) : Type 0 where
+pub record IsWholeBinary (count : ℕ) (signed : Bool) (bytes : List ℕ) (negative : Bool) (digits : List ℕ) : Type 0 where
   pub count_is : length digits ≡ whole_digits count
   pub valid : IsDigits digits
   pub nonzero : IsTrue negative → 0 < number_of digits

@@ -10,7 +10,7 @@ use Rattle.cob_decimal.proofs.DecimalLemmas.{number_of-lt, one_list}
 use Rattle.byteorder.specs.Endian.{big_number, big_bytes, twos_complement}
 use Rattle.byteorder.specs.Numbers.{length-bytes_high_first, big_number-reads_back}
 use Rattle.cob_codec.specs.Sign.{IsHeld}
-use Rattle.cob_codec.specs.Binary.{binary_length, binary_number, binary_form, signed_number, IsBinary, IsWhole}
+use Rattle.cob_codec.specs.Binary.{binary_length, binary_number, binary_form, signed_number, IsBinary, IsWholeBinary}
 
 pub stored_length : (count : ℕ) (negative : Bool) (ds : List ℕ) → length (binary_form count negative ds) ≡ binary_length count
 stored_length count negative ds = length-bytes_high_first (binary_length count) (if negative then 256 ^ binary_length count - number_of ds else number_of ds)
@@ -26,7 +26,7 @@ one_number count signed bytes a b ds es p q =
     let same = same_signed a b (number_of ds) (number_of es) p.nonzero q.nonzero (p.value ∙ sym q.value) in
     (same.0, one_list ds es p.valid q.valid (p.count_is ∙ sym q.count_is) same.1)
 
-pub one_whole : (count : ℕ) (signed : Bool) (bytes : List ℕ) (a b : Bool) (ds es : List ℕ) → IsWhole count signed bytes a ds → IsWhole count signed bytes b es → (a ≡ b) × (ds ≡ es)
+pub one_whole : (count : ℕ) (signed : Bool) (bytes : List ℕ) (a b : Bool) (ds es : List ℕ) → IsWholeBinary count signed bytes a ds → IsWholeBinary count signed bytes b es → (a ≡ b) × (ds ≡ es)
 one_whole count signed bytes a b ds es p q =
     let same = same_signed a b (number_of ds) (number_of es) p.nonzero q.nonzero (p.value ∙ sym q.value) in
     (same.0, one_list ds es p.valid q.valid (p.count_is ∙ sym q.count_is) same.1)

@@ -9,10 +9,10 @@ halves [] = []
 halves (byte ∷ bytes) = byte / 16 ∷ byte % 16 ∷ halves bytes
 
 -- The bytes of pairs of half bytes.
-abbrev pub joined : List ℕ → List ℕ
-joined [] = []
-joined (high ∷ []) = []
-joined (high ∷ low ∷ rest) = (high * 16 + low) ∷ joined rest
+abbrev pub bytes_of_halves : List ℕ → List ℕ
+bytes_of_halves [] = []
+bytes_of_halves (high ∷ []) = []
+bytes_of_halves (high ∷ low ∷ rest) = (high * 16 + low) ∷ bytes_of_halves rest
 
 -- How many half bytes stand before the digits: one where their number is even.
 abbrev pub pad_count : ℕ → ℕ
@@ -42,4 +42,4 @@ pub record IsEnded (signed : Bool) (front : List ℕ) (last : ℕ) (negative : B
 
 -- The bytes that are written.
 abbrev pub packed_form : Bool → Bool → List ℕ → List ℕ
-packed_form signed negative digits = joined (packed_halves (length digits) digits (sign_code signed negative))
+packed_form signed negative digits = bytes_of_halves (packed_halves (length digits) digits (sign_code signed negative))

@@ -8,13 +8,13 @@ use Rattle.cob_decimal.specs.Decimal.{IsDigits}
 use Rattle.cob_codec.specs.Sign.{sign_code, IsHeld}
 use Rattle.cob_codec.specs.SignLaws.{code_meaning, code_small, one_sign, held, held_sign}
 use Rattle.cob_codec.specs.SeparateLaws.{heads, tails}
-use Rattle.cob_codec.specs.Packed.{halves, joined, pad_count, packed_halves, packed_form, IsPacked, IsEnded}
+use Rattle.cob_codec.specs.Packed.{halves, bytes_of_halves, pad_count, packed_halves, packed_form, IsPacked, IsEnded}
 
 pub length-halves : (bs : List ℕ) → length (halves bs) ≡ 2 * length bs
 length-halves [] = refl
 length-halves (b ∷ bs) = omega (arith, length-halves bs)
 
-pub length-joined : (hs : List ℕ) → length (joined hs) ≡ length hs / 2
+pub length-joined : (hs : List ℕ) → length (bytes_of_halves hs) ≡ length hs / 2
 length-joined [] = omega arith
 length-joined (a ∷ []) = omega arith
 length-joined (a ∷ b ∷ hs) = omega (arith, length-joined hs)
@@ -30,13 +30,13 @@ halves-push xs b = halves-append xs (b ∷ [])
 abbrev pub AreHalves : List ℕ → Type 0
 AreHalves hs = AllByRecursion (λ h. h < 16) hs
 
-halves_joined : (hs : List ℕ) → length hs % 2 ≡ 0 → AreHalves hs → halves (joined hs) ≡ hs
+halves_joined : (hs : List ℕ) → length hs % 2 ≡ 0 → AreHalves hs → halves (bytes_of_halves hs) ≡ hs
 halves_joined [] even small = refl
 halves_joined (a ∷ []) even small = absurd (omega arith)
 halves_joined (a ∷ b ∷ hs) even small =
     let rest : length hs % 2 ≡ 0 = omega arith in
-    ap (λ x. x ∷ (a * 16 + b) % 16 ∷ halves (joined hs)) (div-mul-add a 16 b small.1.0)
-    ∙ ap (λ x. a ∷ x ∷ halves (joined hs)) (mod-mul-add a 16 b small.1.0)
+    ap (λ x. x ∷ (a * 16 + b) % 16 ∷ halves (bytes_of_halves hs)) (div-mul-add a 16 b small.1.0)
+    ∙ ap (λ x. a ∷ x ∷ halves (bytes_of_halves hs)) (mod-mul-add a 16 b small.1.0)
     ∙ ap (λ xs. a ∷ b ∷ xs) (halves_joined hs rest small.1.1)
 
 digits_are_halves : (ds : List ℕ) (code : ℕ) → IsDigits ds → code < 16 → AreHalves (ds ++ code ∷ [])

@@ -14,7 +14,7 @@ separate_form leading minus digits =
     if leading then sign_byte minus ∷ digit_bytes digits else digit_bytes digits ++ sign_byte minus ∷ []
 
 -- The bytes are digits with a separate sign, and stand for the digits with this sign.
-pub record IsSeparate (count : ℕ) (leading : Bool) (bytes : List ℕ) (negative : Bool) (digits : List ℕ) : Type 0 where
+pub record IsSignedSeparately (count : ℕ) (leading : Bool) (bytes : List ℕ) (negative : Bool) (digits : List ℕ) : Type 0 where
   pub count_is : length digits ≡ count
   pub valid : IsDigits digits
   pub minus : Bool

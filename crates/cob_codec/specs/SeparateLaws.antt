@@ -5,7 +5,7 @@ use Rattle.cob_decimal.specs.Decimal.{number_of}
 use Rattle.cob_codec.specs.Sign.{IsHeld}
 use Rattle.cob_codec.specs.SignLaws.{same_sign, held_sign}
 use Rattle.cob_codec.specs.Zoned.{digit_bytes}
-use Rattle.cob_codec.specs.Separate.{sign_byte, separate_form, IsSeparate}
+use Rattle.cob_codec.specs.Separate.{sign_byte, separate_form, IsSignedSeparately}
 
 pub stored_length : (count : ℕ) (leading negative : Bool) (ds : List ℕ) → length ds ≡ count → length (separate_form leading negative ds) ≡ count + 1
 stored_length count true negative ds many = omega (arith, length-map ds (λ d. 240 + d))
@@ -43,18 +43,18 @@ same_form false m n ds es e =
     let both = same_from_push (digit_bytes ds) (digit_bytes es) (sign_byte m) (sign_byte n) e in
     (same_minus m n both.1, same_digits ds es both.0)
 
-pub one_number : (count : ℕ) (leading : Bool) (bytes : List ℕ) (a b : Bool) (ds es : List ℕ) → IsSeparate count leading bytes a ds → IsSeparate count leading bytes b es → (a ≡ b) × (ds ≡ es)
+pub one_number : (count : ℕ) (leading : Bool) (bytes : List ℕ) (a b : Bool) (ds es : List ℕ) → IsSignedSeparately count leading bytes a ds → IsSignedSeparately count leading bytes b es → (a ≡ b) × (ds ≡ es)
 one_number count leading bytes a b ds es p q =
     let same = same_form leading p.minus q.minus ds es (sym p.text ∙ q.text) in
     let minus : p.minus ≡ q.minus = same.0 in
     let digits : ds ≡ es = same.1 in
     (same_sign a b q.minus (0 < number_of es) (rw (← digits, ← minus) p.sign) q.sign, digits)
 
-pub held_separate : (count : ℕ) (signed leading : Bool) (bytes : List ℕ) (negative : Bool) (ds : List ℕ) → IsTrue signed → IsSeparate count leading bytes negative ds → IsHeld count signed negative ds
+pub held_separate : (count : ℕ) (signed leading : Bool) (bytes : List ℕ) (negative : Bool) (ds : List ℕ) → IsTrue signed → IsSignedSeparately count leading bytes negative ds → IsHeld count signed negative ds
 held_separate count signed leading bytes negative ds is_signed p =
     record { count_is = p.count_is; valid = p.valid; minus = λ h. is_signed; nonzero = λ h. (p.sign.0 h).1 }
 
 -- what was stored reads back
-pub reads_back : (count : ℕ) (signed leading negative : Bool) (ds : List ℕ) → IsHeld count signed negative ds → IsSeparate count leading (separate_form leading negative ds) negative ds
+pub reads_back : (count : ℕ) (signed leading negative : Bool) (ds : List ℕ) → IsHeld count signed negative ds → IsSignedSeparately count leading (separate_form leading negative ds) negative ds
 reads_back count signed leading negative ds number =
     record { count_is = number.count_is; valid = number.valid; minus = negative; text = refl; sign = held_sign negative ds number.nonzero }

@@ -8,14 +8,14 @@ abbrev pub zone_of : ℕ → ℕ
 zone_of byte = byte / 16
 
 -- The digit of a byte is its low half.
-abbrev pub digit_of : ℕ → ℕ
-digit_of byte = byte % 16
+abbrev pub low_digit : ℕ → ℕ
+low_digit byte = byte % 16
 
 -- The bytes are zoned and stand for the digits with this sign: a byte for each digit; its zone is F, but in the sign's place,
 -- where it is the code of the sign.
 pub record IsZoned (count : ℕ) (signed leading : Bool) (bytes : List ℕ) (negative : Bool) (digits : List ℕ) : Type 0 where
   pub long : length bytes ≡ count
-  pub low_halves : digits ≡ map digit_of bytes
+  pub low_halves : digits ≡ map low_digit bytes
   pub valid : IsDigits digits
   pub zones : (k : ℕ) → k < count → k ≢ sign_place signed leading count → zone_of (slice_index bytes k) ≡ 0xF
   pub minus : Bool

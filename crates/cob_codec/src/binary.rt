@@ -2,7 +2,7 @@ ghost use Rattle.std.proofs.Common.{◌∙◌};
 ghost use Rattle.std.specs.Prelude.{◌≡◌, ◌+◌, ◌-◌, ◌^◌, ◌<◌, ◌≤◌, ℕ, List, Bool, IsTrue, length, if◌then◌else◌, IfSome, IfNone};
 ghost use Rattle.cob_decimal.specs.Decimal.{IsDigits, number_of};
 ghost use Rattle.byteorder.specs.Endian.{big_number, big_bytes};
-ghost use Rattle.cob_codec.specs.Binary.{IsBinary, IsWhole, binary_length, binary_number, binary_form, signed_number, whole_digits};
+ghost use Rattle.cob_codec.specs.Binary.{IsBinary, IsWholeBinary, binary_length, binary_number, binary_form, signed_number, whole_digits};
 ghost use Rattle.cob_codec.specs.BinaryLaws as laws;
 ghost use Rattle.cob_limits.specs.Limits.{most_binary_digits};
 
@@ -87,7 +87,7 @@ impl Binary {
     pub fn read_whole(shape: &Shape, bytes: &[u8]) -> Number
         requires taken { shape.now.digits ≤ most_binary_digits }
         requires long { length bytes.now ≡ binary_length shape.now.digits }
-        ensures value { IsWhole
+        ensures value { IsWholeBinary
             shape.now.digits shape.now.signed bytes.now result.negative result.digits }
         ensures scale { result.scale ≡ shape.now.scale }
     {

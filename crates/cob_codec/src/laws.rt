@@ -1,18 +1,18 @@
 ghost use Rattle.std.specs.Prelude.{◌<◌, ◌≤◌, ℕ, Bool, IsTrue};
-ghost use Rattle.cob_codec.specs.Binary.{IsBinary, IsWhole, binary_form};
+ghost use Rattle.cob_codec.specs.Binary.{IsBinary, IsWholeBinary, binary_form};
 ghost use Rattle.cob_codec.specs.Laws.{OneNumber, OneValue, ReadsBack};
 ghost use Rattle.cob_codec.specs.Packed.{IsPacked, packed_form};
-ghost use Rattle.cob_codec.specs.Separate.{IsSeparate, separate_form};
+ghost use Rattle.cob_codec.specs.Separate.{IsSignedSeparately, separate_form};
 ghost use Rattle.cob_codec.specs.Zoned.{IsZoned, zoned_form};
 ghost use Rattle.cob_limits.specs.Limits.{most_binary_digits};
 
 /// Bytes represent at most one number, in each kind of storage and in the reading of whole binary items.
 pub fn bytes_represent_one_number()
     ensures zoned { (count : ℕ) (signed leading : Bool) → OneNumber (IsZoned count signed leading) }
-    ensures separate { (count : ℕ) (leading : Bool) → OneNumber (IsSeparate count leading) }
+    ensures separate { (count : ℕ) (leading : Bool) → OneNumber (IsSignedSeparately count leading) }
     ensures packed { (count : ℕ) (signed : Bool) → OneNumber (IsPacked count signed) }
     ensures binary { (count : ℕ) (signed : Bool) → OneNumber (IsBinary count signed) }
-    ensures whole { (count : ℕ) (signed : Bool) → OneNumber (IsWhole count signed) }
+    ensures whole { (count : ℕ) (signed : Bool) → OneNumber (IsWholeBinary count signed) }
 {}
 
 /// What was stored reads back, in each kind of storage.
@@ -20,7 +20,7 @@ pub fn stored_numbers_read_back()
     ensures zoned { (count : ℕ) (signed leading : Bool) → 0 < count
         → ReadsBack count signed (zoned_form signed leading) (IsZoned count signed leading) }
     ensures separate { (count : ℕ) (signed leading : Bool)
-        → ReadsBack count signed (separate_form leading) (IsSeparate count leading) }
+        → ReadsBack count signed (separate_form leading) (IsSignedSeparately count leading) }
     ensures packed { (count : ℕ) (signed : Bool)
         → ReadsBack count signed (packed_form signed) (IsPacked count signed) }
     ensures binary { (count : ℕ) (signed : Bool) → count ≤ most_binary_digits
@@ -30,5 +30,5 @@ pub fn stored_numbers_read_back()
 /// Where the picture's digits hold the number of a binary item's bytes, the item read whole is the same number.
 pub fn whole_reading_agrees()
     ensures { (count : ℕ) (signed : Bool)
-        → OneValue (IsBinary count signed) (IsWhole count signed) }
+        → OneValue (IsBinary count signed) (IsWholeBinary count signed) }
 {}

@@ -6,9 +6,9 @@
 //!
 //! What is promised of each kind: `read` gives a number that the bytes represent (`found`, `scale`), and every number that they
 //! represent is the one that it gives (`only`), so that it answers None exactly where they represent none; `store` writes the
-//! one stored form (`bytes`). The words for these are in specs/: `IsZoned`, `IsSeparate`, `IsPacked` and `IsBinary` relate the bytes
+//! one stored form (`bytes`). The words for these are in specs/: `IsZoned`, `IsSignedSeparately`, `IsPacked` and `IsBinary` relate the bytes
 //! to a sign and digits, whose magnitude is the sum of each digit times its power of ten; `zoned_form`, `separate_form`,
-//! `packed_form` and `binary_form` are the bytes that are written. `Binary::read_whole` is the number of all bytes (`IsWhole`).
+//! `packed_form` and `binary_form` are the bytes that are written. `Binary::read_whole` is the number of all bytes (`IsWholeBinary`).
 //! `bytes_represent_one_number`, `stored_numbers_read_back` and `whole_reading_agrees` are laws over these words; code that is
 //! generic over [`Storage`] has the same laws as members of the trait.
 //!

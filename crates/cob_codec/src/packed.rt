@@ -3,7 +3,7 @@ ghost use Rattle.std.specs.Prelude.{◌≡◌, ◌≢◌, ◌+◌, ◌-◌, ◌*
 ghost use Rattle.std.specs.Bool.{OnTrue};
 ghost use Rattle.cob_decimal.specs.Decimal.{IsDigits};
 ghost use Rattle.cob_limits.specs.Limits.{most_digits};
-ghost use Rattle.cob_codec.specs.Packed.{IsPacked, IsEnded, halves, joined, pad_count, packed_form};
+ghost use Rattle.cob_codec.specs.Packed.{IsPacked, IsEnded, halves, bytes_of_halves, pad_count, packed_form};
 ghost use Rattle.cob_codec.specs.PackedLaws as laws;
 
 use crate::shape::Shape;
@@ -144,7 +144,7 @@ fn push_halves(digits: &mut Digits, bytes: &[u8]) -> bool
 fn put_front(bytes: &mut [u8], digits: &[u8])
     requires valid { IsDigits digits.now }
     requires long { length bytes.old ≡ (length digits.now + 1) / 2 }
-    ensures { bytes.new ≡ joined (replicate (length digits.now % 2) 0 ++ digits.now) }
+    ensures { bytes.new ≡ bytes_of_halves (replicate (length digits.now % 2) 0 ++ digits.now) }
 {
     if digits.len() % 2 == 0 {
         put_halves(bytes, digits);
@@ -158,7 +158,7 @@ fn put_front(bytes: &mut [u8], digits: &[u8])
 fn put_halves(bytes: &mut [u8], digits: &[u8])
     requires valid { IsDigits digits.now }
     requires long { length digits.now ≡ 2 * length bytes.old }
-    ensures { bytes.new ≡ joined digits.now }
+    ensures { bytes.new ≡ bytes_of_halves digits.now }
 {
     for at in 0..bytes.len() {
         bytes[at] = digits[2 * at] * 16 + digits[2 * at + 1];

@@ -1,6 +1,6 @@
 ghost use Rattle.std.proofs.Common.{◌∙◌};
 ghost use Rattle.std.specs.Prelude.{◌≡◌, ◌≢◌, ◌+◌, ◌<◌, ℕ, List, [], ◌∷◌, ◌++◌, Bool, IsTrue, if◌then◌else◌, length, IfSome, IfNone};
-ghost use Rattle.cob_codec.specs.Separate.{IsSeparate, separate_form, sign_byte};
+ghost use Rattle.cob_codec.specs.Separate.{IsSignedSeparately, separate_form, sign_byte};
 ghost use Rattle.cob_codec.specs.SeparateLaws as laws;
 
 use crate::shape::Shape;
@@ -20,7 +20,7 @@ impl Storage for Separate {
     ghost size = { λ shape. shape.digits + 1 };
 
     ghost represents = { λ shape bytes negative digits.
-        IsSeparate shape.digits shape.leading bytes negative digits };
+        IsSignedSeparately shape.digits shape.leading bytes negative digits };
 
     ghost stored = { λ shape negative digits. separate_form shape.leading negative digits };
 
@@ -95,10 +95,10 @@ fn split_sign(leading: bool, bytes: &[u8]) -> (u8, &[u8])
 fn read_separate(shape: &Shape, bytes: &[u8]) -> Option<Number>
     requires { length bytes.now ≡ shape.now.digits + 1 }
     ensures found { IfSome result (λ v.
-        IsSeparate shape.now.digits shape.now.leading bytes.now v.negative v.digits) }
+        IsSignedSeparately shape.now.digits shape.now.leading bytes.now v.negative v.digits) }
     ensures scale { IfSome result (λ v. v.scale ≡ shape.now.scale) }
     ensures none { IfNone result ((negative : Bool) (digits : List ℕ)
-        → ¬ IsSeparate shape.now.digits shape.now.leading bytes.now negative digits) }
+        → ¬ IsSignedSeparately shape.now.digits shape.now.leading bytes.now negative digits) }
 {
     let (sign, text) = split_sign(shape.leading, bytes);
     match sign_read(sign) {

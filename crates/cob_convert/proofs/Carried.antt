@@ -19,8 +19,8 @@ use Rattle.cob_convert.specs.declared.run.Cause.TheVariants.{Record}
 use Rattle.cob_records.specs.declared.records.RecordFault.{RecordFault}
 use Rattle.cob_records.specs.declared.records.RecordFault.TheVariants.{Truncated, Descriptor, Spanned, Length, ReadFailed, WriteFailed, TookNothing}
 use Rattle.cob_move_operands.specs.declared.Side.TheVariants.{In}
-use Rattle.cob_convert_record.specs.declared.misfit.Misfit.{Misfit}
-use Rattle.cob_convert_record.specs.Sizes.{IsSized, IsMisfit}
+use Rattle.cob_convert_record.specs.declared.misfit.MeasureFault.{MeasureFault}
+use Rattle.cob_convert_record.specs.Sizes.{IsSized, IsMeasureFault}
 use Rattle.cob_convert_record.specs.Becoming.{Becomes, StopsAt}
 use Rattle.cob_copybook_tree.specs.Forests.{Tree}
 use Rattle.cob_copybook_tree.specs.Nodes.{Resolved}
@@ -217,10 +217,10 @@ stop_exit conversion n written count cause stop slot r0 r1 r2 w0 w1 so_far read 
     }))
 
 -- a run ends where a record isn't one of the layout
-pub layout_exit : (conversion : Conversion) (n written count offset : ℕ) (cause : Cause) (why : Misfit) (slot : List ℕ) (r0 r1 r2 w0 w1 : Option (List ℕ))
+pub layout_exit : (conversion : Conversion) (n written count offset : ℕ) (cause : Cause) (why : MeasureFault) (slot : List ℕ) (r0 r1 r2 w0 w1 : Option (List ℕ))
     → Carried conversion n written r0 r1 w0 w1
     → Told r1 r2 (Reads conversion.in_form (in_length conversion) slot (Ok (Some count))) → IsRecord conversion.in_form (in_length conversion) (take count slot)
-    → IsMisfit conversion.in_form conversion.records.input (take count slot) why → offset ≡ offset_from why → cause ≡ refusal_from why → n < most_records
+    → IsMeasureFault conversion.in_form conversion.records.input (take count slot) why → offset ≡ offset_from why → cause ≡ refusal_from why → n < most_records
     → Told r0 r2 (λ bytes rest. Ran conversion (Err (record { number = n + 1; side = In; offset = offset; cause = cause; written = written })) bytes rest w0 w1)
 layout_exit conversion n written count offset cause why slot r0 r1 r2 w0 w1 so_far read whole misfit at e low =
     rw e (finish conversion n written (Err (record { number = n + 1; side = In; offset = offset; cause = refusal_from why; written = written })) []

@@ -9,7 +9,7 @@ use Rattle.std.proofs.lemmas.List.Folds.{list_all-append}
 use Rattle.std.proofs.Math.ListN.{length-append}
 use Rattle.std.proofs.lemmas.Bool.{and_parts, and_from, both_ways}
 use Rattle.cob_source.specs.Lines.{lines}
-use Rattle.cob_convert.specs.JobData.{AreDataLines, line_digits, data_digits, is_data_line, is_of_data, number_behind}
+use Rattle.cob_convert.specs.JobData.{AreDataLines, line_digits, data_digits, is_data_line, is_of_data, line_number_behind}
 
 -- Lines of data were taken from the front of a text. These are their digits, the number of the next line and that of the last one, or
 -- of the first where none was taken.
@@ -18,8 +18,8 @@ pub record Gathered (text rest digits : List ℕ) (first number last : ℕ) : Ty
   pub lines_are : lines text ≡ before ++ lines rest
   pub each : AreDataLines before
   pub digits_are : digits ≡ data_digits before
-  pub number_is : number ≡ number_behind first (length before)
-  pub last_is : last ≡ number_behind first (length before - 1)
+  pub number_is : number ≡ line_number_behind first (length before)
+  pub last_is : last ≡ line_number_behind first (length before - 1)
 
 each_more : (ls : List (List ℕ)) (line : List ℕ) → AreDataLines ls → is_data_line line ≡ true → AreDataLines (ls ++ line ∷ [])
 each_more [] line each one = (one, tt)

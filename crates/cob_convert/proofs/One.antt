@@ -11,10 +11,10 @@ use Rattle.cob_convert_record.specs.Laws.{ConversionsAreDecided}
 use Rattle.cob_move_apply.specs.declared.stop.Stop.{Stop}
 use Rattle.cob_move_operands.specs.declared.Side.TheVariants.{In}
 use Rattle.cob_convert_record.specs.Conversion.{Conversion, in_length}
-use Rattle.cob_convert_record.specs.declared.misfit.Misfit.{Misfit}
+use Rattle.cob_convert_record.specs.declared.misfit.MeasureFault.{MeasureFault}
 use Rattle.cob_convert.specs.declared.run.Cause.TheVariants.{Record}
 use Rattle.cob_convert.specs.declared.run.RunFault.{RunFault}
-use Rattle.cob_convert_record.specs.Sizes.{IsSized, IsMisfit}
+use Rattle.cob_convert_record.specs.Sizes.{IsSized, IsMeasureFault}
 use Rattle.cob_convert_record.specs.Becoming.{Becomes, StopsAt}
 use Rattle.cob_convert.specs.Run.{Came, Ends, Reason, Remains, RecordStops, StopsFor, InRead, InLayout, InConversion, InWrite, IsConverted, cause_from, offset_from, reason_of, refusal_from, frames_in, frames_out, most_records, is_read_stop, is_write_stop}
 use Rattle.cob_convert.proofs.Carried.{reason_at, remains}
@@ -31,8 +31,8 @@ record IsSettled (conversion : Conversion) : Type 0 where
   one_output : (i a b : List ℕ) → Becomes conversion i a → Becomes conversion i b → a ≡ b
   one_stop : (i : List ℕ) (s t : Stop) → StopsAt conversion i s → StopsAt conversion i t → s ≡ t
   not_both : (i o : List ℕ) (s : Stop) → Becomes conversion i o → StopsAt conversion i s → ⊥
-  one_misfit : (i : List ℕ) (v w : Misfit) → IsMisfit conversion.in_form conversion.records.input i v → IsMisfit conversion.in_form conversion.records.input i w → v ≡ w
-  fits_or_not : (i : List ℕ) (w : Misfit) → IsSized conversion.in_form conversion.records.input i → IsMisfit conversion.in_form conversion.records.input i w → ⊥
+  one_misfit : (i : List ℕ) (v w : MeasureFault) → IsMeasureFault conversion.in_form conversion.records.input i v → IsMeasureFault conversion.in_form conversion.records.input i w → v ≡ w
+  fits_or_not : (i : List ℕ) (w : MeasureFault) → IsSized conversion.in_form conversion.records.input i → IsMeasureFault conversion.in_form conversion.records.input i w → ⊥
 
 is_settled : FramesAreOne → FramesReadBack → ReadingIsOne → ConversionsAreDecided → (conversion : Conversion) → HasBytes conversion.records.input → IsSettled conversion
 is_settled frames back reading settled conversion bytes = record {
@@ -116,7 +116,7 @@ records_agree conversion left rest other f g settled (InConversion a) (InRead b)
 records_agree conversion left rest other f g settled (InLayout a) (InLayout b) u v y z =
     let (inputs, tails) = one_frame conversion left a.input b.input rest other [] [] settled a.came b.came in
     let one : a.misfit ≡ b.misfit = settled.one_misfit a.input a.misfit b.misfit a.misfits (rw (← inputs) at b.misfits) in
-    (a.reason ∙ ap (λ (x : Misfit). reason_at In (offset_from x) (refusal_from x)) one ∙ sym b.reason, tails)
+    (a.reason ∙ ap (λ (x : MeasureFault). reason_at In (offset_from x) (refusal_from x)) one ∙ sym b.reason, tails)
 records_agree conversion left rest other f g settled (InLayout a) (InConversion b) u v y z =
     let (inputs, tails) = one_frame conversion left a.input b.input rest other [] [] settled a.came b.came in
     absurd (settled.fits_or_not a.input a.misfit (rw (← inputs) at b.sized) a.misfits)

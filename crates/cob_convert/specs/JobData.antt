@@ -41,8 +41,8 @@ pub record IsData (text bytes : List ℕ) : Type 0 where
   pub digits : AreDigitsOf (data_digits (lines text)) bytes
 
 -- the number of the line behind so many others, the first of which has the number `first`; from the greatest u32 on it is that one
-abbrev pub number_behind : ℕ → ℕ → ℕ
-number_behind first count = min (first + count) (2 ^ 32 - 1)
+abbrev pub line_number_behind : ℕ → ℕ → ℕ
+line_number_behind first count = min (first + count) (2 ^ 32 - 1)
 
 -- a line is none of data, and all before it are
 pub record IsFirstBad (text : List ℕ) (first number : ℕ) : Type 0 where
@@ -52,13 +52,13 @@ pub record IsFirstBad (text : List ℕ) (first number : ℕ) : Type 0 where
   pub lines_are : lines text ≡ before ++ line ∷ after
   pub each : AreDataLines before
   pub bad : is_data_line line ≡ false
-  pub number_is : number ≡ number_behind first (length before)
+  pub number_is : number ≡ line_number_behind first (length before)
 
 -- all are lines of data, with an odd number of digits, and this is the last
 pub record IsLastOfOdd (text : List ℕ) (first number : ℕ) : Type 0 where
   pub each : AreDataLines (lines text)
   pub odd : length (data_digits (lines text)) % 2 ≡ 1
-  pub number_is : number ≡ number_behind first (length (lines text) - 1)
+  pub number_is : number ≡ line_number_behind first (length (lines text) - 1)
 
 -- data whose first line has the number `first` are refused by this fault; want of memory says nothing of them
 abbrev pub IsRefusedBy : List ℕ → ℕ → DataFault → Type 0

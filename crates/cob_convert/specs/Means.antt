@@ -1,12 +1,11 @@
 -- What three texts mean, and why they are refused.
 use Rattle.std.specs.Prelude.{ℕ, List}
 use Rattle.cob_copybook_tree.specs.Forests.{Forest}
-use Rattle.cob_copybook_tree.specs.Nodes.{Resolved}
+use Rattle.cob_copybook_tree.specs.Nodes.{Resolved, alone}
 use Rattle.cob_copybook.specs.declared.role.Role.{Role}
 use Rattle.cob_copybook.specs.declared.role.Role.TheVariants.{In, Out}
-use Rattle.cob_copybook.specs.Books.{IsBookOf, IsRefusal, IsMemory}
+use Rattle.cob_copybook.specs.Books.{IsBookOf, IsBookRefusal, IsMemory}
 use Rattle.cob_entry.specs.declared.fault.BookFault.{BookFault}
-use Rattle.cob_layout_places.specs.Lengths.{alone}
 use Rattle.cob_convert_record.specs.Conversion.{Conversion}
 use Rattle.cob_move.specs.Paragraphs.{IsParagraphOf, IsRefusalOf}
 use Rattle.cob_move_statements.specs.declared.fault.MoveFault.{MoveFault}
@@ -27,7 +26,7 @@ IsBook role text = (t : Forest Resolved) × IsBookOf role text t
 
 -- The copybook breaks the rule that is named. Want of memory is no rule of copybooks, and never told as one.
 abbrev pub BreaksRule : Role → BookFault → List ℕ → Type 0
-BreaksRule role f book = IsRefusal role f.rule f.line book × (IsMemory f.rule → ⊥)
+BreaksRule role f book = IsBookRefusal role f.rule f.line book × (IsMemory f.rule → ⊥)
 
 -- the copybook of the input record is refused: it breaks a rule, or memory was refused
 abbrev pub IsInRefusal : PrepareFault → List ℕ → Type 0

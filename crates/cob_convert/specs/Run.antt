@@ -14,9 +14,9 @@ use Rattle.cob_convert.specs.declared.run.Cause.{Cause}
 use Rattle.cob_convert.specs.declared.run.Cause.TheVariants.{NoValue, Count, Subscript, Limit, Record}
 use Rattle.cob_move_apply.specs.declared.stop.StopCause.TheVariants.{NoValue as StopNoValue, Count as StopCount, Subscript as StopSubscript}
 use Rattle.cob_convert.specs.declared.run.RunFault.{RunFault}
-use Rattle.cob_convert_record.specs.declared.misfit.Misfit.{Misfit}
-use Rattle.cob_convert_record.specs.declared.misfit.Misfit.TheVariants.{Count as Uncounted, Length as Unfitting}
-use Rattle.cob_convert_record.specs.Sizes.{IsSized, IsMisfit}
+use Rattle.cob_convert_record.specs.declared.misfit.MeasureFault.{MeasureFault}
+use Rattle.cob_convert_record.specs.declared.misfit.MeasureFault.TheVariants.{Count as Uncounted, Length as Unfitting}
+use Rattle.cob_convert_record.specs.Sizes.{IsSized, IsMeasureFault}
 use Rattle.cob_convert_record.specs.Becoming.{Becomes, StopsAt}
 
 -- a record that came, and what it became
@@ -44,12 +44,12 @@ cause_from StopCount = Count
 cause_from StopSubscript = Subscript
 
 -- the cause of a misfit: its count, or its length as a fault of the record
-abbrev pub refusal_from : Misfit → Cause
+abbrev pub refusal_from : MeasureFault → Cause
 refusal_from (Uncounted offset) = Count
 refusal_from Unfitting = Record Length
 
 -- where a misfit stands in its record: at its count, or at the front
-abbrev pub offset_from : Misfit → ℕ
+abbrev pub offset_from : MeasureFault → ℕ
 offset_from (Uncounted offset) = offset
 offset_from Unfitting = 0
 
@@ -92,9 +92,9 @@ pub record ReadStops (conversion : Conversion) (at : Remains) (why : Reason) : T
 -- a record came whole, and it isn't one of its layout
 pub record LayoutStops (conversion : Conversion) (at : Remains) (why : Reason) : Type 0 where
   pub input : List ℕ
-  pub misfit : Misfit
+  pub misfit : MeasureFault
   pub came : Came conversion input at
-  pub misfits : IsMisfit conversion.in_form conversion.records.input input misfit
+  pub misfits : IsMeasureFault conversion.in_form conversion.records.input input misfit
   pub nothing : at.part ≡ []
   pub reason : why ≡ record { side = In; offset = offset_from misfit; cause = refusal_from misfit }
 

@@ -4,7 +4,7 @@ ghost use Rattle.std.specs.Prelude.{◌≡◌, ℕ, List, IfOk, IfErr};
 ghost use Rattle.std.specs.Bool.{Decides};
 ghost use Rattle.cob_copybook_tree.specs.Forests.{Forest};
 ghost use Rattle.cob_copybook_tree.specs.Nodes.{Resolved};
-ghost use Rattle.cob_copybook.specs.Books.{IsBookOf, IsRefusal, IsMemory};
+ghost use Rattle.cob_copybook.specs.Books.{IsBookOf, IsBookRefusal, IsMemory};
 ghost use Rattle.cob_convert.specs.Means.{IsInRefusal, IsOutRefusal};
 ghost use Rattle.cob_copybook.specs.declared.role.Role.TheVariants.{In, Out};
 ghost use Rattle.cob_convert.specs.declared.fault.PrepareFault.TheVariants.{Memory};
@@ -24,7 +24,7 @@ fn is_memory(rule: BookRule) -> bool
 /// The refusal of the copybook of the input record.
 fn in_refusal(fault: BookFault) -> PrepareFault
     ensures refused { (text : List ℕ)
-        → IsRefusal In fault.rule fault.line text → IsInRefusal result text }
+        → IsBookRefusal In fault.rule fault.line text → IsInRefusal result text }
     ensures memory { IsMemory fault.rule → result ≡ Memory }
 {
     if is_memory(fault.rule) {
@@ -54,7 +54,7 @@ pub fn in_book(alloc: Global, text: &[u8]) -> Result<Book, PrepareFault>
 /// The refusal of the copybook of the output record.
 fn out_refusal(fault: BookFault) -> PrepareFault
     ensures refused { (text : List ℕ)
-        → IsRefusal Out fault.rule fault.line text → IsOutRefusal result text }
+        → IsBookRefusal Out fault.rule fault.line text → IsOutRefusal result text }
     ensures memory { IsMemory fault.rule → result ≡ Memory }
 {
     if is_memory(fault.rule) {

@@ -1,7 +1,7 @@
 ghost use Rattle.std.specs.Prelude.{◌≡◌, ◌≤◌, List, IfOk, IfErr, min, vec_len};
+ghost use Rattle.cob_copybook_tree.specs.Nodes.{alone};
 ghost use Rattle.cob_move_apply.specs.Prepared.{single_moves};
 ghost use Rattle.cob_records.specs.Device.{counted, Told};
-ghost use Rattle.cob_layout_places.specs.Lengths.{alone};
 ghost use Rattle.cob_move.specs.Paragraphs.{IsParagraphOf};
 ghost use Rattle.cob_limits.specs.Limits.{longest_record};
 ghost use Rattle.cob_convert_record.specs.Conversion.{in_length, out_length};

@@ -7,7 +7,7 @@ ghost use Rattle.cob_convert.specs.Run.{Ran, cause_from, offset_from, refusal_fr
 ghost use Rattle.cob_convert.specs.declared.run.TheConstants.{LIMIT};
 ghost use Rattle.cob_limits.specs.Limits.{longest_record};
 
-use cob_convert_record::{Conversion, Misfit, Room, Side, StopCause};
+use cob_convert_record::{Conversion, MeasureFault, Room, Side, StopCause};
 use cob_records::{Form, RecordFault, Sink, Source, next_record, put_record};
 
 /// Why a run stopped.
@@ -50,21 +50,21 @@ fn cause_of(cause: StopCause) -> Cause
     }
 }
 
-fn offset_of(why: Misfit) -> u32
+fn offset_of(why: MeasureFault) -> u32
     ensures { result ≡ offset_from why }
 {
     match why {
-        Misfit::Count { offset } => offset,
-        Misfit::Length => 0,
+        MeasureFault::Count { offset } => offset,
+        MeasureFault::Length => 0,
     }
 }
 
-fn refusal_of(why: Misfit) -> Cause
+fn refusal_of(why: MeasureFault) -> Cause
     ensures { result ≡ refusal_from why }
 {
     match why {
-        Misfit::Count { .. } => Cause::Count,
-        Misfit::Length => Cause::Record(RecordFault::Length),
+        MeasureFault::Count { .. } => Cause::Count,
+        MeasureFault::Length => Cause::Record(RecordFault::Length),
     }
 }
 

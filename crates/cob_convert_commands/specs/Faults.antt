@@ -63,16 +63,16 @@ status_of fault.Unprinted = status.Device
 status_of fault.Memory = status.Memory
 
 -- a write of the record failed
-abbrev pub is_write_cause : Cause → Bool
-is_write_cause (cause.Record (WriteFailed taken)) = true
-is_write_cause (cause.Record (TookNothing taken)) = true
-is_write_cause stop = false
+abbrev pub stops_writing : Cause → Bool
+stops_writing (cause.Record (WriteFailed taken)) = true
+stops_writing (cause.Record (TookNothing taken)) = true
+stops_writing stop = false
 
 -- What is told of a run whose last bytes were not handed to the device: a write that failed before; else that the last record that was put is not
 -- written whole, also in the place of a stop; where none was put the output lacks none, and a stop is told.
 abbrev pub unflushed_fault : Result ℕ RunFault → CommandFault
 unflushed_fault (Ok done) = if done == 0 then fault.Unprinted else fault.Unflushed done
-unflushed_fault (Err stopped) = if nat_le stopped.number 1 || is_write_cause stopped.cause
+unflushed_fault (Err stopped) = if nat_le stopped.number 1 || stops_writing stopped.cause
     then fault.Stopped stopped else fault.Unflushed (stopped.number - 1)
 
 -- what a run comes to behind the last flush of its output

@@ -1,5 +1,5 @@
 ghost use Rattle.std.specs.Prelude.{◌≡◌};
-ghost use Rattle.cob_convert_commands.specs.Faults.{finished_run, is_write_cause, unflushed_fault};
+ghost use Rattle.cob_convert_commands.specs.Faults.{finished_run, stops_writing, unflushed_fault};
 
 use crate::fault::{CommandFault, FileName};
 use crate::texts::{Texts, prepared};
@@ -13,7 +13,7 @@ use std::rt::{Clock, Files};
 
 /// Whether a write of the record failed that the fault names.
 fn is_failed_write(cause: Cause) -> bool
-    ensures { result ≡ is_write_cause cause }
+    ensures { result ≡ stops_writing cause }
 {
     matches!(
         cause,

@@ -3,9 +3,8 @@ use Rattle.std.proofs.Common.{◌≡◌, ℕ, List, take, refl, sym, ◌∙◌, 
 use Rattle.cob_records.specs.declared.records.Form.{Form}
 use Rattle.cob_records.specs.declared.records.Form.TheVariants.{Fixed, Variable}
 use Rattle.cob_copybook_tree.specs.Forests.{Tree}
-use Rattle.cob_copybook_tree.specs.Nodes.{Resolved}
+use Rattle.cob_copybook_tree.specs.Nodes.{Resolved, alone}
 use Rattle.cob_layout_places.specs.declared.counts.CountFault.{CountFault}
-use Rattle.cob_layout_places.specs.Lengths.{alone}
 use Rattle.cob_layout.specs.Counting.{CountsOf}
 use Rattle.cob_layout.specs.Laws.{OneOfAll}
 use Rattle.cob_layout.specs.Storage.{current_length}
@@ -17,10 +16,10 @@ use Rattle.cob_move_apply.specs.declared.stop.Stop.{Stop}
 use Rattle.cob_move_apply.specs.declared.stop.StopCause.TheVariants.{Count as CountCause}
 use Rattle.cob_move_apply.specs.Located.{stop_at}
 use Rattle.cob_move_apply.specs.Applied.{Applied, Ending, OneEnding, done, stopped}
-use Rattle.cob_convert_record.specs.declared.misfit.Misfit.{Misfit}
-use Rattle.cob_convert_record.specs.declared.misfit.Misfit.TheVariants.{Count, Length}
-use Rattle.cob_convert_record.specs.Sizes.{IsSized, IsMisfit}
-use Rattle.cob_convert_record.specs.Becoming.{Becomes, StopsAt, IsWritten}
+use Rattle.cob_convert_record.specs.declared.misfit.MeasureFault.{MeasureFault}
+use Rattle.cob_convert_record.specs.declared.misfit.MeasureFault.TheVariants.{Count, Length}
+use Rattle.cob_convert_record.specs.Sizes.{IsSized, IsMeasureFault}
+use Rattle.cob_convert_record.specs.Becoming.{Becomes, StopsAt, IsOutputOf}
 use Rattle.cob_convert_record.specs.Laws.{ConversionsAreDecided}
 
 -- counts that are valid are no fault
@@ -40,7 +39,7 @@ one_fault law t bytes a b p q =
     let same : ◌≡◌ {A = Result (List ℕ) CountFault} (Err a) (Err b) = law t bytes (Err a) (Err b) p q in
     cc
 
-sized_or_misfit : OneOfAll → (t : Tree Resolved) (form : Form) (input : List ℕ) (why : Misfit) → IsSized form t input → IsMisfit form t input why → ⊥
+sized_or_misfit : OneOfAll → (t : Tree Resolved) (form : Form) (input : List ℕ) (why : MeasureFault) → IsSized form t input → IsMeasureFault form t input why → ⊥
 sized_or_misfit law t Fixed input why sized misfit = misfit
 sized_or_misfit law t Variable input (Count offset) (counts, valid, size) (fault, faulty, long, at) = valid_or_not law t input counts fault valid faulty
 sized_or_misfit law t Variable input Length (counts, valid, size) misfit = elim misfit [
@@ -52,7 +51,7 @@ sized_or_misfit law t Variable input Length (counts, valid, size) misfit = elim 
 within_or_not : (a b : CountFault) → a ≡ b → a.short ≡ false → b.short ≡ true → ⊥
 within_or_not a b same long short = cc
 
-one_misfit : OneOfAll → (t : Tree Resolved) (form : Form) (input : List ℕ) (a b : Misfit) → IsMisfit form t input a → IsMisfit form t input b → a ≡ b
+one_misfit : OneOfAll → (t : Tree Resolved) (form : Form) (input : List ℕ) (a b : MeasureFault) → IsMeasureFault form t input a → IsMeasureFault form t input b → a ≡ b
 one_misfit law t Fixed input a b p q = absurd p
 one_misfit law t Variable input (Count m) (Count n) (f, p, long, at) (g, q, also, there) =
     ap Count (at ∙ ap (λ (x : CountFault). x.offset) (one_fault law t input f g p q) ∙ sym there)
@@ -67,11 +66,11 @@ one_misfit law t Variable input Length (Count n) p (g, q, long, at) = elim p [
 one_misfit law t Variable input Length Length p q = refl
 
 -- what is written has counts that are valid
-written_counts : (form : Form) (t : Tree Resolved) (storage written : List ℕ) → IsWritten form t storage written → (counts : List ℕ) × CountsOf t storage (Ok counts)
+written_counts : (form : Form) (t : Tree Resolved) (storage written : List ℕ) → IsOutputOf form t storage written → (counts : List ℕ) × CountsOf t storage (Ok counts)
 written_counts Fixed t storage written p = p.0
 written_counts Variable t storage written (counts, valid, part) = (counts, valid)
 
-one_written : OneOfAll → (form : Form) (t : Tree Resolved) (storage a b : List ℕ) → IsWritten form t storage a → IsWritten form t storage b → a ≡ b
+one_written : OneOfAll → (form : Form) (t : Tree Resolved) (storage a b : List ℕ) → IsOutputOf form t storage a → IsOutputOf form t storage b → a ≡ b
 one_written law Fixed t storage a b p q = p.1 ∙ sym q.1
 one_written law Variable t storage a b (c, valid, part) (d, also, same) =
     part ∙ ap (λ x. take (current_length x t) storage) (one_list law t storage c d valid also) ∙ sym same
@@ -100,7 +99,7 @@ one_output : OneOfAll → OneInitial → OneEnding → (c : Conversion) (input a
 one_output law initial ending c input a b p q =
     let same : done p.last ≡ done q.last = endings_agree initial ending c input p.initial q.initial (done p.last) (done q.last) p.begins q.begins p.applied q.applied in
     let last : p.last ≡ q.last = ap (λ (e : Ending). e.storage) same in
-    one_written law c.out_form c.records.output q.last a b (subst (λ (x : List ℕ). IsWritten c.out_form c.records.output x a) last p.writes) q.writes
+    one_written law c.out_form c.records.output q.last a b (subst (λ (x : List ℕ). IsOutputOf c.out_form c.records.output x a) last p.writes) q.writes
 
 one_stop : OneOfAll → OneInitial → OneEnding → (c : Conversion) (input : List ℕ) (a b : Stop) → StopsAt c input a → StopsAt c input b → a ≡ b
 one_stop law initial ending c input a b p q =

@@ -1,15 +1,15 @@
 -- What becomes of a record, and where its conversion stops.
 use Rattle.std.proofs.Common.{ℕ, List, inl, inr, IfErr, IfOk, Ok, Err, Result}
-use Rattle.cob_layout_places.specs.Lengths.{alone}
+use Rattle.cob_copybook_tree.specs.Nodes.{alone}
 use Rattle.cob_move.specs.Initial.{IsInitial}
 use Rattle.cob_convert_record.specs.Conversion.{Conversion}
 use Rattle.cob_move_apply.specs.declared.stop.Stop.{Stop}
 use Rattle.cob_move_apply.specs.Applied.{Applied, done, stopped}
-use Rattle.cob_convert_record.specs.Becoming.{Becomes, IsCountStop, IsWritten, StopsAt}
+use Rattle.cob_convert_record.specs.Becoming.{Becomes, IsCountStop, IsOutputOf, StopsAt}
 
 -- the last storage is written
 pub becomes : (c : Conversion) (input initial last written : List ℕ) → IsInitial (alone c.records.output) initial
-    → Applied c.records c.moves input initial (done last) → IsWritten c.out_form c.records.output last written → Becomes c input written
+    → Applied c.records c.moves input initial (done last) → IsOutputOf c.out_form c.records.output last written → Becomes c input written
 becomes c input initial last written begins applied writes =
     record { initial = initial; begins = begins; last = last; applied = applied; writes = writes }
 

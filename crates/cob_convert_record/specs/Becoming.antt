@@ -3,9 +3,8 @@ use Rattle.std.specs.Prelude.{◌≡◌, ◌⊎◌, ℕ, List, Ok, Err}
 use Rattle.cob_records.specs.declared.records.Form.{Form}
 use Rattle.cob_records.specs.declared.records.Form.TheVariants.{Fixed, Variable}
 use Rattle.cob_copybook_tree.specs.Forests.{Tree}
-use Rattle.cob_copybook_tree.specs.Nodes.{Resolved}
+use Rattle.cob_copybook_tree.specs.Nodes.{Resolved, alone}
 use Rattle.cob_layout_places.specs.declared.counts.CountFault.{CountFault}
-use Rattle.cob_layout_places.specs.Lengths.{alone}
 use Rattle.cob_layout.specs.Counting.{CountsOf}
 use Rattle.cob_layout.specs.Storage.{IsCurrentPart}
 use Rattle.cob_move.specs.Initial.{IsInitial}
@@ -17,9 +16,9 @@ use Rattle.cob_move_apply.specs.Located.{stop_at}
 use Rattle.cob_move_apply.specs.Applied.{Applied, done, stopped}
 
 -- What is written of an output storage, whose counts are all valid: in form f the whole of it, in form v its current part.
-abbrev pub IsWritten : Form → Tree Resolved → List ℕ → List ℕ → Type 0
-IsWritten Fixed t storage written = ((counts : List ℕ) × CountsOf t storage (Ok counts)) × (written ≡ storage)
-IsWritten Variable t storage written = IsCurrentPart t storage written
+abbrev pub IsOutputOf : Form → Tree Resolved → List ℕ → List ℕ → Type 0
+IsOutputOf Fixed t storage written = ((counts : List ℕ) × CountsOf t storage (Ok counts)) × (written ≡ storage)
+IsOutputOf Variable t storage written = IsCurrentPart t storage written
 
 -- An input record becomes what is written: the output record's storage goes from its initial values through all moves, and is written.
 pub record Becomes (conversion : Conversion) (input written : List ℕ) : Type 0 where
@@ -27,7 +26,7 @@ pub record Becomes (conversion : Conversion) (input written : List ℕ) : Type 0
   pub begins : IsInitial (alone conversion.records.output) initial
   pub last : List ℕ
   pub applied : Applied conversion.records conversion.moves input initial (done last)
-  pub writes : IsWritten conversion.out_form conversion.records.output last written
+  pub writes : IsOutputOf conversion.out_form conversion.records.output last written
 
 -- the first count of an output storage that isn't valid stops the conversion, at its item
 abbrev pub IsCountStop : Tree Resolved → List ℕ → Stop → Type 0

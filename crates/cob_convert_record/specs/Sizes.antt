@@ -7,8 +7,8 @@ use Rattle.cob_copybook_tree.specs.Nodes.{Resolved}
 use Rattle.cob_layout_places.specs.declared.counts.CountFault.{CountFault}
 use Rattle.cob_layout.specs.Counting.{CountsOf}
 use Rattle.cob_layout.specs.Storage.{IsCurrent, current_length, greatest_length}
-use Rattle.cob_convert_record.specs.declared.misfit.Misfit.{Misfit}
-use Rattle.cob_convert_record.specs.declared.misfit.Misfit.TheVariants.{Count, Length}
+use Rattle.cob_convert_record.specs.declared.misfit.MeasureFault.{MeasureFault}
+use Rattle.cob_convert_record.specs.declared.misfit.MeasureFault.TheVariants.{Count, Length}
 
 -- A record that came is one of its layout: in form f it has the greatest length, and no count is looked at; in form v its own counts are valid,
 -- and it has the length that they give.
@@ -27,7 +27,7 @@ IsMissized t input =
     ⊎ ((counts : List ℕ) × CountsOf t input (Ok counts) × (length input ≢ current_length counts t))
 
 -- A record of form v isn't one of its layout, for a count or for its length; a frame of form f can't hold another than one of the greatest length.
-abbrev pub IsMisfit : Form → Tree Resolved → List ℕ → Misfit → Type 0
-IsMisfit Fixed t input why = ⊥
-IsMisfit Variable t input (Count offset) = IsMiscounted t input offset
-IsMisfit Variable t input Length = IsMissized t input
+abbrev pub IsMeasureFault : Form → Tree Resolved → List ℕ → MeasureFault → Type 0
+IsMeasureFault Fixed t input why = ⊥
+IsMeasureFault Variable t input (Count offset) = IsMiscounted t input offset
+IsMeasureFault Variable t input Length = IsMissized t input

@@ -2,16 +2,15 @@
 
 ghost use Rattle.std.specs.Prelude.{◌≡◌, ◌<◌, ◌≤◌, ℕ, List, length, min, take, Err, IfOk, IfErr, OnOk};
 ghost use Rattle.cob_limits.specs.Limits.{longest_record};
-ghost use Rattle.cob_layout_places.specs.Lengths.{alone};
 ghost use Rattle.cob_layout.specs.Storage.{greatest_length};
 ghost use Rattle.cob_copybook_tree.specs.Forests.{Tree, entries_in};
-ghost use Rattle.cob_copybook_tree.specs.Nodes.{Resolved};
+ghost use Rattle.cob_copybook_tree.specs.Nodes.{Resolved, alone};
 ghost use Rattle.cob_layout.specs.Counting.{CountsOf};
-ghost use Rattle.cob_convert_record.specs.Becoming.{IsCountStop, IsWritten};
-ghost use Rattle.cob_convert_record.specs.Sizes.{IsMisfit, IsSized};
+ghost use Rattle.cob_convert_record.specs.Becoming.{IsCountStop, IsOutputOf};
+ghost use Rattle.cob_convert_record.specs.Sizes.{IsMeasureFault, IsSized};
 ghost use Rattle.cob_records.specs.declared.records.Form.TheVariants.{Variable};
 
-use crate::misfit::Misfit;
+use crate::misfit::MeasureFault;
 use crate::room::Room;
 use cob_copybook::Book;
 use cob_layout::{CountFault, Counts, Layout};
@@ -36,7 +35,7 @@ pub struct Conversion {
 
 impl Model for Conversion {
     ghost use Rattle.std.specs.Prelude.{◌≡◌, length};
-    ghost use Rattle.cob_layout_places.specs.Lengths.{alone};
+    ghost use Rattle.cob_copybook_tree.specs.Nodes.{alone};
     ghost use Rattle.cob_layout.specs.Storage.{greatest_length};
     ghost use Rattle.cob_move.specs.Initial.{IsInitial};
     ghost use Rattle.cob_convert_record.specs.Conversion.{Conversion};
@@ -54,33 +53,33 @@ impl Model for Conversion {
 }
 
 /// The fault of a record of form v whose counts give none.
-fn misfit_of(fault: CountFault) -> Misfit
+fn measure_fault_of(fault: CountFault) -> MeasureFault
     ensures { (t : Tree Resolved) (input : List ℕ)
-        → CountsOf t input (Err fault) → IsMisfit Variable t input result }
+        → CountsOf t input (Err fault) → IsMeasureFault Variable t input result }
 {
     if fault.short {
-        Misfit::Length
+        MeasureFault::Length
     } else {
-        Misfit::Count {
+        MeasureFault::Count {
             offset: fault.offset,
         }
     }
 }
 
 /// Whether a record has the length that its own counts give.
-fn measure_current(layout: &Layout, input: &[u8], counts: &mut Counts) -> Result<(), Misfit>
+fn measure_current(layout: &Layout, input: &[u8], counts: &mut Counts) -> Result<(), MeasureFault>
     requires room { length counts.old ≡ entries_in (alone layout.now) }
     ensures sized { OnOk result (IsSized Variable layout.now input.now) }
-    ensures misfit { IfErr result (λ why. IsMisfit Variable layout.now input.now why) }
+    ensures misfit { IfErr result (λ why. IsMeasureFault Variable layout.now input.now why) }
     ensures room { length counts.new ≡ length counts.old }
 {
     if let Err(fault) = layout.counts_of(input, counts) {
-        return Err(misfit_of(fault));
+        return Err(measure_fault_of(fault));
     }
     if input.len() == usize::from(layout.length(counts)) {
         Ok(())
     } else {
-        Err(Misfit::Length)
+        Err(MeasureFault::Length)
     }
 }
 
@@ -100,7 +99,7 @@ fn written_length(
     ensures size { IfOk result
         (λ made. (0 < made) × (made ≤ length storage.now) × (made ≤ longest_record)) }
     ensures written { IfOk result
-        (λ made. IsWritten form layout.now storage.now (take made storage.now)) }
+        (λ made. IsOutputOf form layout.now storage.now (take made storage.now)) }
     ensures stops { IfErr result (λ stop. IsCountStop layout.now storage.now stop) }
     ensures room { length counts.new ≡ length counts.old }
 {
@@ -125,7 +124,7 @@ impl Conversion {
     ghost use Rattle.cob_layout.specs.Storage.{IsStorage};
     ghost use Rattle.cob_move.specs.Initial.{IsInitial};
     ghost use Rattle.cob_convert_record.specs.Conversion.{in_length, out_length};
-    ghost use Rattle.cob_convert_record.specs.Sizes.{IsSized, IsMisfit};
+    ghost use Rattle.cob_convert_record.specs.Sizes.{IsSized, IsMeasureFault};
     ghost use Rattle.cob_convert_record.specs.Becoming.{Becomes, StopsAt};
     ghost use Rattle.cob_convert_record.specs.Rooms.{capacity_for};
 
@@ -215,12 +214,12 @@ impl Conversion {
     /// # Errors
     ///
     /// In form v a count of the record that isn't valid, or a length other than that which its counts give.
-    pub fn measure(&self, input: &[u8], room: &mut Room) -> Result<(), Misfit>
+    pub fn measure(&self, input: &[u8], room: &mut Room) -> Result<(), MeasureFault>
         requires record { IsRecord self.now.in_form (in_length self.now) input.now }
         requires room { room.old ≡ capacity_for self.now.records }
         ensures sized { OnOk result (IsSized self.now.in_form self.now.records.input input.now) }
         ensures misfit { IfErr result
-            (λ why. IsMisfit self.now.in_form self.now.records.input input.now why) }
+            (λ why. IsMeasureFault self.now.in_form self.now.records.input input.now why) }
         ensures room { room.new ≡ room.old }
     {
         match self.in_form {

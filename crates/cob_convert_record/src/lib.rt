@@ -30,5 +30,5 @@ pub use cob_move_apply::{Stop, StopCause};
 pub use cob_move_operands::Side;
 pub use conversion::Conversion;
 pub use laws::conversions_are_decided;
-pub use misfit::Misfit;
+pub use misfit::MeasureFault;
 pub use room::Room;

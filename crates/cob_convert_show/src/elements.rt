@@ -1,8 +1,8 @@
 //! The elements of a record that items have, and their places.
 
 ghost use Rattle.std.specs.Prelude.{◌≡◌, ◌≤◌, ◌+◌, length, IfErr, IfSome, is_err, true};
-ghost use Rattle.cob_copybook_tree.specs.Lengths.{most, sum_of};
-ghost use Rattle.cob_layout_places.specs.Lengths.{alone};
+ghost use Rattle.cob_copybook_tree.specs.Nodes.{alone};
+ghost use Rattle.cob_copybook_tree.specs.Lengths.{greatest_number, sum_of};
 ghost use Rattle.cob_records.specs.Device.{counted};
 ghost use Rattle.cob_records.specs.Frame.{is_write_error, is_write_fault};
 
@@ -38,7 +38,7 @@ pub(crate) fn place_of(
     number: usize,
     subscripts: &[u32],
 ) -> Option<Place>
-    ensures { IfSome result (λ p. p.offset + p.length ≤ sum_of most (alone layout.now)) }
+    ensures { IfSome result (λ p. p.offset + p.length ≤ sum_of greatest_number (alone layout.now)) }
 {
     let reference = layout.reference(number, subscripts)?;
     layout.place(&reference, counts).ok()
@@ -87,7 +87,7 @@ fn put_element<W: Sink>(
     named: Named,
     subscripts: &[u32],
 ) -> Result<(), RecordFault>
-    requires { length contents.bytes.now ≡ sum_of most (alone contents.layout.now) }
+    requires { length contents.bytes.now ≡ sum_of greatest_number (alone contents.layout.now) }
     ensures kind { IfErr result (λ fault. is_write_fault fault ≡ true) }
     ensures cause { W.failures w.new ≡ counted (is_err result) (W.failures w.old) }
     ensures errors { W.errors w.new ≡ counted (is_write_error result) (W.errors w.old) }
@@ -113,7 +113,7 @@ fn put_elements<W: Sink>(
     tables: &[Table],
     subscripts: &mut Subscripts,
 ) -> Result<(), RecordFault>
-    requires { length contents.bytes.now ≡ sum_of most (alone contents.layout.now) }
+    requires { length contents.bytes.now ≡ sum_of greatest_number (alone contents.layout.now) }
     ensures kind { IfErr result (λ fault. is_write_fault fault ≡ true) }
     ensures cause { W.failures w.new ≡ counted (is_err result) (W.failures w.old) }
     ensures errors { W.errors w.new ≡ counted (is_write_error result) (W.errors w.old) }
@@ -150,7 +150,7 @@ pub(crate) fn put_items<W: Sink>(
     entry: &Node,
     tables: &mut Tables,
 ) -> Result<(), RecordFault>
-    requires { length contents.bytes.now ≡ sum_of most (alone contents.layout.now) }
+    requires { length contents.bytes.now ≡ sum_of greatest_number (alone contents.layout.now) }
     ensures kind { IfErr result (λ fault. is_write_fault fault ≡ true) }
     ensures cause { W.failures w.new ≡ counted (is_err result) (W.failures w.old) }
     ensures errors { W.errors w.new ≡ counted (is_write_error result) (W.errors w.old) }

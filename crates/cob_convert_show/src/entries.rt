@@ -7,7 +7,7 @@ ghost use Rattle.cob_records.specs.Frame.{is_write_error, is_write_fault, taken_
 use crate::elements::{Subscripts, place_of};
 use crate::text::{put, put_behind_space};
 use cob_copybook::Book;
-use cob_copybook_tree::{Item, Kind, Node, Times};
+use cob_copybook_tree::{Item, Kind, Node, ResolvedOccurs};
 use cob_entry::{Name, Sign, Usage};
 use cob_layout::{Layout, Place};
 use cob_layout_places::is_table;
@@ -99,19 +99,19 @@ fn put_occurs<W: Sink>(
     w: &mut W,
     sent: &mut u64,
     root: &Node,
-    occurs: Times,
+    occurs: ResolvedOccurs,
 ) -> Result<(), RecordFault>
     ensures kind { IfErr result (λ fault. is_write_fault fault ≡ true) }
     ensures cause { W.failures w.new ≡ counted (is_err result) (W.failures w.old) }
     ensures errors { W.errors w.new ≡ counted (is_write_error result) (W.errors w.old) }
 {
     match occurs {
-        Times::Once => Ok(()),
-        Times::Fixed(times) => {
+        ResolvedOccurs::Once => Ok(()),
+        ResolvedOccurs::Fixed(times) => {
             put(w, sent, b" occurs")?;
             put_behind_space(w, sent, times)
         }
-        Times::Varying { least, most, count } => {
+        ResolvedOccurs::Varying { least, most, count } => {
             put(w, sent, b" occurs")?;
             put_behind_space(w, sent, least)?;
             put_behind_space(w, sent, most)?;

@@ -1,9 +1,9 @@
 //! The records of a file.
 
 ghost use Rattle.std.specs.Prelude.{◌≡◌, length, IfErr, Err, is_err, true, false};
-ghost use Rattle.cob_copybook_tree.specs.Lengths.{most, sum_of};
+ghost use Rattle.cob_copybook_tree.specs.Nodes.{alone};
+ghost use Rattle.cob_copybook_tree.specs.Lengths.{greatest_number, sum_of};
 ghost use Rattle.cob_copybook_tree.specs.Forests.{entries_in};
-ghost use Rattle.cob_layout_places.specs.Lengths.{alone};
 ghost use Rattle.cob_records.specs.Device.{counted};
 ghost use Rattle.cob_records.specs.Frame.{is_write_error, is_write_fault};
 ghost use Rattle.cob_convert_show.specs.Records.{is_read_cause, is_write_cause, is_error_cause, stopped_by, refused_by, IsStop, IsShowFault};
@@ -90,7 +90,7 @@ fn read_record<R: Source>(
     bytes: &mut [u8],
     counts: &mut Counts,
 ) -> Result<bool, Stop>
-    requires bytes { length bytes.old ≡ sum_of most (alone layout.now) }
+    requires bytes { length bytes.old ≡ sum_of greatest_number (alone layout.now) }
     requires counts { length counts.old ≡ entries_in (alone layout.now) }
     ensures counts { length counts.new ≡ length counts.old }
     ensures stop { IfErr result (λ stop. IsStop stop.offset stop.cause) }
@@ -121,7 +121,7 @@ fn put_lines<W: Sink>(
     contents: Contents,
     root: &Node,
 ) -> Result<(), RecordFault>
-    requires { length contents.bytes.now ≡ sum_of most (alone contents.layout.now) }
+    requires { length contents.bytes.now ≡ sum_of greatest_number (alone contents.layout.now) }
     ensures kind { IfErr result (λ fault. is_write_fault fault ≡ true) }
     ensures cause { W.failures w.new ≡ counted (is_err result) (W.failures w.old) }
     ensures errors { W.errors w.new ≡ counted (is_write_error result) (W.errors w.old) }
@@ -159,7 +159,7 @@ fn show_records<R: Source, W: Sink>(
     r: &mut R,
     w: &mut W,
 ) -> Result<u64, ShowFault>
-    requires bytes { length bytes.old ≡ sum_of most (alone shown.layout.now) }
+    requires bytes { length bytes.old ≡ sum_of greatest_number (alone shown.layout.now) }
     requires counts { length counts.old ≡ entries_in (alone shown.layout.now) }
     ensures fault { IfErr result IsShowFault }
     ensures record { result ≡ Err Memory → ⊥ }

@@ -4,7 +4,7 @@ use Rattle.std.proofs.Math.Nat.{mul-pos}
 use Rattle.std.specs.Prelude.{Option, Some, None, ◌==◌, if◌then◌else◌, nat_le, unwrap_or}
 use Rattle.std.specs.List.{AllByRecursion}
 use Rattle.cob_source.specs.Tokens.{Lexeme}
-use Rattle.cob_picture.specs.Positions.{Seen}
+use Rattle.cob_picture.specs.Positions.{PlainPicture}
 use Rattle.cob_picture.specs.Counts.{size, digits}
 use Rattle.cob_picture.specs.Pictures.{IsPictureOf}
 use Rattle.cob_picture.specs.Laws.{TakesBytes}
@@ -12,14 +12,14 @@ use Rattle.cob_entry.specs.declared.kinds.Usage.{Usage}
 use Rattle.cob_entry.specs.declared.kinds.Usage.TheVariants.{Display, Binary, Packed}
 use Rattle.cob_entry.specs.declared.kinds.Sign.{Sign}
 use Rattle.cob_copybook_clauses.specs.Entries.{is_condition}
-use Rattle.cob_entry.specs.Described.{Described}
+use Rattle.cob_entry.specs.Described.{PlainEntry}
 use Rattle.cob_copybook_entries.specs.Meaning.{IsOption}
 use Rattle.cob_copybook_entries.specs.Books.{IsSentence, AreDescribed}
-use Rattle.cob_copybook_tree.specs.Forests.{Forest, Bare, Grows, Tree, flat, entries_in}
+use Rattle.cob_copybook_tree.specs.Forests.{Forest, NoEntries, AnEntry, Tree, flat, entries_in}
 use Rattle.cob_copybook_tree.specs.Branches.{AreLevels}
 use Rattle.cob_copybook_tree.specs.Nodes.{Resolved}
-use Rattle.cob_copybook_tree.specs.Resolving.{inherited, kind_of, resolved}
-use Rattle.cob_copybook_tree.specs.Lengths.{binary_size, most, room, one, sum_of}
+use Rattle.cob_copybook_tree.specs.Resolving.{inherited, kind_by_picture, resolved}
+use Rattle.cob_copybook_tree.specs.Lengths.{binary_size, greatest_number, own_length, length_by_kind, sum_of}
 use Rattle.cob_copybook_rules.specs.Filled.{IsFilled, AreFilled}
 use Rattle.cob_copybook_lengths.specs.Areas.{AreAreas, ArePossible, MayFollow}
 use Rattle.cob_copybook.specs.declared.role.Role.{Role}
@@ -29,27 +29,27 @@ use Rattle.cob_copybook.proofs.Storages.{possible}
 
 -- ---- each picture of a text's entries takes a byte
 
-abbrev PictureTakes : Option Seen → Type 0
+abbrev PictureTakes : Option PlainPicture → Type 0
 PictureTakes None = Unit {0}
 PictureTakes (Some p) = 0 < size p.positions
 
-abbrev EntryTakes : Described → Type 0
+abbrev EntryTakes : PlainEntry → Type 0
 EntryTakes d = PictureTakes d.picture
 
-picture_takes : TakesBytes → (w : Option (List ℕ)) (p : Option Seen) → IsOption IsPictureOf w p → PictureTakes p
+picture_takes : TakesBytes → (w : Option (List ℕ)) (p : Option PlainPicture) → IsOption IsPictureOf w p → PictureTakes p
 picture_takes law w None h = tt
 picture_takes law None (Some p) h = absurd h
 picture_takes law (Some text) (Some p) h = law text p h
 
-sentence_takes : TakesBytes → (b : Bool) (s : List Lexeme) (ds more : List Described) → IsSentence b s ds more → AllByRecursion EntryTakes more → AllByRecursion EntryTakes ds
+sentence_takes : TakesBytes → (b : Bool) (s : List Lexeme) (ds more : List PlainEntry) → IsSentence b s ds more → AllByRecursion EntryTakes more → AllByRecursion EntryTakes ds
 sentence_takes law true s ds more (is, e) h = subst (AllByRecursion EntryTakes) (sym e) h
 sentence_takes law false s ds more (d, is, e) h = subst (AllByRecursion EntryTakes) (sym e) (picture_takes law is.written.clauses.picture d.picture is.means.picture, h)
 
-described_take : TakesBytes → (ss : List (List Lexeme)) (ds : List Described) → AreDescribed ss ds → AllByRecursion EntryTakes ds
+described_take : TakesBytes → (ss : List (List Lexeme)) (ds : List PlainEntry) → AreDescribed ss ds → AllByRecursion EntryTakes ds
 described_take law [] ds h = subst (AllByRecursion EntryTakes) (sym h) tt
 described_take law (s ∷ ss) ds (none, (more, is, rest)) = sentence_takes law (is_condition s) s ds more is (described_take law ss more rest)
 
-with_takes : (role : Role) (ds : List Described) → AllByRecursion EntryTakes ds → AllByRecursion EntryTakes (with_record role ds)
+with_takes : (role : Role) (ds : List PlainEntry) → AllByRecursion EntryTakes ds → AllByRecursion EntryTakes (with_record role ds)
 with_takes role [] h = (tt, tt)
 with_takes role (d ∷ ds) h = at (d.level == 1)
   where
@@ -59,11 +59,11 @@ with_takes role (d ∷ ds) h = at (d.level == 1)
 
 -- ---- and so does each item of the tree
 
-front : (xs ys : List Described) → AllByRecursion EntryTakes (xs ++ ys) → AllByRecursion EntryTakes xs
+front : (xs ys : List PlainEntry) → AllByRecursion EntryTakes (xs ++ ys) → AllByRecursion EntryTakes xs
 front [] ys h = tt
 front (x ∷ xs) ys h = (h.0, front xs ys h.1)
 
-back : (xs ys : List Described) → AllByRecursion EntryTakes (xs ++ ys) → AllByRecursion EntryTakes ys
+back : (xs ys : List PlainEntry) → AllByRecursion EntryTakes (xs ++ ys) → AllByRecursion EntryTakes ys
 back [] ys h = h
 back (x ∷ xs) ys h = back xs ys h.1
 
@@ -75,50 +75,50 @@ binary_takes n = at (nat_le n 4) (nat_le n 9)
     at false true = omega arith
     at false false = omega arith
 
-item_takes : (p : Option Seen) (usage : Usage) (sign : Option Sign) (right zero : Bool) → PictureTakes p → TakesByte (kind_of p usage sign right zero)
+item_takes : (p : Option PlainPicture) (usage : Usage) (sign : Option Sign) (right zero : Bool) → PictureTakes p → TakesByte (kind_by_picture p usage sign right zero)
 item_takes None usage sign right zero h = tt
 item_takes (Some p) Display sign right zero h = omega (arith, h)
 item_takes (Some p) Packed sign right zero h = omega arith
 item_takes (Some p) Binary sign right zero h = binary_takes (digits p.positions)
 
-resolved_take : (counts : List ℕ) (n : ℕ) (usage : Option Usage) (sign : Option Sign) (f : Forest Described) → AllByRecursion EntryTakes (flat f) → TakeBytes (resolved counts n usage sign f)
-resolved_take counts n usage sign Bare h = tt
-resolved_take counts n usage sign (Grows e kids more) h = (
+resolved_take : (counts : List ℕ) (n : ℕ) (usage : Option Usage) (sign : Option Sign) (f : Forest PlainEntry) → AllByRecursion EntryTakes (flat f) → TakeBytes (resolved counts n usage sign f)
+resolved_take counts n usage sign NoEntries h = tt
+resolved_take counts n usage sign (AnEntry e children more) h = (
   item_takes e.picture (unwrap_or (inherited usage e.usage) Display) (inherited sign e.sign) e.justified e.blank h.0,
-  resolved_take counts (n + 1) (inherited usage e.usage) (inherited sign e.sign) kids (front (flat kids) (flat more) h.1),
-  resolved_take counts (n + 1 + entries_in kids) usage sign more (back (flat kids) (flat more) h.1),
+  resolved_take counts (n + 1) (inherited usage e.usage) (inherited sign e.sign) children (front (flat children) (flat more) h.1),
+  resolved_take counts (n + 1 + entries_in children) usage sign more (back (flat children) (flat more) h.1),
 )
 
 -- ---- and the record
 
-abbrev HasEntry : Forest Described → Type 0
-HasEntry Bare = ⊥
-HasEntry (Grows e kids more) = Unit {0}
+abbrev HasEntry : Forest PlainEntry → Type 0
+HasEntry NoEntries = ⊥
+HasEntry (AnEntry e children more) = Unit {0}
 
 -- nothing stands before the first entry of a row that it could redefine
-own_room : (r : Option (List ℕ)) (n m : ℕ) (t : Tree Resolved) → MayFollow r [] t → 0 < n → 0 < room r n + m
+own_room : (r : Option (List ℕ)) (n m : ℕ) (t : Tree Resolved) → MayFollow r [] t → 0 < n → 0 < own_length r n + m
 own_room None n m t h some = omega (arith, some)
 own_room (Some name) n m t h some = absurd h.0
 
-own_bytes : (p : Option Seen) (usage : Usage) (sign : Option Sign) (right zero : Bool) (kids : Forest Described) (sum : ℕ)
-    → IsFilled p kids → (HasEntry kids → 0 < sum) → TakesByte (kind_of p usage sign right zero) → 0 < one (kind_of p usage sign right zero) sum
-own_bytes None usage sign right zero Bare sum filled h takes = absurd filled
-own_bytes None usage sign right zero (Grows e kids more) sum filled h takes = h tt
-own_bytes (Some p) usage sign right zero kids sum filled h takes = takes
+own_bytes : (p : Option PlainPicture) (usage : Usage) (sign : Option Sign) (right zero : Bool) (children : Forest PlainEntry) (sum : ℕ)
+    → IsFilled p children → (HasEntry children → 0 < sum) → TakesByte (kind_by_picture p usage sign right zero) → 0 < length_by_kind (kind_by_picture p usage sign right zero) sum
+own_bytes None usage sign right zero NoEntries sum filled h takes = absurd filled
+own_bytes None usage sign right zero (AnEntry e children more) sum filled h takes = h tt
+own_bytes (Some p) usage sign right zero children sum filled h takes = takes
 
-some_bytes : (counts : List ℕ) (n : ℕ) (usage : Option Usage) (sign : Option Sign) (f : Forest Described)
+some_bytes : (counts : List ℕ) (n : ℕ) (usage : Option Usage) (sign : Option Sign) (f : Forest PlainEntry)
     → AreFilled f → ArePossible (resolved counts n usage sign f) → AreAreas [] (resolved counts n usage sign f) → TakeBytes (resolved counts n usage sign f)
-    → HasEntry f → 0 < sum_of most (resolved counts n usage sign f)
-some_bytes counts n usage sign Bare filled may areas takes h = absurd h
-some_bytes counts n usage sign (Grows e kids more) filled may areas takes h =
-    let below = some_bytes counts (n + 1) (inherited usage e.usage) (inherited sign e.sign) kids filled.1 may.2 areas.1 takes.1 in
-    let own = own_bytes e.picture (unwrap_or (inherited usage e.usage) Display) (inherited sign e.sign) e.justified e.blank kids
-    (sum_of most (resolved counts (n + 1) (inherited usage e.usage) (inherited sign e.sign) kids)) filled.0 below takes.0 in
-    own_room e.redefines _ (sum_of most (resolved counts (n + 1 + entries_in kids) usage sign more)) _ areas.0 (mul-pos may.0 own)
+    → HasEntry f → 0 < sum_of greatest_number (resolved counts n usage sign f)
+some_bytes counts n usage sign NoEntries filled may areas takes h = absurd h
+some_bytes counts n usage sign (AnEntry e children more) filled may areas takes h =
+    let below = some_bytes counts (n + 1) (inherited usage e.usage) (inherited sign e.sign) children filled.1 may.2 areas.1 takes.1 in
+    let own = own_bytes e.picture (unwrap_or (inherited usage e.usage) Display) (inherited sign e.sign) e.justified e.blank children
+    (sum_of greatest_number (resolved counts (n + 1) (inherited usage e.usage) (inherited sign e.sign) children)) filled.0 below takes.0 in
+    own_room e.redefines _ (sum_of greatest_number (resolved counts (n + 1 + entries_in children) usage sign more)) _ areas.0 (mul-pos may.0 own)
 
-has_entry : (f : Forest Described) (ds : List Described) → flat f ≡ ds → AreLevels ds → HasEntry f
-has_entry Bare ds e levels = absurd (subst AreLevels (sym e) levels)
-has_entry (Grows e kids more) ds same levels = tt
+has_entry : (f : Forest PlainEntry) (ds : List PlainEntry) → flat f ≡ ds → AreLevels ds → HasEntry f
+has_entry NoEntries ds e levels = absurd (subst AreLevels (sym e) levels)
+has_entry (AnEntry e children more) ds same levels = tt
 
 pub records_take_bytes : TakesBytes → RecordsTakeBytes
 records_take_bytes law t (role, text, book) =
@@ -130,4 +130,4 @@ records_take_bytes law t (role, text, book) =
     let may = possible counts 0 0 None None w is.agree.tables is.agree.filled in
     let areas = subst (AreAreas []) is.stored.tree is.stored.fit.areas in
     let some = some_bytes counts 0 None None w is.agree.filled may areas takes (has_entry w book.entries is.stands.entries is.stands.levels) in
-    (subst TakeBytes (sym is.stored.tree) takes, subst (λ (f : Forest Resolved). 0 < sum_of most f) (sym is.stored.tree) some)
+    (subst TakeBytes (sym is.stored.tree) takes, subst (λ (f : Forest Resolved). 0 < sum_of greatest_number f) (sym is.stored.tree) some)

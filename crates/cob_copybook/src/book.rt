@@ -3,9 +3,9 @@
 ghost use Rattle.std.specs.Prelude.{◌≡◌, ℕ, ◌≤◌, [], ◌∷◌, IfOk, IfErr};
 ghost use Rattle.cob_copybook_tree.specs.Forests.{Forest};
 ghost use Rattle.cob_copybook_tree.specs.Nodes.{Resolved, forest};
-ghost use Rattle.cob_copybook_tree.specs.Lengths.{most, sum_of};
+ghost use Rattle.cob_copybook_tree.specs.Lengths.{greatest_number, sum_of};
 ghost use Rattle.cob_limits.specs.Limits.{longest_record};
-ghost use Rattle.cob_copybook.specs.Books.{IsBookOf, IsRecord, IsRefusal, IsMemory};
+ghost use Rattle.cob_copybook.specs.Books.{IsBookOf, IsRecordDescription, IsBookRefusal, IsMemory};
 
 use crate::laws::records_take_bytes;
 use crate::role::Role;
@@ -30,8 +30,8 @@ impl Model for Book {
     ghost use Rattle.std.specs.Prelude.{◌≡◌, [], ◌∷◌};
     ghost use Rattle.cob_copybook_tree.specs.Forests.{Forest};
     ghost use Rattle.cob_copybook_tree.specs.Nodes.{Resolved, forest};
-    ghost use Rattle.cob_copybook_tree.specs.Lengths.{most, sum_of};
-    ghost use Rattle.cob_copybook.specs.Books.{IsRecord};
+    ghost use Rattle.cob_copybook_tree.specs.Lengths.{greatest_number, sum_of};
+    ghost use Rattle.cob_copybook.specs.Books.{IsRecordDescription};
     ghost use Rattle.std.specs.Coded.{codes};
     ghost use Rattle.cob_copybook.specs.Codes.{coded_forest};
 
@@ -41,7 +41,7 @@ impl Model for Book {
 
     ghost view = { λ b. forest (b.root ∷ []) };
 
-    ghost invariant = { λ b. IsRecord (forest (b.root ∷ [])) × (b.greatest ≡ sum_of most (forest (b.root ∷ []))) };
+    ghost invariant = { λ b. IsRecordDescription (forest (b.root ∷ [])) × (b.greatest ≡ sum_of greatest_number (forest (b.root ∷ []))) };
 }
 
 impl Book {
@@ -58,7 +58,7 @@ impl Book {
         ensures only { (t : Forest Resolved) → IsBookOf role text.now t
             → IfOk result (λ b. b ≡ t) × IfErr result (λ f. IsMemory f.rule) }
         // A refusal names a rule that is broken.
-        ensures fault { IfErr result (λ f. IsRefusal role f.rule f.line text.now) }
+        ensures fault { IfErr result (λ f. IsBookRefusal role f.rule f.line text.now) }
     {
         let entries = entries_of(alloc, role, text)?;
         let tree = tree_of(alloc, entries)?;
@@ -70,14 +70,14 @@ impl Book {
     /// The record, with the entries beneath it.
     pub fn root(&self) -> &Node
         ensures tree { forest (result.now ∷ []) ≡ self.now }
-        ensures record { IsRecord self.now }
+        ensures record { IsRecordDescription self.now }
     {
         &self.root
     }
 
     /// The record's length in bytes where each table that varies has its greatest count: 1 to 32,752.
     pub fn greatest(&self) -> u16
-        ensures value { result ≡ sum_of most self.now }
+        ensures value { result ≡ sum_of greatest_number self.now }
         ensures some { 1 ≤ result }
         ensures most { result ≤ longest_record }
     {

@@ -8,7 +8,7 @@
 //! What is promised of [`Book::read`]: what it answers is the tree of the text (clause `found`); every text that is a well-formed record
 //! description is read, but for want of memory (`only`); and a refusal names a rule that is broken (`fault`). That no text is both, a
 //! record description and one that breaks a rule, is the law [`book_breaks_no_rule`] of specs/Laws.antt. The definitions: `IsBookOf`
-//! and `IsRefusal` of specs/Books.antt say it of texts, `IsRecordOf` of specs/Records.antt of entries. Which line is named, no clause
+//! and `IsBookRefusal` of specs/Books.antt say it of texts, `IsRecordOf` of specs/Records.antt of entries. Which line is named, no clause
 //! says.
 //!
 //! The crate puts the stages of reading in order, and speaks of no word and no length itself: it stands on `cob_source` for the words of

@@ -1,7 +1,7 @@
 //! The record that a tree of entries describes.
 
 ghost use Rattle.std.specs.Prelude.{◌≡◌, ◌≤◌, [], ◌∷◌, IfOk, IfErr};
-ghost use Rattle.cob_entry.specs.Described.{Described};
+ghost use Rattle.cob_entry.specs.Described.{PlainEntry};
 ghost use Rattle.cob_entry.specs.declared.fault.BookRule.TheVariants.{Memory};
 ghost use Rattle.cob_copybook_tree.specs.Forests.{Forest, entries_in};
 ghost use Rattle.cob_copybook_tree.specs.Branches.{forest_of};
@@ -9,7 +9,7 @@ ghost use Rattle.cob_copybook_tree.specs.Nodes.{Resolved, forest};
 ghost use Rattle.cob_copybook_rules.specs.Rules.{AgreeAll};
 ghost use Rattle.cob_copybook.specs.Records.{IsStored, IsStorageRefusal};
 
-use cob_copybook_lengths::{breaks_no_rule, judged};
+use cob_copybook_lengths::{breaks_no_rule, judge_lengths};
 use cob_copybook_names::counts;
 use cob_copybook_tree::{Branch, Node, resolve};
 use cob_entry::BookFault;
@@ -31,6 +31,6 @@ pub(crate) fn storage_of(alloc: Global, tree: &Branch) -> Result<Node, BookFault
     breaks_no_rule();
     let counts = counts(alloc, tree)?;
     let record = resolve(alloc, tree, &counts)?;
-    judged(&record)?;
+    judge_lengths(&record)?;
     Ok(record)
 }

@@ -1,22 +1,22 @@
 //! The tree of a record's entries.
 
 ghost use Rattle.std.specs.Prelude.{◌≡◌, ℕ, ◌≤◌, List, [], ◌∷◌, map, IfOk, IfErr, IsNone};
-ghost use Rattle.cob_entry.specs.Described.{Described, described};
+ghost use Rattle.cob_entry.specs.Described.{PlainEntry, plain_entry};
 ghost use Rattle.cob_copybook_tree.specs.Forests.{Forest};
 ghost use Rattle.cob_copybook_tree.specs.Branches.{AreLevels, StandsFor, forest_of};
 ghost use Rattle.cob_copybook_rules.specs.Rules.{AgreeAll};
 ghost use Rattle.cob_copybook.specs.Records.{IsTreeRefusal};
 ghost use Rattle.cob_entry.specs.declared.fault.BookRule.TheVariants.{Memory};
 
-use cob_copybook_rules::{breaks_no_rule, judged};
-use cob_copybook_tree::{Branch, one_tree, planted};
+use cob_copybook_rules::{breaks_no_rule, judge_clauses};
+use cob_copybook_tree::{Branch, one_tree, build_tree};
 use cob_entry::{BookFault, BookRule, Entry};
 use std::alloc::Global;
 
 /// The line of an entry whose level is not allowed: 01 for the record, 02 to 49 for the others.
 fn wrong_level(entries: &[Entry]) -> Option<u32>
-    ensures fine { IsNone result → AreLevels (map described entries.now) }
-    ensures must { AreLevels (map described entries.now) → IsNone result }
+    ensures fine { IsNone result → AreLevels (map plain_entry entries.now) }
+    ensures must { AreLevels (map plain_entry entries.now) → IsNone result }
 {
     let Some((first, others)) = entries.split_first() else {
         return Some(1);
@@ -37,11 +37,12 @@ fn wrong_level(entries: &[Entry]) -> Option<u32>
 /// # Errors
 /// A rule on levels or clauses that the entries break; want of memory.
 pub(crate) fn tree_of(alloc: Global, entries: Vec<Entry>) -> Result<Branch, BookFault>
-    ensures found { IfOk result (λ b. StandsFor (map described entries.items) (forest_of (b ∷ []))
+    ensures found { IfOk result (λ b. StandsFor (map plain_entry entries.items) (forest_of (b ∷ []))
         × AgreeAll (forest_of (b ∷ []))) }
-    ensures only { (t : Forest Described) → StandsFor (map described entries.items) t → AgreeAll t
+    ensures only { (t : Forest PlainEntry) → StandsFor (map plain_entry entries.items) t
+        → AgreeAll t
         → IfOk result (λ b. forest_of (b ∷ []) ≡ t) × IfErr result (λ f. f.rule ≡ Memory) }
-    ensures fault { IfErr result (λ f. IsTreeRefusal f.rule (map described entries.items)) }
+    ensures fault { IfErr result (λ f. IsTreeRefusal f.rule (map plain_entry entries.items)) }
     ensures memory { IfErr result (λ f. f.rule ≡ Memory → f.line ≡ 0) }
 {
     one_tree();
@@ -52,7 +53,7 @@ pub(crate) fn tree_of(alloc: Global, entries: Vec<Entry>) -> Result<Branch, Book
             line,
         });
     }
-    let tree = planted(alloc, entries)?;
-    judged(&tree)?;
+    let tree = build_tree(alloc, entries)?;
+    judge_clauses(&tree)?;
     Ok(tree)
 }

@@ -2,7 +2,7 @@
 
 ghost use Rattle.std.specs.Prelude.{◌≡◌, ℕ, ◌≤◌, ◌<◌, List, length, map, IfOk, IfErr};
 ghost use Rattle.cob_limits.specs.Limits.{longest_name};
-ghost use Rattle.cob_entry.specs.Described.{Described, described};
+ghost use Rattle.cob_entry.specs.Described.{PlainEntry, plain_entry};
 ghost use Rattle.cob_copybook.specs.Books.{record_name, implied, with_record, HasEntries, IsTextRefusal, IsMemory};
 
 use crate::role::Role;
@@ -24,7 +24,7 @@ fn record_name(role: Role) -> &'static [u8]
 
 /// A record with no clause but its name.
 fn implied(role: Role) -> Entry
-    ensures { described result ≡ implied role }
+    ensures { plain_entry result ≡ implied role }
 {
     Entry {
         line: 0,
@@ -44,7 +44,7 @@ fn implied(role: Role) -> Entry
 /// The entries, beneath a record of their own where the first isn't one.
 fn with_record(role: Role, entries: Vec<Entry>) -> Result<Vec<Entry>, AllocFailed<Entry>>
     ensures { IfOk result
-        (λ es. map described es.items ≡ with_record role (map described entries.items)) }
+        (λ es. map plain_entry es.items ≡ with_record role (map plain_entry entries.items)) }
 {
     let mut entries = entries;
     if entries.first().is_none_or(|first| first.level != 1) {
@@ -58,11 +58,11 @@ fn with_record(role: Role, entries: Vec<Entry>) -> Result<Vec<Entry>, AllocFaile
 /// # Errors
 /// A rule of the reference format or of entries that the text breaks; want of memory.
 pub(crate) fn entries_of(alloc: Global, role: Role, text: &[u8]) -> Result<Vec<Entry>, BookFault>
-    ensures found { IfOk result (λ es. HasEntries role text.now (map described es.items)) }
-    ensures only { (ds : List Described) → HasEntries role text.now ds
-        → IfOk result (λ es. map described es.items ≡ ds) × IfErr result (λ f. IsMemory f.rule) }
+    ensures found { IfOk result (λ es. HasEntries role text.now (map plain_entry es.items)) }
+    ensures only { (ds : List PlainEntry) → HasEntries role text.now ds
+        → IfOk result (λ es. map plain_entry es.items ≡ ds) × IfErr result (λ f. IsMemory f.rule) }
     ensures fault { IfErr result (λ f. IsTextRefusal f.rule f.line text.now) }
-    ensures few { IfOk result (λ es. length (map described es.items) ≤ 2001) }
+    ensures few { IfOk result (λ es. length (map plain_entry es.items) ≤ 2001) }
 {
     words_are_one();
     let words = tokens(alloc, text)?;

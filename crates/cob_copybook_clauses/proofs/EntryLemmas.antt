@@ -3,19 +3,19 @@ use Rattle.std.proofs.Common.{◌≡◌, ℕ, ◌<◌, Bool, true, List, [], ◌
 use Rattle.std.proofs.lemmas.List.{length-append, length-map}
 use Rattle.cob_source.specs.declared.token.Token.{Token}
 use Rattle.cob_source.specs.Tokens.{Lexeme, lexeme, lexemes}
-use Rattle.cob_copybook_clauses.specs.declared.term.Term.{Term}
-use Rattle.cob_copybook_clauses.specs.declared.term.Term.TheVariants as term
+use Rattle.cob_copybook_clauses.specs.declared.term.WordClass.{WordClass}
+use Rattle.cob_copybook_clauses.specs.declared.term.WordClass.TheVariants as term
 use Rattle.cob_entry.specs.declared.kinds.Usage.{Usage}
-use Rattle.cob_copybook_clauses.specs.Terms.{term_of}
+use Rattle.cob_copybook_clauses.specs.Terms.{word_class}
 use Rattle.cob_copybook_clauses.specs.Written.{WrittenClauses, WrittenEntry}
 use Rattle.cob_copybook_clauses.specs.Clauses.{usage_of, leading_of, Clause, Redefines, Picture, Stored, Signed, Occurs, Value, Justified, Blank, Spells}
-use Rattle.cob_copybook_clauses.specs.Entries.{IsAbsent, put, Says, End, Then, starts_clause}
+use Rattle.cob_copybook_clauses.specs.Entries.{IsAbsent, put, SaysClauses, End, Then, starts_clause}
 use Rattle.cob_copybook_clauses.specs.Reading.{ClauseFirst, Stands}
 
 -- what the rest says is what the whole says
 pub record SoFar (words rest : List Lexeme) (start now : WrittenClauses) : Type 0 where
-  pub found : (g : WrittenClauses) → Says rest now g → Says words start g
-  pub only : (g : WrittenClauses) → Says words start g → Says rest now g
+  pub found : (g : WrittenClauses) → SaysClauses rest now g → SaysClauses words start g
+  pub only : (g : WrittenClauses) → SaysClauses words start g → SaysClauses rest now g
 
 pub begins : (words : List Lexeme) (f : WrittenClauses) → SoFar words words f f
 begins words f = record { found = λ g s. s; only = λ g s. s }
@@ -24,26 +24,26 @@ begins words f = record { found = λ g s. s; only = λ g s. s }
 abbrev pub Only : List Lexeme → Clause → List Lexeme → Type 0
 Only rest c more = (d : Clause) (ws after : List Lexeme) → Spells d ws → ClauseFirst after → rest ≡ ws ++ after → (c ≡ d) × (more ≡ after)
 
-usage_starts : (t : Term) (u : Usage) → usage_of t ≡ Some u → starts_clause t ≡ true
+usage_starts : (t : WordClass) (u : Usage) → usage_of t ≡ Some u → starts_clause t ≡ true
 usage_starts term.Display u e = refl
 usage_starts term.Binary u e = refl
 usage_starts term.Packed u e = refl
 usage_starts _ u e = absurd cc
 
-leading_starts : (t : Term) (b : Bool) → leading_of t ≡ Some b → starts_clause t ≡ true
+leading_starts : (t : WordClass) (b : Bool) → leading_of t ≡ Some b → starts_clause t ≡ true
 leading_starts term.Leading b e = refl
 leading_starts term.Trailing b e = refl
 leading_starts _ b e = absurd cc
 
-begun : (k w : Lexeme) (t : Term) → k ≡ w → term_of k ≡ t → starts_clause t ≡ true → starts_clause (term_of w) ≡ true
-begun k w t e is st = ap (λ (x : Lexeme). starts_clause (term_of x)) (sym e) ∙ ap starts_clause is ∙ st
+begun : (k w : Lexeme) (t : WordClass) → k ≡ w → word_class k ≡ t → starts_clause t ≡ true → starts_clause (word_class w) ≡ true
+begun k w t e is st = ap (λ (x : Lexeme). starts_clause (word_class x)) (sym e) ∙ ap starts_clause is ∙ st
 
-pub clause_starts : (c : Clause) (ws more rest : List Lexeme) (w : Lexeme) → Spells c ws → ws ++ more ≡ w ∷ rest → starts_clause (term_of w) ≡ true
+pub clause_starts : (c : Clause) (ws more rest : List Lexeme) (w : Lexeme) → Spells c ws → ws ++ more ≡ w ∷ rest → starts_clause (word_class w) ≡ true
 clause_starts (Redefines n) ws more rest w (k, x, ik, n1, s) e = let same : k ≡ w = cc in begun k w _ same ik refl
 clause_starts (Picture p) ws more rest w (k, is, x, ik, n1, n2, n3, s) e = let same : k ≡ w = cc in begun k w _ same ik refl
-clause_starts (Stored v) ws more rest w ([], x, p, ix, s) e = let same : x ≡ w = cc in begun x w _ same refl (usage_starts (term_of x) v ix)
+clause_starts (Stored v) ws more rest w ([], x, p, ix, s) e = let same : x ≡ w = cc in begun x w _ same refl (usage_starts (word_class x) v ix)
 clause_starts (Stored v) ws more rest w (k ∷ is, x, p, ix, s) e = let same : k ≡ w = cc in begun k w _ same p.0 refl
-clause_starts (Signed v) ws more rest w ([], x, sep, p, ix, n1, s) e = let same : x ≡ w = cc in begun x w _ same refl (leading_starts (term_of x) v.leading ix)
+clause_starts (Signed v) ws more rest w ([], x, sep, p, ix, n1, s) e = let same : x ≡ w = cc in begun x w _ same refl (leading_starts (word_class x) v.leading ix)
 clause_starts (Signed v) ws more rest w (k ∷ is, x, sep, p, ix, n1, s) e = let same : k ≡ w = cc in begun k w _ same p.0 refl
 clause_starts (Occurs t) ws more rest w (k, others, ik, n1, s) e = let same : k ≡ w = cc in begun k w _ same ik refl
 clause_starts (Value v) ws more rest w (k, is, con, ik, n1, n2, s) e = let same : k ≡ w = cc in begun k w _ same ik refl
@@ -71,40 +71,40 @@ shorter c words more (ws, spells, e) =
     omega (arith, some, whole, parts)
 
 -- the words of clauses begin with a word that begins one, if there are any
-pub says_first : {ws : List Lexeme} {f g : WrittenClauses} → Says ws f g → ClauseFirst ws
+pub says_first : {ws : List Lexeme} {f g : WrittenClauses} → SaysClauses ws f g → ClauseFirst ws
 says_first {ws = []} says = tt
 says_first {ws = w ∷ ws} (End e same) = absurd cc
 says_first {ws = w ∷ ws} (Then {more = y} d xs sp e free says) = clause_starts d xs y ws w sp (sym e)
 
 -- what stands behind the first clause
-pub behind : {words : List Lexeme} {f g : WrittenClauses} (c : Clause) (more : List Lexeme) → 0 < length words → Only words c more → Says words f g → IsAbsent c f × Says more (put c f) g
+pub behind : {words : List Lexeme} {f g : WrittenClauses} (c : Clause) (more : List Lexeme) → 0 < length words → Only words c more → SaysClauses words f g → IsAbsent c f × SaysClauses more (put c f) g
 behind {words = words} c more some only (End e same) = let none : length words ≡ 0 = ap length e in absurd (omega (arith, some, none))
 behind {words} {f} {g} c more some only (Then {more = y} d ws sp s free says) =
     let o = only d ws y sp (says_first says) s in (
       subst (λ (c : Clause). IsAbsent c f) (sym o.0) free,
-      subst (λ (c : Clause). Says more (put c f) g) (sym o.0) (subst (λ (z : List Lexeme). Says z (put d f) g) (sym o.1) says),
+      subst (λ (c : Clause). SaysClauses more (put c f) g) (sym o.0) (subst (λ (z : List Lexeme). SaysClauses z (put d f) g) (sym o.1) says),
     )
 
 pub goes_on : (words rest : List Lexeme) (start now next : WrittenClauses) (c : Clause) (more : List Lexeme)
     → SoFar words rest start now → 0 < length rest → Stands c rest more → Only rest c more → IsAbsent c now × (next ≡ put c now) → SoFar words more start next
 goes_on words rest start now next c more so some (ws, sp, s) only (free, n) = record {
-  found = λ g says. so.found g (Then c ws sp s free (subst (λ (f : WrittenClauses). Says more f g) n says));
-  only = λ g says. subst (λ (f : WrittenClauses). Says more f g) (sym n) (behind c more some only (so.only g says)).1;
+  found = λ g says. so.found g (Then c ws sp s free (subst (λ (f : WrittenClauses). SaysClauses more f g) n says));
+  only = λ g says. subst (λ (f : WrittenClauses). SaysClauses more f g) (sym n) (behind c more some only (so.only g says)).1;
 }
 
 -- a clause that stands twice
 pub twice : (words rest : List Lexeme) (start now : WrittenClauses) (c : Clause) (more : List Lexeme)
-    → SoFar words rest start now → 0 < length rest → Only rest c more → (IsAbsent c now → ⊥) → (g : WrittenClauses) → Says words start g → ⊥
+    → SoFar words rest start now → 0 < length rest → Only rest c more → (IsAbsent c now → ⊥) → (g : WrittenClauses) → SaysClauses words start g → ⊥
 twice words rest start now c more so some only full g says = full (behind c more some only (so.only g says)).0
 
 -- no clause stands here
 stuck_at : {words : List Lexeme} {f g : WrittenClauses} → 0 < length words
-    → ((d : Clause) (ws after : List Lexeme) → Spells d ws → ClauseFirst after → words ≡ ws ++ after → ⊥) → Says words f g → ⊥
+    → ((d : Clause) (ws after : List Lexeme) → Spells d ws → ClauseFirst after → words ≡ ws ++ after → ⊥) → SaysClauses words f g → ⊥
 stuck_at {words = words} some none (End e same) = let nil : length words ≡ 0 = ap length e in omega (arith, some, nil)
 stuck_at some none (Then {more = y} d ws sp s free says) = none d ws y sp (says_first says) s
 
 pub stuck : (words rest : List Lexeme) (start now : WrittenClauses)
-    → SoFar words rest start now → 0 < length rest → ((d : Clause) (ws after : List Lexeme) → Spells d ws → ClauseFirst after → rest ≡ ws ++ after → ⊥) → (g : WrittenClauses) → Says words start g → ⊥
+    → SoFar words rest start now → 0 < length rest → ((d : Clause) (ws after : List Lexeme) → Spells d ws → ClauseFirst after → rest ≡ ws ++ after → ⊥) → (g : WrittenClauses) → SaysClauses words start g → ⊥
 stuck words rest start now so some none g says = stuck_at some none (so.only g says)
 
 -- at the end
@@ -112,10 +112,10 @@ nil_of : (ws : List Lexeme) → length ws ≡ 0 → ws ≡ []
 nil_of [] e = refl
 nil_of (w ∷ ws) e = absurd (omega (arith, e))
 
-pub ends_found : (words rest : List Lexeme) (start now : WrittenClauses) → SoFar words rest start now → length rest ≡ 0 → Says words start now
+pub ends_found : (words rest : List Lexeme) (start now : WrittenClauses) → SoFar words rest start now → length rest ≡ 0 → SaysClauses words start now
 ends_found words rest start now so e = so.found now (End (nil_of rest e) refl)
 
-at_end : {words : List Lexeme} {f g : WrittenClauses} → length words ≡ 0 → Says words f g → f ≡ g
+at_end : {words : List Lexeme} {f g : WrittenClauses} → length words ≡ 0 → SaysClauses words f g → f ≡ g
 at_end nil (End e same) = same
 at_end {words = words} nil (Then {more = y} d ws sp s free says) =
     let some = spelled_some d ws sp in
@@ -123,7 +123,7 @@ at_end {words = words} nil (Then {more = y} d ws sp s free says) =
     let parts = length-append ws y in
     absurd (omega (arith, some, whole, parts, nil))
 
-pub ends_only : (words rest : List Lexeme) (start now : WrittenClauses) → SoFar words rest start now → length rest ≡ 0 → (g : WrittenClauses) → Says words start g → now ≡ g
+pub ends_only : (words rest : List Lexeme) (start now : WrittenClauses) → SoFar words rest start now → length rest ≡ 0 → (g : WrittenClauses) → SaysClauses words start g → now ≡ g
 ends_only words rest start now so e g says = at_end e (so.only g says)
 
 -- the head of an entry

@@ -7,9 +7,9 @@ use Rattle.cob_source.specs.declared.token.Token.{Token}
 use Rattle.cob_source.specs.declared.token.Kind.{Kind}
 use Rattle.cob_source.specs.declared.token.Kind.TheVariants as kind
 use Rattle.cob_source.specs.Tokens.{Lexeme, lexeme, lexemes}
-use Rattle.cob_copybook_clauses.specs.declared.term.Term.{Term}
-use Rattle.cob_copybook_clauses.specs.declared.term.Term.TheVariants as term
-use Rattle.cob_copybook_clauses.specs.Terms.{Keyword, term_by, term_of, term_of_kind, term_of_word, clause_words, usage_words, figurative_words, left_out_words, statement_words}
+use Rattle.cob_copybook_clauses.specs.declared.term.WordClass.{WordClass}
+use Rattle.cob_copybook_clauses.specs.declared.term.WordClass.TheVariants as term
+use Rattle.cob_copybook_clauses.specs.Terms.{Keyword, term_by, word_class, term_of_kind, term_of_word, clause_words, usage_words, figurative_words, left_out_words, statement_words}
 use Rattle.cob_copybook_clauses.specs.Clauses.{IsWord}
 use Rattle.cob_copybook_clauses.specs.Entries.{IsLeftOut, IsLeftOutLevel, IsLeftOutWord, looked_at}
 use Rattle.cob_copybook_clauses.specs.Reading.{StopFirst}
@@ -22,12 +22,12 @@ pub record IsShort (text : List ℕ) : Type 0 where
 abbrev AreShort : List Keyword → Type 0
 AreShort ks = AllByRecursion (λ k. IsShort k.text) ks
 
-by_step : (b : Bool) (k : Keyword) (ks : List Keyword) (text : List ℕ) (t other : Term) → bytes_eq k.text text ≡ b → IsShort k.text
+by_step : (b : Bool) (k : Keyword) (ks : List Keyword) (text : List ℕ) (t other : WordClass) → bytes_eq k.text text ≡ b → IsShort k.text
     → (term_by ks text other ≡ t → IsShort text ⊎ (other ≡ t)) → (if b then k.term else term_by ks text other) ≡ t → IsShort text ⊎ (other ≡ t)
 by_step true k ks text t other e short more h = inl (subst IsShort ((bytes_eq-Decides k.text text).0 e) short)
 by_step false k ks text t other e short more h = more h
 
-by_table : (ks : List Keyword) (text : List ℕ) (t other : Term) → AreShort ks → term_by ks text other ≡ t → IsShort text ⊎ (other ≡ t)
+by_table : (ks : List Keyword) (text : List ℕ) (t other : WordClass) → AreShort ks → term_by ks text other ≡ t → IsShort text ⊎ (other ≡ t)
 by_table [] text t other short e = inr e
 by_table (k ∷ ks) text t other short e = by_step (bytes_eq k.text text) k ks text t other refl short.0 (by_table ks text t other short.1) e
 
@@ -39,7 +39,7 @@ level_word (l ∷ ls) text (word, same, level) = (l, ls, record { word = word; s
 pub words_at : (ws : List Token) (i : ℕ) (t : Token) → i < length ws → t ≡ get_or ws i t → lexemes (drop i ws) ≡ lexeme t ∷ lexemes (drop (i + 1) ws)
 words_at ws i t lt is = at_drop_more lexemes ws i t lt ∙ ap (λ (x : Token). lexeme x ∷ lexemes (drop (i + 1) ws)) (sym is)
 
-pub left_behind : (text : List ℕ) (w : Lexeme) (ws : List Lexeme) → term_of w ≢ term.LeftOut → IsLeftOutWord text (w ∷ ws) → IsLeftOutWord text ws
+pub left_behind : (text : List ℕ) (w : Lexeme) (ws : List Lexeme) → word_class w ≢ term.LeftOut → IsLeftOutWord text (w ∷ ws) → IsLeftOutWord text ws
 left_behind text w ws not (inl is) = absurd (not is.0)
 left_behind text w ws not (inr h) = h
 
@@ -62,7 +62,7 @@ short_table : (ks : List Keyword) → are_short ks ≡ true → AreShort ks
 short_table [] e = tt
 short_table (k ∷ ks) e = (short_text k.text (search rules), short_table ks (search rules))
 
-short_else : (text : List ℕ) (other : Term) → IsShort text ⊎ (other ≡ term.LeftOut) → (other ≡ term.LeftOut → IsShort text) → IsShort text
+short_else : (text : List ℕ) (other : WordClass) → IsShort text ⊎ (other ≡ term.LeftOut) → (other ≡ term.LeftOut → IsShort text) → IsShort text
 short_else text other (inl h) more = h
 short_else text other (inr e) more = more e
 

@@ -5,19 +5,19 @@ use Rattle.std.proofs.Math.Seq.{take-append_seam}
 use Rattle.std.specs.List.{AllByRecursion}
 use Rattle.cob_source.specs.declared.token.Token.{Token}
 use Rattle.cob_source.specs.Tokens.{Lexeme, lexeme, lexemes}
-use Rattle.cob_copybook_clauses.specs.declared.term.Term.{Term}
-use Rattle.cob_copybook_clauses.specs.declared.term.Term.TheVariants as term
-use Rattle.cob_copybook_clauses.specs.Terms.{term_of, term_of_kind}
+use Rattle.cob_copybook_clauses.specs.declared.term.WordClass.{WordClass}
+use Rattle.cob_copybook_clauses.specs.declared.term.WordClass.TheVariants as term
+use Rattle.cob_copybook_clauses.specs.Terms.{word_class, term_of_kind}
 use Rattle.cob_copybook_clauses.specs.Written.{WrittenName}
 use Rattle.cob_copybook_clauses.specs.Clauses.{IsNameWord, AreNames, AreQualifiers}
-use Rattle.cob_copybook_clauses.specs.Reading.{NotFirst}
+use Rattle.cob_copybook_clauses.specs.Reading.{NotFirstWord}
 
 -- a name isn't reserved
-pub name_plain : (w : Lexeme) → IsNameWord w → term_of w ≡ term.Plain
+pub name_plain : (w : Lexeme) → IsNameWord w → word_class w ≡ term.Plain
 name_plain w (word, named) = ap (λ k. term_of_kind k w.text) word ∙ named.free
 
 -- a name comes first
-pub names_first : (t : Term) (names more : List Lexeme) → AreNames names → t ≢ term.Plain → NotFirst t (names ++ more)
+pub names_first : (t : WordClass) (names more : List Lexeme) → AreNames names → t ≢ term.Plain → NotFirstWord t (names ++ more)
 names_first t [] more (some, all) not = absurd (omega (arith, some))
 names_first t (w ∷ names) more (some, all) not = λ h. not (sym h ∙ name_plain w all.0)
 
@@ -26,7 +26,7 @@ pub record Named (words rest : List Lexeme) : Type 0 where
   pub done : List Lexeme
   pub are : AllByRecursion IsNameWord done
   pub words_are : words ≡ done ++ rest
-  pub only : (names more : List Lexeme) → AllByRecursion IsNameWord names → NotFirst term.Plain more → words ≡ names ++ more → (left : List Lexeme) × AllByRecursion IsNameWord left × (rest ≡ left ++ more)
+  pub only : (names more : List Lexeme) → AllByRecursion IsNameWord names → NotFirstWord term.Plain more → words ≡ names ++ more → (left : List Lexeme) × AllByRecursion IsNameWord left × (rest ≡ left ++ more)
 
 pub named_begins : (words : List Lexeme) → Named words words
 named_begins words = record { done = []; are = tt; words_are = refl; only = λ names more all nf e. (names, all, e) }
@@ -35,8 +35,8 @@ all_more : (xs : List Lexeme) (w : Lexeme) → AllByRecursion IsNameWord xs → 
 all_more [] w all is = (is, tt)
 all_more (x ∷ xs) w all is = (all.0, all_more xs w all.1 is)
 
-named_left : (w : Lexeme) (more left after : List Lexeme) → IsNameWord w → NotFirst term.Plain after → w ∷ more ≡ left ++ after → AllByRecursion IsNameWord left → (l : List Lexeme) × AllByRecursion IsNameWord l × (more ≡ l ++ after)
-named_left w more [] after is nf e all = absurd (subst (NotFirst term.Plain) (sym e) nf (name_plain w is))
+named_left : (w : Lexeme) (more left after : List Lexeme) → IsNameWord w → NotFirstWord term.Plain after → w ∷ more ≡ left ++ after → AllByRecursion IsNameWord left → (l : List Lexeme) × AllByRecursion IsNameWord l × (more ≡ l ++ after)
+named_left w more [] after is nf e all = absurd (subst (NotFirstWord term.Plain) (sym e) nf (name_plain w is))
 named_left w more (x ∷ left) after is nf e all = let tail : more ≡ left ++ after = cc in (left, all.1, tail)
 
 pub named_goes : (words rest more : List Lexeme) → Named words rest → (w : Lexeme) × IsNameWord w × (rest ≡ w ∷ more) → Named words more
@@ -52,7 +52,7 @@ last_left rest [] after none e all = e
 last_left rest (x ∷ left) after none e all = absurd (none x (left ++ after) all.0 e)
 
 pub named_ends : (words rest : List Lexeme) → Named words rest → ((w : Lexeme) (more : List Lexeme) → IsNameWord w → rest ≡ w ∷ more → ⊥)
-    → (names more : List Lexeme) → AllByRecursion IsNameWord names → NotFirst term.Plain more → words ≡ names ++ more → rest ≡ more
+    → (names more : List Lexeme) → AllByRecursion IsNameWord names → NotFirstWord term.Plain more → words ≡ names ++ more → rest ≡ more
 named_ends words rest so none names more all nf e = let (left, al, g) = so.only names more all nf e in last_left rest left more none g al
 
 -- the qualifiers up to here, and the rest
@@ -60,16 +60,16 @@ pub record Qualified (words rest : List Lexeme) : Type 0 where
   pub done : List Lexeme
   pub are : AreQualifiers done
   pub words_are : words ≡ done ++ rest
-  pub only : (qs more : List Lexeme) → AreQualifiers qs → NotFirst term.Of more → words ≡ qs ++ more → (left : List Lexeme) × AreQualifiers left × (rest ≡ left ++ more) × (qs ≡ done ++ left)
+  pub only : (qs more : List Lexeme) → AreQualifiers qs → NotFirstWord term.Of more → words ≡ qs ++ more → (left : List Lexeme) × AreQualifiers left × (rest ≡ left ++ more) × (qs ≡ done ++ left)
 
 qualifiers_more : (xs ys : List Lexeme) → AreQualifiers xs → AreQualifiers ys → AreQualifiers (xs ++ ys)
 qualifiers_more [] ys a b = b
 qualifiers_more (x ∷ []) ys a b = absurd a
 qualifiers_more (x ∷ y ∷ xs) ys a b = (a.0, a.1, qualifiers_more xs ys a.2 b)
 
-qualified_left : (k n : Lexeme) (more left after : List Lexeme) → term_of k ≡ term.Of → NotFirst term.Of after → k ∷ (n ∷ more) ≡ left ++ after → AreQualifiers left
+qualified_left : (k n : Lexeme) (more left after : List Lexeme) → word_class k ≡ term.Of → NotFirstWord term.Of after → k ∷ (n ∷ more) ≡ left ++ after → AreQualifiers left
     → (l : List Lexeme) × AreQualifiers l × (more ≡ l ++ after) × (left ≡ k ∷ (n ∷ l))
-qualified_left k n more [] after is nf e all = absurd (subst (NotFirst term.Of) (sym e) nf is)
+qualified_left k n more [] after is nf e all = absurd (subst (NotFirstWord term.Of) (sym e) nf is)
 qualified_left k n more (x ∷ []) after is nf e all = absurd all
 qualified_left k n more (x ∷ y ∷ left) after is nf e all =
     let tail : more ≡ left ++ after = cc in
@@ -77,7 +77,7 @@ qualified_left k n more (x ∷ y ∷ left) after is nf e all =
     let second : y ≡ n = cc in
     (left, all.2, tail, ap (λ (a : Lexeme). a ∷ (y ∷ left)) first ∙ ap (λ (b : Lexeme). k ∷ (b ∷ left)) second)
 
-pub qualified_goes : (words rest more : List Lexeme) → Qualified words rest → (k n : Lexeme) × (term_of k ≡ term.Of) × IsNameWord n × (rest ≡ k ∷ (n ∷ more)) → Qualified words more
+pub qualified_goes : (words rest more : List Lexeme) → Qualified words rest → (k n : Lexeme) × (word_class k ≡ term.Of) × IsNameWord n × (rest ≡ k ∷ (n ∷ more)) → Qualified words more
 qualified_goes words rest more so (k, n, is, named, e) = record {
   done = so.done ++ (k ∷ (n ∷ []));
   are = qualifiers_more so.done (k ∷ (n ∷ [])) so.are (is, named, tt);
@@ -88,13 +88,13 @@ qualified_goes words rest more so (k, n, is, named, e) = record {
       (l, are, tail, h ∙ ap (λ t. so.done ++ t) is_left ∙ sym (append_assoc so.done (k ∷ (n ∷ [])) l));
 }
 
-none_left : (rest left after done : List Lexeme) → ((k n : Lexeme) (more : List Lexeme) → term_of k ≡ term.Of → IsNameWord n → rest ≡ k ∷ (n ∷ more) → ⊥) → rest ≡ left ++ after → AreQualifiers left → (rest ≡ after) × (done ≡ done ++ left)
+none_left : (rest left after done : List Lexeme) → ((k n : Lexeme) (more : List Lexeme) → word_class k ≡ term.Of → IsNameWord n → rest ≡ k ∷ (n ∷ more) → ⊥) → rest ≡ left ++ after → AreQualifiers left → (rest ≡ after) × (done ≡ done ++ left)
 none_left rest [] after done none e all = (e, sym (append-nil done))
 none_left rest (x ∷ []) after done none e all = absurd all
 none_left rest (x ∷ y ∷ left) after done none e all = absurd (none x y (left ++ after) all.0 all.1 e)
 
-pub qualified_ends : (words rest : List Lexeme) (so : Qualified words rest) → ((k n : Lexeme) (more : List Lexeme) → term_of k ≡ term.Of → IsNameWord n → rest ≡ k ∷ (n ∷ more) → ⊥)
-    → (qs more : List Lexeme) → AreQualifiers qs → NotFirst term.Of more → words ≡ qs ++ more → (so.done ≡ qs) × (rest ≡ more)
+pub qualified_ends : (words rest : List Lexeme) (so : Qualified words rest) → ((k n : Lexeme) (more : List Lexeme) → word_class k ≡ term.Of → IsNameWord n → rest ≡ k ∷ (n ∷ more) → ⊥)
+    → (qs more : List Lexeme) → AreQualifiers qs → NotFirstWord term.Of more → words ≡ qs ++ more → (so.done ≡ qs) × (rest ≡ more)
 qualified_ends words rest so none qs more all nf e =
     let (left, al, g, h) = so.only qs more all nf e in
     let r = none_left rest left more so.done none g al in

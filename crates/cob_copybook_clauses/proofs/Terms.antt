@@ -1,6 +1,6 @@
 -- What the table of reserved words says.
 use Rattle.std.proofs.Common.{◌≡◌, ℕ, List, map, refl}
-use Rattle.cob_copybook_clauses.specs.declared.term.Term.TheVariants as term
+use Rattle.cob_copybook_clauses.specs.declared.term.WordClass.TheVariants as term
 use Rattle.cob_copybook_clauses.specs.declared.term.TheConstants.{KEYWORDS}
 use Rattle.cob_copybook_clauses.specs.Terms.{term_by, term_of_word, meaning}
 

@@ -4,9 +4,9 @@ use Rattle.std.specs.List.{AllByRecursion}
 use Rattle.cob_source.specs.Tokens.{Lexeme}
 use Rattle.cob_source.specs.declared.token.Kind.{Kind}
 use Rattle.cob_source.specs.declared.token.Kind.TheVariants as kind
-use Rattle.cob_copybook_clauses.specs.declared.term.Term.{Term}
-use Rattle.cob_copybook_clauses.specs.declared.term.Term.TheVariants as term
-use Rattle.cob_copybook_clauses.specs.Terms.{term_of}
+use Rattle.cob_copybook_clauses.specs.declared.term.WordClass.{WordClass}
+use Rattle.cob_copybook_clauses.specs.declared.term.WordClass.TheVariants as term
+use Rattle.cob_copybook_clauses.specs.Terms.{word_class}
 use Rattle.cob_copybook_clauses.specs.Written.{WrittenClauses, WrittenEntry}
 use Rattle.cob_copybook_clauses.specs.Clauses.{Clause, Redefines, Picture, Stored, Signed, Occurs, Value, Justified, Blank, Spells, IsWord}
 
@@ -37,12 +37,12 @@ put Justified f = record f { justified = true }
 put Blank f = record f { blank = true }
 
 -- the words say, beyond the first clauses, what makes them the last: clauses in any order, each at most once
-pub data Says : List Lexeme → WrittenClauses → WrittenClauses → Type 0 where
-  End : {ws : List Lexeme} {f g : WrittenClauses} → ws ≡ [] → f ≡ g → Says ws f g
-  Then : {ws more : List Lexeme} {f g : WrittenClauses} (c : Clause) (words : List Lexeme) → Spells c words → ws ≡ words ++ more → IsAbsent c f → Says more (put c f) g → Says ws f g
+pub data SaysClauses : List Lexeme → WrittenClauses → WrittenClauses → Type 0 where
+  End : {ws : List Lexeme} {f g : WrittenClauses} → ws ≡ [] → f ≡ g → SaysClauses ws f g
+  Then : {ws more : List Lexeme} {f g : WrittenClauses} (c : Clause) (words : List Lexeme) → Spells c words → ws ≡ words ++ more → IsAbsent c f → SaysClauses more (put c f) g → SaysClauses ws f g
 
 -- a word that may begin a clause
-abbrev pub starts_clause : Term → Bool
+abbrev pub starts_clause : WordClass → Bool
 starts_clause term.Redefines = true
 starts_clause term.Picture = true
 starts_clause term.Usage = true
@@ -61,8 +61,8 @@ starts_clause _ = false
 -- what names an entry: nothing or FILLER, or a word that begins no clause
 abbrev pub AreNamed : Option (List ℕ) → List Lexeme → Type 0
 AreNamed None [] = Unit {0}
-AreNamed None (w ∷ []) = term_of w ≡ term.Filler
-AreNamed (Some n) (w ∷ []) = IsWord n w × (term_of w ≢ term.Filler) × (starts_clause (term_of w) ≡ false)
+AreNamed None (w ∷ []) = word_class w ≡ term.Filler
+AreNamed (Some n) (w ∷ []) = IsWord n w × (word_class w ≢ term.Filler) × (starts_clause (word_class w) ≡ false)
 AreNamed name ws = ⊥
 
 -- the words, up to the Stop, are this entry
@@ -72,7 +72,7 @@ pub record IsWritten (ws : List Lexeme) (e : WrittenEntry) : Type 0 where
   pub more : List Lexeme
   pub level_is : IsWord e.level level
   pub named : AreNamed e.name names
-  pub says : Says more bare e.clauses
+  pub says : SaysClauses more bare e.clauses
   pub words : ws ≡ level ∷ (names ++ more)
 
 -- the words, up to the Stop, are those of a level 88 entry: it names a value, and what stands behind VALUE isn't looked at
@@ -83,7 +83,7 @@ pub record IsCondition (ws : List Lexeme) (name : List ℕ) : Type 0 where
   pub more : List Lexeme
   pub level_is : IsWord (codes "88") level
   pub name_is : IsWord name named
-  pub value_is : term_of value ≡ term.Value
+  pub value_is : word_class value ≡ term.Value
   pub words : ws ≡ level ∷ (named ∷ (value ∷ more))
 
 -- whether it is a word, and no literal and no Stop
@@ -109,7 +109,7 @@ IsLeftOutLevel text (w ∷ ws) = (w.kind ≡ kind.Word) × (w.text ≡ text) × 
 -- one of the words is this one, which is left out by name
 abbrev pub IsLeftOutWord : List ℕ → List Lexeme → Type 0
 IsLeftOutWord text [] = ⊥
-IsLeftOutWord text (w ∷ ws) = ((term_of w ≡ term.LeftOut) × (w.text ≡ text)) ⊎ IsLeftOutWord text ws
+IsLeftOutWord text (w ∷ ws) = ((word_class w ≡ term.LeftOut) × (w.text ≡ text)) ⊎ IsLeftOutWord text ws
 
 -- the entry has this word or level, which is left out by name
 abbrev pub IsLeftOut : List ℕ → List Lexeme → Type 0

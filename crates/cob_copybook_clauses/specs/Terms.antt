@@ -4,20 +4,20 @@ use denote.Ref.{Bor}
 use Rattle.cob_source.specs.Tokens.{Lexeme}
 use Rattle.cob_source.specs.declared.token.Kind.{Kind}
 use Rattle.cob_source.specs.declared.token.Kind.TheVariants as kind
-use Rattle.cob_copybook_clauses.specs.declared.term.Term.{Term}
-use Rattle.cob_copybook_clauses.specs.declared.term.Term.TheVariants as term
+use Rattle.cob_copybook_clauses.specs.declared.term.WordClass.{WordClass}
+use Rattle.cob_copybook_clauses.specs.declared.term.WordClass.TheVariants as term
 
 -- a reserved word, and what it means
 pub record Keyword : Type 0 where
   pub text : List ℕ
-  pub term : Term
+  pub term : WordClass
 
 -- a text with what it means
-abbrev pub meaning : List ℕ → Term → Keyword
+abbrev pub meaning : List ℕ → WordClass → Keyword
 meaning text term = record { text = text; term = term }
 
 -- a table of texts and what they mean, without where the texts lie in memory
-abbrev pub keywords : List (Bor (List ℕ) × Term) → List Keyword
+abbrev pub keywords : List (Bor (List ℕ) × WordClass) → List Keyword
 keywords table = map (λ k. meaning k.0.now k.1) table
 
 -- the words of the clauses of an entry
@@ -80,21 +80,21 @@ left_out_words =
     ∷ []
 
 -- what a word is by a table of keywords, else by what follows
-abbrev pub term_by : List Keyword → List ℕ → Term → Term
+abbrev pub term_by : List Keyword → List ℕ → WordClass → WordClass
 term_by [] text other = other
 term_by (k ∷ ks) text other = if bytes_eq k.text text then k.term else term_by ks text other
 
 -- what a word is
-unfoldable pub term_of_word : List ℕ → Term
+unfoldable pub term_of_word : List ℕ → WordClass
 term_of_word text =
     term_by clause_words text (term_by usage_words text (term_by figurative_words text (term_by left_out_words text (term_by statement_words text term.Plain))))
 
 -- what a text means as a word, and what a literal and a Stop are
-abbrev pub term_of_kind : Kind → List ℕ → Term
+abbrev pub term_of_kind : Kind → List ℕ → WordClass
 term_of_kind kind.Word text = term_of_word text
 term_of_kind kind.Literal text = term.Literal
 term_of_kind kind.Stop text = term.Stop
 
 -- what a word, a literal or a Stop is
-abbrev pub term_of : Lexeme → Term
-term_of w = term_of_kind w.kind w.text
+abbrev pub word_class : Lexeme → WordClass
+word_class w = term_of_kind w.kind w.text

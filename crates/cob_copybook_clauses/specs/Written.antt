@@ -4,19 +4,19 @@ use Rattle.cob_source.specs.Tokens.{Lexeme, lexemes}
 use Rattle.cob_entry.specs.declared.kinds.Usage.{Usage}
 use Rattle.cob_entry.specs.declared.kinds.Sign.{Sign}
 use Rattle.cob_entry.specs.declared.kinds.Figurative.{Figurative}
-use Rattle.cob_copybook_clauses.specs.declared.parts.Constant.{Constant}
-use Rattle.cob_copybook_clauses.specs.declared.parts.Constant.TheVariants as constant
+use Rattle.cob_copybook_clauses.specs.declared.parts.ValueClause.{ValueClause}
+use Rattle.cob_copybook_clauses.specs.declared.parts.ValueClause.TheVariants as constant
 use Rattle.cob_copybook_clauses.specs.declared.parts.Count.{Count}
-use Rattle.cob_copybook_clauses.specs.declared.parts.Table.{Table}
+use Rattle.cob_copybook_clauses.specs.declared.parts.OccursClause.{OccursClause}
 use Rattle.cob_copybook_clauses.specs.declared.parts.Clauses.{Clauses}
 use Rattle.cob_copybook_clauses.specs.declared.parts.Written.{Written}
 
 -- the constant of a VALUE clause: a word, a literal's characters, a figurative constant, or ALL and a literal's characters
-pub data WrittenConstant : Type 0 where
-  Word : List ℕ → WrittenConstant
-  Quoted : List ℕ → WrittenConstant
-  Figure : Figurative → WrittenConstant
-  Repeated : List ℕ → WrittenConstant
+pub data WrittenValue : Type 0 where
+  Word : List ℕ → WrittenValue
+  Quoted : List ℕ → WrittenValue
+  Figure : Figurative → WrittenValue
+  Repeated : List ℕ → WrittenValue
 
 -- a name and its qualifiers, the nearest first
 pub record WrittenName : Type 0 where
@@ -24,7 +24,7 @@ pub record WrittenName : Type 0 where
   pub qualifiers : List (List ℕ)
 
 -- an OCCURS clause: the word before TO, the number of times or the greatest one, and the count of a table that varies
-pub record WrittenTable : Type 0 where
+pub record WrittenOccurs : Type 0 where
   pub least : Option (List ℕ)
   pub most : List ℕ
   pub count : Option WrittenName
@@ -35,8 +35,8 @@ pub record WrittenClauses : Type 0 where
   pub picture : Option (List ℕ)
   pub usage : Option Usage
   pub sign : Option Sign
-  pub occurs : Option WrittenTable
-  pub value : Option WrittenConstant
+  pub occurs : Option WrittenOccurs
+  pub value : Option WrittenValue
   pub justified : Bool
   pub blank : Bool
 
@@ -47,11 +47,11 @@ pub record WrittenEntry : Type 0 where
   pub clauses : WrittenClauses
 
 -- the constant of a VALUE clause, without where its text lies in memory
-abbrev pub written_constant : Constant → WrittenConstant
-written_constant (constant.Word text) = Word text.now
-written_constant (constant.Literal text) = Quoted text.now
-written_constant (constant.Figurative f) = Figure f
-written_constant (constant.All text) = Repeated text.now
+abbrev pub written_value : ValueClause → WrittenValue
+written_value (constant.Word text) = Word text.now
+written_value (constant.Literal text) = Quoted text.now
+written_value (constant.Figurative f) = Figure f
+written_value (constant.All text) = Repeated text.now
 
 -- the names behind OF or IN
 abbrev pub names_behind : List Lexeme → List (List ℕ)
@@ -64,8 +64,8 @@ abbrev pub written_name : Count → WrittenName
 written_name c = record { name = c.name.now; qualifiers = names_behind (lexemes c.qualifiers.now) }
 
 -- an OCCURS clause, likewise
-abbrev pub written_table : Table → WrittenTable
-written_table t = record { least = option_map (λ b. b.now) t.least; most = t.most.now; count = option_map written_name t.count }
+abbrev pub written_occurs : OccursClause → WrittenOccurs
+written_occurs t = record { least = option_map (λ b. b.now) t.least; most = t.most.now; count = option_map written_name t.count }
 
 -- the clauses of an entry, likewise
 abbrev pub written_clauses : Clauses → WrittenClauses
@@ -74,8 +74,8 @@ written_clauses c = record {
   picture = option_map (λ b. b.now) c.picture;
   usage = c.usage;
   sign = c.sign;
-  occurs = option_map written_table c.occurs;
-  value = option_map written_constant c.value;
+  occurs = option_map written_occurs c.occurs;
+  value = option_map written_value c.value;
   justified = c.justified;
   blank = c.blank;
 }

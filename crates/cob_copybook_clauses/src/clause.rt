@@ -1,7 +1,7 @@
 ghost use Rattle.cob_copybook_clauses.specs.Clauses.{
   Blank,
   Clause,
-  IsSeparate,
+  IsSeparatePhrase,
   Justified,
   Occurs,
   Picture,
@@ -13,8 +13,8 @@ ghost use Rattle.cob_copybook_clauses.specs.Clauses.{
   leading_of,
   usage_of,
 };
-ghost use Rattle.cob_copybook_clauses.specs.Reading.{ClauseFirst, Stands, clause_of, kind_at, kind_of};
-ghost use Rattle.cob_copybook_clauses.specs.Written.{WrittenConstant, WrittenTable};
+ghost use Rattle.cob_copybook_clauses.specs.Reading.{ClauseFirst, Stands, clause_of, kind_at, clause_kind_of};
+ghost use Rattle.cob_copybook_clauses.specs.Written.{WrittenValue, WrittenOccurs};
 ghost use Rattle.cob_source.specs.Tokens.{Lexeme, lexemes};
 ghost use Rattle.std.specs.Prelude.{
   ◌++◌,
@@ -29,9 +29,9 @@ ghost use Rattle.std.specs.Prelude.{
 };
 
 use crate::constant::constant_at;
-use crate::parts::{Constant, Table};
+use crate::parts::{ValueClause, OccursClause};
 use crate::table::table_at;
-use crate::term::{Term, term_of};
+use crate::term::{WordClass, word_class};
 use crate::words::{behind, other_word_at, skip, skip_is_or_are, skip_prefix, word_at};
 use cob_entry::{Sign, Usage};
 use cob_source::Token;
@@ -51,185 +51,185 @@ pub enum ClauseKind {
 
 /// One clause as it is written.
 #[derive(Clone, Copy, Debug)]
-pub enum Phrase<'a> {
+pub enum WrittenClause<'a> {
     Redefines(&'a [u8]),
     Picture(&'a [u8]),
     Usage(Usage),
     Sign(Sign),
-    Occurs(Table<'a>),
-    Value(Constant<'a>),
+    Occurs(OccursClause<'a>),
+    Value(ValueClause<'a>),
     Justified,
     Blank,
 }
 
 /// The kind of the clause that a word begins, if it begins one.
-pub fn kind_at(term: Term) -> Option<ClauseKind>
+pub fn kind_at(term: WordClass) -> Option<ClauseKind>
     ensures { result ≡ kind_at term }
 {
     match term {
-        Term::Redefines => Some(ClauseKind::Redefines),
-        Term::Picture => Some(ClauseKind::Picture),
-        Term::Usage | Term::Display | Term::Binary | Term::Packed => Some(ClauseKind::Usage),
-        Term::Sign | Term::Leading | Term::Trailing => Some(ClauseKind::Sign),
-        Term::Occurs => Some(ClauseKind::Occurs),
-        Term::Value => Some(ClauseKind::Value),
-        Term::Justified => Some(ClauseKind::Justified),
-        Term::Blank => Some(ClauseKind::Blank),
+        WordClass::Redefines => Some(ClauseKind::Redefines),
+        WordClass::Picture => Some(ClauseKind::Picture),
+        WordClass::Usage | WordClass::Display | WordClass::Binary | WordClass::Packed => Some(ClauseKind::Usage),
+        WordClass::Sign | WordClass::Leading | WordClass::Trailing => Some(ClauseKind::Sign),
+        WordClass::Occurs => Some(ClauseKind::Occurs),
+        WordClass::Value => Some(ClauseKind::Value),
+        WordClass::Justified => Some(ClauseKind::Justified),
+        WordClass::Blank => Some(ClauseKind::Blank),
         _ => None,
     }
 }
 
 /// The usage that a word names.
-fn usage_of(term: Term) -> Option<Usage>
+fn usage_of(term: WordClass) -> Option<Usage>
     ensures { result ≡ usage_of term }
 {
     match term {
-        Term::Display => Some(Usage::Display),
-        Term::Binary => Some(Usage::Binary),
-        Term::Packed => Some(Usage::Packed),
+        WordClass::Display => Some(Usage::Display),
+        WordClass::Binary => Some(Usage::Binary),
+        WordClass::Packed => Some(Usage::Packed),
         _ => None,
     }
 }
 
 /// Whether LEADING is said, or TRAILING.
-fn leading_of(term: Term) -> Option<bool>
+fn leading_of(term: WordClass) -> Option<bool>
     ensures { result ≡ leading_of term }
 {
     match term {
-        Term::Leading => Some(true),
-        Term::Trailing => Some(false),
+        WordClass::Leading => Some(true),
+        WordClass::Trailing => Some(false),
         _ => None,
     }
 }
 
 /// REDEFINES and a word, and what is behind them.
-fn redefines_at(words: &[Token]) -> Option<(Phrase<'_>, &[Token])>
+fn redefines_at(words: &[Token]) -> Option<(WrittenClause<'_>, &[Token])>
     ensures found { IfSome result
         (λ r. Stands (clause_of r.0) (lexemes words.now) (lexemes r.1.now)) }
     ensures only { (n : List ℕ) (ws more : List Lexeme)
         → Spells (Redefines n) ws → ClauseFirst more → lexemes words.now ≡ ws ++ more
         → IsSomeAnd result (λ r. (clause_of r.0 ≡ Redefines n) × (lexemes r.1.now ≡ more)) }
 {
-    let more = behind(words, Term::Redefines)?;
+    let more = behind(words, WordClass::Redefines)?;
     let (name, rest) = word_at(more)?;
-    Some((Phrase::Redefines(name), rest))
+    Some((WrittenClause::Redefines(name), rest))
 }
 
 /// PICTURE, perhaps IS, and a word, and what is behind them.
-fn picture_at(words: &[Token]) -> Option<(Phrase<'_>, &[Token])>
+fn picture_at(words: &[Token]) -> Option<(WrittenClause<'_>, &[Token])>
     ensures found { IfSome result
         (λ r. Stands (clause_of r.0) (lexemes words.now) (lexemes r.1.now)) }
     ensures only { (p : List ℕ) (ws more : List Lexeme)
         → Spells (Picture p) ws → ClauseFirst more → lexemes words.now ≡ ws ++ more
         → IsSomeAnd result (λ r. (clause_of r.0 ≡ Picture p) × (lexemes r.1.now ≡ more)) }
 {
-    let more = behind(words, Term::Picture)?;
-    let (picture, rest) = other_word_at(skip(more, Term::Is), Term::Is)?;
-    Some((Phrase::Picture(picture), rest))
+    let more = behind(words, WordClass::Picture)?;
+    let (picture, rest) = other_word_at(skip(more, WordClass::Is), WordClass::Is)?;
+    Some((WrittenClause::Picture(picture), rest))
 }
 
 /// A usage, perhaps with USAGE IS before it, and what is behind it.
-fn usage_at(words: &[Token]) -> Option<(Phrase<'_>, &[Token])>
+fn usage_at(words: &[Token]) -> Option<(WrittenClause<'_>, &[Token])>
     ensures found { IfSome result
         (λ r. Stands (clause_of r.0) (lexemes words.now) (lexemes r.1.now)) }
     ensures only { (u : Usage) (ws more : List Lexeme)
         → Spells (Stored u) ws → ClauseFirst more → lexemes words.now ≡ ws ++ more
         → IsSomeAnd result (λ r. (clause_of r.0 ≡ Stored u) × (lexemes r.1.now ≡ more)) }
 {
-    let (first, rest) = skip_prefix(words, Term::Usage).split_first()?;
-    let usage = usage_of(term_of(first))?;
-    Some((Phrase::Usage(usage), rest))
+    let (first, rest) = skip_prefix(words, WordClass::Usage).split_first()?;
+    let usage = usage_of(word_class(first))?;
+    Some((WrittenClause::Usage(usage), rest))
 }
 
 /// Whether SEPARATE stands in front, perhaps with CHARACTER, and what is behind it.
 fn separate_at(words: &[Token]) -> (bool, &[Token])
     ensures found { (ws : List Lexeme)
-        × IsSeparate result.0 ws × (lexemes words.now ≡ ws ++ lexemes result.1.now) }
-    ensures only { (b : Bool) (ws more : List Lexeme) → IsSeparate b ws → ClauseFirst more
+        × IsSeparatePhrase result.0 ws × (lexemes words.now ≡ ws ++ lexemes result.1.now) }
+    ensures only { (b : Bool) (ws more : List Lexeme) → IsSeparatePhrase b ws → ClauseFirst more
         → lexemes words.now ≡ ws ++ more → (result.0 ≡ b) × (lexemes result.1.now ≡ more) }
 {
-    match behind(words, Term::Separate) {
-        Some(more) => (true, skip(more, Term::Character)),
+    match behind(words, WordClass::Separate) {
+        Some(more) => (true, skip(more, WordClass::Character)),
         None => (false, words),
     }
 }
 
 /// LEADING or TRAILING, perhaps with SIGN IS before it and SEPARATE CHARACTER behind it, and what is behind them.
-fn sign_at(words: &[Token]) -> Option<(Phrase<'_>, &[Token])>
+fn sign_at(words: &[Token]) -> Option<(WrittenClause<'_>, &[Token])>
     ensures found { IfSome result
         (λ r. Stands (clause_of r.0) (lexemes words.now) (lexemes r.1.now)) }
     ensures only { (s : Sign) (ws more : List Lexeme)
         → Spells (Signed s) ws → ClauseFirst more → lexemes words.now ≡ ws ++ more
         → IsSomeAnd result (λ r. (clause_of r.0 ≡ Signed s) × (lexemes r.1.now ≡ more)) }
 {
-    let (first, more) = skip_prefix(words, Term::Sign).split_first()?;
-    let leading = leading_of(term_of(first))?;
+    let (first, more) = skip_prefix(words, WordClass::Sign).split_first()?;
+    let leading = leading_of(word_class(first))?;
     let (separate, rest) = separate_at(more);
-    Some((Phrase::Sign(Sign { leading, separate }), rest))
+    Some((WrittenClause::Sign(Sign { leading, separate }), rest))
 }
 
 /// OCCURS and what belongs to it, and what is behind it.
-fn occurs_at(words: &[Token]) -> Option<(Phrase<'_>, &[Token])>
+fn occurs_at(words: &[Token]) -> Option<(WrittenClause<'_>, &[Token])>
     ensures found { IfSome result
         (λ r. Stands (clause_of r.0) (lexemes words.now) (lexemes r.1.now)) }
-    ensures only { (t : WrittenTable) (ws more : List Lexeme)
+    ensures only { (t : WrittenOccurs) (ws more : List Lexeme)
         → Spells (Occurs t) ws → ClauseFirst more → lexemes words.now ≡ ws ++ more
         → IsSomeAnd result (λ r. (clause_of r.0 ≡ Occurs t) × (lexemes r.1.now ≡ more)) }
 {
-    let more = behind(words, Term::Occurs)?;
+    let more = behind(words, WordClass::Occurs)?;
     let (table, rest) = table_at(more)?;
-    Some((Phrase::Occurs(table), rest))
+    Some((WrittenClause::Occurs(table), rest))
 }
 
 /// VALUE, perhaps IS or ARE, and a constant, and what is behind them.
-fn value_at(words: &[Token]) -> Option<(Phrase<'_>, &[Token])>
+fn value_at(words: &[Token]) -> Option<(WrittenClause<'_>, &[Token])>
     ensures found { IfSome result
         (λ r. Stands (clause_of r.0) (lexemes words.now) (lexemes r.1.now)) }
-    ensures only { (v : WrittenConstant) (ws more : List Lexeme)
+    ensures only { (v : WrittenValue) (ws more : List Lexeme)
         → Spells (Value v) ws → ClauseFirst more → lexemes words.now ≡ ws ++ more
         → IsSomeAnd result (λ r. (clause_of r.0 ≡ Value v) × (lexemes r.1.now ≡ more)) }
 {
-    let more = behind(words, Term::Value)?;
+    let more = behind(words, WordClass::Value)?;
     let (constant, rest) = constant_at(skip_is_or_are(more))?;
-    Some((Phrase::Value(constant), rest))
+    Some((WrittenClause::Value(constant), rest))
 }
 
 /// JUSTIFIED, perhaps RIGHT, and what is behind them.
-fn justified_at(words: &[Token]) -> Option<(Phrase<'_>, &[Token])>
+fn justified_at(words: &[Token]) -> Option<(WrittenClause<'_>, &[Token])>
     ensures found { IfSome result
         (λ r. Stands (clause_of r.0) (lexemes words.now) (lexemes r.1.now)) }
     ensures only { (ws more : List Lexeme)
         → Spells Justified ws → ClauseFirst more → lexemes words.now ≡ ws ++ more
         → IsSomeAnd result (λ r. (clause_of r.0 ≡ Justified) × (lexemes r.1.now ≡ more)) }
 {
-    let more = behind(words, Term::Justified)?;
-    Some((Phrase::Justified, skip(more, Term::Right)))
+    let more = behind(words, WordClass::Justified)?;
+    Some((WrittenClause::Justified, skip(more, WordClass::Right)))
 }
 
 /// BLANK, perhaps WHEN, and ZERO, and what is behind them.
-fn blank_at(words: &[Token]) -> Option<(Phrase<'_>, &[Token])>
+fn blank_at(words: &[Token]) -> Option<(WrittenClause<'_>, &[Token])>
     ensures found { IfSome result
         (λ r. Stands (clause_of r.0) (lexemes words.now) (lexemes r.1.now)) }
     ensures only { (ws more : List Lexeme)
         → Spells Blank ws → ClauseFirst more → lexemes words.now ≡ ws ++ more
         → IsSomeAnd result (λ r. (clause_of r.0 ≡ Blank) × (lexemes r.1.now ≡ more)) }
 {
-    let more = behind(words, Term::Blank)?;
-    let rest = behind(skip(more, Term::When), Term::Zero)?;
-    Some((Phrase::Blank, rest))
+    let more = behind(words, WordClass::Blank)?;
+    let rest = behind(skip(more, WordClass::When), WordClass::Zero)?;
+    Some((WrittenClause::Blank, rest))
 }
 
 /// The kind of the clause in front.
 fn kind_in_front(words: &[Token]) -> Option<ClauseKind>
     ensures { (c : Clause) (ws more : List Lexeme)
-        → Spells c ws → lexemes words.now ≡ ws ++ more → result ≡ Some (kind_of c) }
+        → Spells c ws → lexemes words.now ≡ ws ++ more → result ≡ Some (clause_kind_of c) }
 {
     let (first, _) = words.split_first()?;
-    kind_at(term_of(first))
+    kind_at(word_class(first))
 }
 
 /// The clause in front, and what is behind it.
-pub fn clause_at(words: &[Token]) -> Option<(Phrase<'_>, &[Token])>
+pub fn clause_at(words: &[Token]) -> Option<(WrittenClause<'_>, &[Token])>
     ensures found { IfSome result
         (λ r. Stands (clause_of r.0) (lexemes words.now) (lexemes r.1.now)) }
     ensures only { (c : Clause) (ws more : List Lexeme)

@@ -1,26 +1,26 @@
 ghost use Rattle.cob_copybook_clauses.specs.Clauses.{IsConstant, figurative_of};
-ghost use Rattle.cob_copybook_clauses.specs.Terms.{term_of};
-ghost use Rattle.cob_copybook_clauses.specs.Written.{WrittenConstant, written_constant};
+ghost use Rattle.cob_copybook_clauses.specs.Terms.{word_class};
+ghost use Rattle.cob_copybook_clauses.specs.Written.{WrittenValue, written_value};
 ghost use Rattle.cob_source.specs.declared.token.Kind.TheVariants as kind;
 ghost use Rattle.cob_source.specs.Tokens.{Lexeme, lexemes};
 ghost use Rattle.std.specs.Prelude.{◌++◌, ◌∷◌, ◌≡◌, IfSome, IsSomeAnd, List};
 
-use crate::parts::Constant;
-use crate::term::{Term, term_of};
+use crate::parts::ValueClause;
+use crate::term::{WordClass, word_class};
 use crate::words::{behind, free_at, is_literal};
 use cob_entry::Figurative;
 use cob_source::Token;
 
 /// The figurative constant that a word is.
-fn figurative_of(term: Term) -> Option<Figurative>
+fn figurative_of(term: WordClass) -> Option<Figurative>
     ensures { result ≡ figurative_of term }
 {
     match term {
-        Term::Space => Some(Figurative::Space),
-        Term::Zero => Some(Figurative::Zero),
-        Term::HighValue => Some(Figurative::HighValue),
-        Term::LowValue => Some(Figurative::LowValue),
-        Term::Quote => Some(Figurative::Quote),
+        WordClass::Space => Some(Figurative::Space),
+        WordClass::Zero => Some(Figurative::Zero),
+        WordClass::HighValue => Some(Figurative::HighValue),
+        WordClass::LowValue => Some(Figurative::LowValue),
+        WordClass::Quote => Some(Figurative::Quote),
         _ => None,
     }
 }
@@ -28,13 +28,13 @@ fn figurative_of(term: Term) -> Option<Figurative>
 /// The figurative constant in front, and what is behind it.
 fn figurative_at(words: &[Token]) -> Option<(Figurative, &[Token])>
     ensures found { IfSome result (λ r. (w : Lexeme)
-        × (figurative_of (term_of w) ≡ Some r.0) × (lexemes words.now ≡ w ∷ lexemes r.1.now)) }
+        × (figurative_of (word_class w) ≡ Some r.0) × (lexemes words.now ≡ w ∷ lexemes r.1.now)) }
     ensures only { (f : Figurative) (w : Lexeme) (more : List Lexeme)
-        → figurative_of (term_of w) ≡ Some f → lexemes words.now ≡ w ∷ more
+        → figurative_of (word_class w) ≡ Some f → lexemes words.now ≡ w ∷ more
         → IsSomeAnd result (λ r. (r.0 ≡ f) × (lexemes r.1.now ≡ more)) }
 {
     let (first, more) = words.split_first()?;
-    let figurative = figurative_of(term_of(first))?;
+    let figurative = figurative_of(word_class(first))?;
     Some((figurative, more))
 }
 
@@ -54,39 +54,40 @@ fn literal_at(words: &[Token]) -> Option<(&[u8], &[Token])>
 }
 
 /// The constant behind ALL, and what is behind it.
-fn repeated_at(words: &[Token]) -> Option<(Constant<'_>, &[Token])>
+fn repeated_at(words: &[Token]) -> Option<(ValueClause<'_>, &[Token])>
     ensures found { IfSome result (λ r. (all : Lexeme)
-        → term_of all ≡ Term.All → (ws : List Lexeme) × IsConstant (written_constant r.0) (all ∷ ws)
+        → word_class all ≡ WordClass.All → (ws : List Lexeme)
+        × IsConstant (written_value r.0) (all ∷ ws)
         × (lexemes words.now ≡ ws ++ lexemes r.1.now)) }
-    ensures only { (c : WrittenConstant) (all : Lexeme) (ws more : List Lexeme)
-        → term_of all ≡ Term.All → IsConstant c (all ∷ ws) → lexemes words.now ≡ ws ++ more
-        → IsSomeAnd result (λ r. (written_constant r.0 ≡ c) × (lexemes r.1.now ≡ more)) }
+    ensures only { (c : WrittenValue) (all : Lexeme) (ws more : List Lexeme)
+        → word_class all ≡ WordClass.All → IsConstant c (all ∷ ws) → lexemes words.now ≡ ws ++ more
+        → IsSomeAnd result (λ r. (written_value r.0 ≡ c) × (lexemes r.1.now ≡ more)) }
 {
     if let Some((text, more)) = literal_at(words) {
-        return Some((Constant::All(text), more));
+        return Some((ValueClause::All(text), more));
     }
     let (figurative, more) = figurative_at(words)?;
-    Some((Constant::Figurative(figurative), more))
+    Some((ValueClause::Figurative(figurative), more))
 }
 
 /// The constant of a VALUE clause, and what is behind it.
-pub fn constant_at(words: &[Token]) -> Option<(Constant<'_>, &[Token])>
+pub fn constant_at(words: &[Token]) -> Option<(ValueClause<'_>, &[Token])>
     ensures found { IfSome result (λ r. (ws : List Lexeme)
-        × IsConstant (written_constant r.0) ws × (lexemes words.now ≡ ws ++ lexemes r.1.now)) }
-    ensures only { (c : WrittenConstant) (ws more : List Lexeme)
+        × IsConstant (written_value r.0) ws × (lexemes words.now ≡ ws ++ lexemes r.1.now)) }
+    ensures only { (c : WrittenValue) (ws more : List Lexeme)
         → IsConstant c ws → lexemes words.now ≡ ws ++ more
-        → IsSomeAnd result (λ r. (written_constant r.0 ≡ c) × (lexemes r.1.now ≡ more)) }
+        → IsSomeAnd result (λ r. (written_value r.0 ≡ c) × (lexemes r.1.now ≡ more)) }
 {
     if let Some((text, more)) = free_at(words) {
-        return Some((Constant::Word(text), more));
+        return Some((ValueClause::Word(text), more));
     }
     if let Some((text, more)) = literal_at(words) {
-        return Some((Constant::Literal(text), more));
+        return Some((ValueClause::Literal(text), more));
     }
-    if let Some(more) = behind(words, Term::All) {
+    if let Some(more) = behind(words, WordClass::All) {
         let (constant, rest) = repeated_at(more)?;
         return Some((constant, rest));
     }
     let (figurative, more) = figurative_at(words)?;
-    Some((Constant::Figurative(figurative), more))
+    Some((ValueClause::Figurative(figurative), more))
 }

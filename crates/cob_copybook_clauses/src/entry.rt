@@ -3,13 +3,13 @@ ghost use Rattle.cob_copybook_clauses.specs.Entries.{
   AreNamed,
   IsAbsent,
   IsWritten,
-  Says,
+  SaysClauses,
   bare,
   put,
   starts_clause,
 };
 ghost use Rattle.cob_copybook_clauses.specs.Reading.{ClauseFirst, clause_of};
-ghost use Rattle.cob_copybook_clauses.specs.Terms.{term_of};
+ghost use Rattle.cob_copybook_clauses.specs.Terms.{word_class};
 ghost use Rattle.cob_copybook_clauses.specs.Written.{
   WrittenClauses,
   WrittenEntry,
@@ -32,9 +32,9 @@ ghost use Rattle.std.specs.Prelude.{
   ℕ,
 };
 
-use crate::clause::{Phrase, clause_at, kind_at};
+use crate::clause::{WrittenClause, clause_at, kind_at};
 use crate::parts::{Clauses, Written};
-use crate::term::{Term, term_of};
+use crate::term::{WordClass, word_class};
 use crate::words::{is_term, is_word, word_at};
 use cob_source::Token;
 
@@ -55,7 +55,7 @@ fn bare() -> Clauses<'static>
 }
 
 /// The clauses with a further one, unless they have it.
-fn with<'a>(clauses: Clauses<'a>, phrase: Phrase<'a>) -> Option<Clauses<'a>>
+fn with<'a>(clauses: Clauses<'a>, phrase: WrittenClause<'a>) -> Option<Clauses<'a>>
     ensures found { IfSome result
         (λ f. IsAbsent (clause_of phrase.entry) (written_clauses clauses.entry)
         × (written_clauses f ≡ put (clause_of phrase.entry) (written_clauses clauses.entry))) }
@@ -65,18 +65,18 @@ fn with<'a>(clauses: Clauses<'a>, phrase: Phrase<'a>) -> Option<Clauses<'a>>
 {
     let mut all = clauses;
     let twice = match phrase {
-        Phrase::Redefines(name) => all.redefines.replace(name).is_some(),
-        Phrase::Picture(picture) => all.picture.replace(picture).is_some(),
-        Phrase::Usage(usage) => all.usage.replace(usage).is_some(),
-        Phrase::Sign(sign) => all.sign.replace(sign).is_some(),
-        Phrase::Occurs(table) => all.occurs.replace(table).is_some(),
-        Phrase::Value(constant) => all.value.replace(constant).is_some(),
-        Phrase::Justified => {
+        WrittenClause::Redefines(name) => all.redefines.replace(name).is_some(),
+        WrittenClause::Picture(picture) => all.picture.replace(picture).is_some(),
+        WrittenClause::Usage(usage) => all.usage.replace(usage).is_some(),
+        WrittenClause::Sign(sign) => all.sign.replace(sign).is_some(),
+        WrittenClause::Occurs(table) => all.occurs.replace(table).is_some(),
+        WrittenClause::Value(constant) => all.value.replace(constant).is_some(),
+        WrittenClause::Justified => {
             let before = all.justified;
             all.justified = true;
             before
         }
-        Phrase::Blank => {
+        WrittenClause::Blank => {
             let before = all.blank;
             all.blank = true;
             before
@@ -87,9 +87,9 @@ fn with<'a>(clauses: Clauses<'a>, phrase: Phrase<'a>) -> Option<Clauses<'a>>
 
 /// What the clauses that these words are say: clauses in any order, each at most once.
 fn clauses_of(words: &[Token]) -> Option<Clauses<'_>>
-    ensures found { IfSome result (λ c. Says (lexemes words.now) bare (written_clauses c)) }
+    ensures found { IfSome result (λ c. SaysClauses (lexemes words.now) bare (written_clauses c)) }
     ensures only { (g : WrittenClauses)
-        → Says (lexemes words.now) bare g → IsSomeAnd result (λ c. written_clauses c ≡ g) }
+        → SaysClauses (lexemes words.now) bare g → IsSomeAnd result (λ c. written_clauses c ≡ g) }
 {
     let mut clauses = bare();
     let mut rest = words;
@@ -103,9 +103,9 @@ fn clauses_of(words: &[Token]) -> Option<Clauses<'_>>
 
 /// Whether a word may begin a clause.
 fn starts_clause(token: &Token) -> bool
-    ensures { IsTrue result ↔ starts_clause (term_of (lexeme token.now)) ≡ true }
+    ensures { IsTrue result ↔ starts_clause (word_class (lexeme token.now)) ≡ true }
 {
-    kind_at(term_of(token)).is_some()
+    kind_at(word_class(token)).is_some()
 }
 
 /// The name of an entry, which may be absent, and what is behind it; none for FILLER.
@@ -119,7 +119,7 @@ fn name_at(words: &[Token]) -> Option<(Option<&[u8]>, &[Token])>
     let Some((first, more)) = words.split_first() else {
         return Some((None, words));
     };
-    if is_term(first, Term::Filler) {
+    if is_term(first, WordClass::Filler) {
         return Some((None, more));
     }
     if starts_clause(first) {
@@ -134,7 +134,7 @@ fn name_at(words: &[Token]) -> Option<(Option<&[u8]>, &[Token])>
 /// The entry that the words of a sentence are, as it is written.
 ///
 /// The sentence is the words of one entry without its period. `None` says that no entry is written so.
-pub fn written(sentence: &[Token]) -> Option<Written<'_>>
+pub fn read_entry(sentence: &[Token]) -> Option<Written<'_>>
     ensures found { IfSome result (λ w. IsWritten (lexemes sentence.now) (written_entry w)) }
     ensures only { (e : WrittenEntry)
         → IsWritten (lexemes sentence.now) e → IsSomeAnd result (λ w. written_entry w ≡ e) }

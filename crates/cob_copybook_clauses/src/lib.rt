@@ -5,8 +5,8 @@
 //! most once. This crate says which words are reserved and what a name is, cuts a text's words into sentences, and reads
 //! one sentence into its clauses. What a picture, a number, a constant or a name means isn't looked at here.
 //!
-//! What is promised: `written` answers exactly the entry that the words of a sentence are (clause `found`), and `None` only
-//! for words that are no entry (`only`); words are written as one entry at most (`one_entry`). `condition` does the same for an entry
+//! What is promised: `read_entry` answers exactly the entry that the words of a sentence are (clause `found`), and `None` only
+//! for words that are no entry (`only`); words are written as one entry at most (`one_entry`). `read_condition_name` does the same for an entry
 //! of level 88, `is_condition` says which those are, and `left_out` names a word or a level that is left out by name
 //! (`found`), and `None` says that there is none (`none`); its answer fits 20 characters of ASCII (`short`, `ascii`).
 //! `sentence_at` cuts at the first Stop, and where it answers `None` there is no Stop (`none`); `sentences_cut` and
@@ -32,11 +32,11 @@ mod term;
 mod words;
 
 pub use constant::constant_at;
-pub use entry::written;
+pub use entry::read_entry;
 pub use laws::{one_entry, sentences_cut, sentences_end};
 pub use names::is_name;
-pub use parts::{Clauses, Constant, Count, Table, Written};
+pub use parts::{Clauses, ValueClause, Count, OccursClause, Written};
 pub use qualifiers::qualifiers_at;
-pub use sentence::{condition, is_condition, left_out, sentence_at};
-pub use term::{Term, term_of};
+pub use sentence::{read_condition_name, is_condition, left_out, sentence_at};
+pub use term::{WordClass, word_class};
 pub use words::{behind, is_name_word, is_term};

@@ -9,7 +9,7 @@ ghost use Rattle.cob_copybook_clauses.specs.Terms.{term_of_word};
 ghost use Rattle.std.specs.List.{AllByRecursion, list_any};
 ghost use Rattle.std.specs.Prelude.{◌≡◌, ◌↔◌, IsTrue, true};
 
-use crate::term::{Term, term_of_word};
+use crate::term::{WordClass, term_of_word};
 use cob_limits::MAX_NAME;
 
 /// Whether a character may stand in a name: a capital, a digit, a hyphen or an underscore.
@@ -55,9 +55,9 @@ fn ends_as_name(text: &[u8]) -> bool
 
 /// Whether a word isn't reserved.
 fn is_plain(text: &[u8]) -> bool
-    ensures { IsTrue result ↔ term_of_word text.now ≡ Term.Plain }
+    ensures { IsTrue result ↔ term_of_word text.now ≡ WordClass.Plain }
 {
-    term_of_word(text) == Term::Plain
+    term_of_word(text) == WordClass::Plain
 }
 
 /// Whether a text is a name: 1 to 30 capitals, digits, hyphens and underscores, a letter among them, which begin with

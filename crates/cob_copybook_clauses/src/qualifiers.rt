@@ -1,13 +1,13 @@
-ghost use Rattle.cob_copybook_clauses.specs.Clauses.{AreNames, AreQualifiers, IsCount, IsNameWord};
-ghost use Rattle.cob_copybook_clauses.specs.Reading.{NotFirst};
-ghost use Rattle.cob_copybook_clauses.specs.Terms.{term_of};
+ghost use Rattle.cob_copybook_clauses.specs.Clauses.{AreNames, AreQualifiers, IsDependingOn, IsNameWord};
+ghost use Rattle.cob_copybook_clauses.specs.Reading.{NotFirstWord};
+ghost use Rattle.cob_copybook_clauses.specs.Terms.{word_class};
 ghost use Rattle.cob_copybook_clauses.specs.Written.{WrittenName, written_name};
 ghost use Rattle.cob_source.specs.Tokens.{Lexeme, lexemes};
 ghost use Rattle.std.specs.List.{AllByRecursion};
 ghost use Rattle.std.specs.Prelude.{◌++◌, ◌∷◌, ◌≡◌, IfSome, IsSomeAnd, List, length, ◌≤◌};
 
 use crate::parts::Count;
-use crate::term::Term;
+use crate::term::WordClass;
 use crate::words::{behind, is_name_word, other_word_at, skip};
 use cob_source::Token;
 
@@ -30,7 +30,8 @@ fn skip_names(words: &[Token]) -> &[Token]
     ensures found { (names : List Lexeme)
         × AllByRecursion IsNameWord names × (lexemes words.now ≡ names ++ lexemes result.now) }
     ensures only { (names more : List Lexeme) → AllByRecursion IsNameWord names
-        → NotFirst Term.Plain more → lexemes words.now ≡ names ++ more → lexemes result.now ≡ more }
+        → NotFirstWord WordClass.Plain more → lexemes words.now ≡ names ++ more
+        → lexemes result.now ≡ more }
 {
     let mut rest = words;
     while let Some(more) = behind_name(rest) {
@@ -43,7 +44,7 @@ fn skip_names(words: &[Token]) -> &[Token]
 pub fn names_at(words: &[Token]) -> Option<&[Token]>
     ensures found { IfSome result (λ r. (names : List Lexeme)
         × AreNames names × (lexemes words.now ≡ names ++ lexemes r.now)) }
-    ensures only { (names more : List Lexeme) → AreNames names → NotFirst Term.Plain more
+    ensures only { (names more : List Lexeme) → AreNames names → NotFirstWord WordClass.Plain more
         → lexemes words.now ≡ names ++ more → IsSomeAnd result (λ r. lexemes r.now ≡ more) }
 {
     let more = behind_name(words)?;
@@ -52,12 +53,13 @@ pub fn names_at(words: &[Token]) -> Option<&[Token]>
 
 /// The words behind the qualifier in front, which is OF or IN and a name.
 fn behind_qualifier(words: &[Token]) -> Option<&[Token]>
-    ensures found { IfSome result (λ r. (of name : Lexeme) × (term_of of ≡ Term.Of)
+    ensures found { IfSome result (λ r. (of name : Lexeme) × (word_class of ≡ WordClass.Of)
         × IsNameWord name × (lexemes words.now ≡ of ∷ (name ∷ lexemes r.now))) }
-    ensures only { (of name : Lexeme) (more : List Lexeme) → term_of of ≡ Term.Of → IsNameWord name
+    ensures only { (of name : Lexeme) (more : List Lexeme) → word_class of ≡ WordClass.Of
+        → IsNameWord name
         → lexemes words.now ≡ of ∷ (name ∷ more) → IsSomeAnd result (λ r. lexemes r.now ≡ more) }
 {
-    let named = behind(words, Term::Of)?;
+    let named = behind(words, WordClass::Of)?;
     let rest = behind_name(named)?;
     Some(rest)
 }
@@ -67,7 +69,7 @@ pub fn qualifiers_at(words: &[Token]) -> (&[Token], &[Token])
     ensures are { AreQualifiers (lexemes result.0.now) }
     ensures found { lexemes words.now ≡ lexemes result.0.now ++ lexemes result.1.now }
     ensures only { (qs more : List Lexeme)
-        → AreQualifiers qs → NotFirst Term.Of more → lexemes words.now ≡ qs ++ more
+        → AreQualifiers qs → NotFirstWord WordClass.Of more → lexemes words.now ≡ qs ++ more
         → (lexemes result.0.now ≡ qs) × (lexemes result.1.now ≡ more) }
 {
     let mut rest = words;
@@ -89,14 +91,14 @@ fn front(words: &[Token], behind: usize) -> &[Token]
 /// DEPENDING ON and a name with its qualifiers, and what is behind them.
 pub fn count_at(words: &[Token]) -> Option<(Count<'_>, &[Token])>
     ensures found { IfSome result (λ r. (ws : List Lexeme)
-        × IsCount (written_name r.0) ws × (lexemes words.now ≡ ws ++ lexemes r.1.now)) }
+        × IsDependingOn (written_name r.0) ws × (lexemes words.now ≡ ws ++ lexemes r.1.now)) }
     ensures only { (name : WrittenName) (ws more : List Lexeme)
-        → IsCount name ws → NotFirst Term.Of more → lexemes words.now ≡ ws ++ more
+        → IsDependingOn name ws → NotFirstWord WordClass.Of more → lexemes words.now ≡ ws ++ more
         → IsSomeAnd result (λ r. (written_name r.0 ≡ name) × (lexemes r.1.now ≡ more)) }
 {
-    let depending = behind(words, Term::Depending)?;
-    let on = skip(depending, Term::On);
-    let (name, named) = other_word_at(on, Term::On)?;
+    let depending = behind(words, WordClass::Depending)?;
+    let on = skip(depending, WordClass::On);
+    let (name, named) = other_word_at(on, WordClass::On)?;
     let (qualifiers, rest) = qualifiers_at(named);
     Some((Count { name, qualifiers }, rest))
 }

@@ -32,7 +32,7 @@ ghost use Rattle.std.specs.Prelude.{
   ℕ,
 };
 
-use crate::term::Term;
+use crate::term::WordClass;
 use crate::words::{behind, is_term, is_word, word_at};
 use cob_source::{Kind, Token};
 
@@ -94,7 +94,7 @@ fn is_text(text: &[u8], other: &[u8]) -> bool
 }
 
 /// The name that a level 88 entry gives a value; what stands behind VALUE isn't looked at.
-pub fn condition(sentence: &[Token]) -> Option<&[u8]>
+pub fn read_condition_name(sentence: &[Token]) -> Option<&[u8]>
     ensures found { IfSome result (λ n. IsCondition (lexemes sentence.now) n.now) }
     ensures only { (n : List ℕ)
         → IsCondition (lexemes sentence.now) n → IsSomeAnd result (λ m. m.now ≡ n) }
@@ -104,7 +104,7 @@ pub fn condition(sentence: &[Token]) -> Option<&[u8]>
         return None;
     }
     let (name, more) = word_at(named)?;
-    behind(more, Term::Value)?;
+    behind(more, WordClass::Value)?;
     Some(name)
 }
 
@@ -130,7 +130,7 @@ fn left_out_word(words: &[Token]) -> Option<&[u8]>
     ensures ascii { IfSome result (λ w. AllByRecursion (λ c. c < 128) w.now) }
 {
     for token in words {
-        if is_term(token, Term::LeftOut) {
+        if is_term(token, WordClass::LeftOut) {
             return Some(token.text.as_slice());
         }
     }

@@ -5,11 +5,11 @@ ghost use Rattle.cob_copybook_clauses.specs.Clauses.{
   IsLeast,
   IsTable,
   IsVaried,
-  Noise,
+  IsOptionalWord,
 };
-ghost use Rattle.cob_copybook_clauses.specs.Reading.{ClauseFirst, NotFirst};
-ghost use Rattle.cob_copybook_clauses.specs.Terms.{term_of};
-ghost use Rattle.cob_copybook_clauses.specs.Written.{WrittenName, WrittenTable, written_name, written_table};
+ghost use Rattle.cob_copybook_clauses.specs.Reading.{ClauseFirst, NotFirstWord};
+ghost use Rattle.cob_copybook_clauses.specs.Terms.{word_class};
+ghost use Rattle.cob_copybook_clauses.specs.Written.{WrittenName, WrittenOccurs, written_name, written_occurs};
 ghost use Rattle.cob_source.specs.Tokens.{Lexeme, lexemes};
 ghost use Rattle.std.specs.Prelude.{
   ◌++◌,
@@ -23,38 +23,43 @@ ghost use Rattle.std.specs.Prelude.{
   ℕ,
 };
 
-use crate::parts::{Count, Table};
+use crate::parts::{Count, OccursClause};
 use crate::qualifiers::{count_at, names_at};
-use crate::term::Term;
+use crate::term::WordClass;
 use crate::words::{behind, free_at, skip};
 use cob_source::Token;
 
 /// ASCENDING or DESCENDING KEY IS and names: what is behind them.
 fn behind_order(words: &[Token]) -> Option<&[Token]>
     ensures found { IfSome result (λ r. (k : Lexeme) × (key is names : List Lexeme)
-        × (term_of k ≡ Term.Ordered) × Noise Term.Key key × Noise Term.Is is
+        × (word_class k ≡ WordClass.Ordered) × IsOptionalWord WordClass.Key key
+        × IsOptionalWord WordClass.Is is
         × AreNames names × (lexemes words.now ≡ k ∷ (key ++ (is ++ (names ++ lexemes r.now))))) }
     ensures only { (k : Lexeme) (key is names more : List Lexeme)
-        → term_of k ≡ Term.Ordered → Noise Term.Key key → Noise Term.Is is → AreNames names
-        → NotFirst Term.Plain more → lexemes words.now ≡ k ∷ (key ++ (is ++ (names ++ more)))
+        → word_class k ≡ WordClass.Ordered → IsOptionalWord WordClass.Key key
+        → IsOptionalWord WordClass.Is is → AreNames names
+        → NotFirstWord WordClass.Plain more
+        → lexemes words.now ≡ k ∷ (key ++ (is ++ (names ++ more)))
         → IsSomeAnd result (λ r. lexemes r.now ≡ more) }
 {
-    let ordered = behind(words, Term::Ordered)?;
-    let rest = names_at(skip(skip(ordered, Term::Key), Term::Is))?;
+    let ordered = behind(words, WordClass::Ordered)?;
+    let rest = names_at(skip(skip(ordered, WordClass::Key), WordClass::Is))?;
     Some(rest)
 }
 
 /// INDEXED BY and names: what is behind them.
 fn behind_indexes(words: &[Token]) -> Option<&[Token]>
     ensures found { IfSome result (λ r. (k : Lexeme)
-        × (by names : List Lexeme) × (term_of k ≡ Term.Indexed) × Noise Term.By by
+        × (by names : List Lexeme) × (word_class k ≡ WordClass.Indexed)
+        × IsOptionalWord WordClass.By by
         × AreNames names × (lexemes words.now ≡ k ∷ (by ++ (names ++ lexemes r.now)))) }
-    ensures only { (k : Lexeme) (by names more : List Lexeme) → term_of k ≡ Term.Indexed
-        → Noise Term.By by → AreNames names → NotFirst Term.Plain more → lexemes words.now ≡ k ∷
+    ensures only { (k : Lexeme) (by names more : List Lexeme) → word_class k ≡ WordClass.Indexed
+        → IsOptionalWord WordClass.By by → AreNames names → NotFirstWord WordClass.Plain more
+        → lexemes words.now ≡ k ∷
         (by ++ (names ++ more)) → IsSomeAnd result (λ r. lexemes r.now ≡ more) }
 {
-    let indexed = behind(words, Term::Indexed)?;
-    let rest = names_at(skip(indexed, Term::By))?;
+    let indexed = behind(words, WordClass::Indexed)?;
+    let rest = names_at(skip(indexed, WordClass::By))?;
     Some(rest)
 }
 
@@ -82,11 +87,12 @@ fn limits_at(words: &[Token]) -> Option<(Option<&[u8]>, &[u8], &[Token])>
         × IsFree r.1.now most × (lexemes words.now ≡ least ++ most ∷ lexemes r.2.now)) }
     ensures only { (a : Option (List ℕ)) (b : List ℕ)
         (least : List Lexeme) (most : Lexeme) (more : List Lexeme) → IsLeast a least → IsFree b most
-        → NotFirst Term.To more → lexemes words.now ≡ least ++ most ∷ more → IsSomeAnd result
+        → NotFirstWord WordClass.To more → lexemes words.now ≡ least ++ most ∷ more
+        → IsSomeAnd result
         (λ r. (option_map (λ b. b.now) r.0 ≡ a) × (r.1.now ≡ b) × (lexemes r.2.now ≡ more)) }
 {
     let (first, more) = free_at(words)?;
-    if let Some(to) = behind(more, Term::To) {
+    if let Some(to) = behind(more, WordClass::To) {
         let (most, rest) = free_at(to)?;
         return Some((Some(first), most, rest));
     }
@@ -102,7 +108,8 @@ fn varied_at<'a>(
         (option_map (λ b. b.now) least.entry) ws × (lexemes words.now ≡ ws ++ lexemes r.1.now)) }
     ensures only { (count : Option WrittenName) (ws more : List Lexeme)
         → IsVaried count (option_map (λ b. b.now) least.entry) ws
-        → NotFirst Term.Depending more → NotFirst Term.Of more → lexemes words.now ≡ ws ++ more
+        → NotFirstWord WordClass.Depending more → NotFirstWord WordClass.Of more
+        → lexemes words.now ≡ ws ++ more
         → IsSomeAnd result (λ r. (option_map written_name r.0 ≡ count) × (lexemes r.1.now ≡ more)) }
 {
     if let Some((count, rest)) = count_at(words) {
@@ -115,14 +122,14 @@ fn varied_at<'a>(
 }
 
 /// The words behind OCCURS, and what is behind them.
-pub fn table_at(words: &[Token]) -> Option<(Table<'_>, &[Token])>
+pub fn table_at(words: &[Token]) -> Option<(OccursClause<'_>, &[Token])>
     ensures found { IfSome result (λ r. (ws : List Lexeme)
-        × IsTable (written_table r.0) ws × (lexemes words.now ≡ ws ++ lexemes r.1.now)) }
-    ensures only { (t : WrittenTable) (ws more : List Lexeme)
+        × IsTable (written_occurs r.0) ws × (lexemes words.now ≡ ws ++ lexemes r.1.now)) }
+    ensures only { (t : WrittenOccurs) (ws more : List Lexeme)
         → IsTable t ws → ClauseFirst more → lexemes words.now ≡ ws ++ more
-        → IsSomeAnd result (λ r. (written_table r.0 ≡ t) × (lexemes r.1.now ≡ more)) }
+        → IsSomeAnd result (λ r. (written_occurs r.0 ≡ t) × (lexemes r.1.now ≡ more)) }
 {
     let (least, most, limited) = limits_at(words)?;
-    let (count, varied) = varied_at(skip(limited, Term::Times), least)?;
-    Some((Table { least, most, count }, skip_keys(varied)))
+    let (count, varied) = varied_at(skip(limited, WordClass::Times), least)?;
+    Some((OccursClause { least, most, count }, skip_keys(varied)))
 }

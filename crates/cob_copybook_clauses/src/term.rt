@@ -1,12 +1,12 @@
 ghost use Rattle.std.specs.Prelude.{◌≡◌, unwrap_or};
-ghost use Rattle.cob_copybook_clauses.specs.Terms.{term_by, term_of_word, term_of, keywords};
+ghost use Rattle.cob_copybook_clauses.specs.Terms.{term_by, term_of_word, word_class, keywords};
 ghost use Rattle.cob_source.specs.Tokens.{lexeme};
 
 use cob_source::{Kind, Token};
 
 /// What a word, a literal or a Stop is to the grammar of entries.
 #[derive(Clone, Copy, Debug, PartialEq, Eq)]
-pub enum Term {
+pub enum WordClass {
     /// REDEFINES.
     Redefines,
     /// PICTURE, PIC.
@@ -96,91 +96,91 @@ pub enum Term {
 }
 
 /// The reserved words, and what each means.
-static KEYWORDS: [(&[u8], Term); 79] = [
-    (b"REDEFINES", Term::Redefines),
-    (b"PICTURE", Term::Picture),
-    (b"PIC", Term::Picture),
-    (b"IS", Term::Is),
-    (b"USAGE", Term::Usage),
-    (b"SIGN", Term::Sign),
-    (b"LEADING", Term::Leading),
-    (b"TRAILING", Term::Trailing),
-    (b"SEPARATE", Term::Separate),
-    (b"CHARACTER", Term::Character),
-    (b"OCCURS", Term::Occurs),
-    (b"TIMES", Term::Times),
-    (b"TO", Term::To),
-    (b"DEPENDING", Term::Depending),
-    (b"ON", Term::On),
-    (b"OF", Term::Of),
-    (b"IN", Term::Of),
-    (b"ASCENDING", Term::Ordered),
-    (b"DESCENDING", Term::Ordered),
-    (b"KEY", Term::Key),
-    (b"INDEXED", Term::Indexed),
-    (b"BY", Term::By),
-    (b"VALUE", Term::Value),
-    (b"VALUES", Term::Value),
-    (b"ARE", Term::Are),
-    (b"JUSTIFIED", Term::Justified),
-    (b"JUST", Term::Justified),
-    (b"RIGHT", Term::Right),
-    (b"BLANK", Term::Blank),
-    (b"WHEN", Term::When),
-    (b"FILLER", Term::Filler),
-    (b"DISPLAY", Term::Display),
-    (b"COMP", Term::Binary),
-    (b"COMPUTATIONAL", Term::Binary),
-    (b"COMP-4", Term::Binary),
-    (b"COMPUTATIONAL-4", Term::Binary),
-    (b"BINARY", Term::Binary),
-    (b"COMP-3", Term::Packed),
-    (b"COMPUTATIONAL-3", Term::Packed),
-    (b"PACKED-DECIMAL", Term::Packed),
-    (b"SPACE", Term::Space),
-    (b"SPACES", Term::Space),
-    (b"ZERO", Term::Zero),
-    (b"ZEROS", Term::Zero),
-    (b"ZEROES", Term::Zero),
-    (b"HIGH-VALUE", Term::HighValue),
-    (b"HIGH-VALUES", Term::HighValue),
-    (b"LOW-VALUE", Term::LowValue),
-    (b"LOW-VALUES", Term::LowValue),
-    (b"QUOTE", Term::Quote),
-    (b"QUOTES", Term::Quote),
-    (b"ALL", Term::All),
-    (b"SYNC", Term::LeftOut),
-    (b"SYNCHRONIZED", Term::LeftOut),
-    (b"COMP-1", Term::LeftOut),
-    (b"COMP-2", Term::LeftOut),
-    (b"COMP-5", Term::LeftOut),
-    (b"COMPUTATIONAL-1", Term::LeftOut),
-    (b"COMPUTATIONAL-2", Term::LeftOut),
-    (b"COMPUTATIONAL-5", Term::LeftOut),
-    (b"INDEX", Term::LeftOut),
-    (b"POINTER", Term::LeftOut),
-    (b"PROCEDURE-POINTER", Term::LeftOut),
-    (b"FUNCTION-POINTER", Term::LeftOut),
-    (b"NATIONAL", Term::LeftOut),
-    (b"DISPLAY-1", Term::LeftOut),
-    (b"EXTERNAL", Term::LeftOut),
-    (b"GLOBAL", Term::LeftOut),
-    (b"TYPEDEF", Term::LeftOut),
-    (b"GROUP-USAGE", Term::LeftOut),
-    (b"UNBOUNDED", Term::LeftOut),
-    (b"COPY", Term::LeftOut),
-    (b"REPLACE", Term::LeftOut),
-    (b"EXEC", Term::LeftOut),
-    (b"MOVE", Term::Move),
-    (b"CORRESPONDING", Term::Corresponding),
-    (b"CORR", Term::Corresponding),
-    (b"(", Term::OpenBracket),
-    (b")", Term::CloseBracket),
+static KEYWORDS: [(&[u8], WordClass); 79] = [
+    (b"REDEFINES", WordClass::Redefines),
+    (b"PICTURE", WordClass::Picture),
+    (b"PIC", WordClass::Picture),
+    (b"IS", WordClass::Is),
+    (b"USAGE", WordClass::Usage),
+    (b"SIGN", WordClass::Sign),
+    (b"LEADING", WordClass::Leading),
+    (b"TRAILING", WordClass::Trailing),
+    (b"SEPARATE", WordClass::Separate),
+    (b"CHARACTER", WordClass::Character),
+    (b"OCCURS", WordClass::Occurs),
+    (b"TIMES", WordClass::Times),
+    (b"TO", WordClass::To),
+    (b"DEPENDING", WordClass::Depending),
+    (b"ON", WordClass::On),
+    (b"OF", WordClass::Of),
+    (b"IN", WordClass::Of),
+    (b"ASCENDING", WordClass::Ordered),
+    (b"DESCENDING", WordClass::Ordered),
+    (b"KEY", WordClass::Key),
+    (b"INDEXED", WordClass::Indexed),
+    (b"BY", WordClass::By),
+    (b"VALUE", WordClass::Value),
+    (b"VALUES", WordClass::Value),
+    (b"ARE", WordClass::Are),
+    (b"JUSTIFIED", WordClass::Justified),
+    (b"JUST", WordClass::Justified),
+    (b"RIGHT", WordClass::Right),
+    (b"BLANK", WordClass::Blank),
+    (b"WHEN", WordClass::When),
+    (b"FILLER", WordClass::Filler),
+    (b"DISPLAY", WordClass::Display),
+    (b"COMP", WordClass::Binary),
+    (b"COMPUTATIONAL", WordClass::Binary),
+    (b"COMP-4", WordClass::Binary),
+    (b"COMPUTATIONAL-4", WordClass::Binary),
+    (b"BINARY", WordClass::Binary),
+    (b"COMP-3", WordClass::Packed),
+    (b"COMPUTATIONAL-3", WordClass::Packed),
+    (b"PACKED-DECIMAL", WordClass::Packed),
+    (b"SPACE", WordClass::Space),
+    (b"SPACES", WordClass::Space),
+    (b"ZERO", WordClass::Zero),
+    (b"ZEROS", WordClass::Zero),
+    (b"ZEROES", WordClass::Zero),
+    (b"HIGH-VALUE", WordClass::HighValue),
+    (b"HIGH-VALUES", WordClass::HighValue),
+    (b"LOW-VALUE", WordClass::LowValue),
+    (b"LOW-VALUES", WordClass::LowValue),
+    (b"QUOTE", WordClass::Quote),
+    (b"QUOTES", WordClass::Quote),
+    (b"ALL", WordClass::All),
+    (b"SYNC", WordClass::LeftOut),
+    (b"SYNCHRONIZED", WordClass::LeftOut),
+    (b"COMP-1", WordClass::LeftOut),
+    (b"COMP-2", WordClass::LeftOut),
+    (b"COMP-5", WordClass::LeftOut),
+    (b"COMPUTATIONAL-1", WordClass::LeftOut),
+    (b"COMPUTATIONAL-2", WordClass::LeftOut),
+    (b"COMPUTATIONAL-5", WordClass::LeftOut),
+    (b"INDEX", WordClass::LeftOut),
+    (b"POINTER", WordClass::LeftOut),
+    (b"PROCEDURE-POINTER", WordClass::LeftOut),
+    (b"FUNCTION-POINTER", WordClass::LeftOut),
+    (b"NATIONAL", WordClass::LeftOut),
+    (b"DISPLAY-1", WordClass::LeftOut),
+    (b"EXTERNAL", WordClass::LeftOut),
+    (b"GLOBAL", WordClass::LeftOut),
+    (b"TYPEDEF", WordClass::LeftOut),
+    (b"GROUP-USAGE", WordClass::LeftOut),
+    (b"UNBOUNDED", WordClass::LeftOut),
+    (b"COPY", WordClass::LeftOut),
+    (b"REPLACE", WordClass::LeftOut),
+    (b"EXEC", WordClass::LeftOut),
+    (b"MOVE", WordClass::Move),
+    (b"CORRESPONDING", WordClass::Corresponding),
+    (b"CORR", WordClass::Corresponding),
+    (b"(", WordClass::OpenBracket),
+    (b")", WordClass::CloseBracket),
 ];
 
 /// What a text is by a table of keywords, if it is in it.
-fn term_in(table: &[(&[u8], Term)], text: &[u8]) -> Option<Term>
-    ensures { (other : Term)
+fn term_in(table: &[(&[u8], WordClass)], text: &[u8]) -> Option<WordClass>
+    ensures { (other : WordClass)
         → unwrap_or result other ≡ term_by (keywords table.now) text.now other }
 {
     for (keyword, term) in table {
@@ -192,19 +192,19 @@ fn term_in(table: &[(&[u8], Term)], text: &[u8]) -> Option<Term>
 }
 
 /// What a word is.
-pub fn term_of_word(text: &[u8]) -> Term
+pub fn term_of_word(text: &[u8]) -> WordClass
     ensures { result ≡ term_of_word text.now }
 {
-    term_in(&KEYWORDS, text).unwrap_or(Term::Plain)
+    term_in(&KEYWORDS, text).unwrap_or(WordClass::Plain)
 }
 
 /// What a word, a literal or a Stop is to the grammar of entries.
-pub fn term_of(token: &Token) -> Term
-    ensures { result ≡ term_of (lexeme token.now) }
+pub fn word_class(token: &Token) -> WordClass
+    ensures { result ≡ word_class (lexeme token.now) }
 {
     match token.kind {
         Kind::Word => term_of_word(token.text.as_slice()),
-        Kind::Literal => Term::Literal,
-        Kind::Stop => Term::Stop,
+        Kind::Literal => WordClass::Literal,
+        Kind::Stop => WordClass::Stop,
     }
 }

@@ -6,10 +6,10 @@ ghost use Rattle.cob_copybook_clauses.specs.Clauses.{
   IsOrAre,
   IsPrefix,
   IsWord,
-  Noise,
+  IsOptionalWord,
 };
-ghost use Rattle.cob_copybook_clauses.specs.Reading.{NotFirst};
-ghost use Rattle.cob_copybook_clauses.specs.Terms.{term_of};
+ghost use Rattle.cob_copybook_clauses.specs.Reading.{NotFirstWord};
+ghost use Rattle.cob_copybook_clauses.specs.Terms.{word_class};
 ghost use Rattle.cob_source.specs.Tokens.{Lexeme, lexeme, lexemes};
 ghost use Rattle.std.specs.Prelude.{
   ◌++◌,
@@ -25,14 +25,14 @@ ghost use Rattle.std.specs.Prelude.{
 };
 
 use crate::names::is_name;
-use crate::term::{Term, term_of};
+use crate::term::{WordClass, word_class};
 use cob_source::{Kind, Token};
 
 /// Whether a token is this to the grammar.
-pub fn is_term(token: &Token, term: Term) -> bool
-    ensures { IsTrue result ↔ term_of (lexeme token.now) ≡ term }
+pub fn is_term(token: &Token, term: WordClass) -> bool
+    ensures { IsTrue result ↔ word_class (lexeme token.now) ≡ term }
 {
-    term_of(token) == term
+    word_class(token) == term
 }
 
 /// Whether a token is a word.
@@ -57,10 +57,10 @@ pub fn is_name_word(token: &Token) -> bool
 }
 
 /// The words behind this one, if it comes first.
-pub fn behind(words: &[Token], term: Term) -> Option<&[Token]>
+pub fn behind(words: &[Token], term: WordClass) -> Option<&[Token]>
     ensures found { IfSome result
-        (λ r. (w : Lexeme) × (term_of w ≡ term) × (lexemes words.now ≡ w ∷ lexemes r.now)) }
-    ensures only { (w : Lexeme) (more : List Lexeme) → term_of w ≡ term
+        (λ r. (w : Lexeme) × (word_class w ≡ term) × (lexemes words.now ≡ w ∷ lexemes r.now)) }
+    ensures only { (w : Lexeme) (more : List Lexeme) → word_class w ≡ term
         → lexemes words.now ≡ w ∷ more → IsSomeAnd result (λ r. lexemes r.now ≡ more) }
 {
     let (first, more) = words.split_first()?;
@@ -72,11 +72,11 @@ pub fn behind(words: &[Token], term: Term) -> Option<&[Token]>
 }
 
 /// The words without the optional one in front.
-pub fn skip(words: &[Token], term: Term) -> &[Token]
+pub fn skip(words: &[Token], term: WordClass) -> &[Token]
     ensures found { (noise : List Lexeme)
-        × Noise term noise × (lexemes words.now ≡ noise ++ lexemes result.now) }
-    ensures only { (noise more : List Lexeme) → Noise term noise
-        → NotFirst term more → lexemes words.now ≡ noise ++ more → lexemes result.now ≡ more }
+        × IsOptionalWord term noise × (lexemes words.now ≡ noise ++ lexemes result.now) }
+    ensures only { (noise more : List Lexeme) → IsOptionalWord term noise
+        → NotFirstWord term more → lexemes words.now ≡ noise ++ more → lexemes result.now ≡ more }
 {
     match behind(words, term) {
         Some(more) => more,
@@ -88,24 +88,26 @@ pub fn skip(words: &[Token], term: Term) -> &[Token]
 pub fn skip_is_or_are(words: &[Token]) -> &[Token]
     ensures found { (noise : List Lexeme)
         × IsOrAre noise × (lexemes words.now ≡ noise ++ lexemes result.now) }
-    ensures only { (noise more : List Lexeme) → IsOrAre noise → NotFirst Term.Is more
-        → NotFirst Term.Are more → lexemes words.now ≡ noise ++ more → lexemes result.now ≡ more }
+    ensures only { (noise more : List Lexeme) → IsOrAre noise → NotFirstWord WordClass.Is more
+        → NotFirstWord WordClass.Are more → lexemes words.now ≡ noise ++ more
+        → lexemes result.now ≡ more }
 {
-    match behind(words, Term::Is) {
+    match behind(words, WordClass::Is) {
         Some(more) => more,
-        None => skip(words, Term::Are),
+        None => skip(words, WordClass::Are),
     }
 }
 
 /// The words behind this one and IS, which may both be absent, but IS stands only behind it.
-pub fn skip_prefix(words: &[Token], term: Term) -> &[Token]
+pub fn skip_prefix(words: &[Token], term: WordClass) -> &[Token]
     ensures found { (before : List Lexeme)
         × IsPrefix term before × (lexemes words.now ≡ before ++ lexemes result.now) }
-    ensures only { (before more : List Lexeme) → IsPrefix term before → NotFirst term more
-        → NotFirst Term.Is more → lexemes words.now ≡ before ++ more → lexemes result.now ≡ more }
+    ensures only { (before more : List Lexeme) → IsPrefix term before → NotFirstWord term more
+        → NotFirstWord WordClass.Is more → lexemes words.now ≡ before ++ more
+        → lexemes result.now ≡ more }
 {
     match behind(words, term) {
-        Some(more) => skip(more, Term::Is),
+        Some(more) => skip(more, WordClass::Is),
         None => words,
     }
 }
@@ -126,11 +128,11 @@ pub fn word_at(words: &[Token]) -> Option<(&[u8], &[Token])>
 }
 
 /// The text of the word in front, which isn't this one, and what is behind it.
-pub fn other_word_at(words: &[Token], term: Term) -> Option<(&[u8], &[Token])>
+pub fn other_word_at(words: &[Token], term: WordClass) -> Option<(&[u8], &[Token])>
     ensures found { IfSome result (λ r. (w : Lexeme)
-        × IsWord r.0.now w × (term_of w ≢ term) × (lexemes words.now ≡ w ∷ lexemes r.1.now)) }
+        × IsWord r.0.now w × (word_class w ≢ term) × (lexemes words.now ≡ w ∷ lexemes r.1.now)) }
     ensures only { (text : List ℕ) (w : Lexeme) (more : List Lexeme)
-        → IsWord text w → term_of w ≢ term → lexemes words.now ≡ w ∷ more
+        → IsWord text w → word_class w ≢ term → lexemes words.now ≡ w ∷ more
         → IsSomeAnd result (λ r. (r.0.now ≡ text) × (lexemes r.1.now ≡ more)) }
 {
     let (first, more) = words.split_first()?;
@@ -149,7 +151,7 @@ pub fn free_at(words: &[Token]) -> Option<(&[u8], &[Token])>
         → IsSomeAnd result (λ r. (r.0.now ≡ text) × (lexemes r.1.now ≡ more)) }
 {
     let (first, more) = words.split_first()?;
-    if !is_term(first, Term::Plain) {
+    if !is_term(first, WordClass::Plain) {
         return None;
     }
     Some((first.text.as_slice(), more))

@@ -6,7 +6,7 @@ use Rattle.cob_decimal.specs.Decimal.{number_of}
 use Rattle.cob_decimal.specs.Literals.{Literal, IsLiteral, IsValueOf, literal_text, sign_text, fraction_text, characters}
 use Rattle.cob_decimal.proofs.LiteralLemmas.{one_literal}
 use Rattle.cob_copybook_clauses.specs.Written.{Word}
-use Rattle.cob_entry.specs.Described.{Constant, Numeric, Quoted, Figure, Repeated}
+use Rattle.cob_entry.specs.Described.{PlainValue, Numeric, Quoted, Figure, Repeated}
 use Rattle.cob_copybook_entries.specs.Meaning.{IsConstantOf}
 use Rattle.cob_copybook_entries.specs.Signs.{begins_with_sign}
 
@@ -44,7 +44,7 @@ same_number l s t m n ds es a b hs ht h k =
     cc
 
 -- a word means one constant
-pub one_numeric : (text : List ℕ) (s m : Bool) (ds : List ℕ) (a : ℤ) (c : Constant) → IsConstantOf (Word text) (Numeric s m ds a) → IsConstantOf (Word text) c → Numeric s m ds a ≡ c
+pub one_numeric : (text : List ℕ) (s m : Bool) (ds : List ℕ) (a : ℤ) (c : PlainValue) → IsConstantOf (Word text) (Numeric s m ds a) → IsConstantOf (Word text) c → Numeric s m ds a ≡ c
 one_numeric text s m ds a (Numeric t n es b) h k =
     let same : h.0 ≡ k.0 = one_literal h.0 k.0 h.1 k.1 (sym h.2 ∙ k.2) in
     same_number h.0 s t m n ds es a b h.3 (subst (λ (l : Literal). t ≡ is_some l.sign) (sym same) k.3) h.4 (subst (λ (l : Literal). IsValueOf l n es b) (sym same) k.4)

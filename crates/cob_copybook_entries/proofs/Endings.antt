@@ -11,8 +11,8 @@ use Rattle.cob_copybook_clauses.specs.Entries.{Sentences, sentences, is_conditio
 use Rattle.cob_entry.specs.declared.fault.BookRule.{BookRule}
 use Rattle.cob_entry.specs.declared.fault.BookRule.TheVariants as rule
 use Rattle.cob_limits.specs.Limits.{most_entries}
-use Rattle.cob_entry.specs.Described.{Described}
-use Rattle.cob_copybook_entries.specs.Books.{AreDescribed, AreEntriesOf, BeginsWithData, BeginsWithCondition, BreaksBy, IsBroken, OneBreaks, data_entries}
+use Rattle.cob_entry.specs.Described.{PlainEntry}
+use Rattle.cob_copybook_entries.specs.Books.{AreDescribed, AreEntriesOf, BeginsWithData, BeginsWithCondition, BreaksBy, BreaksEntryRule, OneBreaks, data_entries}
 use Rattle.cob_copybook_entries.specs.Adds.{Adds, IsAdded, IsPlaceFault, IsSentenceFault, listed}
 use Rattle.cob_copybook_entries.proofs.Reading.{SoFar, IsFirst, one, one_is, sentence_adds}
 
@@ -49,7 +49,7 @@ not_many (s ∷ ss) (inl h) = by_many (is_condition s) s h.1
 not_many (s ∷ ss) (inr h) = not_many ss h
 
 -- what one of the sentences breaks, the words break
-one_broken : (r : BookRule) (ws : List Lexeme) → OneBreaks r (sentences ws).ended → IsBroken r ws
+one_broken : (r : BookRule) (ws : List Lexeme) → OneBreaks r (sentences ws).ended → BreaksEntryRule r ws
 one_broken (rule.Source f) ws h = h
 one_broken rule.NoEntry ws h = absurd (no_empty (sentences ws).ended h)
 one_broken rule.Grammar ws h = inr (inr h)
@@ -68,12 +68,12 @@ one_broken rule.TooLong ws h = h
 one_broken rule.TooMany ws h = absurd (not_many (sentences ws).ended h)
 one_broken rule.Memory ws h = tt
 
-as_broken : (r s : BookRule) (ws : List Lexeme) → r ≡ s → IsBroken s ws → IsBroken r ws
-as_broken r s ws e h = subst (λ (t : BookRule). IsBroken t ws) (sym e) h
+as_broken : (r s : BookRule) (ws : List Lexeme) → r ≡ s → BreaksEntryRule s ws → BreaksEntryRule r ws
+as_broken r s ws e h = subst (λ (t : BookRule). BreaksEntryRule t ws) (sym e) h
 
 -- what a sentence that can't be put there breaks, the words break
-place_broken : (r : BookRule) (ws rest behind s : List Lexeme) (ds : List Described) (d : Option Described) → SoFar ws rest ds
-    → (sentences rest).ended ≡ s ∷ (sentences behind).ended → IsAdded s d → IsPlaceFault r ds d → IsBroken r ws
+place_broken : (r : BookRule) (ws rest behind s : List Lexeme) (ds : List PlainEntry) (d : Option PlainEntry) → SoFar ws rest ds
+    → (sentences rest).ended ≡ s ∷ (sentences behind).ended → IsAdded s d → IsPlaceFault r ds d → BreaksEntryRule r ws
 place_broken r ws rest behind s ds None far ended added h =
     let first : BeginsWithCondition (sentences rest).ended = subst BeginsWithCondition (sym ended) added.0 in
     as_broken r rule.Grammar ws h.0 (inr (inl (subst (λ (v : List Lexeme). BeginsWithCondition (sentences v).ended) (far.first h.1) first)))
@@ -83,8 +83,8 @@ place_broken r ws rest behind s ds (Some d) far ended added (inr h) =
     as_broken r rule.TooMany ws h.0 (omega (arith, far.count, later, one_is s (Some d) added, h.1))
 
 -- a sentence's fault is one of the words
-pub sentence_broken : (r : BookRule) (ws rest behind s : List Lexeme) (ds : List Described) → SoFar ws rest ds
-    → IsFirst rest s behind → IsSentenceFault r ds s → IsBroken r ws
+pub sentence_broken : (r : BookRule) (ws rest behind s : List Lexeme) (ds : List PlainEntry) → SoFar ws rest ds
+    → IsFirst rest s behind → IsSentenceFault r ds s → BreaksEntryRule r ws
 sentence_broken r ws rest behind s ds far is (inl m) = as_broken r rule.Memory ws m tt
 sentence_broken r ws rest behind s ds far is (inr (inl h)) =
     one_broken r ws (far.breaks r (subst (OneBreaks r) (sym (is.0)) (inl h)))
@@ -92,7 +92,7 @@ sentence_broken r ws rest behind s ds far is (inr (inr h)) =
     place_broken r ws rest behind s ds h.0 far (is.0) h.1.1 h.2
 
 -- of words that are entries a sentence is refused for want of memory alone
-place_only : (r : BookRule) (ws rest behind s : List Lexeme) (ds all more : List Described) (d : Option Described) → SoFar ws rest ds
+place_only : (r : BookRule) (ws rest behind s : List Lexeme) (ds all more : List PlainEntry) (d : Option PlainEntry) → SoFar ws rest ds
     → (sentences rest).ended ≡ s ∷ (sentences behind).ended → BeginsWithData (sentences ws).ended → length all ≤ most_entries
     → IsAdded s d → all ≡ ds ++ (listed d ++ more) → IsPlaceFault r ds d → r ≡ rule.Memory
 place_only r ws rest behind s ds all more None far ended data_first few added is h =
@@ -105,9 +105,9 @@ place_only r ws rest behind s ds all more (Some d) far ended data_first few adde
     let total : length all ≡ length ds + length (d ∷ more) = ap length is ∙ length-append ds (d ∷ more) in
     absurd (omega (arith, total, few, h.1))
 
-pub sentence_only : (r : BookRule) (ws rest behind s : List Lexeme) (ds all : List Described) → SoFar ws rest ds
+pub sentence_only : (r : BookRule) (ws rest behind s : List Lexeme) (ds all : List PlainEntry) → SoFar ws rest ds
     → IsFirst rest s behind
-    → ((d : Option Described) → Adds s d → (r ≡ rule.Memory) ⊎ IsPlaceFault r ds d)
+    → ((d : Option PlainEntry) → Adds s d → (r ≡ rule.Memory) ⊎ IsPlaceFault r ds d)
     → AreEntriesOf ws all → r ≡ rule.Memory
 sentence_only r ws rest behind s ds all far is fault entries =
     let ended = is.0 in
@@ -120,7 +120,7 @@ sentence_only r ws rest behind s ds all far is fault entries =
     ]
 
 -- words behind the last period
-pub open_end : (ws rest : List Lexeme) (ds : List Described) → SoFar ws rest ds → HasNoStop rest → (sentences ws).open_end ≡ rest
+pub open_end : (ws rest : List Lexeme) (ds : List PlainEntry) → SoFar ws rest ds → HasNoStop rest → (sentences ws).open_end ≡ rest
 open_end ws rest ds far none = far.left ∙ ap (λ (ss : Sentences). ss.open_end) (ends rest none)
 
 pub not_empty : (ts : List Token) → (length ts ≡ 0 → ⊥) → lexemes ts ≡ [] → ⊥
@@ -128,7 +128,7 @@ not_empty [] some e = some refl
 not_empty (t ∷ ts) some e = cc
 
 -- no word is left
-pub all_read : (ws : List Lexeme) (ds : List Described) → SoFar ws [] ds → (ws ≡ [] → ⊥) → AreEntriesOf ws ds
+pub all_read : (ws : List Lexeme) (ds : List PlainEntry) → SoFar ws [] ds → (ws ≡ [] → ⊥) → AreEntriesOf ws ds
 all_read ws ds far some = record {
   ended = far.left;
   begins = first ds far;
@@ -136,6 +136,6 @@ all_read ws ds far some = record {
   few = far.few;
 }
   where
-    first : (ds : List Described) → SoFar ws [] ds → BeginsWithData (sentences ws).ended
+    first : (ds : List PlainEntry) → SoFar ws [] ds → BeginsWithData (sentences ws).ended
     first [] far = absurd (some (sym (far.first refl)))
     first (d ∷ ds) far = far.begins (omega arith)

@@ -6,7 +6,7 @@ use Rattle.cob_decimal.specs.Decimal.{IsDigits, number_of}
 use Rattle.cob_decimal.specs.Literals.{AreDigits, digits_in}
 use Rattle.cob_decimal.proofs.DecimalLemmas.{number_of-push, number_of-lt}
 use Rattle.cob_decimal.proofs.LiteralLemmas.{length-digits_in}
-use Rattle.cob_copybook_entries.specs.Meaning.{IsWhole}
+use Rattle.cob_copybook_entries.specs.Meaning.{IsIntegerText}
 
 digits_are : (cs : List ℕ) → AreDigits cs → IsDigits (digits_in cs)
 digits_are [] h = tt
@@ -39,7 +39,7 @@ eight_digits cs i h lt most =
     omega (arith, number_of-lt (digits_in (take i cs)) (digits_are (take i cs) (digits_of_part i cs h)), power)
 
 -- two digits spell a number below a hundred
-pub two_digits : (cs : List ℕ) (n : ℕ) → IsWhole 2 cs n → n < 100
+pub two_digits : (cs : List ℕ) (n : ℕ) → IsIntegerText 2 cs n → n < 100
 two_digits cs n h =
     let short : length (digits_in cs) ≤ 2 = omega (arith, length-digits_in cs, h.few) in
     let power : 10 ^ length (digits_in cs) ≤ 10 ^ 2 = pow-le-pow_right (omega arith) short in

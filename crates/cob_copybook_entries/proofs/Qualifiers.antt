@@ -3,7 +3,7 @@ use Rattle.std.proofs.Common.{ℕ, List, [], ◌∷◌, Option, Some, None, sym,
 use Rattle.cob_source.specs.Tokens.{Lexeme}
 use Rattle.cob_copybook_clauses.specs.Written.{WrittenName, WrittenClauses, WrittenEntry, names_behind}
 use Rattle.cob_copybook_clauses.specs.Clauses.{Clause, Redefines, Picture, Stored, Signed, Occurs, Value, Justified, Blank, Spells, AreQualifiers, IsVaried}
-use Rattle.cob_copybook_clauses.specs.Entries.{Says, End, Then, put, bare, IsWritten}
+use Rattle.cob_copybook_clauses.specs.Entries.{SaysClauses, End, Then, put, bare, IsWritten}
 use Rattle.cob_copybook_entries.specs.Short.{AreShort, HasShortQualifiers, HasShortCount}
 
 names_short : (ws : List Lexeme) → AreQualifiers ws → AreShort (names_behind ws)
@@ -25,7 +25,7 @@ clause_short (Value c) f words h short = short
 clause_short Justified f words h short = short
 clause_short Blank f words h short = short
 
-says_short : (ws : List Lexeme) (f g : WrittenClauses) → Says ws f g → HasShortCount f.occurs → HasShortCount g.occurs
+says_short : (ws : List Lexeme) (f g : WrittenClauses) → SaysClauses ws f g → HasShortCount f.occurs → HasShortCount g.occurs
 says_short ws f g (End none same) short = subst (λ (h : WrittenClauses). HasShortCount h.occurs) same short
 says_short ws f g (Then {more = more} c words spells are absent says) short = says_short more (put c f) g says (clause_short c f words spells short)
 

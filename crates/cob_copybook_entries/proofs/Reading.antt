@@ -7,15 +7,15 @@ use Rattle.cob_source.specs.Tokens.{Lexeme}
 use Rattle.cob_copybook_clauses.specs.Entries.{sentences, is_condition}
 use Rattle.cob_entry.specs.declared.fault.BookRule.{BookRule}
 use Rattle.cob_limits.specs.Limits.{most_entries}
-use Rattle.cob_entry.specs.Described.{Described}
+use Rattle.cob_entry.specs.Described.{PlainEntry}
 use Rattle.cob_copybook_entries.specs.Books.{IsSentence, AreDescribed, BeginsWithData, OneBreaks, data_entries}
 use Rattle.cob_copybook_entries.specs.Adds.{Adds, IsAdded, listed}
 
 -- These entries are read, and the words `rest` are left: what is in the rest is in all, and all is what is read and what is in the
 -- rest.
-pub record SoFar (ws rest : List Lexeme) (ds : List Described) : Type 0 where
-  pub found : (more : List Described) → AreDescribed (sentences rest).ended more → AreDescribed (sentences ws).ended (ds ++ more)
-  pub only : (all : List Described) → AreDescribed (sentences ws).ended all → (more : List Described) × AreDescribed (sentences rest).ended more × (all ≡ ds ++ more)
+pub record SoFar (ws rest : List Lexeme) (ds : List PlainEntry) : Type 0 where
+  pub found : (more : List PlainEntry) → AreDescribed (sentences rest).ended more → AreDescribed (sentences ws).ended (ds ++ more)
+  pub only : (all : List PlainEntry) → AreDescribed (sentences ws).ended all → (more : List PlainEntry) × AreDescribed (sentences rest).ended more × (all ≡ ds ++ more)
   pub left : (sentences ws).open_end ≡ (sentences rest).open_end
   pub breaks : (r : BookRule) → OneBreaks r (sentences rest).ended → OneBreaks r (sentences ws).ended
   pub count : data_entries (sentences ws).ended ≡ length ds + data_entries (sentences rest).ended
@@ -23,7 +23,7 @@ pub record SoFar (ws rest : List Lexeme) (ds : List Described) : Type 0 where
   pub begins : 0 < length ds → BeginsWithData (sentences ws).ended
   pub few : length ds ≤ most_entries
 
-pub begins : (ws : List Lexeme) (ds : List Described) → ds ≡ [] → SoFar ws ws ds
+pub begins : (ws : List Lexeme) (ds : List PlainEntry) → ds ≡ [] → SoFar ws ws ds
 begins ws [] e = record {
   found = λ more h. h;
   only = λ all h. (all, h, refl);
@@ -40,19 +40,19 @@ begins ws (d ∷ ds) e = absurd cc
 abbrev pub one : List Lexeme → ℕ
 one s = cond (not (is_condition s)) 1 0
 
-pub one_is : (s : List Lexeme) (d : Option Described) → IsAdded s d → one s ≡ length (listed d)
+pub one_is : (s : List Lexeme) (d : Option PlainEntry) → IsAdded s d → one s ≡ length (listed d)
 one_is s None h = ap (λ b. cond (not b) 1 0) h.0
 one_is s (Some d) h = ap (λ b. cond (not b) 1 0) h.0
 
 -- what the first sentence adds stands before what the others do
-described_found : (s : List Lexeme) (ss : List (List Lexeme)) (d : Option Described) (more : List Described) → Adds s d → AreDescribed ss more → AreDescribed (s ∷ ss) (listed d ++ more)
+described_found : (s : List Lexeme) (ss : List (List Lexeme)) (d : Option PlainEntry) (more : List PlainEntry) → Adds s d → AreDescribed ss more → AreDescribed (s ∷ ss) (listed d ++ more)
 described_found s ss None more h rest =
     (h.0, (more, subst (λ b. IsSentence b s more more) (sym h.1.0) (h.1.1, refl), rest))
 described_found s ss (Some d) more h rest =
     (h.0, (more, subst (λ b. IsSentence b s (d ∷ more) more) (sym h.1.0) (d, h.1.1, refl), rest))
 
 -- what a sentence is, it adds
-pub sentence_adds : (b : Bool) (s : List Lexeme) (ds more : List Described) → is_condition s ≡ b → IsSentence b s ds more → (d : Option Described) × IsAdded s d × (ds ≡ listed d ++ more)
+pub sentence_adds : (b : Bool) (s : List Lexeme) (ds more : List PlainEntry) → is_condition s ≡ b → IsSentence b s ds more → (d : Option PlainEntry) × IsAdded s d × (ds ≡ listed d ++ more)
 sentence_adds true s ds more e h = (None, (e, h.0), h.1)
 sentence_adds false s ds more e h = (Some h.0, (e, h.1), h.2)
 
@@ -60,23 +60,23 @@ sentence_adds false s ds more e h = (Some h.0, (e, h.1), h.2)
 abbrev pub IsFirst : List Lexeme → List Lexeme → List Lexeme → Type 0
 IsFirst rest s behind = ((sentences rest).ended ≡ s ∷ (sentences behind).ended) × ((sentences rest).open_end ≡ (sentences behind).open_end)
 
-begins_now : (ws rest behind s : List Lexeme) (ds : List Described) (d : Option Described) → SoFar ws rest ds
+begins_now : (ws rest behind s : List Lexeme) (ds : List PlainEntry) (d : Option PlainEntry) → SoFar ws rest ds
     → (sentences rest).ended ≡ s ∷ (sentences behind).ended → IsAdded s d → (ds ≡ [] → IsSome d) → BeginsWithData (sentences ws).ended
 begins_now ws rest behind s (e ∷ ds) d far ended added some = far.begins (omega arith)
 begins_now ws rest behind s [] None far ended added some = absurd (false≢true (some refl))
 begins_now ws rest behind s [] (Some d) far ended added some =
     subst (λ (v : List Lexeme). BeginsWithData (sentences v).ended) (far.first refl) (subst BeginsWithData (sym ended) added.0)
 
-no_more : (ds : List Described) (d : Option Described) → (ds ≡ [] → IsSome d) → ds ++ listed d ≡ [] → ⊥
+no_more : (ds : List PlainEntry) (d : Option PlainEntry) → (ds ≡ [] → IsSome d) → ds ++ listed d ≡ [] → ⊥
 no_more [] None some e = absurd (false≢true (some refl))
 no_more [] (Some d) some e = cc
 no_more (x ∷ ds) d some e = cc
 
 -- one more sentence is read
-pub goes_on : (ws rest behind s : List Lexeme) (ds now : List Described) → SoFar ws rest ds
+pub goes_on : (ws rest behind s : List Lexeme) (ds now : List PlainEntry) → SoFar ws rest ds
     → IsFirst rest s behind
-    → (d : Option Described) × Adds s d × (now ≡ ds ++ listed d) × (ds ≡ [] → IsSome d)
-    → ((d : Option Described) → Adds s d → now ≡ ds ++ listed d)
+    → (d : Option PlainEntry) × Adds s d × (now ≡ ds ++ listed d) × (ds ≡ [] → IsSome d)
+    → ((d : Option PlainEntry) → Adds s d → now ≡ ds ++ listed d)
     → length now ≤ most_entries
     → SoFar ws behind now
 goes_on ws rest behind s ds now far is h same few =

@@ -1,16 +1,16 @@
 -- The entries that the words of a text are, and the rules on words that a text breaks.
 use Rattle.std.specs.Prelude.{◌≡◌, ◌≢◌, ◌⊎◌, ℕ, ◌<◌, ◌≤◌, Bool, true, false, not, List, [], ◌∷◌, length, count_by, Option, Some, None, option_map}
 use Rattle.cob_source.specs.Tokens.{Lexeme}
-use Rattle.cob_picture.specs.Pictures.{IsBroken as IsBrokenPicture}
+use Rattle.cob_picture.specs.Pictures.{BreaksPictureRule as IsBrokenPicture}
 use Rattle.cob_limits.specs.Limits.{longest_literal, most_digits, most_entries}
 use Rattle.cob_decimal.specs.Literals.{Literal, AreDigits}
 use Rattle.cob_copybook_clauses.specs.Names.{IsName}
-use Rattle.cob_copybook_clauses.specs.Written.{WrittenConstant, Word, Quoted, Repeated, WrittenTable, WrittenEntry}
+use Rattle.cob_copybook_clauses.specs.Written.{WrittenValue, Word, Quoted, Repeated, WrittenOccurs, WrittenEntry}
 use Rattle.cob_copybook_clauses.specs.Entries.{IsWritten, IsCondition, is_condition, IsLeftOut, sentences}
 use Rattle.cob_entry.specs.declared.fault.BookRule.{BookRule}
 use Rattle.cob_entry.specs.declared.fault.BookRule.TheVariants as rule
-use Rattle.cob_entry.specs.Described.{Described}
-use Rattle.cob_copybook_entries.specs.Meaning.{Means, IsWhole, AreNumbers}
+use Rattle.cob_entry.specs.Described.{PlainEntry}
+use Rattle.cob_copybook_entries.specs.Meaning.{EntryMeans, IsIntegerText, AreNumbers}
 use Rattle.cob_copybook_entries.specs.Parts.{IsLiteralOf, count_digits}
 
 -- nothing that is left out by name stands in the entry
@@ -18,24 +18,24 @@ abbrev pub HasNoLeftOut : List Lexeme → Type 0
 HasNoLeftOut s = (text : List ℕ) → IsLeftOut text s → ⊥
 
 -- a data entry means this
-pub record IsEntry (s : List Lexeme) (d : Described) : Type 0 where
+pub record IsEntry (s : List Lexeme) (d : PlainEntry) : Type 0 where
   pub written : WrittenEntry
   pub is : IsWritten s written
-  pub means : Means written d
+  pub means : EntryMeans written d
 
 -- a level 88 entry names a value
 abbrev pub IsConditionEntry : List Lexeme → Type 0
 IsConditionEntry s = (name : List ℕ) × IsCondition s name × IsName name
 
 -- a level 88 entry adds nothing to the entries behind it, a data entry itself
-abbrev pub IsSentence : Bool → List Lexeme → List Described → List Described → Type 0
+abbrev pub IsSentence : Bool → List Lexeme → List PlainEntry → List PlainEntry → Type 0
 IsSentence true s ds more = IsConditionEntry s × (ds ≡ more)
-IsSentence false s ds more = (d : Described) × IsEntry s d × (ds ≡ d ∷ more)
+IsSentence false s ds more = (d : PlainEntry) × IsEntry s d × (ds ≡ d ∷ more)
 
 -- each sentence is a data entry, or a level 88 entry, which adds nothing
-abbrev pub AreDescribed : List (List Lexeme) → List Described → Type 0
+abbrev pub AreDescribed : List (List Lexeme) → List PlainEntry → Type 0
 AreDescribed [] ds = ds ≡ []
-AreDescribed (s ∷ ss) ds = HasNoLeftOut s × ((more : List Described) × IsSentence (is_condition s) s ds more × AreDescribed ss more)
+AreDescribed (s ∷ ss) ds = HasNoLeftOut s × ((more : List PlainEntry) × IsSentence (is_condition s) s ds more × AreDescribed ss more)
 
 -- a data entry comes first
 abbrev pub BeginsWithData : List (List Lexeme) → Type 0
@@ -43,35 +43,35 @@ BeginsWithData [] = ⊥
 BeginsWithData (s ∷ ss) = is_condition s ≡ false
 
 -- The words are these data entries: each ends at a period, the first of all is one, and there are at most 2,000.
-pub record AreEntriesOf (ws : List Lexeme) (ds : List Described) : Type 0 where
+pub record AreEntriesOf (ws : List Lexeme) (ds : List PlainEntry) : Type 0 where
   pub ended : (sentences ws).open_end ≡ []
   pub begins : BeginsWithData (sentences ws).ended
   pub entries : AreDescribed (sentences ws).ended ds
   pub few : length ds ≤ most_entries
 
 -- a word that is no number stands in a number's place
-abbrev pub BreaksNumber : WrittenTable → Type 0
+abbrev pub BreaksNumber : WrittenOccurs → Type 0
 BreaksNumber t = (AreDigits t.most → ⊥) ⊎ ((text : List ℕ) × (t.least ≡ Some text) × (AreDigits text → ⊥))
 
 -- a word that is no number stands in a number's place of an OCCURS clause, if there is one
-abbrev pub BreaksNumbers : Option WrittenTable → Type 0
+abbrev pub BreaksNumbers : Option WrittenOccurs → Type 0
 BreaksNumbers None = ⊥
 BreaksNumbers (Some t) = BreaksNumber t
 
 -- a VALUE's word is no numeric literal, of any number of digits
-abbrev pub BreaksConstant : Option WrittenConstant → Type 0
+abbrev pub BreaksConstant : Option WrittenValue → Type 0
 BreaksConstant (Some (Word text)) = (l : Literal) → IsLiteralOf l text → ⊥
 BreaksConstant _ = ⊥
 
 -- a VALUE's numeric literal has too many digits; a quoted one is too long, or is ALL with an empty one
-abbrev pub BreaksValue : Option WrittenConstant → Type 0
+abbrev pub BreaksValue : Option WrittenValue → Type 0
 BreaksValue (Some (Word text)) = (l : Literal) × IsLiteralOf l text × (most_digits < count_digits l)
 BreaksValue (Some (Quoted text)) = longest_literal < length text
 BreaksValue (Some (Repeated text)) = (length text ≡ 0) ⊎ (longest_literal < length text)
 BreaksValue _ = ⊥
 
 -- the numbers of an OCCURS clause are out of bounds
-abbrev pub BreaksTable : Option WrittenTable → Type 0
+abbrev pub BreaksTable : Option WrittenOccurs → Type 0
 BreaksTable None = ⊥
 BreaksTable (Some t) = (BreaksNumber t → ⊥) × ((least most : ℕ) → AreNumbers t least most → ⊥)
 
@@ -81,13 +81,13 @@ IsNoName None = ⊥
 IsNoName (Some text) = IsName text → ⊥
 
 -- the name of a table's count, if it has one
-abbrev pub count_name : Option WrittenTable → Option (List ℕ)
+abbrev pub count_name : Option WrittenOccurs → Option (List ℕ)
 count_name None = None
 count_name (Some t) = option_map (λ c. c.name) t.count
 
 -- the entry as it is written breaks the rule
 abbrev pub BreaksEntry : BookRule → WrittenEntry → Type 0
-BreaksEntry rule.Grammar w = ((n : ℕ) → IsWhole 2 w.level n → ⊥) ⊎ (BreaksNumbers w.clauses.occurs ⊎ BreaksConstant w.clauses.value)
+BreaksEntry rule.Grammar w = ((n : ℕ) → IsIntegerText 2 w.level n → ⊥) ⊎ (BreaksNumbers w.clauses.occurs ⊎ BreaksConstant w.clauses.value)
 BreaksEntry (rule.Picture f) w = (text : List ℕ) × (w.clauses.picture ≡ Some text) × IsBrokenPicture f text
 BreaksEntry rule.Table w = BreaksTable w.clauses.occurs
 BreaksEntry rule.Value w = BreaksValue w.clauses.value
@@ -131,9 +131,9 @@ data_entries ss = count_by (λ s. not (is_condition s)) ss
 
 -- The words of a text break the rule: none are there; they don't end at a period, or a level 88 entry comes first; there are too
 -- many entries; or one of the sentences breaks it. No rule on trees is broken by words.
-abbrev pub IsBroken : BookRule → List Lexeme → Type 0
-IsBroken rule.Memory ws = Unit {0}
-IsBroken rule.NoEntry ws = ws ≡ []
-IsBroken rule.TooMany ws = most_entries < data_entries (sentences ws).ended
-IsBroken rule.Grammar ws = ((sentences ws).open_end ≢ []) ⊎ (BeginsWithCondition (sentences ws).ended ⊎ OneBreaks rule.Grammar (sentences ws).ended)
-IsBroken r ws = OneBreaks r (sentences ws).ended
+abbrev pub BreaksEntryRule : BookRule → List Lexeme → Type 0
+BreaksEntryRule rule.Memory ws = Unit {0}
+BreaksEntryRule rule.NoEntry ws = ws ≡ []
+BreaksEntryRule rule.TooMany ws = most_entries < data_entries (sentences ws).ended
+BreaksEntryRule rule.Grammar ws = ((sentences ws).open_end ≢ []) ⊎ (BeginsWithCondition (sentences ws).ended ⊎ OneBreaks rule.Grammar (sentences ws).ended)
+BreaksEntryRule r ws = OneBreaks r (sentences ws).ended

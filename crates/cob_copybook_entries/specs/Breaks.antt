@@ -1,16 +1,16 @@
 -- Which rule a part of an entry breaks.
 use Rattle.std.specs.Prelude.{◌≡◌, ◌⊎◌, Option, Some, None}
-use Rattle.cob_copybook_clauses.specs.Written.{WrittenConstant, WrittenTable}
+use Rattle.cob_copybook_clauses.specs.Written.{WrittenValue, WrittenOccurs}
 use Rattle.cob_entry.specs.declared.fault.BookRule.{BookRule}
 use Rattle.cob_entry.specs.declared.fault.BookRule.TheVariants as rule
 use Rattle.cob_copybook_entries.specs.Books.{BreaksConstant, BreaksValue, BreaksNumber, BreaksTable, IsNoName, count_name}
 
 -- the constant breaks the grammar of literals, or the rule on values
-abbrev pub IsConstantFault : BookRule → WrittenConstant → Type 0
+abbrev pub IsConstantFault : BookRule → WrittenValue → Type 0
 IsConstantFault r w = ((r ≡ rule.Grammar) × BreaksConstant (Some w)) ⊎ ((r ≡ rule.Value) × BreaksValue (Some w))
 
 -- memory was refused, or the table breaks the grammar of numbers, the rule on tables, or the one on names
-abbrev pub IsTableFault : BookRule → WrittenTable → Type 0
+abbrev pub IsTableFault : BookRule → WrittenOccurs → Type 0
 IsTableFault r t =
     (r ≡ rule.Memory)
     ⊎ (((r ≡ rule.Grammar) × BreaksNumber t) ⊎ (((r ≡ rule.Table) × BreaksTable (Some t)) ⊎ ((r ≡ rule.Name) × IsNoName (count_name (Some t)))))

@@ -2,12 +2,12 @@
 
 ghost use Rattle.std.specs.Prelude.{◌≡◌, ℕ, ◌⊎◌, List, Option, Some, IfErr, IfOk, IsOkAnd, option_map};
 ghost use Rattle.cob_picture.specs.declared.fault.PictureFault.{PictureFault};
-ghost use Rattle.cob_picture.specs.Positions.{Seen};
-ghost use Rattle.cob_picture.specs.Pictures.{IsBroken, IsPictureOf};
-ghost use Rattle.cob_copybook_clauses.specs.Written.{written_constant, written_entry, written_table};
+ghost use Rattle.cob_picture.specs.Positions.{PlainPicture};
+ghost use Rattle.cob_picture.specs.Pictures.{BreaksPictureRule, IsPictureOf};
+ghost use Rattle.cob_copybook_clauses.specs.Written.{written_value, written_entry, written_occurs};
 ghost use Rattle.cob_entry.specs.declared.fault.BookRule.TheVariants as rule;
-ghost use Rattle.cob_entry.specs.Described.{Constant as Meant, Described, Times, constant, described, times};
-ghost use Rattle.cob_copybook_entries.specs.Meaning.{IsConstantOf, IsNamed, IsOption, IsTimes, IsWhole, Means};
+ghost use Rattle.cob_entry.specs.Described.{PlainValue as Meant, PlainEntry, PlainOccurs, plain_value, plain_entry, plain_occurs};
+ghost use Rattle.cob_copybook_entries.specs.Meaning.{IsConstantOf, IsNameText, IsOption, IsOccursOf, IsIntegerText, EntryMeans};
 ghost use Rattle.cob_copybook_entries.specs.Books.{BreaksEntry, IsNoName};
 ghost use Rattle.cob_copybook_entries.specs.Breaks.{IsConstantFault, IsTableFault, OfOption};
 ghost use Rattle.cob_copybook_entries.specs.Short.{HasShortCount};
@@ -16,7 +16,7 @@ use crate::name::name_of_text;
 use crate::number::whole;
 use crate::occurs::occurs_of;
 use crate::value::value_of;
-use cob_copybook_clauses::{Constant, Table, Written};
+use cob_copybook_clauses::{ValueClause, OccursClause, Written};
 use cob_entry::{BookRule, Entry, Name, Occurs, Value};
 use cob_picture::Picture;
 use std::alloc::Global;
@@ -32,9 +32,9 @@ const MAX_LEVEL_DIGITS: usize = 2;
 /// `Memory`.
 pub(crate) fn entry_of(alloc: Global, line: u32, written: &Written<'_>) -> Result<Entry, BookRule>
     requires { HasShortCount (written_entry written.now).clauses.occurs }
-    ensures found { IfOk result (λ e. Means (written_entry written.now) (described e)) }
-    ensures only { (d : Described) → Means (written_entry written.now) d
-        → IfOk result (λ e. described e ≡ d) × IfErr result (λ r. r ≡ rule.Memory) }
+    ensures found { IfOk result (λ e. EntryMeans (written_entry written.now) (plain_entry e)) }
+    ensures only { (d : PlainEntry) → EntryMeans (written_entry written.now) d
+        → IfOk result (λ e. plain_entry e ≡ d) × IfErr result (λ r. r ≡ rule.Memory) }
     ensures fault { IfErr result
         (λ r. (r ≡ rule.Memory) ⊎ BreaksEntry r (written_entry written.now)) }
 {
@@ -65,9 +65,10 @@ pub(crate) fn entry_of(alloc: Global, line: u32, written: &Written<'_>) -> Resul
 ///
 /// `Grammar` for another word.
 fn level_of(text: &[u8]) -> Result<u8, BookRule>
-    ensures found { IfOk result (λ n. IsWhole 2 text.now n) }
-    ensures only { (n : ℕ) → IsWhole 2 text.now n → IsOkAnd result (λ m. m ≡ n) }
-    ensures fault { IfErr result (λ r. (r ≡ rule.Grammar) × ((n : ℕ) → IsWhole 2 text.now n → ⊥)) }
+    ensures found { IfOk result (λ n. IsIntegerText 2 text.now n) }
+    ensures only { (n : ℕ) → IsIntegerText 2 text.now n → IsOkAnd result (λ m. m ≡ n) }
+    ensures fault { IfErr result (λ r. (r ≡ rule.Grammar) × ((n : ℕ)
+        → IsIntegerText 2 text.now n → ⊥)) }
 {
     match whole(text, MAX_LEVEL_DIGITS) {
         Some(level) => Ok(level as u8),
@@ -81,9 +82,9 @@ fn level_of(text: &[u8]) -> Result<u8, BookRule>
 ///
 /// `Name` for a text that is no name.
 fn name_of(text: Option<&[u8]>) -> Result<Option<Name>, BookRule>
-    ensures found { IfOk result (λ n. IsOption IsNamed (option_map (λ b. b.now) text.entry) n) }
+    ensures found { IfOk result (λ n. IsOption IsNameText (option_map (λ b. b.now) text.entry) n) }
     ensures only { (n : Option (List ℕ))
-        → IsOption IsNamed (option_map (λ b. b.now) text.entry) n → IsOkAnd result (λ m. m ≡ n) }
+        → IsOption IsNameText (option_map (λ b. b.now) text.entry) n → IsOkAnd result (λ m. m ≡ n) }
     ensures fault { IfErr result
         (λ r. (r ≡ rule.Name) × IsNoName (option_map (λ b. b.now) text.entry)) }
 {
@@ -103,10 +104,11 @@ fn name_of(text: Option<&[u8]>) -> Result<Option<Name>, BookRule>
 /// `Picture` with its fault for a text that is no picture.
 fn picture_of(text: Option<&[u8]>) -> Result<Option<Picture>, BookRule>
     ensures found { IfOk result (λ p. IsOption IsPictureOf (option_map (λ b. b.now) text.entry) p) }
-    ensures only { (p : Option Seen) → IsOption IsPictureOf (option_map (λ b. b.now) text.entry) p
+    ensures only { (p : Option PlainPicture)
+        → IsOption IsPictureOf (option_map (λ b. b.now) text.entry) p
         → IsOkAnd result (λ q. q ≡ p) }
     ensures fault { IfErr result (λ r. (f : PictureFault) × (r ≡ rule.Picture f)
-        × OfOption (IsBroken f) (option_map (λ b. b.now) text.entry)) }
+        × OfOption (BreaksPictureRule f) (option_map (λ b. b.now) text.entry)) }
 {
     let Some(text) = text else {
         return Ok(None);
@@ -122,14 +124,16 @@ fn picture_of(text: Option<&[u8]>) -> Result<Option<Picture>, BookRule>
 /// # Errors
 ///
 /// As [`occurs_of`].
-fn times_of(alloc: Global, table: Option<Table<'_>>) -> Result<Option<Occurs>, BookRule>
-    requires { HasShortCount (option_map written_table table) }
+fn times_of(alloc: Global, table: Option<OccursClause<'_>>) -> Result<Option<Occurs>, BookRule>
+    requires { HasShortCount (option_map written_occurs table) }
     ensures found { IfOk result
-        (λ o. IsOption IsTimes (option_map written_table table.entry) (option_map times o)) }
-    ensures only { (t : Option Times) → IsOption IsTimes (option_map written_table table.entry) t
-        → IfOk result (λ o. option_map times o ≡ t) × IfErr result (λ r. r ≡ rule.Memory) }
+        (λ o. IsOption IsOccursOf (option_map written_occurs table.entry)
+        (option_map plain_occurs o)) }
+    ensures only { (t : Option PlainOccurs)
+        → IsOption IsOccursOf (option_map written_occurs table.entry) t
+        → IfOk result (λ o. option_map plain_occurs o ≡ t) × IfErr result (λ r. r ≡ rule.Memory) }
     ensures fault { IfErr result
-        (λ r. OfOption (IsTableFault r) (option_map written_table table.entry)) }
+        (λ r. OfOption (IsTableFault r) (option_map written_occurs table.entry)) }
 {
     match table {
         Some(table) => Ok(Some(occurs_of(alloc, &table)?)),
@@ -142,14 +146,14 @@ fn times_of(alloc: Global, table: Option<Table<'_>>) -> Result<Option<Occurs>, B
 /// # Errors
 ///
 /// As [`value_of`].
-fn constant_of(written: Option<Constant<'_>>) -> Result<Option<Value>, BookRule>
+fn constant_of(written: Option<ValueClause<'_>>) -> Result<Option<Value>, BookRule>
     ensures found { IfOk result (λ v.
-        IsOption IsConstantOf (option_map written_constant written.entry) (option_map constant v)) }
+        IsOption IsConstantOf (option_map written_value written.entry) (option_map plain_value v)) }
     ensures only { (c : Option Meant)
-        → IsOption IsConstantOf (option_map written_constant written.entry) c
-        → IsOkAnd result (λ v. option_map constant v ≡ c) }
+        → IsOption IsConstantOf (option_map written_value written.entry) c
+        → IsOkAnd result (λ v. option_map plain_value v ≡ c) }
     ensures fault { IfErr result
-        (λ r. OfOption (IsConstantFault r) (option_map written_constant written.entry)) }
+        (λ r. OfOption (IsConstantFault r) (option_map written_value written.entry)) }
 {
     match written {
         Some(written) => Ok(Some(value_of(&written)?)),

@@ -3,7 +3,7 @@
 ghost use Rattle.std.specs.Prelude.{◌≡◌, ℕ, ◌≤◌, ◌↔◌, length, Some, IfSome, IsTrue};
 ghost use Rattle.cob_decimal.specs.Decimal.{number_of as number_in};
 ghost use Rattle.cob_decimal.specs.Literals.{AreDigits, digits_in};
-ghost use Rattle.cob_copybook_entries.specs.Meaning.{IsWhole};
+ghost use Rattle.cob_copybook_entries.specs.Meaning.{IsIntegerText};
 
 /// Whether each character is a digit.
 pub(crate) fn are_digits(text: &[u8]) -> bool
@@ -20,8 +20,8 @@ pub(crate) fn are_digits(text: &[u8]) -> bool
 /// The number that a text of 1 to `most` digits spells.
 pub(crate) fn whole(text: &[u8], most: usize) -> Option<u32>
     requires { most ≤ 9 }
-    ensures found { IfSome result (λ n. IsWhole most text.now n) }
-    ensures only { (n : ℕ) → IsWhole most text.now n → result ≡ Some n }
+    ensures found { IfSome result (λ n. IsIntegerText most text.now n) }
+    ensures only { (n : ℕ) → IsIntegerText most text.now n → result ≡ Some n }
 {
     if text.is_empty() || text.len() > most || !are_digits(text) {
         return None;

@@ -3,17 +3,17 @@
 ghost use Rattle.std.specs.Prelude.{◌≡◌, ℕ, ◌⊎◌, ◌↔◌, Ok, Some, IfErr, IfOk, IfSome, IsFalse, IsSomeAnd, IsTrue, option_map};
 ghost use Rattle.cob_source.specs.Tokens.{lexemes};
 ghost use Rattle.cob_copybook_clauses.specs.Names.{IsName};
-ghost use Rattle.cob_copybook_clauses.specs.Written.{names_behind, written_name, written_table};
+ghost use Rattle.cob_copybook_clauses.specs.Written.{names_behind, written_name, written_occurs};
 ghost use Rattle.cob_entry.specs.declared.fault.BookRule.TheVariants as rule;
-ghost use Rattle.cob_entry.specs.Described.{Times, times};
-ghost use Rattle.cob_copybook_entries.specs.Meaning.{IsLeastOf, IsRange, AreNumbers, IsTimes};
+ghost use Rattle.cob_entry.specs.Described.{PlainOccurs, plain_occurs};
+ghost use Rattle.cob_copybook_entries.specs.Meaning.{IsLeastOf, IsRange, AreNumbers, IsOccursOf};
 ghost use Rattle.cob_copybook_entries.specs.Books.{BreaksNumber, BreaksTable};
 ghost use Rattle.cob_copybook_entries.specs.Breaks.{IsTableFault};
 ghost use Rattle.cob_copybook_entries.specs.Short.{AreShort, HasShortQualifiers};
 
 use crate::name::name_of_text;
 use crate::number::{are_digits, whole};
-use cob_copybook_clauses::{Count, Table};
+use cob_copybook_clauses::{Count, OccursClause};
 use cob_entry::{BookRule, Name, Occurs, Qualified};
 use cob_source::Token;
 use std::alloc::{AllocError, Global};
@@ -27,12 +27,12 @@ const MAX_TIMES_DIGITS: usize = 9;
 ///
 /// `Grammar` where a word that is no number stands in a number's place, `Table` for numbers out of bounds, `Name` for a count that
 /// isn't named, and `Memory`.
-pub(crate) fn occurs_of(alloc: Global, table: &Table<'_>) -> Result<Occurs, BookRule>
-    requires { HasShortQualifiers (written_table table.now).count }
-    ensures found { IfOk result (λ o. IsTimes (written_table table.now) (times o)) }
-    ensures only { (t : Times) → IsTimes (written_table table.now) t
-        → IfOk result (λ o. times o ≡ t) × IfErr result (λ r. r ≡ rule.Memory) }
-    ensures fault { IfErr result (λ r. IsTableFault r (written_table table.now)) }
+pub(crate) fn occurs_of(alloc: Global, table: &OccursClause<'_>) -> Result<Occurs, BookRule>
+    requires { HasShortQualifiers (written_occurs table.now).count }
+    ensures found { IfOk result (λ o. IsOccursOf (written_occurs table.now) (plain_occurs o)) }
+    ensures only { (t : PlainOccurs) → IsOccursOf (written_occurs table.now) t
+        → IfOk result (λ o. plain_occurs o ≡ t) × IfErr result (λ r. r ≡ rule.Memory) }
+    ensures fault { IfErr result (λ r. IsTableFault r (written_occurs table.now)) }
 {
     let (least, most) = numbers_of(table)?;
     match table.count {
@@ -50,12 +50,13 @@ pub(crate) fn occurs_of(alloc: Global, table: &Table<'_>) -> Result<Occurs, Book
 /// # Errors
 ///
 /// `Grammar` where a word that is no number stands in a number's place, and `Table` for numbers out of bounds.
-fn numbers_of(table: &Table<'_>) -> Result<(u32, u32), BookRule>
-    ensures found { IfOk result (λ n. AreNumbers (written_table table.now) n.0 n.1) }
+fn numbers_of(table: &OccursClause<'_>) -> Result<(u32, u32), BookRule>
+    ensures found { IfOk result (λ n. AreNumbers (written_occurs table.now) n.0 n.1) }
     ensures only { (least most : ℕ)
-        → AreNumbers (written_table table.now) least most → result ≡ Ok (least, most) }
-    ensures fault { IfErr result (λ r. ((r ≡ rule.Grammar) × BreaksNumber (written_table table.now))
-        ⊎ ((r ≡ rule.Table) × BreaksTable (Some (written_table table.now)))) }
+        → AreNumbers (written_occurs table.now) least most → result ≡ Ok (least, most) }
+    ensures fault { IfErr result (λ r. ((r ≡ rule.Grammar)
+        × BreaksNumber (written_occurs table.now))
+        ⊎ ((r ≡ rule.Table) × BreaksTable (Some (written_occurs table.now)))) }
 {
     if !has_numbers(table) {
         return Err(BookRule::Grammar);
@@ -67,9 +68,9 @@ fn numbers_of(table: &Table<'_>) -> Result<(u32, u32), BookRule>
 }
 
 /// Whether a number stands wherever one has to.
-fn has_numbers(table: &Table<'_>) -> bool
-    ensures yes { IsTrue result → BreaksNumber (written_table table.now) → ⊥ }
-    ensures no { IsFalse result → BreaksNumber (written_table table.now) }
+fn has_numbers(table: &OccursClause<'_>) -> bool
+    ensures yes { IsTrue result → BreaksNumber (written_occurs table.now) → ⊥ }
+    ensures no { IsFalse result → BreaksNumber (written_occurs table.now) }
 {
     are_digits(table.most)
         && match table.least {
@@ -79,9 +80,9 @@ fn has_numbers(table: &Table<'_>) -> bool
 }
 
 /// The least and the greatest number of times, where they are within their bounds.
-fn bounded_numbers(table: &Table<'_>) -> Option<(u32, u32)>
-    ensures found { IfSome result (λ n. AreNumbers (written_table table.now) n.0 n.1) }
-    ensures only { (least most : ℕ) → AreNumbers (written_table table.now) least most
+fn bounded_numbers(table: &OccursClause<'_>) -> Option<(u32, u32)>
+    ensures found { IfSome result (λ n. AreNumbers (written_occurs table.now) n.0 n.1) }
+    ensures only { (least most : ℕ) → AreNumbers (written_occurs table.now) least most
         → IsSomeAnd result (λ n. n ≡ (least, most)) }
 {
     let least = least_of(table.least)?;
@@ -105,8 +106,8 @@ fn least_of(least: Option<&[u8]>) -> Option<u32>
 }
 
 /// Whether the numbers are within their bounds: of a table that varies the least is below the greatest.
-fn is_range(table: &Table<'_>, least: u32, most: u32) -> bool
-    ensures { IsTrue result ↔ IsRange (written_table table.now).count least most }
+fn is_range(table: &OccursClause<'_>, least: u32, most: u32) -> bool
+    ensures { IsTrue result ↔ IsRange (written_occurs table.now).count least most }
 {
     match table.count {
         Some(_) => least < most,

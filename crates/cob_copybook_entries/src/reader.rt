@@ -4,8 +4,8 @@ ghost use Rattle.std.specs.Prelude.{◌≡◌, ◌⊎◌, ◌<◌, ◌≤◌, []
 ghost use Rattle.cob_limits.specs.Limits.{most_entries};
 ghost use Rattle.cob_source.specs.Tokens.{lexemes};
 ghost use Rattle.cob_entry.specs.declared.fault.BookRule.TheVariants.{Memory};
-ghost use Rattle.cob_entry.specs.Described.{Described, described};
-ghost use Rattle.cob_copybook_entries.specs.Books.{AreEntriesOf, IsBroken};
+ghost use Rattle.cob_entry.specs.Described.{PlainEntry, plain_entry};
+ghost use Rattle.cob_copybook_entries.specs.Books.{AreEntriesOf, BreaksEntryRule};
 ghost use Rattle.cob_copybook_entries.specs.Adds.{Adds, IsPlaceFault, IsSentenceFault, listed};
 
 use crate::sentence::sentence_of;
@@ -24,12 +24,13 @@ use std::alloc::Global;
 /// The first rule on words that is found broken, with the line of the first word of the entry that breaks it, and `Memory` on line 0.
 pub fn entries(alloc: Global, tokens: &[Token]) -> Result<Vec<Entry>, BookFault>
     // What is read are the entries of the words.
-    ensures found { IfOk result (λ es. AreEntriesOf (lexemes tokens.now) (map described es.items)) }
+    ensures found { IfOk result (λ es. AreEntriesOf (lexemes tokens.now)
+        (map plain_entry es.items)) }
     // Words that are entries are read, memory aside.
-    ensures only { (ds : List Described) → AreEntriesOf (lexemes tokens.now) ds
-        → IfOk result (λ es. map described es.items ≡ ds) × IfErr result (λ f. f.rule ≡ Memory) }
+    ensures only { (ds : List PlainEntry) → AreEntriesOf (lexemes tokens.now) ds
+        → IfOk result (λ es. map plain_entry es.items ≡ ds) × IfErr result (λ f. f.rule ≡ Memory) }
     // A refusal names a rule that is broken.
-    ensures fault { IfErr result (λ f. IsBroken f.rule (lexemes tokens.now)) }
+    ensures fault { IfErr result (λ f. BreaksEntryRule f.rule (lexemes tokens.now)) }
     // Want of memory is no line's.
     ensures memory { IfErr result (λ f. f.rule ≡ Memory → f.line ≡ 0) }
     // There is an entry.
@@ -73,15 +74,15 @@ fn add_sentence(
     entries: &mut Vec<Entry>,
 ) -> Result<(), BookRule>
     requires { length entries.old.items ≤ most_entries }
-    ensures found { OnOk result ((d : Option Described) × Adds (lexemes sentence.now) d
-        × (map described entries.new.items ≡ map described entries.old.items ++ listed d)
-        × (map described entries.old.items ≡ [] → IsSome d)) }
+    ensures found { OnOk result ((d : Option PlainEntry) × Adds (lexemes sentence.now) d
+        × (map plain_entry entries.new.items ≡ map plain_entry entries.old.items ++ listed d)
+        × (map plain_entry entries.old.items ≡ [] → IsSome d)) }
     ensures few { OnOk result (length entries.new.items ≤ most_entries) }
     ensures fault { IfErr result
-        (λ r. IsSentenceFault r (map described entries.old.items) (lexemes sentence.now)) }
-    ensures only { (d : Option Described) → Adds (lexemes sentence.now) d → OnOk result
-        (map described entries.new.items ≡ map described entries.old.items ++ listed d)
-        × IfErr result (λ r. (r ≡ Memory) ⊎ IsPlaceFault r (map described entries.old.items) d) }
+        (λ r. IsSentenceFault r (map plain_entry entries.old.items) (lexemes sentence.now)) }
+    ensures only { (d : Option PlainEntry) → Adds (lexemes sentence.now) d → OnOk result
+        (map plain_entry entries.new.items ≡ map plain_entry entries.old.items ++ listed d)
+        × IfErr result (λ r. (r ≡ Memory) ⊎ IsPlaceFault r (map plain_entry entries.old.items) d) }
 {
     let entry = sentence_of(alloc, line, sentence)?;
     add(entries, entry)
@@ -94,13 +95,13 @@ fn add_sentence(
 /// `Grammar` where a level 88 entry comes first, `TooMany`, and `Memory`.
 fn add(entries: &mut Vec<Entry>, entry: Option<Entry>) -> Result<(), BookRule>
     requires { length entries.old.items ≤ most_entries }
-    ensures added { OnOk result (map described entries.new.items
-        ≡ map described entries.old.items ++ listed (option_map described entry)) }
+    ensures added { OnOk result (map plain_entry entries.new.items
+        ≡ map plain_entry entries.old.items ++ listed (option_map plain_entry entry)) }
     ensures first { OnOk result
-        (map described entries.old.items ≡ [] → IsSome (option_map described entry)) }
+        (map plain_entry entries.old.items ≡ [] → IsSome (option_map plain_entry entry)) }
     ensures few { OnOk result (length entries.new.items ≤ most_entries) }
     ensures fault { IfErr result
-        (λ r. IsPlaceFault r (map described entries.old.items) (option_map described entry)) }
+        (λ r. IsPlaceFault r (map plain_entry entries.old.items) (option_map plain_entry entry)) }
 {
     match entry {
         Some(_) if entries.len() == MAX_ENTRIES => Err(BookRule::TooMany),

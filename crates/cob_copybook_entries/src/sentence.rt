@@ -5,13 +5,13 @@ ghost use Rattle.std.specs.List.{AllByRecursion};
 ghost use Rattle.cob_source.specs.Tokens.{lexemes};
 ghost use Rattle.cob_entry.specs.declared.fault.BookRule.TheVariants as rule;
 ghost use Rattle.cob_entry.specs.declared.fault.TheConstants.{MAX_WORD};
-ghost use Rattle.cob_entry.specs.Described.{Described, described};
+ghost use Rattle.cob_entry.specs.Described.{PlainEntry, plain_entry};
 ghost use Rattle.cob_copybook_entries.specs.Books.{BreaksCondition, BreaksData, BreaksSentence, IsConditionEntry, IsEntry};
 ghost use Rattle.cob_copybook_entries.specs.Adds.{Adds};
 
 use crate::meaning::entry_of;
 use arrayvec::ArrayString;
-use cob_copybook_clauses::{condition, is_condition, is_name, left_out, written};
+use cob_copybook_clauses::{read_condition_name, is_condition, is_name, left_out, read_entry};
 use cob_entry::{BookRule, Entry, MAX_WORD};
 use cob_source::Token;
 use std::alloc::Global;
@@ -27,9 +27,9 @@ pub(crate) fn sentence_of(
     line: u32,
     sentence: &[Token],
 ) -> Result<Option<Entry>, BookRule>
-    ensures found { IfOk result (λ e. Adds (lexemes sentence.now) (option_map described e)) }
-    ensures only { (d : Option Described) → Adds (lexemes sentence.now) d
-        → IfOk result (λ e. option_map described e ≡ d) × IfErr result (λ r. r ≡ rule.Memory) }
+    ensures found { IfOk result (λ e. Adds (lexemes sentence.now) (option_map plain_entry e)) }
+    ensures only { (d : Option PlainEntry) → Adds (lexemes sentence.now) d
+        → IfOk result (λ e. option_map plain_entry e ≡ d) × IfErr result (λ r. r ≡ rule.Memory) }
     ensures fault { IfErr result
         (λ r. (r ≡ rule.Memory) ⊎ BreaksSentence r (lexemes sentence.now)) }
 {
@@ -67,7 +67,7 @@ fn check_condition(sentence: &[Token]) -> Result<(), BookRule>
     ensures only { IsConditionEntry (lexemes sentence.now) → IsOk result }
     ensures fault { IfErr result (λ r. BreaksCondition r (lexemes sentence.now)) }
 {
-    let Some(name) = condition(sentence) else {
+    let Some(name) = read_condition_name(sentence) else {
         return Err(BookRule::Grammar);
     };
     if !is_name(name) {
@@ -82,13 +82,13 @@ fn check_condition(sentence: &[Token]) -> Result<(), BookRule>
 ///
 /// `Grammar` where they are none, the rules that its texts may break, and `Memory`.
 fn data_entry(alloc: Global, line: u32, sentence: &[Token]) -> Result<Entry, BookRule>
-    ensures found { IfOk result (λ e. IsEntry (lexemes sentence.now) (described e)) }
-    ensures only { (d : Described) → IsEntry (lexemes sentence.now) d
-        → IfOk result (λ e. described e ≡ d) × IfErr result (λ r. r ≡ rule.Memory) }
+    ensures found { IfOk result (λ e. IsEntry (lexemes sentence.now) (plain_entry e)) }
+    ensures only { (d : PlainEntry) → IsEntry (lexemes sentence.now) d
+        → IfOk result (λ e. plain_entry e ≡ d) × IfErr result (λ r. r ≡ rule.Memory) }
     ensures fault { IfErr result (λ r. (r ≡ rule.Memory) ⊎ BreaksData r (lexemes sentence.now)) }
 {
-    let Some(written) = written(sentence) else {
+    let Some(read_entry) = read_entry(sentence) else {
         return Err(BookRule::Grammar);
     };
-    entry_of(alloc, line, &written)
+    entry_of(alloc, line, &read_entry)
 }

@@ -3,16 +3,16 @@
 ghost use Rattle.std.specs.Prelude.{◌≡◌, ◌<◌, ◌≤◌, ◌↔◌, false, length, IfOk, IfErr, IsOkAnd, IsTrue, IsFalse};
 ghost use Rattle.cob_limits.specs.Limits.{longest_literal};
 ghost use Rattle.cob_decimal.specs.Literals.{Literal, AreDigits};
-ghost use Rattle.cob_copybook_clauses.specs.Written.{Word, written_constant};
+ghost use Rattle.cob_copybook_clauses.specs.Written.{Word, written_value};
 ghost use Rattle.cob_entry.specs.declared.fault.BookRule.TheVariants as rule;
-ghost use Rattle.cob_entry.specs.Described.{Constant as Meant, Numeric, constant};
-ghost use Rattle.cob_copybook_entries.specs.Meaning.{IsConstantOf, IsShort};
+ghost use Rattle.cob_entry.specs.Described.{PlainValue as Meant, Numeric, plain_value};
+ghost use Rattle.cob_copybook_entries.specs.Meaning.{IsConstantOf, IsShortLiteral};
 ghost use Rattle.cob_copybook_entries.specs.Parts.{IsLiteralOf, behind_sign, IsUnsigned};
 ghost use Rattle.cob_copybook_entries.specs.Breaks.{IsConstantFault};
 ghost use Rattle.cob_copybook_entries.specs.Signs.{begins_with_sign};
 
 use crate::number::are_digits;
-use cob_copybook_clauses::Constant;
+use cob_copybook_clauses::ValueClause;
 use cob_decimal::Number;
 use cob_entry::{BookRule, Text, Value};
 use cob_limits::MAX_LITERAL;
@@ -23,20 +23,20 @@ use cob_limits::MAX_LITERAL;
 ///
 /// `Grammar` for a word that is no numeric literal; `Value` where a quoted literal is too long, or is empty behind ALL, or a numeric
 /// one has too many digits.
-pub fn value_of(written: &Constant<'_>) -> Result<Value, BookRule>
-    ensures found { IfOk result (λ v. IsConstantOf (written_constant written.now) (constant v)) }
+pub fn value_of(written: &ValueClause<'_>) -> Result<Value, BookRule>
+    ensures found { IfOk result (λ v. IsConstantOf (written_value written.now) (plain_value v)) }
     ensures only { (c : Meant)
-        → IsConstantOf (written_constant written.now) c → IsOkAnd result (λ v. constant v ≡ c) }
-    ensures fault { IfErr result (λ r. IsConstantFault r (written_constant written.now)) }
+        → IsConstantOf (written_value written.now) c → IsOkAnd result (λ v. plain_value v ≡ c) }
+    ensures fault { IfErr result (λ r. IsConstantFault r (written_value written.now)) }
 {
     match *written {
-        Constant::Word(text) => Ok(Value::Number {
+        ValueClause::Word(text) => Ok(Value::Number {
             signed: is_signed(text),
             number: number_of(text)?,
         }),
-        Constant::Literal(text) => Ok(Value::Literal(literal_of(text)?)),
-        Constant::Figurative(figurative) => Ok(Value::Figurative(figurative)),
-        Constant::All(text) => {
+        ValueClause::Literal(text) => Ok(Value::Literal(literal_of(text)?)),
+        ValueClause::Figurative(figurative) => Ok(Value::Figurative(figurative)),
+        ValueClause::All(text) => {
             if text.is_empty() {
                 return Err(BookRule::Value);
             }
@@ -121,8 +121,8 @@ fn is_fraction(text: &[u8]) -> bool
 ///
 /// `Value` where there are too many.
 fn literal_of(text: &[u8]) -> Result<Text, BookRule>
-    ensures found { IfOk result (λ t. IsShort text.now × (t ≡ text.now)) }
-    ensures only { IsShort text.now → IsOkAnd result (λ t. t ≡ text.now) }
+    ensures found { IfOk result (λ t. IsShortLiteral text.now × (t ≡ text.now)) }
+    ensures only { IsShortLiteral text.now → IsOkAnd result (λ t. t ≡ text.now) }
     ensures fault { IfErr result (λ r. (r ≡ rule.Value) × (longest_literal < length text.now)) }
 {
     if text.len() > MAX_LITERAL {

@@ -5,7 +5,7 @@ use Rattle.cob_copybook_tree.specs.declared.node.Node.{Node}
 use Rattle.cob_copybook_tree.specs.declared.node.Node.TheViews.{out-Node, size-Node, size_is-Node}
 use denote.Param.Weighed as weighed
 use Rattle.cob_copybook_tree.specs.declared.node.Node.TheFolds.{fold_out-Node}
-use Rattle.cob_copybook_tree.specs.Forests.{Grows, Tree}
+use Rattle.cob_copybook_tree.specs.Forests.{AnEntry, Tree}
 use Rattle.cob_copybook_tree.specs.Nodes.{Resolved, resolved_entry, node, node_step, forest}
 
 -- a node is its entry, and those beneath it
@@ -16,7 +16,7 @@ pub beneath_out : (n : Node) → (node n).beneath ≡ forest (out-Node n).childr
 beneath_out n = ap (λ (t : Tree Resolved). t.beneath) (node_out n)
 
 -- the nodes from a place on
-pub forest_at : (ns : List Node) (i : ℕ) (n : Node) → i < length ns → n ≡ get_or ns i n → forest (drop i ns) ≡ Grows (node n).top (node n).beneath (forest (drop (i + 1) ns))
+pub forest_at : (ns : List Node) (i : ℕ) (n : Node) → i < length ns → n ≡ get_or ns i n → forest (drop i ns) ≡ AnEntry (node n).top (node n).beneath (forest (drop (i + 1) ns))
 forest_at ns i n lt is = at_drop_more forest ns i n lt ∙ ap (λ (m : Node). forest (m ∷ drop (i + 1) ns)) (sym is)
 
 -- the nodes from one place up to another
@@ -42,8 +42,8 @@ abbrev pub depth : List Node → ℕ
 depth ns = weighed.most size-Node ns
 
 -- those beneath a node have fewer than the list that it is in
-pub less_deep : (ns kids : List Node) (i : ℕ) (n : Node) → i < length ns → n ≡ get_or ns i n → kids ≡ (out-Node n).children.items → depth kids < depth ns
-less_deep ns kids i n lt is beneath =
-    let own : depth kids < size-Node n = omega (arith, size_is-Node n, ap depth beneath) in
+pub less_deep : (ns children : List Node) (i : ℕ) (n : Node) → i < length ns → n ≡ get_or ns i n → children ≡ (out-Node n).children.items → depth children < depth ns
+less_deep ns children i n lt is beneath =
+    let own : depth children < size-Node n = omega (arith, size_is-Node n, ap depth beneath) in
     let among : size-Node n ≤ depth ns = omega (arith, weighed.at_most size-Node ns i n lt, ap size-Node is) in
     omega (arith, own, among)

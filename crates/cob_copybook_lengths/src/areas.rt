@@ -2,29 +2,29 @@
 
 ghost use Rattle.std.specs.Prelude.{◌≡◌, ◌≤◌, ◌↔◌, [], ◌∷◌, map, Some, IsTrue};
 ghost use Rattle.std.specs.Option.{IsNone};
-ghost use Rattle.cob_copybook_tree.specs.declared.node.Times.TheVariants.{Once};
+ghost use Rattle.cob_copybook_tree.specs.declared.node.ResolvedOccurs.TheVariants.{Once};
 ghost use Rattle.cob_copybook_tree.specs.Nodes.{node, forest};
-ghost use Rattle.cob_copybook_tree.specs.Lengths.{most, sum_of, whole};
+ghost use Rattle.cob_copybook_tree.specs.Lengths.{greatest_number, sum_of, whole_length};
 ghost use Rattle.cob_limits.specs.Limits.{longest_record};
 ghost use Rattle.cob_copybook_lengths.specs.Areas.{hold_varying, is_varying, Bears, FitsArea, MayFollow, AreAreas, ArePossible};
 ghost use Rattle.cob_copybook_lengths.specs.Short.{IsShortArea};
 
-use cob_copybook_tree::{Node, Times, whole_length};
+use cob_copybook_tree::{Node, ResolvedOccurs, whole_length};
 use cob_entry::Name;
 use std::slice;
 
 /// Whether a table varies.
-fn is_varying(times: Times) -> bool
+fn is_varying(times: ResolvedOccurs) -> bool
     ensures { result ≡ is_varying times }
 {
-    matches!(times, Times::Varying { .. })
+    matches!(times, ResolvedOccurs::Varying { .. })
 }
 
 /// Whether an entry is no table.
-fn is_once(times: Times) -> bool
+fn is_once(times: ResolvedOccurs) -> bool
     ensures { IsTrue result ↔ (times ≡ Once) }
 {
-    matches!(times, Times::Once)
+    matches!(times, ResolvedOccurs::Once)
 }
 
 /// Whether one of the entries, or of those beneath them, is a table that varies.
@@ -64,16 +64,19 @@ fn bears(area: &[Node], name: &Name, level: u8) -> bool
 
 /// Whether an entry, with all its occurrences, is no longer than the first of an area.
 fn is_no_longer(entry: &Node, first: &Node) -> bool
-    requires { whole most (node first.now).top (node first.now).beneath ≤ longest_record }
-    ensures { IsTrue result ↔ (whole most (node entry.now).top
-        (node entry.now).beneath ≤ whole most (node first.now).top (node first.now).beneath) }
+    requires { whole_length greatest_number (node first.now).top (node first.now).beneath ≤
+        longest_record }
+    ensures { IsTrue result ↔ (whole_length greatest_number (node entry.now).top
+        (node entry.now).beneath ≤ whole_length greatest_number (node first.now).top
+        (node first.now).beneath) }
 {
     whole_length(entry) <= whole_length(first)
 }
 
 /// Whether an entry may redefine the area that the other one began.
 fn fits_area(first: &Node, entry: &Node) -> bool
-    requires { whole most (node first.now).top (node first.now).beneath ≤ longest_record }
+    requires { whole_length greatest_number (node first.now).top (node first.now).beneath ≤
+        longest_record }
     ensures yes { IsTrue result → FitsArea (node first.now) (node entry.now) }
     ensures must { FitsArea (node first.now) (node entry.now) → IsTrue result }
 {
@@ -100,7 +103,7 @@ fn may_follow(area: &[Node], entry: &Node) -> bool
 
 /// The line of an entry that redefines what it may not.
 pub(crate) fn wrong_area(entries: &[Node]) -> Option<u32>
-    requires short { sum_of most (forest entries.now) ≤ longest_record }
+    requires short { sum_of greatest_number (forest entries.now) ≤ longest_record }
     requires possible { ArePossible (forest entries.now) }
     ensures fine { IsNone result → AreAreas [] (forest entries.now) }
     ensures must { AreAreas [] (forest entries.now) → IsNone result }

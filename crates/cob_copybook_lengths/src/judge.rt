@@ -2,10 +2,10 @@
 
 ghost use Rattle.std.specs.Prelude.{◌≡◌, ◌≤◌, ◌↔◌, [], ◌∷◌, IsTrue, IfOk, IfErr};
 ghost use Rattle.cob_copybook_tree.specs.Nodes.{forest};
-ghost use Rattle.cob_copybook_tree.specs.Lengths.{most, sum_of};
+ghost use Rattle.cob_copybook_tree.specs.Lengths.{greatest_number, sum_of};
 ghost use Rattle.cob_limits.specs.Limits.{longest_record};
 ghost use Rattle.cob_copybook_lengths.specs.Areas.{ArePossible};
-ghost use Rattle.cob_copybook_lengths.specs.Rules.{IsFit, Breaks};
+ghost use Rattle.cob_copybook_lengths.specs.Rules.{KeepsLengthRules, BreaksLengthRule};
 
 use crate::areas::wrong_area;
 use crate::values::wrong_value;
@@ -24,7 +24,7 @@ fn line_of(root: &Node) -> u32 {
 
 /// Whether a record isn't too long. One that redefines takes no room of its own, and breaks the rule on areas.
 fn is_short(root: &Node) -> bool
-    ensures { IsTrue result ↔ (sum_of most (forest (root.now ∷ [])) ≤ longest_record) }
+    ensures { IsTrue result ↔ (sum_of greatest_number (forest (root.now ∷ [])) ≤ longest_record) }
 {
     root.redefines.is_some() || whole_length(root) <= MAX_RECORD
 }
@@ -35,10 +35,10 @@ fn is_short(root: &Node) -> bool
 /// # Errors
 ///
 /// `TooLong`, `Redefinition` or `Value`, in this order.
-pub fn judged(root: &Node) -> Result<(), BookFault>
+pub fn judge_lengths(root: &Node) -> Result<(), BookFault>
     requires possible { ArePossible (forest (root.now ∷ [])) }
-    ensures fine { IfOk result (λ _. IsFit (forest (root.now ∷ []))) }
-    ensures broken { IfErr result (λ f. Breaks f.rule (forest (root.now ∷ []))) }
+    ensures fine { IfOk result (λ _. KeepsLengthRules (forest (root.now ∷ []))) }
+    ensures broken { IfErr result (λ f. BreaksLengthRule f.rule (forest (root.now ∷ []))) }
 {
     if !is_short(root) {
         return Err(BookFault {

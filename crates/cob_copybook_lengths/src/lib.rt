@@ -4,9 +4,9 @@
 //! `MAX_RECORD` bytes (B14), does each REDEFINES name an entry whose area it may share, and keep within it (B7), and does each
 //! VALUE suit its entry, and stand where a value may (B10).
 //!
-//! What it promises of [`judged`]: a record that it accepts keeps these rules (clause `fine`), and a record that it refuses breaks
+//! What it promises of [`judge_lengths`]: a record that it accepts keeps these rules (clause `fine`), and a record that it refuses breaks
 //! the rule that it names (clause `broken`). Each rule is a definition over trees of entries, by itself: `AreAreas` of
-//! specs/Areas.antt, `AreValues` of specs/Values.antt, and a sum of lengths, which `IsFit` and `Breaks` of specs/Rules.antt name.
+//! specs/Areas.antt, `AreValues` of specs/Values.antt, and a sum of lengths, which `KeepsLengthRules` and `BreaksLengthRule` of specs/Rules.antt name.
 //! That no record does both is the law [`breaks_no_rule`]. So the answer is an `Ok` exactly for the records that are fit. Lengths
 //! are compared as they are, however great they are, though the code counts each great one as one greatest length. No clause says
 //! which line is told for a broken rule: it is that of the first entry that breaks it, a parent before its children, and for a
@@ -25,6 +25,6 @@ mod judge;
 mod laws;
 mod values;
 
-pub use judge::judged;
+pub use judge::judge_lengths;
 pub use laws::breaks_no_rule;
 pub use values::is_number;

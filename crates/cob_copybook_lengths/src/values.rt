@@ -2,9 +2,9 @@
 
 ghost use Rattle.std.specs.Prelude.{◌≡◌, ℕ, ◌||◌, IsTrue};
 ghost use Rattle.std.specs.Option.{IsNone, is_some};
-ghost use Rattle.cob_entry.specs.Described.{constant};
+ghost use Rattle.cob_entry.specs.Described.{plain_value};
 ghost use Rattle.cob_copybook_tree.specs.Nodes.{node, forest};
-ghost use Rattle.cob_copybook_tree.specs.Lengths.{most, element};
+ghost use Rattle.cob_copybook_tree.specs.Lengths.{greatest_number, element_length};
 ghost use Rattle.cob_copybook_lengths.specs.Values.{is_number, IsNumericValue, IsCharacterValue, IsValueFor, MayHaveValue, AreValues};
 
 use crate::fitting::fits_number;
@@ -21,8 +21,8 @@ pub fn is_number(item: &Item) -> bool
 
 /// Whether a numeric item of this picture takes the value.
 fn is_numeric_value(picture: &Picture, value: &Value) -> bool
-    ensures yes { IsTrue result → IsNumericValue picture.now (constant value.now) }
-    ensures must { IsNumericValue picture.now (constant value.now) → IsTrue result }
+    ensures yes { IsTrue result → IsNumericValue picture.now (plain_value value.now) }
+    ensures must { IsNumericValue picture.now (plain_value value.now) → IsTrue result }
 {
     match value {
         Value::Number { signed, number } => fits_number(picture, *signed, number),
@@ -34,9 +34,10 @@ fn is_numeric_value(picture: &Picture, value: &Value) -> bool
 /// Whether the element of an entry that is no number takes the value.
 fn is_character_value(entry: &Node, value: &Value) -> bool
     ensures yes { IsTrue result → IsCharacterValue
-        (element most (node entry.now).top (node entry.now).beneath) (constant value.now) }
-    ensures must { IsCharacterValue (element most (node entry.now).top (node entry.now).beneath)
-        (constant value.now) → IsTrue result }
+        (element_length greatest_number (node entry.now).top (node entry.now).beneath) (plain_value value.now) }
+    ensures must { IsCharacterValue (element_length greatest_number (node entry.now).top
+        (node entry.now).beneath)
+        (plain_value value.now) → IsTrue result }
 {
     match value {
         Value::Number { .. } => false,
@@ -48,9 +49,9 @@ fn is_character_value(entry: &Node, value: &Value) -> bool
 /// Whether an entry takes the value.
 fn is_value_for(entry: &Node, value: &Value) -> bool
     ensures yes { IsTrue result → IsValueFor (node entry.now).top.kind
-        (element most (node entry.now).top (node entry.now).beneath) (constant value.now) }
-    ensures must { IsValueFor (node entry.now).top.kind (element most
-        (node entry.now).top (node entry.now).beneath) (constant value.now) → IsTrue result }
+        (element_length greatest_number (node entry.now).top (node entry.now).beneath) (plain_value value.now) }
+    ensures must { IsValueFor (node entry.now).top.kind (element_length greatest_number
+        (node entry.now).top (node entry.now).beneath) (plain_value value.now) → IsTrue result }
 {
     match &entry.kind {
         Kind::Item(item) if is_number(item) => is_numeric_value(&item.picture, value),

@@ -6,7 +6,7 @@ use Rattle.std.proofs.Math.ListN.{get_or-append}
 use Rattle.std.proofs.Math.Seq.{get_or-append_seam}
 use Rattle.cob_copybook_names.specs.declared.bearer.Bearer.{Bearer as Listed}
 use Rattle.cob_copybook_names.specs.Listed.{bearer_of, entry_of}
-use Rattle.cob_copybook_names.specs.Links.{names_of, BearsAt, reach, IsLast, AreLinked}
+use Rattle.cob_copybook_names.specs.Links.{names_of, BearsAt, entries_up_to, IsLast, AreLinked}
 
 -- an entry bears the name or doesn't
 pub is_or_not : (own : Option (List ℕ)) (name : List ℕ) → (own ≡ Some name) ⊎ (own ≡ Some name → ⊥)
@@ -20,7 +20,7 @@ is_or_not (Some own) name = by (pointwise nat_eq own name) refl
 -- a further entry that doesn't bear the name changes nothing
 pub last_more : (names : List (Option (List ℕ))) (name : List ℕ) (k : ℕ) (place : Option ℕ) → IsLast names name k place → (BearsAt names name k → ⊥) → IsLast names name (k + 1) place
 last_more names name k place h ne =
-    let others = below_more (λ j. reach place ≤ j → BearsAt names name j → ⊥) k (λ j lt le. h.others j le lt) (λ le. ne) in
+    let others = below_more (λ j. entries_up_to place ≤ j → BearsAt names name j → ⊥) k (λ j lt le. h.others j le lt) (λ le. ne) in
     record { before = omega (arith, h.before); bears = h.bears; others = λ j le lt. others j lt le }
 
 -- a further entry that bears it is the last

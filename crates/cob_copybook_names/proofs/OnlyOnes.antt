@@ -1,8 +1,8 @@
 -- The only one of a list that is so.
 use Rattle.std.proofs.Common.{◌≡◌, ℕ, ◌+◌, List, [], ◌∷◌, Option, Some, None, sym, ap, ◌∙◌, inl, inr}
-use Rattle.cob_entry.specs.Described.{Described, Times, Fixed, Varying}
-use Rattle.cob_copybook_names.specs.Bearers.{Bearer, Names, NoneIs, IsOnlyOne}
-use Rattle.cob_copybook_names.specs.Counts.{IsCount, IsCountOf, AreCounts}
+use Rattle.cob_entry.specs.Described.{PlainEntry, PlainOccurs, Fixed, Varying}
+use Rattle.cob_copybook_names.specs.Bearers.{Bearer, NamesEntry, NoneIs, IsOnlyOne}
+use Rattle.cob_copybook_names.specs.Counts.{IsCountOfTable, IsCountOf, AreCounts}
 
 none_and_one : (is : Bearer → Type 0) (bs : List Bearer) (b : Bearer) → NoneIs is bs → IsOnlyOne is bs b → ⊥
 none_and_one is [] b none one = one
@@ -15,15 +15,15 @@ one_only is (c ∷ cs) a b x y = elim x [
   | inr v ↦ elim y [ inl w ↦ absurd (v.0 w.1) | inr w ↦ one_only is cs a b v.1 w.1 ]
 ]
 
-pub one_count : (all : List Bearer) (n : ℕ) (name : List ℕ) (qualifiers : List (List ℕ)) (a b : ℕ) → IsCount all n name qualifiers a → IsCount all n name qualifiers b → a ≡ b
-one_count all n name qualifiers a b x y = sym x.number ∙ ap (λ (c : Bearer). c.number) (one_only (Names name qualifiers) all x.bearer y.bearer x.only y.only) ∙ y.number
+pub one_count : (all : List Bearer) (n : ℕ) (name : List ℕ) (qualifiers : List (List ℕ)) (a b : ℕ) → IsCountOfTable all n name qualifiers a → IsCountOfTable all n name qualifiers b → a ≡ b
+one_count all n name qualifiers a b x y = sym x.number ∙ ap (λ (c : Bearer). c.number) (one_only (NamesEntry name qualifiers) all x.bearer y.bearer x.only y.only) ∙ y.number
 
-pub one_count_of : (all : List Bearer) (n : ℕ) (o : Option Times) (a b : ℕ) → IsCountOf all n o a → IsCountOf all n o b → a ≡ b
+pub one_count_of : (all : List Bearer) (n : ℕ) (o : Option PlainOccurs) (a b : ℕ) → IsCountOf all n o a → IsCountOf all n o b → a ≡ b
 one_count_of all n None a b x y = x ∙ sym y
 one_count_of all n (Some (Fixed times)) a b x y = x ∙ sym y
 one_count_of all n (Some (Varying least most name qualifiers)) a b x y = one_count all n name qualifiers a b x y
 
-pub one_list : (all : List Bearer) (n : ℕ) (es : List Described) (a b : List ℕ) → AreCounts all n es a → AreCounts all n es b → a ≡ b
+pub one_list : (all : List Bearer) (n : ℕ) (es : List PlainEntry) (a b : List ℕ) → AreCounts all n es a → AreCounts all n es b → a ≡ b
 one_list all n [] a b x y = x ∙ sym y
 one_list all n (e ∷ es) a b x y =
     let heads = one_count_of all n e.occurs x.0 y.0 x.3 y.3 in

@@ -5,9 +5,9 @@ use Rattle.std.specs.Option.{option_map}
 use Rattle.std.proofs.Math.Seq.{take-length}
 use Rattle.std.proofs.lemmas.List.{get_or_default}
 use Rattle.cob_copybook_names.specs.declared.bearer.Bearer.{Bearer as Listed}
-use Rattle.cob_copybook_names.specs.Bearers.{Bearer, Qualify, Names, NoneIs, IsOnlyOne}
+use Rattle.cob_copybook_names.specs.Bearers.{Bearer, Qualify, NamesEntry, NoneIs, IsOnlyOne}
 use Rattle.cob_copybook_names.specs.Listed.{bearer_of, texts}
-use Rattle.cob_copybook_names.specs.Links.{names_of, BearsAt, reach, IsLast, AreLinked}
+use Rattle.cob_copybook_names.specs.Links.{names_of, BearsAt, entries_up_to, IsLast, AreLinked}
 use Rattle.cob_copybook_names.proofs.Links.{name_at}
 use Rattle.cob_copybook_names.proofs.OnlyOnes.{OnlyWith}
 
@@ -112,13 +112,13 @@ module _ (is : Bearer → Type 0) (name : List ℕ) (out : (c : Bearer) → is c
     | inr w ↦ inr (w.0, one_longer all p k b (gap_behind name c all p k g) (omega (arith, le)) w.1)
   ]
 
-  pub shorter : (found : Option Bearer) (all : List Bearer) (k : ℕ) (place : Option ℕ) (b : Bearer) → IsLast (names_of all) name k place → OnlyWith is found (take k all) b → OnlyWith is found (take (reach place) all) b
-  shorter None all k place b l h = one_shorter all (reach place) k b l.others l.before h
-  shorter (Some d) all k place b l h = (h.0, h.1, none_shorter all (reach place) k l.before h.2)
+  pub shorter : (found : Option Bearer) (all : List Bearer) (k : ℕ) (place : Option ℕ) (b : Bearer) → IsLast (names_of all) name k place → OnlyWith is found (take k all) b → OnlyWith is found (take (entries_up_to place) all) b
+  shorter None all k place b l h = one_shorter all (entries_up_to place) k b l.others l.before h
+  shorter (Some d) all k place b l h = (h.0, h.1, none_shorter all (entries_up_to place) k l.before h.2)
 
-  pub longer : (found : Option Bearer) (all : List Bearer) (k : ℕ) (place : Option ℕ) (b : Bearer) → IsLast (names_of all) name k place → OnlyWith is found (take (reach place) all) b → OnlyWith is found (take k all) b
-  longer None all k place b l h = one_longer all (reach place) k b l.others l.before h
-  longer (Some d) all k place b l h = (h.0, h.1, none_longer all (reach place) k l.others h.2)
+  pub longer : (found : Option Bearer) (all : List Bearer) (k : ℕ) (place : Option ℕ) (b : Bearer) → IsLast (names_of all) name k place → OnlyWith is found (take (entries_up_to place) all) b → OnlyWith is found (take k all) b
+  longer None all k place b l h = one_longer all (entries_up_to place) k b l.others l.before h
+  longer (Some d) all k place b l h = (h.0, h.1, none_longer all (entries_up_to place) k l.others h.2)
 
 -- the entries up to a place are those before it and the one there
 take_here : (bs : List Listed) (p : ℕ) (b : Listed) → p < length bs → b ≡ get_or bs p b → take (suc p) (map bearer_of bs) ≡ take p (map bearer_of bs) ++ bearer_of b ∷ []
@@ -145,7 +145,7 @@ found_some (Some r) e = refl
 
 module _ (is : Bearer → Type 0) (name : List ℕ) (out : (c : Bearer) → is c → c.name ≡ Some name) (all : List Bearer) where
   -- it begins at the last entry that bears the name
-  pub walk_start : (place : Option ℕ) → IsLast (names_of all) name (length all) place → Walk is all None (take (reach place) all)
+  pub walk_start : (place : Option ℕ) → IsLast (names_of all) name (length all) place → Walk is all None (take (entries_up_to place) all)
   walk_start place l = record {
     known = tt;
     left = λ b h. subst (λ (xs : List Bearer). IsOnlyOne is xs b) (take-length all) (longer is name out None all (length all) place b l h);
@@ -153,8 +153,8 @@ module _ (is : Bearer → Type 0) (name : List ℕ) (out : (c : Bearer) → is c
   }
 
   -- an entry that isn't named is passed
-  pub walk_pass : (found : Option (Bor Listed)) (place earlier : Option ℕ) (p : ℕ) (c : Bearer) → take (reach place) all ≡ take p all ++ c ∷ [] → IsLast (names_of all) name p earlier
-      → (is c → ⊥) → Walk is all found (take (reach place) all) → Walk is all found (take (reach earlier) all)
+  pub walk_pass : (found : Option (Bor Listed)) (place earlier : Option ℕ) (p : ℕ) (c : Bearer) → take (entries_up_to place) all ≡ take p all ++ c ∷ [] → IsLast (names_of all) name p earlier
+      → (is c → ⊥) → Walk is all found (take (entries_up_to place) all) → Walk is all found (take (entries_up_to earlier) all)
   walk_pass found place earlier p c front l ne w =
       let seen = option_map (λ (r : Bor Listed). bearer_of r.now) found in
       record {
@@ -164,8 +164,8 @@ module _ (is : Bearer → Type 0) (name : List ℕ) (out : (c : Bearer) → is c
       }
 
   -- the first entry that is named is kept
-  pub walk_meet : (found : Option (Bor Listed)) (place earlier : Option ℕ) (p : ℕ) (r : Bor Listed) → take (reach place) all ≡ take p all ++ bearer_of r.now ∷ [] → IsLast (names_of all) name p earlier
-      → is_some found ≡ false → is (bearer_of r.now) → Walk is all found (take (reach place) all) → Walk is all (Some r) (take (reach earlier) all)
+  pub walk_meet : (found : Option (Bor Listed)) (place earlier : Option ℕ) (p : ℕ) (r : Bor Listed) → take (entries_up_to place) all ≡ take p all ++ bearer_of r.now ∷ [] → IsLast (names_of all) name p earlier
+      → is_some found ≡ false → is (bearer_of r.now) → Walk is all found (take (entries_up_to place) all) → Walk is all (Some r) (take (entries_up_to earlier) all)
   walk_meet found place earlier p r front l none i w =
       let seen = option_map (λ (r : Bor Listed). bearer_of r.now) found in
       let c = bearer_of r.now in
@@ -176,15 +176,15 @@ module _ (is : Bearer → Type 0) (name : List ℕ) (out : (c : Bearer) → is c
       }
 
   -- a second one leaves none
-  pub walk_twice : (found : Option (Bor Listed)) (place : Option ℕ) (p : ℕ) (c : Bearer) → take (reach place) all ≡ take p all ++ c ∷ []
-      → is_some found ≡ true → is c → Walk is all found (take (reach place) all) → (b : Bearer) → IsOnlyOne is all b → ⊥
+  pub walk_twice : (found : Option (Bor Listed)) (place : Option ℕ) (p : ℕ) (c : Bearer) → take (entries_up_to place) all ≡ take p all ++ c ∷ []
+      → is_some found ≡ true → is c → Walk is all found (take (entries_up_to place) all) → (b : Bearer) → IsOnlyOne is all b → ⊥
   walk_twice found place p c front some i w b h =
       let seen = option_map (λ (r : Bor Listed). bearer_of r.now) found in
       second_last is seen (take p all) c b (found_some found some) i (subst (λ (xs : List Bearer). OnlyWith is seen xs b) front (w.whole b h))
 
 -- the facts of one step, at place p
-pub inside_at : (place : Option ℕ) (p n : ℕ) → place ≡ Some p → reach place ≤ n → p < n
-inside_at place p n is le = let at : p + 1 ≤ n = subst (λ (o : Option ℕ). reach o ≤ n) is le in omega (arith, at)
+pub inside_at : (place : Option ℕ) (p n : ℕ) → place ≡ Some p → entries_up_to place ≤ n → p < n
+inside_at place p n is le = let at : p + 1 ≤ n = subst (λ (o : Option ℕ). entries_up_to o ≤ n) is le in omega (arith, at)
 
 pub link_at : (bs : List Listed) (earlier : List (Option ℕ)) (name : List ℕ) (place : Option ℕ) (p : ℕ) (e : Option ℕ) → length earlier ≡ length bs
     → AreLinked (names_of (map bearer_of bs)) earlier (length bs) → place ≡ Some p → p < length bs → BearsAt (names_of (map bearer_of bs)) name p → e ≡ get_or earlier p e
@@ -193,17 +193,17 @@ link_at bs earlier name place p e sized linked is lt bears read =
     subst (IsLast (names_of (map bearer_of bs)) name p) (get_or_default earlier p None e (omega (arith, sized, lt)) ∙ sym read) (linked p name lt bears)
 
 pub front_at : (bs : List Listed) (place : Option ℕ) (p : ℕ) (b : Listed) → place ≡ Some p → p < length bs → b ≡ get_or bs p b
-    → take (reach place) (map bearer_of bs) ≡ take p (map bearer_of bs) ++ bearer_of b ∷ []
-front_at bs place p b is lt read = ap (λ (o : Option ℕ). take (reach o) (map bearer_of bs)) is ∙ up_to bs p b lt read
+    → take (entries_up_to place) (map bearer_of bs) ≡ take p (map bearer_of bs) ++ bearer_of b ∷ []
+front_at bs place p b is lt read = ap (λ (o : Option ℕ). take (entries_up_to o) (map bearer_of bs)) is ∙ up_to bs p b lt read
 
 pub named_at : (bs : List Listed) (name : List ℕ) (qualifiers : List (List ℕ)) (p : ℕ) (b : Listed) (above : List (Bor (List ℕ))) → p < length bs → b ≡ get_or bs p b
-    → BearsAt (names_of (map bearer_of bs)) name p → above ≡ (get_or bs p b).above.items → Qualify qualifiers (texts above) → Names name qualifiers (bearer_of b)
+    → BearsAt (names_of (map bearer_of bs)) name p → above ≡ (get_or bs p b).above.items → Qualify qualifiers (texts above) → NamesEntry name qualifiers (bearer_of b)
 named_at bs name qualifiers p b above lt read bears same q = record {
   bears = sym (name_at bs p b lt read) ∙ bears;
   qualified = subst (λ (ts : List (Bor (List ℕ))). Qualify qualifiers (texts ts)) (same ∙ ap (λ (x : Listed). x.above.items) (sym read)) q;
 }
 
 pub unnamed_at : (bs : List Listed) (name : List ℕ) (qualifiers : List (List ℕ)) (p : ℕ) (b : Listed) (above : List (Bor (List ℕ))) → b ≡ get_or bs p b
-    → above ≡ (get_or bs p b).above.items → (Qualify qualifiers (texts above) → ⊥) → Names name qualifiers (bearer_of b) → ⊥
+    → above ≡ (get_or bs p b).above.items → (Qualify qualifiers (texts above) → ⊥) → NamesEntry name qualifiers (bearer_of b) → ⊥
 unnamed_at bs name qualifiers p b above read same ne h =
     ne (subst (λ (ts : List (Bor (List ℕ))). Qualify qualifiers (texts ts)) (ap (λ (x : Listed). x.above.items) read ∙ sym same) h.qualified)

@@ -1,56 +1,56 @@
 -- DEPENDING ON: the counts of the tables of a record.
 use Rattle.std.specs.Prelude.{◌≡◌, ℕ, ◌+◌, ◌<◌, pos, true, false, List, [], ◌∷◌, Option, Some, None}
-use Rattle.cob_picture.specs.Positions.{Seen}
+use Rattle.cob_picture.specs.Positions.{PlainPicture}
 use Rattle.cob_picture.specs.Counts.{scale}
-use Rattle.cob_entry.specs.Described.{Described, Times, Fixed, Varying}
+use Rattle.cob_entry.specs.Described.{PlainEntry, PlainOccurs, Fixed, Varying}
 use Rattle.cob_entry.specs.declared.fault.BookRule.{BookRule}
 use Rattle.cob_entry.specs.declared.fault.BookRule.TheVariants as rule
 use Rattle.cob_copybook_tree.specs.Forests.{Forest, flat}
 use Rattle.cob_copybook_tree.specs.Resolving.{is_numeric}
-use Rattle.cob_copybook_names.specs.Bearers.{Bearer, bearers, Names, IsOnlyOne}
+use Rattle.cob_copybook_names.specs.Bearers.{Bearer, bearers, NamesEntry, IsOnlyOne}
 
 -- a number without a fraction, and without P, which would move the point
-pub record IsWholeNumber (p : Seen) : Type 0 where
+pub record IsWholeNumber (p : PlainPicture) : Type 0 where
   pub number : is_numeric p.category ≡ true
   pub whole : scale p.positions ≡ pos 0
 
 -- what may be a count: a whole number that is no table and in none, and isn't edited by BLANK WHEN ZERO
 pub record MayCount (b : Bearer) : Type 0 where
-  pub picture : Seen
+  pub picture : PlainPicture
   pub has : b.picture ≡ Some picture
   pub whole : IsWholeNumber picture
   pub single : b.in_table ≡ false
   pub plain : b.blank ≡ false
 
 -- the count of table n: the one entry of the record that the name names may be one, and stands before the table
-pub record IsCount (all : List Bearer) (n : ℕ) (name : List ℕ) (qualifiers : List (List ℕ)) (count : ℕ) : Type 0 where
+pub record IsCountOfTable (all : List Bearer) (n : ℕ) (name : List ℕ) (qualifiers : List (List ℕ)) (count : ℕ) : Type 0 where
   pub bearer : Bearer
-  pub only : IsOnlyOne (Names name qualifiers) all bearer
+  pub only : IsOnlyOne (NamesEntry name qualifiers) all bearer
   pub may : MayCount bearer
   pub number : bearer.number ≡ count
   pub before : count < n
 
 -- a table that varies has its count; for another entry 0 stands
-abbrev pub IsCountOf : List Bearer → ℕ → Option Times → ℕ → Type 0
-IsCountOf all n (Some (Varying least most name qualifiers)) count = IsCount all n name qualifiers count
+abbrev pub IsCountOf : List Bearer → ℕ → Option PlainOccurs → ℕ → Type 0
+IsCountOf all n (Some (Varying least most name qualifiers)) count = IsCountOfTable all n name qualifiers count
 IsCountOf all n (Some (Fixed times)) count = count ≡ 0
 IsCountOf all n None count = count ≡ 0
 
 -- the counts of entries from number n on
-abbrev pub AreCounts : List Bearer → ℕ → List Described → List ℕ → Type 0
+abbrev pub AreCounts : List Bearer → ℕ → List PlainEntry → List ℕ → Type 0
 AreCounts all n [] counts = counts ≡ []
 AreCounts all n (e ∷ es) counts = (count : ℕ) × (more : List ℕ) × (counts ≡ count ∷ more) × IsCountOf all n e.occurs count × AreCounts all (n + 1) es more
 
 -- the counts of all entries of a record
-abbrev pub AreCountsOf : Forest Described → List ℕ → Type 0
-AreCountsOf t counts = AreCounts (bearers [] false 0 t) 0 (flat t) counts
+abbrev pub AreCountsOfTables : Forest PlainEntry → List ℕ → Type 0
+AreCountsOfTables t counts = AreCounts (bearers [] false 0 t) 0 (flat t) counts
 
 -- why the counts of entries from number 0 on aren't told: memory was refused, or there are none
-abbrev pub IsRefusedAmong : List Bearer → BookRule → List Described → Type 0
+abbrev pub IsRefusedAmong : List Bearer → BookRule → List PlainEntry → Type 0
 IsRefusedAmong all rule.Memory es = Unit {0}
 IsRefusedAmong all rule.Count es = (counts : List ℕ) → AreCounts all 0 es counts → ⊥
 IsRefusedAmong all r es = ⊥
 
 -- why the counts of a record aren't told: memory was refused, or it has none
-abbrev pub IsRefused : BookRule → Forest Described → Type 0
+abbrev pub IsRefused : BookRule → Forest PlainEntry → Type 0
 IsRefused r t = IsRefusedAmong (bearers [] false 0 t) r (flat t)

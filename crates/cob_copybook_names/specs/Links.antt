@@ -15,15 +15,15 @@ abbrev pub BearsAt : List (Option (List ℕ)) → List ℕ → ℕ → Type 0
 BearsAt names name place = slice_index_or names place None ≡ Some name
 
 -- how many entries there are up to this place, with it
-abbrev pub reach : Option ℕ → ℕ
-reach None = 0
-reach (Some place) = place + 1
+abbrev pub entries_up_to : Option ℕ → ℕ
+entries_up_to None = 0
+entries_up_to (Some place) = place + 1
 
 -- the place is that of the last of the first k entries that bears the name; none is so where none of them bears it
 pub record IsLast (names : List (Option (List ℕ))) (name : List ℕ) (k : ℕ) (place : Option ℕ) : Type 0 where
-  pub before : reach place ≤ k
+  pub before : entries_up_to place ≤ k
   pub bears : (p : ℕ) → place ≡ Some p → BearsAt names name p
-  pub others : (j : ℕ) → reach place ≤ j → j < k → BearsAt names name j → ⊥
+  pub others : (j : ℕ) → entries_up_to place ≤ j → j < k → BearsAt names name j → ⊥
 
 -- each of the first k entries that bears a name has the last one before it that bears the same name
 abbrev pub AreLinked : List (Option (List ℕ)) → List (Option ℕ) → ℕ → Type 0

@@ -1,7 +1,7 @@
 -- The listed entries of a record without where they lie in memory.
 use Rattle.std.specs.Prelude.{ℕ, List, map}
 use Rattle.std.specs.Borrow.{Bor}
-use Rattle.cob_entry.specs.Described.{Described, described}
+use Rattle.cob_entry.specs.Described.{PlainEntry, plain_entry}
 use Rattle.cob_copybook_names.specs.declared.bearer.Bearer.{Bearer as Listed}
 use Rattle.cob_copybook_names.specs.Bearers.{Bearer}
 
@@ -10,8 +10,8 @@ abbrev pub texts : List (Bor (List ℕ)) → List (List ℕ)
 texts names = map (λ t. t.now) names
 
 -- the clauses of a listed entry
-abbrev pub entry_of : Listed → Described
-entry_of b = described b.entry.now
+abbrev pub entry_of : Listed → PlainEntry
+entry_of b = plain_entry b.entry.now
 
 -- a listed entry as one that may bear a name
 abbrev pub bearer_of : Listed → Bearer

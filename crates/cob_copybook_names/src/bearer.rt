@@ -1,5 +1,5 @@
 ghost use Rattle.std.specs.Prelude.{◌≡◌, ℕ, ◌+◌, ◌<◌, ◌≤◌, List, [], ◌∷◌, ◌++◌, map, length, IfOk, OnOk, Bool, ◌||◌, is_some};
-ghost use Rattle.cob_entry.specs.Described.{described};
+ghost use Rattle.cob_entry.specs.Described.{plain_entry};
 ghost use Rattle.cob_copybook_tree.specs.declared.branch.Branch.TheViews.{out-Branch};
 ghost use Rattle.cob_copybook_tree.specs.Forests.{flat, entries_in};
 ghost use Rattle.cob_copybook_tree.specs.Branches.{forest_of};
@@ -29,7 +29,7 @@ fn names_beneath<'a>(
     above: &[&'a [u8]],
 ) -> Result<Vec<&'a [u8]>, AllocError>
     ensures { IfOk result (λ v. 0 < length (out-Branch branch.now).children.items → texts
-        v.items ≡ with_name (described (out-Branch branch.now).entry).name (texts above.now)) }
+        v.items ≡ with_name (plain_entry (out-Branch branch.now).entry).name (texts above.now)) }
 {
     let mut names = Vec::new(alloc);
     if branch.children.is_empty() {
@@ -44,7 +44,7 @@ fn names_beneath<'a>(
 
 /// Whether an entry is a table, or stands in one as the group above it does.
 fn is_in_table(above: bool, entry: &Entry) -> bool
-    ensures { result ≡ (above || is_some (described entry.now).occurs) }
+    ensures { result ≡ (above || is_some (plain_entry entry.now).occurs) }
 {
     above || entry.occurs.is_some()
 }
@@ -60,9 +60,9 @@ fn list_entry<'a>(
     ensures length { OnOk result (length listed.new.items ≡ length listed.old.items + 1) }
     ensures bearers { OnOk result
         (map bearer_of listed.new.items ≡ map bearer_of listed.old.items ++ bearer_at
-        (texts above.now) in_table (length listed.old.items) (described entry.now) ∷ []) }
+        (texts above.now) in_table (length listed.old.items) (plain_entry entry.now) ∷ []) }
     ensures entries { OnOk result (map
-        entry_of listed.new.items ≡ map entry_of listed.old.items ++ described entry.now ∷ []) }
+        entry_of listed.new.items ≡ map entry_of listed.old.items ++ plain_entry entry.now ∷ []) }
 {
     let mut names = Vec::new(alloc);
     names.extend_from_slice(above)?;

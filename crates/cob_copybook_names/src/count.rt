@@ -1,9 +1,9 @@
 ghost use Rattle.std.specs.Prelude.{◌≡◌, ℕ, ◌≤◌, List, [], ◌∷◌, map, IsTrue, IfOk, IfErr, IfSome, IsSomeAnd, IsOkAnd};
-ghost use Rattle.cob_entry.specs.Described.{Described, described};
+ghost use Rattle.cob_entry.specs.Described.{PlainEntry, plain_entry};
 ghost use Rattle.cob_entry.specs.declared.fault.BookRule.TheVariants.{Memory, Count};
 ghost use Rattle.cob_copybook_tree.specs.Forests.{Forest, entries_in};
 ghost use Rattle.cob_copybook_tree.specs.Branches.{forest_of};
-ghost use Rattle.cob_copybook_names.specs.Counts.{IsWholeNumber, MayCount, IsCount, IsCountOf, AreCounts, AreCountsOf, IsRefusedAmong, IsRefused};
+ghost use Rattle.cob_copybook_names.specs.Counts.{IsWholeNumber, MayCount, IsCountOfTable, IsCountOf, AreCounts, AreCountsOfTables, IsRefusedAmong, IsRefused};
 ghost use Rattle.cob_copybook_names.specs.Listed.{bearer_of, entry_of};
 
 use crate::bearer::{Bearer, list_bearers};
@@ -35,9 +35,9 @@ fn may_count(bearer: &Bearer) -> bool
 
 /// The number of the count that table `number` names: none where nothing may be its count.
 fn named_count(directory: &Directory, number: usize, count: &Qualified) -> Option<usize>
-    ensures found { IfSome result (λ c. IsCount (map bearer_of directory.now.bearers.now)
+    ensures found { IfSome result (λ c. IsCountOfTable (map bearer_of directory.now.bearers.now)
         number count.now.name count.now.qualifiers.items c) }
-    ensures only { (c : ℕ) → IsCount (map bearer_of directory.now.bearers.now)
+    ensures only { (c : ℕ) → IsCountOfTable (map bearer_of directory.now.bearers.now)
         number count.now.name count.now.qualifiers.items c → IsSomeAnd result (λ d. d ≡ c) }
 {
     let bearer = directory.only_named(count.name.as_bytes(), count.qualifiers.as_slice())?;
@@ -51,9 +51,9 @@ fn named_count(directory: &Directory, number: usize, count: &Qualified) -> Optio
 /// The number of the count of entry `number`: 0 for one that doesn't vary.
 fn count_of(directory: &Directory, number: usize, entry: &Entry) -> Result<usize, BookFault>
     ensures found { IfOk result (λ c.
-        IsCountOf (map bearer_of directory.now.bearers.now) number (described entry.now).occurs c) }
+        IsCountOf (map bearer_of directory.now.bearers.now) number (plain_entry entry.now).occurs c) }
     ensures only { (c : ℕ) → IsCountOf (map bearer_of directory.now.bearers.now) number
-        (described entry.now).occurs c → IsOkAnd result (λ d. d ≡ c) }
+        (plain_entry entry.now).occurs c → IsOkAnd result (λ d. d ≡ c) }
     ensures fault { IfErr result (λ f. f.rule ≡ Count) }
 {
     match &entry.occurs {
@@ -92,8 +92,8 @@ fn counts_of(alloc: Global, directory: &Directory) -> Result<Vec<usize>, BookFau
 /// B9 on the line of the first table that has no count; B19 where memory is refused.
 pub fn counts(alloc: Global, root: &Branch) -> Result<Vec<usize>, BookFault>
     requires few { entries_in (forest_of (root.now ∷ [])) ≤ 65535 }
-    ensures found { IfOk result (λ v. AreCountsOf (forest_of (root.now ∷ [])) v.items) }
-    ensures only { (cs : List ℕ) → AreCountsOf (forest_of (root.now ∷ [])) cs
+    ensures found { IfOk result (λ v. AreCountsOfTables (forest_of (root.now ∷ [])) v.items) }
+    ensures only { (cs : List ℕ) → AreCountsOfTables (forest_of (root.now ∷ [])) cs
         → IfOk result (λ v. v.items ≡ cs) × IfErr result (λ f. f.rule ≡ Memory) }
     ensures fault { IfErr result (λ f. IsRefused f.rule (forest_of (root.now ∷ []))) }
     ensures memory { IfErr result (λ f. f.rule ≡ Memory → f.line ≡ 0) }
@@ -106,5 +106,6 @@ pub fn counts(alloc: Global, root: &Branch) -> Result<Vec<usize>, BookFault>
 
 /// A law: a tree has its counts in one way.
 pub fn one_list_of_counts()
-    ensures { (t : Forest Described) → (a b : List ℕ) → AreCountsOf t a → AreCountsOf t b → a ≡ b }
+    ensures { (t : Forest PlainEntry) → (a b : List ℕ) → AreCountsOfTables t a
+        → AreCountsOfTables t b → a ≡ b }
 {}

@@ -1,6 +1,6 @@
 ghost use Rattle.std.specs.Prelude.{◌≡◌, ◌≢◌, ℕ, List, map, length, Some, IfOk, OnOk, IfSome, IsSomeAnd};
-ghost use Rattle.cob_entry.specs.Described.{described};
-ghost use Rattle.cob_copybook_names.specs.Bearers.{Bearer as SeenBearer, Names, IsOnlyOne};
+ghost use Rattle.cob_entry.specs.Described.{plain_entry};
+ghost use Rattle.cob_copybook_names.specs.Bearers.{Bearer as SeenBearer, NamesEntry, IsOnlyOne};
 ghost use Rattle.cob_copybook_names.specs.Listed.{bearer_of};
 ghost use Rattle.cob_copybook_names.specs.Links.{names_of, IsLast, AreLinked, noted_for};
 
@@ -32,10 +32,10 @@ fn note<'a>(
     place: usize,
 ) -> Result<Option<usize>, AllocError>
     ensures before { IfOk result (λ before. (name : List ℕ)
-        → (described entry.now).name ≡ Some name → before ≡ noted_for last.old name) }
+        → (plain_entry entry.now).name ≡ Some name → before ≡ noted_for last.old name) }
     ensures noted { OnOk result ((name : List ℕ)
-        → (described entry.now).name ≡ Some name → noted_for last.new name ≡ Some place) }
-    ensures others { OnOk result ((name : List ℕ) → (described entry.now).name ≢ Some name
+        → (plain_entry entry.now).name ≡ Some name → noted_for last.new name ≡ Some place) }
+    ensures others { OnOk result ((name : List ℕ) → (plain_entry entry.now).name ≢ Some name
         → noted_for last.new name ≡ noted_for last.old name) }
 {
     match &entry.name {
@@ -68,9 +68,9 @@ impl<'b, 'a> Directory<'b, 'a> {
 
     /// The only entry that the qualified name names: none where it names none, or several.
     pub fn only_named(&self, name: &[u8], qualifiers: &[Name]) -> Option<&'b Bearer<'a>>
-        ensures found { IfSome result (λ b. IsOnlyOne (Names name.now qualifiers.now)
+        ensures found { IfSome result (λ b. IsOnlyOne (NamesEntry name.now qualifiers.now)
             (map bearer_of self.now.bearers.now) (bearer_of b.now)) }
-        ensures only { (b : SeenBearer) → IsOnlyOne (Names name.now qualifiers.now)
+        ensures only { (b : SeenBearer) → IsOnlyOne (NamesEntry name.now qualifiers.now)
             (map bearer_of self.now.bearers.now) b → IsSomeAnd result (λ r. bearer_of r.now ≡ b) }
     {
         let mut found = None;

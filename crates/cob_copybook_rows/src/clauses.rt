@@ -3,7 +3,7 @@
 use crate::refusal::Refusal;
 use crate::texts::{push_whether, push_word, words_of};
 use cob_copybook_clauses::{
-    Clauses, Constant, Table, condition, is_condition, is_name, left_out, sentence_at, written,
+    Clauses, ValueClause, OccursClause, read_condition_name, is_condition, is_name, left_out, sentence_at, read_entry,
 };
 use cob_rows::{Row, RowFault};
 use cob_source::Token;
@@ -15,7 +15,7 @@ pub(crate) fn answer(alloc: Global, row: &Row, out: &mut String) -> Result<(), R
     let words = words_of(alloc, row.lines(alloc, 1)?.as_slice())?;
     match row.field(0)?.as_bytes() {
         b"entry" => push_written(out, words.as_slice())?,
-        b"condition" => push_found(out, condition(words.as_slice()))?,
+        b"condition" => push_found(out, read_condition_name(words.as_slice()))?,
         b"level 88" => push_whether(out, is_condition(words.as_slice()))?,
         b"left out" => push_found(out, left_out(words.as_slice()))?,
         b"sentences" => push_sentences(out, words.as_slice())?,
@@ -49,7 +49,7 @@ fn push_sentences(out: &mut String, words: &[Token]) -> Result<(), AllocError> {
 
 /// Writes the entry that words are: its level, its name or a hyphen, and its clauses.
 fn push_written(out: &mut String, words: &[Token]) -> Result<(), AllocError> {
-    let Some(entry) = written(words) else {
+    let Some(entry) = read_entry(words) else {
         return out.push_str("none");
     };
     push_word(out, entry.level)?;
@@ -89,15 +89,15 @@ fn push_clauses(out: &mut String, clauses: &Clauses<'_>) -> Result<(), AllocErro
 }
 
 /// Writes a VALUE clause.
-fn push_constant(out: &mut String, constant: Constant<'_>) -> Result<(), AllocError> {
+fn push_constant(out: &mut String, constant: ValueClause<'_>) -> Result<(), AllocError> {
     match constant {
-        Constant::Word(text) => push_marked(out, " V:", text)?,
-        Constant::Literal(text) => {
+        ValueClause::Word(text) => push_marked(out, " V:", text)?,
+        ValueClause::Literal(text) => {
             push_marked(out, " V:'", text)?;
             out.push('\'')?;
         }
-        Constant::Figurative(figurative) => write!(out, " V:{figurative:?}")?,
-        Constant::All(text) => {
+        ValueClause::Figurative(figurative) => write!(out, " V:{figurative:?}")?,
+        ValueClause::All(text) => {
             push_marked(out, " V:ALL '", text)?;
             out.push('\'')?;
         }
@@ -114,7 +114,7 @@ fn push_words(out: &mut String, words: &[Token]) -> Result<(), AllocError> {
 }
 
 /// Writes an OCCURS clause.
-fn push_table(out: &mut String, table: &Table<'_>) -> Result<(), AllocError> {
+fn push_table(out: &mut String, table: &OccursClause<'_>) -> Result<(), AllocError> {
     out.push_str(" O:")?;
     if let Some(least) = table.least {
         push_word(out, least)?;

@@ -6,7 +6,7 @@ ghost use Rattle.cob_copybook_lengths.specs.Areas.{ArePossible};
 
 use crate::refusal::Refusal;
 use crate::trees::record_of;
-use cob_copybook_lengths::judged;
+use cob_copybook_lengths::judge_lengths;
 use cob_copybook_tree::{Kind, Node};
 use cob_rows::{Row, RowFault};
 use std::alloc::Global;
@@ -21,7 +21,7 @@ pub(crate) fn answer(alloc: Global, row: &Row, out: &mut String) -> Result<(), R
     if !are_possible(slice::from_ref(&root)) {
         return Err(Refusal::Row(RowFault::BadRow));
     }
-    judged(&root)?;
+    judge_lengths(&root)?;
     out.push_str("yes")?;
     Ok(())
 }

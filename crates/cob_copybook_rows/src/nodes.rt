@@ -1,6 +1,6 @@
 //! Records as they are written in answers.
 
-use cob_copybook_tree::{Item, Kind, Node, Times};
+use cob_copybook_tree::{Item, Kind, Node, ResolvedOccurs};
 use cob_entry::Usage;
 use std::alloc::AllocError;
 use std::fmt::Write;
@@ -20,11 +20,11 @@ fn push_item(out: &mut String, item: &Item) -> Result<(), AllocError> {
 }
 
 /// Writes how often an entry occurs, unless it is once.
-fn push_times(out: &mut String, times: Times) -> Result<(), AllocError> {
+fn push_times(out: &mut String, times: ResolvedOccurs) -> Result<(), AllocError> {
     match times {
-        Times::Once => {}
-        Times::Fixed(times) => write!(out, "*{times}")?,
-        Times::Varying { least, most, count } => write!(out, "*{least}-{most}@{count}")?,
+        ResolvedOccurs::Once => {}
+        ResolvedOccurs::Fixed(times) => write!(out, "*{times}")?,
+        ResolvedOccurs::Varying { least, most, count } => write!(out, "*{least}-{most}@{count}")?,
     }
     Ok(())
 }

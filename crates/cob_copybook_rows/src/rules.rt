@@ -2,7 +2,7 @@
 
 use crate::refusal::Refusal;
 use crate::trees::tree_of;
-use cob_copybook_rules::judged;
+use cob_copybook_rules::judge_clauses;
 use cob_rows::{Row, RowFault};
 use std::alloc::Global;
 
@@ -11,7 +11,7 @@ pub(crate) fn answer(alloc: Global, row: &Row, out: &mut String) -> Result<(), R
     if row.field(0)? != "agree" {
         return Err(Refusal::Row(RowFault::BadRow));
     }
-    judged(&tree_of(alloc, row)?)?;
+    judge_clauses(&tree_of(alloc, row)?)?;
     out.push_str("yes")?;
     Ok(())
 }

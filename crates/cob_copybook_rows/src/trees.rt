@@ -1,7 +1,7 @@
 //! The tree that entries stand for, and its lengths.
 
 ghost use Rattle.std.specs.Prelude.{◌≤◌, [], ◌∷◌, map, IsTrue, IfOk};
-ghost use Rattle.cob_entry.specs.Described.{described};
+ghost use Rattle.cob_entry.specs.Described.{plain_entry};
 ghost use Rattle.cob_copybook_tree.specs.Branches.{AreLevels, forest_of};
 ghost use Rattle.cob_copybook_tree.specs.Forests.{entries_in};
 
@@ -9,7 +9,7 @@ use crate::nodes::{push_each, push_tree};
 use crate::refusal::Refusal;
 use crate::texts::entries_of;
 use cob_copybook_tree::{
-    Branch, Kind, Node, as_many_entries, element_length, planted, resolve, whole_length,
+    Branch, Kind, Node, as_many_entries, element_length, build_tree, resolve, whole_length,
 };
 use cob_entry::Entry;
 use cob_rows::{Row, RowFault};
@@ -44,7 +44,7 @@ fn numbers_of(alloc: Global, field: &str) -> Result<Vec<usize>, RowFault> {
 
 /// Whether a tree may be planted from the entries.
 fn are_levels(entries: &[Entry]) -> bool
-    ensures { IsTrue result → AreLevels (map described entries.now) }
+    ensures { IsTrue result → AreLevels (map plain_entry entries.now) }
 {
     let Some((first, others)) = entries.split_first() else {
         return false;
@@ -70,7 +70,7 @@ pub(crate) fn tree_of(alloc: Global, row: &Row) -> Result<Branch, Refusal>
         return Err(Refusal::Row(RowFault::BadRow));
     }
     as_many_entries();
-    Ok(planted(alloc, entries)?)
+    Ok(build_tree(alloc, entries)?)
 }
 
 /// The record of a row's entries, with what they inherit.

@@ -1,11 +1,11 @@
 -- A tree whose clauses agree breaks no rule on them.
-use Rattle.cob_entry.specs.Described.{Described}
+use Rattle.cob_entry.specs.Described.{PlainEntry}
 use Rattle.cob_entry.specs.declared.fault.BookRule.{BookRule}
 use Rattle.cob_entry.specs.declared.fault.BookRule.TheVariants as rule
 use Rattle.cob_copybook_tree.specs.Forests.{Forest}
-use Rattle.cob_copybook_rules.specs.Rules.{AgreeAll, Breaks}
+use Rattle.cob_copybook_rules.specs.Rules.{AgreeAll, BreaksClauseRule}
 
-pub not_broken : (r : BookRule) (t : Forest Described) → Breaks r t → AgreeAll t → ⊥
+pub not_broken : (r : BookRule) (t : Forest PlainEntry) → BreaksClauseRule r t → AgreeAll t → ⊥
 not_broken (rule.Source f) t breaks agree = breaks
 not_broken rule.NoEntry t breaks agree = breaks
 not_broken rule.Grammar t breaks agree = breaks

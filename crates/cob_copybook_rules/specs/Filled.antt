@@ -1,17 +1,17 @@
 -- Items and groups: an entry has a picture, or entries beneath it.
 use Rattle.std.specs.Prelude.{Option, Some, None}
-use Rattle.cob_picture.specs.Positions.{Seen}
-use Rattle.cob_entry.specs.Described.{Described}
-use Rattle.cob_copybook_tree.specs.Forests.{Forest, Bare, Grows}
+use Rattle.cob_picture.specs.Positions.{PlainPicture}
+use Rattle.cob_entry.specs.Described.{PlainEntry}
+use Rattle.cob_copybook_tree.specs.Forests.{Forest, NoEntries, AnEntry}
 
 -- an entry with a picture has none beneath it, an entry without one has
-abbrev pub IsFilled : Option Seen → Forest Described → Type 0
-IsFilled None Bare = ⊥
-IsFilled None (Grows e kids more) = Unit {0}
-IsFilled (Some p) Bare = Unit {0}
-IsFilled (Some p) (Grows e kids more) = ⊥
+abbrev pub IsFilled : Option PlainPicture → Forest PlainEntry → Type 0
+IsFilled None NoEntries = ⊥
+IsFilled None (AnEntry e children more) = Unit {0}
+IsFilled (Some p) NoEntries = Unit {0}
+IsFilled (Some p) (AnEntry e children more) = ⊥
 
 -- each entry is an item or a group
-abbrev pub AreFilled : Forest Described → Type 0
-AreFilled Bare = Unit {0}
-AreFilled (Grows e kids more) = IsFilled e.picture kids × AreFilled kids × AreFilled more
+abbrev pub AreFilled : Forest PlainEntry → Type 0
+AreFilled NoEntries = Unit {0}
+AreFilled (AnEntry e children more) = IsFilled e.picture children × AreFilled children × AreFilled more

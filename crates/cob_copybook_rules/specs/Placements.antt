@@ -1,7 +1,7 @@
 -- JUSTIFIED and BLANK WHEN ZERO: which items may have them.
 use Rattle.std.specs.Prelude.{◌≡◌, Bool, true, false, List, Option, Some, None, unwrap_or}
 use Rattle.std.specs.List.{list_any}
-use Rattle.cob_picture.specs.Positions.{Seen, is}
+use Rattle.cob_picture.specs.Positions.{PlainPicture, is}
 use Rattle.cob_picture.specs.Counts.{signed, is_scaling}
 use Rattle.cob_picture.specs.declared.position.Position.{Position}
 use Rattle.cob_picture.specs.declared.symbol.Symbol.TheVariants.{Star}
@@ -9,23 +9,23 @@ use Rattle.cob_picture.specs.declared.category.Category.{Category}
 use Rattle.cob_picture.specs.declared.category.Category.TheVariants.{Alphabetic, Numeric, Alphanumeric, AlphanumericEdited, NumericEdited}
 use Rattle.cob_entry.specs.declared.kinds.Usage.{Usage}
 use Rattle.cob_entry.specs.declared.kinds.Usage.TheVariants.{Display}
-use Rattle.cob_entry.specs.Described.{Described}
-use Rattle.cob_copybook_tree.specs.Forests.{Forest, Bare, Grows}
+use Rattle.cob_entry.specs.Described.{PlainEntry}
+use Rattle.cob_copybook_tree.specs.Forests.{Forest, NoEntries, AnEntry}
 use Rattle.cob_copybook_tree.specs.Resolving.{inherited, is_display}
 
 -- letters or characters
-abbrev pub HasCharacters : Category → Type 0
-HasCharacters Alphabetic = Unit {0}
-HasCharacters Alphanumeric = Unit {0}
-HasCharacters Numeric = ⊥
-HasCharacters AlphanumericEdited = ⊥
-HasCharacters NumericEdited = ⊥
+abbrev pub TakesCharacters : Category → Type 0
+TakesCharacters Alphabetic = Unit {0}
+TakesCharacters Alphanumeric = Unit {0}
+TakesCharacters Numeric = ⊥
+TakesCharacters AlphanumericEdited = ⊥
+TakesCharacters NumericEdited = ⊥
 
 -- JUSTIFIED asks for an alphabetic or alphanumeric item
-abbrev pub MayBeJustified : Bool → Option Seen → Type 0
+abbrev pub MayBeJustified : Bool → Option PlainPicture → Type 0
 MayBeJustified false picture = Unit {0}
 MayBeJustified true None = ⊥
-MayBeJustified true (Some p) = HasCharacters p.category
+MayBeJustified true (Some p) = TakesCharacters p.category
 
 -- an asterisk stands in the picture
 abbrev pub has_star : List Position → Bool
@@ -44,13 +44,13 @@ CanBeBlank Alphanumeric usage ps = ⊥
 CanBeBlank AlphanumericEdited usage ps = ⊥
 
 -- BLANK WHEN ZERO asks for one of these
-abbrev pub MayBeBlank : Bool → Usage → Option Seen → Type 0
+abbrev pub MayBeBlank : Bool → Usage → Option PlainPicture → Type 0
 MayBeBlank false usage picture = Unit {0}
 MayBeBlank true usage None = ⊥
 MayBeBlank true usage (Some p) = CanBeBlank p.category usage p.positions
 
 -- the clauses beneath groups with this usage are allowed
-abbrev pub ArePlaced : Option Usage → Forest Described → Type 0
-ArePlaced above Bare = Unit {0}
-ArePlaced above (Grows e kids more) =
-    MayBeJustified e.justified e.picture × MayBeBlank e.blank (unwrap_or (inherited above e.usage) Display) e.picture × ArePlaced (inherited above e.usage) kids × ArePlaced above more
+abbrev pub ArePlaced : Option Usage → Forest PlainEntry → Type 0
+ArePlaced above NoEntries = Unit {0}
+ArePlaced above (AnEntry e children more) =
+    MayBeJustified e.justified e.picture × MayBeBlank e.blank (unwrap_or (inherited above e.usage) Display) e.picture × ArePlaced (inherited above e.usage) children × ArePlaced above more

@@ -6,9 +6,9 @@
 //! another at most `MAX_DIMENSIONS` deep, and a record is none (B8), and JUSTIFIED and BLANK WHEN ZERO stand only where they may
 //! (B11).
 //!
-//! What it promises of [`judged`]: a tree that it accepts keeps all of these rules (clause `fine`), and a tree that it refuses
+//! What it promises of [`judge_clauses`]: a tree that it accepts keeps all of these rules (clause `fine`), and a tree that it refuses
 //! breaks the rule that it names (clause `broken`). Each rule is a definition over trees of entries, by itself: `AreFilled`,
-//! `AreUsages`, `AreSigned`, `AreTables` and `ArePlaced` of specs/, which `AgreeAll` and `Breaks` of specs/Rules.antt name. That no
+//! `AreUsages`, `AreSigned`, `AreTables` and `ArePlaced` of specs/, which `AgreeAll` and `BreaksClauseRule` of specs/Rules.antt name. That no
 //! tree does both is the law [`breaks_no_rule`]. So the answer is an `Ok` exactly for the trees whose clauses agree. No clause says
 //! which line is named for a broken rule: it is the first of an entry that breaks it, a parent before its children.
 //!
@@ -23,4 +23,4 @@ mod signs;
 mod tables;
 mod usages;
 
-pub use rules::{breaks_no_rule, judged};
+pub use rules::{breaks_no_rule, judge_clauses};

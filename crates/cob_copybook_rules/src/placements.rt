@@ -3,7 +3,7 @@ ghost use Rattle.std.specs.Option.{IsNone};
 ghost use Rattle.std.specs.List.{list_any};
 ghost use Rattle.cob_picture.specs.Positions.{is};
 ghost use Rattle.cob_copybook_tree.specs.Branches.{forest_of};
-ghost use Rattle.cob_copybook_rules.specs.Placements.{HasCharacters, MayBeJustified, CanBeBlank, MayBeBlank, ArePlaced};
+ghost use Rattle.cob_copybook_rules.specs.Placements.{TakesCharacters, MayBeJustified, CanBeBlank, MayBeBlank, ArePlaced};
 
 use crate::usages::inherited;
 use cob_copybook_tree::Branch;

@@ -1,7 +1,7 @@
 ghost use Rattle.std.specs.Prelude.{◌≡◌, [], ◌∷◌, OnOk, IfOk, IfErr, IsSome};
 ghost use Rattle.std.specs.Option.{IsNone};
 ghost use Rattle.cob_copybook_tree.specs.Branches.{forest_of};
-ghost use Rattle.cob_copybook_rules.specs.Rules.{AgreeAll, Breaks, BreaksNoRule};
+ghost use Rattle.cob_copybook_rules.specs.Rules.{AgreeAll, BreaksClauseRule, AgreeingBreaksNoRule};
 
 use crate::filled::unfilled;
 use crate::placements::wrong_placement;
@@ -29,9 +29,9 @@ fn kept(rule: BookRule, broken: Option<u32>) -> Result<(), BookFault>
 ///
 /// The first rule on clauses that the tree is found to break, and the line of the entry that breaks it: B3 on items and groups, B5,
 /// B6, B8 or B11.
-pub fn judged(root: &Branch) -> Result<(), BookFault>
+pub fn judge_clauses(root: &Branch) -> Result<(), BookFault>
     ensures fine { IfOk result (λ _. AgreeAll (forest_of (root.now ∷ []))) }
-    ensures broken { IfErr result (λ f. Breaks f.rule (forest_of (root.now ∷ []))) }
+    ensures broken { IfErr result (λ f. BreaksClauseRule f.rule (forest_of (root.now ∷ []))) }
 {
     let roots = slice::from_ref(root);
     kept(BookRule::Level, unfilled(roots))?;
@@ -43,5 +43,5 @@ pub fn judged(root: &Branch) -> Result<(), BookFault>
 
 /// A tree whose clauses agree breaks no rule on them.
 pub fn breaks_no_rule()
-    ensures { BreaksNoRule }
+    ensures { AgreeingBreaksNoRule }
 {}

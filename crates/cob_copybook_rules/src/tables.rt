@@ -1,9 +1,9 @@
 ghost use Rattle.std.specs.Prelude.{◌≡◌, ◌≤◌, IsTrue, option_map};
 ghost use Rattle.std.specs.Option.{IsNone};
 ghost use Rattle.cob_limits.specs.Limits.{most_dimensions};
-ghost use Rattle.cob_entry.specs.Described.{described, times};
+ghost use Rattle.cob_entry.specs.Described.{plain_entry, plain_occurs};
 ghost use Rattle.cob_copybook_tree.specs.Branches.{forest_of};
-ghost use Rattle.cob_copybook_rules.specs.Tables.{dimension, IsPossible, IsNoRecordTable, AreTables};
+ghost use Rattle.cob_copybook_rules.specs.Tables.{dimension, HasValidNumbers, IsNoRecordTable, AreTables};
 
 use cob_copybook_tree::Branch;
 use cob_entry::{Entry, Occurs};
@@ -11,7 +11,7 @@ use cob_limits::MAX_DIMENSIONS;
 
 /// How many dimensions an entry adds to those of the tables that hold it.
 fn dimension(occurs: &Option<Occurs>) -> u32
-    ensures value { result ≡ dimension (option_map times occurs.now) }
+    ensures value { result ≡ dimension (option_map plain_occurs occurs.now) }
     ensures bound { result ≤ 1 }
 {
     u32::from(occurs.is_some())
@@ -19,8 +19,8 @@ fn dimension(occurs: &Option<Occurs>) -> u32
 
 /// Whether an entry can occur that often.
 fn is_possible(occurs: &Option<Occurs>) -> bool
-    ensures yes { IsTrue result → IsPossible (option_map times occurs.now) }
-    ensures must { IsPossible (option_map times occurs.now) → IsTrue result }
+    ensures yes { IsTrue result → HasValidNumbers (option_map plain_occurs occurs.now) }
+    ensures must { HasValidNumbers (option_map plain_occurs occurs.now) → IsTrue result }
 {
     match occurs {
         None => true,
@@ -31,8 +31,8 @@ fn is_possible(occurs: &Option<Occurs>) -> bool
 
 /// Whether the entry is no record, or is no table.
 fn is_no_record_table(entry: &Entry) -> bool
-    ensures yes { IsTrue result → IsNoRecordTable (described entry.now) }
-    ensures must { IsNoRecordTable (described entry.now) → IsTrue result }
+    ensures yes { IsTrue result → IsNoRecordTable (plain_entry entry.now) }
+    ensures must { IsNoRecordTable (plain_entry entry.now) → IsTrue result }
 {
     entry.level != 1 || entry.occurs.is_none()
 }

@@ -2,13 +2,13 @@
 //! call's own requests is refused, the answer is whole.
 
 ghost use Rattle.std.specs.Prelude.{◌≤◌, length, map, IsTrue};
-ghost use Rattle.cob_entry.specs.Described.{described};
+ghost use Rattle.cob_entry.specs.Described.{plain_entry};
 ghost use Rattle.cob_copybook_tree.specs.Branches.{AreLevels};
 
 use cob_copybook::{Book, Role};
 use cob_copybook_entries::entries;
 use cob_copybook_names::counts;
-use cob_copybook_tree::{Node, as_many_entries, planted, resolve, whole_length};
+use cob_copybook_tree::{Node, as_many_entries, build_tree, resolve, whole_length};
 use cob_entry::{BookFault, BookRule, Entry};
 use cob_source::{SourceFault, Token, tokens};
 use std::alloc::{AllocError, Global};
@@ -39,7 +39,7 @@ fn entries_at_last(alloc: Global, text: &[u8]) -> Result<Vec<Entry>, BookFault> 
 
 /// Whether a tree may be planted from the entries.
 fn are_levels(entries: &[Entry]) -> bool
-    ensures { IsTrue result → AreLevels (map described entries.now) }
+    ensures { IsTrue result → AreLevels (map plain_entry entries.now) }
 {
     let Some((first, others)) = entries.split_first() else {
         return false;
@@ -57,20 +57,20 @@ fn are_levels(entries: &[Entry]) -> bool
 
 /// The record that the entries are.
 fn resolved(alloc: Global, entries: Vec<Entry>) -> Result<Node, AllocError>
-    requires levels { AreLevels (map described entries.items) }
+    requires levels { AreLevels (map plain_entry entries.items) }
     requires few { length entries.items ≤ 65535 }
 {
-    let root = planted(alloc, entries)?;
+    let root = build_tree(alloc, entries)?;
     as_many_entries();
     resolve(alloc, &root, &[])
 }
 
 /// The counts of the record that the entries are.
 fn counted(alloc: Global, entries: Vec<Entry>) -> Result<Vec<usize>, BookFault>
-    requires levels { AreLevels (map described entries.items) }
+    requires levels { AreLevels (map plain_entry entries.items) }
     requires few { length entries.items ≤ 65535 }
 {
-    let root = planted(alloc, entries)?;
+    let root = build_tree(alloc, entries)?;
     as_many_entries();
     counts(alloc, &root)
 }

@@ -1,6 +1,6 @@
 //! Tables that no text of entries describes, since an entry by itself may not be one.
 
-use cob_copybook_rules::judged;
+use cob_copybook_rules::judge_clauses;
 use cob_copybook_tree::Branch;
 use cob_entry::{BookFault, BookRule, Entry, Name, Occurs, Qualified};
 use cob_picture::Picture;
@@ -44,7 +44,7 @@ fn wrong_bounds(rt: HostRuntime) -> Result<(), Fail> {
         rule: BookRule::Table,
         line: 2,
     });
-    assert!(rt; judged(&record(alloc, Occurs::Fixed(0))?) == wrong);
+    assert!(rt; judge_clauses(&record(alloc, Occurs::Fixed(0))?) == wrong);
     let count = Qualified {
         name: Name::from_characters(b"N"),
         qualifiers: Vec::new(alloc),
@@ -54,6 +54,6 @@ fn wrong_bounds(rt: HostRuntime) -> Result<(), Fail> {
         most: 2,
         count,
     };
-    assert!(rt; judged(&record(alloc, unvarying)?) == wrong);
+    assert!(rt; judge_clauses(&record(alloc, unvarying)?) == wrong);
     Ok(())
 }

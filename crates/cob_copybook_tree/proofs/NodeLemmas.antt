@@ -4,15 +4,15 @@ use Rattle.std.proofs.lemmas.List.{at_drop_more}
 use Rattle.cob_copybook_tree.specs.declared.node.Node.{Node}
 use Rattle.cob_copybook_tree.specs.declared.node.Node.TheViews.{out-Node}
 use Rattle.cob_copybook_tree.specs.declared.node.Node.TheFolds.{fold_out-Node}
-use Rattle.cob_copybook_tree.specs.Forests.{Forest, Bare, Grows, Tree}
+use Rattle.cob_copybook_tree.specs.Forests.{Forest, NoEntries, AnEntry, Tree}
 use Rattle.cob_copybook_tree.specs.Nodes.{Resolved, resolved_entry, node, node_step, forest}
 
 pub node_out : (n : Node) → node n ≡ record { top = resolved_entry (out-Node n); beneath = forest (out-Node n).children.items }
 node_out n = fold_out-Node (Tree Resolved) node_step n
 
 -- a node beside others
-pub forest_out : (n : Node) (ns : List Node) → forest (n ∷ ns) ≡ Grows (resolved_entry (out-Node n)) (forest (out-Node n).children.items) (forest ns)
-forest_out n ns = ap (λ (t : Tree Resolved). Grows t.top t.beneath (forest ns)) (node_out n)
+pub forest_out : (n : Node) (ns : List Node) → forest (n ∷ ns) ≡ AnEntry (resolved_entry (out-Node n)) (forest (out-Node n).children.items) (forest ns)
+forest_out n ns = ap (λ (t : Tree Resolved). AnEntry t.top t.beneath (forest ns)) (node_out n)
 
 -- the nodes from a place on
 pub forest_at : (ns : List Node) (i : ℕ) (n : Node) → i < length ns → n ≡ get_or ns i n → forest (drop i ns) ≡ forest (n ∷ drop (i + 1) ns)
@@ -20,14 +20,14 @@ forest_at ns i n lt is = at_drop_more forest ns i n lt ∙ ap (λ (m : Node). fo
 
 -- trees, and others beside them
 abbrev pub beside : {A : Type 0} → Forest A → Forest A → Forest A
-beside Bare f = f
-beside (Grows e kids more) f = Grows e kids (beside more f)
+beside NoEntries f = f
+beside (AnEntry e children more) f = AnEntry e children (beside more f)
 
-pub beside_none : {A : Type 0} (f : Forest A) → beside f Bare ≡ f
-beside_none Bare = refl
-beside_none (Grows e kids more) = ap (λ t. Grows e kids t) (beside_none more)
+pub beside_none : {A : Type 0} (f : Forest A) → beside f NoEntries ≡ f
+beside_none NoEntries = refl
+beside_none (AnEntry e children more) = ap (λ t. AnEntry e children t) (beside_none more)
 
 -- a further node beside the others
 pub forest_push : (ns : List Node) (n : Node) (f : Forest Resolved) → beside (forest (ns ++ n ∷ [])) f ≡ beside (forest ns) (beside (forest (n ∷ [])) f)
 forest_push [] n f = refl
-forest_push (m ∷ ns) n f = ap (λ t. Grows (node m).top (node m).beneath t) (forest_push ns n f)
+forest_push (m ∷ ns) n f = ap (λ t. AnEntry (node m).top (node m).beneath t) (forest_push ns n f)

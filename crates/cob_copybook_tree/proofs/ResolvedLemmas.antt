@@ -2,11 +2,11 @@
 use Rattle.std.proofs.Common.{◌≡◌, ℕ, ◌+◌, ◌<◌, List, [], ◌∷◌, ◌++◌, length, drop, get_or, slice_index, Option, refl, sym, ap, ◌∙◌, arith}
 use Rattle.cob_entry.specs.declared.kinds.Usage.{Usage}
 use Rattle.cob_entry.specs.declared.kinds.Sign.{Sign}
-use Rattle.cob_entry.specs.Described.{described}
+use Rattle.cob_entry.specs.Described.{plain_entry}
 use Rattle.cob_copybook_tree.specs.declared.branch.Branch.{Branch}
 use Rattle.cob_copybook_tree.specs.declared.branch.Branch.TheViews.{out-Branch}
 use Rattle.cob_copybook_tree.specs.declared.node.Node.{Node}
-use Rattle.cob_copybook_tree.specs.Forests.{Forest, Bare, Grows, Tree, entries_in}
+use Rattle.cob_copybook_tree.specs.Forests.{Forest, NoEntries, AnEntry, Tree, entries_in}
 use Rattle.cob_copybook_tree.specs.Branches.{branch, forest_of}
 use Rattle.cob_copybook_tree.specs.Nodes.{Resolved, node, forest}
 use Rattle.cob_copybook_tree.specs.Resolving.{inherited, resolved, resolved_by}
@@ -30,7 +30,7 @@ resolved_split counts n usage sign b bs =
     let d = (branch b).top in
     let own_usage = inherited usage d.usage in
     let own_sign = inherited sign d.sign in
-    ap (λ (j : ℕ). Grows (resolved_by n (slice_index counts n) own_usage own_sign d) (resolved counts (n + 1) own_usage own_sign (branch b).beneath) (resolved counts j usage sign (forest_of bs))) k
+    ap (λ (j : ℕ). AnEntry (resolved_by n (slice_index counts n) own_usage own_sign d) (resolved counts (n + 1) own_usage own_sign (branch b).beneath) (resolved counts j usage sign (forest_of bs))) k
 
 -- a further branch resolved
 pub next_node : (counts : List ℕ) (n : ℕ) (usage : Option Usage) (sign : Option Sign) (bs : List Branch) (i : ℕ) (b : Branch) (ns : List Node) (m : Node) (all : Forest Resolved)
@@ -49,11 +49,11 @@ next_node counts n usage sign bs i b ns m all lt is before e =
 -- the node of a branch, when all its children are resolved
 pub last_node : (counts : List ℕ) (n : ℕ) (usage own_usage : Option Usage) (sign own_sign : Option Sign) (count : ℕ) (b : Branch) (ns : List Node) (m : Node)
     → count ≡ slice_index counts n → own_usage ≡ inherited usage (out-Branch b).entry.usage → own_sign ≡ inherited sign (out-Branch b).entry.sign
-    → node m ≡ record { top = resolved_by n count own_usage own_sign (described (out-Branch b).entry); beneath = forest ns }
+    → node m ≡ record { top = resolved_by n count own_usage own_sign (plain_entry (out-Branch b).entry); beneath = forest ns }
     → forest ns ≡ resolved counts (n + 1) own_usage own_sign (forest_of (out-Branch b).children.items)
     → forest (m ∷ []) ≡ resolved counts n usage sign (forest_of (b ∷ []))
 last_node counts n usage own_usage sign own_sign count b ns m is_count is_usage is_sign is_node beneath =
-    ap (λ (t : Tree Resolved). Grows t.top t.beneath Bare) is_node
-    ∙ ap (λ f. Grows (resolved_by n count own_usage own_sign (described (out-Branch b).entry)) f Bare) beneath
+    ap (λ (t : Tree Resolved). AnEntry t.top t.beneath NoEntries) is_node
+    ∙ ap (λ f. AnEntry (resolved_by n count own_usage own_sign (plain_entry (out-Branch b).entry)) f NoEntries) beneath
     ∙ rw (is_count, is_usage, is_sign) refl
     ∙ ap (λ f. resolved counts n usage sign f) (sym (branches.forest_out b []))

@@ -1,12 +1,13 @@
 -- Entries with what they inherit and what their names refer to, as a tree.
 use Rattle.std.specs.Prelude.{ℕ, List, map, Option, option_map}
-use Rattle.cob_entry.specs.Described.{Constant, constant}
+use Rattle.cob_copybook_tree.specs.Nodes.{alone}
+use Rattle.cob_entry.specs.Described.{PlainValue, plain_value}
 use Rattle.cob_copybook_tree.specs.declared.node.Node.{Node}
 use Rattle.cob_copybook_tree.specs.declared.node.Node.TheOpen.{Node-F}
 use Rattle.cob_copybook_tree.specs.declared.node.Node.TheFolds.{fold-Node}
-use Rattle.cob_copybook_tree.specs.declared.node.Times.{Times}
+use Rattle.cob_copybook_tree.specs.declared.node.ResolvedOccurs.{ResolvedOccurs}
 use Rattle.cob_copybook_tree.specs.declared.node.Kind.{Kind}
-use Rattle.cob_copybook_tree.specs.Forests.{Forest, Tree, grown}
+use Rattle.cob_copybook_tree.specs.Forests.{Forest, Tree, grown, NoEntries, AnEntry}
 
 -- an entry by itself
 pub record Resolved : Type 0 where
@@ -14,13 +15,13 @@ pub record Resolved : Type 0 where
   pub level : ℕ
   pub name : Option (List ℕ)
   pub kind : Kind
-  pub occurs : Times
+  pub occurs : ResolvedOccurs
   pub redefines : Option (List ℕ)
-  pub value : Option Constant
+  pub value : Option PlainValue
 
 -- the entry of a node, without the nodes beneath it
 abbrev pub resolved_entry : {A : Type 0} → Node-F A → Resolved
-resolved_entry f = record { number = f.number; level = f.level; name = f.name; kind = f.kind; occurs = f.occurs; redefines = f.redefines; value = option_map constant f.value }
+resolved_entry f = record { number = f.number; level = f.level; name = f.name; kind = f.kind; occurs = f.occurs; redefines = f.redefines; value = option_map plain_value f.value }
 
 -- an entry by itself, and the trees of its children beneath it
 abbrev pub node_step : Node-F (Tree Resolved) → Tree Resolved
@@ -33,3 +34,7 @@ node = fold-Node (Tree Resolved) node_step
 -- nodes side by side
 abbrev pub forest : List Node → Forest Resolved
 forest ns = grown (map node ns)
+
+-- an entry by itself, with those beneath it
+abbrev pub alone : Tree Resolved → Forest Resolved
+alone t = AnEntry t.top t.beneath NoEntries

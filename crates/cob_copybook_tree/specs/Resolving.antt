@@ -1,6 +1,6 @@
 -- What entries inherit, and what their counts' names refer to.
 use Rattle.std.specs.Prelude.{ℕ, ◌+◌, Bool, true, false, ◌&&◌, List, slice_index, Option, Some, None, unwrap_or}
-use Rattle.cob_picture.specs.Positions.{Seen}
+use Rattle.cob_picture.specs.Positions.{PlainPicture}
 use Rattle.cob_picture.specs.Counts.{signed}
 use Rattle.cob_picture.specs.declared.category.Category.{Category}
 use Rattle.cob_picture.specs.declared.category.Category.TheVariants.{Alphabetic, Numeric, Alphanumeric, AlphanumericEdited, NumericEdited}
@@ -8,12 +8,12 @@ use Rattle.cob_entry.specs.declared.kinds.Usage.{Usage}
 use Rattle.cob_entry.specs.declared.kinds.Usage.TheVariants.{Display, Binary, Packed}
 use Rattle.cob_entry.specs.declared.kinds.Sign.{Sign}
 use Rattle.cob_entry.specs.Described as described
-use Rattle.cob_entry.specs.Described.{Described}
-use Rattle.cob_copybook_tree.specs.declared.node.Times.{Times}
-use Rattle.cob_copybook_tree.specs.declared.node.Times.TheVariants.{Once, Fixed, Varying}
+use Rattle.cob_entry.specs.Described.{PlainEntry}
+use Rattle.cob_copybook_tree.specs.declared.node.ResolvedOccurs.{ResolvedOccurs}
+use Rattle.cob_copybook_tree.specs.declared.node.ResolvedOccurs.TheVariants.{Once, Fixed, Varying}
 use Rattle.cob_copybook_tree.specs.declared.node.Kind.{Kind}
 use Rattle.cob_copybook_tree.specs.declared.node.Kind.TheVariants.{Group, Item as ItemKind}
-use Rattle.cob_copybook_tree.specs.Forests.{Forest, Bare, Grows, entries_in}
+use Rattle.cob_copybook_tree.specs.Forests.{Forest, NoEntries, AnEntry, entries_in}
 use Rattle.cob_copybook_tree.specs.Nodes.{Resolved}
 
 -- an entry's own clause, else that of the nearest group that has one
@@ -36,7 +36,7 @@ is_display Binary = false
 is_display Packed = false
 
 -- a signed DISPLAY number
-abbrev pub keeps_sign : Usage → Seen → Bool
+abbrev pub keeps_sign : Usage → PlainPicture → Bool
 keeps_sign usage p = is_display usage && (is_numeric p.category && signed p.positions)
 
 -- SIGN acts on signed DISPLAY numbers alone
@@ -45,32 +45,32 @@ acting true sign = sign
 acting false sign = None
 
 -- an entry with a picture is an item
-abbrev pub kind_of : Option Seen → Usage → Option Sign → Bool → Bool → Kind
-kind_of None usage sign justified blank = Group
-kind_of (Some p) usage sign justified blank = ItemKind (record { picture = p; usage = usage; sign = acting (keeps_sign usage p) sign; justified = justified; blank = blank })
+abbrev pub kind_by_picture : Option PlainPicture → Usage → Option Sign → Bool → Bool → Kind
+kind_by_picture None usage sign justified blank = Group
+kind_by_picture (Some p) usage sign justified blank = ItemKind (record { picture = p; usage = usage; sign = acting (keeps_sign usage p) sign; justified = justified; blank = blank })
 
 -- how often an entry occurs, where its count's number is this one
-abbrev pub times_of : Option described.Times → ℕ → Times
+abbrev pub times_of : Option described.PlainOccurs → ℕ → ResolvedOccurs
 times_of None count = Once
 times_of (Some (described.Fixed n)) count = Fixed n
 times_of (Some (described.Varying least most name qualifiers)) count = Varying least most count
 
 -- an entry with what it inherits, its number, and the number of its count
-abbrev pub resolved_by : ℕ → ℕ → Option Usage → Option Sign → Described → Resolved
+abbrev pub resolved_by : ℕ → ℕ → Option Usage → Option Sign → PlainEntry → Resolved
 resolved_by number count usage sign e = record {
   number = number;
   level = e.level;
   name = e.name;
-  kind = kind_of e.picture (unwrap_or usage Display) sign e.justified e.blank;
+  kind = kind_by_picture e.picture (unwrap_or usage Display) sign e.justified e.blank;
   occurs = times_of e.occurs count;
   redefines = e.redefines;
   value = e.value;
 }
 
 -- the entries from this number on, beneath groups with this usage and sign; the counts of tables stand by the tables' numbers
-abbrev pub resolved : List ℕ → ℕ → Option Usage → Option Sign → Forest Described → Forest Resolved
-resolved counts n usage sign Bare = Bare
-resolved counts n usage sign (Grows e kids more) =
-    Grows (resolved_by n (slice_index counts n) (inherited usage e.usage) (inherited sign e.sign) e)
-    (resolved counts (n + 1) (inherited usage e.usage) (inherited sign e.sign) kids)
-    (resolved counts (n + 1 + entries_in kids) usage sign more)
+abbrev pub resolved : List ℕ → ℕ → Option Usage → Option Sign → Forest PlainEntry → Forest Resolved
+resolved counts n usage sign NoEntries = NoEntries
+resolved counts n usage sign (AnEntry e children more) =
+    AnEntry (resolved_by n (slice_index counts n) (inherited usage e.usage) (inherited sign e.sign) e)
+    (resolved counts (n + 1) (inherited usage e.usage) (inherited sign e.sign) children)
+    (resolved counts (n + 1 + entries_in children) usage sign more)

@@ -1,9 +1,9 @@
 ghost use Rattle.std.specs.Prelude.{◌≡◌, ◌*◌, min};
 ghost use Rattle.cob_copybook_tree.specs.declared.lengths.TheConstants.{MANY};
 ghost use Rattle.cob_copybook_tree.specs.Nodes.{node};
-ghost use Rattle.cob_copybook_tree.specs.Lengths.{binary_size, element, item_size, most, most_by, sign_byte, whole};
+ghost use Rattle.cob_copybook_tree.specs.Lengths.{binary_size, element_length, item_size, greatest_number, greatest_number_by, separate_sign_length, whole_length};
 
-use crate::node::{Item, Kind, Node, Times};
+use crate::node::{Item, Kind, Node, ResolvedOccurs};
 use cob_entry::{Sign, Usage};
 
 /// The length that each greater one counts as.
@@ -11,7 +11,7 @@ pub const MANY: u32 = 65_536;
 
 /// The byte of a separate sign.
 fn sign_byte(sign: Option<Sign>) -> u16
-    ensures { result ≡ sign_byte sign }
+    ensures { result ≡ separate_sign_length sign }
 {
     match sign {
         Some(sign) => u16::from(sign.separate),
@@ -43,15 +43,15 @@ impl Item {
     }
 }
 
-impl Times {
+impl ResolvedOccurs {
     /// How often the entry occurs at most.
     pub fn most(self) -> u32
-        ensures { result ≡ most_by self }
+        ensures { result ≡ greatest_number_by self }
     {
         match self {
-            Times::Once => 1,
-            Times::Fixed(times) => times,
-            Times::Varying { most, .. } => most,
+            ResolvedOccurs::Once => 1,
+            ResolvedOccurs::Fixed(times) => times,
+            ResolvedOccurs::Varying { most, .. } => most,
         }
     }
 }
@@ -65,7 +65,8 @@ fn repeated(times: u32, length: u32) -> u32
 
 /// The greatest length of one element of an entry, in bytes. One of over [`MANY`] bytes counts as [`MANY`].
 pub fn element_length(entry: &Node) -> u32
-    ensures { result ≡ min (element most (node entry.now).top (node entry.now).beneath) MANY }
+    ensures { result ≡ min (element_length greatest_number (node entry.now).top
+        (node entry.now).beneath) MANY }
 {
     match &entry.kind {
         Kind::Item(item) => u32::from(item.size()),
@@ -84,7 +85,8 @@ pub fn element_length(entry: &Node) -> u32
 
 /// The greatest length of all elements of an entry together, in bytes. One of over [`MANY`] bytes counts as [`MANY`].
 pub fn whole_length(entry: &Node) -> u32
-    ensures { result ≡ min (whole most (node entry.now).top (node entry.now).beneath) MANY }
+    ensures { result ≡ min (whole_length greatest_number (node entry.now).top
+        (node entry.now).beneath) MANY }
 {
     repeated(entry.occurs.most(), element_length(entry))
 }

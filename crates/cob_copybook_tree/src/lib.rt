@@ -6,14 +6,14 @@
 //!
 //! What is promised:
 //!
-//! - [`planted`] answers the tree that entries stand for: its entries are the given ones, a parent before its children, and each
+//! - [`build_tree`] answers the tree that entries stand for: its entries are the given ones, a parent before its children, and each
 //!   entry's parent is the nearest one before it with a smaller level (`StandsFor` of specs/Branches.antt). [`one_tree`] is the law
 //!   that there is no other.
 //! - [`resolve`] answers that tree with inherited USAGE and SIGN, numbers and counts (`resolved` of specs/Resolving.antt);
 //!   [`keeps_sign`] says on which items SIGN acts.
-//! - [`Item::size`] is the bytes of an item, [`Times::most`] how often an entry occurs at most, and [`element_length`] and
-//!   [`whole_length`] are the greatest lengths of one element of an entry and of all of them (`item_size`, `most_by`, `element` and
-//!   `whole` of specs/Lengths.antt); one of over [`MANY`] bytes counts as [`MANY`].
+//! - [`Item::size`] is the bytes of an item, [`ResolvedOccurs::most`] how often an entry occurs at most, and [`element_length`] and
+//!   [`whole_length`] are the greatest lengths of one element of an entry and of all of them (`item_size`, `greatest_number_by`, `element_length` and
+//!   `whole_length` of specs/Lengths.antt); one of over [`MANY`] bytes counts as [`MANY`].
 //! - [`Kind::clone`] is what an entry describes, once more, and takes no memory.
 //! - [`branch_opens`] and [`node_opens`] are the laws that say what a branch and a node are to contracts, an entry and those beneath
 //!   it, and [`as_many_entries`] says that a tree has as many entries as their list is long.
@@ -34,6 +34,6 @@ mod resolving;
 pub use branch::Branch;
 pub use laws::{as_many_entries, branch_opens, node_opens, one_tree};
 pub use lengths::{MANY, element_length, whole_length};
-pub use node::{Item, Kind, Node, Times};
-pub use planting::planted;
+pub use node::{Item, Kind, Node, ResolvedOccurs};
+pub use planting::build_tree;
 pub use resolving::{keeps_sign, resolve};

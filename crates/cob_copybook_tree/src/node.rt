@@ -7,7 +7,7 @@ use cob_picture::Picture;
 
 /// How often an entry occurs.
 #[derive(Clone, Copy, Debug, PartialEq, Eq)]
-pub enum Times {
+pub enum ResolvedOccurs {
     /// It has no OCCURS clause.
     Once,
     /// So many times.
@@ -75,7 +75,7 @@ pub struct Node {
     /// None for FILLER.
     pub name: Option<Name>,
     pub kind: Kind,
-    pub occurs: Times,
+    pub occurs: ResolvedOccurs,
     pub redefines: Option<Name>,
     pub value: Option<Value>,
     pub children: Vec<Node>,

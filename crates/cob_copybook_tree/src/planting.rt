@@ -1,6 +1,6 @@
 ghost use Rattle.std.specs.Prelude.{◌≡◌, ◌<◌, [], ◌∷◌, ◌++◌, map, IfOk, OnOk, IfSome};
 ghost use Rattle.std.specs.Option.{IsNone};
-ghost use Rattle.cob_entry.specs.Described.{described};
+ghost use Rattle.cob_entry.specs.Described.{plain_entry};
 ghost use Rattle.cob_copybook_tree.specs.declared.branch.Branch.TheViews.{out-Branch};
 ghost use Rattle.cob_copybook_tree.specs.Forests.{flat, IsTree, AreDeeper, NotDeeper};
 ghost use Rattle.cob_copybook_tree.specs.Branches.{forest_of, level_of, AreLevels, StandsFor};
@@ -50,7 +50,7 @@ fn taken(
 ///
 /// Memory for a list was refused.
 fn side_by_side(alloc: Global, mut entries: Vec<Entry>) -> Result<VecDeque<Branch>, AllocError>
-    ensures entries { IfOk result (λ v. flat (forest_of v.items) ≡ map described entries.items) }
+    ensures entries { IfOk result (λ v. flat (forest_of v.items) ≡ map plain_entry entries.items) }
     ensures tree { IfOk result (λ v. IsTree level_of (forest_of v.items)) }
 {
     let mut pending: VecDeque<Branch> = VecDeque::new(alloc);
@@ -66,9 +66,9 @@ fn side_by_side(alloc: Global, mut entries: Vec<Entry>) -> Result<VecDeque<Branc
 /// # Errors
 ///
 /// Memory for a list was refused.
-pub fn planted(alloc: Global, entries: Vec<Entry>) -> Result<Branch, AllocError>
-    requires { AreLevels (map described entries.items) }
-    ensures { IfOk result (λ b. StandsFor (map described entries.items) (forest_of (b ∷ []))) }
+pub fn build_tree(alloc: Global, entries: Vec<Entry>) -> Result<Branch, AllocError>
+    requires { AreLevels (map plain_entry entries.items) }
+    ensures { IfOk result (λ b. StandsFor (map plain_entry entries.items) (forest_of (b ∷ []))) }
 {
     let mut branches = side_by_side(alloc, entries)?;
     match branches.pop_front() {

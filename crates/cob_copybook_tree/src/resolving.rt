@@ -1,13 +1,13 @@
 ghost use Rattle.std.specs.Prelude.{◌≡◌, ◌+◌, ◌≤◌, [], ◌∷◌, slice_index, None, unwrap_or, option_map, IfOk, OnOk};
 ghost use Rattle.cob_entry.specs.declared.kinds.Usage.TheVariants.{Display};
-ghost use Rattle.cob_entry.specs.Described.{described, times};
+ghost use Rattle.cob_entry.specs.Described.{plain_entry, plain_occurs};
 ghost use Rattle.cob_copybook_tree.specs.Forests.{entries_in};
 ghost use Rattle.cob_copybook_tree.specs.Branches.{forest_of};
 ghost use Rattle.cob_copybook_tree.specs.Nodes.{node, forest};
-ghost use Rattle.cob_copybook_tree.specs.Resolving.{inherited, keeps_sign, kind_of, resolved, resolved_by, times_of};
+ghost use Rattle.cob_copybook_tree.specs.Resolving.{inherited, keeps_sign, kind_by_picture, resolved, resolved_by, times_of};
 
 use crate::branch::Branch;
-use crate::node::{Item, Kind, Node, Times};
+use crate::node::{Item, Kind, Node, ResolvedOccurs};
 use cob_entry::{Entry, Name, Occurs, Sign, Usage, Value};
 use cob_picture::{Category, Picture};
 use std::alloc::{AllocError, Global};
@@ -41,7 +41,7 @@ pub fn keeps_sign(usage: Usage, picture: &Picture) -> bool
 
 /// What an entry describes.
 fn kind_of(entry: &Entry, own: Inherited) -> Kind
-    ensures { result ≡ kind_of entry.now.picture
+    ensures { result ≡ kind_by_picture entry.now.picture
         (unwrap_or own.usage Display) own.sign entry.now.justified entry.now.blank }
 {
     match &entry.picture {
@@ -65,13 +65,13 @@ fn kind_of(entry: &Entry, own: Inherited) -> Kind
 }
 
 /// How often an entry occurs, where its count has this number.
-fn times_of(entry: &Entry, count: usize) -> Times
-    ensures { result ≡ times_of (option_map times entry.now.occurs) count }
+fn times_of(entry: &Entry, count: usize) -> ResolvedOccurs
+    ensures { result ≡ times_of (option_map plain_occurs entry.now.occurs) count }
 {
     match &entry.occurs {
-        None => Times::Once,
-        Some(Occurs::Fixed(times)) => Times::Fixed(*times),
-        Some(Occurs::Varying { least, most, .. }) => Times::Varying {
+        None => ResolvedOccurs::Once,
+        Some(Occurs::Fixed(times)) => ResolvedOccurs::Fixed(*times),
+        Some(Occurs::Varying { least, most, .. }) => ResolvedOccurs::Varying {
             least: *least,
             most: *most,
             count,
@@ -89,7 +89,7 @@ fn count_at(counts: &[usize], number: usize) -> usize
 /// A node of these parts.
 fn node_of(entry: &Entry, number: usize, count: usize, own: Inherited, children: Vec<Node>) -> Node
     ensures { node result ≡ record {
-      top = resolved_by number count own.usage own.sign (described entry.now);
+      top = resolved_by number count own.usage own.sign (plain_entry entry.now);
       beneath = forest children.items;
     } }
 {

@@ -1,7 +1,7 @@
 -- Laws of digits and of texts, which upper crates build on.
 use Rattle.std.specs.Prelude.{◌≡◌, ℕ, ◌+◌, ◌*◌, ◌^◌, ◌<◌, ℤ, pos, ◌-ℤ◌, ◌≤ℤ◌, List, ◌++◌, length, Bool}
 use Rattle.cob_decimal.specs.Decimal.{IsDigits, number_of, aligned}
-use Rattle.cob_decimal.specs.Literals.{Literal, IsLiteral, literal_text, IsNumberText, places_of, units_of}
+use Rattle.cob_decimal.specs.Literals.{Literal, IsLiteral, literal_text, IsNumberText, digits_behind_point, units_of}
 
 -- Digits of one length that stand for one number are the same digits.
 abbrev pub OneList : Type 0
@@ -12,8 +12,8 @@ abbrev pub BelowPower : Type 0
 BelowPower = (ds : List ℕ) → IsDigits ds → number_of ds < 10 ^ length ds
 
 -- Digits that follow others move those to the left by as many places.
-abbrev pub Joined : Type 0
-Joined = (a b : List ℕ) → number_of (a ++ b) ≡ number_of a * 10 ^ length b + number_of b
+abbrev pub NumberOfJoined : Type 0
+NumberOfJoined = (a b : List ℕ) → number_of (a ++ b) ≡ number_of a * 10 ^ length b + number_of b
 
 -- A receiver that has at least as many digits on both sides of the point loses nothing: what it holds, put back, is what was sent.
 abbrev pub KeepsMagnitude : Type 0
@@ -42,4 +42,4 @@ TextTells =
     (negative minus : Bool) (a b : ℕ) (scale other : ℤ) (t : List ℕ)
     → IsNumberText negative a scale t
     → IsNumberText minus b other t
-    → (negative ≡ minus) × (places_of scale ≡ places_of other) × (units_of a scale ≡ units_of b other)
+    → (negative ≡ minus) × (digits_behind_point scale ≡ digits_behind_point other) × (units_of a scale ≡ units_of b other)

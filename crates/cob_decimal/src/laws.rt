@@ -1,6 +1,6 @@
 //! Laws of digits and of texts, as contracts of functions that do nothing. A function that calls one may rest its own proof on it.
 
-ghost use Rattle.cob_decimal.specs.Laws.{OneList, BelowPower, Joined, KeepsMagnitude, OneLiteral, OneText, TextTells};
+ghost use Rattle.cob_decimal.specs.Laws.{OneList, BelowPower, NumberOfJoined, KeepsMagnitude, OneLiteral, OneText, TextTells};
 
 /// Digits of one length that stand for one number are the same digits.
 pub fn one_list_of_digits()
@@ -14,7 +14,7 @@ pub fn below_power_of_ten()
 
 /// Digits that follow others move those to the left by as many places.
 pub fn digits_joined()
-    ensures { Joined }
+    ensures { NumberOfJoined }
 {}
 
 /// A receiver that has at least as many digits on both sides of the point loses nothing.

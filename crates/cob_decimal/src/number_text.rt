@@ -4,14 +4,14 @@ ghost use Rattle.std.specs.Prelude.{◌≡◌, ◌+◌, ◌<◌, ◌≤◌, ◌=
 ghost use Rattle.std.specs.List.{prefix_len};
 ghost use Rattle.arrayvec.specs.ArrayVec.{array_vec_len};
 ghost use Rattle.cob_decimal.specs.Decimal.{IsDigits};
-ghost use Rattle.cob_decimal.specs.Literals.{characters, fraction_text, places_of};
+ghost use Rattle.cob_decimal.specs.Literals.{characters, fraction_text, digits_behind_point};
 ghost use Rattle.cob_decimal.specs.Parts.{zeros_of, whole_part, fraction_part};
 
 use arrayvec::ArrayVec;
 
 /// How many digits stand behind the point.
 pub(crate) fn places(scale: i8) -> usize
-    ensures { result ≡ places_of scale }
+    ensures { result ≡ digits_behind_point scale }
 {
     if scale > 0 { scale as usize } else { 0 }
 }

@@ -12,17 +12,17 @@ use Rattle.cob_picture.specs.declared.edited.Kind.{Kind}
 use Rattle.cob_picture.specs.declared.edited.Kind.TheVariants.{OfRun, OfInsertion, OfNine, OfPoint, OfSign, OfCurrency, OfCredit, OfNone}
 use Rattle.cob_picture.specs.declared.edited.Part.{Part}
 use Rattle.cob_picture.specs.declared.edited.Part.TheVariants.{Lead, Currency, Front, Whole, PointPart, Fraction, Trail}
-use Rattle.cob_picture.specs.Positions.{is, is_that, times, floating, settled_role, role_at, placed, positions}
+use Rattle.cob_picture.specs.Positions.{is, is_that, symbol_count, floating, settled_role, role_at, positions_from, positions}
 use Rattle.cob_picture.specs.Counts.{is_sign_symbol, signed}
-use Rattle.cob_picture.specs.Edited.{run_symbol, is_sign_run, is_floating_run, settled_kind, kind_of, belongs, AreOf, edited_symbols, IsNumericEdited}
+use Rattle.cob_picture.specs.Edited.{run_symbol, is_sign_run, is_floating_run, settled_kind, symbol_kind, belongs, AreOf, edited_symbols, IsNumericEdited}
 use Rattle.cob_edit.specs.declared.place.Place.{Place}
 use Rattle.cob_edit.specs.declared.place.Place.TheVariants.{Inserted, Point, Digit, Suppressed, Floating, First, Fixed, AssumedPoint}
-use Rattle.cob_edit.specs.Places.{is_run, is_run_or_insertion, is_point, is_fixed_sign, is_floating_sign, tells}
+use Rattle.cob_edit.specs.Places.{is_run, is_run_or_insertion, is_point_place, is_fixed_sign, is_floating_sign, tells}
 use Rattle.cob_picture.specs.Categories.{IsOf}
 use Rattle.cob_picture.proofs.EditedFacts.{edited_none}
 use Rattle.cob_picture.proofs.Placed.{any_placed}
 use Rattle.cob_edit.specs.Editing.{place_at, region_start, region_end, shows_sign}
-use Rattle.cob_edit.specs.Pictured.{places, places_of, mark_of}
+use Rattle.cob_edit.specs.Pictured.{places, position_places, mark_of}
 use Rattle.cob_edit.specs.Regions.{IsOfRun, HasRegion, RegionsAreOfRuns, SignsAreShown}
 use Rattle.cob_edit.proofs.RegionLemmas.{is_still, AreWithin, has_region}
 
@@ -56,8 +56,8 @@ no_run-cons : (p : Place) (ps : List Place) → is_still p ≡ true → HasNoRun
 no_run-cons p ps still none zero h = let no : is_run p ≡ false = still_run p still in let yes : is_run p ≡ true = h.run in absurd (cc)
 no_run-cons p ps still none (suc j) h = none j (behind_first p ps j h)
 
-no_run-point : (p : Place) (ps : List Place) → is_point p ≡ true → HasNoRun (p ∷ ps)
-no_run-point p ps point j h = let no : is_point p ≡ false = h.left 0 (omega arith) in absurd (cc)
+no_run-point : (p : Place) (ps : List Place) → is_point_place p ≡ true → HasNoRun (p ∷ ps)
+no_run-point p ps point j h = let no : is_point_place p ≡ false = h.left 0 (omega arith) in absurd (cc)
 
 front-none : (ps : List Place) → HasNoRun ps → AreFront ps
 front-none ps none j h = absurd (none j h)
@@ -133,7 +133,7 @@ is_quiet OfSign = true
 is_quiet OfCurrency = true
 is_quiet OfCredit = true
 
-settled_still : (s : Symbol) → is_quiet (settled_kind s) ≡ true → list_all is_still (places_of (settled_role NumericEdited s) s) ≡ true
+settled_still : (s : Symbol) → is_quiet (settled_kind s) ≡ true → list_all is_still (position_places (settled_role NumericEdited s) s) ≡ true
 settled_still sy.A h = refl
 settled_still sy.X h = refl
 settled_still sy.Nine h = refl
@@ -155,10 +155,10 @@ settled_still sy.Debit h = refl
 
 -- the places of a symbol
 abbrev here : Option Symbol → Bool → Symbol → List Place
-here f seen s = places_of (role_at NumericEdited (is_that f s) seen s) s
+here f seen s = position_places (role_at NumericEdited (is_that f s) seen s) s
 
 quiet_still : (f : Option Symbol) (seen : Bool) (s : Symbol) → is_that f s ≡ false → is_quiet (settled_kind s) ≡ true → list_all is_still (here f seen s) ≡ true
-quiet_still f seen s out quiet = ap (λ b. list_all is_still (places_of (role_at NumericEdited b seen s) s)) out ∙ settled_still s quiet
+quiet_still f seen s out quiet = ap (λ b. list_all is_still (position_places (role_at NumericEdited b seen s) s)) out ∙ settled_still s quiet
 
 -- the parts that hold neither the run nor the point
 abbrev is_quiet_part : Part → Bool
@@ -199,21 +199,21 @@ quiet_kind Fraction OfPoint h e = h
 quiet_kind Fraction OfNone h e = h
 
 -- a symbol of such a part is outside the run
-quiet_symbol : (part : Part) (q : Option Symbol) (s : Symbol) → is_quiet_part part ≡ true → belongs part (kind_of q s) ≡ true → (is_that q s ≡ false) × (is_quiet (settled_kind s) ≡ true)
+quiet_symbol : (part : Part) (q : Option Symbol) (s : Symbol) → is_quiet_part part ≡ true → belongs part (symbol_kind q s) ≡ true → (is_that q s ≡ false) × (is_quiet (settled_kind s) ≡ true)
 quiet_symbol part q s h e = at (is_that q s) refl e
   where
     at : (b : Bool) → is_that q s ≡ b → belongs part (if b then OfRun else settled_kind s) ≡ true → (is_that q s ≡ false) × (is_quiet (settled_kind s) ≡ true)
     at false b k = (b, quiet_kind part (settled_kind s) h k)
     at true b k = let no : false ≡ true = quiet_kind part OfRun h k in absurd (cc)
 
-still_here : (part : Part) (f q : Option Symbol) (seen : Bool) (s : Symbol) → Agree f q → is_quiet_part part ≡ true → belongs part (kind_of q s) ≡ true → list_all is_still (here f seen s) ≡ true
+still_here : (part : Part) (f q : Option Symbol) (seen : Bool) (s : Symbol) → Agree f q → is_quiet_part part ≡ true → belongs part (symbol_kind q s) ≡ true → list_all is_still (here f seen s) ≡ true
 still_here part f q seen s agree h e =
     let p = quiet_symbol part q s h e in
     quiet_still f seen s (agree.outside s p.0) p.1
 
 -- the places of symbols, the floating one seen before or not
 abbrev placed_from : Option Symbol → Bool → List Symbol → List Place
-placed_from f seen xs = places (placed NumericEdited f seen xs)
+placed_from f seen xs = places (positions_from NumericEdited f seen xs)
 
 quiet_no_run : (part : Part) (f q : Option Symbol) (xs ys : List Symbol) → Agree f q → is_quiet_part part ≡ true → AreOf part q xs → ((seen : Bool) → HasNoRun (placed_from f seen ys)) → (seen : Bool) → HasNoRun (placed_from f seen (xs ++ ys))
 quiet_no_run part f q [] ys agree h all rest seen = rest seen
@@ -227,7 +227,7 @@ quiet_within part f q (s ∷ xs) ys agree h all rest seen = within-append (here 
 abbrev IsOneRun : List Place → Type 0
 IsOneRun ps = (p : Place) × (is_run p ≡ true) × (ps ≡ p ∷ [])
 
-fill_run : (s : Symbol) → (is sy.Z s || is sy.Star s) ≡ true → IsOneRun (places_of (settled_role NumericEdited s) s)
+fill_run : (s : Symbol) → (is sy.Z s || is sy.Star s) ≡ true → IsOneRun (position_places (settled_role NumericEdited s) s)
 fill_run sy.Z h = (_, refl, refl)
 fill_run sy.Star h = (_, refl, refl)
 fill_run sy.A h = let no : false ≡ true = h in absurd (cc)
@@ -247,14 +247,14 @@ fill_run sy.Minus h = let no : false ≡ true = h in absurd (cc)
 fill_run sy.Credit h = let no : false ≡ true = h in absurd (cc)
 fill_run sy.Debit h = let no : false ≡ true = h in absurd (cc)
 
-floating_run : (seen : Bool) (s : Symbol) → IsOneRun (places_of (role_at NumericEdited true seen s) s)
+floating_run : (seen : Bool) (s : Symbol) → IsOneRun (position_places (role_at NumericEdited true seen s) s)
 floating_run true s = (_, refl, refl)
 floating_run false s = (_, refl, refl)
 
 run_here : (f q : Option Symbol) (seen : Bool) (s : Symbol) → Agree f q → is_that q s ≡ true → IsOneRun (here f seen s)
 run_here f q seen s agree run = at (is_that f s) refl
   where
-    at : (b : Bool) → is_that f s ≡ b → IsOneRun (places_of (role_at NumericEdited b seen s) s)
+    at : (b : Bool) → is_that f s ≡ b → IsOneRun (position_places (role_at NumericEdited b seen s) s)
     at true e = floating_run seen s
     at false e = fill_run s (agree.fills s run e)
 
@@ -262,7 +262,7 @@ run_here f q seen s agree run = at (is_that f s) refl
 abbrev IsOneInsertion : List Place → Type 0
 IsOneInsertion ps = (b : ℕ) × (ps ≡ Inserted b ∷ [])
 
-settled_front : (s : Symbol) → belongs Front (settled_kind s) ≡ true → IsOneInsertion (places_of (settled_role NumericEdited s) s)
+settled_front : (s : Symbol) → belongs Front (settled_kind s) ≡ true → IsOneInsertion (position_places (settled_role NumericEdited s) s)
 settled_front sy.A h = let no : false ≡ true = h in absurd (cc)
 settled_front sy.X h = let no : false ≡ true = h in absurd (cc)
 settled_front sy.Nine h = let no : false ≡ true = h in absurd (cc)
@@ -282,7 +282,7 @@ settled_front sy.Minus h = let no : false ≡ true = h in absurd (cc)
 settled_front sy.Credit h = let no : false ≡ true = h in absurd (cc)
 settled_front sy.Debit h = let no : false ≡ true = h in absurd (cc)
 
-front_symbol : (q : Option Symbol) (s : Symbol) → belongs Front (kind_of q s) ≡ true → (is_that q s ≡ true) ⊎ ((is_that q s ≡ false) × (belongs Front (settled_kind s) ≡ true))
+front_symbol : (q : Option Symbol) (s : Symbol) → belongs Front (symbol_kind q s) ≡ true → (is_that q s ≡ true) ⊎ ((is_that q s ≡ false) × (belongs Front (settled_kind s) ≡ true))
 front_symbol q s h = at (is_that q s) refl h
   where
     at : (b : Bool) → is_that q s ≡ b → belongs Front (if b then OfRun else settled_kind s) ≡ true → (is_that q s ≡ true) ⊎ ((is_that q s ≡ false) × (belongs Front (settled_kind s) ≡ true))
@@ -292,7 +292,7 @@ front_symbol q s h = at (is_that q s) refl h
 insertion_here : (f q : Option Symbol) (seen : Bool) (s : Symbol) → Agree f q → is_that q s ≡ false → belongs Front (settled_kind s) ≡ true → IsOneInsertion (here f seen s)
 insertion_here f q seen s agree out k =
     let one = settled_front s k in
-    (one.0, ap (λ b. places_of (role_at NumericEdited b seen s) s) (agree.outside s out) ∙ one.1)
+    (one.0, ap (λ b. position_places (role_at NumericEdited b seen s) s) (agree.outside s out) ∙ one.1)
 
 run_goes : (p : Place) → is_run p ≡ true → is_run_or_insertion p ≡ true
 run_goes (Inserted b) h = refl
@@ -334,7 +334,7 @@ front_within f q (s ∷ xs) ys agree all rest seen =
 
 -- ---- the point and what follows it
 
-settled_point : (s : Symbol) → belongs PointPart (settled_kind s) ≡ true → (p : Place) × (is_point p ≡ true) × (places_of (settled_role NumericEdited s) s ≡ p ∷ [])
+settled_point : (s : Symbol) → belongs PointPart (settled_kind s) ≡ true → (p : Place) × (is_point_place p ≡ true) × (position_places (settled_role NumericEdited s) s ≡ p ∷ [])
 settled_point sy.A h = let no : false ≡ true = h in absurd (cc)
 settled_point sy.X h = let no : false ≡ true = h in absurd (cc)
 settled_point sy.Nine h = let no : false ≡ true = h in absurd (cc)
@@ -354,14 +354,14 @@ settled_point sy.Minus h = let no : false ≡ true = h in absurd (cc)
 settled_point sy.Credit h = let no : false ≡ true = h in absurd (cc)
 settled_point sy.Debit h = let no : false ≡ true = h in absurd (cc)
 
-point_here : (f q : Option Symbol) (seen : Bool) (s : Symbol) → Agree f q → belongs PointPart (kind_of q s) ≡ true → (p : Place) × (is_point p ≡ true) × (here f seen s ≡ p ∷ [])
+point_here : (f q : Option Symbol) (seen : Bool) (s : Symbol) → Agree f q → belongs PointPart (symbol_kind q s) ≡ true → (p : Place) × (is_point_place p ≡ true) × (here f seen s ≡ p ∷ [])
 point_here f q seen s agree h = at (is_that q s) refl h
   where
-    at : (b : Bool) → is_that q s ≡ b → belongs PointPart (if b then OfRun else settled_kind s) ≡ true → (p : Place) × (is_point p ≡ true) × (here f seen s ≡ p ∷ [])
+    at : (b : Bool) → is_that q s ≡ b → belongs PointPart (if b then OfRun else settled_kind s) ≡ true → (p : Place) × (is_point_place p ≡ true) × (here f seen s ≡ p ∷ [])
     at true e k = let no : false ≡ true = k in absurd (cc)
     at false e k =
         let one = settled_point s k in
-        (one.0, one.1, ap (λ b. places_of (role_at NumericEdited b seen s) s) (agree.outside s e) ∙ one.2)
+        (one.0, one.1, ap (λ b. position_places (role_at NumericEdited b seen s) s) (agree.outside s e) ∙ one.2)
 
 trail_no_run : (f q : Option Symbol) (xs : List Symbol) → Agree f q → AreOf Trail q xs → (seen : Bool) → HasNoRun (placed_from f seen xs)
 trail_no_run f q xs agree all seen = subst (λ ys. HasNoRun (placed_from f seen ys)) (append-nil xs) (quiet_no_run Trail f q xs [] agree refl all (λ b. no_run-nil) seen)
@@ -402,11 +402,11 @@ chosen_fills false false false false false s h k = absurd (true≢false (sym h))
 
 agree : (xs : List Symbol) → Agree (floating xs) (run_symbol xs)
 agree xs =
-    let a = nat_le 2 (times sy.Dollar xs) in
-    let b = nat_le 2 (times sy.Plus xs) in
-    let d = nat_le 2 (times sy.Minus xs) in
-    let e = nat_le 1 (times sy.Z xs) in
-    let g = nat_le 1 (times sy.Star xs) in
+    let a = nat_le 2 (symbol_count sy.Dollar xs) in
+    let b = nat_le 2 (symbol_count sy.Plus xs) in
+    let d = nat_le 2 (symbol_count sy.Minus xs) in
+    let e = nat_le 1 (symbol_count sy.Z xs) in
+    let g = nat_le 1 (symbol_count sy.Star xs) in
     record { outside = chosen_outside a b d e g; fills = chosen_fills a b d e g }
 
 -- ---- the region
@@ -593,7 +593,7 @@ front_floats f q (s ∷ xs) ys agree sign all some =
     elim (front_symbol q s all.0) [
       | inl run ↦
           let floats : is_that f s ≡ true = sign.floats s run in
-          let first : here f false s ≡ First (mark_of s) ∷ [] = ap (λ b. places_of (role_at NumericEdited b false s) s) floats in
+          let first : here f false s ≡ First (mark_of s) ∷ [] = ap (λ b. position_places (role_at NumericEdited b false s) s) floats in
           let more : List Place = placed_from f (false || is_that f s) (xs ++ ys) in
           subst (λ a. FloatsFirst (a ++ more)) (sym first) (floats-first (First (mark_of s)) more refl (sign.told s run))
       | inr out ↦
@@ -638,14 +638,14 @@ float_shown xs h run =
     let symbols : xs ≡ e.front ++ t4 = h.written ∙ ap (λ l. l ++ (e.currency ++ (e.front ++ t4))) no_lead ∙ ap (λ l. l ++ (e.front ++ t4)) no_currency in
     let floats : is_floating_run q ≡ true = ap (λ b. is_that q sy.Dollar || b) run ∙ or_true (is_that q sy.Dollar) in
     let some : list_any (is_that q) e.front ≡ true = h.allowed.run.begins floats in
-    let sign : IsSignRun f q = chosen_sign (nat_le 2 (times sy.Dollar xs)) (nat_le 2 (times sy.Plus xs)) (nat_le 2 (times sy.Minus xs)) (nat_le 1 (times sy.Z xs)) (nat_le 1 (times sy.Star xs)) run in (
+    let sign : IsSignRun f q = chosen_sign (nat_le 2 (symbol_count sy.Dollar xs)) (nat_le 2 (symbol_count sy.Plus xs)) (nat_le 2 (symbol_count sy.Minus xs)) (nat_le 1 (symbol_count sy.Z xs)) (nat_le 1 (symbol_count sy.Star xs)) run in (
       subst (λ ys. FloatsFirst (placed_from f false ys)) (sym symbols) (front_floats f q e.front t4 (agree xs) sign h.kinds.front some),
       ap (list_any is_sign_symbol) symbols ∙ front_signs f q e.front t4 sign some,
     )
 
 -- ---- a sign in its place
 
-fixed_settled : (s : Symbol) → is sy.S s ≡ false → list_any is_fixed_sign (places_of (settled_role NumericEdited s) s) ≡ is_sign_symbol s
+fixed_settled : (s : Symbol) → is sy.S s ≡ false → list_any is_fixed_sign (position_places (settled_role NumericEdited s) s) ≡ is_sign_symbol s
 fixed_settled sy.A h = refl
 fixed_settled sy.X h = refl
 fixed_settled sy.Nine h = refl
@@ -668,12 +668,12 @@ fixed_settled sy.Debit h = refl
 fixed_here : (f : Option Symbol) (seen : Bool) (s : Symbol) → IsNoSign f → is sy.S s ≡ false → list_any is_fixed_sign (here f seen s) ≡ is_sign_symbol s
 fixed_here f seen s plain h = at (is_that f s) refl seen
   where
-    at : (b : Bool) → is_that f s ≡ b → (seen : Bool) → list_any is_fixed_sign (places_of (role_at NumericEdited b seen s) s) ≡ is_sign_symbol s
+    at : (b : Bool) → is_that f s ≡ b → (seen : Bool) → list_any is_fixed_sign (position_places (role_at NumericEdited b seen s) s) ≡ is_sign_symbol s
     at true e true = sym (plain.other s e)
     at true e false = sym (plain.other s e)
     at false e seen = fixed_settled s h
 
-fixed_shown : (f : Option Symbol) (seen : Bool) (xs : List Symbol) → IsNoSign f → times sy.S xs ≡ 0 → list_any is_fixed_sign (placed_from f seen xs) ≡ list_any is_sign_symbol xs
+fixed_shown : (f : Option Symbol) (seen : Bool) (xs : List Symbol) → IsNoSign f → symbol_count sy.S xs ≡ 0 → list_any is_fixed_sign (placed_from f seen xs) ≡ list_any is_sign_symbol xs
 fixed_shown f seen [] plain none = refl
 fixed_shown f seen (s ∷ xs) plain none =
     let rest : List Place = placed_from f (seen || is_that f s) xs in
@@ -681,11 +681,11 @@ fixed_shown f seen (s ∷ xs) plain none =
     ∙ ap (λ b. b || list_any is_fixed_sign rest) (fixed_here f seen s plain (first (is sy.S s) refl none))
     ∙ ap (λ b. is_sign_symbol s || b) (fixed_shown f (seen || is_that f s) xs plain (omega (arith, none)))
   where
-    first : (b : Bool) → is sy.S s ≡ b → (if b then 1 else 0) + times sy.S xs ≡ 0 → is sy.S s ≡ false
+    first : (b : Bool) → is sy.S s ≡ b → (if b then 1 else 0) + symbol_count sy.S xs ≡ 0 → is sy.S s ≡ false
     first true e k = absurd (omega (arith, k))
     first false e k = e
 
-float_settled : (s : Symbol) → list_any is_floating_sign (places_of (settled_role NumericEdited s) s) ≡ false
+float_settled : (s : Symbol) → list_any is_floating_sign (position_places (settled_role NumericEdited s) s) ≡ false
 float_settled sy.A = refl
 float_settled sy.X = refl
 float_settled sy.Nine = refl
@@ -708,7 +708,7 @@ float_settled sy.Debit = refl
 float_here : (f : Option Symbol) (seen : Bool) (s : Symbol) → IsNoSign f → list_any is_floating_sign (here f seen s) ≡ false
 float_here f seen s plain = at (is_that f s) refl seen
   where
-    at : (b : Bool) → is_that f s ≡ b → (seen : Bool) → list_any is_floating_sign (places_of (role_at NumericEdited b seen s) s) ≡ false
+    at : (b : Bool) → is_that f s ≡ b → (seen : Bool) → list_any is_floating_sign (position_places (role_at NumericEdited b seen s) s) ≡ false
     at true e true = refl
     at true e false = ap (λ b. b || false) (plain.untold s e)
     at false e seen = float_settled s
@@ -741,7 +741,7 @@ sign_shown xs h = at (is_sign_run (run_symbol xs)) refl ∙ sym (any_placed Nume
         ap (λ b. list_any is_fixed_sign ps || b) both.0 ∙ or_true (list_any is_fixed_sign ps) ∙ sym both.1
     at false e =
         let ps = places (positions NumericEdited xs) in
-        let plain : IsNoSign (floating xs) = chosen_none (nat_le 2 (times sy.Dollar xs)) (nat_le 2 (times sy.Plus xs)) (nat_le 2 (times sy.Minus xs)) (nat_le 1 (times sy.Z xs)) (nat_le 1 (times sy.Star xs)) e in
+        let plain : IsNoSign (floating xs) = chosen_none (nat_le 2 (symbol_count sy.Dollar xs)) (nat_le 2 (symbol_count sy.Plus xs)) (nat_le 2 (symbol_count sy.Minus xs)) (nat_le 1 (symbol_count sy.Z xs)) (nat_le 1 (symbol_count sy.Star xs)) e in
         ap (λ b. list_any is_fixed_sign ps || b) (none_at ps (region_start ps) (none_floats (floating xs) false xs plain))
         ∙ or_none (list_any is_fixed_sign ps)
         ∙ fixed_shown (floating xs) false xs plain (edited_none xs h).no_s

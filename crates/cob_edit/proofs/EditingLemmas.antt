@@ -6,8 +6,8 @@ use Rattle.std.specs.List.{prefix_len, flat_map}
 use Rattle.std.proofs.lemmas.Bool.{cases_lt}
 use Rattle.cob_edit.specs.declared.place.Place.{Place}
 use Rattle.cob_edit.specs.declared.place.Place.TheVariants.{Inserted, Point, Digit, Suppressed, Floating, First, Fixed, AssumedPoint}
-use Rattle.cob_edit.specs.Places.{is_digit, is_run, is_run_or_insertion, is_point, has_byte}
-use Rattle.cob_edit.specs.Editing.{region_start, region_end, place_at, digit_of, IsCut, printed, empty_cell, has_stars, shows_nothing, IsText}
+use Rattle.cob_edit.specs.Places.{is_digit, is_run, is_run_or_insertion, is_point_place, has_byte}
+use Rattle.cob_edit.specs.Editing.{region_start, region_end, place_at, digit_of, IsSuppressedTo, printed, empty_cell, has_stars, shows_nothing, IsText}
 
 -- each place of the region holds a byte
 bytes_run : (p : Place) → is_run_or_insertion p ≡ true → has_byte p ≡ true
@@ -37,7 +37,7 @@ pub region_inside : (ps : List Place) → region_end ps ≤ length ps
 region_inside ps =
     let s : ℕ = region_start ps in
     let some : prefix_len is_run_or_insertion (drop s ps) ≤ length (drop s ps) = prefix_len-le-length is_run_or_insertion (drop s ps) in
-    let start : s ≤ length ps = prefix_len-le-length (λ p. not (is_run p || is_point p)) ps in
+    let start : s ≤ length ps = prefix_len-le-length (λ p. not (is_run p || is_point_place p)) ps in
     omega (arith, length-drop s ps)
 
 -- a digit place has a digit of its own
@@ -50,12 +50,12 @@ digit_inside ps j lt is =
 
 -- ---- the cut
 
-cut_not_before : (ps : List Place) (ds : List ℕ) (j k : ℕ) → IsCut ps ds j → IsCut ps ds k → j < k → ⊥
+cut_not_before : (ps : List Place) (ds : List ℕ) (j k : ℕ) → IsSuppressedTo ps ds j → IsSuppressedTo ps ds k → j < k → ⊥
 cut_not_before ps ds j k a b lt =
     elim a.stop [ inl at_end ↦ omega (arith, b.to) | inr nonzero ↦ omega (arith, nonzero.1, b.zeros j a.from lt nonzero.0) ]
 
 -- there is one cut
-pub cut_one : (ps : List Place) (ds : List ℕ) (j k : ℕ) → IsCut ps ds j → IsCut ps ds k → j ≡ k
+pub cut_one : (ps : List Place) (ds : List ℕ) (j k : ℕ) → IsSuppressedTo ps ds j → IsSuppressedTo ps ds k → j ≡ k
 cut_one ps ds j k a b =
     elim (cases_lt j k) [
       | inl lt ↦ absurd (cut_not_before ps ds j k a b lt)
@@ -77,7 +77,7 @@ zeros_more ps ds j zeros here i low lt is =
       | inr from ↦ let same : j ≡ i = omega arith in subst (λ x. IsTrue (is_digit (place_at ps x)) → digit_of ps ds x ≡ 0) same here is
     ]
 
-cut_from : (ps : List Place) (ds : List ℕ) (m j : ℕ) → j + m ≡ region_end ps → region_start ps ≤ j → AreZeroBefore ps ds j → (k : ℕ) × IsCut ps ds k
+cut_from : (ps : List Place) (ds : List ℕ) (m j : ℕ) → j + m ≡ region_end ps → region_start ps ≤ j → AreZeroBefore ps ds j → (k : ℕ) × IsSuppressedTo ps ds k
 cut_from ps ds zero j e low zeros = (j, record { from = low; to = omega arith; zeros = zeros; stop = inl (omega arith) })
 cut_from ps ds (suc m) j e low zeros =
     elim (bool_cases (is_digit (place_at ps j))) [
@@ -89,12 +89,12 @@ cut_from ps ds (suc m) j e low zeros =
     ]
 
 -- there is a cut
-pub cut_some : (ps : List Place) (ds : List ℕ) → (k : ℕ) × IsCut ps ds k
+pub cut_some : (ps : List Place) (ds : List ℕ) → (k : ℕ) × IsSuppressedTo ps ds k
 cut_some ps ds = cut_from ps ds (prefix_len is_run_or_insertion (drop (region_start ps) ps)) (region_start ps) refl (omega arith) (λ i low lt is. absurd (omega arith))
 
 -- ---- the text
 
-text_one : (empty : Bool) (ps : List Place) (negative : Bool) (ds x y z : List ℕ) → MatchBool empty (x ≡ z) ((k : ℕ) × IsCut ps ds k × (x ≡ printed ps ds negative k 0 ps)) → MatchBool empty (y ≡ z) ((k : ℕ) × IsCut ps ds k × (y ≡ printed ps ds negative k 0 ps)) → x ≡ y
+text_one : (empty : Bool) (ps : List Place) (negative : Bool) (ds x y z : List ℕ) → MatchBool empty (x ≡ z) ((k : ℕ) × IsSuppressedTo ps ds k × (x ≡ printed ps ds negative k 0 ps)) → MatchBool empty (y ≡ z) ((k : ℕ) × IsSuppressedTo ps ds k × (y ≡ printed ps ds negative k 0 ps)) → x ≡ y
 text_one true ps negative ds x y z p q = p ∙ sym q
 text_one false ps negative ds x y z p q = p.2 ∙ ap (λ k. printed ps ds negative k 0 ps) (cut_one ps ds p.0 q.0 p.1 q.1) ∙ sym q.2
 
@@ -102,9 +102,9 @@ text_one false ps negative ds x y z p q = p.2 ∙ ap (λ k. printed ps ds negati
 pub text_same : (ps : List Place) (blank negative : Bool) (ds x y : List ℕ) → IsText ps blank negative ds x → IsText ps blank negative ds y → x ≡ y
 text_same ps blank negative ds x y p q = text_one (shows_nothing ps blank ds) ps negative ds x y (flat_map (empty_cell (has_stars ps blank)) ps) p q
 
-text_some : (empty : Bool) (ps : List Place) (negative : Bool) (ds z : List ℕ) → (x : List ℕ) × MatchBool empty (x ≡ z) ((k : ℕ) × IsCut ps ds k × (x ≡ printed ps ds negative k 0 ps))
+text_some : (empty : Bool) (ps : List Place) (negative : Bool) (ds z : List ℕ) → (x : List ℕ) × MatchBool empty (x ≡ z) ((k : ℕ) × IsSuppressedTo ps ds k × (x ≡ printed ps ds negative k 0 ps))
 text_some true ps negative ds z = (z, refl)
-text_some false ps negative ds z = let cut : (k : ℕ) × IsCut ps ds k = cut_some ps ds in (printed ps ds negative cut.0 0 ps, (cut.0, cut.1, refl))
+text_some false ps negative ds z = let cut : (k : ℕ) × IsSuppressedTo ps ds k = cut_some ps ds in (printed ps ds negative cut.0 0 ps, (cut.0, cut.1, refl))
 
 -- digits and a sign have a text
 pub text_exists : (ps : List Place) (blank negative : Bool) (ds : List ℕ) → (x : List ℕ) × IsText ps blank negative ds x

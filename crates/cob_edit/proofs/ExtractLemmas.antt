@@ -10,7 +10,7 @@ use Rattle.cob_decimal.specs.Decimal.{IsDigits}
 use Rattle.cob_edit.specs.declared.place.Place.{Place}
 use Rattle.cob_edit.specs.declared.place.Place.TheVariants.{Inserted, Point, Digit, Suppressed, Floating, First, Fixed, AssumedPoint}
 use Rattle.cob_edit.specs.Places.{is_digit, has_byte}
-use Rattle.cob_edit.specs.Editing.{region_start, place_at, digit_of, IsCut, hidden, cell, printed, empty_cell, has_stars, shows_nothing, IsText, Fits, shown_digit, extract}
+use Rattle.cob_edit.specs.Editing.{region_start, place_at, digit_of, IsSuppressedTo, hidden, cell, printed, empty_cell, has_stars, shows_nothing, IsText, FitsPlaces, shown_digit, extract}
 use Rattle.cob_edit.proofs.OneValueLemmas.{places, printed_places, zero_places, length-cell, length-empty_cell, cell_shown, cell_hidden, hidden_small, digit_cell, all_zero_at, and_left}
 
 small_digit : (b : ℕ) → b ≤ 240 → shown_digit b ≡ 0
@@ -105,7 +105,7 @@ zero_byte false (Fixed m) = omega arith
 zero_byte star AssumedPoint = omega arith
 
 -- what a digit place of a text shows
-cell_digit : (rs : List Place) (ds : List ℕ) (n : Bool) (k j : ℕ) → IsDigits ds → IsCut rs ds k → is_digit (place_at rs j) ≡ true → shown_digit (get_or (cell rs n k j (place_at rs j) (digit_of rs ds j)) 0 0) ≡ digit_of rs ds j
+cell_digit : (rs : List Place) (ds : List ℕ) (n : Bool) (k j : ℕ) → IsDigits ds → IsSuppressedTo rs ds k → is_digit (place_at rs j) ≡ true → shown_digit (get_or (cell rs n k j (place_at rs j) (digit_of rs ds j)) 0 0) ≡ digit_of rs ds j
 cell_digit rs ds n k j valid cut is =
     elim (cases_lt j (region_start rs)) [
       | inl before ↦ visible (inr before)
@@ -122,10 +122,10 @@ cell_digit rs ds n k j valid cut is =
         ap (λ c. shown_digit (get_or c 0 0)) (cell_shown rs n k j (digit_of rs ds j) (place_at rs j) outside ∙ digit_cell (place_at rs j) n (digit_of rs ds j) is)
         ∙ digit_back (digit_of rs ds j) (digit_small ds (count_by is_digit (take j rs)) valid)
 
-pub extract_edited : (rs : List Place) (blank n : Bool) (ds bytes : List ℕ) → Fits rs n ds → IsText rs blank n ds bytes → extract rs bytes ≡ ds
+pub extract_edited : (rs : List Place) (blank n : Bool) (ds bytes : List ℕ) → FitsPlaces rs n ds → IsText rs blank n ds bytes → extract rs bytes ≡ ds
 extract_edited rs blank n ds bytes range edited = go (shows_nothing rs blank ds) refl edited
   where
-    go : (b : Bool) → shows_nothing rs blank ds ≡ b → MatchBool b (bytes ≡ flat_map (empty_cell (has_stars rs blank)) rs) ((k : ℕ) × IsCut rs ds k × (bytes ≡ printed rs ds n k 0 rs)) → extract rs bytes ≡ ds
+    go : (b : Bool) → shows_nothing rs blank ds ≡ b → MatchBool b (bytes ≡ flat_map (empty_cell (has_stars rs blank)) rs) ((k : ℕ) × IsSuppressedTo rs ds k × (bytes ≡ printed rs ds n k 0 rs)) → extract rs bytes ≡ ds
     go true e h =
         let star : Bool = has_stars rs blank in
         let zero_digits : list_all (λ d. d == 0) ds ≡ true = and_left _ _ e in
@@ -141,7 +141,7 @@ extract_edited rs blank n ds bytes range edited = go (shows_nothing rs blank ds)
         ∙ digits_all rs ds rs 0 range.count refl
 
 -- digits without a minus fit
-pub plus_fits : (ps : List Place) (ds : List ℕ) → IsDigits ds → length ds ≡ count_by is_digit ps → Fits ps false ds
+pub plus_fits : (ps : List Place) (ds : List ℕ) → IsDigits ds → length ds ≡ count_by is_digit ps → FitsPlaces ps false ds
 plus_fits ps ds valid count = record {
   digits = valid;
   count = count;

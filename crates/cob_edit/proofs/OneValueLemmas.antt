@@ -13,7 +13,7 @@ use Rattle.cob_edit.specs.declared.place.Mark.TheVariants.{Currency, PlusOrMinus
 use Rattle.cob_edit.specs.declared.place.Fill.{Fill}
 use Rattle.cob_edit.specs.declared.place.Fill.TheVariants.{Space, Asterisk}
 use Rattle.cob_edit.specs.Places.{mark_byte, tells, fill_byte, is_digit, is_run_or_insertion, has_byte, is_fixed_sign, is_floating_sign}
-use Rattle.cob_edit.specs.Editing.{region_start, region_end, place_at, digit_of, IsCut, hidden, shown, cell, printed, empty_cell, has_stars, shows_nothing, IsText, shows_sign, Fits}
+use Rattle.cob_edit.specs.Editing.{region_start, region_end, place_at, digit_of, IsSuppressedTo, hidden, shown, cell, printed, empty_cell, has_stars, shows_nothing, IsText, shows_sign, FitsPlaces}
 use Rattle.cob_edit.proofs.EditingLemmas.{region_bytes, region_run, region_inside}
 
 -- ---- texts as the cells of places
@@ -269,7 +269,7 @@ module _ (rs : List Place) where
   CellsAgree ds es m n k l = (j : ℕ) → j < length rs → cell rs m k j (place_at rs j) (digit_of rs ds j) ≡ cell rs n l j (place_at rs j) (digit_of rs es j)
 
   -- a cut that comes earlier shows a digit where the other hides it
-  not_earlier : (ds es : List ℕ) (m n : Bool) (k l : ℕ) → IsCut rs ds k → l ≤ region_end rs → k < l → cell rs m k k (place_at rs k) (digit_of rs ds k) ≡ cell rs n l k (place_at rs k) (digit_of rs es k) → ⊥
+  not_earlier : (ds es : List ℕ) (m n : Bool) (k l : ℕ) → IsSuppressedTo rs ds k → l ≤ region_end rs → k < l → cell rs m k k (place_at rs k) (digit_of rs ds k) ≡ cell rs n l k (place_at rs k) (digit_of rs es k) → ⊥
   not_earlier ds es m n k l cut lin lt e =
       elim cut.stop [
         | inl at_end ↦ omega arith
@@ -282,7 +282,7 @@ module _ (rs : List Place) where
             omega (arith, hidden_small rs n (k + 1 == l))
       ]
 
-  one_cut : (ds es : List ℕ) (m n : Bool) (k l : ℕ) → IsCut rs ds k → IsCut rs es l → CellsAgree ds es m n k l → k ≡ l
+  one_cut : (ds es : List ℕ) (m n : Bool) (k l : ℕ) → IsSuppressedTo rs ds k → IsSuppressedTo rs es l → CellsAgree ds es m n k l → k ≡ l
   one_cut ds es m n k l a b agree =
       let inside : region_end rs ≤ length rs = region_inside rs in
       elim (cases_lt k l) [
@@ -297,7 +297,7 @@ module _ (rs : List Place) where
       let both : digit_of rs ds j + 240 ≡ digit_of rs es j + 240 = single _ _ (sym left ∙ e ∙ right) in
       omega arith
 
-  digits_same_at : (ds es : List ℕ) (m n : Bool) (k : ℕ) → IsCut rs ds k → IsCut rs es k → CellsAgree ds es m n k k → (j : ℕ) → j < length rs → is_digit (place_at rs j) ≡ true → digit_of rs ds j ≡ digit_of rs es j
+  digits_same_at : (ds es : List ℕ) (m n : Bool) (k : ℕ) → IsSuppressedTo rs ds k → IsSuppressedTo rs es k → CellsAgree ds es m n k k → (j : ℕ) → j < length rs → is_digit (place_at rs j) ≡ true → digit_of rs ds j ≡ digit_of rs es j
   digits_same_at ds es m n k a b agree j lt is =
       elim (cases_lt j (region_start rs)) [
         | inl before ↦ shown_same ds es m n k j (inr before) is (agree j lt)
@@ -307,7 +307,7 @@ module _ (rs : List Place) where
         ]
       ]
 
-  digits_same : (ds es : List ℕ) (m n : Bool) (k : ℕ) → length ds ≡ count_by is_digit rs → length es ≡ count_by is_digit rs → IsCut rs ds k → IsCut rs es k → CellsAgree ds es m n k k → ds ≡ es
+  digits_same : (ds es : List ℕ) (m n : Bool) (k : ℕ) → length ds ≡ count_by is_digit rs → length es ≡ count_by is_digit rs → IsSuppressedTo rs ds k → IsSuppressedTo rs es k → CellsAgree ds es m n k k → ds ≡ es
   digits_same ds es m n k dn en a b agree =
       same_lists ds es (dn ∙ sym en) (λ i d lt.
       let p : (j : ℕ) × (j < length rs) × (is_digit (place_at rs j) ≡ true) × (count_by is_digit (take j rs) ≡ i) = place_of rs i (omega arith) in
@@ -317,7 +317,7 @@ module _ (rs : List Place) where
       get_or_default ds i d 0 lt ∙ first ∙ get_or_default es i 0 d inside)
 
   -- a floating sign tells
-  floating_told : (ds es : List ℕ) (k : ℕ) → IsCut rs ds k → CellsAgree ds es true false k k → is_floating_sign (place_at rs (region_start rs)) ≡ true → ⊥
+  floating_told : (ds es : List ℕ) (k : ℕ) → IsSuppressedTo rs ds k → CellsAgree ds es true false k k → is_floating_sign (place_at rs (region_start rs)) ≡ true → ⊥
   floating_told ds es k a agree floats = by_place (place_at rs (region_start rs)) refl
     where
       by_place : (p : Place) → place_at rs (region_start rs) ≡ p → ⊥
@@ -357,7 +357,7 @@ module _ (rs : List Place) where
           told_differs m (rw start at floats) (single (mark_byte m true) (mark_byte m false) (sym left ∙ agree i (omega (arith, a.to)) ∙ right))
 
   -- a sign in its place tells
-  fixed_told : (ds es : List ℕ) (k : ℕ) → IsCut rs ds k → CellsAgree ds es true false k k → (j : ℕ) → j < length rs → is_fixed_sign (place_at rs j) ≡ true → ⊥
+  fixed_told : (ds es : List ℕ) (k : ℕ) → IsSuppressedTo rs ds k → CellsAgree ds es true false k k → (j : ℕ) → j < length rs → is_fixed_sign (place_at rs j) ≡ true → ⊥
   fixed_told ds es k a agree j lt sign = by_place (place_at rs j) refl
     where
       by_place : (p : Place) → place_at rs j ≡ p → ⊥
@@ -383,7 +383,7 @@ module _ (rs : List Place) where
           told_differs m (rw e at sign) (single (mark_byte m true) (mark_byte m false) (sym left ∙ agree j lt ∙ right))
 
   -- a sign that shows differs
-  sign_told : (ds es : List ℕ) (k : ℕ) → IsCut rs ds k → CellsAgree ds es true false k k → shows_sign rs ≡ true → ⊥
+  sign_told : (ds es : List ℕ) (k : ℕ) → IsSuppressedTo rs ds k → CellsAgree ds es true false k k → shows_sign rs ≡ true → ⊥
   sign_told ds es k a agree shows =
       elim (or_cases (list_any is_fixed_sign rs) (is_floating_sign (place_at rs (region_start rs))) shows) [
         | inl some ↦ let at : (j : ℕ) × (j < length rs) × (is_fixed_sign (place_at rs j) ≡ true) = fixed_at rs some in fixed_told ds es k a agree at.0 at.1 at.2
@@ -391,22 +391,22 @@ module _ (rs : List Place) where
       ]
 
   -- two texts that are not blank
-  both_shown : (ds es : List ℕ) (m n : Bool) (k l : ℕ) (bytes : List ℕ) → Fits rs m ds → Fits rs n es → IsCut rs ds k → IsCut rs es l → bytes ≡ printed rs ds m k 0 rs → bytes ≡ printed rs es n l 0 rs → (m ≡ n) × (ds ≡ es)
+  both_shown : (ds es : List ℕ) (m n : Bool) (k l : ℕ) (bytes : List ℕ) → FitsPlaces rs m ds → FitsPlaces rs n es → IsSuppressedTo rs ds k → IsSuppressedTo rs es l → bytes ≡ printed rs ds m k 0 rs → bytes ≡ printed rs es n l 0 rs → (m ≡ n) × (ds ≡ es)
   both_shown ds es m n k l bytes dr er a b p q =
       let agree : CellsAgree ds es m n k l = same_cells rs ds es m n k l a.to b.to (sym p ∙ q) in
       let cut : l ≡ k = sym (one_cut ds es m n k l a b agree) in
-      let same_cut : IsCut rs es k = subst (λ i. IsCut rs es i) cut b in
+      let same_cut : IsSuppressedTo rs es k = subst (λ i. IsSuppressedTo rs es i) cut b in
       let same_agree : CellsAgree ds es m n k k = subst (λ i. CellsAgree ds es m n k i) cut agree in
       (signs m n dr er same_agree a same_cut, digits_same ds es m n k dr.count er.count a same_cut same_agree)
     where
-      signs : (m n : Bool) → Fits rs m ds → Fits rs n es → CellsAgree ds es m n k k → IsCut rs ds k → IsCut rs es k → m ≡ n
+      signs : (m n : Bool) → FitsPlaces rs m ds → FitsPlaces rs n es → CellsAgree ds es m n k k → IsSuppressedTo rs ds k → IsSuppressedTo rs es k → m ≡ n
       signs true true dr er agree a b = refl
       signs false false dr er agree a b = refl
       signs true false dr er agree a b = absurd (sign_told ds es k a agree (dr.sign refl))
       signs false true dr er agree a b = absurd (sign_told es ds k b (λ j lt. sym (agree j lt)) (er.sign refl))
 
   -- a blank text is no other's
-  blank_other : (es bytes : List ℕ) (n star : Bool) (l : ℕ) → Fits rs n es → list_all (λ d. d == 0) es ≡ false → IsCut rs es l → bytes ≡ flat_map (empty_cell star) rs → bytes ≡ printed rs es n l 0 rs → ⊥
+  blank_other : (es bytes : List ℕ) (n star : Bool) (l : ℕ) → FitsPlaces rs n es → list_all (λ d. d == 0) es ≡ false → IsSuppressedTo rs es l → bytes ≡ flat_map (empty_cell star) rs → bytes ≡ printed rs es n l 0 rs → ⊥
   blank_other es bytes n star l er nonzero b p q =
       let at : (i : ℕ) × (i < length es) × (0 < get_or es i 0) = nonzero_at es nonzero in
       let place : (j : ℕ) × (j < length rs) × (is_digit (place_at rs j) ≡ true) × (count_by is_digit (take j rs) ≡ at.0) = place_of rs at.0 (omega (arith, at.1, er.count)) in
@@ -422,7 +422,7 @@ module _ (rs : List Place) where
       zero_small star (place_at rs j) (digit_of rs es j) digit (cells ∙ cell_shown rs n l j (digit_of rs es j) (place_at rs j) outside ∙ digit_cell (place_at rs j) n (digit_of rs es j) place.2)
 
   -- two blank texts
-  both_blank : (ds es : List ℕ) (m n : Bool) → Fits rs m ds → Fits rs n es → list_all (λ d. d == 0) ds ≡ true → list_all (λ d. d == 0) es ≡ true → (m ≡ n) × (ds ≡ es)
+  both_blank : (ds es : List ℕ) (m n : Bool) → FitsPlaces rs m ds → FitsPlaces rs n es → list_all (λ d. d == 0) ds ≡ true → list_all (λ d. d == 0) es ≡ true → (m ≡ n) × (ds ≡ es)
   both_blank ds es m n dr er p q = (
     plus m ds dr p ∙ sym (plus n es er q),
     same_lists ds es (dr.count ∙ sym er.count) (λ i d lt.
@@ -430,7 +430,7 @@ module _ (rs : List Place) where
         get_or_default ds i d 0 lt ∙ all_zero_at ds p i ∙ sym (all_zero_at es q i) ∙ get_or_default es i 0 d inside),
   )
     where
-      plus : (b : Bool) (xs : List ℕ) → Fits rs b xs → list_all (λ d. d == 0) xs ≡ true → b ≡ false
+      plus : (b : Bool) (xs : List ℕ) → FitsPlaces rs b xs → list_all (λ d. d == 0) xs ≡ true → b ≡ false
       plus false xs r z = refl
       plus true xs r z = let no : false ≡ true = sym (r.nonzero refl) ∙ z in absurd (cc)
 
@@ -447,7 +447,7 @@ and_not a true b h k = let no : b ≡ false = k in absurd (ends a b h no)
 and_not a false b h k = refl
 
 -- each text is that of one sign and one list of digits at most
-pub one_reading : (rs : List Place) (blank m n : Bool) (ds es bytes : List ℕ) → Fits rs m ds → Fits rs n es
+pub one_reading : (rs : List Place) (blank m n : Bool) (ds es bytes : List ℕ) → FitsPlaces rs m ds → FitsPlaces rs n es
     → IsText rs blank m ds bytes → IsText rs blank n es bytes → (m ≡ n) × (ds ≡ es)
 one_reading rs blank m n ds es bytes dr er p q =
     go (shows_nothing rs blank ds) refl (shows_nothing rs blank es) refl p q
@@ -455,7 +455,7 @@ one_reading rs blank m n ds es bytes dr er p q =
     zeros : List ℕ → Bool
     zeros xs = list_all (λ d. d == 0) xs
 
-    go : (b : Bool) → shows_nothing rs blank ds ≡ b → (c : Bool) → shows_nothing rs blank es ≡ c → MatchBool b (bytes ≡ flat_map (empty_cell (has_stars rs blank)) rs) ((k : ℕ) × IsCut rs ds k × (bytes ≡ printed rs ds m k 0 rs)) → MatchBool c (bytes ≡ flat_map (empty_cell (has_stars rs blank)) rs) ((k : ℕ) × IsCut rs es k × (bytes ≡ printed rs es n k 0 rs)) → (m ≡ n) × (ds ≡ es)
+    go : (b : Bool) → shows_nothing rs blank ds ≡ b → (c : Bool) → shows_nothing rs blank es ≡ c → MatchBool b (bytes ≡ flat_map (empty_cell (has_stars rs blank)) rs) ((k : ℕ) × IsSuppressedTo rs ds k × (bytes ≡ printed rs ds m k 0 rs)) → MatchBool c (bytes ≡ flat_map (empty_cell (has_stars rs blank)) rs) ((k : ℕ) × IsSuppressedTo rs es k × (bytes ≡ printed rs es n k 0 rs)) → (m ≡ n) × (ds ≡ es)
     go true be true ce p q = both_blank rs ds es m n dr er (and_left _ _ be) (and_left _ _ ce)
     go true be false ce p q = absurd (blank_other rs es bytes n (has_stars rs blank) q.0 er (and_not _ _ _ be ce) q.1 p q.2)
     go false be true ce p q = absurd (blank_other rs ds bytes m (has_stars rs blank) p.0 dr (and_not _ _ _ ce be) p.1 q p.2)

@@ -10,7 +10,7 @@ use Rattle.cob_picture.specs.declared.position.Role.{Role}
 use Rattle.cob_picture.specs.declared.position.Role.TheVariants.{Character, Insertion, DecimalPoint, Digit, Suppressed, Floating, FirstFloating, FixedSign, FixedCurrency, NoByte}
 use Rattle.cob_picture.specs.declared.category.Category.{Category}
 use Rattle.cob_picture.specs.declared.category.Category.TheVariants.{Alphabetic, Numeric, Alphanumeric, AlphanumericEdited, NumericEdited}
-use Rattle.cob_picture.specs.Positions.{is, is_that, times, shows_number, floating, settled_role, role_at, position_at, placed, positions}
+use Rattle.cob_picture.specs.Positions.{is, is_that, symbol_count, shows_number, floating, settled_role, role_at, position_at, positions_from, positions}
 use Rattle.cob_picture.specs.Counts.{is_digit_place, width, size, digits}
 use Rattle.cob_picture.specs.Measures.{symbols_size}
 use Rattle.cob_picture.specs.Pictures.{IsPicture}
@@ -19,7 +19,7 @@ use Rattle.cob_picture.proofs.Limits.{few_numeric, once_at_most}
 use Rattle.cob_edit.specs.declared.place.Place.{Place}
 use Rattle.cob_edit.specs.declared.place.Place.TheVariants.{AssumedPoint}
 use Rattle.cob_edit.specs.Places.{is_digit, has_byte, bytes_of}
-use Rattle.cob_edit.specs.Pictured.{fixed_places, places_of, places}
+use Rattle.cob_edit.specs.Pictured.{fixed_places, position_places, places}
 
 bytes-append : (a b : List Place) → bytes_of (a ++ b) ≡ bytes_of a + bytes_of b
 bytes-append a b = sum_by-append (λ (p : Place). cond (has_byte p) 1 0) a b
@@ -53,7 +53,7 @@ no_byte_digits : (v : Bool) → count_by is_digit (if v then AssumedPoint ∷ []
 no_byte_digits true = refl
 no_byte_digits false = refl
 
-digits_here : (r : Role) (s : Symbol) → count_by is_digit (places_of r s) ≡ cond (is_digit_place r) 1 0
+digits_here : (r : Role) (s : Symbol) → count_by is_digit (position_places r s) ≡ cond (is_digit_place r) 1 0
 digits_here Character s = refl
 digits_here Insertion s = refl
 digits_here DecimalPoint s = refl
@@ -68,16 +68,16 @@ digits_here NoByte s = no_byte_digits (is V s)
 -- a picture's digits are those of its places
 pub digits_same : (ps : List Position) → count_by is_digit (places ps) ≡ digits ps
 digits_same [] = refl
-digits_same (p ∷ ps) = omega (arith, digits-append (places_of p.role p.symbol) (places ps), digits_here p.role p.symbol, digits-cons p ps, digits_same ps)
+digits_same (p ∷ ps) = omega (arith, digits-append (position_places p.role p.symbol) (places ps), digits_here p.role p.symbol, digits-cons p ps, digits_same ps)
 
 -- ---- bytes
 
-settled_bytes : (c : Category) (s : Symbol) → bytes_of (places_of (settled_role c s) s) ≡ width s
+settled_bytes : (c : Category) (s : Symbol) → bytes_of (position_places (settled_role c s) s) ≡ width s
 settled_bytes c A = refl
 settled_bytes c X = refl
 settled_bytes c Nine = at (shows_number c)
   where
-    at : (b : Bool) → bytes_of (places_of (if b then Digit else Character) Nine) ≡ 1
+    at : (b : Bool) → bytes_of (position_places (if b then Digit else Character) Nine) ≡ 1
     at true = refl
     at false = refl
 settled_bytes c S = refl
@@ -96,20 +96,20 @@ settled_bytes c Minus = refl
 settled_bytes c Credit = refl
 settled_bytes c Debit = refl
 
-floating_bytes : (seen : Bool) (s : Symbol) → bytes_of (places_of (if seen then Floating else FirstFloating) s) ≡ 1
+floating_bytes : (seen : Bool) (s : Symbol) → bytes_of (position_places (if seen then Floating else FirstFloating) s) ≡ 1
 floating_bytes true s = refl
 floating_bytes false s = refl
 
-bytes_here : (c : Category) (floats seen : Bool) (s : Symbol) → (floats ≡ true → width s ≡ 1) → bytes_of (places_of (role_at c floats seen s) s) ≡ width s
+bytes_here : (c : Category) (floats seen : Bool) (s : Symbol) → (floats ≡ true → width s ≡ 1) → bytes_of (position_places (role_at c floats seen s) s) ≡ width s
 bytes_here c true seen s wide = floating_bytes seen s ∙ sym (wide refl)
 bytes_here c false seen s wide = settled_bytes c s
 
-bytes_placed : (c : Category) (q : Option Symbol) (seen : Bool) (xs : List Symbol) → MayFloat q → bytes_of (places (placed c q seen xs)) ≡ symbols_size xs
+bytes_placed : (c : Category) (q : Option Symbol) (seen : Bool) (xs : List Symbol) → MayFloat q → bytes_of (places (positions_from c q seen xs)) ≡ symbols_size xs
 bytes_placed c q seen [] may = refl
 bytes_placed c q seen (s ∷ xs) may =
     let p = position_at c q seen s in
-    let rest = placed c q (seen || is_that q s) xs in
-    omega (arith, bytes-append (places_of p.role p.symbol) (places rest), bytes_here c (is_that q s) seen s (may.wide s), bytes_placed c q (seen || is_that q s) xs may)
+    let rest = positions_from c q (seen || is_that q s) xs in
+    omega (arith, bytes-append (position_places p.role p.symbol) (places rest), bytes_here c (is_that q s) seen s (may.wide s), bytes_placed c q (seen || is_that q s) xs may)
 
 -- a picture's size is that of its places
 pub bytes_same : (c : Category) (xs : List Symbol) → bytes_of (places (positions c xs)) ≡ size (positions c xs)
@@ -117,12 +117,12 @@ bytes_same c xs = bytes_placed c (floating xs) false xs (floating_may xs) ∙ sy
 
 -- ---- how many there are
 
-settled_few : (c : Category) (s : Symbol) → length (places_of (settled_role c s) s) ≡ width s + (if is V s then 1 else 0)
+settled_few : (c : Category) (s : Symbol) → length (position_places (settled_role c s) s) ≡ width s + (if is V s then 1 else 0)
 settled_few c A = refl
 settled_few c X = refl
 settled_few c Nine = at (shows_number c)
   where
-    at : (b : Bool) → length (places_of (if b then Digit else Character) Nine) ≡ 1
+    at : (b : Bool) → length (position_places (if b then Digit else Character) Nine) ≡ 1
     at true = refl
     at false = refl
 settled_few c S = refl
@@ -141,20 +141,20 @@ settled_few c Minus = refl
 settled_few c Credit = refl
 settled_few c Debit = refl
 
-floating_few : (seen : Bool) (s : Symbol) → length (places_of (if seen then Floating else FirstFloating) s) ≡ 1
+floating_few : (seen : Bool) (s : Symbol) → length (position_places (if seen then Floating else FirstFloating) s) ≡ 1
 floating_few true s = refl
 floating_few false s = refl
 
-few_here : (c : Category) (floats seen : Bool) (s : Symbol) → (floats ≡ true → width s ≡ 1) → length (places_of (role_at c floats seen s) s) ≤ width s + (if is V s then 1 else 0)
+few_here : (c : Category) (floats seen : Bool) (s : Symbol) → (floats ≡ true → width s ≡ 1) → length (position_places (role_at c floats seen s) s) ≤ width s + (if is V s then 1 else 0)
 few_here c true seen s wide = omega (arith, floating_few seen s, wide refl)
 few_here c false seen s wide = omega (arith, settled_few c s)
 
-few_placed : (c : Category) (q : Option Symbol) (seen : Bool) (xs : List Symbol) → MayFloat q → length (places (placed c q seen xs)) ≤ symbols_size xs + times V xs
+few_placed : (c : Category) (q : Option Symbol) (seen : Bool) (xs : List Symbol) → MayFloat q → length (places (positions_from c q seen xs)) ≤ symbols_size xs + symbol_count V xs
 few_placed c q seen [] may = omega arith
 few_placed c q seen (s ∷ xs) may =
     let p = position_at c q seen s in
-    let rest = placed c q (seen || is_that q s) xs in
-    omega (arith, length-append (places_of p.role p.symbol) (places rest), few_here c (is_that q s) seen s (may.wide s), few_placed c q (seen || is_that q s) xs may)
+    let rest = positions_from c q (seen || is_that q s) xs in
+    omega (arith, length-append (position_places p.role p.symbol) (places rest), few_here c (is_that q s) seen s (may.wide s), few_placed c q (seen || is_that q s) xs may)
 
 -- no symbol takes more than two bytes
 narrow : (s : Symbol) → width s ≤ 2
@@ -181,7 +181,7 @@ few_double : (xs : List Symbol) → symbols_size xs ≤ 2 * length xs
 few_double [] = omega arith
 few_double (s ∷ xs) = omega (arith, narrow s, few_double xs)
 
-scaling_few : (c : Category) (xs : List Symbol) → IsPicture c xs → digits (positions c xs) + times P xs ≤ 31
+scaling_few : (c : Category) (xs : List Symbol) → IsPicture c xs → digits (positions c xs) + symbol_count P xs ≤ 31
 scaling_few c xs p = omega (arith, decimal-placed c (floating xs) false xs (floating_may xs).no_scaling, p.limits.few_digits)
 
 -- a picture of a number has few places

@@ -6,7 +6,7 @@ use Rattle.std.proofs.lemmas.List.{get_or-drop, length-drop}
 use Rattle.std.proofs.lemmas.Bool.{cases_lt}
 use Rattle.cob_edit.specs.declared.place.Place.{Place}
 use Rattle.cob_edit.specs.declared.place.Place.TheVariants.{Inserted, Point, Digit, Suppressed, Floating, First, Fixed, AssumedPoint}
-use Rattle.cob_edit.specs.Places.{is_run, is_run_or_insertion, is_point}
+use Rattle.cob_edit.specs.Places.{is_run, is_run_or_insertion, is_point_place}
 use Rattle.cob_edit.specs.Editing.{place_at, region_start, region_end}
 use Rattle.cob_edit.specs.Regions.{is_insertion, IsOfRun, IsRegion, HasRegion, OneRegion}
 use Rattle.cob_edit.proofs.EditingLemmas.{region_run, region_inside}
@@ -33,7 +33,7 @@ neither Point h = refl
 neither (Fixed m) h = refl
 neither AssumedPoint h = refl
 
-insertion_no_point : (p : Place) → is_insertion p ≡ true → is_point p ≡ false
+insertion_no_point : (p : Place) → is_insertion p ≡ true → is_point_place p ≡ false
 insertion_no_point (Inserted b) h = refl
 insertion_no_point (Suppressed f) h = refl
 insertion_no_point Floating h = refl
@@ -43,7 +43,7 @@ insertion_no_point Point h = sym h
 insertion_no_point (Fixed m) h = refl
 insertion_no_point AssumedPoint h = sym h
 
-run_no_point : (p : Place) → is_run p ≡ true → is_point p ≡ false
+run_no_point : (p : Place) → is_run p ≡ true → is_point_place p ≡ false
 run_no_point (Inserted b) h = refl
 run_no_point (Suppressed f) h = refl
 run_no_point Floating h = refl
@@ -53,7 +53,7 @@ run_no_point Point h = sym h
 run_no_point (Fixed m) h = refl
 run_no_point AssumedPoint h = sym h
 
-point_ends : (p : Place) → is_point p ≡ true → is_run_or_insertion p ≡ false
+point_ends : (p : Place) → is_point_place p ≡ true → is_run_or_insertion p ≡ false
 point_ends (Inserted b) h = sym h
 point_ends (Suppressed f) h = sym h
 point_ends Floating h = sym h
@@ -65,7 +65,7 @@ point_ends AssumedPoint h = refl
 
 -- a place that is neither of the run nor a point
 abbrev pub is_still : Place → Bool
-is_still p = not (is_run p || is_point p)
+is_still p = not (is_run p || is_point_place p)
 
 still_parts : (a b : Bool) → not (a || b) ≡ true → (a ≡ false) × (b ≡ false)
 still_parts true b h = (sym h, absurd (no b h))
@@ -89,13 +89,13 @@ none_before ps j run =
     elim (cases_lt j (region_start ps)) [
       | inl lt ↦
           let still : is_still (place_at ps j) ≡ true = prefix_len_passes is_still ps j (Inserted 0) lt in
-          let no : is_run (place_at ps j) ≡ false = (still_parts (is_run (place_at ps j)) (is_point (place_at ps j)) still).0 in
+          let no : is_run (place_at ps j) ≡ false = (still_parts (is_run (place_at ps j)) (is_point_place (place_at ps j)) still).0 in
           absurd (cc)
       | inr ge ↦ ge
     ]
 
-before_left : (ps : List Place) (k : ℕ) → k < region_start ps → is_point (place_at ps k) ≡ false
-before_left ps k lt = (still_parts (is_run (place_at ps k)) (is_point (place_at ps k)) (prefix_len_passes is_still ps k (Inserted 0) lt)).1
+before_left : (ps : List Place) (k : ℕ) → k < region_start ps → is_point_place (place_at ps k) ≡ false
+before_left ps k lt = (still_parts (is_run (place_at ps k)) (is_point_place (place_at ps k)) (prefix_len_passes is_still ps k (Inserted 0) lt)).1
 
 -- where a symbol of the run stands left of the point, the region begins at the first of them
 begins : (ps : List Place) (j : ℕ) → IsOfRun ps j → IsOfRun ps (region_start ps)
@@ -106,7 +106,7 @@ begins ps j h =
     let stop : is_still (place_at ps s) ≡ false = prefix_len_stops is_still ps (Inserted 0) inside in
     record {
       inside = inside;
-      run = not_still (is_run (place_at ps s)) (is_point (place_at ps s)) stop (h.left s low);
+      run = not_still (is_run (place_at ps s)) (is_point_place (place_at ps s)) stop (h.left s low);
       left = λ k le. h.left k (omega arith);
     }
 
@@ -116,18 +116,18 @@ empty ps none =
     let s : ℕ = region_start ps in
     elim (cases_lt s (length ps)) [
       | inr past ↦ omega (arith, prefix_len-drop_all is_run_or_insertion ps s past)
-      | inl inside ↦ at (is_point (place_at ps s)) refl inside
+      | inl inside ↦ at (is_point_place (place_at ps s)) refl inside
     ]
   where
-    at : (b : Bool) → is_point (place_at ps (region_start ps)) ≡ b → region_start ps < length ps → region_end ps ≡ region_start ps
+    at : (b : Bool) → is_point_place (place_at ps (region_start ps)) ≡ b → region_start ps < length ps → region_end ps ≡ region_start ps
     at true e inside = omega (arith, prefix_len-drop_no is_run_or_insertion ps (region_start ps) (Inserted 0) inside (point_ends (place_at ps (region_start ps)) e))
     at false e inside =
         let s : ℕ = region_start ps in
         let stop : is_still (place_at ps s) ≡ false = prefix_len_stops is_still ps (Inserted 0) inside in
         absurd (none s (record {
           inside = inside;
-          run = not_still (is_run (place_at ps s)) (is_point (place_at ps s)) stop e;
-          left = λ k le. elim (cases_lt k s) [ inl lt ↦ before_left ps k lt | inr ge ↦ let same : s ≡ k = omega arith in subst (λ i. is_point (place_at ps i) ≡ false) same e ];
+          run = not_still (is_run (place_at ps s)) (is_point_place (place_at ps s)) stop e;
+          left = λ k le. elim (cases_lt k s) [ inl lt ↦ before_left ps k lt | inr ge ↦ let same : s ≡ k = omega arith in subst (λ i. is_point_place (place_at ps i) ≡ false) same e ];
         }))
 
 -- ---- the region has what stands left of the point
@@ -158,7 +158,7 @@ has_region ps within = record {
 
 -- ---- places have one region
 
-region_left : (ps : List Place) (from behind j : ℕ) → IsRegion ps from behind → j < behind → is_point (place_at ps j) ≡ false
+region_left : (ps : List Place) (from behind j : ℕ) → IsRegion ps from behind → j < behind → is_point_place (place_at ps j) ≡ false
 region_left ps from behind j r high =
     elim (cases_lt from j) [
       | inr before ↦ r.first.left j before

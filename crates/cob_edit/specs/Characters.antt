@@ -37,12 +37,12 @@ pub record HasCharacters (ps : List Position) (sender bytes : List ℕ) : Type 0
   pub each : (j : ℕ) → j < length ps → slice_index bytes j ≡ character_at ps sender j
 
 -- the same from the front on, place by place
-abbrev pub spelled : List Position → List ℕ → List ℕ
-spelled [] sender = []
-spelled (p ∷ ps) sender =
+abbrev pub characters_from : List Position → List ℕ → List ℕ
+characters_from [] sender = []
+characters_from (p ∷ ps) sender =
     if is_character p.role
-    then slice_index_or sender 0 0x40 ∷ spelled ps (drop 1 sender)
-    else insertion_byte p.symbol ∷ spelled ps sender
+    then slice_index_or sender 0 0x40 ∷ characters_from ps (drop 1 sender)
+    else insertion_byte p.symbol ∷ characters_from ps sender
 
 -- characters have one text
 abbrev pub OneSpelling : Type 0

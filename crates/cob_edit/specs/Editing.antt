@@ -4,7 +4,7 @@ use Rattle.std.specs.List.{prefix_len, list_all, list_any, flat_map}
 use Rattle.cob_decimal.specs.Decimal.{IsDigits}
 use Rattle.cob_edit.specs.declared.place.Place.{Place}
 use Rattle.cob_edit.specs.declared.place.Place.TheVariants.{Inserted, Point, Digit, Suppressed, Floating, First, Fixed, AssumedPoint}
-use Rattle.cob_edit.specs.Places.{mark_byte, fill_byte, is_digit, is_run, is_run_or_insertion, is_point, has_byte, is_nine, is_star, is_fixed_sign, is_floating_sign}
+use Rattle.cob_edit.specs.Places.{mark_byte, fill_byte, is_digit, is_run, is_run_or_insertion, is_point_place, has_byte, is_nine, is_star, is_fixed_sign, is_floating_sign}
 
 -- the place with this number, from 0
 abbrev pub place_at : List Place → ℕ → Place
@@ -14,7 +14,7 @@ place_at ps j = slice_index_or ps j (Inserted 0)
 
 -- The region begins at the run's first symbol. Where the point comes first, or there is no run, it is empty.
 abbrev pub region_start : List Place → ℕ
-region_start ps = prefix_len (λ p. not (is_run p || is_point p)) ps
+region_start ps = prefix_len (λ p. not (is_run p || is_point_place p)) ps
 
 -- It goes on over symbols of the run and insertions, so that it never passes the point.
 abbrev pub region_end : List Place → ℕ
@@ -28,7 +28,7 @@ digit_of ps ds j = slice_index ds (count_by is_digit (take j ps))
 
 -- A cut is a place from the region's first to just after its last. Every digit of the region before it is 0, and it is a digit place
 -- whose digit isn't 0, or just after the region.
-pub record IsCut (ps : List Place) (ds : List ℕ) (k : ℕ) : Type 0 where
+pub record IsSuppressedTo (ps : List Place) (ds : List ℕ) (k : ℕ) : Type 0 where
   pub from : region_start ps ≤ k
   pub to : k ≤ region_end ps
   pub zeros : (j : ℕ) → region_start ps ≤ j → j < k → IsTrue (is_digit (place_at ps j)) → digit_of ps ds j ≡ 0
@@ -103,14 +103,14 @@ abbrev pub IsText : List Place → Bool → Bool → List ℕ → List ℕ → T
 IsText ps blank negative ds bytes =
     MatchBool (shows_nothing ps blank ds)
     (bytes ≡ flat_map (empty_cell (has_stars ps blank)) ps)
-    ((k : ℕ) × IsCut ps ds k × (bytes ≡ printed ps ds negative k 0 ps))
+    ((k : ℕ) × IsSuppressedTo ps ds k × (bytes ≡ printed ps ds negative k 0 ps))
 
 -- the places tell the sign: one stands in its place, or floats
 abbrev pub shows_sign : List Place → Bool
 shows_sign ps = list_any is_fixed_sign ps || is_floating_sign (place_at ps (region_start ps))
 
 -- Digits and a sign that the places can show: a digit for each digit place, and a minus only where the sign shows and a digit isn't 0.
-pub record Fits (ps : List Place) (negative : Bool) (ds : List ℕ) : Type 0 where
+pub record FitsPlaces (ps : List Place) (negative : Bool) (ds : List ℕ) : Type 0 where
   pub digits : IsDigits ds
   pub count : length ds ≡ count_by is_digit ps
   pub nonzero : IsTrue negative → are_zero ds ≡ false

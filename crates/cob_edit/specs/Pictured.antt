@@ -7,7 +7,7 @@ use Rattle.cob_picture.specs.declared.symbol.Symbol.TheVariants.{V, Zero, Slash,
 use Rattle.cob_picture.specs.declared.position.Role.{Role}
 use Rattle.cob_picture.specs.declared.position.Role.TheVariants as role
 use Rattle.cob_picture.specs.declared.position.Position.{Position}
-use Rattle.cob_picture.specs.Positions.{Seen, is}
+use Rattle.cob_picture.specs.Positions.{PlainPicture, is}
 use Rattle.cob_picture.specs.Counts.{digits, scale}
 use Rattle.cob_edit.specs.declared.place.Mark.{Mark}
 use Rattle.cob_edit.specs.declared.place.Mark.TheVariants.{Currency, PlusOrMinus, SpaceOrMinus, CreditC, CreditR, DebitD, DebitB}
@@ -42,26 +42,26 @@ fixed_places Debit = place.Fixed DebitD ∷ place.Fixed DebitB ∷ []
 fixed_places s = place.Fixed (mark_of s) ∷ []
 
 -- The places of a position: one, but two for CR and DB. S and P have none, and V has one without a byte.
-abbrev pub places_of : Role → Symbol → List Place
-places_of role.Character s = place.Inserted 0x40 ∷ []
-places_of role.Insertion s = place.Inserted (insertion_byte s) ∷ []
-places_of role.DecimalPoint s = place.Point ∷ []
-places_of role.Digit s = place.Digit ∷ []
-places_of role.Suppressed s = place.Suppressed (fill_of s) ∷ []
-places_of role.Floating s = place.Floating ∷ []
-places_of role.FirstFloating s = place.First (mark_of s) ∷ []
-places_of role.FixedSign s = fixed_places s
-places_of role.FixedCurrency s = fixed_places s
-places_of role.NoByte s = if is V s then place.AssumedPoint ∷ [] else []
+abbrev pub position_places : Role → Symbol → List Place
+position_places role.Character s = place.Inserted 0x40 ∷ []
+position_places role.Insertion s = place.Inserted (insertion_byte s) ∷ []
+position_places role.DecimalPoint s = place.Point ∷ []
+position_places role.Digit s = place.Digit ∷ []
+position_places role.Suppressed s = place.Suppressed (fill_of s) ∷ []
+position_places role.Floating s = place.Floating ∷ []
+position_places role.FirstFloating s = place.First (mark_of s) ∷ []
+position_places role.FixedSign s = fixed_places s
+position_places role.FixedCurrency s = fixed_places s
+position_places role.NoByte s = if is V s then place.AssumedPoint ∷ [] else []
 
 -- the places of an item
 abbrev pub places : List Position → List Place
-places ps = flat_map (λ p. places_of p.role p.symbol) ps
+places ps = flat_map (λ p. position_places p.role p.symbol) ps
 
 -- The bytes are the text that the picture gives the number whose digits are these, with this scale. The number is first put into the
 -- digits and the scale of the picture. It is negative where it was so, the picture shows a sign, and what is left isn't 0. The text is
 -- that of the sign and the digits that are kept.
-pub record IsEdited (picture : Seen) (blank negative : Bool) (sent : List ℕ) (from : ℤ) (bytes : List ℕ) : Type 0 where
+pub record IsEdited (picture : PlainPicture) (blank negative : Bool) (sent : List ℕ) (from : ℤ) (bytes : List ℕ) : Type 0 where
   pub kept : List ℕ
   pub minus : Bool
   pub valid : IsDigits kept
@@ -72,16 +72,16 @@ pub record IsEdited (picture : Seen) (blank negative : Bool) (sent : List ℕ) (
 
 -- The sign and the digits are those of a number that the picture can show: as many digits as it has, and a minus only where it shows a
 -- sign and the number isn't 0. The number's scale is the picture's.
-pub record IsInRange (picture : Seen) (negative : Bool) (ds : List ℕ) : Type 0 where
+pub record IsInRange (picture : PlainPicture) (negative : Bool) (ds : List ℕ) : Type 0 where
   pub valid : IsDigits ds
   pub count : length ds ≡ digits picture.positions
   pub nonzero : IsTrue negative → 0 < number_of ds
   pub sign : IsTrue negative → IsTrue (shows_sign (places picture.positions))
 
 -- every number has one text
-abbrev pub OneText : Type 0
-OneText =
-    (picture : Seen) (blank negative : Bool) (sent : List ℕ) (from : ℤ) (x y : List ℕ)
+abbrev pub OneEditedText : Type 0
+OneEditedText =
+    (picture : PlainPicture) (blank negative : Bool) (sent : List ℕ) (from : ℤ) (x y : List ℕ)
     → IsEdited picture blank negative sent from x
     → IsEdited picture blank negative sent from y
     → x ≡ y
@@ -89,14 +89,14 @@ OneText =
 -- every number in range has a text
 abbrev pub SomeText : Type 0
 SomeText =
-    (picture : Seen) (blank negative : Bool) (ds : List ℕ)
+    (picture : PlainPicture) (blank negative : Bool) (ds : List ℕ)
     → IsInRange picture negative ds
     → (bytes : List ℕ) × IsEdited picture blank negative ds (scale picture.positions) bytes
 
 -- every text is that of one number in range at most
-abbrev pub OneValue : Type 0
-OneValue =
-    (picture : Seen) (blank m n : Bool) (ds es bytes : List ℕ)
+abbrev pub OneEditedNumber : Type 0
+OneEditedNumber =
+    (picture : PlainPicture) (blank m n : Bool) (ds es bytes : List ℕ)
     → IsInRange picture m ds
     → IsInRange picture n es
     → IsEdited picture blank m ds (scale picture.positions) bytes

@@ -67,15 +67,15 @@ is_run_or_insertion (Fixed mark) = false
 is_run_or_insertion AssumedPoint = false
 
 -- a point, printed or not
-abbrev pub is_point : Place → Bool
-is_point Point = true
-is_point AssumedPoint = true
-is_point (Inserted byte) = false
-is_point Digit = false
-is_point (Suppressed fill) = false
-is_point Floating = false
-is_point (First mark) = false
-is_point (Fixed mark) = false
+abbrev pub is_point_place : Place → Bool
+is_point_place Point = true
+is_point_place AssumedPoint = true
+is_point_place (Inserted byte) = false
+is_point_place Digit = false
+is_point_place (Suppressed fill) = false
+is_point_place Floating = false
+is_point_place (First mark) = false
+is_point_place (Fixed mark) = false
 
 -- a place that holds a byte
 abbrev pub has_byte : Place → Bool

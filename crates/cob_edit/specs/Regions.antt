@@ -1,12 +1,12 @@
 -- The region and the sign of a numeric edited picture, in the words of the editing rules.
 use Rattle.std.specs.Prelude.{◌≡◌, ℕ, ◌<◌, ◌≤◌, ◌⊎◌, Bool, true, false, List, length}
 use Rattle.cob_picture.specs.declared.category.Category.TheVariants.{NumericEdited}
-use Rattle.cob_picture.specs.Positions.{Seen}
+use Rattle.cob_picture.specs.Positions.{PlainPicture}
 use Rattle.cob_picture.specs.Counts.{signed}
 use Rattle.cob_picture.specs.Pictures.{IsPictureOf}
 use Rattle.cob_edit.specs.declared.place.Place.{Place}
 use Rattle.cob_edit.specs.declared.place.Place.TheVariants.{Inserted, Point, Digit, Suppressed, Floating, First, Fixed, AssumedPoint}
-use Rattle.cob_edit.specs.Places.{is_run, is_point}
+use Rattle.cob_edit.specs.Places.{is_run, is_point_place}
 use Rattle.cob_edit.specs.Editing.{place_at, region_start, region_end, shows_sign}
 use Rattle.cob_edit.specs.Pictured.{places}
 
@@ -25,7 +25,7 @@ is_insertion AssumedPoint = false
 pub record IsOfRun (ps : List Place) (j : ℕ) : Type 0 where
   pub inside : j < length ps
   pub run : is_run (place_at ps j) ≡ true
-  pub left : (k : ℕ) → k ≤ j → is_point (place_at ps k) ≡ false
+  pub left : (k : ℕ) → k ≤ j → is_point_place (place_at ps k) ≡ false
 
 -- The region goes from the run's first symbol to its last, with the insertions between and those directly at its right, and never
 -- past the point: it begins at a symbol of the run, has each that stands left of the point and besides them insertions alone, and
@@ -48,9 +48,9 @@ OneRegion = (ps : List Place) (from other behind past : ℕ) → IsRegion ps fro
 
 -- each numeric edited picture has the region of its run
 abbrev pub RegionsAreOfRuns : Type 0
-RegionsAreOfRuns = (text : List ℕ) (picture : Seen) → IsPictureOf text picture → picture.category ≡ NumericEdited → HasRegion (places picture.positions)
+RegionsAreOfRuns = (text : List ℕ) (picture : PlainPicture) → IsPictureOf text picture → picture.category ≡ NumericEdited → HasRegion (places picture.positions)
 
 -- a numeric edited picture shows a sign exactly where it is signed
 abbrev pub SignsAreShown : Type 0
-SignsAreShown = (text : List ℕ) (picture : Seen) → IsPictureOf text picture → picture.category ≡ NumericEdited
+SignsAreShown = (text : List ℕ) (picture : PlainPicture) → IsPictureOf text picture → picture.category ≡ NumericEdited
     → shows_sign (places picture.positions) ≡ signed picture.positions

@@ -2,12 +2,12 @@
 
 ghost use Rattle.cob_edit.specs.Characters.{OneSpelling};
 ghost use Rattle.cob_edit.specs.CodePage.{PrintsCharacters};
-ghost use Rattle.cob_edit.specs.Pictured.{OneText, SomeText, OneValue};
+ghost use Rattle.cob_edit.specs.Pictured.{OneEditedText, SomeText, OneEditedNumber};
 ghost use Rattle.cob_edit.specs.Regions.{OneRegion, RegionsAreOfRuns, SignsAreShown};
 
 /// A picture gives each number one text.
 pub fn one_text()
-    ensures { OneText }
+    ensures { OneEditedText }
 {}
 
 /// Each number in the range of a picture has a text.
@@ -17,7 +17,7 @@ pub fn some_text()
 
 /// Each text is that of one number in range at most.
 pub fn one_value()
-    ensures { OneValue }
+    ensures { OneEditedNumber }
 {}
 
 /// An alphanumeric edited picture gives the characters of a sender one text.

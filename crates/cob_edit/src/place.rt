@@ -1,7 +1,7 @@
 //! The places of an edited item.
 
 ghost use Rattle.std.specs.Prelude.{◌≡◌};
-ghost use Rattle.cob_edit.specs.Places.{mark_byte, tells, fill_byte, is_digit, is_run, is_run_or_insertion, is_point, has_byte, is_nine, is_star, is_asterisk, is_fixed_sign, is_floating_sign};
+ghost use Rattle.cob_edit.specs.Places.{mark_byte, tells, fill_byte, is_digit, is_run, is_run_or_insertion, is_point_place, has_byte, is_nine, is_star, is_asterisk, is_fixed_sign, is_floating_sign};
 
 /// A byte that may depend on the sign of the value.
 #[derive(Clone, Copy, Debug, PartialEq, Eq)]
@@ -122,7 +122,7 @@ impl Place {
 
     /// Whether it is the point.
     pub fn is_point(&self) -> bool
-        ensures { result ≡ is_point self.now }
+        ensures { result ≡ is_point_place self.now }
     {
         matches!(self, Place::Point | Place::AssumedPoint)
     }

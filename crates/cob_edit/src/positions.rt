@@ -5,7 +5,7 @@ ghost use Rattle.cob_limits.specs.Limits.{most_digits};
 ghost use Rattle.cob_picture.specs.Counts.{size, digits};
 ghost use Rattle.cob_picture.specs.Positions.{shows_number};
 ghost use Rattle.cob_edit.specs.Places.{is_digit, bytes_of};
-ghost use Rattle.cob_edit.specs.Pictured.{insertion_byte, mark_of, fill_of, fixed_places, places_of, places};
+ghost use Rattle.cob_edit.specs.Pictured.{insertion_byte, mark_of, fill_of, fixed_places, position_places, places};
 
 use crate::MAX_PLACES;
 use crate::place::{Fill, Mark, Place};
@@ -70,7 +70,7 @@ fn push_fixed(places: &mut Places, symbol: Symbol)
 /// Adds the places of a position.
 fn push_places(places: &mut Places, role: Role, symbol: Symbol)
     requires room { length places.old.items + 2 ≤ MAX_PLACES }
-    ensures { places.new.items ≡ places.old.items ++ places_of role symbol }
+    ensures { places.new.items ≡ places.old.items ++ position_places role symbol }
 {
     match role {
         Role::Character => places.push(Place::Inserted(0x40)),

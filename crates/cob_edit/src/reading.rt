@@ -4,7 +4,7 @@ ghost use Rattle.std.specs.Prelude.{◌≡◌, ◌<◌, ◌≤◌, ◌↔◌, le
 ghost use Rattle.cob_limits.specs.Limits.{most_digits};
 ghost use Rattle.cob_decimal.specs.Decimal.{IsDigits};
 ghost use Rattle.cob_edit.specs.Places.{is_digit, bytes_of};
-ghost use Rattle.cob_edit.specs.Editing.{IsText, Fits, shown_digit, extract};
+ghost use Rattle.cob_edit.specs.Editing.{IsText, FitsPlaces, shown_digit, extract};
 
 use crate::MAX_PLACES;
 use crate::place::Place;
@@ -67,7 +67,8 @@ fn is_negative_text(places: &[Place], blank: bool, digits: &[u8], bytes: &[u8]) 
     requires room { length bytes.now ≡ bytes_of places.now }
     requires most { length bytes.now ≤ MAX_PLACES }
     ensures { IsTrue result ↔
-        (Fits places.now true digits.now × IsText places.now blank true digits.now bytes.now) }
+        (FitsPlaces places.now true digits.now
+        × IsText places.now blank true digits.now bytes.now) }
 {
     shows_sign(places) && !are_zero(digits) && is_text(places, blank, true, digits, bytes)
 }
@@ -78,8 +79,8 @@ pub fn read_text(places: &[Place], blank: bool, bytes: &[u8]) -> Option<(bool, D
     requires most { length bytes.now ≤ MAX_PLACES }
     requires few { count_by is_digit places.now ≤ most_digits }
     ensures found { IfSome result
-        (λ v. Fits places.now v.0 v.1 × IsText places.now blank v.0 v.1 bytes.now) }
-    ensures only { (n : Bool) (ds : List ℕ) → Fits places.now n ds
+        (λ v. FitsPlaces places.now v.0 v.1 × IsText places.now blank v.0 v.1 bytes.now) }
+    ensures only { (n : Bool) (ds : List ℕ) → FitsPlaces places.now n ds
         → IsText places.now blank n ds bytes.now → IsSomeAnd result (λ v. (v.0 ≡ n) × (v.1 ≡ ds)) }
 {
     let digits = digits_in(places, bytes);

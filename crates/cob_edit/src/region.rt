@@ -2,8 +2,8 @@
 
 ghost use Rattle.std.specs.Prelude.{◌≡◌, ◌+◌, ◌<◌, ◌≤◌, ◌||◌, not, length, count_by, IsTrue, ℕ};
 ghost use Rattle.std.specs.List.{prefix_len, list_any};
-ghost use Rattle.cob_edit.specs.Places.{is_digit, is_run, is_run_or_insertion, is_point, is_fixed_sign};
-ghost use Rattle.cob_edit.specs.Editing.{region_start, region_end, IsCut, shows_sign};
+ghost use Rattle.cob_edit.specs.Places.{is_digit, is_run, is_run_or_insertion, is_point_place, is_fixed_sign};
+ghost use Rattle.cob_edit.specs.Editing.{region_start, region_end, IsSuppressedTo, shows_sign};
 
 use crate::place::Place;
 
@@ -18,7 +18,7 @@ pub struct Region {
 
 /// How many places stand before the first of the run or the point.
 fn run_of(places: &[Place]) -> usize
-    ensures value { result ≡ prefix_len (λ p. not (is_run p || is_point p)) places.now }
+    ensures value { result ≡ prefix_len (λ p. not (is_run p || is_point_place p)) places.now }
     ensures inside { result ≤ length places.now }
 {
     for (at, place) in places.iter().enumerate() {
@@ -60,7 +60,7 @@ pub fn cut_of(places: &[Place], digits: &[u8], region: Region) -> usize
     requires end { region.end ≡ region_end places.now }
     requires inside { region.end ≤ length places.now }
     requires digits { length digits.now ≡ count_by is_digit places.now }
-    ensures { IsCut places.now digits.now result }
+    ensures { IsSuppressedTo places.now digits.now result }
 {
     let mut next = 0;
     for at in 0..region.end {

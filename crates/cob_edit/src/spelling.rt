@@ -3,7 +3,7 @@
 ghost use Rattle.std.specs.Prelude.{◌≡◌, ◌≤◌, length, slice_index_or};
 ghost use Rattle.cob_picture.specs.declared.category.Category.TheVariants.{AlphanumericEdited};
 ghost use Rattle.cob_picture.specs.Counts.{size};
-ghost use Rattle.cob_edit.specs.Characters.{is_character, spelled, HasCharacters};
+ghost use Rattle.cob_edit.specs.Characters.{is_character, characters_from, HasCharacters};
 
 use crate::positions::insertion_byte;
 use cob_picture::{Picture, Position, Role};
@@ -25,7 +25,7 @@ fn byte_in(bytes: &[u8], at: usize) -> u8
 /// Writes the characters of a sender, and the insertions, at positions that have a byte each.
 fn spell(positions: &[Position], sender: &[u8], out: &mut [u8])
     requires room { length out.old ≡ length positions.now }
-    ensures { out.new ≡ spelled positions.now sender.now }
+    ensures { out.new ≡ characters_from positions.now sender.now }
 {
     let mut next: usize = 0;
     for (at, position) in positions.iter().enumerate() {

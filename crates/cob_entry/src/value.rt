@@ -2,7 +2,7 @@
 
 ghost use Rattle.std.specs.Prelude.{◌≡◌, ◌≤◌, length};
 ghost use Rattle.cob_limits.specs.Limits.{longest_literal};
-ghost use Rattle.cob_entry.specs.Described.{constant};
+ghost use Rattle.cob_entry.specs.Described.{plain_value};
 
 use crate::kinds::Figurative;
 use arrayvec::ArrayVec;
@@ -73,7 +73,7 @@ pub enum Value {
 impl Value {
     /// The same constant once more. It takes no memory, and so cannot fail.
     pub fn clone(&self) -> Value
-        ensures { constant result ≡ constant self.now }
+        ensures { plain_value result ≡ plain_value self.now }
     {
         match self {
             Value::Number { signed, number } => Value::Number {

@@ -7,7 +7,7 @@ use Rattle.cob_picture.specs.declared.symbol.Symbol.TheVariants.{S, V, P, Nine}
 use Rattle.cob_picture.specs.declared.position.Position.{Position}
 use Rattle.cob_picture.specs.declared.category.Category.{Category}
 use Rattle.cob_picture.specs.declared.category.Category.TheVariants.{Alphabetic, Numeric, Alphanumeric, AlphanumericEdited, NumericEdited}
-use Rattle.cob_picture.specs.Positions.{positions, placed, position_at, role_at, floating, is_that}
+use Rattle.cob_picture.specs.Positions.{positions, positions_from, position_at, role_at, floating, is_that}
 use Rattle.cob_picture.specs.Counts.{digits, size, width, is_digit_place}
 use Rattle.cob_picture.specs.Numeric.{numeric_symbols}
 use Rattle.cob_picture.specs.Pictures.{IsPicture}
@@ -46,10 +46,10 @@ all_replicate : (n : ℕ) (s : Symbol) → IsEven s → AllByRecursion IsEven (r
 all_replicate zero s h = tt
 all_replicate (suc n) s h = (h, all_replicate n s h)
 
-even : (q : Option Symbol) (seen : Bool) (xs : List Symbol) → MayFloat q → AllByRecursion IsEven xs → digits (placed Numeric q seen xs) ≡ symbols_size xs
+even : (q : Option Symbol) (seen : Bool) (xs : List Symbol) → MayFloat q → AllByRecursion IsEven xs → digits (positions_from Numeric q seen xs) ≡ symbols_size xs
 even q seen [] may h = refl
 even q seen (s ∷ xs) may h =
-    omega (arith, digits-cons (position_at Numeric q seen s) (placed Numeric q (seen || is_that q s) xs), h.0 q seen may, even q (seen || is_that q s) xs may h.1)
+    omega (arith, digits-cons (position_at Numeric q seen s) (positions_from Numeric q (seen || is_that q s) xs), h.0 q seen may, even q (seen || is_that q s) xs may h.1)
 
 numeric : (symbols : List Symbol) → IsPicture Numeric symbols → digits (positions Numeric symbols) ≡ size (positions Numeric symbols)
 numeric symbols is =

@@ -1,7 +1,7 @@
 ghost use Rattle.std.specs.Prelude.{◌≡◌, ◌≤◌, IsTrue};
 ghost use Rattle.std.specs.Bool.{OnTrue};
 ghost use Rattle.cob_copybook_tree.specs.Resolving.{is_numeric};
-ghost use Rattle.cob_item.specs.Items.{form_of, is_leading, is_separate, IsNumberItem, IsTaken};
+ghost use Rattle.cob_item.specs.Items.{form_of, is_leading, is_separate, IsNumberItem, TakesPicture};
 
 use cob_copybook_tree::Item;
 use cob_entry::{Sign, Usage};
@@ -62,8 +62,8 @@ fn is_numeric(picture: &Picture) -> bool
 
 /// Whether a kind of storage takes a picture.
 fn is_taken(form: Form, picture: &Picture) -> bool
-    ensures yes { OnTrue result (IsTaken form picture.now) }
-    ensures must { IsTaken form picture.now → IsTrue result }
+    ensures yes { OnTrue result (TakesPicture form picture.now) }
+    ensures must { TakesPicture form picture.now → IsTrue result }
 {
     match form {
         Form::Zoned | Form::Packed => true,

@@ -1,21 +1,21 @@
 -- Redefining entries begin where their area begins.
 use Rattle.std.proofs.Common.{◌≡◌, ℕ, ◌+◌, ◌*◌, ◌==◌, Bool, true, false, List, [], ◌∷◌, Option, Some, None, refl, sym, ap, subst, ◌∙◌, arith, inl, inr}
 use Rattle.std.proofs.lemmas.Bool.Decides.{nat_tests}
-use Rattle.cob_copybook_tree.specs.declared.node.Times.TheVariants.{Once}
-use Rattle.cob_copybook_tree.specs.declared.node.Times.{Times}
-use Rattle.cob_copybook_tree.specs.Forests.{Forest, Bare, Grows, Tree, entries_in}
-use Rattle.cob_copybook_tree.specs.Nodes.{Resolved}
-use Rattle.cob_copybook_tree.specs.Lengths.{most, room, element, whole}
-use Rattle.cob_copybook_lengths.specs.Areas.{AreAreas, MayFollow, joined}
+use Rattle.cob_copybook_tree.specs.declared.node.ResolvedOccurs.TheVariants.{Once}
+use Rattle.cob_copybook_tree.specs.declared.node.ResolvedOccurs.{ResolvedOccurs}
+use Rattle.cob_copybook_tree.specs.Forests.{Forest, NoEntries, AnEntry, Tree, entries_in}
+use Rattle.cob_copybook_tree.specs.Nodes.{Resolved, alone}
+use Rattle.cob_copybook_tree.specs.Lengths.{greatest_number, own_length, element_length, whole_length}
+use Rattle.cob_copybook_lengths.specs.Areas.{AreAreas, MayFollow, area_with}
 use Rattle.cob_layout_places.specs.declared.places.Found.{Found}
-use Rattle.cob_layout_places.specs.Lengths.{alone, times}
-use Rattle.cob_layout_places.specs.Places.{find, or_else, choose, also, begins, is_table, is_there, later, skipped}
+use Rattle.cob_layout_places.specs.Lengths.{times}
+use Rattle.cob_layout_places.specs.Places.{place_of, or_else, choose, also, begins, is_table, is_there, later, skipped}
 use Rattle.cob_layout_places.specs.Cover.{AreNumbered}
 use Rattle.cob_layout_places.specs.Needs.{Has}
 use Rattle.cob_layout_places.proofs.CoverLaw.{not_or}
 use Rattle.cob_sound.specs.Sound.{RecordsAreSound}
 use Rattle.cob_layout_places.specs.References.{Refers}
-use Rattle.cob_layout.specs.Laws.{IsBehind, Redefines, offset_of, BeginWithArea}
+use Rattle.cob_layout.specs.Laws.{IsBehind, IsRedefinitionOf, offset_of, BeginWithArea}
 use Rattle.cob_layout.proofs.ReferenceLemmas.{refers_has}
 use Rattle.cob_layout.proofs.EndLemmas.{numbered, found_has}
 
@@ -26,8 +26,8 @@ none_or None never = refl
 none_or (Some f) never = absurd (never f refl)
 
 -- an entry isn't found among others
-pub absent : (c : Resolved → ℕ) (r : ℕ) (f : Forest Resolved) (at area : ℕ) (subscripts : List ℕ) → (Has r f → ⊥) → find c r f at area subscripts ≡ None
-absent c r f at area subscripts never = none_or (find c r f at area subscripts) (λ p is. never (found_has c r f at area subscripts p is))
+pub absent : (c : Resolved → ℕ) (r : ℕ) (f : Forest Resolved) (at area : ℕ) (subscripts : List ℕ) → (Has r f → ⊥) → place_of c r f at area subscripts ≡ None
+absent c r f at area subscripts never = none_or (place_of c r f at area subscripts) (λ p is. never (found_has c r f at area subscripts p is))
 
 pub is_same : (a b : ℕ) → a ≡ b → (a == b) ≡ true
 is_same a b e = grind (arith, nat_tests)
@@ -61,29 +61,29 @@ first_element start k size e = ap (λ (m : ℕ). start + m * size) e ∙ grind a
 -- ---- an entry behind others that redefine an area
 
 behind_has : (r : ℕ) (f : Forest Resolved) → IsBehind r f → Has r f
-behind_has r Bare h = absurd h
-behind_has r (Grows e kids more) h = elim h.1 [ inl own ↦ inl own | inr rest ↦ inr (inr (behind_has r more rest)) ]
+behind_has r NoEntries h = absurd h
+behind_has r (AnEntry e children more) h = elim h.1 [ inl own ↦ inl own | inr rest ↦ inr (inr (behind_has r more rest)) ]
 
 -- it begins where the area does
-behind : (c : Resolved → ℕ) (r n : ℕ) (f : Forest Resolved) (at area : ℕ) (subscripts : List ℕ) → AreNumbered n f → IsBehind r f → subscripts ≡ [] → offset_of (find c r f at area subscripts) ≡ Some area
-behind c r n Bare at area subscripts num h none = absurd h
-behind c r n (Grows e kids more) at area subscripts num h none =
+behind : (c : Resolved → ℕ) (r n : ℕ) (f : Forest Resolved) (at area : ℕ) (subscripts : List ℕ) → AreNumbered n f → IsBehind r f → subscripts ≡ [] → offset_of (place_of c r f at area subscripts) ≡ Some area
+behind c r n NoEntries at area subscripts num h none = absurd h
+behind c r n (AnEntry e children more) at area subscripts num h none =
     let start : ℕ = begins e.redefines at area in
     let starts : start ≡ area = ap (λ (o : Option (List ℕ)). begins o at area) h.0.1 in
-    let size : ℕ = element c e kids in
-    let offset : ℕ = start + skipped (is_table e.occurs) (most e) subscripts * size in
+    let size : ℕ = element_length c e children in
+    let offset : ℕ = start + skipped (is_table e.occurs) (greatest_number e) subscripts * size in
     let there : Bool = is_there (is_table e.occurs) (c e) subscripts in
     let inner : List ℕ = later (is_table e.occurs) subscripts in
-    let next_at : ℕ = at + room e.redefines (whole c e kids) in
+    let next_at : ℕ = at + own_length e.redefines (whole_length c e children) in
     elim h.1 [
-      | inl own ↦ (let offset_is : offset ≡ area = first_element start _ size (none_skipped (is_table e.occurs) (most e) subscripts none) ∙ starts in
-          at_own (e.number == r) (record { offset = offset; length = size; within = there }) (also there (find c r kids offset offset inner)) (find c r more next_at start subscripts) (is_same e.number r own)
+      | inl own ↦ (let offset_is : offset ≡ area = first_element start _ size (none_skipped (is_table e.occurs) (greatest_number e) subscripts none) ∙ starts in
+          at_own (e.number == r) (record { offset = offset; length = size; within = there }) (also there (place_of c r children offset offset inner)) (place_of c r more next_at start subscripts) (is_same e.number r own)
           ∙ ap (λ (m : ℕ). Some m) offset_is)
-      | inr rest ↦ (let low = numbered r (n + 1 + entries_in kids) more num.2 (behind_has r more rest) in
+      | inr rest ↦ (let low = numbered r (n + 1 + entries_in children) more num.2 (behind_has r more rest) in
           let not_own : (e.number == r) ≡ false = is_other e.number r (λ same. omega (arith, low.0, num.0, same)) in
-          let not_in : Has r kids → ⊥ = λ has. omega (arith, low.0, (numbered r (n + 1) kids num.1 has).1) in
-          ap offset_of (not_or (e.number == r) (record { offset = offset; length = size; within = there }) (find c r kids offset offset inner) (find c r more next_at start subscripts) there not_own (absent c r kids offset offset inner not_in))
-          ∙ behind c r (n + 1 + entries_in kids) more next_at start subscripts num.2 rest none
+          let not_in : Has r children → ⊥ = λ has. omega (arith, low.0, (numbered r (n + 1) children num.1 has).1) in
+          ap offset_of (not_or (e.number == r) (record { offset = offset; length = size; within = there }) (place_of c r children offset offset inner) (place_of c r more next_at start subscripts) there not_own (absent c r children offset offset inner not_in))
+          ∙ behind c r (n + 1 + entries_in children) more next_at start subscripts num.2 rest none
           ∙ ap (λ (m : ℕ). Some m) starts)
     ]
 
@@ -91,82 +91,82 @@ behind c r n (Grows e kids more) at area subscripts num h none =
 
 -- it has no OCCURS of its own
 first_once : (r : ℕ) (t : Tree Resolved) (more : Forest Resolved) → AreAreas (t ∷ []) more → IsBehind r more → t.top.occurs ≡ Once
-first_once r t Bare h b = absurd b
-first_once r t (Grows e kids more) h b =
-    let may : MayFollow (Some b.0.0) (t ∷ []) (record { top = e; beneath = kids }) = subst (λ (o : Option (List ℕ)). MayFollow o (t ∷ []) (record { top = e; beneath = kids })) b.0.1 h.0 in
+first_once r t NoEntries h b = absurd b
+first_once r t (AnEntry e children more) h b =
+    let may : MayFollow (Some b.0.0) (t ∷ []) (record { top = e; beneath = children }) = subst (λ (o : Option (List ℕ)). MayFollow o (t ∷ []) (record { top = e; beneath = children })) b.0.1 h.0 in
     may.1.once
 
-redefines_first : (r a : ℕ) (f : Forest Resolved) → Redefines r a f → Has a f
-redefines_first r a Bare h = h
-redefines_first r a (Grows e kids more) (inl h) = inl h.0
-redefines_first r a (Grows e kids more) (inr (inl h)) = inr (inl (redefines_first r a kids h))
-redefines_first r a (Grows e kids more) (inr (inr h)) = inr (inr (redefines_first r a more h))
+redefines_first : (r a : ℕ) (f : Forest Resolved) → IsRedefinitionOf r a f → Has a f
+redefines_first r a NoEntries h = h
+redefines_first r a (AnEntry e children more) (inl h) = inl h.0
+redefines_first r a (AnEntry e children more) (inr (inl h)) = inr (inl (redefines_first r a children h))
+redefines_first r a (AnEntry e children more) (inr (inr h)) = inr (inr (redefines_first r a more h))
 
-redefines_second : (r a : ℕ) (f : Forest Resolved) → Redefines r a f → Has r f
-redefines_second r a Bare h = h
-redefines_second r a (Grows e kids more) (inl h) = inr (inr (behind_has r more h.2))
-redefines_second r a (Grows e kids more) (inr (inl h)) = inr (inl (redefines_second r a kids h))
-redefines_second r a (Grows e kids more) (inr (inr h)) = inr (inr (redefines_second r a more h))
+redefines_second : (r a : ℕ) (f : Forest Resolved) → IsRedefinitionOf r a f → Has r f
+redefines_second r a NoEntries h = h
+redefines_second r a (AnEntry e children more) (inl h) = inr (inr (behind_has r more h.2))
+redefines_second r a (AnEntry e children more) (inr (inl h)) = inr (inl (redefines_second r a children h))
+redefines_second r a (AnEntry e children more) (inr (inr h)) = inr (inr (redefines_second r a more h))
 
 -- a reference to an entry beneath another is one among those
-refers_beneath : (n a : ℕ) (e : Resolved) (kids more : Forest Resolved) (subscripts : List ℕ) → AreNumbered n (Grows e kids more) → Has a kids → Refers a subscripts (Grows e kids more)
-    → Refers a (later (is_table e.occurs) subscripts) kids
-refers_beneath n a e kids more subscripts num has (inl (own, inl (same, none))) = absurd (omega (arith, num.0, same, (numbered a (n + 1) kids num.1 has).0))
-refers_beneath n a e kids more subscripts num has (inl (own, inr inside)) = inside
-refers_beneath n a e kids more subscripts num has (inr beside) =
-    absurd (omega (arith, (numbered a (n + 1) kids num.1 has).1, (numbered a (n + 1 + entries_in kids) more num.2 (refers_has a subscripts more beside)).0))
+refers_beneath : (n a : ℕ) (e : Resolved) (children more : Forest Resolved) (subscripts : List ℕ) → AreNumbered n (AnEntry e children more) → Has a children → Refers a subscripts (AnEntry e children more)
+    → Refers a (later (is_table e.occurs) subscripts) children
+refers_beneath n a e children more subscripts num has (inl (own, inl (same, none))) = absurd (omega (arith, num.0, same, (numbered a (n + 1) children num.1 has).0))
+refers_beneath n a e children more subscripts num has (inl (own, inr inside)) = inside
+refers_beneath n a e children more subscripts num has (inr beside) =
+    absurd (omega (arith, (numbered a (n + 1) children num.1 has).1, (numbered a (n + 1 + entries_in children) more num.2 (refers_has a subscripts more beside)).0))
 
 -- and so it is of one beside it
-refers_beside : (n a : ℕ) (e : Resolved) (kids more : Forest Resolved) (subscripts : List ℕ) → AreNumbered n (Grows e kids more) → Has a more → Refers a subscripts (Grows e kids more)
+refers_beside : (n a : ℕ) (e : Resolved) (children more : Forest Resolved) (subscripts : List ℕ) → AreNumbered n (AnEntry e children more) → Has a more → Refers a subscripts (AnEntry e children more)
     → Refers a subscripts more
-refers_beside n a e kids more subscripts num has (inl (own, inl (same, none))) = absurd (omega (arith, num.0, same, (numbered a (n + 1 + entries_in kids) more num.2 has).0))
-refers_beside n a e kids more subscripts num has (inl (own, inr inside)) =
-    absurd (omega (arith, (numbered a (n + 1) kids num.1 (refers_has a _ kids inside)).1, (numbered a (n + 1 + entries_in kids) more num.2 has).0))
-refers_beside n a e kids more subscripts num has (inr beside) = beside
+refers_beside n a e children more subscripts num has (inl (own, inl (same, none))) = absurd (omega (arith, num.0, same, (numbered a (n + 1 + entries_in children) more num.2 has).0))
+refers_beside n a e children more subscripts num has (inl (own, inr inside)) =
+    absurd (omega (arith, (numbered a (n + 1) children num.1 (refers_has a _ children inside)).1, (numbered a (n + 1 + entries_in children) more num.2 has).0))
+refers_beside n a e children more subscripts num has (inr beside) = beside
 
 -- a reference to an entry that is no table has none left there
-none_left : (n a : ℕ) (e : Resolved) (kids more : Forest Resolved) (subscripts : List ℕ) → AreNumbered n (Grows e kids more) → e.number ≡ a → e.occurs ≡ Once → Refers a subscripts (Grows e kids more) → subscripts ≡ []
-none_left n a e kids more subscripts num is once (inl (own, inl (same, none))) = subst (λ (o : Times). later (is_table o) subscripts ≡ []) once none
-none_left n a e kids more subscripts num is once (inl (own, inr inside)) = absurd (omega (arith, num.0, is, (numbered a (n + 1) kids num.1 (refers_has a _ kids inside)).0))
-none_left n a e kids more subscripts num is once (inr beside) = absurd (omega (arith, num.0, is, (numbered a (n + 1 + entries_in kids) more num.2 (refers_has a subscripts more beside)).0))
+none_left : (n a : ℕ) (e : Resolved) (children more : Forest Resolved) (subscripts : List ℕ) → AreNumbered n (AnEntry e children more) → e.number ≡ a → e.occurs ≡ Once → Refers a subscripts (AnEntry e children more) → subscripts ≡ []
+none_left n a e children more subscripts num is once (inl (own, inl (same, none))) = subst (λ (o : ResolvedOccurs). later (is_table o) subscripts ≡ []) once none
+none_left n a e children more subscripts num is once (inl (own, inr inside)) = absurd (omega (arith, num.0, is, (numbered a (n + 1) children num.1 (refers_has a _ children inside)).0))
+none_left n a e children more subscripts num is once (inr beside) = absurd (omega (arith, num.0, is, (numbered a (n + 1 + entries_in children) more num.2 (refers_has a subscripts more beside)).0))
 
-begin_there : (c : Resolved → ℕ) (r a n : ℕ) (f : Forest Resolved) (area : List (Tree Resolved)) (at from : ℕ) (subscripts : List ℕ) → AreNumbered n f → AreAreas area f → Redefines r a f → Refers a subscripts f
-    → offset_of (find c r f at from subscripts) ≡ offset_of (find c a f at from subscripts)
-begin_there c r a n Bare area at from subscripts num areas h refers = absurd h
-begin_there c r a n (Grows e kids more) area at from subscripts num areas h refers =
+begin_there : (c : Resolved → ℕ) (r a n : ℕ) (f : Forest Resolved) (area : List (Tree Resolved)) (at from : ℕ) (subscripts : List ℕ) → AreNumbered n f → AreAreas area f → IsRedefinitionOf r a f → Refers a subscripts f
+    → offset_of (place_of c r f at from subscripts) ≡ offset_of (place_of c a f at from subscripts)
+begin_there c r a n NoEntries area at from subscripts num areas h refers = absurd h
+begin_there c r a n (AnEntry e children more) area at from subscripts num areas h refers =
     let start : ℕ = begins e.redefines at from in
-    let size : ℕ = element c e kids in
-    let offset : ℕ = start + skipped (is_table e.occurs) (most e) subscripts * size in
+    let size : ℕ = element_length c e children in
+    let offset : ℕ = start + skipped (is_table e.occurs) (greatest_number e) subscripts * size in
     let there : Bool = is_there (is_table e.occurs) (c e) subscripts in
     let inner : List ℕ = later (is_table e.occurs) subscripts in
-    let next_at : ℕ = at + room e.redefines (whole c e kids) in
+    let next_at : ℕ = at + own_length e.redefines (whole_length c e children) in
     let here : Found = record { offset = offset; length = size; within = there } in
-    let past : (x : ℕ) → Has x more → offset_of (find c x (Grows e kids more) at from subscripts) ≡ offset_of (find c x more next_at start subscripts) = λ x has.
-    (let low = numbered x (n + 1 + entries_in kids) more num.2 has in
-    ap offset_of (not_or (e.number == x) here (find c x kids offset offset inner) (find c x more next_at start subscripts) there
+    let past : (x : ℕ) → Has x more → offset_of (place_of c x (AnEntry e children more) at from subscripts) ≡ offset_of (place_of c x more next_at start subscripts) = λ x has.
+    (let low = numbered x (n + 1 + entries_in children) more num.2 has in
+    ap offset_of (not_or (e.number == x) here (place_of c x children offset offset inner) (place_of c x more next_at start subscripts) there
     (is_other e.number x (λ same. omega (arith, low.0, num.0, same)))
-    (absent c x kids offset offset inner (λ k. omega (arith, low.0, (numbered x (n + 1) kids num.1 k).1))))) in
-    let inside : (x : ℕ) → Has x kids → offset_of (find c x (Grows e kids more) at from subscripts) ≡ offset_of (find c x kids offset offset inner) = λ x has.
-    (let low = numbered x (n + 1) kids num.1 has in
-    in_kids (e.number == x) there here (find c x kids offset offset inner) (find c x more next_at start subscripts)
+    (absent c x children offset offset inner (λ k. omega (arith, low.0, (numbered x (n + 1) children num.1 k).1))))) in
+    let inside : (x : ℕ) → Has x children → offset_of (place_of c x (AnEntry e children more) at from subscripts) ≡ offset_of (place_of c x children offset offset inner) = λ x has.
+    (let low = numbered x (n + 1) children num.1 has in
+    in_kids (e.number == x) there here (place_of c x children offset offset inner) (place_of c x more next_at start subscripts)
     (is_other e.number x (λ same. omega (arith, low.0, num.0, same)))
-    (absent c x more next_at start subscripts (λ k. omega (arith, low.1, (numbered x (n + 1 + entries_in kids) more num.2 k).0)))) in
+    (absent c x more next_at start subscripts (λ k. omega (arith, low.1, (numbered x (n + 1 + entries_in children) more num.2 k).0)))) in
     elim h [
-      | inl own ↦ (let first : AreAreas ((record { top = e; beneath = kids }) ∷ []) more = subst (λ (o : Option (List ℕ)). AreAreas (joined o area (record { top = e; beneath = kids })) more) own.1 areas.2 in
-          let once : e.occurs ≡ Once = first_once r (record { top = e; beneath = kids }) more first own.2 in
-          let none : subscripts ≡ [] = none_left n a e kids more subscripts num own.0 once refers in
-          let own_is : offset_of (find c a (Grows e kids more) at from subscripts) ≡ Some offset = at_own (e.number == a) here (also there (find c a kids offset offset inner)) (find c a more next_at start subscripts) (is_same e.number a own.0) in
-          let offset_is : offset ≡ start = first_element start _ size (none_skipped (is_table e.occurs) (most e) subscripts none) in
-          past r (behind_has r more own.2) ∙ behind c r (n + 1 + entries_in kids) more next_at start subscripts num.2 own.2 none
+      | inl own ↦ (let first : AreAreas ((record { top = e; beneath = children }) ∷ []) more = subst (λ (o : Option (List ℕ)). AreAreas (area_with o area (record { top = e; beneath = children })) more) own.1 areas.2 in
+          let once : e.occurs ≡ Once = first_once r (record { top = e; beneath = children }) more first own.2 in
+          let none : subscripts ≡ [] = none_left n a e children more subscripts num own.0 once refers in
+          let own_is : offset_of (place_of c a (AnEntry e children more) at from subscripts) ≡ Some offset = at_own (e.number == a) here (also there (place_of c a children offset offset inner)) (place_of c a more next_at start subscripts) (is_same e.number a own.0) in
+          let offset_is : offset ≡ start = first_element start _ size (none_skipped (is_table e.occurs) (greatest_number e) subscripts none) in
+          past r (behind_has r more own.2) ∙ behind c r (n + 1 + entries_in children) more next_at start subscripts num.2 own.2 none
           ∙ ap (λ (m : ℕ). Some m) (sym offset_is) ∙ sym own_is)
       | inr rest ↦ elim rest [
-        | inl k ↦ (let has_a = redefines_first r a kids k in
-            inside r (redefines_second r a kids k)
-            ∙ begin_there c r a (n + 1) kids [] offset offset inner num.1 areas.1 k (refers_beneath n a e kids more subscripts num has_a refers)
+        | inl k ↦ (let has_a = redefines_first r a children k in
+            inside r (redefines_second r a children k)
+            ∙ begin_there c r a (n + 1) children [] offset offset inner num.1 areas.1 k (refers_beneath n a e children more subscripts num has_a refers)
             ∙ sym (inside a has_a))
         | inr m ↦ (let has_a = redefines_first r a more m in
             past r (redefines_second r a more m)
-            ∙ begin_there c r a (n + 1 + entries_in kids) more (joined e.redefines area (record { top = e; beneath = kids })) next_at start subscripts num.2 areas.2 m (refers_beside n a e kids more subscripts num has_a refers)
+            ∙ begin_there c r a (n + 1 + entries_in children) more (area_with e.redefines area (record { top = e; beneath = children })) next_at start subscripts num.2 areas.2 m (refers_beside n a e children more subscripts num has_a refers)
             ∙ sym (past a has_a))
       ]
     ]

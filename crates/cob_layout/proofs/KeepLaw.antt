@@ -5,9 +5,9 @@ use Rattle.std.specs.List.{AllByRecursion}
 use Rattle.std.proofs.lemmas.List.{drop-take, length-drop, length-take-le}
 use Rattle.std.proofs.lemmas.Slice.{take-put_mid_below, drop-put_mid}
 use borrow.Rule.Slice.PartMut.{same_len_mid}
-use Rattle.cob_copybook_tree.specs.Forests.{Forest, Bare, Grows, Tree, entries_in}
-use Rattle.cob_copybook_tree.specs.Nodes.{Resolved}
-use Rattle.cob_copybook_tree.specs.Lengths.{most, element, whole, room}
+use Rattle.cob_copybook_tree.specs.Forests.{Forest, NoEntries, AnEntry, Tree, entries_in}
+use Rattle.cob_copybook_tree.specs.Nodes.{Resolved, alone}
+use Rattle.cob_copybook_tree.specs.Lengths.{greatest_number, element_length, whole_length, own_length}
 use Rattle.cob_fields.specs.declared.Place.{Place}
 use Rattle.cob_fields.specs.Fields.{with_field}
 use Rattle.cob_sound.specs.Sound.{IsSound}
@@ -15,12 +15,12 @@ use Rattle.cob_layout_places.specs.declared.counts.CountFault.{CountFault}
 use Rattle.cob_layout_places.specs.declared.places.Found.{Found}
 use Rattle.cob_layout_places.specs.declared.spots.Spot.{Spot}
 use Rattle.cob_layout_places.specs.declared.varying.Table.{Table}
-use Rattle.cob_layout_places.specs.Lengths.{alone, times}
-use Rattle.cob_layout_places.specs.Places.{find, find_one, also, begins, is_table, is_there, later, skipped}
+use Rattle.cob_layout_places.specs.Lengths.{times}
+use Rattle.cob_layout_places.specs.Places.{place_of, place_in_entry, also, begins, is_table, is_there, later, skipped}
 use Rattle.cob_layout_places.specs.Cover.{AreNumbered}
 use Rattle.cob_layout_places.specs.Counts.{tables_of, part_of, Taken}
 use Rattle.cob_layout_places.specs.Needs.{Has}
-use Rattle.cob_layout_places.specs.Agree.{DoAgree, OnePlace, SameCounts}
+use Rattle.cob_layout_places.specs.Agree.{AgreeOnCounts, OnePlace, SameCounts}
 use Rattle.cob_layout_places.specs.Spots.{spots_of}
 use Rattle.cob_layout_places.proofs.CoverLaw.{not_or}
 use Rattle.cob_layout_places.proofs.CountLemmas.{one_counted}
@@ -62,37 +62,37 @@ none_there : (b : Bool) (k : ℕ) → is_there b k [] ≡ true
 none_there false k = refl
 none_there true k = refl
 
-pub first_found : (c : Resolved → ℕ) (spots : List Spot) (f : Forest Resolved) (n at area r : ℕ) → AreNumbered n f → AreSpots spots c f at area → Has r f → find c r f at area [] ≡ Some (first_element spots r)
-first_found c spots Bare n at area r num sp has = absurd has
-first_found c spots (Grows e kids more) n at area r num sp has =
+pub first_found : (c : Resolved → ℕ) (spots : List Spot) (f : Forest Resolved) (n at area r : ℕ) → AreNumbered n f → AreSpots spots c f at area → Has r f → place_of c r f at area [] ≡ Some (first_element spots r)
+first_found c spots NoEntries n at area r num sp has = absurd has
+first_found c spots (AnEntry e children more) n at area r num sp has =
     let start : ℕ = begins e.redefines at area in
-    let size : ℕ = element c e kids in
+    let size : ℕ = element_length c e children in
     let table : Bool = is_table e.occurs in
-    let skip : ℕ = skipped table (most e) [] in
+    let skip : ℕ = skipped table (greatest_number e) [] in
     let there : Bool = is_there table (c e) [] in
     let inner : List ℕ = later table [] in
     let offset : ℕ = start + skip * size in
     let here : Found = record { offset = offset; length = size; within = there } in
-    let next_at : ℕ = at + room e.redefines (whole c e kids) in
-    let zero_skip : skip ≡ 0 = none_skipped table (most e) in
+    let next_at : ℕ = at + own_length e.redefines (whole_length c e children) in
+    let zero_skip : skip ≡ 0 = none_skipped table (greatest_number e) in
     let offset_is : offset ≡ start = ap (λ (m : ℕ). start + m * size) zero_skip ∙ omega arith in
     let there_is : there ≡ true = none_there table (c e) in
     elim has [
       | inl own ↦ (let spot : spot_at spots r ≡ record { offset = start; length = size; times = c e } = ap (λ (k : ℕ). spot_at spots k) (sym own) ∙ sp.0 nowhere in
-          found_own (e.number == r) here (also there (find c r kids offset offset inner)) (find c r more next_at start []) (is_same e.number r own)
+          found_own (e.number == r) here (also there (place_of c r children offset offset inner)) (place_of c r more next_at start []) (is_same e.number r own)
           ∙ (λ i. Some (record { offset = offset_is i; length = size; within = there_is i }))
           ∙ ap (λ (s : Spot). Some (record { offset = s.offset; length = s.length; within = true })) (sym spot))
       | inr rest ↦ elim rest [
-        | inl kid ↦ (let low = numbered r (n + 1) kids num.1 kid in
-            let inside : find c r kids offset offset inner ≡ Some (first_element spots r) =
-            ap (λ (ss : List ℕ). find c r kids offset offset ss) (none_later table) ∙ ap (λ (m : ℕ). find c r kids m m []) offset_is ∙ first_found c spots kids (n + 1) start start r num.1 sp.1 kid in
-            found_kid (e.number == r) here there (find c r kids offset offset inner) (find c r more next_at start []) (first_element spots r) (is_other e.number r (λ same. omega (arith, low.0, num.0, same))) inside
+        | inl kid ↦ (let low = numbered r (n + 1) children num.1 kid in
+            let inside : place_of c r children offset offset inner ≡ Some (first_element spots r) =
+            ap (λ (ss : List ℕ). place_of c r children offset offset ss) (none_later table) ∙ ap (λ (m : ℕ). place_of c r children m m []) offset_is ∙ first_found c spots children (n + 1) start start r num.1 sp.1 kid in
+            found_kid (e.number == r) here there (place_of c r children offset offset inner) (place_of c r more next_at start []) (first_element spots r) (is_other e.number r (λ same. omega (arith, low.0, num.0, same))) inside
             ∙ ap (λ (b : Bool). Some (record { offset = (first_element spots r).offset; length = (first_element spots r).length; within = b && true })) there_is)
-        | inr beside ↦ (let low = numbered r (n + 1 + entries_in kids) more num.2 beside in
-            not_or (e.number == r) here (find c r kids offset offset inner) (find c r more next_at start []) there
+        | inr beside ↦ (let low = numbered r (n + 1 + entries_in children) more num.2 beside in
+            not_or (e.number == r) here (place_of c r children offset offset inner) (place_of c r more next_at start []) there
             (is_other e.number r (λ same. omega (arith, low.0, num.0, same)))
-            (absent c r kids offset offset inner (λ k. omega (arith, low.0, (numbered r (n + 1) kids num.1 k).1)))
-            ∙ first_found c spots more (n + 1 + entries_in kids) next_at start r num.2 sp.2 beside)
+            (absent c r children offset offset inner (λ k. omega (arith, low.0, (numbered r (n + 1) children num.1 k).1)))
+            ∙ first_found c spots more (n + 1 + entries_in children) next_at start r num.2 sp.2 beside)
       ]
     ]
 
@@ -119,19 +119,19 @@ some_is a b o h k = let e : Some a ≡ Some b = sym h ∙ k in cc
 -- where each count's element stands apart from the place, the bytes of the counts agree
 agree : OnePlace → (t : Tree Resolved) (a field : List ℕ) (p : Place) (spots : List Spot) (d : List ℕ) (n m : ℕ) (xs : List Table) (c : List ℕ) → IsSound t → spots ≡ spots_of (times d) (alone t) 0 0
     → p.offset + p.length ≤ length a → length field ≡ p.length → ((x : Table) → IsIn x xs → IsIn x (tables_of (alone t))) → Rise n m xs
-    → AllByRecursion (λ (x : Table). IsApart p (spot_at spots x.count)) xs → Taken t a xs c (Ok d) → DoAgree t a (with_field a p field) xs c
+    → AllByRecursion (λ (x : Table). IsApart p (spot_at spots x.count)) xs → Taken t a xs c (Ok d) → AgreeOnCounts t a (with_field a p field) xs c
 agree place t a field p spots d n m [] c s are fits long among rise apart taken = tt
 agree place t a field p spots d n m (x ∷ xs) c s are fits long among rise apart (inr taken) = absurd (no_fault d taken.0 taken.2)
 agree place t a field p spots d n m (x ∷ xs) c s are fits long among rise apart (inl taken) =
     let k = known t x s (among x (inl refl)) in
-    let here : find (times c) x.count (alone t) 0 0 [] ≡ find (times d) x.count (alone t) 0 0 [] = place c d (alone t) x.count [] s.numbered k.has (λ y has needs.
+    let here : place_of (times c) x.count (alone t) 0 0 [] ≡ place_of (times d) x.count (alone t) 0 0 [] = place c d (alone t) x.count [] s.numbered k.has (λ y has needs.
     (let le = k.earlier y needs in
     sym (untouched t a (x ∷ xs) c d y (λ z i eq. by z i y le k.before eq) (inl taken)))) in
     let first = first_found (times d) spots (alone t) 0 0 0 x.count s.numbered
     (are_spots (times d) (alone t) 0 0 0 [] [] spots refl s.numbered (are ∙ sym (append-nil (spots_of (times d) (alone t) 0 0)))) k.has in
-    let stands : find_one (times c) x.count t 0 [] ≡ Some (first_element spots x.count) = sym (find_alone (times c) x.count t []) ∙ here ∙ first in (
+    let stands : place_in_entry (times c) x.count t 0 [] ≡ Some (first_element spots x.count) = sym (find_alone (times c) x.count t []) ∙ here ∙ first in (
       λ found at.
-          (let is : first_element spots x.count ≡ found = some_is (first_element spots x.count) found (find_one (times c) x.count t 0 []) stands at in
+          (let is : first_element spots x.count ≡ found = some_is (first_element spots x.count) found (place_in_entry (times c) x.count t 0 []) stands at in
           subst (λ (g : Found). part_of g a ≡ part_of g (with_field a p field)) is
           (beside (spot_at spots x.count).offset (spot_at spots x.count).length p a field fits long apart.0)),
       λ v counted.

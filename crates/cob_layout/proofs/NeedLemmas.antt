@@ -7,16 +7,16 @@ use Rattle.std.proofs.lemmas.Bool.Decides.{nat_tests}
 use Rattle.cob_copybook_tree.specs.declared.node.Item.{Item}
 use Rattle.cob_copybook_tree.specs.declared.node.Kind.{Kind}
 use Rattle.cob_copybook_tree.specs.declared.node.Kind.TheVariants.{Item as ItemKind}
-use Rattle.cob_copybook_tree.specs.Forests.{Forest, Bare, Grows, Tree, entries_in}
-use Rattle.cob_copybook_tree.specs.Nodes.{Resolved}
+use Rattle.cob_copybook_tree.specs.Forests.{Forest, NoEntries, AnEntry, Tree, entries_in}
+use Rattle.cob_copybook_tree.specs.Nodes.{Resolved, alone}
 use Rattle.cob_sound.specs.Sound.{InTable, IsAhead, IsSound, RecordsAreSound}
 use Rattle.cob_layout_places.specs.declared.counts.CountFault.{CountFault}
 use Rattle.cob_layout_places.specs.declared.varying.Table.{Table}
-use Rattle.cob_layout_places.specs.Lengths.{alone, times, AreLeaves, IsLeaf}
-use Rattle.cob_layout_places.specs.Places.{find, choose, or_else}
+use Rattle.cob_layout_places.specs.Lengths.{times, AreLeaves, IsLeaf}
+use Rattle.cob_layout_places.specs.Places.{place_of, choose, or_else}
 use Rattle.cob_layout_places.specs.Cover.{AreNumbered}
 use Rattle.cob_layout_places.specs.Counts.{kind_in, kind_one, tables_of, IsCountable, IsCounted, Taken}
-use Rattle.cob_layout_places.specs.Needs.{greatest, Has, Holds, ShareTable, Needs, reach, is_read, needed, NeedsAreRead}
+use Rattle.cob_layout_places.specs.Needs.{greatest, Has, Holds, ShareTable, Needs, number_behind, is_read, needed_tables, NeedsAreRead}
 use Rattle.cob_layout_places.specs.Agree.{SameCounts, OnePlace}
 use Rattle.cob_layout_places.proofs.NeedLaw.{low, high, has_number, below_needed}
 use Rattle.cob_layout.specs.Counting.{greatest_counts, AreThose, IsRead, IsSparedOf, NeededOf}
@@ -143,24 +143,24 @@ two_kinds (Some k) = inr (λ e. cc)
 
 -- what is described under a number is an entry's
 kind_has : (a : ℕ) (k : Kind) (f : Forest Resolved) → kind_in a f ≡ Some k → Has a f
-kind_has a k Bare e = absurd (cc)
-kind_has a k (Grows e kids more) is = elim (two_ways (e.number == a)) [
+kind_has a k NoEntries e = absurd (cc)
+kind_has a k (AnEntry e children more) is = elim (two_ways (e.number == a)) [
   | inl own ↦ inl (is_yes e.number a own)
-  | inr other ↦ (let rest : or_else (kind_in a kids) (kind_in a more) ≡ Some k = sym (chosen_no (e.number == a) e.kind (kind_in a kids) (kind_in a more) other) ∙ is in
-      elim (two_kinds (kind_in a kids)) [
-        | inl none ↦ inr (inr (kind_has a k more (second_some (kind_in a kids) (kind_in a more) k none rest)))
-        | inr some ↦ inr (inl (kind_has a k kids (first_some (kind_in a kids) (kind_in a more) k some rest)))
+  | inr other ↦ (let rest : or_else (kind_in a children) (kind_in a more) ≡ Some k = sym (chosen_no (e.number == a) e.kind (kind_in a children) (kind_in a more) other) ∙ is in
+      elim (two_kinds (kind_in a children)) [
+        | inl none ↦ inr (inr (kind_has a k more (second_some (kind_in a children) (kind_in a more) k none rest)))
+        | inr some ↦ inr (inl (kind_has a k children (first_some (kind_in a children) (kind_in a more) k some rest)))
       ])
 ]
 
 has_kind : (a : ℕ) (f : Forest Resolved) → Has a f → kind_in a f ≡ None → ⊥
-has_kind a Bare h n = h
-has_kind a (Grows e kids more) h n = elim (two_ways (e.number == a)) [
-  | inl own ↦ absurd (let is = chosen_yes (e.number == a) e.kind (kind_in a kids) (kind_in a more) own in not_none _ _ is n)
-  | inr other ↦ (let rest = first_none (kind_in a kids) (kind_in a more) (sym (chosen_no (e.number == a) e.kind (kind_in a kids) (kind_in a more) other) ∙ n) in
+has_kind a NoEntries h n = h
+has_kind a (AnEntry e children more) h n = elim (two_ways (e.number == a)) [
+  | inl own ↦ absurd (let is = chosen_yes (e.number == a) e.kind (kind_in a children) (kind_in a more) own in not_none _ _ is n)
+  | inr other ↦ (let rest = first_none (kind_in a children) (kind_in a more) (sym (chosen_no (e.number == a) e.kind (kind_in a children) (kind_in a more) other) ∙ n) in
       elim h [
         | inl own ↦ is_not e.number a other own
-        | inr k ↦ elim k [ inl j ↦ has_kind a kids j rest.0 | inr j ↦ has_kind a more j rest.1 ]
+        | inr k ↦ elim k [ inl j ↦ has_kind a children j rest.0 | inr j ↦ has_kind a more j rest.1 ]
       ])
 ]
   where
@@ -169,53 +169,53 @@ has_kind a (Grows e kids more) h n = elim (two_ways (e.number == a)) [
     not_none (Some j) k e f = cc
 
 holds_first : (a b : ℕ) (f : Forest Resolved) → Holds a b f → Has a f
-holds_first a b Bare h = h
-holds_first a b (Grows e kids more) (inl h) = inl h.0
-holds_first a b (Grows e kids more) (inr (inl h)) = inr (inl (holds_first a b kids h))
-holds_first a b (Grows e kids more) (inr (inr h)) = inr (inr (holds_first a b more h))
+holds_first a b NoEntries h = h
+holds_first a b (AnEntry e children more) (inl h) = inl h.0
+holds_first a b (AnEntry e children more) (inr (inl h)) = inr (inl (holds_first a b children h))
+holds_first a b (AnEntry e children more) (inr (inr h)) = inr (inr (holds_first a b more h))
 
 holds_second : (a b : ℕ) (f : Forest Resolved) → Holds a b f → Has b f
-holds_second a b Bare h = h
-holds_second a b (Grows e kids more) (inl h) = inr (inl h.1)
-holds_second a b (Grows e kids more) (inr (inl h)) = inr (inl (holds_second a b kids h))
-holds_second a b (Grows e kids more) (inr (inr h)) = inr (inr (holds_second a b more h))
+holds_second a b NoEntries h = h
+holds_second a b (AnEntry e children more) (inl h) = inr (inl h.1)
+holds_second a b (AnEntry e children more) (inr (inl h)) = inr (inl (holds_second a b children h))
+holds_second a b (AnEntry e children more) (inr (inr h)) = inr (inr (holds_second a b more h))
 
 -- what stands beneath an entry comes behind it
 holds_behind : (n a b : ℕ) (f : Forest Resolved) → AreNumbered n f → Holds a b f → a < b
-holds_behind n a b Bare num h = absurd h
-holds_behind n a b (Grows e kids more) num (inl h) = omega (arith, num.0, h.0, low (n + 1) b kids num.1 h.1)
-holds_behind n a b (Grows e kids more) num (inr (inl h)) = holds_behind (n + 1) a b kids num.1 h
-holds_behind n a b (Grows e kids more) num (inr (inr h)) = holds_behind (n + 1 + entries_in kids) a b more num.2 h
+holds_behind n a b NoEntries num h = absurd h
+holds_behind n a b (AnEntry e children more) num (inl h) = omega (arith, num.0, h.0, low (n + 1) b children num.1 h.1)
+holds_behind n a b (AnEntry e children more) num (inr (inl h)) = holds_behind (n + 1) a b children num.1 h
+holds_behind n a b (AnEntry e children more) num (inr (inr h)) = holds_behind (n + 1 + entries_in children) a b more num.2 h
 
 share_in : (a b : ℕ) (f : Forest Resolved) → ShareTable a b f → InTable a f
-share_in a b Bare h = h
-share_in a b (Grows e kids more) (inl h) = inl (h.0, h.1)
-share_in a b (Grows e kids more) (inr (inl h)) = inr (inl (share_in a b kids h))
-share_in a b (Grows e kids more) (inr (inr h)) = inr (inr (share_in a b more h))
+share_in a b NoEntries h = h
+share_in a b (AnEntry e children more) (inl h) = inl (h.0, h.1)
+share_in a b (AnEntry e children more) (inr (inl h)) = inr (inl (share_in a b children h))
+share_in a b (AnEntry e children more) (inr (inr h)) = inr (inr (share_in a b more h))
 
-leaf_bare : (i : Item) (b : ℕ) (kids : Forest Resolved) → IsLeaf (ItemKind i) kids → Has b kids → ⊥
-leaf_bare i b Bare l h = h
-leaf_bare i b (Grows e kids more) l h = l
+leaf_bare : (i : Item) (b : ℕ) (children : Forest Resolved) → IsLeaf (ItemKind i) children → Has b children → ⊥
+leaf_bare i b NoEntries l h = h
+leaf_bare i b (AnEntry e children more) l h = l
 
 -- nothing stands beneath an item
 item_bare : (n a b : ℕ) (i : Item) (f : Forest Resolved) → AreNumbered n f → AreLeaves f → kind_in a f ≡ Some (ItemKind i) → Holds a b f → ⊥
-item_bare n a b i Bare num l is h = h
-item_bare n a b i (Grows e kids more) num l is (inl h) =
-    let own = chosen_yes (e.number == a) e.kind (kind_in a kids) (kind_in a more) (is_same e.number a h.0) in
+item_bare n a b i NoEntries num l is h = h
+item_bare n a b i (AnEntry e children more) num l is (inl h) =
+    let own = chosen_yes (e.number == a) e.kind (kind_in a children) (kind_in a more) (is_same e.number a h.0) in
     let kind : e.kind ≡ ItemKind i = some_is e.kind (ItemKind i) (sym own ∙ is) in
-    leaf_bare i b kids (subst (λ (k : Kind). IsLeaf k kids) kind l.0) h.1
-item_bare n a b i (Grows e kids more) num l is (inr (inl h)) =
-    let has = holds_first a b kids h in
-    let rest = sym (chosen_no (e.number == a) e.kind (kind_in a kids) (kind_in a more) (is_less e.number a (omega (arith, num.0, low (n + 1) a kids num.1 has)))) ∙ is in
-    item_bare (n + 1) a b i kids num.1 l.1 (first_some (kind_in a kids) (kind_in a more) (ItemKind i) (has_kind a kids has) rest) h
-item_bare n a b i (Grows e kids more) num l is (inr (inr h)) =
+    leaf_bare i b children (subst (λ (k : Kind). IsLeaf k children) kind l.0) h.1
+item_bare n a b i (AnEntry e children more) num l is (inr (inl h)) =
+    let has = holds_first a b children h in
+    let rest = sym (chosen_no (e.number == a) e.kind (kind_in a children) (kind_in a more) (is_less e.number a (omega (arith, num.0, low (n + 1) a children num.1 has)))) ∙ is in
+    item_bare (n + 1) a b i children num.1 l.1 (first_some (kind_in a children) (kind_in a more) (ItemKind i) (has_kind a children has) rest) h
+item_bare n a b i (AnEntry e children more) num l is (inr (inr h)) =
     let has = holds_first a b more h in
-    let past = low (n + 1 + entries_in kids) a more num.2 has in
-    let rest = sym (chosen_no (e.number == a) e.kind (kind_in a kids) (kind_in a more) (is_less e.number a (omega (arith, num.0, past)))) ∙ is in
-    elim (two_kinds (kind_in a kids)) [
-      | inl none ↦ item_bare (n + 1 + entries_in kids) a b i more num.2 l.2 (second_some (kind_in a kids) (kind_in a more) (ItemKind i) none rest) h
-      | inr some ↦ (let there = kind_has a (ItemKind i) kids (first_some (kind_in a kids) (kind_in a more) (ItemKind i) some rest) in
-          absurd (omega (arith, past, high (n + 1) a kids num.1 there)))
+    let past = low (n + 1 + entries_in children) a more num.2 has in
+    let rest = sym (chosen_no (e.number == a) e.kind (kind_in a children) (kind_in a more) (is_less e.number a (omega (arith, num.0, past)))) ∙ is in
+    elim (two_kinds (kind_in a children)) [
+      | inl none ↦ item_bare (n + 1 + entries_in children) a b i more num.2 l.2 (second_some (kind_in a children) (kind_in a more) (ItemKind i) none rest) h
+      | inr some ↦ (let there = kind_has a (ItemKind i) children (first_some (kind_in a children) (kind_in a more) (ItemKind i) some rest) in
+          absurd (omega (arith, past, high (n + 1) a children num.1 there)))
     ]
 
 -- what is known of the count of a table of a record
@@ -307,11 +307,11 @@ and_true false = refl
 not_receiving : false ≡ true → ⊥
 not_receiving e = cc
 
-needs_below : NeedsAreRead → (t : Tree Resolved) (r x : ℕ) → AreNumbered 0 (alone t) → Has r (alone t) → Has x (alone t) → Needs r x (alone t) → x < reach true r (alone t)
+needs_below : NeedsAreRead → (t : Tree Resolved) (r x : ℕ) → AreNumbered 0 (alone t) → Has r (alone t) → Has x (alone t) → Needs r x (alone t) → x < number_behind true r (alone t)
 needs_below read t r x numbered has there needs =
     let y : Table = record { number = x; least = 0; most = 0; count = x } in
     let is = (read t r false y numbered has there there).1 (needs, λ e spared. not_receiving e) in
-    less_must x (reach true r (alone t)) (sym (and_true (nat_lt x (reach true r (alone t)))) ∙ is)
+    less_must x (number_behind true r (alone t)) (sym (and_true (nat_lt x (number_behind true r (alone t)))) ∙ is)
 
 pub table_has : (t : Tree Resolved) (x : Table) → AreNumbered 0 (alone t) → IsIn x (tables_of (alone t)) → Has x.number (alone t)
 table_has t x numbered i =
@@ -319,17 +319,17 @@ table_has t x numbered i =
     has_number 0 x.number (alone t) numbered (omega arith) (rise_high 0 (0 + entries_in (alone t)) (tables_of (alone t)) x rise i)
 
 -- the tables that the call reads are those whose counts a reference reads
-pub those_needed : NeedsAreRead → (t : Tree Resolved) (r : ℕ) (receiving : Bool) → IsSound t → Has r (alone t) → AreThose (IsRead t r receiving) (tables_of (alone t)) (needed t r receiving (tables_of (alone t)))
+pub those_needed : NeedsAreRead → (t : Tree Resolved) (r : ℕ) (receiving : Bool) → IsSound t → Has r (alone t) → AreThose (IsRead t r receiving) (tables_of (alone t)) (needed_tables t r receiving (tables_of (alone t)))
 those_needed read t r receiving s has =
     kept_those (IsRead t r receiving) (is_read t r receiving) (tables_of (alone t)) (λ x i.
     let both = read t r receiving x s.numbered has (table_has t x s.numbered i) (known t x s i).has in
     ((λ e. let n = both.0 e in (n.0, λ spared. n.1 spared.0 spared.1)), (λ n. both.1 (n.0, λ v spared. n.1 (v, spared)))))
 
 needed_of : NeedsAreRead → (t u : Tree Resolved) (r : ℕ) (receiving : Bool) (bytes subscripts : List ℕ) (result : Result (List ℕ) CountFault) → IsSound t → t ≡ u → Refers r subscripts (alone u)
-    → Taken u bytes (needed u r receiving (tables_of (alone u))) (greatest_counts u) result → NeededOf u r receiving bytes result
+    → Taken u bytes (needed_tables u r receiving (tables_of (alone u))) (greatest_counts u) result → NeededOf u r receiving bytes result
 needed_of read t u r receiving bytes subscripts result s same refers taken =
     let sound : IsSound u = subst IsSound same s in
-    (needed u r receiving (tables_of (alone u)), those_needed read u r receiving sound (refers_has r subscripts (alone u) refers), taken)
+    (needed_tables u r receiving (tables_of (alone u)), those_needed read u r receiving sound (refers_has r subscripts (alone u) refers), taken)
 
 front : (xs ys : List ℕ) → take (length xs) (xs ++ ys) ≡ xs
 front [] ys = refl
@@ -347,16 +347,16 @@ zeros_are xs k n is long =
 -- what the call takes of its own tables, from zeros on
 pub needed_at : NeedsAreRead → (t u : Tree Resolved) (r : ℕ) (receiving : Bool) (bytes subscripts : List ℕ) (xs : List Table) (zeros counts made : List ℕ) → IsSound t → t ≡ u → Refers r subscripts (alone u)
     → xs ≡ tables_of (alone t) → zeros ≡ replicate (entries_in (alone t)) 0 → made ≡ counts
-    → Taken t bytes (needed t r receiving xs) (greatest xs zeros) (Ok counts) → NeededOf u r receiving bytes (Ok made)
+    → Taken t bytes (needed_tables t r receiving xs) (greatest xs zeros) (Ok counts) → NeededOf u r receiving bytes (Ok made)
 needed_at read t u r receiving bytes subscripts xs zeros counts made s same refers all none is taken =
-    let first = subst (λ (ys : List Table). Taken t bytes (needed t r receiving ys) (greatest ys zeros) (Ok counts)) all taken in
-    let second = subst (λ (zs : List ℕ). Taken t bytes (needed t r receiving (tables_of (alone t))) (greatest (tables_of (alone t)) zs) (Ok counts)) none first in
-    let third = subst (λ (ds : List ℕ). Taken t bytes (needed t r receiving (tables_of (alone t))) (greatest_counts t) (Ok ds)) (sym is) second in
-    let last = subst (λ (v : Tree Resolved). Taken v bytes (needed v r receiving (tables_of (alone v))) (greatest_counts v) (Ok made)) same third in
+    let first = subst (λ (ys : List Table). Taken t bytes (needed_tables t r receiving ys) (greatest ys zeros) (Ok counts)) all taken in
+    let second = subst (λ (zs : List ℕ). Taken t bytes (needed_tables t r receiving (tables_of (alone t))) (greatest (tables_of (alone t)) zs) (Ok counts)) none first in
+    let third = subst (λ (ds : List ℕ). Taken t bytes (needed_tables t r receiving (tables_of (alone t))) (greatest_counts t) (Ok ds)) (sym is) second in
+    let last = subst (λ (v : Tree Resolved). Taken v bytes (needed_tables v r receiving (tables_of (alone v))) (greatest_counts v) (Ok made)) same third in
     needed_of read t u r receiving bytes subscripts (Ok made) s same refers last
 
 pub needed_err : {A : Type 0} → NeedsAreRead → (t u : Tree Resolved) (r : ℕ) (receiving : Bool) (bytes subscripts : List ℕ) (result : Result A CountFault) → IsSound t → t ≡ u → Refers r subscripts (alone u)
-    → IfErr result (λ e. Taken u bytes (needed u r receiving (tables_of (alone u))) (greatest_counts u) (Err e)) → IfErr result (λ e. NeededOf u r receiving bytes (Err e))
+    → IfErr result (λ e. Taken u bytes (needed_tables u r receiving (tables_of (alone u))) (greatest_counts u) (Err e)) → IfErr result (λ e. NeededOf u r receiving bytes (Err e))
 needed_err read t u r receiving bytes subscripts (Ok a) s same refers taken = tt
 needed_err read t u r receiving bytes subscripts (Err e) s same refers taken = needed_of read t u r receiving bytes subscripts (Err e) s same refers taken
 
@@ -381,7 +381,7 @@ sought k (x ∷ xs) = elim (same_or_not x.number k) [
     by z (inr i) e free other = free z i e
 
 settled : NeedsAreRead → (t : Tree Resolved) (r : ℕ) (receiving : Bool) (spared : List Table) (x : Table) → IsSound t → Has r (alone t)
-    → AreThose (IsSparedOf t r receiving) (tables_of (alone t)) spared → IsIn x (tables_of (alone t)) → Settled t (IsRead t r receiving) (IsFree spared) (reach true r (alone t)) x
+    → AreThose (IsSparedOf t r receiving) (tables_of (alone t)) spared → IsIn x (tables_of (alone t)) → Settled t (IsRead t r receiving) (IsFree spared) (number_behind true r (alone t)) x
 settled read t r receiving spared x s has those i =
     let k = known t x s i in
     let there = table_has t x s.numbered i in
@@ -416,17 +416,17 @@ all_give_needed sound read place t bytes c r receiving subscripts spared is refe
     let xs = tables_of f in
     let g = greatest_counts t in
     let has = refers_has r subscripts f refers in
-    let m = reach true r f in
+    let m = number_behind true r f in
     let last = 0 + entries_in f in
     let rise = rise_all f 0 last s.numbered refl in
     let long : length g ≡ entries_in f = greatest_length t s.numbered in
-    let ys = needed t r receiving xs in
+    let ys = needed_tables t r receiving xs in
     let read_those = those_needed read t r receiving s has in
     let made = chosen place t bytes (IsRead t r receiving) (IsFree spared) m xs ys g g c s.numbered (λ x i. settled read t r receiving spared x s has those i)
     (λ x i. omega (arith, long, rise_high 0 last xs x rise i)) refl (λ k lt free. refl) read_those all in
     let d = made.counts in
     let e = greatest spared c in
-    let same : find (times d) r f 0 0 subscripts ≡ find (times e) r f 0 0 subscripts = place d e f r subscripts s.numbered has (λ k there needs.
+    let same : place_of (times d) r f 0 0 subscripts ≡ place_of (times e) r f 0 0 subscripts = place d e f r subscripts s.numbered has (λ k there needs.
     elim (sought k spared) [
       | inl (z, in_spared, eq) ↦ (let z_is = those_in (IsSparedOf t r receiving) xs spared z those in_spared in
           let not_read : (y : Table) → IsIn y ys → y.number ≡ z.number → ⊥ = λ y in_ys same.
@@ -448,4 +448,4 @@ one_place_by_needs give one same t a b c d r receiving subscripts read spared is
     let here : Taken t a read g (Ok counts) = subst (λ (zs : List Table). Taken t a zs g (Ok counts)) lists taken in
     let there : Taken t b read g (Ok counts) = same t a b read g (Ok counts) as_long agree here in
     let e : counts ≡ d = same_ok counts d (one t r receiving b (Ok counts) (Ok d) (read, those_read, there) some) in
-    sym place ∙ ap (λ (k : List ℕ). find (times k) r (alone t) 0 0 subscripts) e
+    sym place ∙ ap (λ (k : List ℕ). place_of (times k) r (alone t) 0 0 subscripts) e

@@ -5,12 +5,11 @@ use Rattle.std.specs.List.{slice_get}
 use Rattle.std.proofs.lemmas.List.{length-map}
 use Rattle.std.proofs.lemmas.Bool.Decides.{nat_tests}
 use Rattle.cob_copybook_tree.specs.Forests.{Tree, entries_in}
-use Rattle.cob_copybook_tree.specs.Nodes.{Resolved}
+use Rattle.cob_copybook_tree.specs.Nodes.{Resolved, alone}
 use Rattle.cob_sound.specs.Sound.{IsSound}
 use Rattle.cob_layout_places.specs.declared.varying.Table.{Table}
-use Rattle.cob_layout_places.specs.Lengths.{alone}
 use Rattle.cob_layout_places.specs.Counts.{tables_of}
-use Rattle.cob_layout_places.specs.Needs.{Has, reach, keep, is_needed, needed, NeedsAreRead}
+use Rattle.cob_layout_places.specs.Needs.{Has, number_behind, keep, is_needed, needed_tables, NeedsAreRead}
 use Rattle.cob_layout_places.proofs.NeedLaw.{Passes, spared_passes, passes_spared}
 use Rattle.cob_layout_places.proofs.NeedLemmas.{needed_is}
 use Rattle.cob_layout.specs.declared.ways.Way.{Way}
@@ -59,19 +58,19 @@ pub record Known (t : Tree Resolved) (ways : List Way) (tables : List Table) (r 
 
 -- the reach of the entry ends with the record's
 last_is : (t : Tree Resolved) (ways : List Way) (tables : List Table) (r : ℕ) (receiving : Bool) → Known t ways tables r
-    → (receiving && ((held_at (map held ways) r).end == length ways)) ≡ (receiving && (reach false r (alone t) == 1 + entries_in t.beneath))
+    → (receiving && ((held_at (map held ways) r).end == length ways)) ≡ (receiving && (number_behind false r (alone t) == 1 + entries_in t.beneath))
 last_is t ways tables r receiving k =
     let long : length ways ≡ 1 + entries_in t.beneath = sym (length-map ways held) ∙ ap length k.ways_are ∙ length_held [] (alone t) ∙ omega arith in
     ap (λ (n : ℕ). receiving && (n == length ways)) (sym (reach_end t (map held ways) r k.sound.numbered k.ways_are k.has))
-    ∙ ap (λ (n : ℕ). receiving && (reach false r (alone t) == n)) long
+    ∙ ap (λ (n : ℕ). receiving && (number_behind false r (alone t) == n)) long
 
 -- those that the test keeps are those that the reference reads
 pub those_read : NeedsAreRead → (t : Tree Resolved) (ways : List Way) (tables : List Table) (r behind : ℕ) (receiving last : Bool) → Known t ways tables r → behind ≡ end_of_table (map held ways) r
     → last ≡ (receiving && ((held_at (map held ways) r).end == length ways))
     → AreThose (IsRead t r receiving) (tables_of (alone t)) (keep (is_needed behind last r) tables)
 those_read read t ways tables r behind receiving last k b l =
-    let reached : behind ≡ reach true r (alone t) = b ∙ sym (reach_table_end t (map held ways) r k.sound.numbered k.ways_are k.has) in
-    let same : keep (is_needed behind last r) tables ≡ needed t r receiving (tables_of (alone t)) =
+    let reached : behind ≡ number_behind true r (alone t) = b ∙ sym (reach_table_end t (map held ways) r k.sound.numbered k.ways_are k.has) in
+    let same : keep (is_needed behind last r) tables ≡ needed_tables t r receiving (tables_of (alone t)) =
     ap (λ (xs : List Table). keep (is_needed behind last r) xs) k.tables_are
     ∙ needed_is t r receiving (tables_of (alone t)) behind (1 + entries_in t.beneath) last reached (l ∙ last_is t ways tables r receiving k) refl in
     subst (AreThose (IsRead t r receiving) (tables_of (alone t))) (sym same) (those_needed read t r receiving k.sound k.has)

@@ -2,12 +2,12 @@
 use Rattle.std.proofs.Common.{◌≡◌, ℕ, ◌*◌, ◌<◌, ◌≤◌, List, length, sym, ap, subst, ◌∙◌, arith, Option, None, Ok, Err, Result}
 use Rattle.std.specs.Prelude.{IfOk}
 use Rattle.cob_copybook_tree.specs.Forests.{Tree, entries_in}
-use Rattle.cob_copybook_tree.specs.Nodes.{Resolved}
-use Rattle.cob_copybook_tree.specs.Lengths.{most, room, element, whole, sum_of}
+use Rattle.cob_copybook_tree.specs.Nodes.{Resolved, alone}
+use Rattle.cob_copybook_tree.specs.Lengths.{greatest_number, own_length, element_length, whole_length, sum_of}
 use Rattle.cob_sound.specs.Sound.{IsSound}
 use Rattle.cob_layout_places.specs.declared.varying.Table.{Table}
-use Rattle.cob_layout_places.specs.Lengths.{alone, times}
-use Rattle.cob_layout_places.specs.Counts.{tables_of, HaveSlots}
+use Rattle.cob_layout_places.specs.Lengths.{times}
+use Rattle.cob_layout_places.specs.Counts.{tables_of, AreNumberedBelow}
 use Rattle.cob_layout_places.proofs.ForestLemmas.{sum_le, within_always}
 use Rattle.cob_layout_places.specs.References.{Refers}
 use Rattle.cob_layout.specs.Counting.{greatest_counts}
@@ -15,20 +15,20 @@ use Rattle.cob_layout.proofs.GreatestLemmas.{greatest_length, slots}
 use Rattle.cob_layout.proofs.ReferenceLemmas.{has_below, refers_has}
 
 -- a record is as long as all its elements
-sum_alone : (c : Resolved → ℕ) (t : Tree Resolved) → t.top.redefines ≡ None → sum_of c (alone t) ≡ whole c t.top t.beneath
+sum_alone : (c : Resolved → ℕ) (t : Tree Resolved) → t.top.redefines ≡ None → sum_of c (alone t) ≡ whole_length c t.top t.beneath
 sum_alone c t e =
-    let w : room t.top.redefines (whole c t.top t.beneath) ≡ whole c t.top t.beneath = ap (λ (o : Option (List ℕ)). room o (whole c t.top t.beneath)) e in
+    let w : own_length t.top.redefines (whole_length c t.top t.beneath) ≡ whole_length c t.top t.beneath = ap (λ (o : Option (List ℕ)). own_length o (whole_length c t.top t.beneath)) e in
     omega (arith, w)
 
-pub length_is : (counts : List ℕ) (t : Tree Resolved) (n k : ℕ) → IsSound t → n ≡ times counts t.top → k ≡ element (times counts) t.top t.beneath → n * k ≡ sum_of (times counts) (alone t)
+pub length_is : (counts : List ℕ) (t : Tree Resolved) (n k : ℕ) → IsSound t → n ≡ times counts t.top → k ≡ element_length (times counts) t.top t.beneath → n * k ≡ sum_of (times counts) (alone t)
 length_is counts t n k s en ek = rw (en, ek) (sym (sum_alone (times counts) t s.first))
 
 -- under counts it is no longer than under the greatest ones
-pub length_least : (counts : List ℕ) (t : Tree Resolved) (n k : ℕ) → IsSound t → n ≡ times counts t.top → k ≡ element (times counts) t.top t.beneath → n * k ≤ sum_of most (alone t)
+pub length_least : (counts : List ℕ) (t : Tree Resolved) (n k : ℕ) → IsSound t → n ≡ times counts t.top → k ≡ element_length (times counts) t.top t.beneath → n * k ≤ sum_of greatest_number (alone t)
 length_least counts t n k s en ek = omega (arith, length_is counts t n k s en ek, sum_le (times counts) (alone t) (within_always counts (alone t)))
 
-pub length_small : (counts : List ℕ) (t : Tree Resolved) (n k : ℕ) → IsSound t → n ≡ times counts t.top → k ≡ element (times counts) t.top t.beneath → n * k ≤ 32752
-length_small counts t n k s en ek = omega (arith, length_least counts t n k s en ek, sum_alone most t s.first, s.fit.small)
+pub length_small : (counts : List ℕ) (t : Tree Resolved) (n k : ℕ) → IsSound t → n ≡ times counts t.top → k ≡ element_length (times counts) t.top t.beneath → n * k ≤ 32752
+length_small counts t n k s en ek = omega (arith, length_least counts t n k s en ek, sum_alone greatest_number t s.first, s.fit.small)
 
 -- counts with a number for each entry are as many as the greatest ones
 pub as_many : (t u : Tree Resolved) (counts : List ℕ) (n : ℕ) → IsSound t → t ≡ u → counts ≡ greatest_counts t → n ≡ entries_in (alone u) → n ≡ length counts
@@ -40,8 +40,8 @@ long_as (Ok c) counts n same long = ap length same ∙ long
 long_as (Err e) counts n same long = tt
 
 -- each table has a place among them
-pub slots_for : (t : Tree Resolved) (xs : List Table) (n : ℕ) → IsSound t → xs ≡ tables_of (alone t) → n ≡ entries_in (alone t) → HaveSlots n xs
-slots_for t xs n s e all = subst (HaveSlots n) (sym e) (slots (alone t) 0 n s.numbered (omega (arith, all)))
+pub slots_for : (t : Tree Resolved) (xs : List Table) (n : ℕ) → IsSound t → xs ≡ tables_of (alone t) → n ≡ entries_in (alone t) → AreNumberedBelow n xs
+slots_for t xs n s e all = subst (AreNumberedBelow n) (sym e) (slots (alone t) 0 n s.numbered (omega (arith, all)))
 
 -- an entry that is referred to is one of them
 pub number_below : (t u : Tree Resolved) (r n : ℕ) (subscripts : List ℕ) → IsSound t → t ≡ u → Refers r subscripts (alone u) → n ≡ entries_in (alone t) → r < n

@@ -1,11 +1,10 @@
 -- What a reference to an entry of a record gives.
 use Rattle.std.proofs.Common.{◌≡◌, ℕ, ◌+◌, ◌<◌, ◌==◌, List, [], Bool, true, false, refl, ap, ◌∙◌, arith, Option, Some, None, inl, inr, ◌⊎◌}
 use Rattle.std.proofs.lemmas.Bool.Decides.{nat_tests}
-use Rattle.cob_copybook_tree.specs.Forests.{Forest, Bare, Grows, Tree, entries_in}
-use Rattle.cob_copybook_tree.specs.Nodes.{Resolved}
+use Rattle.cob_copybook_tree.specs.Forests.{Forest, NoEntries, AnEntry, Tree, entries_in}
+use Rattle.cob_copybook_tree.specs.Nodes.{Resolved, alone}
 use Rattle.cob_layout_places.specs.declared.places.Found.{Found}
-use Rattle.cob_layout_places.specs.Lengths.{alone}
-use Rattle.cob_layout_places.specs.Places.{find, find_one, or_else, choose, also, begins, is_table, later}
+use Rattle.cob_layout_places.specs.Places.{place_of, place_in_entry, or_else, choose, also, begins, is_table, later}
 use Rattle.cob_layout_places.specs.Cover.{AreNumbered}
 use Rattle.cob_layout_places.specs.Needs.{Has}
 use Rattle.cob_layout_places.specs.References.{Refers}
@@ -19,23 +18,23 @@ begins_first None = refl
 begins_first (Some name) = refl
 
 -- a record by itself begins at its start
-pub find_alone : (c : Resolved → ℕ) (number : ℕ) (t : Tree Resolved) (subscripts : List ℕ) → find c number (alone t) 0 0 subscripts ≡ find_one c number t 0 subscripts
+pub find_alone : (c : Resolved → ℕ) (number : ℕ) (t : Tree Resolved) (subscripts : List ℕ) → place_of c number (alone t) 0 0 subscripts ≡ place_in_entry c number t 0 subscripts
 find_alone c number t subscripts =
-    or_none (find_one c number t (begins t.top.redefines 0 0) subscripts)
-    ∙ ap (λ (start : ℕ). find_one c number t start subscripts) (begins_first t.top.redefines)
+    or_none (place_in_entry c number t (begins t.top.redefines 0 0) subscripts)
+    ∙ ap (λ (start : ℕ). place_in_entry c number t start subscripts) (begins_first t.top.redefines)
 
 abbrev Ends : ℕ → Resolved → List ℕ → Type 0
 Ends r e rest = (e.number ≡ r) × (rest ≡ [])
 
-beneath : (r : ℕ) (e : Resolved) (kids more : Forest Resolved) (rest : List ℕ) → (Ends r e rest ⊎ Refers r rest kids) → (Refers r rest kids → Has r kids) → Has r (Grows e kids more)
-beneath r e kids more rest (inl h) go = inl h.0
-beneath r e kids more rest (inr h) go = inr (inl (go h))
+beneath : (r : ℕ) (e : Resolved) (children more : Forest Resolved) (rest : List ℕ) → (Ends r e rest ⊎ Refers r rest children) → (Refers r rest children → Has r children) → Has r (AnEntry e children more)
+beneath r e children more rest (inl h) go = inl h.0
+beneath r e children more rest (inr h) go = inr (inl (go h))
 
 -- the entry is one of the record's
 pub refers_has : (r : ℕ) (subscripts : List ℕ) (f : Forest Resolved) → Refers r subscripts f → Has r f
-refers_has r subscripts Bare h = h
-refers_has r subscripts (Grows e kids more) (inl h) = beneath r e kids more (later (is_table e.occurs) subscripts) h.1 (refers_has r (later (is_table e.occurs) subscripts) kids)
-refers_has r subscripts (Grows e kids more) (inr h) = inr (inr (refers_has r subscripts more h))
+refers_has r subscripts NoEntries h = h
+refers_has r subscripts (AnEntry e children more) (inl h) = beneath r e children more (later (is_table e.occurs) subscripts) h.1 (refers_has r (later (is_table e.occurs) subscripts) children)
+refers_has r subscripts (AnEntry e children more) (inr h) = inr (inr (refers_has r subscripts more h))
 
 where_none : (o p : Option Found) → or_else o p ≡ None → (o ≡ None) × (p ≡ None)
 where_none None p h = (refl, h)
@@ -53,20 +52,20 @@ differs : (a b : ℕ) → (a == b) ≡ false → a ≡ b → ⊥
 differs a b h e = grind (arith, nat_tests)
 
 -- an entry of a record has a place
-pub found_there : (c : Resolved → ℕ) (r : ℕ) (f : Forest Resolved) (at area : ℕ) (subscripts : List ℕ) → Has r f → find c r f at area subscripts ≡ None → ⊥
-found_there c r Bare at area subscripts h n = h
-found_there c r (Grows e kids more) at area subscripts (inl h) n =
+pub found_there : (c : Resolved → ℕ) (r : ℕ) (f : Forest Resolved) (at area : ℕ) (subscripts : List ℕ) → Has r f → place_of c r f at area subscripts ≡ None → ⊥
+found_there c r NoEntries at area subscripts h n = h
+found_there c r (AnEntry e children more) at area subscripts (inl h) n =
     let first = where_none _ _ n in
     differs e.number r (chosen_none _ _ _ first.0).0 h
-found_there c r (Grows e kids more) at area subscripts (inr (inl h)) n =
+found_there c r (AnEntry e children more) at area subscripts (inr (inl h)) n =
     let first = where_none _ _ n in
-    found_there c r kids _ _ _ h (also_none _ _ (chosen_none _ _ _ first.0).1)
-found_there c r (Grows e kids more) at area subscripts (inr (inr h)) n =
+    found_there c r children _ _ _ h (also_none _ _ (chosen_none _ _ _ first.0).1)
+found_there c r (AnEntry e children more) at area subscripts (inr (inr h)) n =
     found_there c r more _ _ _ h (where_none _ _ n).1
 
 -- its number is below the number of entries
 pub has_below : (n r : ℕ) (f : Forest Resolved) → AreNumbered n f → Has r f → r < n + entries_in f
-has_below n r Bare h k = absurd k
-has_below n r (Grows e kids more) h (inl k) = omega (arith, h.0, k)
-has_below n r (Grows e kids more) h (inr (inl k)) = omega (arith, has_below (n + 1) r kids h.1 k)
-has_below n r (Grows e kids more) h (inr (inr k)) = omega (arith, has_below (n + 1 + entries_in kids) r more h.2 k)
+has_below n r NoEntries h k = absurd k
+has_below n r (AnEntry e children more) h (inl k) = omega (arith, h.0, k)
+has_below n r (AnEntry e children more) h (inr (inl k)) = omega (arith, has_below (n + 1) r children h.1 k)
+has_below n r (AnEntry e children more) h (inr (inr k)) = omega (arith, has_below (n + 1 + entries_in children) r more h.2 k)

@@ -2,17 +2,17 @@
 use Rattle.std.proofs.Common.{◌≡◌, ℕ, ◌+◌, ◌*◌, ◌<◌, ◌≤◌, ◌==◌, ◌&&◌, nat_le, Bool, true, false, List, [], ◌∷◌, map, Option, Some, refl, sym, ap, subst, ◌∙◌, arith, inl, inr, Ok, Err, Result}
 use Rattle.std.specs.Prelude.{option_map, if◌then◌else◌, IfOk}
 use Rattle.std.proofs.lemmas.Bool.Decides.{nat_tests}
-use Rattle.cob_copybook_tree.specs.Forests.{Forest, Bare, Grows, Tree, entries_in}
-use Rattle.cob_copybook_tree.specs.Nodes.{Resolved}
-use Rattle.cob_copybook_tree.specs.Lengths.{most, element, whole, room, sum_of}
-use Rattle.cob_copybook.specs.Books.{IsRecord}
+use Rattle.cob_copybook_tree.specs.Forests.{Forest, NoEntries, AnEntry, Tree, entries_in}
+use Rattle.cob_copybook_tree.specs.Nodes.{Resolved, alone}
+use Rattle.cob_copybook_tree.specs.Lengths.{greatest_number, element_length, whole_length, own_length, sum_of}
+use Rattle.cob_copybook.specs.Books.{IsRecordDescription}
 use Rattle.cob_sound.specs.Sound.{IsSound}
 use Rattle.cob_fields.specs.declared.Place.{Place}
 use Rattle.cob_layout.specs.declared.layout.PlaceFault.{PlaceFault}
 use Rattle.cob_layout_places.specs.declared.places.Found.{Found}
 use Rattle.cob_layout_places.specs.declared.spots.Spot.{Spot}
-use Rattle.cob_layout_places.specs.Lengths.{alone, times}
-use Rattle.cob_layout_places.specs.Places.{find, find_one, begins, is_table, is_there, later, skipped, EndInRecord, EndsBy}
+use Rattle.cob_layout_places.specs.Lengths.{times}
+use Rattle.cob_layout_places.specs.Places.{place_of, place_in_entry, begins, is_table, is_there, later, skipped, EndInRecord, EndsBy}
 use Rattle.cob_layout_places.specs.Cover.{AreNumbered}
 use Rattle.cob_layout_places.specs.References.{IsSubscripted, Refers}
 use Rattle.cob_layout_places.specs.Spots.{spots_of}
@@ -35,7 +35,7 @@ use Rattle.cob_layout.proofs.SpotLaw.{stands_moved}
 
 -- under these counts the reference stands where its element is moved to
 pub element_is : (t u : Tree Resolved) (counts : List ℕ) (spots : List Spot) (ways : List Way) (r : ℕ) (subscripts : List ℕ) → IsSound t → t ≡ u → map held ways ≡ held_in [] (alone t) → Refers r subscripts (alone u)
-    → spots ≡ spots_of (times counts) (alone u) 0 0 → find (times counts) r (alone u) 0 0 subscripts ≡ Some (moved spots (held_at (map held ways) r).tables subscripts (first_element spots r))
+    → spots ≡ spots_of (times counts) (alone u) 0 0 → place_of (times counts) r (alone u) 0 0 subscripts ≡ Some (moved spots (held_at (map held ways) r).tables subscripts (first_element spots r))
 element_is t u counts spots ways r subscripts s eq held_are refers are =
     stands_moved (times counts) u spots (map held ways) r subscripts (record { tables = []; end = 0 }) (subst (λ (v : Tree Resolved). AreNumbered 0 (alone v)) eq s.numbered) are
     (held_are ∙ ap (λ (v : Tree Resolved). held_in [] (alone v)) eq) refers
@@ -47,10 +47,10 @@ ends_by : (m : ℕ) (o : Option Found) (f : Found) → o ≡ Some f → Ends m o
 ends_by m o f e h = subst (Ends m) e h
 
 -- and this lies within the longest record
-pub element_fits : EndInRecord → (t u : Tree Resolved) (counts : List ℕ) (r : ℕ) (subscripts : List ℕ) (f : Found) → IsSound t → t ≡ u → find (times counts) r (alone u) 0 0 subscripts ≡ Some f → f.offset + f.length ≤ 32752
+pub element_fits : EndInRecord → (t u : Tree Resolved) (counts : List ℕ) (r : ℕ) (subscripts : List ℕ) (f : Found) → IsSound t → t ≡ u → place_of (times counts) r (alone u) 0 0 subscripts ≡ Some f → f.offset + f.length ≤ 32752
 element_fits law t u counts r subscripts f s eq is =
     let sound : IsSound u = subst IsSound eq s in
-    let h = ends_by (0 + whole most u.top u.beneath) (find_one (times counts) r u 0 subscripts) f (sym (find_alone (times counts) r u subscripts) ∙ is) (law counts r u 0 subscripts sound.fit) in
+    let h = ends_by (0 + whole_length greatest_number u.top u.beneath) (place_in_entry (times counts) r u 0 subscripts) f (sym (find_alone (times counts) r u subscripts) ∙ is) (law counts r u 0 subscripts sound.fit) in
     omega (arith, h, sound.fit.small)
 
 -- ---- under greatest counts each element that a reference names is there
@@ -66,21 +66,21 @@ there_most true n (s ∷ subscripts) h = yes_ s n h.1
 and_both : (a b : Bool) → a ≡ true → b ≡ true → (a && b) ≡ true
 and_both a b e f = rw (e, f) refl
 
-all_within : (r : ℕ) (f : Forest Resolved) (n at area : ℕ) (subscripts : List ℕ) (p : Found) → AreNumbered n f → Refers r subscripts f → find most r f at area subscripts ≡ Some p → p.within ≡ true
-all_within r Bare n at area subscripts p num refers is = absurd refers
-all_within r (Grows e kids more) n at area subscripts p num refers is =
+all_within : (r : ℕ) (f : Forest Resolved) (n at area : ℕ) (subscripts : List ℕ) (p : Found) → AreNumbered n f → Refers r subscripts f → place_of greatest_number r f at area subscripts ≡ Some p → p.within ≡ true
+all_within r NoEntries n at area subscripts p num refers is = absurd refers
+all_within r (AnEntry e children more) n at area subscripts p num refers is =
     let start : ℕ = begins e.redefines at area in
     let table : Bool = is_table e.occurs in
-    let size : ℕ = element most e kids in
-    let offset : ℕ = start + skipped table (most e) subscripts * size in
-    let there : Bool = is_there table (most e) subscripts in
+    let size : ℕ = element_length greatest_number e children in
+    let offset : ℕ = start + skipped table (greatest_number e) subscripts * size in
+    let there : Bool = is_there table (greatest_number e) subscripts in
     let inner : List ℕ = later table subscripts in
-    let next_at : ℕ = at + room e.redefines (whole most e kids) in
-    elim (pick (e.number == r) (record { offset = offset; length = size; within = there }) there (find most r kids offset offset inner) (find most r more next_at start subscripts) p is) [
+    let next_at : ℕ = at + own_length e.redefines (whole_length greatest_number e children) in
+    elim (pick (e.number == r) (record { offset = offset; length = size; within = there }) there (place_of greatest_number r children offset offset inner) (place_of greatest_number r more next_at start subscripts) p is) [
       | inl h ↦ (let this : e.number ≡ r = same e.number r h.0 in
           elim refers [
-            | inl s ↦ sym (ap (λ (x : Found). x.within) h.1) ∙ there_most table (most e) subscripts s.0
-            | inr beside ↦ absurd (omega (arith, (numbered r (n + 1 + entries_in kids) more num.2 (refers_has r subscripts more beside)).0, num.0, this))
+            | inl s ↦ sym (ap (λ (x : Found). x.within) h.1) ∙ there_most table (greatest_number e) subscripts s.0
+            | inr beside ↦ absurd (omega (arith, (numbered r (n + 1 + entries_in children) more num.2 (refers_has r subscripts more beside)).0, num.0, this))
           ])
       | inr rest ↦ elim rest [
         | inl h ↦ (let found : Found = h.0 in
@@ -88,23 +88,23 @@ all_within r (Grows e kids more) n at area subscripts p num refers is =
             elim refers [
               | inl s ↦ elim (s.1) [
                 | inl own ↦ absurd (differs e.number r h.1 own.0)
-                | inr inside ↦ sym (ap (λ (x : Found). x.within) is_p) ∙ and_both there found.within (there_most table (most e) subscripts s.0) (all_within r kids (n + 1) offset offset inner found num.1 inside h.2)
+                | inr inside ↦ sym (ap (λ (x : Found). x.within) is_p) ∙ and_both there found.within (there_most table (greatest_number e) subscripts s.0) (all_within r children (n + 1) offset offset inner found num.1 inside h.2)
               ]
-              | inr beside ↦ (let a = numbered r (n + 1) kids num.1 (found_has most r kids offset offset inner found h.2) in
-                  let b = numbered r (n + 1 + entries_in kids) more num.2 (refers_has r subscripts more beside) in
+              | inr beside ↦ (let a = numbered r (n + 1) children num.1 (found_has greatest_number r children offset offset inner found h.2) in
+                  let b = numbered r (n + 1 + entries_in children) more num.2 (refers_has r subscripts more beside) in
                   absurd (omega (arith, a.1, b.0)))
             ])
         | inr h ↦ elim refers [
           | inl s ↦ elim (s.1) [
             | inl own ↦ absurd (differs e.number r h.0 own.0)
-            | inr inside ↦ absurd (found_there most r kids offset offset inner (refers_has r inner kids inside) h.1)
+            | inr inside ↦ absurd (found_there greatest_number r children offset offset inner (refers_has r inner children inside) h.1)
           ]
-          | inr beside ↦ all_within r more (n + 1 + entries_in kids) next_at start subscripts p num.2 beside h.2
+          | inr beside ↦ all_within r more (n + 1 + entries_in children) next_at start subscripts p num.2 beside h.2
         ]
       ]
     ]
 
-pub greatest_within : (t u : Tree Resolved) (r : ℕ) (subscripts : List ℕ) (p : Found) → IsSound t → t ≡ u → Refers r subscripts (alone u) → find (times (greatest_counts u)) r (alone u) 0 0 subscripts ≡ Some p → p.within ≡ true
+pub greatest_within : (t u : Tree Resolved) (r : ℕ) (subscripts : List ℕ) (p : Found) → IsSound t → t ≡ u → Refers r subscripts (alone u) → place_of (times (greatest_counts u)) r (alone u) 0 0 subscripts ≡ Some p → p.within ≡ true
 greatest_within t u r subscripts p s eq refers is =
     let num : AreNumbered 0 (alone u) = subst (λ (v : Tree Resolved). AreNumbered 0 (alone v)) eq s.numbered in
     all_within r (alone u) 0 0 0 subscripts p num refers (sym ((are_greatest u (greatest_counts u) num refl).places r subscripts) ∙ is)
@@ -114,10 +114,10 @@ greatest_within t u r subscripts p s eq refers is =
 pub answer : (o : Option Found) (f : Found) (r : Result Place PlaceFault) → o ≡ Some f → r ≡ placed f → option_map placed o ≡ Some r
 answer o f r is e = ap (option_map placed) is ∙ ap (λ (x : Result Place PlaceFault). Some x) (sym e)
 
-pub answer_current : EndInLength → (t u : Tree Resolved) (counts : List ℕ) (r : ℕ) (subscripts : List ℕ) (f : Found) (result : Result Place PlaceFault) → IsRecord (alone t) → t ≡ u → Refers r subscripts (alone u)
-    → find (times counts) r (alone u) 0 0 subscripts ≡ Some f → result ≡ placed f → IfOk result (λ p. p.offset + p.length ≤ sum_of (times counts) (alone u))
+pub answer_current : EndInLength → (t u : Tree Resolved) (counts : List ℕ) (r : ℕ) (subscripts : List ℕ) (f : Found) (result : Result Place PlaceFault) → IsRecordDescription (alone t) → t ≡ u → Refers r subscripts (alone u)
+    → place_of (times counts) r (alone u) 0 0 subscripts ≡ Some f → result ≡ placed f → IfOk result (λ p. p.offset + p.length ≤ sum_of (times counts) (alone u))
 answer_current law t u counts r subscripts f result is eq refers at e =
-    current law t u counts counts r subscripts subscripts f result is eq refers refl refl (subst (λ (v : Tree Resolved). find (times counts) r (alone v) 0 0 subscripts ≡ Some f) (sym eq) at) e
+    current law t u counts counts r subscripts subscripts f result is eq refers refl refl (subst (λ (v : Tree Resolved). place_of (times counts) r (alone v) 0 0 subscripts ≡ Some f) (sym eq) at) e
 
 abbrev FitsIn : ℕ → Result Place PlaceFault → Type 0
 FitsIn m result = IfOk result (λ p. p.offset + p.length ≤ m)
@@ -126,14 +126,14 @@ still : (a b : ℕ) (result : Result Place PlaceFault) → a ≤ b → FitsIn a 
 still a b (Ok p) le h = omega (arith, le, h)
 still a b (Err e) le h = tt
 
-pub answer_fits : EndInLength → (t u : Tree Resolved) (counts : List ℕ) (r : ℕ) (subscripts : List ℕ) (f : Found) (result : Result Place PlaceFault) → IsRecord (alone t) → t ≡ u → Refers r subscripts (alone u)
-    → find (times counts) r (alone u) 0 0 subscripts ≡ Some f → result ≡ placed f → IfOk result (λ p. p.offset + p.length ≤ sum_of most (alone u))
+pub answer_fits : EndInLength → (t u : Tree Resolved) (counts : List ℕ) (r : ℕ) (subscripts : List ℕ) (f : Found) (result : Result Place PlaceFault) → IsRecordDescription (alone t) → t ≡ u → Refers r subscripts (alone u)
+    → place_of (times counts) r (alone u) 0 0 subscripts ≡ Some f → result ≡ placed f → IfOk result (λ p. p.offset + p.length ≤ sum_of greatest_number (alone u))
 answer_fits law t u counts r subscripts f result is eq refers at e =
-    still (sum_of (times counts) (alone u)) (sum_of most (alone u)) result (sum_le (times counts) (alone u) (within_always counts (alone u))) (answer_current law t u counts r subscripts f result is eq refers at e)
+    still (sum_of (times counts) (alone u)) (sum_of greatest_number (alone u)) result (sum_le (times counts) (alone u) (within_always counts (alone u))) (answer_current law t u counts r subscripts f result is eq refers at e)
 
 -- so it is whatever the counts
-pub answer_all : EndInLength → (u : Tree Resolved) (standing : Standing) (r : ℕ) (subscripts : List ℕ) (f : Found) (result : Result Place PlaceFault) → IsRecord (alone u) → Refers r subscripts (alone u)
-    → ((counts : List ℕ) → ArePlaces u counts standing → find (times counts) r (alone u) 0 0 subscripts ≡ Some f) → result ≡ placed f
+pub answer_all : EndInLength → (u : Tree Resolved) (standing : Standing) (r : ℕ) (subscripts : List ℕ) (f : Found) (result : Result Place PlaceFault) → IsRecordDescription (alone u) → Refers r subscripts (alone u)
+    → ((counts : List ℕ) → ArePlaces u counts standing → place_of (times counts) r (alone u) 0 0 subscripts ≡ Some f) → result ≡ placed f
     → IfOk result (λ p. (counts : List ℕ) → ArePlaces u counts standing → p.offset + p.length ≤ sum_of (times counts) (alone u))
 answer_all law u standing r subscripts f (Ok p) is refers at e = λ counts are. answer_current law u u counts r subscripts f (Ok p) is refl refers (at counts are) e
 answer_all law u standing r subscripts f (Err fault) is refers at e = tt
@@ -152,18 +152,18 @@ no_fault f fault there is = by f.within there is
 pub record Lengthy (t : Tree Resolved) (counts : List ℕ) (n : ℕ) : Type 0 where
   pub is : n ≡ sum_of (times counts) (alone t)
   pub least : 0 < n
-  pub most : n ≤ sum_of most (alone t)
+  pub most : n ≤ sum_of greatest_number (alone t)
   pub small : n ≤ 32752
 
 pub length_by : (u : Tree Resolved) (counts : List ℕ) (standing : Standing) (spots : List Spot) (own : Spot) → IsSound u → TakeBytes (alone u) → ArePlaces u counts standing → spots ≡ standing.spots → own ≡ spot_at spots 0
     → Lengthy u counts (own.times * own.length)
 length_by u counts standing spots own s bytes are same is =
-    let first : own ≡ record { offset = begins u.top.redefines 0 0; length = element (times counts) u.top u.beneath; times = times counts u.top } = is ∙ ap (λ (zs : List Spot). spot_at zs 0) (same ∙ are.1) in
+    let first : own ≡ record { offset = begins u.top.redefines 0 0; length = element_length (times counts) u.top u.beneath; times = times counts u.top } = is ∙ ap (λ (zs : List Spot). spot_at zs 0) (same ∙ are.1) in
     let all : own.times * own.length ≡ sum_of (times counts) (alone u) =
-    ap (λ (x : Spot). x.times * x.length) first ∙ length_is counts u (times counts u.top) (element (times counts) u.top u.beneath) s refl refl in
+    ap (λ (x : Spot). x.times * x.length) first ∙ length_is counts u (times counts u.top) (element_length (times counts) u.top u.beneath) s refl refl in
     record {
       is = all;
       least = omega (arith, all, length_some counts u u s bytes refl);
       most = omega (arith, all, sum_le (times counts) (alone u) (within_always counts (alone u)));
-      small = omega (arith, ap (λ (x : Spot). x.times * x.length) first, length_small counts u (times counts u.top) (element (times counts) u.top u.beneath) s refl refl);
+      small = omega (arith, ap (λ (x : Spot). x.times * x.length) first, length_small counts u (times counts u.top) (element_length (times counts) u.top u.beneath) s refl refl);
     }

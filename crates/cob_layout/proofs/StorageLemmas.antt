@@ -2,14 +2,14 @@
 use Rattle.std.proofs.Common.{◌≡◌, ℕ, ◌+◌, ◌≤◌, Bool, true, false, List, [], ◌∷◌, Option, Some, None, refl, sym, ap, ◌∙◌, arith, inl, inr, Ok, Err, Result}
 use Rattle.std.specs.Prelude.{option_map, if◌then◌else◌}
 use Rattle.cob_copybook_tree.specs.Forests.{Tree}
-use Rattle.cob_copybook_tree.specs.Nodes.{Resolved}
+use Rattle.cob_copybook_tree.specs.Nodes.{Resolved, alone}
 use Rattle.cob_copybook_tree.specs.Lengths.{sum_of}
-use Rattle.cob_copybook.specs.Books.{IsRecord}
+use Rattle.cob_copybook.specs.Books.{IsRecordDescription}
 use Rattle.cob_fields.specs.declared.Place.{Place}
 use Rattle.cob_layout_places.specs.declared.places.Found.{Found}
 use Rattle.cob_layout_places.specs.declared.varying.Table.{Table}
-use Rattle.cob_layout_places.specs.Lengths.{alone, times}
-use Rattle.cob_layout_places.specs.Places.{find}
+use Rattle.cob_layout_places.specs.Lengths.{times}
+use Rattle.cob_layout_places.specs.Places.{place_of}
 use Rattle.cob_layout_places.specs.Counts.{tables_of}
 use Rattle.cob_layout_places.specs.References.{Refers}
 use Rattle.cob_layout_places.proofs.ForestLemmas.{sum_le, within_always}
@@ -45,10 +45,10 @@ found_by (Some f) p e =
     (f, refl, there, offset, size)
 
 -- under any counts it lies within as many bytes as these give
-lies : EndInLength → (t : Tree Resolved) (counts : List ℕ) (r : ℕ) (subscripts : List ℕ) (p : Place) → IsRecord (alone t) → Refers r subscripts (alone t)
-    → option_map placed (find (times counts) r (alone t) 0 0 subscripts) ≡ Some (Ok p) → p.offset + p.length ≤ sum_of (times counts) (alone t)
+lies : EndInLength → (t : Tree Resolved) (counts : List ℕ) (r : ℕ) (subscripts : List ℕ) (p : Place) → IsRecordDescription (alone t) → Refers r subscripts (alone t)
+    → option_map placed (place_of (times counts) r (alone t) 0 0 subscripts) ≡ Some (Ok p) → p.offset + p.length ≤ sum_of (times counts) (alone t)
 lies law t counts r subscripts p is refers at =
-    let (f, found, there, offset, size) = found_by (find (times counts) r (alone t) 0 0 subscripts) p at in
+    let (f, found, there, offset, size) = found_by (place_of (times counts) r (alone t) 0 0 subscripts) p at in
     omega (arith, law t counts r subscripts f is refers found there, offset, size)
 
 -- a sender is spared no count
@@ -65,7 +65,7 @@ lie_in_storage law all one t bytes counts r subscripts p is (inl long) refers ne
 lie_in_storage law all one t bytes counts r subscripts p is (inr (c, own, long)) refers needs at =
     let (d, given, same) = all t bytes c r false subscripts [] is refers own (none_spared t r (tables_of (alone t))) in
     let equal : counts ≡ d = ok_is counts d (one t r false bytes (Ok counts) (Ok d) needs given) in
-    let there : option_map placed (find (times c) r (alone t) 0 0 subscripts) ≡ Some (Ok p) =
+    let there : option_map placed (place_of (times c) r (alone t) 0 0 subscripts) ≡ Some (Ok p) =
     ap (λ (o : Option Found). option_map placed o) (sym same)
-    ∙ ap (λ (k : List ℕ). option_map placed (find (times k) r (alone t) 0 0 subscripts)) (sym equal) ∙ at in
+    ∙ ap (λ (k : List ℕ). option_map placed (place_of (times k) r (alone t) 0 0 subscripts)) (sym equal) ∙ at in
     omega (arith, long, lies law t c r subscripts p is refers there)

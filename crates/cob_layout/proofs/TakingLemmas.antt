@@ -3,15 +3,15 @@ use Rattle.std.proofs.Common.{◌≡◌, ℕ, ◌+◌, ◌<◌, ◌≤◌, List,
 use Rattle.std.specs.Prelude.{slice_set, slice_index}
 use Rattle.std.proofs.lemmas.List.{get_or-set_other}
 use Rattle.cob_copybook_tree.specs.Forests.{Tree, entries_in}
-use Rattle.cob_copybook_tree.specs.Nodes.{Resolved}
+use Rattle.cob_copybook_tree.specs.Nodes.{Resolved, alone}
 use Rattle.cob_sound.specs.Sound.{IsSound}
 use Rattle.cob_layout_places.specs.declared.counts.CountFault.{CountFault}
 use Rattle.cob_layout_places.specs.declared.spots.Spot.{Spot}
 use Rattle.cob_layout_places.specs.declared.varying.Table.{Table}
 use Rattle.cob_layout_places.specs.Agree.{OnePlace}
 use Rattle.cob_layout_places.specs.Counts.{tables_of, IsCountable, Taken}
-use Rattle.cob_layout_places.specs.Lengths.{alone, times}
-use Rattle.cob_layout_places.specs.Places.{find_one}
+use Rattle.cob_layout_places.specs.Lengths.{times}
+use Rattle.cob_layout_places.specs.Places.{place_in_entry}
 use Rattle.cob_layout_places.specs.Spots.{spots_of}
 use Rattle.cob_layout.specs.Counting.{greatest_counts, CountsOf}
 use Rattle.cob_layout.specs.Standing.{first_of}
@@ -43,7 +43,7 @@ first_least t xs k d s all lt =
 -- a count before the first table stands at its spot, where the counts before that table are still those of the spots
 pub early_found : OnePlace → (t : Tree Resolved) (xs : List Table) (k : ℕ) (d : Table) (counts old : List ℕ) (spots : List Spot) (first : ℕ) → IsSound t → xs ≡ tables_of (alone t) → k < length xs
     → spots ≡ spots_of (times old) (alone t) 0 0 → ((n : ℕ) → n < first → slice_index counts n ≡ slice_index old n)
-    → (get_or xs k d).count < first → find_one (times counts) (get_or xs k d).count t 0 [] ≡ Some (first_element spots (get_or xs k d).count)
+    → (get_or xs k d).count < first → place_in_entry (times counts) (get_or xs k d).count t 0 [] ≡ Some (first_element spots (get_or xs k d).count)
 early_found place t xs k d counts old spots first s all lt are same early =
     let x = get_or xs k d in
     let own = known t x s (subst (IsIn x) all (in_get xs k d lt)) in

@@ -1,12 +1,11 @@
 -- Those of the tables that are so: in their order, and only they.
 use Rattle.std.proofs.Common.{◌≡◌, ◌⊎◌, ℕ, ◌+◌, ◌<◌, ◌≤◌, Bool, true, false, List, [], ◌∷◌, ◌++◌, refl, sym, ap, subst, ◌∙◌, arith, inl, inr}
 use Rattle.std.specs.List.{AllByRecursion}
-use Rattle.cob_copybook_tree.specs.declared.node.Times.{Times}
-use Rattle.cob_copybook_tree.specs.declared.node.Times.TheVariants.{Once, Fixed, Varying}
-use Rattle.cob_copybook_tree.specs.Forests.{Forest, Bare, Grows, entries_in}
-use Rattle.cob_copybook_tree.specs.Nodes.{Resolved}
+use Rattle.cob_copybook_tree.specs.declared.node.ResolvedOccurs.{ResolvedOccurs}
+use Rattle.cob_copybook_tree.specs.declared.node.ResolvedOccurs.TheVariants.{Once, Fixed, Varying}
+use Rattle.cob_copybook_tree.specs.Forests.{Forest, NoEntries, AnEntry, entries_in}
+use Rattle.cob_copybook_tree.specs.Nodes.{Resolved, alone}
 use Rattle.cob_layout_places.specs.declared.varying.Table.{Table}
-use Rattle.cob_layout_places.specs.Lengths.{alone}
 use Rattle.cob_layout_places.specs.Cover.{AreNumbered}
 use Rattle.cob_layout_places.specs.Counts.{table_of, tables_of, Taken, OneOutcome}
 use Rattle.cob_layout_places.specs.Needs.{keep}
@@ -102,19 +101,19 @@ rise_append : (n m k : ℕ) (xs ys : List Table) → Rise n m xs → Rise m k ys
 rise_append n m k [] ys h r = rise_from n m k ys h r
 rise_append n m k (x ∷ xs) ys h r = (h.0, rise_append (x.number + 1) m k xs ys h.1 r)
 
-rise_one : (o : Times) (number n : ℕ) → number ≡ n → Rise n (n + 1) (table_of o number)
+rise_one : (o : ResolvedOccurs) (number n : ℕ) → number ≡ n → Rise n (n + 1) (table_of o number)
 rise_one Once number n e = omega arith
 rise_one (Fixed k) number n e = omega arith
 rise_one (Varying least most count) number n e = (omega (arith, e), omega (arith, e))
 
 pub rise_all : (f : Forest Resolved) (n m : ℕ) → AreNumbered n f → n + entries_in f ≡ m → Rise n m (tables_of f)
-rise_all Bare n m h e = omega (arith, e)
-rise_all (Grows e kids more) n m h is =
-    let behind = n + 1 + entries_in kids in
-    let below = rise_all kids (n + 1) behind h.1 refl in
+rise_all NoEntries n m h e = omega (arith, e)
+rise_all (AnEntry e children more) n m h is =
+    let behind = n + 1 + entries_in children in
+    let below = rise_all children (n + 1) behind h.1 refl in
     let beside = rise_all more behind m h.2 (omega (arith, is)) in
-    rise_append n (n + 1) m (table_of e.occurs e.number) (tables_of kids ++ tables_of more) (rise_one e.occurs e.number n h.0)
-    (rise_append (n + 1) behind m (tables_of kids) (tables_of more) below beside)
+    rise_append n (n + 1) m (table_of e.occurs e.number) (tables_of children ++ tables_of more) (rise_one e.occurs e.number n h.0)
+    (rise_append (n + 1) behind m (tables_of children) (tables_of more) below beside)
 
 pub rise_those : (P : Table → Type 0) (n m : ℕ) (xs ys : List Table) → AreThose P xs ys → Rise n m xs → Rise n m ys
 rise_those P n m [] ys h r = subst (Rise n m) (sym h) r

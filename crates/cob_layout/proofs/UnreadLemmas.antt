@@ -2,14 +2,14 @@
 use Rattle.std.proofs.Common.{◌≡◌, ℕ, ◌<◌, ◌==◌, Bool, true, false, List, [], ◌∷◌, Option, Some, None, refl, sym, subst, arith, inl, inr, Ok, Err, Result}
 use Rattle.cob_copybook_tree.specs.declared.node.Kind.{Kind}
 use Rattle.cob_copybook_tree.specs.declared.node.Kind.TheVariants.{Item as ItemKind}
-use Rattle.cob_copybook_tree.specs.Forests.{Forest, Bare, Grows, Tree}
-use Rattle.cob_copybook_tree.specs.Nodes.{Resolved}
+use Rattle.cob_copybook_tree.specs.Forests.{Forest, NoEntries, AnEntry, Tree}
+use Rattle.cob_copybook_tree.specs.Nodes.{Resolved, alone}
 use Rattle.cob_copybook_tree.specs.Lengths.{item_size}
 use Rattle.cob_copybook.specs.Bytes.{TakesByte, TakeBytes}
 use Rattle.cob_layout_places.specs.declared.counts.CountFault.{CountFault}
 use Rattle.cob_layout_places.specs.declared.varying.Table.{Table}
-use Rattle.cob_layout_places.specs.Lengths.{alone, times}
-use Rattle.cob_layout_places.specs.Places.{find_one, or_else, choose}
+use Rattle.cob_layout_places.specs.Lengths.{times}
+use Rattle.cob_layout_places.specs.Places.{place_in_entry, or_else, choose}
 use Rattle.cob_layout_places.specs.Counts.{kind_in, kind_one, tables_of, IsCounted, Taken}
 use Rattle.cob_layout_places.proofs.CountLemmas.{found_size, pairs_one}
 use Rattle.cob_layout.specs.Counting.{greatest_counts, AreThose, IsRead, NeededOf, ReadsNone}
@@ -26,10 +26,10 @@ takes_choose true q o k s h e = let same : q ≡ k = cc in subst TakesByte same 
 takes_choose false q o k s h e = h k e
 
 takes_in : (number : ℕ) (f : Forest Resolved) → TakeBytes f → (k : Kind) → kind_in number f ≡ Some k → TakesByte k
-takes_in number Bare s k e = cc
-takes_in number (Grows e kids more) s k is =
-    takes_or (choose (e.number == number) e.kind (kind_in number kids)) (kind_in number more) k
-    (λ q. takes_choose (e.number == number) e.kind (kind_in number kids) q s.0 (takes_in number kids s.1))
+takes_in number NoEntries s k e = cc
+takes_in number (AnEntry e children more) s k is =
+    takes_or (choose (e.number == number) e.kind (kind_in number children)) (kind_in number more) k
+    (λ q. takes_choose (e.number == number) e.kind (kind_in number children) q s.0 (takes_in number children s.1))
     (takes_in number more s.2) is
 
 takes : (number : ℕ) (t : Tree Resolved) → TakeBytes (alone t) → (k : Kind) → kind_one number t ≡ Some k → TakesByte k
@@ -40,7 +40,7 @@ takes number t s k is = takes_choose (t.top.number == number) t.top.kind (kind_i
 uncounted : (t : Tree Resolved) (x : Table) (c : List ℕ) (v : ℕ) → TakeBytes (alone t) → IsCounted t [] x c (Ok v) → ⊥
 uncounted t x c v bytes h =
     let size : h.found.length ≡ item_size h.item =
-    found_size (kind_one x.count t) (find_one (times c) x.count t 0 []) h.item h.found (pairs_one (times c) x.count t 0 []) h.is h.stands in
+    found_size (kind_one x.count t) (place_in_entry (times c) x.count t 0 []) h.item h.found (pairs_one (times c) x.count t 0 []) h.is h.stands in
     let some : 0 < item_size h.item = takes x.count t bytes (ItemKind h.item) h.is in
     omega (arith, size, some, h.says.0)
 

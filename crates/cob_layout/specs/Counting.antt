@@ -1,14 +1,14 @@
 -- The counts of a record.
 use Rattle.std.specs.Prelude.{◌≡◌, ◌⊎◌, ℕ, Bool, true, List, [], ◌∷◌, ◌++◌, Result, replicate}
-use Rattle.cob_copybook_tree.specs.declared.node.Times.{Times}
-use Rattle.cob_copybook_tree.specs.declared.node.Times.TheVariants.{Once, Fixed, Varying}
-use Rattle.cob_copybook_tree.specs.Forests.{Forest, Bare, Grows, Tree, entries_in}
-use Rattle.cob_copybook_tree.specs.Nodes.{Resolved}
-use Rattle.cob_copybook_tree.specs.Lengths.{most, sum_of}
+use Rattle.cob_copybook_tree.specs.declared.node.ResolvedOccurs.{ResolvedOccurs}
+use Rattle.cob_copybook_tree.specs.declared.node.ResolvedOccurs.TheVariants.{Once, Fixed, Varying}
+use Rattle.cob_copybook_tree.specs.Forests.{Forest, NoEntries, AnEntry, Tree, entries_in}
+use Rattle.cob_copybook_tree.specs.Nodes.{Resolved, alone}
+use Rattle.cob_copybook_tree.specs.Lengths.{greatest_number, sum_of}
 use Rattle.cob_layout_places.specs.declared.counts.CountFault.{CountFault}
 use Rattle.cob_layout_places.specs.declared.varying.Table.{Table}
-use Rattle.cob_layout_places.specs.Lengths.{alone, times}
-use Rattle.cob_layout_places.specs.Places.{find}
+use Rattle.cob_layout_places.specs.Lengths.{times}
+use Rattle.cob_layout_places.specs.Places.{place_of}
 use Rattle.cob_layout_places.specs.Counts.{tables_of, Taken}
 use Rattle.cob_layout_places.specs.Needs.{greatest, IsSpared, Needs}
 
@@ -17,15 +17,15 @@ abbrev pub greatest_counts : Tree Resolved → List ℕ
 greatest_counts t = greatest (tables_of (alone t)) (replicate (entries_in (alone t)) 0)
 
 -- the greatest count of an entry, and 0 where it doesn't vary
-abbrev pub varying : Times → ℕ
+abbrev pub varying : ResolvedOccurs → ℕ
 varying Once = 0
 varying (Fixed n) = 0
 varying (Varying least most count) = most
 
 -- the same of entries, in their order
 abbrev pub in_order : Forest Resolved → List ℕ
-in_order Bare = []
-in_order (Grows e kids more) = varying e.occurs ∷ (in_order kids ++ in_order more)
+in_order NoEntries = []
+in_order (AnEntry e children more) = varying e.occurs ∷ (in_order children ++ in_order more)
 
 -- The counts of a storage: those that its bytes give to all tables that vary, one behind another, or the fault of the first that gives none.
 abbrev pub CountsOf : Tree Resolved → List ℕ → Result (List ℕ) CountFault → Type 0
@@ -60,5 +60,5 @@ ReadsNone t r receiving = AreThose (IsRead t r receiving) (tables_of (alone t)) 
 
 -- under these counts each entry occurs as often as at most: the lengths and places are the greatest ones
 pub record AreGreatest (t : Tree Resolved) (counts : List ℕ) : Type 0 where
-  pub length : sum_of (times counts) (alone t) ≡ sum_of most (alone t)
-  pub places : (number : ℕ) (subscripts : List ℕ) → find (times counts) number (alone t) 0 0 subscripts ≡ find most number (alone t) 0 0 subscripts
+  pub length : sum_of (times counts) (alone t) ≡ sum_of greatest_number (alone t)
+  pub places : (number : ℕ) (subscripts : List ℕ) → place_of (times counts) number (alone t) 0 0 subscripts ≡ place_of greatest_number number (alone t) 0 0 subscripts

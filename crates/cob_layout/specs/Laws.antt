@@ -1,18 +1,18 @@
 -- What follows from the definitions for every record.
 use Rattle.std.specs.Prelude.{◌≡◌, ◌⊎◌, ℕ, ◌+◌, ◌≤◌, Bool, true, false, List, length, Option, Some, None, Ok, Result, option_map}
-use Rattle.cob_copybook_tree.specs.Forests.{Forest, Bare, Grows, Tree}
-use Rattle.cob_copybook_tree.specs.Nodes.{Resolved}
+use Rattle.cob_copybook_tree.specs.Forests.{Forest, NoEntries, AnEntry, Tree}
+use Rattle.cob_copybook_tree.specs.Nodes.{Resolved, alone}
 use Rattle.cob_copybook_tree.specs.Lengths.{sum_of}
-use Rattle.cob_copybook.specs.Books.{IsRecord}
+use Rattle.cob_copybook.specs.Books.{IsRecordDescription}
 use Rattle.cob_layout_places.specs.declared.counts.CountFault.{CountFault}
 use Rattle.cob_fields.specs.declared.Place.{Place}
 use Rattle.cob_layout_places.specs.declared.places.Found.{Found}
 use Rattle.cob_layout_places.specs.declared.varying.Table.{Table}
-use Rattle.cob_layout_places.specs.Lengths.{alone, times}
-use Rattle.cob_layout_places.specs.Places.{find}
+use Rattle.cob_layout_places.specs.Lengths.{times}
+use Rattle.cob_layout_places.specs.Places.{place_of}
 use Rattle.cob_layout_places.specs.Counts.{tables_of}
 use Rattle.cob_layout_places.specs.Needs.{greatest}
-use Rattle.cob_layout_places.specs.Agree.{DoAgree}
+use Rattle.cob_layout_places.specs.Agree.{AgreeOnCounts}
 use Rattle.cob_limits.specs.Limits.{most_dimensions}
 use Rattle.cob_layout_places.specs.References.{Refers}
 use Rattle.cob_layout.specs.Placed.{placed}
@@ -22,35 +22,35 @@ use Rattle.cob_layout.specs.Storage.{IsStorage}
 -- a legal reference has no more subscripts than a `Ref` has room for
 abbrev pub FitsRef : Type 0
 FitsRef = (t : Tree Resolved) (r : ℕ) (subscripts : List ℕ)
-    → IsRecord (alone t) → Refers r subscripts (alone t) → length subscripts ≤ most_dimensions
+    → IsRecordDescription (alone t) → Refers r subscripts (alone t) → length subscripts ≤ most_dimensions
 
 -- an element that is there ends within the record's length under the same counts
 abbrev pub EndInLength : Type 0
 EndInLength = (t : Tree Resolved) (counts : List ℕ) (r : ℕ) (subscripts : List ℕ) (found : Found)
-    → IsRecord (alone t) → Refers r subscripts (alone t)
-    → find (times counts) r (alone t) 0 0 subscripts ≡ Some found → found.within ≡ true
+    → IsRecordDescription (alone t) → Refers r subscripts (alone t)
+    → place_of (times counts) r (alone t) 0 0 subscripts ≡ Some found → found.within ≡ true
     → found.offset + found.length ≤ sum_of (times counts) (alone t)
 
 -- a place that a sender finds in a record's bytes, under the counts that it needs there, lies within these bytes
 abbrev pub LieInStorage : Type 0
 LieInStorage = (t : Tree Resolved) (bytes counts : List ℕ) (r : ℕ) (subscripts : List ℕ) (p : Place)
-    → IsRecord (alone t) → IsStorage t bytes → Refers r subscripts (alone t)
+    → IsRecordDescription (alone t) → IsStorage t bytes → Refers r subscripts (alone t)
     → NeededOf t r false bytes (Ok counts)
-    → option_map placed (find (times counts) r (alone t) 0 0 subscripts) ≡ Some (Ok p)
+    → option_map placed (place_of (times counts) r (alone t) 0 0 subscripts) ≡ Some (Ok p)
     → p.offset + p.length ≤ length bytes
 
 -- the entry r is one of these, and all of them before it redefine an area, as it does
 abbrev pub IsBehind : ℕ → Forest Resolved → Type 0
-IsBehind r Bare = ⊥
-IsBehind r (Grows e kids more) =
+IsBehind r NoEntries = ⊥
+IsBehind r (AnEntry e children more) =
     ((name : List ℕ) × (e.redefines ≡ Some name)) × ((e.number ≡ r) ⊎ IsBehind r more)
 
 -- The entry r redefines the area that the entry a began: it stands behind a in the same group, a redefines nothing, and no entry between them
 -- defines new storage.
-abbrev pub Redefines : ℕ → ℕ → Forest Resolved → Type 0
-Redefines r a Bare = ⊥
-Redefines r a (Grows e kids more) =
-    ((e.number ≡ a) × (e.redefines ≡ None) × IsBehind r more) ⊎ (Redefines r a kids ⊎ Redefines r a more)
+abbrev pub IsRedefinitionOf : ℕ → ℕ → Forest Resolved → Type 0
+IsRedefinitionOf r a NoEntries = ⊥
+IsRedefinitionOf r a (AnEntry e children more) =
+    ((e.number ≡ a) × (e.redefines ≡ None) × IsBehind r more) ⊎ (IsRedefinitionOf r a children ⊎ IsRedefinitionOf r a more)
 
 -- where an element begins
 abbrev pub offset_of : Option Found → Option ℕ
@@ -59,9 +59,9 @@ offset_of found = option_map (λ f. f.offset) found
 -- a redefining entry begins where the entry that began the area begins: its first element, where it is a table
 abbrev pub BeginWithArea : Type 0
 BeginWithArea = (t : Tree Resolved) (counts : List ℕ) (r a : ℕ) (subscripts : List ℕ)
-    → IsRecord (alone t) → Redefines r a (alone t) → Refers a subscripts (alone t)
-    → offset_of (find (times counts) r (alone t) 0 0 subscripts)
-    ≡ offset_of (find (times counts) a (alone t) 0 0 subscripts)
+    → IsRecordDescription (alone t) → IsRedefinitionOf r a (alone t) → Refers a subscripts (alone t)
+    → offset_of (place_of (times counts) r (alone t) 0 0 subscripts)
+    ≡ offset_of (place_of (times counts) a (alone t) 0 0 subscripts)
 
 -- the bytes of a storage say one thing of all counts
 abbrev pub OneOfAll : Type 0
@@ -77,20 +77,20 @@ OneOfNeeded = (t : Tree Resolved) (r : ℕ) (receiving : Bool) (bytes : List ℕ
 -- tables that it is spared, which have their greatest number.
 abbrev pub AllGiveNeeded : Type 0
 AllGiveNeeded = (t : Tree Resolved) (bytes c : List ℕ) (r : ℕ) (receiving : Bool) (subscripts : List ℕ)
-    (spared : List Table) → IsRecord (alone t) → Refers r subscripts (alone t) → CountsOf t bytes (Ok c)
+    (spared : List Table) → IsRecordDescription (alone t) → Refers r subscripts (alone t) → CountsOf t bytes (Ok c)
     → AreThose (IsSparedOf t r receiving) (tables_of (alone t)) spared
     → (d : List ℕ) × NeededOf t r receiving bytes (Ok d)
-    × (find (times d) r (alone t) 0 0 subscripts
-    ≡ find (times (greatest spared c)) r (alone t) 0 0 subscripts)
+    × (place_of (times d) r (alone t) 0 0 subscripts
+    ≡ place_of (times (greatest spared c)) r (alone t) 0 0 subscripts)
 
 -- Storages of one length that have the same bytes where the counts stand that a reference reads give it one place: whether all counts of a storage
 -- are taken, but for those that it is spared, or only those that are needed.
 abbrev pub OnePlaceByNeeds : Type 0
 OnePlaceByNeeds = (t : Tree Resolved) (a b c d : List ℕ) (r : ℕ) (receiving : Bool) (subscripts : List ℕ)
-    (read spared : List Table) → IsRecord (alone t) → Refers r subscripts (alone t) → length a ≡ length b
+    (read spared : List Table) → IsRecordDescription (alone t) → Refers r subscripts (alone t) → length a ≡ length b
     → AreThose (IsRead t r receiving) (tables_of (alone t)) read
     → AreThose (IsSparedOf t r receiving) (tables_of (alone t)) spared
-    → DoAgree t a b read (greatest_counts t)
+    → AgreeOnCounts t a b read (greatest_counts t)
     → CountsOf t a (Ok c) → NeededOf t r receiving b (Ok d)
-    → find (times (greatest spared c)) r (alone t) 0 0 subscripts
-    ≡ find (times d) r (alone t) 0 0 subscripts
+    → place_of (times (greatest spared c)) r (alone t) 0 0 subscripts
+    ≡ place_of (times d) r (alone t) 0 0 subscripts

@@ -1,12 +1,12 @@
 -- The counts of a record's tables, and where its entries stand under them.
 use Rattle.std.specs.Prelude.{◌≡◌, ◌⊎◌, ◌&&◌, nat_lt, ℕ, ◌+◌, ◌≤◌, Bool, true, false, List, [], ◌∷◌, length, Ok}
 use Rattle.cob_copybook_tree.specs.Forests.{Tree, entries_in}
-use Rattle.cob_copybook_tree.specs.Nodes.{Resolved}
+use Rattle.cob_copybook_tree.specs.Nodes.{Resolved, alone}
 use Rattle.cob_fields.specs.declared.Place.{Place}
 use Rattle.cob_fields.specs.Fields.{with_field}
 use Rattle.cob_layout_places.specs.declared.spots.Spot.{Spot}
 use Rattle.cob_layout_places.specs.declared.varying.Table.{Table}
-use Rattle.cob_layout_places.specs.Lengths.{alone, times}
+use Rattle.cob_layout_places.specs.Lengths.{times}
 use Rattle.cob_layout_places.specs.Spots.{spots_of}
 use Rattle.cob_layout_places.specs.Counts.{tables_of}
 use Rattle.cob_layout.specs.Counting.{AreThose, CountsOf, IsSparedOf}
@@ -29,8 +29,8 @@ abbrev pub ArePlaces : Tree Resolved → List ℕ → Standing → Type 0
 ArePlaces t counts s = (s.counts ≡ counts) × (s.spots ≡ spots_of (times counts) (alone t) 0 0)
 
 -- so it is under some counts
-abbrev pub Stands : Tree Resolved → Standing → Type 0
-Stands t s = (counts : List ℕ) × ArePlaces t counts s
+abbrev pub AreSomePlaces : Tree Resolved → Standing → Type 0
+AreSomePlaces t s = (counts : List ℕ) × ArePlaces t counts s
 
 -- so it is under the counts that the bytes of a storage give
 abbrev pub StandsIn : Tree Resolved → List ℕ → Standing → Type 0

@@ -1,14 +1,14 @@
 -- The bytes of a record: all of its storage, or its current part.
 use Rattle.std.specs.Prelude.{◌≡◌, ◌⊎◌, ℕ, List, length, take, Ok}
 use Rattle.cob_copybook_tree.specs.Forests.{Tree}
-use Rattle.cob_copybook_tree.specs.Nodes.{Resolved}
-use Rattle.cob_copybook_tree.specs.Lengths.{most, sum_of}
-use Rattle.cob_layout_places.specs.Lengths.{alone, times}
+use Rattle.cob_copybook_tree.specs.Nodes.{Resolved, alone}
+use Rattle.cob_copybook_tree.specs.Lengths.{greatest_number, sum_of}
+use Rattle.cob_layout_places.specs.Lengths.{times}
 use Rattle.cob_layout.specs.Counting.{CountsOf}
 
 -- how many bytes a record has at most
 abbrev pub greatest_length : Tree Resolved → ℕ
-greatest_length t = sum_of most (alone t)
+greatest_length t = sum_of greatest_number (alone t)
 
 -- how many bytes a record has under counts
 abbrev pub current_length : List ℕ → Tree Resolved → ℕ

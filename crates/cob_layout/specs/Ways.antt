@@ -1,15 +1,15 @@
 -- What is known of the entries of a record whatever the counts, and how subscripts move the first element of an entry.
 use Rattle.std.specs.Prelude.{ℕ, ◌+◌, ◌-◌, ◌*◌, ◌&&◌, nat_le, true, List, [], ◌∷◌, ◌++◌, slice_index_or}
-use Rattle.cob_copybook_tree.specs.declared.node.Times.{Times}
-use Rattle.cob_copybook_tree.specs.declared.node.Times.TheVariants.{Once, Fixed, Varying}
-use Rattle.cob_copybook_tree.specs.Forests.{Forest, Bare, Grows, entries_in}
+use Rattle.cob_copybook_tree.specs.declared.node.ResolvedOccurs.{ResolvedOccurs}
+use Rattle.cob_copybook_tree.specs.declared.node.ResolvedOccurs.TheVariants.{Once, Fixed, Varying}
+use Rattle.cob_copybook_tree.specs.Forests.{Forest, NoEntries, AnEntry, entries_in}
 use Rattle.cob_copybook_tree.specs.Nodes.{Resolved}
 use Rattle.cob_layout_places.specs.declared.places.Found.{Found}
 use Rattle.cob_layout_places.specs.declared.spots.Spot.{Spot}
 use Rattle.cob_layout.specs.declared.ways.Way.{Way}
 
 -- the number of an entry that is a table
-abbrev pub own_table : Times → ℕ → List ℕ
+abbrev pub own_table : ResolvedOccurs → ℕ → List ℕ
 own_table Once number = []
 own_table (Fixed n) number = number ∷ []
 own_table (Varying least most count) number = number ∷ []
@@ -21,10 +21,10 @@ pub record Held : Type 0 where
 
 -- this of each entry, in their order, where these tables hold them all
 abbrev pub held_in : List ℕ → Forest Resolved → List Held
-held_in over Bare = []
-held_in over (Grows e kids more) =
+held_in over NoEntries = []
+held_in over (AnEntry e children more) =
     let own = over ++ own_table e.occurs e.number in
-    record { tables = own; end = e.number + 1 + entries_in kids } ∷ (held_in own kids ++ held_in over more)
+    record { tables = own; end = e.number + 1 + entries_in children } ∷ (held_in own children ++ held_in over more)
 
 -- this of an entry, as it is kept
 abbrev pub held : Way → Held

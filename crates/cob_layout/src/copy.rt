@@ -1,9 +1,8 @@
 //! Copies of trees.
 
 ghost use Rattle.std.specs.Prelude.{◌≡◌, IfOk};
-ghost use Rattle.cob_copybook_tree.specs.Nodes.{forest, node, resolved_entry};
+ghost use Rattle.cob_copybook_tree.specs.Nodes.{forest, node, resolved_entry, alone};
 ghost use Rattle.cob_copybook_tree.specs.declared.node.Node.TheViews.{out-Node};
-ghost use Rattle.cob_layout_places.specs.Lengths.{alone};
 ghost use Rattle.cob_copybook.specs.Bytes.{TakesByte, TakeBytes};
 
 use cob_copybook_tree::{Item, Kind, Node};

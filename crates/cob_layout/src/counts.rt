@@ -1,11 +1,10 @@
 //! The counts of the tables of a record.
 
 ghost use Rattle.std.specs.Prelude.{◌≡◌, ◌++◌, [], ◌∷◌, IfOk};
-ghost use Rattle.cob_copybook_tree.specs.Nodes.{node};
-ghost use Rattle.cob_layout_places.specs.Lengths.{alone};
+ghost use Rattle.cob_copybook_tree.specs.Nodes.{node, alone};
 ghost use Rattle.cob_layout.specs.Counting.{in_order, varying};
 
-use cob_copybook_tree::{Node, Times};
+use cob_copybook_tree::{Node, ResolvedOccurs};
 use std::alloc::{AllocError, Global};
 use std::marker::Model;
 
@@ -54,12 +53,12 @@ impl Counts {
 }
 
 /// The greatest count of an entry: 0 for one that doesn't vary.
-fn greatest_count(occurs: Times) -> u32
+fn greatest_count(occurs: ResolvedOccurs) -> u32
     ensures { result ≡ varying occurs }
 {
     match occurs {
-        Times::Varying { most, .. } => most,
-        Times::Once | Times::Fixed(_) => 0,
+        ResolvedOccurs::Varying { most, .. } => most,
+        ResolvedOccurs::Once | ResolvedOccurs::Fixed(_) => 0,
     }
 }
 

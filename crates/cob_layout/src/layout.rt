@@ -1,12 +1,13 @@
 //! Layouts.
 
 ghost use Rattle.std.specs.Prelude.{◌≡◌, ◌<◌, ◌≤◌, ◌+◌, length, Ok, Err, Some, OnOk, IfNone, IfOk, IfErr, IfSome, IsFalse, IsTrue, OnErr, option_map};
+ghost use Rattle.cob_copybook_tree.specs.Nodes.{alone};
 ghost use Rattle.cob_copybook_tree.specs.Forests.{entries_in};
-ghost use Rattle.cob_copybook_tree.specs.Lengths.{most, sum_of};
+ghost use Rattle.cob_copybook_tree.specs.Lengths.{greatest_number, sum_of};
 ghost use Rattle.cob_limits.specs.Limits.{longest_record};
-ghost use Rattle.cob_copybook.specs.Books.{IsRecord};
-ghost use Rattle.cob_layout_places.specs.Lengths.{alone, times};
-ghost use Rattle.cob_layout_places.specs.Places.{find};
+ghost use Rattle.cob_copybook.specs.Books.{IsRecordDescription};
+ghost use Rattle.cob_layout_places.specs.Lengths.{times};
+ghost use Rattle.cob_layout_places.specs.Places.{place_of};
 ghost use Rattle.cob_layout_places.specs.Cover.{IsCovered};
 ghost use Rattle.cob_copybook.specs.Bytes.{TakeBytes};
 ghost use Rattle.cob_layout_places.specs.References.{Refers};
@@ -54,10 +55,10 @@ pub struct Layout {
 impl Model for Layout {
     ghost use Rattle.std.specs.Prelude.{◌≡◌, [], map};
     ghost use Rattle.cob_copybook_tree.specs.Forests.{Tree};
-    ghost use Rattle.cob_copybook_tree.specs.Nodes.{Resolved, node};
-    ghost use Rattle.cob_copybook_tree.specs.Lengths.{most, sum_of};
-    ghost use Rattle.cob_copybook.specs.Books.{IsRecord};
-    ghost use Rattle.cob_layout_places.specs.Lengths.{alone, times};
+    ghost use Rattle.cob_copybook_tree.specs.Nodes.{Resolved, node, alone};
+    ghost use Rattle.cob_copybook_tree.specs.Lengths.{greatest_number, sum_of};
+    ghost use Rattle.cob_copybook.specs.Books.{IsRecordDescription};
+    ghost use Rattle.cob_layout_places.specs.Lengths.{times};
     ghost use Rattle.cob_layout_places.specs.Counts.{tables_of};
     ghost use Rattle.cob_layout_places.specs.Spots.{spots_of};
     ghost use Rattle.cob_layout.specs.Ways.{held, held_in};
@@ -73,7 +74,7 @@ impl Model for Layout {
 
     ghost view = { λ l. node l.root };
 
-    ghost invariant = { λ l. IsRecord (alone (node l.root)) × IsSound (node l.root) × (l.tables.items ≡ tables_of (alone (node l.root))) × (l.counts ≡ greatest_counts (node l.root)) × (l.greatest ≡ sum_of most (alone (node l.root))) × TakeBytes (alone (node l.root)) × (map held l.ways.items ≡ held_in [] (alone (node l.root))) × (l.spots.items ≡ spots_of (times (greatest_counts (node l.root))) (alone (node l.root)) 0 0) };
+    ghost invariant = { λ l. IsRecordDescription (alone (node l.root)) × IsSound (node l.root) × (l.tables.items ≡ tables_of (alone (node l.root))) × (l.counts ≡ greatest_counts (node l.root)) × (l.greatest ≡ sum_of greatest_number (alone (node l.root))) × TakeBytes (alone (node l.root)) × (map held l.ways.items ≡ held_in [] (alone (node l.root))) × (l.spots.items ≡ spots_of (times (greatest_counts (node l.root))) (alone (node l.root)) 0 0) };
 }
 
 /// The place of an element, or the fault where it isn't one of those that there are.
@@ -122,10 +123,10 @@ impl Layout {
 
     /// The record's greatest length in bytes: 1 to 32,752.
     pub fn greatest(&self) -> u16
-        ensures value { result ≡ sum_of most (alone self.now) }
+        ensures value { result ≡ sum_of greatest_number (alone self.now) }
         ensures least { 0 < result }
         ensures most { result ≤ longest_record }
-        ensures record { IsRecord (alone self.now) }
+        ensures record { IsRecordDescription (alone self.now) }
         // Each item takes a byte at least.
         ensures bytes { TakeBytes (alone self.now) }
     {
@@ -157,7 +158,7 @@ impl Layout {
     pub fn length(&self, counts: &Counts) -> u16
         ensures value { result ≡ sum_of (times counts.now) (alone self.now) }
         ensures least { 0 < result }
-        ensures most { result ≤ sum_of most (alone self.now) }
+        ensures most { result ≤ sum_of greatest_number (alone self.now) }
         // Each byte of the record is in the place of exactly one occurrence of an item that stands in no redefinition.
         ensures covered { IsCovered (times counts.now) (alone self.now) }
     {
@@ -193,12 +194,13 @@ impl Layout {
     /// A subscript is past the number of elements that its table has under these counts.
     pub fn place(&self, r: &Ref, counts: &Counts) -> Result<Place, PlaceFault>
         requires refers { Refers r.now.node r.now.subscripts.items (alone self.now) }
-        ensures value { option_map placed (find (times counts.now) r.now.node
+        ensures value { option_map placed (place_of (times counts.now) r.now.node
             (alone self.now) 0 0 r.now.subscripts.items) ≡ Some result }
         // An element that is there ends within the record's length under the same counts.
         ensures current { IfOk result
             (λ p. p.offset + p.length ≤ sum_of (times counts.now) (alone self.now)) }
-        ensures fits { IfOk result (λ p. p.offset + p.length ≤ sum_of most (alone self.now)) }
+        ensures fits { IfOk result (λ p. p.offset + p.length ≤
+            sum_of greatest_number (alone self.now)) }
     {
         places_end_in_record();
         places_end_in_length();

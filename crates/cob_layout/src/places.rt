@@ -1,15 +1,16 @@
 //! The places of a record: the counts of its tables, and where its entries stand under them.
 
 ghost use Rattle.std.specs.Prelude.{◌≡◌, ◌<◌, ◌≤◌, ◌+◌, ℕ, List, Ok, Err, Some, OnOk, IfOk, IfErr, IfNone, IfSome, IsFalse, IsTrue, option_map};
-ghost use Rattle.cob_copybook_tree.specs.Lengths.{most, sum_of};
-ghost use Rattle.cob_layout_places.specs.Lengths.{alone, times};
-ghost use Rattle.cob_layout_places.specs.Places.{find};
+ghost use Rattle.cob_copybook_tree.specs.Nodes.{alone};
+ghost use Rattle.cob_copybook_tree.specs.Lengths.{greatest_number, sum_of};
+ghost use Rattle.cob_layout_places.specs.Lengths.{times};
+ghost use Rattle.cob_layout_places.specs.Places.{place_of};
 ghost use Rattle.cob_layout_places.specs.Needs.{Has};
 ghost use Rattle.cob_layout_places.specs.References.{Refers};
 ghost use Rattle.cob_layout_places.specs.Spots.{spots_of};
 ghost use Rattle.cob_layout.specs.Placed.{placed};
 ghost use Rattle.cob_layout.specs.Counting.{greatest_counts, CountsOf, ReadsNone};
-ghost use Rattle.cob_layout.specs.Standing.{ArePlaces, IsRoomFor, KeepsCounts, SparesNone, Stands, StandsIn};
+ghost use Rattle.cob_layout.specs.Standing.{ArePlaces, IsRoomFor, KeepsCounts, SparesNone, AreSomePlaces, StandsIn};
 
 use crate::laws::places_end_in_length;
 use crate::layout::{Layout, PlaceFault, placed};
@@ -50,7 +51,7 @@ impl Layout {
         requires spots { (counts : List ℕ)
             × (spots.now ≡ spots_of (times counts) (alone self.now) 0 0) }
         ensures { (counts : List ℕ) → spots.now ≡ spots_of (times counts) (alone self.now) 0 0
-            → find (times counts) r.now.node (alone self.now) 0 0 r.now.subscripts.items
+            → place_of (times counts) r.now.node (alone self.now) 0 0 r.now.subscripts.items
             ≡ Some result }
     {
         places_end_in_record();
@@ -119,14 +120,15 @@ impl Layout {
     /// A subscript is past the number of elements that its table has under these counts.
     pub fn place_in(&self, r: &Ref, places: &Places) -> Result<Place, PlaceFault>
         requires refers { Refers r.now.node r.now.subscripts.items (alone self.now) }
-        requires stands { Stands self.now places.now }
+        requires stands { AreSomePlaces self.now places.now }
         ensures value { (counts : List ℕ) → ArePlaces self.now counts places.now
-            → option_map placed (find (times counts) r.now.node (alone self.now) 0 0
+            → option_map placed (place_of (times counts) r.now.node (alone self.now) 0 0
             r.now.subscripts.items) ≡ Some result }
         // An element that is there ends within the record's length under the same counts.
         ensures current { IfOk result (λ p. (counts : List ℕ) → ArePlaces self.now counts places.now
             → p.offset + p.length ≤ sum_of (times counts) (alone self.now)) }
-        ensures fits { IfOk result (λ p. p.offset + p.length ≤ sum_of most (alone self.now)) }
+        ensures fits { IfOk result (λ p. p.offset + p.length ≤
+            sum_of greatest_number (alone self.now)) }
     {
         places_end_in_length();
         let _ = self.greatest();
@@ -135,11 +137,11 @@ impl Layout {
 
     /// The record's length in bytes under the counts of these places.
     pub fn length_in(&self, places: &Places) -> u16
-        requires stands { Stands self.now places.now }
+        requires stands { AreSomePlaces self.now places.now }
         ensures value { (counts : List ℕ) → ArePlaces self.now counts places.now
             → result ≡ sum_of (times counts) (alone self.now) }
         ensures least { 0 < result }
-        ensures most { result ≤ sum_of most (alone self.now) }
+        ensures most { result ≤ sum_of greatest_number (alone self.now) }
     {
         records_are_sound();
         let _ = self.greatest();
@@ -151,9 +153,10 @@ impl Layout {
     pub fn fixed_place(&self, r: &Ref, receiving: bool) -> Option<Place>
         requires refers { Refers r.now.node r.now.subscripts.items (alone self.now) }
         ensures fixed { IfSome result (λ p. ReadsNone self.now r.now.node receiving) }
-        ensures value { IfSome result (λ p. option_map placed (find (times (greatest_counts
+        ensures value { IfSome result (λ p. option_map placed (place_of (times (greatest_counts
             self.now)) r.now.node (alone self.now) 0 0 r.now.subscripts.items) ≡ Some (Ok p)) }
-        ensures fits { IfSome result (λ p. p.offset + p.length ≤ sum_of most (alone self.now)) }
+        ensures fits { IfSome result (λ p. p.offset + p.length ≤
+            sum_of greatest_number (alone self.now)) }
         ensures none { IfNone result (ReadsNone self.now r.now.node receiving → ⊥) }
     {
         places_end_in_length();

@@ -2,9 +2,9 @@
 
 ghost use Rattle.std.specs.Prelude.{◌≡◌, ◌+◌, ◌-◌, ◌*◌, ◌≤◌, ◌&&◌, nat_le, length, drop, IfOk};
 ghost use Rattle.cob_copybook_tree.specs.Forests.{entries_in};
-ghost use Rattle.cob_copybook_tree.specs.Nodes.{node};
+ghost use Rattle.cob_copybook_tree.specs.Nodes.{node, alone};
 ghost use Rattle.cob_limits.specs.Limits.{longest_record};
-ghost use Rattle.cob_layout_places.specs.Lengths.{alone, times, IsFit};
+ghost use Rattle.cob_layout_places.specs.Lengths.{times, FitsInRecord};
 ghost use Rattle.cob_layout_places.specs.Spots.{spots_of};
 ghost use Rattle.cob_layout.specs.Ways.{first_element, moved, spot_at};
 
@@ -31,7 +31,7 @@ pub(crate) fn spot_at(spots: &[Spot], number: usize) -> Spot
 
 /// Writes the spots of a record under these counts.
 pub(crate) fn put_all_spots(root: &Node, counts: &[u32], spots: &mut [Spot])
-    requires fit { IsFit 0 (node root.now) }
+    requires fit { FitsInRecord 0 (node root.now) }
     requires room { length spots.old ≡ entries_in (alone (node root.now)) }
     ensures { spots.new ≡ spots_of (times counts.now) (alone (node root.now)) 0 0 }
 {
@@ -44,7 +44,7 @@ pub(crate) fn put_all_spots(root: &Node, counts: &[u32], spots: &mut [Spot])
 ///
 /// Where no memory is left.
 pub(crate) fn new_spots(alloc: Global, root: &Node, counts: &[u32]) -> Result<Vec<Spot>, AllocError>
-    requires fit { IsFit 0 (node root.now) }
+    requires fit { FitsInRecord 0 (node root.now) }
     requires room { length counts.now ≡ entries_in (alone (node root.now)) }
     ensures { IfOk result
         (λ spots. spots.items ≡ spots_of (times counts.now) (alone (node root.now)) 0 0) }
@@ -77,7 +77,8 @@ pub(crate) fn element_at(
     tables: &[usize],
     subscripts: &[u32],
 ) -> Found
-    requires room { (moved spots.now tables.now subscripts.now (first_element spots.now number)).offset
+    requires room { (moved spots.now tables.now subscripts.now
+        (first_element spots.now number)).offset
         ≤ longest_record }
     ensures { result ≡ moved spots.now tables.now subscripts.now (first_element spots.now number) }
 {

@@ -1,11 +1,11 @@
 //! The counts of a record, taken where they stand.
 
 ghost use Rattle.std.specs.Prelude.{◌≡◌, ◌<◌, [], length, Ok, Err, Some, OnOk, IfOk, IfErr};
-ghost use Rattle.cob_copybook_tree.specs.Nodes.{node};
+ghost use Rattle.cob_copybook_tree.specs.Nodes.{node, alone};
 ghost use Rattle.cob_sound.specs.Sound.{IsSound};
-ghost use Rattle.cob_layout_places.specs.Counts.{tables_of, HaveSlots, IsCountable, IsCounted};
-ghost use Rattle.cob_layout_places.specs.Lengths.{alone, times, IsFit};
-ghost use Rattle.cob_layout_places.specs.Places.{find_one};
+ghost use Rattle.cob_layout_places.specs.Counts.{tables_of, AreNumberedBelow, IsCountable, IsCounted};
+ghost use Rattle.cob_layout_places.specs.Lengths.{times, FitsInRecord};
+ghost use Rattle.cob_layout_places.specs.Places.{place_in_entry};
 ghost use Rattle.cob_layout_places.specs.Spots.{spots_of};
 ghost use Rattle.cob_layout.specs.Counting.{greatest_counts, CountsOf};
 ghost use Rattle.cob_layout.specs.Standing.{first_of};
@@ -25,10 +25,10 @@ fn count_in(
     bytes: &[u8],
     counts: &[u32],
 ) -> Result<u32, CountFault>
-    requires fit { IsFit 0 (node root.now) }
+    requires fit { FitsInRecord 0 (node root.now) }
     requires countable { IsCountable (node root.now) table }
     requires early { table.count < first
-        → find_one (times counts.now) table.count (node root.now) 0 []
+        → place_in_entry (times counts.now) table.count (node root.now) 0 []
         ≡ Some (first_element spots.now table.count) }
     ensures ok { IfOk result (λ v. IsCounted (node root.now) bytes.now table counts.now (Ok v)) }
     ensures err { IfErr result (λ e. IsCounted (node root.now) bytes.now table counts.now (Err e)) }
@@ -72,7 +72,7 @@ pub(crate) fn take_all_counts(
     requires spots { spots.now
         ≡ spots_of (times (greatest_counts (node root.now))) (alone (node root.now)) 0 0 }
     requires counts { counts.old ≡ greatest_counts (node root.now) }
-    requires slots { HaveSlots (length counts.old) tables.now }
+    requires slots { AreNumberedBelow (length counts.old) tables.now }
     ensures ok { OnOk result (CountsOf (node root.now) bytes.now (Ok counts.new)) }
     ensures err { IfErr result (λ e. CountsOf (node root.now) bytes.now (Err e)) }
     ensures room { length counts.new ≡ length counts.old }

@@ -2,8 +2,7 @@
 
 ghost use Rattle.std.specs.Prelude.{◌≡◌, ◌==◌, ◌&&◌, ◌+◌, ◌++◌, ◌≤◌, [], length, map, IfOk};
 ghost use Rattle.cob_copybook_tree.specs.Forests.{entries_in};
-ghost use Rattle.cob_copybook_tree.specs.Nodes.{node};
-ghost use Rattle.cob_layout_places.specs.Lengths.{alone};
+ghost use Rattle.cob_copybook_tree.specs.Nodes.{node, alone};
 ghost use Rattle.cob_layout_places.specs.Cover.{AreNumbered};
 ghost use Rattle.cob_sound.specs.Sound.{own_dimension, AreNested};
 ghost use Rattle.cob_limits.specs.Limits.{most_dimensions};

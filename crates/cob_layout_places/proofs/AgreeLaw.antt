@@ -2,26 +2,26 @@
 use Rattle.std.proofs.Common.{◌≡◌, ℕ, ◌+◌, ◌<◌, ◌≤◌, List, [], ◌∷◌, length, refl, sym, subst, arith, Bool, true, false, inl, inr, Ok, Err, Result, ◌*◌}
 use Rattle.std.specs.Prelude.{slice_set, slice_index}
 use Rattle.cob_copybook_tree.specs.declared.node.Item.{Item}
-use Rattle.cob_copybook_tree.specs.Forests.{Forest, Bare, Grows, Tree, entries_in}
+use Rattle.cob_copybook_tree.specs.Forests.{Forest, NoEntries, AnEntry, Tree, entries_in}
 use Rattle.cob_copybook_tree.specs.Nodes.{Resolved}
-use Rattle.cob_copybook_tree.specs.Lengths.{room, one, sum_of}
+use Rattle.cob_copybook_tree.specs.Lengths.{own_length, length_by_kind, sum_of}
 use Rattle.cob_layout_places.specs.declared.counts.CountFault.{CountFault}
 use Rattle.cob_layout_places.specs.declared.places.Found.{Found}
 use Rattle.cob_layout_places.specs.declared.varying.Table.{Table}
 use Rattle.cob_layout_places.specs.Lengths.{times, times_by}
 use Rattle.cob_layout_places.specs.Cover.{AreNumbered}
-use Rattle.cob_layout_places.specs.Counts.{part_of, IsCount, IsFaulty, Says, IsCounted}
-use Rattle.cob_layout_places.specs.Agree.{DoAgree, SameCounts}
+use Rattle.cob_layout_places.specs.Counts.{part_of, IsCountValue, IsFaulty, SaysOfTable, IsCounted}
+use Rattle.cob_layout_places.specs.Agree.{AgreeOnCounts, SameCounts}
 
 same_faulty : (s : Bool) (i : Item) (x : Table) (f : Found) (a b : List ℕ) → length a ≡ length b → part_of f a ≡ part_of f b → IsFaulty s i x f a → IsFaulty s i x f b
 same_faulty true i x f a b n p h = omega (arith, n, h)
-same_faulty false i x f a b n p h = (omega (arith, n, h.0), λ v is. h.1 v (subst (λ (q : List ℕ). IsCount i x q v) (sym p) is))
+same_faulty false i x f a b n p h = (omega (arith, n, h.0), λ v is. h.1 v (subst (λ (q : List ℕ). IsCountValue i x q v) (sym p) is))
 
-same_says : (i : Item) (x : Table) (f : Found) (a b : List ℕ) (r : Result ℕ CountFault) → length a ≡ length b → part_of f a ≡ part_of f b → Says i x f a r → Says i x f b r
-same_says i x f a b (Ok v) n p h = (omega (arith, n, h.0), subst (λ (q : List ℕ). IsCount i x q v) p h.1)
+same_says : (i : Item) (x : Table) (f : Found) (a b : List ℕ) (r : Result ℕ CountFault) → length a ≡ length b → part_of f a ≡ part_of f b → SaysOfTable i x f a r → SaysOfTable i x f b r
+same_says i x f a b (Ok v) n p h = (omega (arith, n, h.0), subst (λ (q : List ℕ). IsCountValue i x q v) p h.1)
 same_says i x f a b (Err e) n p h = (h.0, same_faulty e.short i x f a b n p h.1)
 
-same_counted : (t : Tree Resolved) (a b : List ℕ) (x : Table) (xs : List Table) (c : List ℕ) (r : Result ℕ CountFault) → length a ≡ length b → DoAgree t a b (x ∷ xs) c
+same_counted : (t : Tree Resolved) (a b : List ℕ) (x : Table) (xs : List Table) (c : List ℕ) (r : Result ℕ CountFault) → length a ≡ length b → AgreeOnCounts t a b (x ∷ xs) c
     → IsCounted t a x c r → IsCounted t b x c r
 same_counted t a b x xs c r n h k = record { item = k.item; is = k.is; found = k.found; stands = k.stands; says = same_says k.item x k.found a b r n (h.0 k.found k.stands) k.says }
 
@@ -37,9 +37,9 @@ AgreeBelow n c d = (k : ℕ) → k < n → slice_index c k ≡ slice_index d k
 
 -- counts that agree on the entries give them one length
 pub sum_same : (c d : List ℕ) (f : Forest Resolved) (n m : ℕ) → AreNumbered n f → n + entries_in f ≤ m → AgreeBelow m c d → sum_of (times c) f ≡ sum_of (times d) f
-sum_same c d Bare n m h l g = refl
-sum_same c d (Grows e kids more) n m h l g =
+sum_same c d NoEntries n m h l g = refl
+sum_same c d (AnEntry e children more) n m h l g =
     let k : slice_index c e.number ≡ slice_index d e.number = g e.number (omega (arith, h.0)) in
-    let b = sum_same c d kids (n + 1) m h.1 (omega arith) g in
-    let r = sum_same c d more (n + 1 + entries_in kids) m h.2 (omega arith) g in
-    λ j. room e.redefines (times_by (k j) e.occurs * one e.kind (b j)) + r j
+    let b = sum_same c d children (n + 1) m h.1 (omega arith) g in
+    let r = sum_same c d more (n + 1 + entries_in children) m h.2 (omega arith) g in
+    λ j. own_length e.redefines (times_by (k j) e.occurs * length_by_kind e.kind (b j)) + r j

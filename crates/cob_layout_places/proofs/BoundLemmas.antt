@@ -1,11 +1,11 @@
 -- A place that is found lies within the record.
 use Rattle.std.proofs.Common.{ℕ, ◌+◌, ◌*◌, ◌≤◌, List, arith, Option, Some, None, Bool, true, false}
-use Rattle.cob_copybook_tree.specs.Forests.{Forest, Bare, Grows, Tree}
-use Rattle.cob_copybook_tree.specs.Nodes.{Resolved}
-use Rattle.cob_copybook_tree.specs.Lengths.{most, element, whole}
+use Rattle.cob_copybook_tree.specs.Forests.{Forest, NoEntries, AnEntry, Tree}
+use Rattle.cob_copybook_tree.specs.Nodes.{Resolved, alone}
+use Rattle.cob_copybook_tree.specs.Lengths.{greatest_number, element_length, whole_length}
 use Rattle.cob_layout_places.specs.declared.places.Found.{Found}
-use Rattle.cob_layout_places.specs.Lengths.{times, alone}
-use Rattle.cob_layout_places.specs.Places.{find, find_one, begins, or_else, also, choose, is_table, skipped, EndsBy, EndInRecord}
+use Rattle.cob_layout_places.specs.Lengths.{times}
+use Rattle.cob_layout_places.specs.Places.{place_of, place_in_entry, begins, or_else, also, choose, is_table, skipped, EndsBy, EndInRecord}
 use Rattle.cob_layout_places.proofs.ForestLemmas.{element_le, within_always}
 use Rattle.cob_layout_places.proofs.PlaceLemmas.{Left, Fits, first_of, rest_of, element_fits, beneath_fits}
 
@@ -22,32 +22,32 @@ choose_fits m false f o h k = k
 choose_fits m true f o h k = h
 
 inner_left : (c : Resolved → ℕ) (e : Resolved) (b : Forest Resolved) (start m : ℕ) (subscripts : List ℕ) → Fits c (record { top = e; beneath = b }) start m
-    → let offset = start + skipped (is_table e.occurs) (most e) subscripts * element c e b in Left c b offset offset m
+    → let offset = start + skipped (is_table e.occurs) (greatest_number e) subscripts * element_length c e b in Left c b offset offset m
 inner_left c e b start m subscripts f =
     let h = element_fits c e b start subscripts m f.possible.0 f.within.1 f.small in
     record { possible = f.possible.1; leaves = f.leaves.1; within = f.within.1; space = 0; room_left = omega (arith, h); areas = f.areas; greatest = beneath_fits e b _ m f.leaves.0 h }
 
 own_fits : (c : Resolved → ℕ) (e : Resolved) (b : Forest Resolved) (start m : ℕ) (subscripts : List ℕ) → Fits c (record { top = e; beneath = b }) start m
-    → start + skipped (is_table e.occurs) (most e) subscripts * element c e b + element c e b ≤ m
+    → start + skipped (is_table e.occurs) (greatest_number e) subscripts * element_length c e b + element_length c e b ≤ m
 own_fits c e b start m subscripts f =
     let h = element_fits c e b start subscripts m f.possible.0 f.within.1 f.small in
     omega (arith, h, element_le c e b f.within.1)
 
-find_fits : (c : Resolved → ℕ) (number : ℕ) (f : Forest Resolved) (at area m : ℕ) (subscripts : List ℕ) → Left c f at area m → EndsBy m (find c number f at area subscripts)
-find_fits c number Bare at area m subscripts l = tt
-find_fits c number (Grows e b rest) at area m subscripts l =
+find_fits : (c : Resolved → ℕ) (number : ℕ) (f : Forest Resolved) (at area m : ℕ) (subscripts : List ℕ) → Left c f at area m → EndsBy m (place_of c number f at area subscripts)
+find_fits c number NoEntries at area m subscripts l = tt
+find_fits c number (AnEntry e b rest) at area m subscripts l =
     let f = first_of c e b rest at area m l in
     either_fits m _ _
     (choose_fits m _ _ _ (own_fits c e b (begins e.redefines at area) m subscripts f)
     (also_fits m _ _ (find_fits c number b _ _ m _ (inner_left c e b (begins e.redefines at area) m subscripts f))))
     (find_fits c number rest _ _ m subscripts (rest_of c e b rest at area m l))
 
-pub one_fits : (c : Resolved → ℕ) (number : ℕ) (t : Tree Resolved) (start m : ℕ) (subscripts : List ℕ) → Fits c t start m → EndsBy m (find_one c number t start subscripts)
+pub one_fits : (c : Resolved → ℕ) (number : ℕ) (t : Tree Resolved) (start m : ℕ) (subscripts : List ℕ) → Fits c t start m → EndsBy m (place_in_entry c number t start subscripts)
 one_fits c number t start m subscripts f =
     choose_fits m _ _ _ (own_fits c t.top t.beneath start m subscripts f)
     (also_fits m _ _ (find_fits c number t.beneath _ _ m _ (inner_left c t.top t.beneath start m subscripts f)))
 
 pub end_in_record : EndInRecord
 end_in_record counts number t start subscripts f =
-    one_fits (times counts) number t start (start + whole most t.top t.beneath) subscripts
+    one_fits (times counts) number t start (start + whole_length greatest_number t.top t.beneath) subscripts
     (record { possible = f.possible; leaves = f.leaves; areas = f.areas; within = within_always counts (alone t); small = omega arith })

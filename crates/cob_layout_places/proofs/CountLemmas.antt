@@ -7,16 +7,16 @@ use Rattle.cob_decimal.proofs.DecimalLemmas.{number_of-push}
 use Rattle.cob_copybook_tree.specs.declared.node.Item.{Item}
 use Rattle.cob_copybook_tree.specs.declared.node.Kind.{Kind}
 use Rattle.cob_copybook_tree.specs.declared.node.Kind.TheVariants.{Item as ItemKind}
-use Rattle.cob_copybook_tree.specs.Forests.{Forest, Bare, Grows, Tree}
+use Rattle.cob_copybook_tree.specs.Forests.{Forest, NoEntries, AnEntry, Tree}
 use Rattle.cob_copybook_tree.specs.Nodes.{Resolved}
-use Rattle.cob_copybook_tree.specs.Lengths.{one, sum_of, item_size}
+use Rattle.cob_copybook_tree.specs.Lengths.{length_by_kind, sum_of, item_size}
 use Rattle.cob_item.proofs.ItemLemmas.{one_number}
 use Rattle.cob_layout_places.specs.declared.counts.CountFault.{CountFault}
 use Rattle.cob_layout_places.specs.declared.places.Found.{Found}
 use Rattle.cob_layout_places.specs.declared.varying.Table.{Table}
 use Rattle.cob_layout_places.specs.Lengths.{times}
-use Rattle.cob_layout_places.specs.Places.{find, find_one, or_else, choose, also}
-use Rattle.cob_layout_places.specs.Counts.{kind_in, kind_one, part_of, IsCount, IsFaulty, Says, IsCounted, Taken, OneOutcome}
+use Rattle.cob_layout_places.specs.Places.{place_of, place_in_entry, or_else, choose, also}
+use Rattle.cob_layout_places.specs.Counts.{kind_in, kind_one, part_of, IsCountValue, IsFaulty, SaysOfTable, IsCounted, Taken, OneOutcome}
 
 -- ---- digits
 
@@ -57,18 +57,18 @@ pairs_choose : (b : Bool) (k : Kind) (f : Found) (ks : Option Kind) (fs : Option
 pairs_choose true k f ks fs h j = h
 pairs_choose false k f ks fs h j = j
 
-size_of : (k : Kind) (sum : ℕ) (i : Item) → k ≡ ItemKind i → one k sum ≡ item_size i
-size_of k sum i e = ap (λ (q : Kind). one q sum) e
+size_of : (k : Kind) (sum : ℕ) (i : Item) → k ≡ ItemKind i → length_by_kind k sum ≡ item_size i
+size_of k sum i e = ap (λ (q : Kind). length_by_kind q sum) e
 
-pairs_in : (c : Resolved → ℕ) (number : ℕ) (f : Forest Resolved) (at area : ℕ) (subscripts : List ℕ) → Pairs (kind_in number f) (find c number f at area subscripts)
-pairs_in c number Bare at area subscripts = tt
-pairs_in c number (Grows e kids more) at area subscripts =
+pairs_in : (c : Resolved → ℕ) (number : ℕ) (f : Forest Resolved) (at area : ℕ) (subscripts : List ℕ) → Pairs (kind_in number f) (place_of c number f at area subscripts)
+pairs_in c number NoEntries at area subscripts = tt
+pairs_in c number (AnEntry e children more) at area subscripts =
     pairs_or _ _ _ _
-    (pairs_choose (e.number == number) e.kind _ _ _ (λ i is. size_of e.kind (sum_of c kids) i is)
-    (pairs_also _ _ _ (pairs_in c number kids _ _ _)))
+    (pairs_choose (e.number == number) e.kind _ _ _ (λ i is. size_of e.kind (sum_of c children) i is)
+    (pairs_also _ _ _ (pairs_in c number children _ _ _)))
     (pairs_in c number more _ _ _)
 
-pub pairs_one : (c : Resolved → ℕ) (number : ℕ) (t : Tree Resolved) (start : ℕ) (subscripts : List ℕ) → Pairs (kind_one number t) (find_one c number t start subscripts)
+pub pairs_one : (c : Resolved → ℕ) (number : ℕ) (t : Tree Resolved) (start : ℕ) (subscripts : List ℕ) → Pairs (kind_one number t) (place_in_entry c number t start subscripts)
 pairs_one c number t start subscripts =
     pairs_choose (t.top.number == number) t.top.kind _ _ _ (λ i is. size_of t.top.kind (sum_of c t.beneath) i is)
     (pairs_also _ _ _ (pairs_in c number t.beneath _ _ _))
@@ -90,7 +90,7 @@ found_there o p i h e g =
 abbrev IsValue : ℕ → List ℕ → Type 0
 IsValue v ds = v ≡ number_of ds
 
-pub one_count : (i : Item) (x : Table) (part : List ℕ) (v w : ℕ) → IsCount i x part v → IsCount i x part w → v ≡ w
+pub one_count : (i : Item) (x : Table) (part : List ℕ) (v w : ℕ) → IsCountValue i x part v → IsCountValue i x part w → v ≡ w
 one_count i x part v w a b =
     let d = one_number i part false false a.digits b.digits a.represents b.represents in
     a.value ∙ ap number_of d.1 ∙ sym b.value
@@ -104,11 +104,11 @@ same_short false false i x f bytes h k = refl
 same_short true false i x f bytes h k = absurd (omega (arith, h, k.0))
 same_short false true i x f bytes h k = absurd (omega (arith, h.0, k))
 
-fault_or_number : (s : Bool) (i : Item) (x : Table) (f : Found) (bytes : List ℕ) (v : ℕ) → IsFaulty s i x f bytes → f.offset + f.length ≤ length bytes → IsCount i x (part_of f bytes) v → ⊥
+fault_or_number : (s : Bool) (i : Item) (x : Table) (f : Found) (bytes : List ℕ) (v : ℕ) → IsFaulty s i x f bytes → f.offset + f.length ≤ length bytes → IsCountValue i x (part_of f bytes) v → ⊥
 fault_or_number true i x f bytes v h l c = omega (arith, h, l)
 fault_or_number false i x f bytes v h l c = h.1 v c
 
-one_saying : (i : Item) (x : Table) (f : Found) (bytes : List ℕ) (r s : Result ℕ CountFault) → Says i x f bytes r → Says i x f bytes s → r ≡ s
+one_saying : (i : Item) (x : Table) (f : Found) (bytes : List ℕ) (r s : Result ℕ CountFault) → SaysOfTable i x f bytes r → SaysOfTable i x f bytes s → r ≡ s
 one_saying i x f bytes (Ok v) (Ok w) a b = ap Ok (one_count i x (part_of f bytes) v w a.1 b.1)
 one_saying i x f bytes (Err e) (Err g) a b = ap Err (same_fault e g (a.0 ∙ sym b.0) (same_short e.short g.short i x f bytes a.1 b.1))
 one_saying i x f bytes (Ok v) (Err g) a b = absurd (fault_or_number g.short i x f bytes v b.1 a.0 a.1)
@@ -123,8 +123,8 @@ same_item a b o e f = let g : Some (ItemKind a) ≡ Some (ItemKind b) = sym e �
 pub one_counted : (t : Tree Resolved) (bytes : List ℕ) (x : Table) (c : List ℕ) (r s : Result ℕ CountFault) → IsCounted t bytes x c r → IsCounted t bytes x c s → r ≡ s
 one_counted t bytes x c r s a b =
     let i : a.item ≡ b.item = same_item a.item b.item (kind_one x.count t) a.is b.is in
-    let f : a.found ≡ b.found = same_some a.found b.found (find_one (times c) x.count t 0 []) a.stands b.stands in
-    let k : Says b.item x b.found bytes r = subst (λ (g : Found). Says b.item x g bytes r) f (subst (λ (j : Item). Says j x a.found bytes r) i a.says) in
+    let f : a.found ≡ b.found = same_some a.found b.found (place_in_entry (times c) x.count t 0 []) a.stands b.stands in
+    let k : SaysOfTable b.item x b.found bytes r = subst (λ (g : Found). SaysOfTable b.item x g bytes r) f (subst (λ (j : Item). SaysOfTable j x a.found bytes r) i a.says) in
     one_saying b.item x b.found bytes r s k b.says
 
 abbrev the_ok : ℕ → Result ℕ CountFault
@@ -168,22 +168,22 @@ pub part_same : (bytes : List ℕ) (start size : ℕ) → take (start + size - s
 part_same bytes start size = ap (λ (n : ℕ). take n (drop start bytes)) (omega arith)
 
 -- what the bytes say where a count stands, they say of its table under whatever counts it stands there
-pub counted_ok : (t : Tree Resolved) (bytes : List ℕ) (x : Table) (i : Item) (f : Found) (r : Result ℕ CountFault) → kind_one x.count t ≡ Some (ItemKind i) → IfOk r (λ v. Says i x f bytes (Ok v))
-    → IfOk r (λ v. (c : List ℕ) → find_one (times c) x.count t 0 [] ≡ Some f → IsCounted t bytes x c (Ok v))
+pub counted_ok : (t : Tree Resolved) (bytes : List ℕ) (x : Table) (i : Item) (f : Found) (r : Result ℕ CountFault) → kind_one x.count t ≡ Some (ItemKind i) → IfOk r (λ v. SaysOfTable i x f bytes (Ok v))
+    → IfOk r (λ v. (c : List ℕ) → place_in_entry (times c) x.count t 0 [] ≡ Some f → IsCounted t bytes x c (Ok v))
 counted_ok t bytes x i f (Ok v) is says = λ c stands. record { item = i; is = is; found = f; stands = stands; says = says }
 counted_ok t bytes x i f (Err e) is says = tt
 
-pub counted_err : (t : Tree Resolved) (bytes : List ℕ) (x : Table) (i : Item) (f : Found) (r : Result ℕ CountFault) → kind_one x.count t ≡ Some (ItemKind i) → IfErr r (λ e. Says i x f bytes (Err e))
-    → IfErr r (λ e. (c : List ℕ) → find_one (times c) x.count t 0 [] ≡ Some f → IsCounted t bytes x c (Err e))
+pub counted_err : (t : Tree Resolved) (bytes : List ℕ) (x : Table) (i : Item) (f : Found) (r : Result ℕ CountFault) → kind_one x.count t ≡ Some (ItemKind i) → IfErr r (λ e. SaysOfTable i x f bytes (Err e))
+    → IfErr r (λ e. (c : List ℕ) → place_in_entry (times c) x.count t 0 [] ≡ Some f → IsCounted t bytes x c (Err e))
 counted_err t bytes x i f (Ok v) is says = tt
 counted_err t bytes x i f (Err e) is says = λ c stands. record { item = i; is = is; found = f; stands = stands; says = says }
 
-pub at_counts : (t : Tree Resolved) (bytes : List ℕ) (x : Table) (f : Found) (c : List ℕ) (r : Result ℕ CountFault) → find_one (times c) x.count t 0 [] ≡ Some f
-    → IfOk r (λ v. (d : List ℕ) → find_one (times d) x.count t 0 [] ≡ Some f → IsCounted t bytes x d (Ok v)) → IfOk r (λ v. IsCounted t bytes x c (Ok v))
+pub at_counts : (t : Tree Resolved) (bytes : List ℕ) (x : Table) (f : Found) (c : List ℕ) (r : Result ℕ CountFault) → place_in_entry (times c) x.count t 0 [] ≡ Some f
+    → IfOk r (λ v. (d : List ℕ) → place_in_entry (times d) x.count t 0 [] ≡ Some f → IsCounted t bytes x d (Ok v)) → IfOk r (λ v. IsCounted t bytes x c (Ok v))
 at_counts t bytes x f c (Ok v) stands h = h c stands
 at_counts t bytes x f c (Err e) stands h = tt
 
-pub fault_at_counts : (t : Tree Resolved) (bytes : List ℕ) (x : Table) (f : Found) (c : List ℕ) (r : Result ℕ CountFault) → find_one (times c) x.count t 0 [] ≡ Some f
-    → IfErr r (λ e. (d : List ℕ) → find_one (times d) x.count t 0 [] ≡ Some f → IsCounted t bytes x d (Err e)) → IfErr r (λ e. IsCounted t bytes x c (Err e))
+pub fault_at_counts : (t : Tree Resolved) (bytes : List ℕ) (x : Table) (f : Found) (c : List ℕ) (r : Result ℕ CountFault) → place_in_entry (times c) x.count t 0 [] ≡ Some f
+    → IfErr r (λ e. (d : List ℕ) → place_in_entry (times d) x.count t 0 [] ≡ Some f → IsCounted t bytes x d (Err e)) → IfErr r (λ e. IsCounted t bytes x c (Err e))
 fault_at_counts t bytes x f c (Ok v) stands h = tt
 fault_at_counts t bytes x f c (Err e) stands h = h c stands

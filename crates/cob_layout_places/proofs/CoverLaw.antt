@@ -9,14 +9,14 @@ use Rattle.std.proofs.lemmas.Bool.{cases_lt}
 use Rattle.cob_layout_places.specs.declared.places.Found.{Found}
 use Rattle.cob_copybook_tree.specs.declared.node.Kind.{Kind}
 use Rattle.cob_copybook_tree.specs.declared.node.Kind.TheVariants.{Group, Item as ItemKind}
-use Rattle.cob_copybook_tree.specs.declared.node.Times.{Times}
-use Rattle.cob_copybook_tree.specs.declared.node.Times.TheVariants.{Once, Fixed, Varying}
-use Rattle.cob_copybook_tree.specs.Forests.{Forest, Bare, Grows, entries_in}
+use Rattle.cob_copybook_tree.specs.declared.node.ResolvedOccurs.{ResolvedOccurs}
+use Rattle.cob_copybook_tree.specs.declared.node.ResolvedOccurs.TheVariants.{Once, Fixed, Varying}
+use Rattle.cob_copybook_tree.specs.Forests.{Forest, NoEntries, AnEntry, entries_in}
 use Rattle.cob_copybook_tree.specs.Nodes.{Resolved}
-use Rattle.cob_copybook_tree.specs.Lengths.{most, most_by, room, one, sum_of, element, whole}
+use Rattle.cob_copybook_tree.specs.Lengths.{greatest_number, greatest_number_by, own_length, length_by_kind, sum_of, element_length, whole_length}
 use Rattle.cob_layout_places.specs.Lengths.{times, times_by}
-use Rattle.cob_layout_places.specs.Places.{is_table, find, or_else, also, choose, begins, skipped, is_there, later}
-use Rattle.cob_layout_places.specs.Cover.{Occurrence, several, under, each, unless, item_or, occurrences, holds, holds_in, AreNumbered, IsTimes, Covering}
+use Rattle.cob_layout_places.specs.Places.{is_table, place_of, or_else, also, choose, begins, skipped, is_there, later}
+use Rattle.cob_layout_places.specs.Cover.{Occurrence, several, under, each, unless, item_or, occurrences, holds, holds_in, AreNumbered, CountsOccurrences, Covering}
 use Rattle.cob_layout_places.proofs.CoverLemmas.{Piece, piece_under, pieces, Tiles, tiles}
 
 inside : (o a n : ℕ) → a ≤ o → o < a + n → holds o a n ≡ true
@@ -85,15 +85,15 @@ pub not_or : (b : Bool) (f : Found) (o p : Option Found) (t : Bool) → b ≡ fa
 not_or b f o p t e n = rw (e, n) refl
 
 -- no entry of these has a greater number
-pub absent : (c : Resolved → ℕ) (k n : ℕ) (f : Forest Resolved) (at area : ℕ) (subscripts : List ℕ) → AreNumbered n f → n + entries_in f ≤ k → find c k f at area subscripts ≡ None
-absent c k n Bare at area subscripts h l = refl
-absent c k n (Grows i beneath rest) at area subscripts h l =
+pub absent : (c : Resolved → ℕ) (k n : ℕ) (f : Forest Resolved) (at area : ℕ) (subscripts : List ℕ) → AreNumbered n f → n + entries_in f ≤ k → place_of c k f at area subscripts ≡ None
+absent c k n NoEntries at area subscripts h l = refl
+absent c k n (AnEntry i beneath rest) at area subscripts h l =
     not_or _ _ _ _ _ (differs i.number k (omega (arith, h.0))) (absent c k (n + 1) beneath _ _ _ h.1 (omega arith))
     ∙ absent c k (n + 1 + entries_in beneath) rest _ _ _ h.2 (omega arith)
 
 -- a piece is an occurrence with its place
 pub record IsAt (c : Resolved → ℕ) (f : Forest Resolved) (n at area : ℕ) (p : Piece) : Type 0 where
-  pub is : find c p.who.number f at area p.who.subscripts ≡ Some record { offset = p.offset; length = p.length; within = true }
+  pub is : place_of c p.who.number f at area p.who.subscripts ≡ Some record { offset = p.offset; length = p.length; within = true }
   pub low : n ≤ p.who.number
   pub high : p.who.number < n + entries_in f
 
@@ -106,39 +106,39 @@ reaches k n h = grind (arith, nat_tests)
 
 -- an item's own element
 here_item : (c : Resolved → ℕ) (i : Resolved) (beneath rest : Forest Resolved) (n at area k : ℕ) (subscripts : List ℕ) (s : ℕ)
-    → i.number ≡ n → i.redefines ≡ None → skipped (is_table i.occurs) (most i) subscripts ≡ k → is_there (is_table i.occurs) (c i) subscripts ≡ true
-    → s ≡ element c i beneath
-    → find c i.number (Grows i beneath rest) at area subscripts ≡ Some record { offset = at + k * element c i beneath; length = s; within = true }
+    → i.number ≡ n → i.redefines ≡ None → skipped (is_table i.occurs) (greatest_number i) subscripts ≡ k → is_there (is_table i.occurs) (c i) subscripts ≡ true
+    → s ≡ element_length c i beneath
+    → place_of c i.number (AnEntry i beneath rest) at area subscripts ≡ Some record { offset = at + k * element_length c i beneath; length = s; within = true }
 here_item c i beneath rest n at area k subscripts s ne re ke te se = rw (same i.number i.number refl, ke, te, se, re) refl
 
 -- what is beneath the k-th element
 here_deeper : (c : Resolved → ℕ) (i : Resolved) (beneath rest : Forest Resolved) (number n at area k : ℕ) (subscripts inner : List ℕ) (off len : ℕ)
-    → i.number ≡ n → n + 1 ≤ number → i.redefines ≡ None → skipped (is_table i.occurs) (most i) subscripts ≡ k → is_there (is_table i.occurs) (c i) subscripts ≡ true
+    → i.number ≡ n → n + 1 ≤ number → i.redefines ≡ None → skipped (is_table i.occurs) (greatest_number i) subscripts ≡ k → is_there (is_table i.occurs) (c i) subscripts ≡ true
     → later (is_table i.occurs) subscripts ≡ inner
-    → find c number beneath (at + k * element c i beneath) (at + k * element c i beneath) inner ≡ Some record { offset = off; length = len; within = true }
-    → find c number (Grows i beneath rest) at area subscripts ≡ Some record { offset = off; length = len; within = true }
+    → place_of c number beneath (at + k * element_length c i beneath) (at + k * element_length c i beneath) inner ≡ Some record { offset = off; length = len; within = true }
+    → place_of c number (AnEntry i beneath rest) at area subscripts ≡ Some record { offset = off; length = len; within = true }
 here_deeper c i beneath rest number n at area k subscripts inner off len ne nl re ke te le fe =
     let d : (i.number == number) ≡ false = differs i.number number (omega arith) in
-    let g : find c number beneath (begins i.redefines at area + skipped (is_table i.occurs) (most i) subscripts * element c i beneath) (begins i.redefines at area + skipped (is_table i.occurs) (most i) subscripts * element c i beneath) (later (is_table i.occurs) subscripts)
+    let g : place_of c number beneath (begins i.redefines at area + skipped (is_table i.occurs) (greatest_number i) subscripts * element_length c i beneath) (begins i.redefines at area + skipped (is_table i.occurs) (greatest_number i) subscripts * element_length c i beneath) (later (is_table i.occurs) subscripts)
     ≡ Some record { offset = off; length = len; within = true } = rw (re, ke, le) fe in
     deeper _ _ _ _ _ _ d te g
 
 -- the own piece of an entry or those beneath it, of the k-th element, under the subscripts of that element
 abbrev Own : (Resolved → ℕ) → Resolved → Forest Resolved → Forest Resolved → ℕ → ℕ → ℕ → (List ℕ → List ℕ) → Piece → Type 0
 Own c i beneath rest n at area more p =
-    (find c p.who.number (Grows i beneath rest) at area (more p.who.subscripts) ≡ Some record { offset = p.offset; length = p.length; within = true })
+    (place_of c p.who.number (AnEntry i beneath rest) at area (more p.who.subscripts) ≡ Some record { offset = p.offset; length = p.length; within = true })
     × (n ≤ p.who.number) × (p.who.number < n + 1 + entries_in beneath)
 
 own_beneath : (kind : Kind) (c : Resolved → ℕ) (i : Resolved) (beneath rest : Forest Resolved) (n at area k : ℕ) (more : List ℕ → List ℕ)
     → i.number ≡ n → i.redefines ≡ None
-    → ((l : List ℕ) → skipped (is_table i.occurs) (most i) (more l) ≡ k) → ((l : List ℕ) → is_there (is_table i.occurs) (c i) (more l) ≡ true)
+    → ((l : List ℕ) → skipped (is_table i.occurs) (greatest_number i) (more l) ≡ k) → ((l : List ℕ) → is_there (is_table i.occurs) (c i) (more l) ≡ true)
     → ((l : List ℕ) → later (is_table i.occurs) (more l) ≡ l)
-    → AllByRecursion (IsAt c beneath (n + 1) (at + k * element c i beneath) (at + k * element c i beneath)) (pieces c beneath (at + k * element c i beneath))
-    → AllByRecursion (Own c i beneath rest n at area more) (item_or kind (record { who = record { number = i.number; subscripts = [] }; offset = at + k * element c i beneath; length = element c i beneath }) (pieces c beneath (at + k * element c i beneath)))
-own_beneath (ItemKind item) c i beneath rest n at area k more ne re ke te le h = ((here_item c i beneath rest n at area k (more []) (element c i beneath) ne re (ke []) (te []) refl, omega arith, omega arith), tt)
+    → AllByRecursion (IsAt c beneath (n + 1) (at + k * element_length c i beneath) (at + k * element_length c i beneath)) (pieces c beneath (at + k * element_length c i beneath))
+    → AllByRecursion (Own c i beneath rest n at area more) (item_or kind (record { who = record { number = i.number; subscripts = [] }; offset = at + k * element_length c i beneath; length = element_length c i beneath }) (pieces c beneath (at + k * element_length c i beneath)))
+own_beneath (ItemKind item) c i beneath rest n at area k more ne re ke te le h = ((here_item c i beneath rest n at area k (more []) (element_length c i beneath) ne re (ke []) (te []) refl, omega arith, omega arith), tt)
 own_beneath Group c i beneath rest n at area k more ne re ke te le h =
     all_keep _ _ (λ p is. (here_deeper c i beneath rest p.who.number n at area k (more p.who.subscripts) p.who.subscripts p.offset p.length ne is.low re (ke _) (te _) (le _) is.is, omega (arith, is.low), omega (arith, is.high)))
-    (pieces c beneath (at + k * element c i beneath)) h
+    (pieces c beneath (at + k * element_length c i beneath)) h
 
 -- the numbers and the place of p, where its subscripts begin with those of the table
 turned : (c : Resolved → ℕ) (i : Resolved) (beneath rest : Forest Resolved) (n at area : ℕ) (s : ℕ) (p : Piece)
@@ -149,22 +149,22 @@ skips : (k n m : ℕ) → k < n → n ≤ m → min (k + 1 - 1) (m - 1) ≡ k
 skips k n m lt le = omega arith
 
 own_each : (b : Bool) (c : Resolved → ℕ) (i : Resolved) (beneath rest : Forest Resolved) (n at area : ℕ)
-    → is_table i.occurs ≡ b → (b ≡ false → c i ≡ 1) → c i ≤ most i → i.number ≡ n → i.redefines ≡ None
+    → is_table i.occurs ≡ b → (b ≡ false → c i ≡ 1) → c i ≤ greatest_number i → i.number ≡ n → i.redefines ≡ None
     → ((a : ℕ) → AllByRecursion (IsAt c beneath (n + 1) a a) (pieces c beneath a))
     → AllByRecursion (Own c i beneath rest n at area (λ l. l)) (each piece_under b (c i)
-    (λ k. item_or i.kind (record { who = record { number = i.number; subscripts = [] }; offset = at + k * element c i beneath; length = element c i beneath }) (pieces c beneath (at + k * element c i beneath))))
+    (λ k. item_or i.kind (record { who = record { number = i.number; subscripts = [] }; offset = at + k * element_length c i beneath; length = element_length c i beneath }) (pieces c beneath (at + k * element_length c i beneath))))
 own_each false c i beneath rest n at area be one le ne re h = all_several _ _ (c i) (λ k lt.
     own_beneath i.kind c i beneath rest n at area k (λ l. l) ne re
     (λ l. rw be (omega (arith, one refl))) (λ l. rw be refl) (λ l. rw be refl) (h _))
 own_each true c i beneath rest n at area be one le ne re h = all_several _ _ (c i) (λ k lt.
     all_turn _ _ (piece_under (k + 1)) (λ p own. own) _
     (own_beneath i.kind c i beneath rest n at area k (λ l. (k + 1) ∷ l) ne re
-    (λ l. rw be (skips k (c i) (most i) lt le)) (λ l. rw be (reaches k (c i) lt)) (λ l. rw be refl) (h _)))
+    (λ l. rw be (skips k (c i) (greatest_number i) lt le)) (λ l. rw be (reaches k (c i) lt)) (λ l. rw be refl) (h _)))
 
 -- an entry that is found behind another
 later_found : (c : Resolved → ℕ) (i : Resolved) (beneath rest : Forest Resolved) (n at area : ℕ) (p : Piece) → i.number ≡ n → AreNumbered (n + 1) beneath
-    → IsAt c rest (n + 1 + entries_in beneath) (at + room i.redefines (whole c i beneath)) (begins i.redefines at area) p
-    → IsAt c (Grows i beneath rest) n at area p
+    → IsAt c rest (n + 1 + entries_in beneath) (at + own_length i.redefines (whole_length c i beneath)) (begins i.redefines at area) p
+    → IsAt c (AnEntry i beneath rest) n at area p
 later_found c i beneath rest n at area p ne nb h = record {
   is = not_or _ _ _ _ _ (differs i.number p.who.number (omega (arith, h.low))) (absent c p.who.number (n + 1) beneath _ _ _ nb h.low) ∙ h.is;
   low = omega (arith, h.low);
@@ -175,9 +175,9 @@ all_unless : {X : Type 0} (P : X → Type 0) (o q : Option (List ℕ)) (xs : Lis
 all_unless P None q xs e h = h e
 all_unless P (Some k) q xs e h = tt
 
-located : (c : Resolved → ℕ) (one : IsTimes c) (f : Forest Resolved) (n at area : ℕ) → AreNumbered n f → AllByRecursion (IsAt c f n at area) (pieces c f at)
-located c one Bare n at area h = tt
-located c one (Grows i beneath rest) n at area h =
+located : (c : Resolved → ℕ) (one : CountsOccurrences c) (f : Forest Resolved) (n at area : ℕ) → AreNumbered n f → AllByRecursion (IsAt c f n at area) (pieces c f at)
+located c one NoEntries n at area h = tt
+located c one (AnEntry i beneath rest) n at area h =
     all_append _ _ _
     (all_unless _ i.redefines i.redefines _ refl (λ re.
     all_keep _ _ (λ p own. record { is = own.0; low = own.1; high = omega (arith, own.2) }) _
@@ -206,20 +206,20 @@ who_item (ItemKind i) p ps rs h = refl
 who_item Group p ps rs h = h
 
 who : (c : Resolved → ℕ) (f : Forest Resolved) (at : ℕ) → map (λ (p : Piece). p.who) (pieces c f at) ≡ occurrences c f
-who c Bare at = refl
-who c (Grows i beneath rest) at =
-    let e = element c i beneath in
+who c NoEntries at = refl
+who c (AnEntry i beneath rest) at =
+    let e = element_length c i beneath in
     map-append (λ (p : Piece). p.who) (unless i.redefines (each piece_under (is_table i.occurs) (c i) (λ k. item_or i.kind (record { who = record { number = i.number; subscripts = [] }; offset = at + k * e; length = e }) (pieces c beneath (at + k * e)))))
-    (pieces c rest (at + room i.redefines (whole c i beneath)))
+    (pieces c rest (at + own_length i.redefines (whole_length c i beneath)))
     ∙ (λ j. who_unless i.redefines _ _ (who_each (is_table i.occurs) (c i) _ (λ k. item_or i.kind (record { number = i.number; subscripts = [] }) (occurrences c beneath))
-    (λ k. who_item i.kind (record { who = record { number = i.number; subscripts = [] }; offset = at + k * e; length = e }) (pieces c beneath (at + k * e)) (occurrences c beneath) (who c beneath (at + k * e)))) j ++ who c rest (at + room i.redefines (whole c i beneath)) j)
+    (λ k. who_item i.kind (record { who = record { number = i.number; subscripts = [] }; offset = at + k * e; length = e }) (pieces c beneath (at + k * e)) (occurrences c beneath) (who c beneath (at + k * e)))) j ++ who c rest (at + own_length i.redefines (whole_length c i beneath)) j)
 
 -- the test of an occurrence is that of its piece
 tests : (c : Resolved → ℕ) (f : Forest Resolved) (o : ℕ) (ps : List Piece) → AllByRecursion (IsAt c f 0 0 0) ps
-    → count_at o ps ≡ count_by (λ (r : Occurrence). holds_in o (find c r.number f 0 0 r.subscripts)) (map (λ (p : Piece). p.who) ps)
+    → count_at o ps ≡ count_by (λ (r : Occurrence). holds_in o (place_of c r.number f 0 0 r.subscripts)) (map (λ (p : Piece). p.who) ps)
 tests c f o [] h = refl
 tests c f o (p ∷ ps) h =
-    let test : Occurrence → Bool = λ r. holds_in o (find c r.number f 0 0 r.subscripts) in
+    let test : Occurrence → Bool = λ r. holds_in o (place_of c r.number f 0 0 r.subscripts) in
     let e : test p.who ≡ holds o p.offset p.length = ap (holds_in o) h.0.is in
     count-cons (λ (p : Piece). holds o p.offset p.length) p ps
     ∙ (λ i. cond (sym e i) 1 0 + tests c f o ps h.1 i)
@@ -229,26 +229,26 @@ pub covering : Covering
 covering c f one numbered o lt =
     let t = tiles c f 0 in
     let n = count_once o 0 (0 + sum_of c f) (pieces c f 0) t (omega arith) (omega arith) in
-    ap (count_by (λ (r : Occurrence). holds_in o (find c r.number f 0 0 r.subscripts))) (sym (who c f 0))
+    ap (count_by (λ (r : Occurrence). holds_in o (place_of c r.number f 0 0 r.subscripts))) (sym (who c f 0))
     ∙ sym (tests c f o (pieces c f 0) (located c one f 0 0 0 numbered)) ∙ n
 
-once_by : (n : ℕ) (o : Times) → is_table o ≡ false → times_by n o ≡ 1
+once_by : (n : ℕ) (o : ResolvedOccurs) → is_table o ≡ false → times_by n o ≡ 1
 once_by n Once e = refl
 once_by n (Fixed m) e = absurd cc
 once_by n (Varying a b m) e = absurd cc
 
-most_once : (o : Times) → is_table o ≡ false → most_by o ≡ 1
+most_once : (o : ResolvedOccurs) → is_table o ≡ false → greatest_number_by o ≡ 1
 most_once Once e = refl
 most_once (Fixed m) e = absurd cc
 most_once (Varying a b m) e = absurd cc
 
-times_small : (n : ℕ) (o : Times) → times_by n o ≤ most_by o
+times_small : (n : ℕ) (o : ResolvedOccurs) → times_by n o ≤ greatest_number_by o
 times_small n Once = omega arith
 times_small n (Fixed m) = omega arith
 times_small n (Varying a b m) = omega arith
 
-pub counted : (counts : List ℕ) → IsTimes (times counts)
+pub counted : (counts : List ℕ) → CountsOccurrences (times counts)
 counted counts = record { once = λ e. once_by _ e.occurs; most = λ e. times_small _ e.occurs }
 
-pub greatest : IsTimes most
+pub greatest : CountsOccurrences greatest_number
 greatest = record { once = λ e. most_once e.occurs; most = λ e. omega arith }

@@ -4,15 +4,14 @@ use Rattle.std.specs.Prelude.{◌||◌, slice_set}
 use Rattle.std.proofs.lemmas.List.{drop_more, drop_all}
 use Rattle.cob_copybook_tree.specs.declared.node.Node.{Node}
 use Rattle.cob_copybook_tree.specs.declared.node.Node.TheViews.{out-Node}
-use Rattle.cob_copybook_tree.specs.Forests.{Forest, Bare, Grows, Tree, entries_in}
-use Rattle.cob_copybook_tree.specs.Nodes.{Resolved, node}
+use Rattle.cob_copybook_tree.specs.Forests.{Forest, NoEntries, AnEntry, Tree, entries_in}
+use Rattle.cob_copybook_tree.specs.Nodes.{Resolved, node, alone}
 use Rattle.cob_layout_places.specs.declared.counts.CountFault.{CountFault}
 use Rattle.cob_layout_places.specs.declared.varying.Table.{Table}
-use Rattle.cob_layout_places.specs.Lengths.{alone}
 use Rattle.cob_layout_places.specs.Places.{is_table}
 use Rattle.cob_layout_places.specs.Cover.{AreNumbered}
 use Rattle.cob_layout_places.specs.Counts.{IsCounted, Taken}
-use Rattle.cob_layout_places.specs.Needs.{reach, keep, greatest, is_needed, needed}
+use Rattle.cob_layout_places.specs.Needs.{number_behind, keep, greatest, is_needed, needed_tables}
 use Rattle.cob_layout_places.proofs.ForestLemmas.{left, left_is, left_end, below, below_is, node_out}
 use Rattle.cob_layout_places.proofs.NeedLaw.{Stops, reach_behind, reach_whole, reach_inner, le_no}
 
@@ -24,43 +23,43 @@ pub record AreUpTo (end : ℕ) (f : Forest Resolved) : Type 0 where
 
 -- the number of the first entry, else the end
 abbrev pub first_number : ℕ → Forest Resolved → ℕ
-first_number end Bare = end
-first_number end (Grows e kids more) = e.number
+first_number end NoEntries = end
+first_number end (AnEntry e children more) = e.number
 
-next_number : (end : ℕ) (e : Resolved) (kids more : Forest Resolved) → AreUpTo end (Grows e kids more) → first_number end more ≡ e.number + 1 + entries_in kids
-next_number end e kids Bare u = omega (arith, u.numbered.0, u.ends)
-next_number end e kids (Grows e2 kids2 more2) u = omega (arith, u.numbered.0, u.numbered.2.0)
+next_number : (end : ℕ) (e : Resolved) (children more : Forest Resolved) → AreUpTo end (AnEntry e children more) → first_number end more ≡ e.number + 1 + entries_in children
+next_number end e children NoEntries u = omega (arith, u.numbered.0, u.ends)
+next_number end e children (AnEntry e2 kids2 more2) u = omega (arith, u.numbered.0, u.numbered.2.0)
 
 pub record Child (end behind number : ℕ) (tables : Bool) (n : Node) (now after : Forest Resolved) : Type 0 where
   pub numbered : AreNumbered (node n).top.number (alone (node n))
   pub end_is : behind ≡ (node n).top.number + 1 + entries_in (node n).beneath
   pub after_is : AreUpTo end after
-  pub inner : number < behind → reach tables number now ≡ reach tables number (alone (node n))
-  pub outer : behind ≤ number → reach tables number now ≡ reach tables number after
+  pub inner : number < behind → number_behind tables number now ≡ number_behind tables number (alone (node n))
+  pub outer : behind ≤ number → number_behind tables number now ≡ number_behind tables number after
 
-alone_in : (tables : Bool) (a : ℕ) (e : Resolved) (kids more : Forest Resolved) → a < e.number + 1 + entries_in kids → reach tables a (Grows e kids more) ≡ reach tables a (Grows e kids Bare)
-alone_in tables a e kids more h = rw (le_no (e.number + 1 + entries_in kids) a h) refl
+alone_in : (tables : Bool) (a : ℕ) (e : Resolved) (children more : Forest Resolved) → a < e.number + 1 + entries_in children → number_behind tables a (AnEntry e children more) ≡ number_behind tables a (AnEntry e children NoEntries)
+alone_in tables a e children more h = rw (le_no (e.number + 1 + entries_in children) a h) refl
 
-pub child : (end behind number : ℕ) (tables : Bool) (kids : List Node) (k : ℕ) (n : Node) → k < length kids → n ≡ get_or kids k n → AreUpTo end (left kids k)
-    → behind ≡ first_number end (left kids (k + 1)) → Child end behind number tables n (left kids k) (left kids (k + 1))
-child end behind number tables kids k n lt is u b =
-    let e = left_is kids k n lt is in
-    let v : AreUpTo end (Grows (node n).top (node n).beneath (left kids (k + 1))) = subst (AreUpTo end) e u in
-    let m : behind ≡ (node n).top.number + 1 + entries_in (node n).beneath = b ∙ next_number end (node n).top (node n).beneath (left kids (k + 1)) v in
+pub child : (end behind number : ℕ) (tables : Bool) (children : List Node) (k : ℕ) (n : Node) → k < length children → n ≡ get_or children k n → AreUpTo end (left children k)
+    → behind ≡ first_number end (left children (k + 1)) → Child end behind number tables n (left children k) (left children (k + 1))
+child end behind number tables children k n lt is u b =
+    let e = left_is children k n lt is in
+    let v : AreUpTo end (AnEntry (node n).top (node n).beneath (left children (k + 1))) = subst (AreUpTo end) e u in
+    let m : behind ≡ (node n).top.number + 1 + entries_in (node n).beneath = b ∙ next_number end (node n).top (node n).beneath (left children (k + 1)) v in
     record {
       numbered = (refl, subst (λ (i : ℕ). AreNumbered (i + 1) (node n).beneath) (sym v.numbered.0) v.numbered.1, tt);
       end_is = m;
       after_is = record { first = v.first + 1 + entries_in (node n).beneath; numbered = v.numbered.2; ends = omega (arith, v.ends) };
-      inner = λ h. ap (reach tables number) e ∙ alone_in tables number (node n).top (node n).beneath (left kids (k + 1)) (omega (arith, m, h));
-      outer = λ h. ap (reach tables number) e ∙ reach_behind tables number (node n).top (node n).beneath (left kids (k + 1)) (omega (arith, m, h));
+      inner = λ h. ap (number_behind tables number) e ∙ alone_in tables number (node n).top (node n).beneath (left children (k + 1)) (omega (arith, m, h));
+      outer = λ h. ap (number_behind tables number) e ∙ reach_behind tables number (node n).top (node n).beneath (left children (k + 1)) (omega (arith, m, h));
     }
 
 -- the next child's number, or the end
-pub next_is : (end : ℕ) (kids : List Node) (k : ℕ) (n : Node) → k < length kids → n ≡ get_or kids k n → (out-Node n).number ≡ first_number end (left kids k)
-next_is end kids k n lt is = ap (λ (t : Tree Resolved). t.top.number) (sym (node_out n)) ∙ sym (ap (first_number end) (left_is kids k n lt is))
+pub next_is : (end : ℕ) (children : List Node) (k : ℕ) (n : Node) → k < length children → n ≡ get_or children k n → (out-Node n).number ≡ first_number end (left children k)
+next_is end children k n lt is = ap (λ (t : Tree Resolved). t.top.number) (sym (node_out n)) ∙ sym (ap (first_number end) (left_is children k n lt is))
 
-pub end_is : (end : ℕ) (kids : List Node) (k : ℕ) → length kids ≤ k → end ≡ first_number end (left kids k)
-end_is end kids k h = sym (ap (first_number end) (left_end kids k h))
+pub end_is : (end : ℕ) (children : List Node) (k : ℕ) → length children ≤ k → end ≡ first_number end (left children k)
+end_is end children k h = sym (ap (first_number end) (left_end children k h))
 
 pub all_below : (end : ℕ) (n : Node) → AreNumbered (node n).top.number (alone (node n)) → end ≡ (node n).top.number + 1 + entries_in (node n).beneath → AreUpTo end (below n)
 all_below end n h e = record {
@@ -73,12 +72,12 @@ stops_out : (tables : Bool) (number : ℕ) (n : Node) (b : Bool) → ((tables &&
 stops_out tables number n b e = ap (λ (t : Tree Resolved). Stops tables number t.top) (node_out n) ∙ e
 
 pub stops_here : (tables : Bool) (number end : ℕ) (n : Node) → ((tables && is_table (out-Node n).occurs) || ((out-Node n).number == number)) ≡ true
-    → end ≡ (node n).top.number + 1 + entries_in (node n).beneath → number < end → reach tables number (alone (node n)) ≡ end
-stops_here tables number end n s e l = reach_whole tables number (node n).top (node n).beneath Bare (omega (arith, e, l)) (stops_out tables number n true s) ∙ sym e
+    → end ≡ (node n).top.number + 1 + entries_in (node n).beneath → number < end → number_behind tables number (alone (node n)) ≡ end
+stops_here tables number end n s e l = reach_whole tables number (node n).top (node n).beneath NoEntries (omega (arith, e, l)) (stops_out tables number n true s) ∙ sym e
 
 pub goes_on : (tables : Bool) (number end : ℕ) (n : Node) → ((tables && is_table (out-Node n).occurs) || ((out-Node n).number == number)) ≡ false
-    → end ≡ (node n).top.number + 1 + entries_in (node n).beneath → number < end → reach tables number (alone (node n)) ≡ reach tables number (below n)
-goes_on tables number end n s e l = reach_inner tables number (node n).top (node n).beneath Bare (omega (arith, e, l)) (stops_out tables number n false s) ∙ ap (reach tables number) (below_is n)
+    → end ≡ (node n).top.number + 1 + entries_in (node n).beneath → number < end → number_behind tables number (alone (node n)) ≡ number_behind tables number (below n)
+goes_on tables number end n s e l = reach_inner tables number (node n).top (node n).beneath NoEntries (omega (arith, e, l)) (stops_out tables number n false s) ∙ ap (number_behind tables number) (below_is n)
 
 -- ---- tables that are needed
 
@@ -111,8 +110,8 @@ pub next_greatest : (xs : List Table) (k : ℕ) (d : Table) (c : List ℕ) → k
 next_greatest xs k d c lt = ap (λ (ys : List Table). greatest ys c) (drop_more xs k d lt)
 
 -- the test of the tables in the code's words
-pub needed_is : (t : Tree Resolved) (r : ℕ) (receiving : Bool) (xs : List Table) (behind end : ℕ) (last : Bool) → behind ≡ reach true r (alone t) → last ≡ (receiving && (reach false r (alone t) == end))
-    → end ≡ 1 + entries_in t.beneath → keep (is_needed behind last r) xs ≡ needed t r receiving xs
+pub needed_is : (t : Tree Resolved) (r : ℕ) (receiving : Bool) (xs : List Table) (behind end : ℕ) (last : Bool) → behind ≡ number_behind true r (alone t) → last ≡ (receiving && (number_behind false r (alone t) == end))
+    → end ≡ 1 + entries_in t.beneath → keep (is_needed behind last r) xs ≡ needed_tables t r receiving xs
 needed_is t r receiving xs behind end last b l e =
     ap (λ (n : ℕ). keep (is_needed n last r) xs) b
-    ∙ ap (λ (q : Bool). keep (is_needed (reach true r (alone t)) q r) xs) (l ∙ ap (λ (m : ℕ). receiving && (reach false r (alone t) == m)) e)
+    ∙ ap (λ (q : Bool). keep (is_needed (number_behind true r (alone t)) q r) xs) (l ∙ ap (λ (m : ℕ). receiving && (number_behind false r (alone t) == m)) e)

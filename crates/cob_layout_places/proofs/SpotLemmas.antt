@@ -6,9 +6,9 @@ use Rattle.std.specs.Prelude.{slice_set}
 use borrow.Rule.Slice.PartMut.{put_mid, mid_of}
 use Rattle.cob_copybook_tree.specs.declared.node.Node.{Node}
 use Rattle.cob_copybook_tree.specs.declared.node.Node.TheViews.{out-Node}
-use Rattle.cob_copybook_tree.specs.Forests.{Forest, Bare, Grows, entries_in}
+use Rattle.cob_copybook_tree.specs.Forests.{Forest, NoEntries, AnEntry, entries_in}
 use Rattle.cob_copybook_tree.specs.Nodes.{Resolved, node}
-use Rattle.cob_copybook_tree.specs.Lengths.{element, whole, room}
+use Rattle.cob_copybook_tree.specs.Lengths.{element_length, whole_length, own_length}
 use Rattle.cob_layout_places.specs.declared.spots.Spot.{Spot}
 use Rattle.cob_layout_places.specs.Places.{begins}
 use Rattle.cob_layout_places.specs.Spots.{spots_of, spots_one}
@@ -16,14 +16,14 @@ use Rattle.cob_layout_places.proofs.ForestLemmas.{left, left_is, redefines_of}
 
 -- there is one for each entry
 pub length_spots : (c : Resolved → ℕ) (f : Forest Resolved) (at area : ℕ) → length (spots_of c f at area) ≡ entries_in f
-length_spots c Bare at area = refl
-length_spots c (Grows e kids more) at area =
+length_spots c NoEntries at area = refl
+length_spots c (AnEntry e children more) at area =
     let start = begins e.redefines at area in
     omega (
       arith,
-      length-append (spots_of c kids start start) (spots_of c more (at + room e.redefines (whole c e kids)) start),
-      length_spots c kids start start,
-      length_spots c more (at + room e.redefines (whole c e kids)) start,
+      length-append (spots_of c children start start) (spots_of c more (at + own_length e.redefines (whole_length c e children)) start),
+      length_spots c children start start,
+      length_spots c more (at + own_length e.redefines (whole_length c e children)) start,
     )
 
 -- what a list is, once `one`, of length c, has been written into it from a on
@@ -62,14 +62,14 @@ first_written {X} a c xs rest new x d le g =
     ∙ get_or-append_seam (take a xs) x (rest ++ drop (a + c) xs) d
 
 -- the spots of the entries that are left are those of the next one and of those behind it
-pub spots_left : (c : Resolved → ℕ) (kids : List Node) (k : ℕ) (n : Node) (at area begin step : ℕ) → k < length kids → n ≡ get_or kids k n
-    → begin ≡ begins (out-Node n).redefines at area → step ≡ room (out-Node n).redefines (whole c (node n).top (node n).beneath)
-    → spots_of c (left kids k) at area ≡ spots_one c (node n) begin ++ spots_of c (left kids (k + 1)) (at + step) begin
-spots_left c kids k n at area begin step lt is b q =
-    ap (λ (f : Forest Resolved). spots_of c f at area) (left_is kids k n lt is)
-    ∙ ap (λ (o : Option (List ℕ)). spots_one c (node n) (begins o at area) ++ spots_of c (left kids (k + 1)) (at + room o (whole c (node n).top (node n).beneath)) (begins o at area)) (redefines_of n)
-    ∙ ap (λ (m : ℕ). spots_one c (node n) (begins (out-Node n).redefines at area) ++ spots_of c (left kids (k + 1)) (at + m) (begins (out-Node n).redefines at area)) (sym q)
-    ∙ ap (λ (m : ℕ). spots_one c (node n) m ++ spots_of c (left kids (k + 1)) (at + step) m) (sym b)
+pub spots_left : (c : Resolved → ℕ) (children : List Node) (k : ℕ) (n : Node) (at area begin step : ℕ) → k < length children → n ≡ get_or children k n
+    → begin ≡ begins (out-Node n).redefines at area → step ≡ own_length (out-Node n).redefines (whole_length c (node n).top (node n).beneath)
+    → spots_of c (left children k) at area ≡ spots_one c (node n) begin ++ spots_of c (left children (k + 1)) (at + step) begin
+spots_left c children k n at area begin step lt is b q =
+    ap (λ (f : Forest Resolved). spots_of c f at area) (left_is children k n lt is)
+    ∙ ap (λ (o : Option (List ℕ)). spots_one c (node n) (begins o at area) ++ spots_of c (left children (k + 1)) (at + own_length o (whole_length c (node n).top (node n).beneath)) (begins o at area)) (redefines_of n)
+    ∙ ap (λ (m : ℕ). spots_one c (node n) (begins (out-Node n).redefines at area) ++ spots_of c (left children (k + 1)) (at + m) (begins (out-Node n).redefines at area)) (sym q)
+    ∙ ap (λ (m : ℕ). spots_one c (node n) m ++ spots_of c (left children (k + 1)) (at + step) m) (sym b)
 
 -- and so are they, once those of the next one have been written
 pub spots_written : (xs one ys zs all : List Spot) (front : List Spot) → xs ≡ front ++ one → front ++ ys ≡ all → ys ≡ one ++ zs → xs ++ zs ≡ all
@@ -87,7 +87,7 @@ first_set (y ∷ xs) old n x all some le kept same = by n some kept same
 -- what a list is, once the spots of an entry and of those beneath it have been written into it from `next` on
 pub record Put (c : Resolved → ℕ) (n : Node) (next count begin : ℕ) (old new : List Spot) : Type 0 where
   pub grown : Grown next count old (spots_one c (node n) begin) new
-  pub size : (d : Spot) → (get_or new next d).times * (get_or new next d).length ≡ whole c (node n).top (node n).beneath
+  pub size : (d : Spot) → (get_or new next d).times * (get_or new next d).length ≡ whole_length c (node n).top (node n).beneath
 
 pub put : (c : Resolved → ℕ) (n : Node) (next k count begin : ℕ) (old part : List Spot) → 1 ≤ next → next + k ≡ length old → count ≤ k → count ≡ 1 + entries_in (node n).beneath
     → part ≡ spots_one c (node n) begin ++ drop count (mid_of next k old) → Put c n next count begin old (put_mid next k old part)
@@ -98,5 +98,5 @@ put c n next k count begin old part some all fits many is =
       grown = g;
       size = λ d.
           ap (λ (x : Spot). x.times * x.length)
-          (first_written next count old (spots_of c (node n).beneath begin begin) (put_mid next k old part) (record { offset = begin; length = element c (node n).top (node n).beneath; times = c (node n).top }) d (omega (arith, all)) g);
+          (first_written next count old (spots_of c (node n).beneath begin begin) (put_mid next k old part) (record { offset = begin; length = element_length c (node n).top (node n).beneath; times = c (node n).top }) d (omega (arith, all)) g);
     }

@@ -6,24 +6,24 @@ use Rattle.cob_layout_places.specs.declared.counts.CountFault.{CountFault}
 use Rattle.cob_layout_places.specs.declared.places.Found.{Found}
 use Rattle.cob_layout_places.specs.declared.varying.Table.{Table}
 use Rattle.cob_layout_places.specs.Lengths.{times}
-use Rattle.cob_layout_places.specs.Places.{find, find_one}
+use Rattle.cob_layout_places.specs.Places.{place_of, place_in_entry}
 use Rattle.cob_layout_places.specs.Cover.{AreNumbered}
 use Rattle.cob_layout_places.specs.Needs.{Has, Needs}
 use Rattle.cob_layout_places.specs.Counts.{part_of, IsCounted, Taken}
 
 -- the storages have the same bytes where the counts of these tables stand, as far as they are read
-abbrev pub DoAgree : Tree Resolved → List ℕ → List ℕ → List Table → List ℕ → Type 0
-DoAgree t a b [] c = Unit {0}
-DoAgree t a b (x ∷ xs) c =
-    ((found : Found) → find_one (times c) x.count t 0 [] ≡ Some found → part_of found a ≡ part_of found b)
-    × ((v : ℕ) → IsCounted t a x c (Ok v) → DoAgree t a b xs (slice_set c x.number v))
+abbrev pub AgreeOnCounts : Tree Resolved → List ℕ → List ℕ → List Table → List ℕ → Type 0
+AgreeOnCounts t a b [] c = Unit {0}
+AgreeOnCounts t a b (x ∷ xs) c =
+    ((found : Found) → place_in_entry (times c) x.count t 0 [] ≡ Some found → part_of found a ≡ part_of found b)
+    × ((v : ℕ) → IsCounted t a x c (Ok v) → AgreeOnCounts t a b xs (slice_set c x.number v))
 
 -- storages of one length that agree so have the same counts, or the same fault
 abbrev pub SameCounts : Type 0
-SameCounts = (t : Tree Resolved) (a b : List ℕ) (xs : List Table) (c : List ℕ) (r : Result (List ℕ) CountFault) → length a ≡ length b → DoAgree t a b xs c → Taken t a xs c r → Taken t b xs c r
+SameCounts = (t : Tree Resolved) (a b : List ℕ) (xs : List Table) (c : List ℕ) (r : Result (List ℕ) CountFault) → length a ≡ length b → AgreeOnCounts t a b xs c → Taken t a xs c r → Taken t b xs c r
 
 -- counts of a record that agree on the tables that the place of an entry needs give it one place
 abbrev pub OnePlace : Type 0
 OnePlace = (c d : List ℕ) (f : Forest Resolved) (r : ℕ) (subscripts : List ℕ) → AreNumbered 0 f → Has r f
     → ((x : ℕ) → Has x f → Needs r x f → slice_index c x ≡ slice_index d x)
-    → find (times c) r f 0 0 subscripts ≡ find (times d) r f 0 0 subscripts
+    → place_of (times c) r f 0 0 subscripts ≡ place_of (times d) r f 0 0 subscripts

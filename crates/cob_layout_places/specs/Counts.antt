@@ -6,32 +6,32 @@ use Rattle.cob_picture.specs.Counts.{scale}
 use Rattle.cob_copybook_tree.specs.declared.node.Item.{Item}
 use Rattle.cob_copybook_tree.specs.declared.node.Kind.{Kind}
 use Rattle.cob_copybook_tree.specs.declared.node.Kind.TheVariants.{Item as ItemKind}
-use Rattle.cob_copybook_tree.specs.declared.node.Times.{Times}
-use Rattle.cob_copybook_tree.specs.declared.node.Times.TheVariants.{Once, Fixed, Varying}
-use Rattle.cob_copybook_tree.specs.Forests.{Forest, Bare, Grows, Tree}
+use Rattle.cob_copybook_tree.specs.declared.node.ResolvedOccurs.{ResolvedOccurs}
+use Rattle.cob_copybook_tree.specs.declared.node.ResolvedOccurs.TheVariants.{Once, Fixed, Varying}
+use Rattle.cob_copybook_tree.specs.Forests.{Forest, NoEntries, AnEntry, Tree}
 use Rattle.cob_copybook_tree.specs.Nodes.{Resolved}
 use Rattle.cob_item.specs.Items.{IsNumberItem, Represents}
 use Rattle.cob_layout_places.specs.declared.counts.CountFault.{CountFault}
 use Rattle.cob_layout_places.specs.declared.places.Found.{Found}
 use Rattle.cob_layout_places.specs.declared.varying.Table.{Table}
 use Rattle.cob_layout_places.specs.Lengths.{times}
-use Rattle.cob_layout_places.specs.Places.{find_one, or_else, choose}
+use Rattle.cob_layout_places.specs.Places.{place_in_entry, or_else, choose}
 
 -- an entry that varies is a table with a count
-abbrev pub table_of : Times → ℕ → List Table
+abbrev pub table_of : ResolvedOccurs → ℕ → List Table
 table_of Once number = []
 table_of (Fixed n) number = []
 table_of (Varying least most count) number = record { number = number; least = least; most = most; count = count } ∷ []
 
 -- the tables that vary, in the order of the entries
 abbrev pub tables_of : Forest Resolved → List Table
-tables_of Bare = []
-tables_of (Grows e kids more) = table_of e.occurs e.number ++ (tables_of kids ++ tables_of more)
+tables_of NoEntries = []
+tables_of (AnEntry e children more) = table_of e.occurs e.number ++ (tables_of children ++ tables_of more)
 
 -- what the entry with this number describes
 abbrev pub kind_in : ℕ → Forest Resolved → Option Kind
-kind_in number Bare = None
-kind_in number (Grows e kids more) = or_else (choose (e.number == number) e.kind (kind_in number kids)) (kind_in number more)
+kind_in number NoEntries = None
+kind_in number (AnEntry e children more) = or_else (choose (e.number == number) e.kind (kind_in number children)) (kind_in number more)
 
 -- the same of an entry and those beneath it
 abbrev pub kind_one : ℕ → Tree Resolved → Option Kind
@@ -49,8 +49,8 @@ abbrev pub AreCountable : Tree Resolved → List Table → Type 0
 AreCountable t xs = AllByRecursion (IsCountable t) xs
 
 -- the counts have a place for each table
-abbrev pub HaveSlots : ℕ → List Table → Type 0
-HaveSlots n xs = AllByRecursion (λ (x : Table). x.number < n) xs
+abbrev pub AreNumberedBelow : ℕ → List Table → Type 0
+AreNumberedBelow n xs = AllByRecursion (λ (x : Table). x.number < n) xs
 
 -- the bytes of a place
 abbrev pub part_of : Found → List ℕ → List ℕ
@@ -58,7 +58,7 @@ part_of f bytes = take f.length (drop f.offset bytes)
 
 -- These bytes of a table's count give this number: they represent it, and it is from the table's least to its greatest one. What is below zero
 -- is none; minus zero is zero.
-pub record IsCount (i : Item) (x : Table) (part : List ℕ) (v : ℕ) : Type 0 where
+pub record IsCountValue (i : Item) (x : Table) (part : List ℕ) (v : ℕ) : Type 0 where
   pub digits : List ℕ
   pub represents : Represents i part false digits
   pub value : v ≡ number_of digits
@@ -68,20 +68,20 @@ pub record IsCount (i : Item) (x : Table) (part : List ℕ) (v : ℕ) : Type 0 w
 -- the count's item ends past the bytes; or it doesn't, and gives no number
 abbrev pub IsFaulty : Bool → Item → Table → Found → List ℕ → Type 0
 IsFaulty true i x f bytes = length bytes < f.offset + f.length
-IsFaulty false i x f bytes = (f.offset + f.length ≤ length bytes) × ((v : ℕ) → IsCount i x (part_of f bytes) v → ⊥)
+IsFaulty false i x f bytes = (f.offset + f.length ≤ length bytes) × ((v : ℕ) → IsCountValue i x (part_of f bytes) v → ⊥)
 
 -- what the bytes say of a table whose count stands there: a number, or a fault of the count's place
-abbrev pub Says : Item → Table → Found → List ℕ → Result ℕ CountFault → Type 0
-Says i x f bytes (Ok v) = (f.offset + f.length ≤ length bytes) × IsCount i x (part_of f bytes) v
-Says i x f bytes (Err e) = (e.offset ≡ f.offset) × IsFaulty e.short i x f bytes
+abbrev pub SaysOfTable : Item → Table → Found → List ℕ → Result ℕ CountFault → Type 0
+SaysOfTable i x f bytes (Ok v) = (f.offset + f.length ≤ length bytes) × IsCountValue i x (part_of f bytes) v
+SaysOfTable i x f bytes (Err e) = (e.offset ≡ f.offset) × IsFaulty e.short i x f bytes
 
 -- what the bytes say of a table whose count's place follows from the counts so far
 pub record IsCounted (t : Tree Resolved) (bytes : List ℕ) (x : Table) (c : List ℕ) (r : Result ℕ CountFault) : Type 0 where
   pub item : Item
   pub is : kind_one x.count t ≡ Some (ItemKind item)
   pub found : Found
-  pub stands : find_one (times c) x.count t 0 [] ≡ Some found
-  pub says : Says item x found bytes r
+  pub stands : place_in_entry (times c) x.count t 0 [] ≡ Some found
+  pub says : SaysOfTable item x found bytes r
 
 -- What the bytes say of these tables, one behind another, from these counts on: the counts with each table's number in its place, or the fault of
 -- the first table that has one. The place of a count follows from the counts of the tables before.

@@ -2,12 +2,12 @@
 use Rattle.std.specs.Prelude.{◌≡◌, ℕ, zero, suc, ◌+◌, ◌<◌, ◌≤◌, Bool, true, false, ◌&&◌, nat_le, nat_lt, count_by, List, [], ◌∷◌, ◌++◌, map, Option, Some, None}
 use Rattle.cob_copybook_tree.specs.declared.node.Kind.{Kind}
 use Rattle.cob_copybook_tree.specs.declared.node.Kind.TheVariants.{Group, Item as ItemKind}
-use Rattle.cob_copybook_tree.specs.Forests.{Forest, Bare, Grows, entries_in}
+use Rattle.cob_copybook_tree.specs.Forests.{Forest, NoEntries, AnEntry, entries_in}
 use Rattle.cob_copybook_tree.specs.Nodes.{Resolved}
-use Rattle.cob_copybook_tree.specs.Lengths.{most, sum_of}
+use Rattle.cob_copybook_tree.specs.Lengths.{greatest_number, sum_of}
 use Rattle.cob_layout_places.specs.declared.places.Found.{Found}
 use Rattle.cob_layout_places.specs.Lengths.{times}
-use Rattle.cob_layout_places.specs.Places.{find, is_table}
+use Rattle.cob_layout_places.specs.Places.{place_of, is_table}
 
 -- one occurrence of an item: its number, and its subscripts
 pub record Occurrence : Type 0 where
@@ -40,9 +40,9 @@ item_or (ItemKind i) x xs = x ∷ []
 
 -- the occurrences of the items that stand in no redefinition, in the record's order
 abbrev pub occurrences : (Resolved → ℕ) → Forest Resolved → List Occurrence
-occurrences c Bare = []
-occurrences c (Grows e kids more) =
-    unless e.redefines (each under (is_table e.occurs) (c e) (λ k. item_or e.kind (record { number = e.number; subscripts = [] }) (occurrences c kids)))
+occurrences c NoEntries = []
+occurrences c (AnEntry e children more) =
+    unless e.redefines (each under (is_table e.occurs) (c e) (λ k. item_or e.kind (record { number = e.number; subscripts = [] }) (occurrences c children)))
     ++ occurrences c more
 
 -- an offset is within a place
@@ -56,18 +56,18 @@ holds_in o (Some f) = f.within && holds o f.offset f.length
 
 -- the entries have the numbers from n on, each before those beneath it
 abbrev pub AreNumbered : ℕ → Forest Resolved → Type 0
-AreNumbered n Bare = Unit {0}
-AreNumbered n (Grows e kids more) = (e.number ≡ n) × AreNumbered (n + 1) kids × AreNumbered (n + 1 + entries_in kids) more
+AreNumbered n NoEntries = Unit {0}
+AreNumbered n (AnEntry e children more) = (e.number ≡ n) × AreNumbered (n + 1) children × AreNumbered (n + 1 + entries_in children) more
 
 -- a way to count entries: one that is no table once, and none more often than its greatest number
-pub record IsTimes (c : Resolved → ℕ) : Type 0 where
+pub record CountsOccurrences (c : Resolved → ℕ) : Type 0 where
   pub once : (e : Resolved) → is_table e.occurs ≡ false → c e ≡ 1
-  pub most : (e : Resolved) → c e ≤ most e
+  pub most : (e : Resolved) → c e ≤ greatest_number e
 
 -- each offset below the length of the entries is in the place of exactly one occurrence
 abbrev pub IsCovered : (Resolved → ℕ) → Forest Resolved → Type 0
-IsCovered c f = (o : ℕ) → o < sum_of c f → count_by (λ (r : Occurrence). holds_in o (find c r.number f 0 0 r.subscripts)) (occurrences c f) ≡ 1
+IsCovered c f = (o : ℕ) → o < sum_of c f → count_by (λ (r : Occurrence). holds_in o (place_of c r.number f 0 0 r.subscripts)) (occurrences c f) ≡ 1
 
 -- the entries of a record are covered, under whatever counts, and under the greatest ones
 abbrev pub Covering : Type 0
-Covering = (c : Resolved → ℕ) (f : Forest Resolved) → IsTimes c → AreNumbered 0 f → IsCovered c f
+Covering = (c : Resolved → ℕ) (f : Forest Resolved) → CountsOccurrences c → AreNumbered 0 f → IsCovered c f

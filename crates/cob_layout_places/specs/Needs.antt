@@ -1,26 +1,25 @@
 -- Which counts the place of an entry needs.
 use Rattle.std.specs.Prelude.{◌≡◌, ◌⊎◌, ℕ, ◌+◌, ◌<◌, Bool, true, false, ◌==◌, ◌||◌, ◌&&◌, not, nat_le, nat_lt, if◌then◌else◌, List, [], ◌∷◌, slice_set, ◌↔◌}
-use Rattle.cob_copybook_tree.specs.Forests.{Forest, Bare, Grows, Tree, entries_in}
-use Rattle.cob_copybook_tree.specs.Nodes.{Resolved}
+use Rattle.cob_copybook_tree.specs.Forests.{Forest, NoEntries, AnEntry, Tree, entries_in}
+use Rattle.cob_copybook_tree.specs.Nodes.{Resolved, alone}
 use Rattle.cob_layout_places.specs.declared.varying.Table.{Table}
-use Rattle.cob_layout_places.specs.Lengths.{alone}
 use Rattle.cob_layout_places.specs.Places.{is_table}
 use Rattle.cob_layout_places.specs.Cover.{AreNumbered}
 
 -- one of the entries has this number
 abbrev pub Has : ℕ → Forest Resolved → Type 0
-Has a Bare = ⊥
-Has a (Grows e kids more) = (e.number ≡ a) ⊎ (Has a kids ⊎ Has a more)
+Has a NoEntries = ⊥
+Has a (AnEntry e children more) = (e.number ≡ a) ⊎ (Has a children ⊎ Has a more)
 
 -- the second entry stands beneath the first one
 abbrev pub Holds : ℕ → ℕ → Forest Resolved → Type 0
-Holds a b Bare = ⊥
-Holds a b (Grows e kids more) = ((e.number ≡ a) × Has b kids) ⊎ (Holds a b kids ⊎ Holds a b more)
+Holds a b NoEntries = ⊥
+Holds a b (AnEntry e children more) = ((e.number ≡ a) × Has b children) ⊎ (Holds a b children ⊎ Holds a b more)
 
 -- both entries stand beneath one table
 abbrev pub ShareTable : ℕ → ℕ → Forest Resolved → Type 0
-ShareTable a b Bare = ⊥
-ShareTable a b (Grows e kids more) = ((is_table e.occurs ≡ true) × Has a kids × Has b kids) ⊎ (ShareTable a b kids ⊎ ShareTable a b more)
+ShareTable a b NoEntries = ⊥
+ShareTable a b (AnEntry e children more) = ((is_table e.occurs ≡ true) × Has a children × Has b children) ⊎ (ShareTable a b children ⊎ ShareTable a b more)
 
 -- The place of entry r needs the count of the table x that varies: it stands before r, is r, holds r, stands beneath r, or beneath a table that
 -- holds r.
@@ -34,12 +33,12 @@ pub record IsSpared (r : ℕ) (x : Table) (f : Forest Resolved) : Type 0 where
   pub count : Holds r x.count f
 
 -- the number behind the last entry beneath r, or with tables beneath the outermost table that holds r
-abbrev pub reach : (tables : Bool) → ℕ → Forest Resolved → ℕ
-reach tables r Bare = 0
-reach tables r (Grows e kids more) =
-    let end = e.number + 1 + entries_in kids in
-    if nat_le end r then reach tables r more else
-    if (tables && is_table e.occurs) || e.number == r then end else reach tables r kids
+abbrev pub number_behind : (tables : Bool) → ℕ → Forest Resolved → ℕ
+number_behind tables r NoEntries = 0
+number_behind tables r (AnEntry e children more) =
+    let end = e.number + 1 + entries_in children in
+    if nat_le end r then number_behind tables r more else
+    if (tables && is_table e.occurs) || e.number == r then end else number_behind tables r children
 
 -- the table's count is needed, where this is the reach of r with tables, and r receives and is the last one or not
 abbrev pub is_needed : (behind : ℕ) → (last : Bool) → (r : ℕ) → Table → Bool
@@ -52,11 +51,11 @@ keep test (x ∷ xs) = if test x then x ∷ keep test xs else keep test xs
 
 -- the count of x is read for the place of r, where r receives or not
 abbrev pub is_read : Tree Resolved → ℕ → Bool → Table → Bool
-is_read t r receiving x = is_needed (reach true r (alone t)) (receiving && (reach false r (alone t) == 1 + entries_in t.beneath)) r x
+is_read t r receiving x = is_needed (number_behind true r (alone t)) (receiving && (number_behind false r (alone t) == 1 + entries_in t.beneath)) r x
 
 -- the tables whose counts are read for the place of r, where r receives or not
-abbrev pub needed : Tree Resolved → ℕ → Bool → List Table → List Table
-needed t r receiving xs = keep (is_read t r receiving) xs
+abbrev pub needed_tables : Tree Resolved → ℕ → Bool → List Table → List Table
+needed_tables t r receiving xs = keep (is_read t r receiving) xs
 
 -- the counts with each table's greatest number in its place
 abbrev pub greatest : List Table → List ℕ → List ℕ

@@ -1,15 +1,15 @@
 -- Where entries stand in a record.
 use Rattle.std.specs.Prelude.{ℕ, ◌+◌, ◌-◌, ◌*◌, ◌≤◌, Bool, true, false, ◌==◌, ◌&&◌, nat_le, min, List, [], ◌∷◌, Option, Some, None, IfSome}
-use Rattle.cob_copybook_tree.specs.declared.node.Times.{Times}
-use Rattle.cob_copybook_tree.specs.declared.node.Times.TheVariants.{Once, Fixed, Varying}
-use Rattle.cob_copybook_tree.specs.Forests.{Forest, Bare, Grows, Tree}
+use Rattle.cob_copybook_tree.specs.declared.node.ResolvedOccurs.{ResolvedOccurs}
+use Rattle.cob_copybook_tree.specs.declared.node.ResolvedOccurs.TheVariants.{Once, Fixed, Varying}
+use Rattle.cob_copybook_tree.specs.Forests.{Forest, NoEntries, AnEntry, Tree}
 use Rattle.cob_copybook_tree.specs.Nodes.{Resolved}
-use Rattle.cob_copybook_tree.specs.Lengths.{element, whole, room, most}
+use Rattle.cob_copybook_tree.specs.Lengths.{element_length, whole_length, own_length, greatest_number}
 use Rattle.cob_layout_places.specs.declared.places.Found.{Found}
-use Rattle.cob_layout_places.specs.Lengths.{times, IsFit}
+use Rattle.cob_layout_places.specs.Lengths.{times, FitsInRecord}
 
 -- an entry with OCCURS is a table
-abbrev pub is_table : Times → Bool
+abbrev pub is_table : ResolvedOccurs → Bool
 is_table Once = false
 is_table (Fixed n) = true
 is_table (Varying least most count) = true
@@ -55,28 +55,28 @@ choose false found other = other
 
 -- Where the entry with this number stands, its tables with these subscripts, the outermost first: the entries stand from `at` on, and the
 -- area before them began at `area`. Without subscripts that are left, the first element of a table is meant.
-abbrev pub find : (Resolved → ℕ) → ℕ → Forest Resolved → ℕ → ℕ → List ℕ → Option Found
-find c number Bare at area subscripts = None
-find c number (Grows e kids more) at area subscripts =
+abbrev pub place_of : (Resolved → ℕ) → ℕ → Forest Resolved → ℕ → ℕ → List ℕ → Option Found
+place_of c number NoEntries at area subscripts = None
+place_of c number (AnEntry e children more) at area subscripts =
     let table = is_table e.occurs in
     let start = begins e.redefines at area in
-    let size = element c e kids in
-    let offset = start + skipped table (most e) subscripts * size in
+    let size = element_length c e children in
+    let offset = start + skipped table (greatest_number e) subscripts * size in
     let there = is_there table (c e) subscripts in
     or_else
     (choose (e.number == number) (record { offset = offset; length = size; within = there })
-    (also there (find c number kids offset offset (later table subscripts))))
-    (find c number more (at + room e.redefines (whole c e kids)) start subscripts)
+    (also there (place_of c number children offset offset (later table subscripts))))
+    (place_of c number more (at + own_length e.redefines (whole_length c e children)) start subscripts)
 
 -- the same of one entry, which begins at `start`
-abbrev pub find_one : (Resolved → ℕ) → ℕ → Tree Resolved → ℕ → List ℕ → Option Found
-find_one c number t start subscripts =
+abbrev pub place_in_entry : (Resolved → ℕ) → ℕ → Tree Resolved → ℕ → List ℕ → Option Found
+place_in_entry c number t start subscripts =
     let table = is_table t.top.occurs in
-    let size = element c t.top t.beneath in
-    let offset = start + skipped table (most t.top) subscripts * size in
+    let size = element_length c t.top t.beneath in
+    let offset = start + skipped table (greatest_number t.top) subscripts * size in
     let there = is_there table (c t.top) subscripts in
     choose (t.top.number == number) (record { offset = offset; length = size; within = there })
-    (also there (find c number t.beneath offset offset (later table subscripts)))
+    (also there (place_of c number t.beneath offset offset (later table subscripts)))
 
 -- a place that is found ends by then
 abbrev pub EndsBy : ℕ → Option Found → Type 0
@@ -84,5 +84,5 @@ EndsBy m o = IfSome o (λ f. f.offset + f.length ≤ m)
 
 -- what is found in an entry ends within its greatest length, whatever the counts and subscripts
 abbrev pub EndInRecord : Type 0
-EndInRecord = (counts : List ℕ) (number : ℕ) (t : Tree Resolved) (start : ℕ) (subscripts : List ℕ) → IsFit start t
-    → EndsBy (start + whole most t.top t.beneath) (find_one (times counts) number t start subscripts)
+EndInRecord = (counts : List ℕ) (number : ℕ) (t : Tree Resolved) (start : ℕ) (subscripts : List ℕ) → FitsInRecord start t
+    → EndsBy (start + whole_length greatest_number t.top t.beneath) (place_in_entry (times counts) number t start subscripts)

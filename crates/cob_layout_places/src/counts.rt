@@ -5,9 +5,9 @@ ghost use Rattle.cob_copybook_tree.specs.declared.node.Kind.TheVariants.{Item as
 ghost use Rattle.cob_copybook_tree.specs.Nodes.{node};
 ghost use Rattle.cob_copybook_tree.specs.Lengths.{item_size};
 ghost use Rattle.cob_item.specs.Items.{IsNumberItem};
-ghost use Rattle.cob_layout_places.specs.Lengths.{times, IsFit};
-ghost use Rattle.cob_layout_places.specs.Places.{find_one};
-ghost use Rattle.cob_layout_places.specs.Counts.{AreCountable, HaveSlots, IsCount, IsCountable, IsCounted, kind_one, Says, Taken};
+ghost use Rattle.cob_layout_places.specs.Lengths.{times, FitsInRecord};
+ghost use Rattle.cob_layout_places.specs.Places.{place_in_entry};
+ghost use Rattle.cob_layout_places.specs.Counts.{AreCountable, AreNumberedBelow, IsCountValue, IsCountable, IsCounted, kind_one, SaysOfTable, Taken};
 
 use crate::places::{Found, seek};
 use crate::varying::{Table, kind_with};
@@ -49,8 +49,8 @@ fn whole(digits: &[u8], most: u32) -> Option<u32>
 fn count(item: &Item, table: Table, part: &[u8]) -> Option<u32>
     requires number { IsNumberItem item.now }
     requires long { length part.now ≡ item_size item.now }
-    ensures found { IfSome result (λ v. IsCount item.now table part.now v) }
-    ensures none { IfNone result ((v : ℕ) → IsCount item.now table part.now v → ⊥) }
+    ensures found { IfSome result (λ v. IsCountValue item.now table part.now v) }
+    ensures none { IfNone result ((v : ℕ) → IsCountValue item.now table part.now v → ⊥) }
 {
     let number = read_number(item, part)?;
     if number.negative() {
@@ -67,8 +67,8 @@ fn count(item: &Item, table: Table, part: &[u8]) -> Option<u32>
 fn count_at(item: &Item, table: Table, found: Found, bytes: &[u8]) -> Result<u32, CountFault>
     requires number { IsNumberItem item.now }
     requires long { found.length ≡ item_size item.now }
-    ensures ok { IfOk result (λ v. Says item.now table found bytes.now (Ok v)) }
-    ensures err { IfErr result (λ e. Says item.now table found bytes.now (Err e)) }
+    ensures ok { IfOk result (λ v. SaysOfTable item.now table found bytes.now (Ok v)) }
+    ensures err { IfErr result (λ e. SaysOfTable item.now table found bytes.now (Err e)) }
 {
     let start = found.offset as usize;
     let end = start + found.length as usize;
@@ -108,12 +108,12 @@ fn item_with(root: &Node, number: usize) -> Option<&Item>
 pub fn count_there(root: &Node, table: Table, found: Found, bytes: &[u8]) -> Result<u32, CountFault>
     requires countable { IsCountable (node root.now) table }
     requires stands { (counts : List ℕ)
-        × (find_one (times counts) table.count (node root.now) 0 [] ≡ Some found) }
+        × (place_in_entry (times counts) table.count (node root.now) 0 [] ≡ Some found) }
     ensures ok { IfOk result (λ v. (counts : List ℕ)
-        → find_one (times counts) table.count (node root.now) 0 [] ≡ Some found
+        → place_in_entry (times counts) table.count (node root.now) 0 [] ≡ Some found
         → IsCounted (node root.now) bytes.now table counts (Ok v)) }
     ensures err { IfErr result (λ e. (counts : List ℕ)
-        → find_one (times counts) table.count (node root.now) 0 [] ≡ Some found
+        → place_in_entry (times counts) table.count (node root.now) 0 [] ≡ Some found
         → IsCounted (node root.now) bytes.now table counts (Err e)) }
 {
     match item_with(root, table.count) {
@@ -128,7 +128,7 @@ pub fn count_there(root: &Node, table: Table, found: Found, bytes: &[u8]) -> Res
 ///
 /// The count gives no number from its table's least to its greatest one, or ends past the bytes.
 pub fn count_of(root: &Node, table: Table, bytes: &[u8], counts: &[u32]) -> Result<u32, CountFault>
-    requires fit { IsFit 0 (node root.now) }
+    requires fit { FitsInRecord 0 (node root.now) }
     requires countable { IsCountable (node root.now) table }
     ensures ok { IfOk result (λ v. IsCounted (node root.now) bytes.now table counts.now (Ok v)) }
     ensures err { IfErr result (λ e. IsCounted (node root.now) bytes.now table counts.now (Err e)) }
@@ -150,9 +150,9 @@ pub fn take_counts(
     bytes: &[u8],
     counts: &mut [u32],
 ) -> Result<(), CountFault>
-    requires fit { IsFit 0 (node root.now) }
+    requires fit { FitsInRecord 0 (node root.now) }
     requires countable { AreCountable (node root.now) tables.now }
-    requires slots { HaveSlots (length counts.old) tables.now }
+    requires slots { AreNumberedBelow (length counts.old) tables.now }
     ensures ok { OnOk result
         (Taken (node root.now) bytes.now tables.now counts.old (Ok counts.new)) }
     ensures err { IfErr result

@@ -1,11 +1,11 @@
 ghost use Rattle.std.specs.Prelude.{ℕ, List};
-ghost use Rattle.cob_copybook_tree.specs.Lengths.{most};
+ghost use Rattle.cob_copybook_tree.specs.Lengths.{greatest_number};
 ghost use Rattle.cob_layout_places.specs.Lengths.{times};
 ghost use Rattle.cob_layout_places.specs.Needs.{NeedsAreRead};
 ghost use Rattle.cob_layout_places.specs.Places.{EndInRecord};
 ghost use Rattle.cob_layout_places.specs.Counts.{OneOutcome};
 ghost use Rattle.cob_layout_places.specs.Agree.{OnePlace, SameCounts};
-ghost use Rattle.cob_layout_places.specs.Cover.{Covering, IsTimes};
+ghost use Rattle.cob_layout_places.specs.Cover.{Covering, CountsOccurrences};
 
 /// A place that is found ends within the record's greatest length.
 pub fn places_end_in_record()
@@ -15,8 +15,8 @@ pub fn places_end_in_record()
 /// Each byte of a record is in exactly one occurrence of an item that stands in no redefinition.
 pub fn covering()
     ensures covered { Covering }
-    ensures counted { (counts : List ℕ) → IsTimes (times counts) }
-    ensures greatest { IsTimes most }
+    ensures counted { (counts : List ℕ) → CountsOccurrences (times counts) }
+    ensures greatest { CountsOccurrences greatest_number }
 {}
 
 /// Bytes say one thing of the tables of a record: the counts, or the first fault.

@@ -1,10 +1,10 @@
 ghost use Rattle.std.specs.Prelude.{◌≡◌, ◌<◌, ◌≤◌, length};
-ghost use Rattle.cob_copybook_tree.specs.Nodes.{node};
-ghost use Rattle.cob_copybook_tree.specs.Lengths.{element, most, whole};
-ghost use Rattle.cob_layout_places.specs.Lengths.{alone, times, MayOccur};
+ghost use Rattle.cob_copybook_tree.specs.Nodes.{node, alone};
+ghost use Rattle.cob_copybook_tree.specs.Lengths.{element_length, greatest_number, whole_length};
+ghost use Rattle.cob_layout_places.specs.Lengths.{times, MayOccur};
 ghost use Rattle.cob_limits.specs.Limits.{longest_record};
 
-use cob_copybook_tree::{Kind, Node, Times};
+use cob_copybook_tree::{Kind, Node, ResolvedOccurs};
 
 /// How often an entry occurs under these counts, which stand by the numbers of their tables.
 ///
@@ -13,9 +13,9 @@ pub fn times_of(entry: &Node, counts: &[u32]) -> u32
     ensures { result ≡ times counts.now (node entry.now).top }
 {
     match entry.occurs {
-        Times::Once => 1,
-        Times::Fixed(times) => times,
-        Times::Varying { most, .. } => match counts.get(entry.number) {
+        ResolvedOccurs::Once => 1,
+        ResolvedOccurs::Fixed(times) => times,
+        ResolvedOccurs::Varying { most, .. } => match counts.get(entry.number) {
             Some(count) => (*count).min(most),
             None => 0,
         },
@@ -25,8 +25,10 @@ pub fn times_of(entry: &Node, counts: &[u32]) -> u32
 /// The length of one element of an entry under these counts, in bytes: at most 32,752.
 pub fn element_of(entry: &Node, counts: &[u32]) -> u32
     requires possible { MayOccur (alone (node entry.now)) }
-    requires small { whole most (node entry.now).top (node entry.now).beneath ≤ longest_record }
-    ensures { result ≡ element (times counts.now) (node entry.now).top (node entry.now).beneath }
+    requires small { whole_length greatest_number (node entry.now).top (node entry.now).beneath ≤
+        longest_record }
+    ensures { result ≡ element_length (times counts.now) (node entry.now).top
+        (node entry.now).beneath }
 {
     match &entry.kind {
         Kind::Item(item) => u32::from(item.size()),

@@ -4,8 +4,8 @@
 //! the number of its table's entry. What is promised:
 //!
 //! - [`times_of`] and [`element_of`] say how often an entry occurs under counts, and how long one of its elements is: `times` of
-//!   specs/Lengths.antt, and `element` of cob_copybook_tree. A count that is more than its table's greatest number counts as that number.
-//! - [`seek`] answers the place of an entry under counts and subscripts exactly (`find_one` of specs/Places.antt): it stands behind those before
+//!   specs/Lengths.antt, and `element_length` of cob_copybook_tree. A count that is more than its table's greatest number counts as that number.
+//! - [`seek`] answers the place of an entry under counts and subscripts exactly (`place_in_entry` of specs/Places.antt): it stands behind those before
 //!   it with all their occurrences, and a redefinition where its area begins. The law [`places_end_in_record`] says that a place ends within
 //!   the record's greatest length, and [`covering`] that each byte of a record is in exactly one occurrence of an item that stands in no
 //!   redefinition (specs/Cover.antt).
@@ -15,11 +15,11 @@
 //! - [`tables`] lists the tables that vary, and [`take_counts`] takes their counts from a storage, one behind another, or answers the first count
 //!   that ends past the bytes or gives no number within its table's bounds (`Taken` of specs/Counts.antt). There is one such outcome
 //!   ([`one_outcome`]; [`count_of`] and [`count_there`] take one count), and storages that agree where the counts stand have the same one ([`same_counts`]).
-//! - [`take_needed`] takes only the counts that the place of one entry needs, and none that a receiver is spared (`needed` of specs/Needs.antt).
+//! - [`take_needed`] takes only the counts that the place of one entry needs, and none that a receiver is spared (`needed_tables` of specs/Needs.antt).
 //!   [`is_needed`] is its test of a table. [`needs_are_read`] says which these are in the words of COBOL, and [`one_place`] that counts that
 //!   agree on them give the entry one place.
 //!
-//! What holds of the entries of every record is asked for as `IsFit` of specs/Lengths.antt: each entry may occur, groups alone have entries
+//! What holds of the entries of every record is asked for as `FitsInRecord` of specs/Lengths.antt: each entry may occur, groups alone have entries
 //! beneath them, no redefinition is longer than its area, and the record isn't too long.
 //!
 //! It stands on `cob_copybook_tree` for the entries and on `cob_item` for the numbers of counts. Only [`tables`] takes memory.

@@ -1,31 +1,31 @@
 ghost use Rattle.std.specs.Prelude.{◌≡◌, ◌==◌, ◌&&◌, false, ℕ, ◌+◌, ◌<◌, ◌≤◌, Bool, List, length, Ok, Err, OnOk, IfErr};
 ghost use Rattle.cob_copybook_tree.specs.Forests.{entries_in};
-ghost use Rattle.cob_copybook_tree.specs.Nodes.{forest, node};
-ghost use Rattle.cob_layout_places.specs.Lengths.{alone, IsFit};
+ghost use Rattle.cob_copybook_tree.specs.Nodes.{forest, node, alone};
+ghost use Rattle.cob_layout_places.specs.Lengths.{FitsInRecord};
 ghost use Rattle.cob_layout_places.specs.Places.{is_table};
 ghost use Rattle.cob_layout_places.specs.Cover.{AreNumbered};
-ghost use Rattle.cob_layout_places.specs.Counts.{AreCountable, HaveSlots, Taken};
-ghost use Rattle.cob_layout_places.specs.Needs.{greatest, is_needed, needed, reach};
+ghost use Rattle.cob_layout_places.specs.Counts.{AreCountable, AreNumberedBelow, Taken};
+ghost use Rattle.cob_layout_places.specs.Needs.{greatest, is_needed, needed_tables, number_behind};
 
 use crate::counts::{CountFault, count_of};
 use crate::varying::Table;
-use cob_copybook_tree::{Node, Times};
+use cob_copybook_tree::{Node, ResolvedOccurs};
 
 /// Whether an entry that occurs so is a table.
-pub fn is_table(occurs: Times) -> bool
+pub fn is_table(occurs: ResolvedOccurs) -> bool
     ensures { result ≡ is_table occurs }
 {
-    !matches!(occurs, Times::Once)
+    !matches!(occurs, ResolvedOccurs::Once)
 }
 
 /// The number behind the last entry beneath the one with this number, or with `tables` beneath the outermost table that holds it.
 ///
 /// The number is that of this entry or of one beneath it, and `end` is the number behind the last one beneath it.
-fn reach(entry: &Node, end: usize, number: usize, tables: bool) -> usize
+fn number_behind(entry: &Node, end: usize, number: usize, tables: bool) -> usize
     requires numbered { AreNumbered (node entry.now).top.number (alone (node entry.now)) }
     requires end { end ≡ (node entry.now).top.number + 1 + entries_in (node entry.now).beneath }
     requires inside { number < end }
-    ensures { result ≡ reach tables number (alone (node entry.now)) }
+    ensures { result ≡ number_behind tables number (alone (node entry.now)) }
 {
     if (tables && is_table(entry.occurs)) || entry.number == number {
         return end;
@@ -38,7 +38,7 @@ fn reach(entry: &Node, end: usize, number: usize, tables: bool) -> usize
             None => end,
         };
         if number < behind {
-            return reach(child, behind, number, tables);
+            return number_behind(child, behind, number, tables);
         }
     }
     0
@@ -49,9 +49,9 @@ fn is_last_receiver(root: &Node, end: usize, number: usize, receiving: bool) -> 
     requires numbered { AreNumbered (node root.now).top.number (alone (node root.now)) }
     requires end { end ≡ (node root.now).top.number + 1 + entries_in (node root.now).beneath }
     requires inside { number < end }
-    ensures { result ≡ (receiving && (reach false number (alone (node root.now)) == end)) }
+    ensures { result ≡ (receiving && (number_behind false number (alone (node root.now)) == end)) }
 {
-    receiving && reach(root, end, number, false) == end
+    receiving && number_behind(root, end, number, false) == end
 }
 
 /// Whether a table's count is needed below this number, for the last entry of a record that receives or not.
@@ -64,7 +64,7 @@ pub fn is_needed(behind: usize, last: bool, number: usize, table: Table) -> bool
 
 /// Puts the greatest number of each table into its place.
 fn begin_with_greatest(tables: &[Table], counts: &mut [u32])
-    requires { HaveSlots (length counts.old) tables.now }
+    requires { AreNumberedBelow (length counts.old) tables.now }
     ensures value { counts.new ≡ greatest tables.now counts.old }
     ensures room { length counts.new ≡ length counts.old }
 {
@@ -89,20 +89,20 @@ pub fn take_needed(
     bytes: &[u8],
     counts: &mut [u32],
 ) -> Result<(), CountFault>
-    requires fit { IsFit 0 (node root.now) }
+    requires fit { FitsInRecord 0 (node root.now) }
     requires numbered { AreNumbered 0 (alone (node root.now)) }
     requires countable { AreCountable (node root.now) tables.now }
-    requires slots { HaveSlots (length counts.old) tables.now }
+    requires slots { AreNumberedBelow (length counts.old) tables.now }
     requires all { length counts.old ≡ 1 + entries_in (node root.now).beneath }
     requires there { number < length counts.old }
-    ensures ok { OnOk result (Taken (node root.now) bytes.now (needed (node root.now)
+    ensures ok { OnOk result (Taken (node root.now) bytes.now (needed_tables (node root.now)
         number receiving tables.now) (greatest tables.now counts.old) (Ok counts.new)) }
-    ensures err { IfErr result (λ e. Taken (node root.now) bytes.now (needed
+    ensures err { IfErr result (λ e. Taken (node root.now) bytes.now (needed_tables
         (node root.now) number receiving tables.now) (greatest tables.now counts.old) (Err e)) }
     ensures room { length counts.new ≡ length counts.old }
 {
     let end = counts.len();
-    let behind = reach(root, end, number, true);
+    let behind = number_behind(root, end, number, true);
     let last = is_last_receiver(root, end, number, receiving);
     begin_with_greatest(tables, counts);
     for table in tables {

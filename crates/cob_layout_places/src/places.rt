@@ -1,12 +1,12 @@
 ghost use Rattle.std.specs.Prelude.{◌≡◌, ℕ, ◌+◌, ◌*◌, ◌<◌, ◌≤◌, Bool, List, length, Option, Some, None, IfOk, IfErr};
-ghost use Rattle.cob_copybook_tree.specs.Nodes.{node};
-ghost use Rattle.cob_copybook_tree.specs.Lengths.{element, most, most_by, one, room, whole};
-ghost use Rattle.cob_layout_places.specs.Lengths.{alone, times, IsFit, MayOccur};
+ghost use Rattle.cob_copybook_tree.specs.Nodes.{node, alone};
+ghost use Rattle.cob_copybook_tree.specs.Lengths.{element_length, greatest_number, greatest_number_by, length_by_kind, own_length, whole_length};
+ghost use Rattle.cob_layout_places.specs.Lengths.{times, FitsInRecord, MayOccur};
 ghost use Rattle.cob_limits.specs.Limits.{longest_record};
-ghost use Rattle.cob_layout_places.specs.Places.{also, begins, find_one, is_table, is_there, later, skipped};
+ghost use Rattle.cob_layout_places.specs.Places.{also, begins, place_in_entry, is_table, is_there, later, skipped};
 
 use crate::lengths::{element_of, times_of};
-use cob_copybook_tree::{Kind, Node, Times};
+use cob_copybook_tree::{Kind, Node, ResolvedOccurs};
 use cob_entry::Name;
 
 /// Where an element stands, in bytes from the start of the record, and whether it is one of those that are there.
@@ -18,14 +18,15 @@ pub struct Found {
 }
 
 /// The elements before the one that is asked for, whether that is there, and the other subscripts.
-fn step<'a>(occurs: Times, times: u32, subscripts: &'a [u32]) -> (u32, bool, &'a [u32])
-    ensures skipped { result.0 ≡ skipped (is_table occurs) (most_by occurs) subscripts.now }
+fn step<'a>(occurs: ResolvedOccurs, times: u32, subscripts: &'a [u32]) -> (u32, bool, &'a [u32])
+    ensures skipped { result.0 ≡ skipped (is_table occurs)
+        (greatest_number_by occurs) subscripts.now }
     ensures there { result.1 ≡ is_there (is_table occurs) times subscripts.now }
     ensures later { result.2.now ≡ later (is_table occurs) subscripts.now }
 {
     let most = match occurs {
-        Times::Once => return (0, true, subscripts),
-        Times::Fixed(most) | Times::Varying { most, .. } => most,
+        ResolvedOccurs::Once => return (0, true, subscripts),
+        ResolvedOccurs::Fixed(most) | ResolvedOccurs::Varying { most, .. } => most,
     };
     match subscripts.split_first() {
         Some((first, rest)) => {
@@ -59,7 +60,7 @@ pub(crate) fn begins_at(redefines: &Option<Name>, at: u32, area: u32) -> u32
 
 /// The room of an entry of this length: a redefinition takes none of its own.
 pub(crate) fn room_of(redefines: &Option<Name>, length: u32) -> u32
-    ensures { result ≡ room redefines.now length }
+    ensures { result ≡ own_length redefines.now length }
 {
     match redefines {
         None => length,
@@ -70,10 +71,11 @@ pub(crate) fn room_of(redefines: &Option<Name>, length: u32) -> u32
 /// Where the elements of an entry that starts there go on behind those that are skipped.
 fn behind_skipped(entry: &Node, counts: &[u32], start: u32, skipped: u32) -> u32
     requires possible { MayOccur (alone (node entry.now)) }
-    requires small { whole most (node entry.now).top (node entry.now).beneath ≤ longest_record }
-    requires room { start + skipped * element (times counts.now) (node entry.now).top
+    requires small { whole_length greatest_number (node entry.now).top (node entry.now).beneath ≤
+        longest_record }
+    requires room { start + skipped * element_length (times counts.now) (node entry.now).top
         (node entry.now).beneath ≤ longest_record }
-    ensures { result ≡ start + skipped * element (times counts.now) (node entry.now).top
+    ensures { result ≡ start + skipped * element_length (times counts.now) (node entry.now).top
         (node entry.now).beneath }
 {
     if skipped == 0 {
@@ -84,7 +86,7 @@ fn behind_skipped(entry: &Node, counts: &[u32], start: u32, skipped: u32) -> u32
 
 /// The length of one element of an entry of this kind, where those beneath it have this length.
 pub(crate) fn element_by(kind: &Kind, sum: u32) -> u32
-    ensures { result ≡ one kind.now sum }
+    ensures { result ≡ length_by_kind kind.now sum }
 {
     match kind {
         Kind::Item(item) => u32::from(item.size()),
@@ -101,12 +103,14 @@ fn seek_or_measure(
     start: u32,
     subscripts: &[u32],
 ) -> Result<Found, u32>
-    requires { IsFit start (node entry.now) }
-    ensures found { IfOk result (λ found. find_one (times counts.now) number (node entry.now) start
+    requires { FitsInRecord start (node entry.now) }
+    ensures found { IfOk result (λ found. place_in_entry (times counts.now) number
+        (node entry.now) start
         subscripts.now ≡ Some found) }
-    ensures none { IfErr result (λ _. find_one (times counts.now) number (node entry.now) start
+    ensures none { IfErr result (λ _. place_in_entry (times counts.now) number
+        (node entry.now) start
         subscripts.now ≡ None) }
-    ensures length { IfErr result (λ length. length ≡ element (times counts.now)
+    ensures length { IfErr result (λ length. length ≡ element_length (times counts.now)
         (node entry.now).top (node entry.now).beneath) }
 {
     let (skipped, within, inner) = step(entry.occurs, times_of(entry, counts), subscripts);
@@ -144,8 +148,9 @@ pub fn seek(
     start: u32,
     subscripts: &[u32],
 ) -> Option<Found>
-    requires { IsFit start (node entry.now) }
-    ensures { result ≡ find_one (times counts.now) number (node entry.now) start subscripts.now }
+    requires { FitsInRecord start (node entry.now) }
+    ensures { result ≡ place_in_entry (times counts.now) number
+        (node entry.now) start subscripts.now }
 {
     seek_or_measure(entry, number, counts, start, subscripts).ok()
 }

@@ -1,14 +1,13 @@
 //! References to elements of entries, and which of them are legal.
 
 ghost use Rattle.std.specs.Prelude.{◌≡◌, IfNone, IfSome, IsFalse, IsTrue};
-ghost use Rattle.cob_copybook_tree.specs.Lengths.{most_by};
-ghost use Rattle.cob_copybook_tree.specs.Nodes.{node};
-ghost use Rattle.cob_layout_places.specs.Lengths.{alone};
+ghost use Rattle.cob_copybook_tree.specs.Lengths.{greatest_number_by};
+ghost use Rattle.cob_copybook_tree.specs.Nodes.{node, alone};
 ghost use Rattle.cob_layout_places.specs.Places.{is_table, later};
 ghost use Rattle.cob_layout_places.specs.References.{IsSubscripted, Refers};
 
 use arrayvec::ArrayVec;
-use cob_copybook_tree::{Node, Times};
+use cob_copybook_tree::{Node, ResolvedOccurs};
 use cob_limits::MAX_SUBSCRIPTS;
 
 /// A reference to an entry of a record.
@@ -21,16 +20,16 @@ pub struct Ref {
 }
 
 /// The subscripts that are left for the entries beneath one that occurs so often, where it has the subscript that it asks for.
-fn after_own(occurs: Times, subscripts: &[u32]) -> Option<&[u32]>
+fn after_own(occurs: ResolvedOccurs, subscripts: &[u32]) -> Option<&[u32]>
     ensures legal { IfSome result
-        (λ rest. IsSubscripted (is_table occurs) (most_by occurs) subscripts.now) }
+        (λ rest. IsSubscripted (is_table occurs) (greatest_number_by occurs) subscripts.now) }
     ensures rest { IfSome result (λ rest. rest.now ≡ later (is_table occurs) subscripts.now) }
     ensures none { IfNone result
-        (IsSubscripted (is_table occurs) (most_by occurs) subscripts.now → ⊥) }
+        (IsSubscripted (is_table occurs) (greatest_number_by occurs) subscripts.now → ⊥) }
 {
     let most = match occurs {
-        Times::Once => return Some(subscripts),
-        Times::Fixed(most) | Times::Varying { most, .. } => most,
+        ResolvedOccurs::Once => return Some(subscripts),
+        ResolvedOccurs::Fixed(most) | ResolvedOccurs::Varying { most, .. } => most,
     };
     let (first, rest) = subscripts.split_first()?;
     if *first == 0 || *first > most {

@@ -3,8 +3,8 @@
 ghost use Rattle.std.specs.Prelude.{◌≡◌, ◌++◌, ◌+◌, ◌≤◌, drop, length};
 ghost use Rattle.cob_copybook_tree.specs.Forests.{entries_in};
 ghost use Rattle.cob_copybook_tree.specs.Lengths.{sum_of};
-ghost use Rattle.cob_copybook_tree.specs.Nodes.{forest, node};
-ghost use Rattle.cob_layout_places.specs.Lengths.{alone, times, IsFit};
+ghost use Rattle.cob_copybook_tree.specs.Nodes.{forest, node, alone};
+ghost use Rattle.cob_layout_places.specs.Lengths.{times, FitsInRecord};
 ghost use Rattle.cob_layout_places.specs.Spots.{spots_of, spots_one};
 
 use crate::lengths::times_of;
@@ -24,7 +24,7 @@ pub struct Spot {
 
 /// Writes the spots of an entry that begins at `start` and of those beneath it, in their order; the answer is how many these are.
 pub fn put_spots(entry: &Node, counts: &[u32], start: u32, spots: &mut [Spot]) -> usize
-    requires fit { IsFit start (node entry.now) }
+    requires fit { FitsInRecord start (node entry.now) }
     requires room { 1 + entries_in (node entry.now).beneath ≤ length spots.old }
     ensures count { result ≡ 1 + entries_in (node entry.now).beneath }
     ensures spots { spots.new ≡ spots_one (times counts.now) (node entry.now) start

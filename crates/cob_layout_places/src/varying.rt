@@ -1,9 +1,8 @@
 ghost use Rattle.std.specs.Prelude.{◌≡◌, ◌++◌, List, length, IfOk, IfSome, IfNone, Some, None};
-ghost use Rattle.cob_copybook_tree.specs.Nodes.{node};
-ghost use Rattle.cob_layout_places.specs.Lengths.{alone};
+ghost use Rattle.cob_copybook_tree.specs.Nodes.{node, alone};
 ghost use Rattle.cob_layout_places.specs.Counts.{kind_one, table_of, tables_of};
 
-use cob_copybook_tree::{Kind, Node, Times};
+use cob_copybook_tree::{Kind, Node, ResolvedOccurs};
 use std::alloc::{AllocError, Global};
 
 /// A table that varies.
@@ -23,7 +22,7 @@ fn push_table(entry: &Node, tables: &mut Vec<Table>) -> Result<(), AllocError>
     ensures { IfOk result (λ _. tables.new.items
         ≡ tables.old.items ++ table_of (node entry.now).top.occurs (node entry.now).top.number) }
 {
-    if let Times::Varying { least, most, count } = entry.occurs {
+    if let ResolvedOccurs::Varying { least, most, count } = entry.occurs {
         tables.push(Table {
             number: entry.number,
             least,

@@ -1,7 +1,7 @@
 //! The records of rows, and references to their entries.
 
 ghost use Rattle.std.specs.Prelude.{IfOk};
-ghost use Rattle.cob_layout_places.specs.Lengths.{alone};
+ghost use Rattle.cob_copybook_tree.specs.Nodes.{alone};
 ghost use Rattle.cob_layout_places.specs.References.{Refers};
 
 use arrayvec::ArrayVec;

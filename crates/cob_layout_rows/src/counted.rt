@@ -1,8 +1,8 @@
 //! How the counts are taken under which a row asks.
 
 ghost use Rattle.std.specs.Prelude.{◌≡◌, length};
+ghost use Rattle.cob_copybook_tree.specs.Nodes.{alone};
 ghost use Rattle.cob_copybook_tree.specs.Forests.{entries_in};
-ghost use Rattle.cob_layout_places.specs.Lengths.{alone};
 ghost use Rattle.cob_layout_places.specs.References.{Refers};
 
 use cob_layout::{CountFault, Counts, Layout, Ref};

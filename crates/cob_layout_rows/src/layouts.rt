@@ -1,7 +1,7 @@
 //! Lengths and places under counts.
 
-ghost use Rattle.cob_layout_places.specs.Lengths.{alone};
 ghost use Rattle.cob_layout_places.specs.References.{Refers};
+ghost use Rattle.cob_copybook_tree.specs.Nodes.{alone};
 
 use crate::books::{book_of, reference_of};
 use crate::counted::{Counted, counted_of, take};

@@ -1,12 +1,12 @@
 -- The storage before the first move, cut by lengths: it is one, and where its elements stand.
 use Rattle.std.proofs.Common.{◌≡◌, ℕ, zero, suc, ◌+◌, ◌*◌, ◌<◌, ◌≤◌, List, ◌++◌, length, take, drop, Option, None, Some, sym, ap, ◌∙◌, subst, arith}
 use Rattle.std.proofs.lemmas.List.{length-append, length-drop, take_at, take-append-le, drop_at, drop-drop, drop-append-le}
-use Rattle.cob_entry.specs.Described.{Constant}
+use Rattle.cob_entry.specs.Described.{PlainValue}
 use Rattle.cob_copybook_tree.specs.declared.node.Kind.{Kind}
 use Rattle.cob_copybook_tree.specs.declared.node.Kind.TheVariants.{Group, Item as ItemKind}
-use Rattle.cob_copybook_tree.specs.Forests.{Forest, Bare, Grows}
+use Rattle.cob_copybook_tree.specs.Forests.{Forest, NoEntries, AnEntry}
 use Rattle.cob_copybook_tree.specs.Nodes.{Resolved}
-use Rattle.cob_copybook_tree.specs.Lengths.{most, room, sum_of, element}
+use Rattle.cob_copybook_tree.specs.Lengths.{greatest_number, own_length, sum_of, element_length}
 use Rattle.cob_move.specs.Initial.{AreParts, Unless, HoldsElement, IsInitial}
 use Rattle.cob_move.specs.Begun.{OfSize, IsBegun}
 
@@ -18,7 +18,7 @@ unless_by : (o : Option (List ℕ)) (P Q : List ℕ → Type 0) → ((bytes : Li
 unless_by None P Q turn bytes is = turn bytes is
 unless_by (Some name) P Q turn bytes is = is
 
-pub element_by : (kind : Kind) (value : Option Constant) (size : ℕ) (P Q : List ℕ → Type 0) → ((bytes : List ℕ) → P bytes → Q bytes) → (bytes : List ℕ)
+pub element_by : (kind : Kind) (value : Option PlainValue) (size : ℕ) (P Q : List ℕ → Type 0) → ((bytes : List ℕ) → P bytes → Q bytes) → (bytes : List ℕ)
     → HoldsElement kind value size P bytes → HoldsElement kind value size Q bytes
 element_by (ItemKind i) value size P Q turn bytes is = is
 element_by Group None size P Q turn bytes is = turn bytes is
@@ -26,10 +26,10 @@ element_by Group (Some c) size P Q turn bytes is = is
 
 -- it is the storage before the first move
 pub begun_initial : (f : Forest Resolved) (bytes : List ℕ) → IsBegun f bytes → IsInitial f bytes
-begun_initial Bare bytes begun = begun
-begun_initial (Grows e kids more) bytes begun =
-    let one = element_by e.kind e.value (sum_of most kids) (IsBegun kids) (IsInitial kids) (begun_initial kids) in
-    let parts = parts_by (OfSize (element most e kids) (HoldsElement e.kind e.value (sum_of most kids) (IsBegun kids))) (HoldsElement e.kind e.value (sum_of most kids) (IsInitial kids)) (λ part is. one part is.1) (most e) in
+begun_initial NoEntries bytes begun = begun
+begun_initial (AnEntry e children more) bytes begun =
+    let one = element_by e.kind e.value (sum_of greatest_number children) (IsBegun children) (IsInitial children) (begun_initial children) in
+    let parts = parts_by (OfSize (element_length greatest_number e children) (HoldsElement e.kind e.value (sum_of greatest_number children) (IsBegun children))) (HoldsElement e.kind e.value (sum_of greatest_number children) (IsInitial children)) (λ part is. one part is.1) (greatest_number e) in
     (begun.0, begun.1, begun.2, unless_by e.redefines _ _ parts begun.0 begun.3, begun_initial more begun.1 begun.4)
 
 suc_product : (n size : ℕ) → suc n * size ≡ size + n * size
@@ -41,7 +41,7 @@ parts_length IsPart size (suc n) bytes parts =
     ap length parts.2 ∙ length-append parts.0 parts.1 ∙ omega (arith, parts.3.0, parts_length IsPart size n parts.1 parts.4, suc_product n size)
 
 -- the bytes before the further entries
-pub first_length : (o : Option (List ℕ)) (IsPart : List ℕ → Type 0) (size n : ℕ) (first : List ℕ) → Unless o (AreParts (OfSize size IsPart) n) first → length first ≡ room o (n * size)
+pub first_length : (o : Option (List ℕ)) (IsPart : List ℕ → Type 0) (size n : ℕ) (first : List ℕ) → Unless o (AreParts (OfSize size IsPart) n) first → length first ≡ own_length o (n * size)
 first_length None IsPart size n first is = parts_length IsPart size n first is
 first_length (Some name) IsPart size n first is = ap length is
 
@@ -65,20 +65,20 @@ more_fits : (k n size : ℕ) → k < n → k * size + size ≤ n * size
 more_fits k n size lt = grind arith
 
 -- where the element behind k others stands, and what it holds
-pub record IsElement (e : Resolved) (kids : Forest Resolved) (k : ℕ) (bytes : List ℕ) : Type 0 where
-  pub fits : k * element most e kids + element most e kids ≤ length bytes
-  pub holds : HoldsElement e.kind e.value (sum_of most kids) (IsBegun kids) (take (element most e kids) (drop (k * element most e kids) bytes))
+pub record IsElement (e : Resolved) (children : Forest Resolved) (k : ℕ) (bytes : List ℕ) : Type 0 where
+  pub fits : k * element_length greatest_number e children + element_length greatest_number e children ≤ length bytes
+  pub holds : HoldsElement e.kind e.value (sum_of greatest_number children) (IsBegun children) (take (element_length greatest_number e children) (drop (k * element_length greatest_number e children) bytes))
 
-pub element_at : (e : Resolved) (kids more : Forest Resolved) (k : ℕ) (bytes : List ℕ) → e.redefines ≡ None → k < most e → IsBegun (Grows e kids more) bytes → IsElement e kids k bytes
-element_at e kids more k bytes own lt begun =
-    let size = element most e kids in
-    let Is : List ℕ → Type 0 = HoldsElement e.kind e.value (sum_of most kids) (IsBegun kids) in
-    let parts : AreParts (OfSize size Is) (most e) begun.0 = unless_none e.redefines _ begun.0 own begun.3 in
-    let long : length begun.0 ≡ most e * size = parts_length Is size (most e) begun.0 parts in
-    let room : k * size + size ≤ length begun.0 = omega (arith, long, more_fits k (most e) size lt) in
+pub element_at : (e : Resolved) (children more : Forest Resolved) (k : ℕ) (bytes : List ℕ) → e.redefines ≡ None → k < greatest_number e → IsBegun (AnEntry e children more) bytes → IsElement e children k bytes
+element_at e children more k bytes own lt begun =
+    let size = element_length greatest_number e children in
+    let Is : List ℕ → Type 0 = HoldsElement e.kind e.value (sum_of greatest_number children) (IsBegun children) in
+    let parts : AreParts (OfSize size Is) (greatest_number e) begun.0 = unless_none e.redefines _ begun.0 own begun.3 in
+    let long : length begun.0 ≡ greatest_number e * size = parts_length Is size (greatest_number e) begun.0 parts in
+    let room : k * size + size ≤ length begun.0 = omega (arith, long, more_fits k (greatest_number e) size lt) in
     let front : drop (k * size) bytes ≡ drop (k * size) begun.0 ++ begun.1 = ap (drop (k * size)) begun.2 ∙ drop-append-le (k * size) begun.0 begun.1 (omega arith) in
     let is : take size (drop (k * size) bytes) ≡ take size (drop (k * size) begun.0) = ap (take size) front ∙ take-append-le size (drop (k * size) begun.0) begun.1 (simp length-drop (omega arith)) in
     record {
       fits = omega (arith, ap length begun.2, length-append begun.0 begun.1);
-      holds = (subst (OfSize size Is) (sym is) (part_at Is size (most e) k begun.0 lt parts)).1;
+      holds = (subst (OfSize size Is) (sym is) (part_at Is size (greatest_number e) k begun.0 lt parts)).1;
     }

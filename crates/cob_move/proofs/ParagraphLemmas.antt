@@ -3,11 +3,10 @@ use Rattle.std.proofs.Common.{◌≡◌, ℕ, List, refl, sym, ap, subst, inl, i
 use Rattle.cob_source.specs.Tokens.{Lexeme}
 use Rattle.cob_source.specs.declared.fault.SourceRule.{SourceRule}
 use Rattle.cob_source.specs.declared.fault.SourceRule.TheVariants as source
-use Rattle.cob_source.specs.Words.{AreParagraphWordsOf, IsRefusal, ParagraphWordsAreOne}
-use Rattle.cob_copybook.specs.Books.{IsRecord}
+use Rattle.cob_source.specs.Words.{AreParagraphWordsOf, IsSourceRefusal, ParagraphWordsAreOne}
+use Rattle.cob_copybook.specs.Books.{IsRecordDescription}
 use Rattle.cob_copybook_tree.specs.Forests.{Forest}
-use Rattle.cob_copybook_tree.specs.Nodes.{Resolved}
-use Rattle.cob_layout_places.specs.Lengths.{alone}
+use Rattle.cob_copybook_tree.specs.Nodes.{Resolved, alone}
 use Rattle.cob_move_statements.specs.declared.fault.MoveFault.{MoveFault}
 use Rattle.cob_move_statements.specs.declared.fault.MoveRule.{MoveRule}
 use Rattle.cob_move_statements.specs.declared.fault.MoveRule.TheVariants as rule
@@ -25,7 +24,7 @@ use Rattle.cob_move.specs.Laws.{OneParagraph, ParagraphBreaksNoRule}
 -- ---- refusals
 
 -- what refuses a text's words refuses the paragraph
-pub source_refused : (r : SourceRule) (line : ℕ) (text : List ℕ) (input output : Forest Resolved) → IsRefusal r line text → IsRefusalOf (paragraph_fault_by r line) text input output
+pub source_refused : (r : SourceRule) (line : ℕ) (text : List ℕ) (input output : Forest Resolved) → IsSourceRefusal r line text → IsRefusalOf (paragraph_fault_by r line) text input output
 source_refused source.Memory line text input output is = inl refl
 source_refused source.NotAscii line text input output is = inl is
 source_refused source.Tab line text input output is = inl is
@@ -87,7 +86,7 @@ paragraph_breaks_no_rule words_one statements_one unbroken text input output ms 
 -- ---- moves between the records
 
 pub are_moves : MeantAreMoves → (r : Records) (text : List ℕ) (input output : Forest Resolved) (ms : List Move) → alone r.input ≡ input → alone r.output ≡ output
-    → IsRecord input → IsRecord output → IsParagraphOf text input output ms → AreMoves r ms
+    → IsRecordDescription input → IsRecordDescription output → IsParagraphOf text input output ms → AreMoves r ms
 are_moves law r text input output ms a b in_record out_record p =
-    law r p.statements ms (subst IsRecord (sym a) in_record) (subst IsRecord (sym b) out_record)
+    law r p.statements ms (subst IsRecordDescription (sym a) in_record) (subst IsRecordDescription (sym b) out_record)
     (subst (λ (f : Forest Resolved). AreMeant (alone r.input) f p.statements ms) (sym b) (subst (λ (f : Forest Resolved). AreMeant f output p.statements ms) (sym a) p.meant))

@@ -1,11 +1,11 @@
 -- The storage of a record before the first move.
 use Rattle.std.specs.Prelude.{◌≡◌, ℕ, zero, suc, List, [], ◌++◌, Option, Some, None}
-use Rattle.cob_entry.specs.Described.{Constant}
+use Rattle.cob_entry.specs.Described.{PlainValue}
 use Rattle.cob_copybook_tree.specs.declared.node.Kind.{Kind}
 use Rattle.cob_copybook_tree.specs.declared.node.Kind.TheVariants.{Group, Item as ItemKind}
-use Rattle.cob_copybook_tree.specs.Forests.{Forest, Bare, Grows}
+use Rattle.cob_copybook_tree.specs.Forests.{Forest, NoEntries, AnEntry}
 use Rattle.cob_copybook_tree.specs.Nodes.{Resolved}
-use Rattle.cob_copybook_tree.specs.Lengths.{most, sum_of}
+use Rattle.cob_copybook_tree.specs.Lengths.{greatest_number, sum_of}
 use Rattle.cob_move_initial.specs.Values.{HoldsGroup, HoldsItem}
 
 -- so many parts, one behind another, each of which is so
@@ -19,7 +19,7 @@ Unless None IsPart bytes = IsPart bytes
 Unless (Some name) IsPart bytes = bytes ≡ []
 
 -- one element holds what its item does; or, of a group, its VALUE, or the entries beneath it, which have so many bytes
-abbrev pub HoldsElement : Kind → Option Constant → ℕ → (List ℕ → Type 0) → List ℕ → Type 0
+abbrev pub HoldsElement : Kind → Option PlainValue → ℕ → (List ℕ → Type 0) → List ℕ → Type 0
 HoldsElement (ItemKind i) value size AreBeneath bytes = HoldsItem i value bytes
 HoldsElement Group None size AreBeneath bytes = AreBeneath bytes
 HoldsElement Group (Some c) size AreBeneath bytes = HoldsGroup size c bytes
@@ -27,8 +27,8 @@ HoldsElement Group (Some c) size AreBeneath bytes = HoldsGroup size c bytes
 -- The storage of entries side by side before the first move: in the record's order, for each entry that redefines nothing, as many elements as
 -- there are at most.
 abbrev pub IsInitial : Forest Resolved → List ℕ → Type 0
-IsInitial Bare bytes = bytes ≡ []
-IsInitial (Grows e kids more) bytes =
+IsInitial NoEntries bytes = bytes ≡ []
+IsInitial (AnEntry e children more) bytes =
     (first : List ℕ) × (rest : List ℕ) × (bytes ≡ first ++ rest)
-    × Unless e.redefines (AreParts (HoldsElement e.kind e.value (sum_of most kids) (IsInitial kids)) (most e)) first
+    × Unless e.redefines (AreParts (HoldsElement e.kind e.value (sum_of greatest_number children) (IsInitial children)) (greatest_number e)) first
     × IsInitial more rest

@@ -1,7 +1,7 @@
 -- Which moves the text of a paragraph says between two records, and which rules it breaks.
 use Rattle.std.specs.Prelude.{◌≡◌, ◌⊎◌, ℕ, List}
 use Rattle.cob_source.specs.Tokens.{Lexeme}
-use Rattle.cob_source.specs.Words.{AreParagraphWordsOf, IsBroken as BreaksSource}
+use Rattle.cob_source.specs.Words.{AreParagraphWordsOf, BreaksSourceRule as BreaksSource}
 use Rattle.cob_copybook_tree.specs.Forests.{Forest}
 use Rattle.cob_copybook_tree.specs.Nodes.{Resolved}
 use Rattle.cob_move_statements.specs.declared.fault.MoveFault.{MoveFault}

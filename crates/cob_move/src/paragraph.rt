@@ -1,9 +1,9 @@
 //! Paragraphs.
 
 ghost use Rattle.std.specs.Prelude.{◌≡◌, length, map, min, IfErr, IfOk, List};
-ghost use Rattle.cob_copybook.specs.Books.{IsRecord};
+ghost use Rattle.cob_copybook_tree.specs.Nodes.{alone};
+ghost use Rattle.cob_copybook.specs.Books.{IsRecordDescription};
 ghost use Rattle.cob_layout.specs.Storage.{IsStorage, greatest_length};
-ghost use Rattle.cob_layout_places.specs.Lengths.{alone};
 ghost use Rattle.cob_move_apply.specs.Applied.{Applied, ending};
 ghost use Rattle.cob_move_apply.specs.Prepared.{ArePrepared, moves_of, single_moves};
 ghost use Rattle.cob_move_apply.specs.Room.{room_of};

@@ -1,14 +1,13 @@
 //! The storage of a record before the first move.
 
 ghost use Rattle.std.specs.Prelude.{◌≡◌, ℕ, ◌*◌, ◌<◌, length, take, None};
-ghost use Rattle.cob_copybook_tree.specs.Nodes.{node, forest};
-ghost use Rattle.cob_copybook_tree.specs.Lengths.{most, sum_of, element, whole};
-ghost use Rattle.cob_layout_places.specs.Lengths.{alone};
+ghost use Rattle.cob_copybook_tree.specs.Nodes.{node, forest, alone};
+ghost use Rattle.cob_copybook_tree.specs.Lengths.{greatest_number, sum_of, element_length, whole_length};
 ghost use Rattle.cob_move_receive.specs.Characters.{repeated};
 ghost use Rattle.cob_move.specs.Initial.{HoldsElement, IsInitial};
 ghost use Rattle.cob_move.specs.Begun.{AreElements, IsBegun};
 ghost use Rattle.cob_move.specs.AtPlaces.{HoldAtPlaces};
-ghost use Rattle.cob_move.specs.Ready.{AreReady, IsReady};
+ghost use Rattle.cob_move.specs.Ready.{HaveInitialStorage, HasInitialStorage};
 
 use cob_copybook::Book;
 use cob_copybook_tree::{Kind, Node, element_length, whole_length};
@@ -31,10 +30,11 @@ fn repeat(bytes: &mut [u8], size: usize, times: usize)
 /// Writes one element of an entry.
 #[cycle(entries)]
 fn write_element(entry: &Node, bytes: &mut [u8])
-    requires ready { IsReady (node entry.now) }
-    requires room { length bytes.old ≡ element most (node entry.now).top (node entry.now).beneath }
+    requires ready { HasInitialStorage (node entry.now) }
+    requires room { length bytes.old ≡ element_length greatest_number (node entry.now).top
+        (node entry.now).beneath }
     ensures holds { HoldsElement (node entry.now).top.kind (node entry.now).top.value
-        (sum_of most (node entry.now).beneath) (IsBegun (node entry.now).beneath) bytes.new }
+        (sum_of greatest_number (node entry.now).beneath) (IsBegun (node entry.now).beneath) bytes.new }
     ensures room { length bytes.new ≡ length bytes.old }
 {
     match &entry.kind {
@@ -49,8 +49,9 @@ fn write_element(entry: &Node, bytes: &mut [u8])
 /// Writes all elements of an entry, as many as there are at most.
 #[cycle(entries)]
 fn write_elements(entry: &Node, bytes: &mut [u8])
-    requires ready { IsReady (node entry.now) }
-    requires room { length bytes.old ≡ whole most (node entry.now).top (node entry.now).beneath }
+    requires ready { HasInitialStorage (node entry.now) }
+    requires room { length bytes.old ≡ whole_length greatest_number (node entry.now).top
+        (node entry.now).beneath }
     ensures holds { AreElements (node entry.now).top (node entry.now).beneath bytes.new }
     ensures room { length bytes.new ≡ length bytes.old }
 {
@@ -62,8 +63,8 @@ fn write_elements(entry: &Node, bytes: &mut [u8])
 /// Writes entries side by side, but for those that redefine others.
 #[cycle(entries)]
 fn write_entries(entries: &[Node], bytes: &mut [u8])
-    requires ready { AreReady (forest entries.now) }
-    requires room { length bytes.old ≡ sum_of most (forest entries.now) }
+    requires ready { HaveInitialStorage (forest entries.now) }
+    requires room { length bytes.old ≡ sum_of greatest_number (forest entries.now) }
     ensures begun { IsBegun (forest entries.now) bytes.new }
     ensures room { length bytes.new ≡ length bytes.old }
 {
@@ -84,7 +85,7 @@ fn write_entries(entries: &[Node], bytes: &mut [u8])
 /// The layout is that of the book, and the bytes are as many as its greatest length.
 pub fn initial(layout: &Layout, book: &Book, bytes: &mut [u8])
     requires same { book.now ≡ alone layout.now }
-    requires room { length bytes.old ≡ sum_of most book.now }
+    requires room { length bytes.old ≡ sum_of greatest_number book.now }
     ensures initial { IsInitial book.now bytes.new }
     // Each entry that stands in no redefinition and beneath no group with a VALUE has places, and the bytes there hold what the entry does.
     ensures places { HoldAtPlaces book.now bytes.new }

@@ -2,12 +2,12 @@
 use Rattle.std.proofs.Common.{◌≡◌, ℕ, Bool, true, false, List, [], ◌∷◌, sym, ap, subst, ◌∙◌, inl, inr, Ok, Err, Some, None, Result}
 use Rattle.std.specs.Prelude.{option_map}
 use Rattle.cob_copybook_tree.specs.Forests.{Tree}
-use Rattle.cob_copybook_tree.specs.Nodes.{Resolved}
+use Rattle.cob_copybook_tree.specs.Nodes.{Resolved, alone}
 use Rattle.cob_fields.specs.declared.Place.{Place}
 use Rattle.cob_fields.specs.Fields.{with_field}
 use Rattle.cob_layout_places.specs.declared.counts.CountFault.{CountFault}
-use Rattle.cob_layout_places.specs.Lengths.{alone, times}
-use Rattle.cob_layout_places.specs.Places.{find}
+use Rattle.cob_layout_places.specs.Lengths.{times}
+use Rattle.cob_layout_places.specs.Places.{place_of}
 use Rattle.cob_layout.specs.declared.layout.PlaceFault.{PlaceFault}
 use Rattle.cob_layout.specs.Counting.{NeededOf}
 use Rattle.cob_layout.specs.Laws.{OneOfNeeded}
@@ -38,7 +38,7 @@ ok_not a b e = cc
 
 one_standing : (t : Tree Resolved) (o : Operand) (c d : List ℕ) (a b : Result Place PlaceFault) → c ≡ d → StandsUnder t o c a → StandsUnder t o d b → a ≡ b
 one_standing t o c d a b same x y =
-    some_is a b (sym x ∙ ap (λ (k : List ℕ). option_map placed (find (times k) o.entry.node (alone t) 0 0 o.entry.subscripts.items)) same ∙ y)
+    some_is a b (sym x ∙ ap (λ (k : List ℕ). option_map placed (place_of (times k) o.entry.node (alone t) 0 0 o.entry.subscripts.items)) same ∙ y)
 
 same_counts : OneOfNeeded → (t : Tree Resolved) (receiving : Bool) (o : Operand) (bytes c d : List ℕ)
     → NeededOf t o.entry.node receiving bytes (Ok c) → NeededOf t o.entry.node receiving bytes (Ok d) → c ≡ d

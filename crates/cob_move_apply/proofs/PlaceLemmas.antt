@@ -4,18 +4,18 @@ use Rattle.std.specs.Prelude.{option_map}
 use Rattle.cob_copybook_tree.specs.declared.node.Item.{Item}
 use Rattle.cob_copybook_tree.specs.declared.node.Kind.{Kind}
 use Rattle.cob_copybook_tree.specs.declared.node.Kind.TheVariants.{Group, Item as ItemKind}
-use Rattle.cob_copybook_tree.specs.Forests.{Forest, Bare, Grows, Tree}
-use Rattle.cob_copybook_tree.specs.Nodes.{Resolved}
+use Rattle.cob_copybook_tree.specs.Forests.{Forest, NoEntries, AnEntry, Tree}
+use Rattle.cob_copybook_tree.specs.Nodes.{Resolved, alone}
 use Rattle.cob_copybook_tree.specs.Lengths.{item_size}
 use Rattle.cob_fields.specs.declared.Place.{Place}
-use Rattle.cob_layout_places.specs.Lengths.{alone, times}
-use Rattle.cob_layout_places.specs.Places.{find, find_one, or_else, choose}
+use Rattle.cob_layout_places.specs.Lengths.{times}
+use Rattle.cob_layout_places.specs.Places.{place_of, place_in_entry, or_else, choose}
 use Rattle.cob_layout_places.specs.Counts.{kind_in, kind_one}
 use Rattle.cob_layout_places.proofs.CountLemmas.{found_size, pairs_one}
 use Rattle.cob_layout.specs.Placed.{placed}
 use Rattle.cob_layout.proofs.ReferenceLemmas.{find_alone}
 use Rattle.cob_layout.proofs.StorageLemmas.{found_by}
-use Rattle.cob_copybook.specs.Books.{IsRecord}
+use Rattle.cob_copybook.specs.Books.{IsRecordDescription}
 use Rattle.cob_layout.specs.declared.layout.PlaceFault.{PlaceFault}
 use Rattle.cob_layout.specs.Counting.{greatest_counts, NeededOf, ReadsNone}
 use Rattle.cob_layout.specs.Laws.{AllGiveNeeded}
@@ -43,10 +43,10 @@ storable_choose true q o k s h e = let same : q ≡ k = cc in subst IsStorableKi
 storable_choose false q o k s h e = h k e
 
 storable_in : (number : ℕ) (f : Forest Resolved) → AreStorable f → (k : Kind) → kind_in number f ≡ Some k → IsStorableKind k
-storable_in number Bare s k e = cc
-storable_in number (Grows e kids more) s k is =
-    storable_or (choose (e.number == number) e.kind (kind_in number kids)) (kind_in number more) k
-    (λ q. storable_choose (e.number == number) e.kind (kind_in number kids) q s.0 (storable_in number kids s.1))
+storable_in number NoEntries s k e = cc
+storable_in number (AnEntry e children more) s k is =
+    storable_or (choose (e.number == number) e.kind (kind_in number children)) (kind_in number more) k
+    (λ q. storable_choose (e.number == number) e.kind (kind_in number children) q s.0 (storable_in number children s.1))
     (storable_in number more s.2) is
 
 storable : (number : ℕ) (t : Tree Resolved) → AreStorable (alone t) → (k : Kind) → kind_one number t ≡ Some k → IsStorableKind k
@@ -59,11 +59,11 @@ filled_by Group n s h = tt
 filled_by (ItemKind i) n s h = (h i refl, s)
 
 pub filled : (t : Tree Resolved) (number : ℕ) (counts subscripts : List ℕ) (k : Kind) (p : Place) → IsSound t → kind_one number t ≡ Some k
-    → option_map placed (find (times counts) number (alone t) 0 0 subscripts) ≡ Some (Ok p) → Occupies k p.length
+    → option_map placed (place_of (times counts) number (alone t) 0 0 subscripts) ≡ Some (Ok p) → Occupies k p.length
 filled t number counts subscripts k p sound is stands =
-    let (f, found, there, offset, size) = found_by (find (times counts) number (alone t) 0 0 subscripts) p stands in
+    let (f, found, there, offset, size) = found_by (place_of (times counts) number (alone t) 0 0 subscripts) p stands in
     filled_by k p.length (storable number t sound.storable k is)
-    (λ i item. size ∙ found_size (kind_one number t) (find_one (times counts) number t 0 subscripts) i f (pairs_one (times counts) number t 0 subscripts)
+    (λ i item. size ∙ found_size (kind_one number t) (place_in_entry (times counts) number t 0 subscripts) i f (pairs_one (times counts) number t 0 subscripts)
     (is ∙ ap (λ (q : Kind). Some q) item) (sym (find_alone (times counts) number t subscripts) ∙ found))
 
 pub filled_at : (side : Side) (t : Tree Resolved) (receiving : Bool) (o : Operand) (bytes : List ℕ) (p : Place) → IsSound t → IsOperand t o
@@ -78,7 +78,7 @@ fixed_in t receiving o p is e = subst (IsBasis t receiving o.operand) e is.basis
 
 -- where all counts of a storage are valid, and the operand is spared none
 pub under_all : AllGiveNeeded → (t : Tree Resolved) (receiving : Bool) (o : Operand) (bytes : List ℕ) (places : Standing) (there : Result Place PlaceFault)
-    → IsRecord (alone t) → IsOperand t o → SparesNone t o.entry.node receiving → StandsIn t bytes places
+    → IsRecordDescription (alone t) → IsOperand t o → SparesNone t o.entry.node receiving → StandsIn t bytes places
     → ((counts : List ℕ) → ArePlaces t counts places → StandsUnder t o counts there)
     → (d : List ℕ) × NeededOf t o.entry.node receiving bytes (Ok d) × StandsUnder t o d there
 under_all law t receiving o bytes places there is_record is spared (counts, taken, are) stands =
@@ -86,13 +86,13 @@ under_all law t receiving o bytes places there is_record is spared (counts, take
     (d, needed, ap (option_map placed) same ∙ stands counts are)
 
 pub at_counts : AllGiveNeeded → (side : Side) (t : Tree Resolved) (receiving : Bool) (o : Operand) (bytes : List ℕ) (places : Standing) (p : Place)
-    → IsRecord (alone t) → IsOperand t o → SparesNone t o.entry.node receiving → StandsIn t bytes places
+    → IsRecordDescription (alone t) → IsOperand t o → SparesNone t o.entry.node receiving → StandsIn t bytes places
     → ((counts : List ℕ) → ArePlaces t counts places → StandsUnder t o counts (Ok p))
     → Located side t receiving o bytes (Ok p)
 at_counts law side t receiving o bytes places p is_record is spared stands under = under_all law t receiving o bytes places (Ok p) is_record is spared stands under
 
 pub past_counts : AllGiveNeeded → (side : Side) (t : Tree Resolved) (receiving : Bool) (o : Operand) (bytes : List ℕ) (places : Standing) (f : PlaceFault)
-    → IsRecord (alone t) → IsOperand t o → SparesNone t o.entry.node receiving → StandsIn t bytes places
+    → IsRecordDescription (alone t) → IsOperand t o → SparesNone t o.entry.node receiving → StandsIn t bytes places
     → ((counts : List ℕ) → ArePlaces t counts places → StandsUnder t o counts (Err f))
     → Located side t receiving o bytes (Err (stop_at side f.offset Subscript))
 past_counts law side t receiving o bytes places f is_record is spared stands under =

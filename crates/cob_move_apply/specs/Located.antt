@@ -1,11 +1,11 @@
 -- Where an operand stands in a storage, or why it doesn't.
 use Rattle.std.specs.Prelude.{◌≡◌, ◌⊎◌, ℕ, Bool, List, Some, Ok, Err, Result, option_map}
 use Rattle.cob_copybook_tree.specs.Forests.{Tree}
-use Rattle.cob_copybook_tree.specs.Nodes.{Resolved}
+use Rattle.cob_copybook_tree.specs.Nodes.{Resolved, alone}
 use Rattle.cob_fields.specs.declared.Place.{Place}
 use Rattle.cob_layout_places.specs.declared.counts.CountFault.{CountFault}
-use Rattle.cob_layout_places.specs.Lengths.{alone, times}
-use Rattle.cob_layout_places.specs.Places.{find}
+use Rattle.cob_layout_places.specs.Lengths.{times}
+use Rattle.cob_layout_places.specs.Places.{place_of}
 use Rattle.cob_layout.specs.declared.layout.PlaceFault.{PlaceFault}
 use Rattle.cob_layout.specs.Placed.{placed}
 use Rattle.cob_layout.specs.Counting.{NeededOf}
@@ -22,7 +22,7 @@ stop_at side offset cause = record { side = side; offset = offset; cause = cause
 -- under these counts the operand stands there, or would begin there where its element is past its table's count
 abbrev pub StandsUnder : Tree Resolved → Operand → List ℕ → Result Place PlaceFault → Type 0
 StandsUnder t o counts there =
-    option_map placed (find (times counts) o.entry.node (alone t) 0 0 o.entry.subscripts.items) ≡ Some there
+    option_map placed (place_of (times counts) o.entry.node (alone t) 0 0 o.entry.subscripts.items) ≡ Some there
 
 -- An operand's place in a storage, sending or receiving: where it stands under the counts that it needs there. The first of these counts that
 -- isn't valid stops at the count's item; and then a subscript past its table's count stops at the place where the element would begin.

@@ -1,7 +1,7 @@
 -- Moves with the places of their operands, or what these rest on.
 use Rattle.std.specs.Prelude.{ℕ, ◌+◌, ◌≤◌, Bool, true, false, List, map, Ok}
 use Rattle.std.specs.List.{AllByRecursion}
-use Rattle.cob_entry.specs.Described.{constant}
+use Rattle.cob_entry.specs.Described.{plain_value}
 use Rattle.cob_copybook_tree.specs.Forests.{Tree}
 use Rattle.cob_copybook_tree.specs.Nodes.{Resolved}
 use Rattle.cob_fields.specs.declared.Place.{Place}
@@ -28,7 +28,7 @@ operand_of p = p.operand
 -- the sender itself
 abbrev pub sender_of : PlacedSender → Sender
 sender_of (placed_sender.Entry side p) = Entry side p.operand
-sender_of (placed_sender.Constant value) = Literal (constant value)
+sender_of (placed_sender.Constant value) = Literal (plain_value value)
 
 -- the move itself
 abbrev pub move_of : Step → Move

@@ -1,12 +1,11 @@
 -- What is known of both records' storages while moves go on.
 use Rattle.std.specs.Prelude.{◌≡◌, ℕ, List, length}
 use Rattle.cob_copybook_tree.specs.Forests.{Tree, entries_in}
-use Rattle.cob_copybook_tree.specs.Nodes.{Resolved}
-use Rattle.cob_layout_places.specs.Lengths.{alone}
+use Rattle.cob_copybook_tree.specs.Nodes.{Resolved, alone}
 use Rattle.cob_layout.specs.Standing.{IsRoomFor, Standing, StandsIn, room_in}
 use Rattle.cob_layout.specs.Storage.{greatest_length}
 use Rattle.cob_move_operands.specs.Moves.{Records}
-use Rattle.cob_move_apply.specs.Room.{Room}
+use Rattle.cob_move_apply.specs.Room.{RoomForMoves}
 use Rattle.cob_move_apply.specs.declared.survey.Known.{Known}
 use Rattle.cob_move_apply.specs.declared.survey.Known.TheVariants as known
 use Rattle.cob_move_apply.specs.declared.survey.Survey.{Survey}
@@ -40,7 +39,7 @@ pub record HasSpace (r : Records) (w : Workspace) : Type 0 where
   pub content : length w.content.items ≡ greatest_length r.output
 
 -- how much room there is
-abbrev pub room_in_space : Workspace → Room
+abbrev pub room_in_space : Workspace → RoomForMoves
 room_in_space w = record {
   inputs = length w.input.needed;
   input_places = room_in w.input.places;

@@ -17,10 +17,10 @@ pub struct Scratch {
 }
 
 impl Model for Scratch {
-    ghost use Rattle.cob_move_apply.specs.Room.{Room};
+    ghost use Rattle.cob_move_apply.specs.Room.{RoomForMoves};
     ghost use Rattle.cob_move_apply.specs.Surveyed.{room_in_space};
 
-    ghost Value = { Room };
+    ghost Value = { RoomForMoves };
 
     ghost view = { λ s. room_in_space s.space };
 }

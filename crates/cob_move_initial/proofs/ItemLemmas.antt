@@ -4,12 +4,12 @@ use Rattle.std.specs.Prelude.{MatchBool, if◌then◌else◌}
 use Rattle.cob_picture.specs.Positions.{shows_number}
 use Rattle.cob_entry.specs.declared.kinds.Figurative.{Figurative}
 use Rattle.cob_entry.specs.declared.kinds.Figurative.TheVariants.{Space, Zero, HighValue, LowValue, Quote}
-use Rattle.cob_entry.specs.Described.{Constant, Numeric, Quoted, Figure, Repeated}
+use Rattle.cob_entry.specs.Described.{PlainValue, Numeric, Quoted, Figure, Repeated}
 use Rattle.cob_copybook_tree.specs.declared.node.Kind.TheVariants.{Group, Item as ItemKind}
 use Rattle.cob_copybook_tree.specs.declared.node.Item.{Item}
 use Rattle.cob_copybook_tree.specs.Lengths.{item_size}
 use Rattle.cob_copybook_lengths.specs.Values.{is_number, IsNumericValue}
-use Rattle.cob_picture.specs.Positions.{Seen}
+use Rattle.cob_picture.specs.Positions.{PlainPicture}
 use Rattle.cob_move_receive.specs.Sent.{Amount, Literal}
 use Rattle.cob_move_receive.specs.Numbers.{ConstantGives}
 use Rattle.cob_move_receive.specs.Received.{GetsCharacters, GetsNumber, Received, OneReceived, outcome}
@@ -18,18 +18,18 @@ use Rattle.cob_move_initial.specs.Values.{figurative_for, HoldsGroup}
 use Rattle.cob_move_initial.specs.Laws.{OneGroup, OneItem}
 
 -- a constant that gives what the item asks for is received
-given : (b : Bool) (c : Constant) (i : Item) (n : ℕ) → (b ≡ true → (v : Amount) × ConstantGives c v)
+given : (b : Bool) (c : PlainValue) (i : Item) (n : ℕ) → (b ≡ true → (v : Amount) × ConstantGives c v)
     → MatchBool b (GetsNumber (Literal c) i None) (GetsCharacters (Literal c) (ItemKind i) n None) → ⊥
 given true c i n gives none = let v = gives refl in none v.0 v.1
 given false c i n gives none = let text = some_text c n in none text.0 text.1
 
-pub received : (c : Constant) (i : Item) (n : ℕ) (b : Bool) (bytes : List ℕ) → (shows_number i.picture.category ≡ true → (v : Amount) × ConstantGives c v)
+pub received : (c : PlainValue) (i : Item) (n : ℕ) (b : Bool) (bytes : List ℕ) → (shows_number i.picture.category ≡ true → (v : Amount) × ConstantGives c v)
     → Received (Literal c) (ItemKind i) n (outcome b bytes) → Received (Literal c) (ItemKind i) n (Some bytes)
 received c i n true bytes gives h = h
 received c i n false bytes gives h = absurd (given (shows_number i.picture.category) c i n gives h)
 
 -- a constant that a number may have is a number
-pub some_number : (p : Seen) (c : Constant) → IsNumericValue p c → (v : Amount) × ConstantGives c v
+pub some_number : (p : PlainPicture) (c : PlainValue) → IsNumericValue p c → (v : Amount) × ConstantGives c v
 some_number p (Numeric sign negative digits scale) is = (record { negative = negative; digits = digits; scale = scale }, refl)
 some_number p (Figure Zero) is = (_, refl)
 some_number p (Figure Space) is = absurd is
@@ -58,7 +58,7 @@ one_of : (c : Bool) (P Q : List ℕ → Type 0) (a b : List ℕ)
 one_of true P Q a b p q x y = p x y
 one_of false P Q a b p q x y = q x y
 
-in_item : OneReceived → (c : Constant) (i : Item) (a b : List ℕ)
+in_item : OneReceived → (c : PlainValue) (i : Item) (a b : List ℕ)
     → Received (Literal c) (ItemKind i) (item_size i) (Some a) → Received (Literal c) (ItemKind i) (item_size i) (Some b) → a ≡ b
 in_item law c i a b x y = same a b (law (Literal c) (ItemKind i) (item_size i) (Some a) (Some b) x y)
 

@@ -3,7 +3,7 @@ use Rattle.std.specs.Prelude.{ℕ, List, Option, Some, None, MatchBool, if◌the
 use Rattle.cob_picture.specs.Positions.{shows_number}
 use Rattle.cob_entry.specs.declared.kinds.Figurative.{Figurative}
 use Rattle.cob_entry.specs.declared.kinds.Figurative.TheVariants.{Space, Zero}
-use Rattle.cob_entry.specs.Described.{Constant, Figure}
+use Rattle.cob_entry.specs.Described.{PlainValue, Figure}
 use Rattle.cob_copybook_tree.specs.declared.node.Kind.TheVariants.{Group, Item as ItemKind}
 use Rattle.cob_copybook_tree.specs.declared.node.Item.{Item}
 use Rattle.cob_copybook_tree.specs.Lengths.{item_size}
@@ -16,12 +16,12 @@ abbrev pub figurative_for : Item → Figurative
 figurative_for i = if shows_number i.picture.category then Zero else Space
 
 -- a group of so many bytes holds its VALUE as it would receive it
-abbrev pub HoldsGroup : ℕ → Constant → List ℕ → Type 0
+abbrev pub HoldsGroup : ℕ → PlainValue → List ℕ → Type 0
 HoldsGroup n c bytes = Received (Literal c) Group n (Some bytes)
 
 -- What one occurrence of an item holds: its VALUE, which a number receives, and which any other item holds as a group of its size does, with no
 -- JUSTIFIED, editing or BLANK WHEN ZERO; or without VALUE the ZERO or SPACE that it receives.
-abbrev pub HoldsItem : Item → Option Constant → List ℕ → Type 0
+abbrev pub HoldsItem : Item → Option PlainValue → List ℕ → Type 0
 HoldsItem i None bytes = Received (Literal (Figure (figurative_for i))) (ItemKind i) (item_size i) (Some bytes)
 HoldsItem i (Some c) bytes =
     MatchBool (is_number i) (Received (Literal c) (ItemKind i) (item_size i) (Some bytes)) (HoldsGroup (item_size i) c bytes)

@@ -2,7 +2,7 @@
 
 ghost use Rattle.std.specs.Prelude.{◌≡◌, length, option_map, true, IfSome, Some};
 ghost use Rattle.cob_picture.specs.Positions.{shows_number};
-ghost use Rattle.cob_entry.specs.Described.{constant};
+ghost use Rattle.cob_entry.specs.Described.{plain_value};
 ghost use Rattle.cob_copybook_tree.specs.Lengths.{item_size};
 ghost use Rattle.cob_copybook_tree.specs.declared.node.Kind.TheVariants.{Item as ItemKind};
 ghost use Rattle.cob_copybook_lengths.specs.Values.{is_number, IsItemValue, IsNumericValue};
@@ -20,22 +20,22 @@ use cob_move_receive::{Sent, receive_in_group, receive_in_item};
 /// Moves a constant to an item: a number to one that shows numbers.
 fn move_constant(value: &Value, item: &Item, bytes: &mut [u8])
     requires number { shows_number item.now.picture.category ≡ true
-        → (v : Amount) × ConstantGives (constant value.now) v }
+        → (v : Amount) × ConstantGives (plain_value value.now) v }
     requires storable { IsStorable item.now }
     requires long { length bytes.old ≡ item_size item.now }
     ensures { Received
-        (Literal (constant value.now)) (ItemKind item.now) (item_size item.now) (Some bytes.new) }
+        (Literal (plain_value value.now)) (ItemKind item.now) (item_size item.now) (Some bytes.new) }
 {
     receive_in_item(&Sent::Constant(value), item, bytes);
 }
 
 /// Writes the constant of an item that is a number.
 fn write_number(item: &Item, value: &Value, bytes: &mut [u8])
-    requires fits { IsNumericValue item.now.picture (constant value.now) }
+    requires fits { IsNumericValue item.now.picture (plain_value value.now) }
     requires storable { IsStorable item.now }
     requires long { length bytes.old ≡ item_size item.now }
     ensures { Received
-        (Literal (constant value.now)) (ItemKind item.now) (item_size item.now) (Some bytes.new) }
+        (Literal (plain_value value.now)) (ItemKind item.now) (item_size item.now) (Some bytes.new) }
 {
     move_constant(value, item, bytes);
 }
@@ -67,10 +67,10 @@ fn clear(item: &Item, bytes: &mut [u8])
 /// X3.23-1985, Nucleus: the VALUE clause.)
 pub fn write_item(item: &Item, value: &Option<Value>, bytes: &mut [u8])
     requires storable { IsStorable item.now }
-    requires fits { IfSome (option_map constant value.now)
+    requires fits { IfSome (option_map plain_value value.now)
         (IsItemValue (is_number item.now) item.now (item_size item.now)) }
     requires long { length bytes.old ≡ item_size item.now }
-    ensures holds { HoldsItem item.now (option_map constant value.now) bytes.new }
+    ensures holds { HoldsItem item.now (option_map plain_value value.now) bytes.new }
     ensures room { length bytes.new ≡ length bytes.old }
 {
     match value {
@@ -84,7 +84,7 @@ pub fn write_item(item: &Item, value: &Option<Value>, bytes: &mut [u8])
 /// constant, or ALL and a literal, repeated to the last byte. (ANSI X3.23-1985, Nucleus: the VALUE clause; Language Concepts: figurative
 /// constants.)
 pub fn write_group(value: &Value, bytes: &mut [u8])
-    ensures holds { HoldsGroup (length bytes.old) (constant value.now) bytes.new }
+    ensures holds { HoldsGroup (length bytes.old) (plain_value value.now) bytes.new }
     ensures room { length bytes.new ≡ length bytes.old }
 {
     receive_in_group(&Sent::Constant(value), bytes);

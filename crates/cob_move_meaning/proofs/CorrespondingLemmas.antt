@@ -14,7 +14,7 @@ use Rattle.cob_move_statements.specs.declared.fault.MoveRule.{MoveRule}
 use Rattle.cob_move_statements.specs.declared.fault.MoveRule.TheVariants as rule
 use Rattle.cob_move_statements.specs.Written.{WrittenReference, MoveCorresponding}
 use Rattle.cob_move_references.specs.Candidates.{Candidate}
-use Rattle.cob_move_references.specs.References.{BreaksReceiver, BreaksReference, IsNamed}
+use Rattle.cob_move_references.specs.References.{BreaksReceiver, BreaksReference, NamesOperand}
 use Rattle.cob_move_pairs.specs.declared.pairing.Pair.{Pair as Paired}
 use Rattle.cob_move_pairs.specs.Listed.{pair, pairs}
 use Rattle.cob_move_pairs.specs.Pairing.{IsTwice}
@@ -43,7 +43,7 @@ one_true : (a b : Bool) → (a || b) ≡ true → (a ≡ true) ⊎ (b ≡ true)
 one_true true b e = inl refl
 one_true false b e = inr e
 
-pub groups_fault : (all : List Candidate) (from to : WrittenReference) (side : Side) (o p : Operand) → IsNamed all from side o → IsNamed all to Out p
+pub groups_fault : (all : List Candidate) (from to : WrittenReference) (side : Side) (o p : Operand) → NamesOperand all from side o → NamesOperand all to Out p
     → (is_elementary o.kind || is_elementary p.kind) ≡ true → LacksGroup all (MoveCorresponding from to)
 groups_fault all from to side o p h k e = elim (one_true (is_elementary o.kind) (is_elementary p.kind) e) [ inl x ↦ inl (side, o, h, x) | inr x ↦ inr (Out, p, k, x) ]
 

@@ -2,10 +2,9 @@
 use Rattle.std.proofs.Common.{◌≡◌, Bool, true, false, List, [], ◌∷◌, map, refl, sym, ap, subst, ◌∙◌, inl, inr}
 use Rattle.std.specs.Prelude.{filter}
 use Rattle.std.specs.List.{AllByRecursion}
-use Rattle.cob_copybook.specs.Books.{IsRecord}
+use Rattle.cob_copybook.specs.Books.{IsRecordDescription}
 use Rattle.cob_copybook_tree.specs.Forests.{Forest}
-use Rattle.cob_copybook_tree.specs.Nodes.{Resolved}
-use Rattle.cob_layout_places.specs.Lengths.{alone}
+use Rattle.cob_copybook_tree.specs.Nodes.{Resolved, alone}
 use Rattle.cob_move_operands.specs.declared.Side.{Side}
 use Rattle.cob_move_operands.specs.declared.Side.TheVariants.{In, Out}
 use Rattle.cob_move_operands.specs.declared.Operand.{Operand}
@@ -58,8 +57,8 @@ among (x ∷ xs) ys =
 
 -- the records are such, and what a reference names is an operand
 record AreGiven (records : Records) : Type 0 where
-  input : IsRecord (alone records.input)
-  output : IsRecord (alone records.output)
+  input : IsRecordDescription (alone records.input)
+  output : IsRecordDescription (alone records.output)
   named : NamedAreOperands
   below : SubordinatesAreOperands
   sound : RecordsAreSound
@@ -76,7 +75,7 @@ are_receivers records given [] os h = subst (λ (xs : List Operand). AllByRecurs
 are_receivers records given (w ∷ ws) os (o, more, h, hs, e) =
     subst (λ (xs : List Operand). AllByRecursion (IsOperand records.output) xs) (sym e) (given.named records w Out o given.input given.output h, are_receivers records given ws more hs)
 
-record_is : (records : Records) → AreGiven records → (side : Side) → IsRecord (alone (record_of records side))
+record_is : (records : Records) → AreGiven records → (side : Side) → IsRecordDescription (alone (record_of records side))
 record_is records given In = given.input
 record_is records given Out = given.output
 

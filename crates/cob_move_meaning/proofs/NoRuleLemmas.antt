@@ -20,7 +20,7 @@ use Rattle.cob_move_statements.specs.declared.fault.MoveRule.TheVariants as rule
 use Rattle.cob_move_statements.specs.Written.{WrittenReference, WrittenSender, SentReference, SentConstant, WrittenAction, MoveTo, MoveCorresponding, WrittenStatement}
 use Rattle.cob_move_references.specs.Candidates.{Candidate}
 use Rattle.cob_move_references.specs.Laws.{NamedBreakNoRule, OneNamed}
-use Rattle.cob_move_references.specs.References.{BreaksReceiver, BreaksReference, IsNamed}
+use Rattle.cob_move_references.specs.References.{BreaksReceiver, BreaksReference, NamesOperand}
 use Rattle.cob_move_pairs.specs.Pairs.{AreOnce, Pair, is_elementary}
 use Rattle.cob_move_meaning.specs.declared.corresponding.TwoGroups.{TwoGroups}
 use Rattle.cob_move_meaning.specs.Meaning.{AreMeanings, AreReceiversOf, IsAllowedMove, IsMeaning, IsSenderOf, kind_of_sender, pair_move, pairs_of}
@@ -35,13 +35,13 @@ both t x y = cc
 -- ---- references
 
 abbrev Refers : List Candidate → WrittenReference → Type 0
-Refers all w = (side : Side) × (o : Operand) × IsNamed all w side o
+Refers all w = (side : Side) × (o : Operand) × NamesOperand all w side o
 
 sender_refers : (all : List Candidate) (s : WrittenSender) (m : Sender) → IsSenderOf all s m → AllByRecursion (Refers all) (sent_references s)
 sender_refers all (SentReference r) m (side, o, h, e) = ((side, o, h), tt)
 sender_refers all (SentConstant w) m h = tt
 
-receivers_refer : (all : List Candidate) (ws : List WrittenReference) (os : List Operand) → AreReceiversOf all ws os → AllByRecursion (λ w. (o : Operand) × IsNamed all w Out o) ws
+receivers_refer : (all : List Candidate) (ws : List WrittenReference) (os : List Operand) → AreReceiversOf all ws os → AllByRecursion (λ w. (o : Operand) × NamesOperand all w Out o) ws
 receivers_refer all [] os h = tt
 receivers_refer all (w ∷ ws) os (o, more, h, hs, e) = ((o, h), receivers_refer all ws more hs)
 
@@ -61,7 +61,7 @@ no_reference law r all input output a ms h b =
     clash (Refers all) (BreaksReference r all) (λ w n x. law all w n.0 n.1 r n.2 x) (references a) (all_refer all input output a ms h) b
 
 all_receive : (all : List Candidate) (input output : Forest Resolved) (a : WrittenAction) (ms : List Move) → IsMeaning all input output a ms
-    → AllByRecursion (λ w. (o : Operand) × IsNamed all w Out o) (receivers a)
+    → AllByRecursion (λ w. (o : Operand) × NamesOperand all w Out o) (receivers a)
 all_receive all input output (MoveTo s ws) ms (m, h, e) = receivers_refer all ws m.receivers h.receivers
 all_receive all input output (MoveCorresponding from to) ms h = ((h.groups.to, h.named.receiving), tt)
 
@@ -71,7 +71,7 @@ other_side e = cc
 no_receiver : OneNamed → (all : List Candidate) (input output : Forest Resolved) (a : WrittenAction) (ms : List Move) → IsMeaning all input output a ms
     → SomeOf (BreaksReceiver rule.Receiver all) (receivers a) → ⊥
 no_receiver law all input output a ms h b =
-    clash (λ w. (o : Operand) × IsNamed all w Out o) (BreaksReceiver rule.Receiver all) (λ w n x. other_side ((law all w Out In n.0 x.0 n.1 x.1).0)) (receivers a) (all_receive all input output a ms h) b
+    clash (λ w. (o : Operand) × NamesOperand all w Out o) (BreaksReceiver rule.Receiver all) (λ w n x. other_side ((law all w Out In n.0 x.0 n.1 x.1).0)) (receivers a) (all_receive all input output a ms h) b
 
 -- ---- single moves
 
@@ -127,7 +127,7 @@ right_false : (a b : Bool) → (a || b) ≡ false → b ≡ false
 right_false true b e = cc
 right_false false b e = e
 
-no_elementary : OneNamed → (all : List Candidate) (w : WrittenReference) (side : Side) (o : Operand) → IsNamed all w side o → is_elementary o.kind ≡ false → IsNoGroup all w → ⊥
+no_elementary : OneNamed → (all : List Candidate) (w : WrittenReference) (side : Side) (o : Operand) → NamesOperand all w side o → is_elementary o.kind ≡ false → IsNoGroup all w → ⊥
 no_elementary law all w side o h e (s, p, k, f) = both (is_elementary p.kind) f (ap (λ (x : Operand). is_elementary x.kind) (sym ((law all w side s o p h k).1)) ∙ e)
 
 no_group : OneNamed → (all : List Candidate) (input output : Forest Resolved) (a : WrittenAction) (ms : List Move) → IsMeaning all input output a ms

@@ -12,7 +12,7 @@ use Rattle.cob_move_statements.specs.declared.fault.MoveRule.TheVariants as rule
 use Rattle.cob_move_statements.specs.declared.parts.Reference.{Reference}
 use Rattle.cob_move_statements.specs.Written.{WrittenReference, WrittenSender, SentReference, MoveTo, written_reference, written_references}
 use Rattle.cob_move_references.specs.Candidates.{Candidate}
-use Rattle.cob_move_references.specs.References.{IsNamed, BreaksReference, BreaksReceiver}
+use Rattle.cob_move_references.specs.References.{NamesOperand, BreaksReference, BreaksReceiver}
 use Rattle.cob_move_meaning.specs.Meaning.{AreReceiversOf, IsSenderOf}
 use Rattle.cob_move_meaning.specs.Refusals.{BreaksReceipt, BreaksReceiving, BreaksSender, BreaksStatement, SomeOf, sent_references}
 use Rattle.cob_move_meaning.proofs.SomeLemmas.{all_append, left, right, next, none_of, some_behind, some_front, some_map}
@@ -64,7 +64,7 @@ receivers_fault r all s m ws input output is (inr h) = receipt_fault r all s m w
 -- ---- receivers, one after another
 
 pub found_more : (all : List Candidate) (ws : List Reference) (i : ℕ) (w : Reference) (now new : List Operand) (o : Operand)
-    → i < length ws → w ≡ get_or ws i w → IsNamed all (written_reference w) Out o → new ≡ now ++ o ∷ []
+    → i < length ws → w ≡ get_or ws i w → NamesOperand all (written_reference w) Out o → new ≡ now ++ o ∷ []
     → ((more : List Operand) → AreReceiversOf all (written_references (drop i ws)) more → AreReceiversOf all (written_references ws) (now ++ more))
     → (more : List Operand) → AreReceiversOf all (written_references (drop (i + 1) ws)) more → AreReceiversOf all (written_references ws) (new ++ more)
 found_more all ws i w now new o lt is h e before more rest =

@@ -1,9 +1,8 @@
 -- What follows from the definitions, said as laws.
 use Rattle.std.specs.Prelude.{◌≡◌, List}
-use Rattle.cob_copybook.specs.Books.{IsRecord}
+use Rattle.cob_copybook.specs.Books.{IsRecordDescription}
 use Rattle.cob_copybook_tree.specs.Forests.{Forest}
-use Rattle.cob_copybook_tree.specs.Nodes.{Resolved}
-use Rattle.cob_layout_places.specs.Lengths.{alone}
+use Rattle.cob_copybook_tree.specs.Nodes.{Resolved, alone}
 use Rattle.cob_move_operands.specs.Moves.{Move, Records, AreMoves}
 use Rattle.cob_move_statements.specs.declared.fault.MoveFault.{MoveFault}
 use Rattle.cob_move_statements.specs.declared.fault.MoveRule.{MoveRule}
@@ -35,5 +34,5 @@ MeantBreakNoRule = (all : List Candidate) (input output : Forest Resolved) (ss :
 
 -- Law: the moves that statements mean are moves between the two records.
 abbrev pub MeantAreMoves : Type 0
-MeantAreMoves = (records : Records) (ss : List WrittenStatement) (ms : List Move) → IsRecord (alone records.input) → IsRecord (alone records.output)
+MeantAreMoves = (records : Records) (ss : List WrittenStatement) (ms : List Move) → IsRecordDescription (alone records.input) → IsRecordDescription (alone records.output)
     → AreMeant (alone records.input) (alone records.output) ss ms → AreMoves records ms

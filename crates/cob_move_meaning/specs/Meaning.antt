@@ -1,7 +1,7 @@
 -- What a statement means between two records: its moves.
 use Rattle.std.specs.Prelude.{◌≡◌, ◌||◌, false, List, [], ◌∷◌, ◌++◌, map}
 use Rattle.std.specs.List.{AllByRecursion}
-use Rattle.cob_entry.specs.Described.{Constant}
+use Rattle.cob_entry.specs.Described.{PlainValue}
 use Rattle.cob_copybook_entries.specs.Meaning.{IsConstantOf}
 use Rattle.cob_copybook_tree.specs.Forests.{Forest}
 use Rattle.cob_copybook_tree.specs.Nodes.{Resolved}
@@ -13,7 +13,7 @@ use Rattle.cob_move_receive.specs.Table.{SenderKind, Entry as EntryOf, Literal a
 use Rattle.cob_move_receive.specs.Refusals.{IsAllowed}
 use Rattle.cob_move_statements.specs.Written.{WrittenReference, WrittenSender, SentReference, SentConstant, WrittenAction, MoveTo, MoveCorresponding, WrittenStatement}
 use Rattle.cob_move_references.specs.Candidates.{Candidate, all_entries}
-use Rattle.cob_move_references.specs.References.{IsNamed}
+use Rattle.cob_move_references.specs.References.{NamesOperand}
 use Rattle.cob_move_meaning.specs.declared.corresponding.TwoGroups.{TwoGroups}
 use Rattle.cob_move_pairs.specs.Groups.{entries_below, operand_below}
 use Rattle.cob_move_pairs.specs.Pairs.{AreOnce, Pair, corresponding_pairs, is_elementary}
@@ -25,13 +25,13 @@ kind_of_sender (Literal c) = LiteralOf c
 
 -- A sender means the operand that its reference names, or the constant that its literal means.
 abbrev pub IsSenderOf : List Candidate → WrittenSender → Sender → Type 0
-IsSenderOf all (SentReference r) s = (side : Side) × (o : Operand) × IsNamed all r side o × (s ≡ Entry side o)
-IsSenderOf all (SentConstant w) s = (c : Constant) × IsConstantOf w c × (s ≡ Literal c)
+IsSenderOf all (SentReference r) s = (side : Side) × (o : Operand) × NamesOperand all r side o × (s ≡ Entry side o)
+IsSenderOf all (SentConstant w) s = (c : PlainValue) × IsConstantOf w c × (s ≡ Literal c)
 
 -- Receivers mean the operands of the output record that their references name, in the order in which they are written.
 abbrev pub AreReceiversOf : List Candidate → List WrittenReference → List Operand → Type 0
 AreReceiversOf all [] os = os ≡ []
-AreReceiversOf all (r ∷ rs) os = (o : Operand) × (more : List Operand) × IsNamed all r Out o × AreReceiversOf all rs more × (os ≡ o ∷ more)
+AreReceiversOf all (r ∷ rs) os = (o : Operand) × (more : List Operand) × NamesOperand all r Out o × AreReceiversOf all rs more × (os ≡ o ∷ more)
 
 -- Each single move, of the sender to one of the receivers, is allowed.
 abbrev pub IsAllowedMove : Move → Type 0
@@ -45,8 +45,8 @@ pub record IsMoveOf (all : List Candidate) (s : WrittenSender) (rs : List Writte
 
 -- The references of MOVE CORRESPONDING name two groups, the receiving one in the output record.
 pub record AreGroupsOf (all : List Candidate) (from to : WrittenReference) (g : TwoGroups) : Type 0 where
-  pub sending : IsNamed all from g.side g.from
-  pub receiving : IsNamed all to Out g.to
+  pub sending : NamesOperand all from g.side g.from
+  pub receiving : NamesOperand all to Out g.to
   pub groups : (is_elementary g.from.kind || is_elementary g.to.kind) ≡ false
 
 -- the entries of a side's record

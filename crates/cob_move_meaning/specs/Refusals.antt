@@ -1,6 +1,6 @@
 -- Which rules a statement breaks.
 use Rattle.std.specs.Prelude.{◌≡◌, ◌⊎◌, ℕ, true, List, [], ◌∷◌, ◌++◌, Option, Some, None}
-use Rattle.cob_copybook_clauses.specs.Written.{WrittenConstant}
+use Rattle.cob_copybook_clauses.specs.Written.{WrittenValue}
 use Rattle.cob_copybook_entries.specs.Books.{BreaksConstant, BreaksValue}
 use Rattle.cob_copybook_tree.specs.declared.node.Kind.{Kind}
 use Rattle.cob_copybook_tree.specs.Forests.{Forest}
@@ -17,7 +17,7 @@ use Rattle.cob_move_statements.specs.declared.fault.MoveRule.TheVariants as rule
 use Rattle.cob_move_statements.specs.declared.fault.MoveFault.{MoveFault}
 use Rattle.cob_move_statements.specs.Written.{WrittenReference, WrittenSender, SentReference, SentConstant, WrittenAction, MoveTo, MoveCorresponding, WrittenStatement}
 use Rattle.cob_move_references.specs.Candidates.{Candidate, all_entries}
-use Rattle.cob_move_references.specs.References.{IsNamed, BreaksReference, BreaksReceiver}
+use Rattle.cob_move_references.specs.References.{NamesOperand, BreaksReference, BreaksReceiver}
 use Rattle.cob_move_pairs.specs.Pairs.{AreOnce, Pair, is_elementary}
 use Rattle.cob_move_meaning.specs.declared.corresponding.TwoGroups.{TwoGroups}
 use Rattle.cob_move_meaning.specs.Meaning.{IsSenderOf, AreGroupsOf, kind_of_sender, pairs_of}
@@ -33,7 +33,7 @@ sent_references (SentReference r) = r ∷ []
 sent_references (SentConstant w) = []
 
 -- the constant that a sender is, if it is one
-abbrev pub constant_sent : WrittenSender → Option WrittenConstant
+abbrev pub constant_sent : WrittenSender → Option WrittenValue
 constant_sent (SentReference r) = None
 constant_sent (SentConstant w) = Some w
 
@@ -48,7 +48,7 @@ receivers (MoveTo s rs) = rs
 receivers (MoveCorresponding from to) = to ∷ []
 
 -- the constant that a statement sends, if it sends one
-abbrev pub sent_constant : WrittenAction → Option WrittenConstant
+abbrev pub sent_constant : WrittenAction → Option WrittenValue
 sent_constant (MoveTo s rs) = constant_sent s
 sent_constant (MoveCorresponding from to) = None
 
@@ -62,7 +62,7 @@ BreaksMove other s to = ⊥
 
 -- A reference names an operand of the output record, to which the sender's move breaks the rule.
 abbrev pub BreaksReceiving : MoveRule → List Candidate → Sender → WrittenReference → Type 0
-BreaksReceiving r all s w = (o : Operand) × IsNamed all w Out o × BreaksMove r (kind_of_sender s) o.kind
+BreaksReceiving r all s w = (o : Operand) × NamesOperand all w Out o × BreaksMove r (kind_of_sender s) o.kind
 
 -- A receiver breaks a rule by its reference, or by the sender's move to what it names.
 abbrev pub BreaksReceipt : MoveRule → List Candidate → Sender → WrittenReference → Type 0
@@ -88,7 +88,7 @@ SomeBreak r all input output (MoveCorresponding from to) = (g : TwoGroups) × Ar
 
 -- A reference names an item that is elementary.
 abbrev pub IsNoGroup : List Candidate → WrittenReference → Type 0
-IsNoGroup all r = (side : Side) × (o : Operand) × IsNamed all r side o × (is_elementary o.kind ≡ true)
+IsNoGroup all r = (side : Side) × (o : Operand) × NamesOperand all r side o × (is_elementary o.kind ≡ true)
 
 -- CORRESPONDING has a reference that names no group.
 abbrev pub LacksGroup : List Candidate → WrittenAction → Type 0

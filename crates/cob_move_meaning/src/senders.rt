@@ -1,8 +1,8 @@
 //! What a sender means.
 
 ghost use Rattle.std.specs.Prelude.{◌≡◌, List, IfErr, IfOk};
-ghost use Rattle.cob_copybook_clauses.specs.Written.{written_constant};
-ghost use Rattle.cob_entry.specs.Described.{constant};
+ghost use Rattle.cob_copybook_clauses.specs.Written.{written_value};
+ghost use Rattle.cob_entry.specs.Described.{plain_value};
 ghost use Rattle.cob_copybook_entries.specs.Meaning.{IsConstantOf};
 ghost use Rattle.cob_move_meaning.specs.Meaning.{IsSenderOf};
 ghost use Rattle.cob_move_meaning.specs.Refusals.{BreaksSender};
@@ -11,7 +11,7 @@ ghost use Rattle.cob_move_references.specs.Candidates.{Candidate};
 ghost use Rattle.cob_move_references.specs.Directory.{entries_named};
 ghost use Rattle.cob_move_statements.specs.Written.{SentConstant, SentReference, written_reference, written_sender};
 
-use cob_copybook_clauses::Constant;
+use cob_copybook_clauses::ValueClause;
 use cob_copybook_entries::value_of;
 use cob_entry::{BookRule, Value};
 use cob_move_operands::Sender;
@@ -23,10 +23,10 @@ use cob_move_statements::{MoveRule, Reference, StatementSender};
 /// # Errors
 ///
 /// `Grammar` for a word that is no numeric literal; `Literal` for a literal of too many characters or digits, or an empty one behind ALL.
-fn constant_of(written: &Constant<'_>) -> Result<Value, MoveRule>
-    ensures found { IfOk result (λ v. IsConstantOf (written_constant written.now) (constant v)) }
+fn constant_of(written: &ValueClause<'_>) -> Result<Value, MoveRule>
+    ensures found { IfOk result (λ v. IsConstantOf (written_value written.now) (plain_value v)) }
     ensures fault { IfErr result (λ r. (all : List Candidate)
-        → BreaksSender r all (SentConstant (written_constant written.now))) }
+        → BreaksSender r all (SentConstant (written_value written.now))) }
 {
     match value_of(written) {
         Ok(value) => Ok(value),

@@ -11,7 +11,7 @@ ghost use Rattle.cob_move_operands.specs.Moves.{move, sender};
 ghost use Rattle.cob_move_receive.specs.Refusals.{IsAllowed};
 ghost use Rattle.cob_move_receive.specs.Table.{sender_kind};
 ghost use Rattle.cob_move_references.specs.Directory.{entries_named};
-ghost use Rattle.cob_move_references.specs.References.{IsNamed};
+ghost use Rattle.cob_move_references.specs.References.{NamesOperand};
 ghost use Rattle.cob_move_statements.specs.Written.{
   MoveTo,
   written_reference,
@@ -64,7 +64,7 @@ fn receiver_of(
     from: &Sender,
     reference: &Reference<'_>,
 ) -> Result<Operand, MoveRule>
-    ensures found { IfOk result (λ o. IsNamed (entries_named names.now)
+    ensures found { IfOk result (λ o. NamesOperand (entries_named names.now)
         (written_reference reference.now) Out o) }
     ensures allowed { IfOk result (λ o. IsAllowed (kind_of_sender (sender from.now)) o.kind) }
     ensures fault { IfErr result (λ r. BreaksReceipt r (entries_named names.now)

@@ -1,10 +1,9 @@
 -- Moves between two records.
 use Rattle.std.specs.Prelude.{◌≡◌, ℕ, List, map, Some}
 use Rattle.std.specs.List.{AllByRecursion}
-use Rattle.cob_entry.specs.Described.{Constant, constant}
+use Rattle.cob_entry.specs.Described.{PlainValue, plain_value}
 use Rattle.cob_copybook_tree.specs.Forests.{Tree}
-use Rattle.cob_copybook_tree.specs.Nodes.{Resolved}
-use Rattle.cob_layout_places.specs.Lengths.{alone}
+use Rattle.cob_copybook_tree.specs.Nodes.{Resolved, alone}
 use Rattle.cob_layout_places.specs.Counts.{kind_one}
 use Rattle.cob_layout_places.specs.References.{Refers}
 use Rattle.cob_move_operands.specs.declared.Side.{Side}
@@ -17,12 +16,12 @@ use Rattle.cob_move_operands.specs.declared.Move as code_move
 -- what is moved: an entry of one of the records, or a literal or figurative constant
 pub data Sender : Type 0 where
   Entry : Side → Operand → Sender
-  Literal : Constant → Sender
+  Literal : PlainValue → Sender
 
 -- what the code's value stands for
 abbrev pub sender : code.Sender → Sender
 sender (code_sender.Entry side operand) = Entry side operand
-sender (code_sender.Constant value) = Literal (constant value)
+sender (code_sender.Constant value) = Literal (plain_value value)
 
 -- a sender and its receivers, which are entries of the output record
 pub record Move : Type 0 where

@@ -3,7 +3,7 @@ use Rattle.std.proofs.Common.{◌≡◌, ℕ, zero, suc, ◌<◌, ◌≤◌, Boo
 use Rattle.std.proofs.Math.Seq.{take-length}
 use Rattle.std.proofs.lemmas.List.{get_or_default}
 use Rattle.std.proofs.lemmas.List.Elements.{filter-append}
-use Rattle.cob_copybook_names.specs.Links.{AreLinked, BearsAt, IsLast, reach}
+use Rattle.cob_copybook_names.specs.Links.{AreLinked, BearsAt, IsLast, entries_up_to}
 use Rattle.cob_copybook_names.proofs.Links.{differs}
 use Rattle.cob_move_pairs.specs.declared.subordinate.Subordinate.{Subordinate as Listed}
 use Rattle.cob_move_pairs.specs.Listed.{subordinate, subordinates_listed}
@@ -52,15 +52,15 @@ partner_gap x (c ∷ all) (suc p) (suc k) le g =
 
 -- a walk begins at the last entry of the name
 pub walk_start : (x : Subordinate) (all : List Subordinate) (n : ℕ) (place : Option ℕ) → length all ≡ n → IsLast (names_listed all) x.name n place
-    → partners all x ≡ partners (take (reach place) all) x ++ []
+    → partners all x ≡ partners (take (entries_up_to place) all) x ++ []
 walk_start x all n place is l =
     ap (λ (cs : List Subordinate). partners cs x) (sym (take-length all) ∙ ap (λ (k : ℕ). take k all) is)
-    ∙ partner_gap x all (reach place) n l.before l.others ∙ sym (append-nil (partners (take (reach place) all) x))
+    ∙ partner_gap x all (entries_up_to place) n l.before l.others ∙ sym (append-nil (partners (take (entries_up_to place) all) x))
 
 -- where it stands
 pub walk_at : (x : Subordinate) (all : List Subordinate) (place : Option ℕ) (p : ℕ) (c : Subordinate) (t : Bool) (rest : List Subordinate)
-    → take (reach place) all ≡ take p all ++ c ∷ [] → correspond x c ≡ t
-    → partners all x ≡ partners (take (reach place) all) x ++ rest → partners all x ≡ partners (take p all) x ++ (only_if t c ++ rest)
+    → take (entries_up_to place) all ≡ take p all ++ c ∷ [] → correspond x c ≡ t
+    → partners all x ≡ partners (take (entries_up_to place) all) x ++ rest → partners all x ≡ partners (take p all) x ++ (only_if t c ++ rest)
 walk_at x all place p c t rest front test so =
     so ∙ ap (λ (cs : List Subordinate). partners cs x ++ rest) front
     ∙ ap (λ (cs : List Subordinate). cs ++ rest)
@@ -69,16 +69,16 @@ walk_at x all place p c t rest front test so =
 
 -- and goes on to the one before it
 pub walk_step : (x : Subordinate) (all : List Subordinate) (place next : Option ℕ) (p : ℕ) (c : Subordinate) (t : Bool) (rest : List Subordinate)
-    → take (reach place) all ≡ take p all ++ c ∷ [] → IsLast (names_listed all) x.name p next → correspond x c ≡ t
-    → partners all x ≡ partners (take (reach place) all) x ++ rest → partners all x ≡ partners (take (reach next) all) x ++ (only_if t c ++ rest)
+    → take (entries_up_to place) all ≡ take p all ++ c ∷ [] → IsLast (names_listed all) x.name p next → correspond x c ≡ t
+    → partners all x ≡ partners (take (entries_up_to place) all) x ++ rest → partners all x ≡ partners (take (entries_up_to next) all) x ++ (only_if t c ++ rest)
 walk_step x all place next p c t rest front l test so =
     walk_at x all place p c t rest front test so
-    ∙ ap (λ (cs : List Subordinate). cs ++ (only_if t c ++ rest)) (partner_gap x all (reach next) p l.before l.others)
+    ∙ ap (λ (cs : List Subordinate). cs ++ (only_if t c ++ rest)) (partner_gap x all (entries_up_to next) p l.before l.others)
 
 -- the first that is found
 pub walk_meet : (x : Subordinate) (all : List Subordinate) (next : Option ℕ) (c : Listed) (found : Option (Bor Listed)) → is_some found ≡ false
-    → partners all x ≡ partners (take (reach next) all) x ++ (only_if true (subordinate c) ++ partner_list found)
-    → partners all x ≡ partners (take (reach next) all) x ++ subordinate c ∷ []
+    → partners all x ≡ partners (take (entries_up_to next) all) x ++ (only_if true (subordinate c) ++ partner_list found)
+    → partners all x ≡ partners (take (entries_up_to next) all) x ++ subordinate c ∷ []
 walk_meet x all next c None none h = h
 walk_meet x all next c (Some d) none h = absurd cc
 
@@ -88,8 +88,8 @@ walk_twice all front c None some h = absurd cc
 walk_twice all front c (Some d) some h = omega (arith, ap length h, length-append front (c ∷ subordinate d.now ∷ []))
 
 -- the end
-pub walk_end : (x : Subordinate) (all : List Subordinate) (place : Option ℕ) (found : List Subordinate) → place ≡ None → partners all x ≡ partners (take (reach place) all) x ++ found → partners all x ≡ found
-walk_end x all place found e h = h ∙ ap (λ (o : Option ℕ). partners (take (reach o) all) x ++ found) e
+pub walk_end : (x : Subordinate) (all : List Subordinate) (place : Option ℕ) (found : List Subordinate) → place ≡ None → partners all x ≡ partners (take (entries_up_to place) all) x ++ found → partners all x ≡ found
+walk_end x all place found e h = h ∙ ap (λ (o : Option ℕ). partners (take (entries_up_to o) all) x ++ found) e
 
 -- the name at a place is that of the entry there
 pub name_at : (cs : List Listed) (i : ℕ) (c : Listed) → i < length cs → c ≡ get_or cs i c → get_or (names_listed (subordinates_listed cs)) i None ≡ Some (subordinate c).name
@@ -104,11 +104,11 @@ take_here (x ∷ cs) zero c lt is = ap (λ (y : Listed). subordinate y ∷ []) (
 take_here (x ∷ cs) (suc p) c lt is = ap (λ (t : List Subordinate). subordinate x ∷ t) (take_here cs p c (omega (arith, lt)) is)
 
 pub front_at : (cs : List Listed) (place : Option ℕ) (p : ℕ) (c : Listed) → place ≡ Some p → p < length cs → c ≡ get_or cs p c
-    → take (reach place) (subordinates_listed cs) ≡ take p (subordinates_listed cs) ++ subordinate c ∷ []
-front_at cs place p c is lt read = ap (λ (o : Option ℕ). take (reach o) (subordinates_listed cs)) is ∙ rw add-one (take_here cs p c lt read)
+    → take (entries_up_to place) (subordinates_listed cs) ≡ take p (subordinates_listed cs) ++ subordinate c ∷ []
+front_at cs place p c is lt read = ap (λ (o : Option ℕ). take (entries_up_to o) (subordinates_listed cs)) is ∙ rw add-one (take_here cs p c lt read)
 
-pub inside_at : (place : Option ℕ) (p n : ℕ) → place ≡ Some p → reach place ≤ n → p < n
-inside_at place p n is le = let within : reach (Some p) ≤ n = subst (λ (o : Option ℕ). reach o ≤ n) is le in omega (arith, within)
+pub inside_at : (place : Option ℕ) (p n : ℕ) → place ≡ Some p → entries_up_to place ≤ n → p < n
+inside_at place p n is le = let within : entries_up_to (Some p) ≤ n = subst (λ (o : Option ℕ). entries_up_to o ≤ n) is le in omega (arith, within)
 
 -- the place before this one
 pub link_at : (cs : List Listed) (earlier : List (Option ℕ)) (name : List ℕ) (place : Option ℕ) (p : ℕ) (e : Option ℕ) → length earlier ≡ length cs

@@ -1,9 +1,8 @@
 -- What is below a group of a record, and where that refers.
 use Rattle.std.specs.Prelude.{◌≡◌, ◌⊎◌, ℕ, ◌==◌, List, [], ◌∷◌, Option, Some, None}
-use Rattle.cob_copybook_tree.specs.Forests.{Forest, Bare, Grows, Tree}
-use Rattle.cob_copybook_tree.specs.Nodes.{Resolved}
+use Rattle.cob_copybook_tree.specs.Forests.{Forest, NoEntries, AnEntry, Tree}
+use Rattle.cob_copybook_tree.specs.Nodes.{Resolved, alone}
 use Rattle.cob_layout_places.specs.Cover.{AreNumbered}
-use Rattle.cob_layout_places.specs.Lengths.{alone}
 use Rattle.cob_layout_places.specs.Places.{choose, or_else}
 use Rattle.cob_move_operands.specs.declared.Operand.{Operand}
 use Rattle.cob_move_operands.specs.Moves.{IsOperand}
@@ -11,12 +10,12 @@ use Rattle.cob_move_pairs.specs.Pairs.{Subordinate, subordinates}
 
 -- what is below the first entry with this number, if there is one
 abbrev pub found_below : ℕ → Forest Resolved → Option (Forest Resolved)
-found_below number Bare = None
-found_below number (Grows e kids more) = or_else (choose (e.number == number) kids (found_below number kids)) (found_below number more)
+found_below number NoEntries = None
+found_below number (AnEntry e children more) = or_else (choose (e.number == number) children (found_below number children)) (found_below number more)
 
 -- nothing in place of none
 abbrev pub or_bare : Option (Forest Resolved) → Forest Resolved
-or_bare None = Bare
+or_bare None = NoEntries
 or_bare (Some f) = f
 
 -- What is below the entry with this number.

@@ -3,7 +3,7 @@ use Rattle.std.specs.Prelude.{ℕ, Bool, true, false, ◌&&◌, ◌||◌, is_som
 use Rattle.std.specs.List.{flat_map}
 use Rattle.cob_copybook_tree.specs.declared.node.Kind.{Kind}
 use Rattle.cob_copybook_tree.specs.declared.node.Kind.TheVariants.{Group, Item as ItemKind}
-use Rattle.cob_copybook_tree.specs.Forests.{Forest, Bare, Grows}
+use Rattle.cob_copybook_tree.specs.Forests.{Forest, NoEntries, AnEntry}
 use Rattle.cob_copybook_tree.specs.Nodes.{Resolved}
 use Rattle.cob_layout_places.specs.Places.{is_table}
 use Rattle.cob_move_receive.specs.Table.{Entry, may_move}
@@ -31,9 +31,9 @@ between_below (Some name) between = name ∷ between
 
 -- The entries below a group that may be in a pair, in their order.
 abbrev pub subordinates : List (List ℕ) → Forest Resolved → List Subordinate
-subordinates between Bare = []
-subordinates between (Grows e kids more) =
-    (if is_left_out e then [] else own_subordinate e.name between e ++ subordinates (between_below e.name between) kids) ++ subordinates between more
+subordinates between NoEntries = []
+subordinates between (AnEntry e children more) =
+    (if is_left_out e then [] else own_subordinate e.name between e ++ subordinates (between_below e.name between) children) ++ subordinates between more
 
 -- Two lists of names are the same.
 abbrev pub same_names : List (List ℕ) → List (List ℕ) → Bool

@@ -1,8 +1,7 @@
 //! What is below a group of a record.
 
 ghost use Rattle.std.specs.Prelude.{◌≡◌, Some, None, IfNone, IfSome};
-ghost use Rattle.cob_copybook_tree.specs.Nodes.{forest, node};
-ghost use Rattle.cob_layout_places.specs.Lengths.{alone};
+ghost use Rattle.cob_copybook_tree.specs.Nodes.{forest, node, alone};
 ghost use Rattle.cob_move_pairs.specs.Groups.{entries_below, found_below};
 
 use cob_copybook_tree::Node;

@@ -5,7 +5,7 @@ use Rattle.std.proofs.lemmas.Bool.{cases_lt, cases_eq}
 use Rattle.std.proofs.lemmas.List.{same_lists, get_or_default, get_or-take, get_or-append_right, get_or_append_left, get_or-replicate, get_or_past, length-take, length-replicate}
 use Rattle.std.specs.Prelude.{IfSome, unwrap_or}
 use Rattle.cob_cp037.specs.Table.{IsCoded, HasCode, IsPairOf, table, TableIsOneToOne}
-use Rattle.cob_entry.specs.Described.{Constant, Numeric, Quoted, Figure, Repeated}
+use Rattle.cob_entry.specs.Described.{PlainValue, Numeric, Quoted, Figure, Repeated}
 use Rattle.cob_move_receive.specs.Characters.{IsByteOf, AreBytesOf, GivesConstant, padded, repeated}
 
 -- ---- one byte
@@ -143,7 +143,7 @@ repeated_is law text all n e some each =
     )
 
 -- each constant gives characters
-pub some_text : (c : Constant) (n : ℕ) → (text : List ℕ) × GivesConstant c n text
+pub some_text : (c : PlainValue) (n : ℕ) → (text : List ℕ) × GivesConstant c n text
 some_text (Numeric sign negative digits scale) n = (_, refl)
 some_text (Quoted text) n = some_bytes text
 some_text (Figure f) n = (_, refl)

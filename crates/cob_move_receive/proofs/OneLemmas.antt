@@ -10,15 +10,15 @@ use Rattle.cob_picture.specs.declared.category.Category.TheVariants.{Alphabetic,
 use Rattle.cob_entry.specs.declared.kinds.Figurative.{Figurative}
 use Rattle.cob_entry.specs.declared.kinds.Figurative.TheVariants.{Space, Zero, HighValue, LowValue, Quote}
 use Rattle.cob_cp037.specs.Table.{TableIsOneToOne}
-use Rattle.cob_edit.specs.Pictured.{IsEdited, OneText, OneValue}
+use Rattle.cob_edit.specs.Pictured.{IsEdited, OneEditedText, OneEditedNumber}
 use Rattle.cob_edit.specs.Characters.{OneSpelling}
-use Rattle.cob_entry.specs.Described.{Constant, Quoted, Figure, Repeated}
+use Rattle.cob_entry.specs.Described.{PlainValue, Quoted, Figure, Repeated}
 use Rattle.cob_entry.specs.Described as constant
 use Rattle.cob_copybook_tree.specs.declared.node.Kind.{Kind}
 use Rattle.cob_copybook_tree.specs.declared.node.Kind.TheVariants.{Group, Item as ItemKind}
 use Rattle.cob_copybook_tree.specs.declared.node.Item.{Item}
 use Rattle.cob_copybook_lengths.specs.Values.{is_number}
-use Rattle.cob_item.specs.Items.{OneNumber, stored_form}
+use Rattle.cob_item.specs.Items.{OneItemNumber, stored_form}
 use Rattle.cob_move_receive.proofs.CharacterLemmas as characters
 use Rattle.cob_move_receive.specs.Sent.{Sent, Entry, Literal, Amount}
 use Rattle.cob_move_receive.specs.Characters.{GivesConstant, GivesDigits, GivesCharacters, Placement, FromLeft, FromRight, Among, Arranged, padded, repeated, placement, numerals_to_point}
@@ -29,9 +29,9 @@ use Rattle.cob_move_receive.specs.Received.{GetsNumber, GetsCharacters, ItemGets
 pub record Laws : Type 0 where
   pub list : OneList
   pub code : TableIsOneToOne
-  pub number : OneNumber
-  pub value : OneValue
-  pub text : OneText
+  pub number : OneItemNumber
+  pub value : OneEditedNumber
+  pub text : OneEditedText
   pub spelling : OneSpelling
 
 -- of two cases both times the same one
@@ -44,13 +44,13 @@ same_amount a b p q r = λ i. record { negative = p i; digits = q i; scale = r i
 
 -- ---- characters
 
-one_given : TableIsOneToOne → (c : Constant) (n : ℕ) (a b : List ℕ) → GivesConstant c n a → GivesConstant c n b → a ≡ b
+one_given : TableIsOneToOne → (c : PlainValue) (n : ℕ) (a b : List ℕ) → GivesConstant c n a → GivesConstant c n b → a ≡ b
 one_given law (constant.Numeric sign negative digits scale) n a b p q = p ∙ sym q
 one_given law (Quoted t) n a b p q = characters.one_text law t a b p q
 one_given law (Figure f) n a b p q = p ∙ sym q
 one_given law (Repeated t) n a b p q = p.2 ∙ ap (λ coded. padded n (repeated n coded)) (characters.one_text law t p.0 q.0 p.1 q.1) ∙ sym q.2
 
-one_digits : OneNumber → (i : Item) (bytes a b : List ℕ) → GivesDigits i bytes a → GivesDigits i bytes b → a ≡ b
+one_digits : OneItemNumber → (i : Item) (bytes a b : List ℕ) → GivesDigits i bytes a → GivesDigits i bytes b → a ≡ b
 one_digits law i bytes a b (m, ds, p, x) (n, es, q, y) =
     let same = law i bytes m n ds es p q in
     x ∙ ap (λ (d : List ℕ). numerals_to_point d (counts.scale i.picture.positions)) same.1 ∙ sym y
@@ -77,20 +77,20 @@ one_got law s to n None None x y = refl
 
 -- ---- numbers
 
-one_unedited : OneValue → (i : Item) (bytes : List ℕ) (v w : Amount) → IsUnedited i bytes v → IsUnedited i bytes w → v ≡ w
+one_unedited : OneEditedNumber → (i : Item) (bytes : List ℕ) (v w : Amount) → IsUnedited i bytes v → IsUnedited i bytes w → v ≡ w
 one_unedited law i bytes v w x y =
     let P : Amount → ℤ → Type 0 = λ a s. IsEdited i.picture i.blank a.negative a.digits s bytes in
     let same = law i.picture i.blank v.negative w.negative v.digits w.digits bytes x.range y.range (subst (P v) x.point x.text) (subst (P w) y.point y.text) in
     same_amount v w same.0 same.1 (x.point ∙ sym y.point)
 
-one_as : OneValue → (category : Category) (i : Item) (bytes : List ℕ) (v w : Amount) → GivesUnder category i bytes v → GivesUnder category i bytes w → v ≡ w
+one_as : OneEditedNumber → (category : Category) (i : Item) (bytes : List ℕ) (v w : Amount) → GivesUnder category i bytes v → GivesUnder category i bytes w → v ≡ w
 one_as law Numeric i bytes v w x y = one_unedited law i bytes v w x y
 one_as law NumericEdited i bytes v w x y = one_unedited law i bytes v w x y
 one_as law Alphanumeric i bytes v w x y = x.value ∙ sym y.value
 one_as law Alphabetic i bytes v w x y = absurd x
 one_as law AlphanumericEdited i bytes v w x y = absurd x
 
-one_in : OneNumber → (i : Item) (bytes : List ℕ) (v w : Amount) → IsNumberIn i bytes v → IsNumberIn i bytes w → v ≡ w
+one_in : OneItemNumber → (i : Item) (bytes : List ℕ) (v w : Amount) → IsNumberIn i bytes v → IsNumberIn i bytes w → v ≡ w
 one_in law i bytes v w x y =
     let same = law i bytes v.negative w.negative v.digits w.digits x.represents y.represents in
     same_amount v w same.0 same.1 (x.point ∙ sym y.point)
@@ -102,7 +102,7 @@ one_figure HighValue v w x y = absurd x
 one_figure LowValue v w x y = absurd x
 one_figure Quote v w x y = absurd x
 
-one_constant : (c : Constant) (v w : Amount) → ConstantGives c v → ConstantGives c w → v ≡ w
+one_constant : (c : PlainValue) (v w : Amount) → ConstantGives c v → ConstantGives c w → v ≡ w
 one_constant (constant.Numeric sign negative digits scale) v w x y = x ∙ sym y
 one_constant (Quoted t) v w x y = x.value ∙ sym y.value
 one_constant (Figure f) v w x y = one_figure f v w x y

@@ -8,7 +8,7 @@ use Rattle.cob_cp037.specs.Table.{IsCoded, HasCode}
 use Rattle.cob_edit.specs.Characters.{HasCharacters}
 use Rattle.cob_entry.specs.declared.kinds.Figurative.{Figurative}
 use Rattle.cob_entry.specs.declared.kinds.Figurative.TheVariants.{Space, Zero, HighValue, LowValue, Quote}
-use Rattle.cob_entry.specs.Described.{Constant}
+use Rattle.cob_entry.specs.Described.{PlainValue}
 use Rattle.cob_entry.specs.Described as constant
 use Rattle.cob_copybook_tree.specs.declared.node.Kind.{Kind}
 use Rattle.cob_copybook_tree.specs.declared.node.Kind.TheVariants.{Group, Item as ItemKind}
@@ -64,14 +64,14 @@ GivesDigits i bytes text =
 
 -- The characters of a constant for a receiver of n bytes: the digits of a number as they are written, the characters of a literal, and a
 -- figurative constant, or ALL and a literal, repeated to the receiver's size.
-abbrev pub GivesConstant : Constant → ℕ → List ℕ → Type 0
+abbrev pub GivesConstant : PlainValue → ℕ → List ℕ → Type 0
 GivesConstant (constant.Numeric sign negative digits scale) n text = text ≡ numerals digits
 GivesConstant (constant.Quoted characters) n text = AreBytesOf characters text
 GivesConstant (constant.Figure f) n text = text ≡ replicate n (figurative_byte f)
 GivesConstant (constant.Repeated characters) n text = (coded : List ℕ) × AreBytesOf characters coded × (text ≡ padded n (repeated n coded))
 
 -- a constant that is repeated to the receiver's size
-abbrev pub IsRepeated : Constant → Type 0
+abbrev pub IsRepeated : PlainValue → Type 0
 IsRepeated (constant.Numeric sign negative digits scale) = ⊥
 IsRepeated (constant.Quoted characters) = ⊥
 IsRepeated (constant.Figure f) = Unit {0}

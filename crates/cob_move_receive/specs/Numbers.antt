@@ -11,7 +11,7 @@ use Rattle.cob_picture.specs.declared.category.Category.TheVariants.{Alphabetic,
 use Rattle.cob_entry.specs.declared.kinds.Figurative.{Figurative}
 use Rattle.cob_entry.specs.declared.kinds.Figurative.TheVariants.{Space, Zero, HighValue, LowValue, Quote}
 use Rattle.cob_edit.specs.Pictured.{IsEdited, IsInRange}
-use Rattle.cob_entry.specs.Described.{Constant}
+use Rattle.cob_entry.specs.Described.{PlainValue}
 use Rattle.cob_entry.specs.Described as constant
 use Rattle.cob_copybook_tree.specs.declared.node.Kind.TheVariants.{Group, Item as ItemKind}
 use Rattle.cob_copybook_tree.specs.declared.node.Item.{Item}
@@ -81,7 +81,7 @@ FigureGives LowValue v = ⊥
 FigureGives Quote v = ⊥
 
 -- the number that a constant is; ALL and a literal is none
-abbrev pub ConstantGives : Constant → Amount → Type 0
+abbrev pub ConstantGives : PlainValue → Amount → Type 0
 ConstantGives (constant.Numeric sign negative digits scale) v = v ≡ record { negative = negative; digits = digits; scale = scale }
 ConstantGives (constant.Quoted text) v = IsDigitText text v
 ConstantGives (constant.Figure f) v = FigureGives f v

@@ -5,7 +5,7 @@ use Rattle.cob_limits.specs.Limits.{most_digits}
 use Rattle.cob_picture.specs.Positions.{shows_number}
 use Rattle.cob_picture.specs.declared.category.Category.{Category}
 use Rattle.cob_picture.specs.declared.category.Category.TheVariants.{Alphabetic, Numeric, Alphanumeric, AlphanumericEdited, NumericEdited}
-use Rattle.cob_entry.specs.Described.{Constant, Quoted, Figure, Repeated}
+use Rattle.cob_entry.specs.Described.{PlainValue, Quoted, Figure, Repeated}
 use Rattle.cob_entry.specs.Described.{Numeric as NumericLiteral}
 use Rattle.cob_copybook_tree.specs.declared.node.Kind.{Kind}
 use Rattle.cob_copybook_tree.specs.declared.node.Kind.TheVariants.{Group, Item as ItemKind}
@@ -36,7 +36,7 @@ is_empty_literal (c ∷ cs) = false
 
 -- A literal isn't as its receiver asks: it is empty; it isn't all digits where a numeric or numeric edited item receives; or it is a number
 -- with a sign or a fraction where a group receives.
-abbrev pub is_wrong_literal : Constant → Kind → Bool
+abbrev pub is_wrong_literal : PlainValue → Kind → Bool
 is_wrong_literal (NumericLiteral sign negative digits scale) to = receives_bytes to && (sign || has_fraction scale)
 is_wrong_literal (Quoted text) to = is_empty_literal text || (receives_number to && not (list_all is_digit_character text))
 is_wrong_literal (Figure f) to = false

@@ -1,7 +1,7 @@
 -- What a sender gives to each of its receivers.
 use Rattle.std.specs.Prelude.{◌≡◌, ℕ, ℤ, Bool, List, length}
 use Rattle.cob_decimal.specs.declared.number.Number.{Number}
-use Rattle.cob_entry.specs.Described.{Constant, constant}
+use Rattle.cob_entry.specs.Described.{PlainValue, plain_value}
 use Rattle.cob_copybook_tree.specs.declared.node.Kind.{Kind}
 use Rattle.cob_copybook_tree.specs.declared.node.Kind.TheVariants.{Group, Item as ItemKind}
 use Rattle.cob_copybook_tree.specs.Lengths.{item_size}
@@ -12,12 +12,12 @@ use Rattle.cob_move_receive.specs.declared.sent.Sent.TheVariants as code_sent
 -- What a statement sends: the bytes of an entry that is a group or this item, or a literal or figurative constant.
 pub data Sent : Type 0 where
   Entry : Kind → List ℕ → Sent
-  Literal : Constant → Sent
+  Literal : PlainValue → Sent
 
 -- what the code's value stands for
 abbrev pub sent : code.Sent → Sent
 sent (code_sent.Entry kind bytes) = Entry kind.now bytes.now
-sent (code_sent.Constant value) = Literal (constant value.now)
+sent (code_sent.Constant value) = Literal (plain_value value.now)
 
 -- a number that a sender gives: its minus, its digits, and how many of them stand behind the point
 pub record Amount : Type 0 where

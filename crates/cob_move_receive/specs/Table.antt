@@ -5,7 +5,7 @@ use Rattle.cob_picture.specs.declared.category.Category.{Category}
 use Rattle.cob_picture.specs.declared.category.Category.TheVariants.{Alphabetic, Numeric, Alphanumeric, AlphanumericEdited, NumericEdited}
 use Rattle.cob_entry.specs.declared.kinds.Figurative.{Figurative}
 use Rattle.cob_entry.specs.declared.kinds.Figurative.TheVariants.{Space, Zero, HighValue, LowValue, Quote}
-use Rattle.cob_entry.specs.Described.{Constant, constant}
+use Rattle.cob_entry.specs.Described.{PlainValue, plain_value}
 use Rattle.cob_entry.specs.Described.{Numeric as NumericLiteral, Quoted, Figure, Repeated}
 use Rattle.cob_copybook_tree.specs.declared.node.Kind.{Kind}
 use Rattle.cob_copybook_tree.specs.declared.node.Kind.TheVariants.{Group, Item as ItemKind}
@@ -17,12 +17,12 @@ use Rattle.cob_move_receive.specs.declared.table.SenderKind.TheVariants as code_
 -- What is known of a sender before a record comes: it is an entry that is a group or this item, or this literal or figurative constant.
 pub data SenderKind : Type 0 where
   Entry : Kind → SenderKind
-  Literal : Constant → SenderKind
+  Literal : PlainValue → SenderKind
 
 -- what the code's value stands for
 abbrev pub sender_kind : code.SenderKind → SenderKind
 sender_kind (code_kind.Entry kind) = Entry kind.now
-sender_kind (code_kind.Constant value) = Literal (constant value.now)
+sender_kind (code_kind.Constant value) = Literal (plain_value value.now)
 
 -- a number has places behind the point
 abbrev pub has_fraction : ℤ → Bool
@@ -67,7 +67,7 @@ figure_receivers LowValue = receivers_if true true false
 figure_receivers Quote = receivers_if true true false
 
 -- The line of a constant: a numeric literal is a number, a quoted one alphanumeric, and ALL with a literal like a figurative constant.
-abbrev pub constant_receivers : Constant → Receivers
+abbrev pub constant_receivers : PlainValue → Receivers
 constant_receivers (NumericLiteral sign negative digits scale) = receivers_under Numeric (has_fraction scale)
 constant_receivers (Quoted text) = receivers_under Alphanumeric false
 constant_receivers (Figure f) = figure_receivers f

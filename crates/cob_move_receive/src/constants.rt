@@ -2,7 +2,7 @@
 
 ghost use Rattle.std.specs.Prelude.{◌≡◌, ◌≤◌, ℕ, List, length, IsTrue};
 ghost use Rattle.cob_limits.specs.Limits.{longest_literal};
-ghost use Rattle.cob_entry.specs.Described.{Repeated, constant};
+ghost use Rattle.cob_entry.specs.Described.{Repeated, plain_value};
 ghost use Rattle.cob_copybook_tree.specs.Lengths.{item_size};
 ghost use Rattle.cob_item.specs.Items.{IsStorable};
 ghost use Rattle.cob_move_receive.specs.Characters.{
@@ -96,8 +96,8 @@ fn repeat_literal(text: &[u8], bytes: &mut [u8])
 
 /// Writes a figurative constant, or ALL and a literal, one time after another, up to the last byte.
 fn repeat(value: &Value, bytes: &mut [u8])
-    requires repeated { IsRepeated (constant value.now) }
-    ensures gives { GivesConstant (constant value.now) (length bytes.old) bytes.new }
+    requires repeated { IsRepeated (plain_value value.now) }
+    ensures gives { GivesConstant (plain_value value.now) (length bytes.old) bytes.new }
     ensures room { length bytes.new ≡ length bytes.old }
 {
     match value {
@@ -110,8 +110,8 @@ fn repeat(value: &Value, bytes: &mut [u8])
 
 /// Fills a group with a figurative constant, or ALL and a literal.
 fn fill_left(value: &Value, bytes: &mut [u8])
-    requires { IsRepeated (constant value.now) }
-    ensures { (text : List ℕ) × GivesConstant (constant value.now) (length bytes.old) text
+    requires { IsRepeated (plain_value value.now) }
+    ensures { (text : List ℕ) × GivesConstant (plain_value value.now) (length bytes.old) text
         × (bytes.new ≡ padded (length bytes.old) text) }
 {
     repeat(value, bytes);
@@ -126,10 +126,10 @@ fn has_insertions(item: &Item) -> bool
 
 /// Fills an item with a figurative constant, or ALL and a literal.
 fn fill(item: &Item, value: &Value, bytes: &mut [u8])
-    requires repeated { IsRepeated (constant value.now) }
+    requires repeated { IsRepeated (plain_value value.now) }
     requires storable { IsStorable item.now }
     requires long { length bytes.old ≡ item_size item.now }
-    ensures { (text : List ℕ) × GivesConstant (constant value.now) (length bytes.old) text
+    ensures { (text : List ℕ) × GivesConstant (plain_value value.now) (length bytes.old) text
         × Arranged (placement_in item.now) (length bytes.old) text bytes.new }
 {
     if has_insertions(item) {
@@ -141,11 +141,11 @@ fn fill(item: &Item, value: &Value, bytes: &mut [u8])
 
 /// The same in an item with insertions: the constant is repeated to the item's size first.
 fn fill_among(item: &Item, value: &Value, bytes: &mut [u8])
-    requires repeated { IsRepeated (constant value.now) }
+    requires repeated { IsRepeated (plain_value value.now) }
     requires storable { IsStorable item.now }
     requires edited { IsTrue (has_insertions item.now.picture.category) }
     requires long { length bytes.old ≡ item_size item.now }
-    ensures { (text : List ℕ) × GivesConstant (constant value.now) (length bytes.old) text
+    ensures { (text : List ℕ) × GivesConstant (plain_value value.now) (length bytes.old) text
         × Arranged (placement_in item.now) (length bytes.old) text bytes.new }
 {
     let mut buffer = [0u8; MAX_EDITED_SIZE as usize];
@@ -157,7 +157,7 @@ fn fill_among(item: &Item, value: &Value, bytes: &mut [u8])
 
 /// Writes a constant into a group.
 pub(crate) fn constant_left(value: &Value, bytes: &mut [u8])
-    ensures { (text : List ℕ) × GivesConstant (constant value.now) (length bytes.old) text
+    ensures { (text : List ℕ) × GivesConstant (plain_value value.now) (length bytes.old) text
         × (bytes.new ≡ padded (length bytes.old) text) }
 {
     match value {
@@ -171,7 +171,7 @@ pub(crate) fn constant_left(value: &Value, bytes: &mut [u8])
 pub(crate) fn constant_in(item: &Item, value: &Value, bytes: &mut [u8])
     requires storable { IsStorable item.now }
     requires long { length bytes.old ≡ item_size item.now }
-    ensures { (text : List ℕ) × GivesConstant (constant value.now) (length bytes.old) text
+    ensures { (text : List ℕ) × GivesConstant (plain_value value.now) (length bytes.old) text
         × Arranged (placement_in item.now) (length bytes.old) text bytes.new }
 {
     match value {

@@ -4,7 +4,7 @@ ghost use Rattle.std.specs.Prelude.{◌≡◌, ◌↔◌, ◌<◌, ◌≤◌, �
 ghost use Rattle.cob_decimal.specs.Decimal.{IsDigits};
 ghost use Rattle.cob_decimal.specs.Literals.{AreDigits, digits_in};
 ghost use Rattle.cob_limits.specs.Limits.{most_digits};
-ghost use Rattle.cob_entry.specs.Described.{constant, Quoted};
+ghost use Rattle.cob_entry.specs.Described.{plain_value, Quoted};
 ghost use Rattle.cob_picture.specs.Counts.{size};
 ghost use Rattle.cob_picture.specs.Positions.{shows_number};
 ghost use Rattle.cob_copybook_tree.specs.Lengths.{item_size};
@@ -146,9 +146,9 @@ fn figure_gives(figurative: Figurative) -> Option<Number>
 
 /// The number that a constant is.
 fn constant_gives(value: &Value) -> Option<Number>
-    ensures found { IfSome result (λ n. ConstantGives (constant value.now) (amount n)) }
+    ensures found { IfSome result (λ n. ConstantGives (plain_value value.now) (amount n)) }
     ensures only { (v : Amount)
-        → ConstantGives (constant value.now) v → IsSomeAnd result (λ n. amount n ≡ v) }
+        → ConstantGives (plain_value value.now) v → IsSomeAnd result (λ n. amount n ≡ v) }
 {
     match value {
         Value::Number { number, .. } => Some(number.clone()),

@@ -2,7 +2,7 @@
 
 ghost use Rattle.std.specs.Prelude.{◌≡◌, true, IfNone, IfSome};
 ghost use Rattle.std.specs.List.{list_all};
-ghost use Rattle.cob_entry.specs.Described.{constant};
+ghost use Rattle.cob_entry.specs.Described.{plain_value};
 ghost use Rattle.cob_move_receive.specs.Table.{sender_kind};
 ghost use Rattle.cob_move_receive.specs.Refusals.{
   is_digit_character,
@@ -66,7 +66,7 @@ fn is_empty_literal(text: &[u8]) -> bool
 
 /// Whether a literal isn't as its receiver asks.
 fn is_wrong_literal(value: &Value, to: &Kind) -> bool
-    ensures { result ≡ is_wrong_literal (constant value.now) to.now }
+    ensures { result ≡ is_wrong_literal (plain_value value.now) to.now }
 {
     match value {
         Value::Number { signed, number } => receives_bytes(to)

@@ -1,7 +1,7 @@
 //! The table of categories: which sender may be moved to which receiver.
 
 ghost use Rattle.std.specs.Prelude.{◌≡◌};
-ghost use Rattle.cob_entry.specs.Described.{constant};
+ghost use Rattle.cob_entry.specs.Described.{plain_value};
 ghost use Rattle.cob_move_receive.specs.Table.{
   category_with,
   constant_receivers,
@@ -102,7 +102,7 @@ fn figure_receivers(figurative: Figurative) -> Receivers
 
 /// The line of a constant.
 fn constant_receivers(value: &Value) -> Receivers
-    ensures { result ≡ constant_receivers (constant value.now) }
+    ensures { result ≡ constant_receivers (plain_value value.now) }
 {
     match value {
         Value::Number { number, .. } => receivers_under(

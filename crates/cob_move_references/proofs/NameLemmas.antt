@@ -4,7 +4,7 @@ use Rattle.std.proofs.Math.Seq.{take-length}
 use Rattle.std.proofs.lemmas.List.{get_or_default}
 use Rattle.std.proofs.lemmas.List.Elements.{filter-append}
 use Rattle.std.proofs.lemmas.Slice.Eq.{bytes_eq-Decides}
-use Rattle.cob_copybook_names.specs.Links.{AreLinked, BearsAt, IsLast, reach}
+use Rattle.cob_copybook_names.specs.Links.{AreLinked, BearsAt, IsLast, entries_up_to}
 use Rattle.cob_copybook_names.proofs.Links.{differs}
 use Rattle.cob_move_references.specs.declared.candidate.Candidate.{Candidate as Listed}
 use Rattle.cob_move_references.specs.Candidates.{Candidate, has_name, is_named, named, qualifies}
@@ -63,15 +63,15 @@ named_gap name qs (c ∷ all) (suc p) (suc k) le g =
 
 -- a walk begins at the last entry that bears the name
 pub walk_start : (name : List ℕ) (qs : List (List ℕ)) (all : List Candidate) (n : ℕ) (place : Option ℕ) → length all ≡ n → IsLast (own_names all) name n place
-    → named name qs all ≡ named name qs (take (reach place) all) ++ []
+    → named name qs all ≡ named name qs (take (entries_up_to place) all) ++ []
 walk_start name qs all n place is l =
     ap (λ (cs : List Candidate). named name qs cs) (sym (take-length all) ∙ ap (λ (k : ℕ). take k all) is)
-    ∙ named_gap name qs all (reach place) n l.before l.others ∙ sym (append-nil (named name qs (take (reach place) all)))
+    ∙ named_gap name qs all (entries_up_to place) n l.before l.others ∙ sym (append-nil (named name qs (take (entries_up_to place) all)))
 
 -- where it stands
 pub walk_at : (name : List ℕ) (qs : List (List ℕ)) (all : List Candidate) (place : Option ℕ) (p : ℕ) (c : Candidate) (t : Bool) (rest : List Candidate)
-    → take (reach place) all ≡ take p all ++ c ∷ [] → c.name ≡ Some name → qualifies qs c.above ≡ t
-    → named name qs all ≡ named name qs (take (reach place) all) ++ rest → named name qs all ≡ named name qs (take p all) ++ (only_if t c ++ rest)
+    → take (entries_up_to place) all ≡ take p all ++ c ∷ [] → c.name ≡ Some name → qualifies qs c.above ≡ t
+    → named name qs all ≡ named name qs (take (entries_up_to place) all) ++ rest → named name qs all ≡ named name qs (take p all) ++ (only_if t c ++ rest)
 walk_at name qs all place p c t rest front bears test so =
     so ∙ ap (λ (cs : List Candidate). named name qs cs ++ rest) front
     ∙ ap (λ (cs : List Candidate). cs ++ rest)
@@ -80,16 +80,16 @@ walk_at name qs all place p c t rest front bears test so =
 
 -- and goes on to the one before it
 pub walk_step : (name : List ℕ) (qs : List (List ℕ)) (all : List Candidate) (place next : Option ℕ) (p : ℕ) (c : Candidate) (t : Bool) (rest : List Candidate)
-    → take (reach place) all ≡ take p all ++ c ∷ [] → IsLast (own_names all) name p next → c.name ≡ Some name → qualifies qs c.above ≡ t
-    → named name qs all ≡ named name qs (take (reach place) all) ++ rest → named name qs all ≡ named name qs (take (reach next) all) ++ (only_if t c ++ rest)
+    → take (entries_up_to place) all ≡ take p all ++ c ∷ [] → IsLast (own_names all) name p next → c.name ≡ Some name → qualifies qs c.above ≡ t
+    → named name qs all ≡ named name qs (take (entries_up_to place) all) ++ rest → named name qs all ≡ named name qs (take (entries_up_to next) all) ++ (only_if t c ++ rest)
 walk_step name qs all place next p c t rest front l bears test so =
     walk_at name qs all place p c t rest front bears test so
-    ∙ ap (λ (cs : List Candidate). cs ++ (only_if t c ++ rest)) (named_gap name qs all (reach next) p l.before l.others)
+    ∙ ap (λ (cs : List Candidate). cs ++ (only_if t c ++ rest)) (named_gap name qs all (entries_up_to next) p l.before l.others)
 
 -- the first that is named
 pub walk_meet : (name : List ℕ) (qs : List (List ℕ)) (all : List Candidate) (next : Option ℕ) (c : Bor Listed) (found : Option (Bor Listed)) → is_some found ≡ false
-    → named name qs all ≡ named name qs (take (reach next) all) ++ (only_if true (candidate_of c.now) ++ found_list found)
-    → named name qs all ≡ named name qs (take (reach next) all) ++ found_list (Some c)
+    → named name qs all ≡ named name qs (take (entries_up_to next) all) ++ (only_if true (candidate_of c.now) ++ found_list found)
+    → named name qs all ≡ named name qs (take (entries_up_to next) all) ++ found_list (Some c)
 walk_meet name qs all next c None none h = h
 walk_meet name qs all next c (Some d) none h = absurd cc
 
@@ -111,11 +111,11 @@ take_here (x ∷ cs) zero c lt is = ap (λ (y : Listed). candidate_of y ∷ []) 
 take_here (x ∷ cs) (suc p) c lt is = ap (λ (t : List Candidate). candidate_of x ∷ t) (take_here cs p c (omega (arith, lt)) is)
 
 pub front_at : (cs : List Listed) (place : Option ℕ) (p : ℕ) (c : Listed) → place ≡ Some p → p < length cs → c ≡ get_or cs p c
-    → take (reach place) (map candidate_of cs) ≡ take p (map candidate_of cs) ++ candidate_of c ∷ []
-front_at cs place p c is lt read = ap (λ (o : Option ℕ). take (reach o) (map candidate_of cs)) is ∙ rw add-one (take_here cs p c lt read)
+    → take (entries_up_to place) (map candidate_of cs) ≡ take p (map candidate_of cs) ++ candidate_of c ∷ []
+front_at cs place p c is lt read = ap (λ (o : Option ℕ). take (entries_up_to o) (map candidate_of cs)) is ∙ rw add-one (take_here cs p c lt read)
 
-pub inside_at : (place : Option ℕ) (p n : ℕ) → place ≡ Some p → reach place ≤ n → p < n
-inside_at place p n is le = let within : reach (Some p) ≤ n = subst (λ (o : Option ℕ). reach o ≤ n) is le in omega (arith, within)
+pub inside_at : (place : Option ℕ) (p n : ℕ) → place ≡ Some p → entries_up_to place ≤ n → p < n
+inside_at place p n is le = let within : entries_up_to (Some p) ≤ n = subst (λ (o : Option ℕ). entries_up_to o ≤ n) is le in omega (arith, within)
 
 -- the place before this one
 pub link_at : (cs : List Listed) (earlier : List (Option ℕ)) (name : List ℕ) (place : Option ℕ) (p : ℕ) (e : Option ℕ) → length earlier ≡ length cs

@@ -4,13 +4,12 @@ use Rattle.std.specs.Prelude.{filter}
 use Rattle.std.proofs.lemmas.Bool.Decides.{nat_tests}
 use Rattle.cob_limits.specs.Limits.{most_dimensions}
 use Rattle.std.proofs.Common.{length}
-use Rattle.cob_copybook_tree.specs.Forests.{Forest, Bare, Grows, Tree, entries_in}
-use Rattle.cob_copybook_tree.specs.Lengths.{most}
-use Rattle.cob_copybook_tree.specs.Nodes.{Resolved}
+use Rattle.cob_copybook_tree.specs.Forests.{Forest, NoEntries, AnEntry, Tree, entries_in}
+use Rattle.cob_copybook_tree.specs.Lengths.{greatest_number}
+use Rattle.cob_copybook_tree.specs.Nodes.{Resolved, alone}
 use Rattle.cob_copybook_names.specs.Bearers.{with_name}
 use Rattle.cob_layout_places.specs.Counts.{kind_in, kind_one}
 use Rattle.cob_layout_places.specs.Cover.{AreNumbered}
-use Rattle.cob_layout_places.specs.Lengths.{alone}
 use Rattle.cob_layout_places.specs.Places.{choose, is_table, later, or_else}
 use Rattle.cob_layout_places.specs.References.{IsSubscripted, Refers}
 use Rattle.cob_sound.specs.Sound.{RecordsAreSound}
@@ -109,10 +108,10 @@ equal : (a b : ℕ) → a ≡ b → (a == b) ≡ true
 equal a b e = grind (arith, nat_tests)
 
 none_before : (n k : ℕ) (f : Forest Resolved) → AreNumbered n f → n + entries_in f ≤ k → kind_in k f ≡ None
-none_before n k Bare h le = refl
-none_before n k (Grows e kids more) h le =
-    skip (e.number == k) e.kind (kind_in k kids) (kind_in k more) (differ e.number k (omega (arith, h.0, le))) (none_before (n + 1) k kids h.1 (omega (arith, le)))
-    ∙ none_before (n + 1 + entries_in kids) k more h.2 (omega (arith, le))
+none_before n k NoEntries h le = refl
+none_before n k (AnEntry e children more) h le =
+    skip (e.number == k) e.kind (kind_in k children) (kind_in k more) (differ e.number k (omega (arith, h.0, le))) (none_before (n + 1) k children h.1 (omega (arith, le)))
+    ∙ none_before (n + 1 + entries_in children) k more h.2 (omega (arith, le))
 
 -- ---- an entry of a forest: its side, its number, its kind, and the references to it
 
@@ -124,55 +123,55 @@ record Stands (side : Side) (n : ℕ) (before : List ℕ) (f : Forest Resolved) 
   tables : c.tables ≡ before ++ more
   refers : (subscripts : List ℕ) → AreWithin more subscripts → Refers c.number subscripts f
 
-here : (side : Side) (above : List (List ℕ)) (n : ℕ) (before : List ℕ) (e : Resolved) (kids more : Forest Resolved) (c : Candidate) → e.number ≡ n → candidate side above before e ≡ c
-    → Stands side n before (Grows e kids more) c
-here side above n before e kids more c at is =
+here : (side : Side) (above : List (List ℕ)) (n : ℕ) (before : List ℕ) (e : Resolved) (children more : Forest Resolved) (c : Candidate) → e.number ≡ n → candidate side above before e ≡ c
+    → Stands side n before (AnEntry e children more) c
+here side above n before e children more c at is =
     let table = is_table e.occurs in
-    let mine = own table (most e) in
+    let mine = own table (greatest_number e) in
     record {
       side_is = ap (λ (x : Candidate). x.side) is;
       from = omega (arith, at, ap (λ (x : Candidate). x.number) is);
-      kind = hit (e.number == c.number) e.kind (kind_in c.number kids) (kind_in c.number more) (equal e.number c.number (ap (λ (x : Candidate). x.number) is)) ∙ ap (λ (x : Candidate). Some x.kind) is;
+      kind = hit (e.number == c.number) e.kind (kind_in c.number children) (kind_in c.number more) (equal e.number c.number (ap (λ (x : Candidate). x.number) is)) ∙ ap (λ (x : Candidate). Some x.kind) is;
       more = mine;
-      tables = ap (λ (x : Candidate). x.tables) (sym is) ∙ sym (append-nil (with_table table (most e) before)) ∙ tables_are table (most e) before []
+      tables = ap (λ (x : Candidate). x.tables) (sym is) ∙ sym (append-nil (with_table table (greatest_number e) before)) ∙ tables_are table (greatest_number e) before []
           ∙ ap (λ (t : List ℕ). before ++ t) (append-nil mine);
       refers = λ subscripts h.
-          let (s, rest) = first table (most e) [] subscripts (subst (λ (t : List ℕ). AreWithin t subscripts) (sym (append-nil mine)) h) in
+          let (s, rest) = first table (greatest_number e) [] subscripts (subst (λ (t : List ℕ). AreWithin t subscripts) (sym (append-nil mine)) h) in
           inl (s, inl (ap (λ (x : Candidate). x.number) is, none (later table subscripts) rest));
     }
 
-beneath : (side : Side) (n : ℕ) (before : List ℕ) (e : Resolved) (kids more : Forest Resolved) (c : Candidate) → e.number ≡ n → Stands side (n + 1) (with_table (is_table e.occurs) (most e) before) kids c
-    → Stands side n before (Grows e kids more) c
-beneath side n before e kids more c at s = record {
+beneath : (side : Side) (n : ℕ) (before : List ℕ) (e : Resolved) (children more : Forest Resolved) (c : Candidate) → e.number ≡ n → Stands side (n + 1) (with_table (is_table e.occurs) (greatest_number e) before) children c
+    → Stands side n before (AnEntry e children more) c
+beneath side n before e children more c at s = record {
   side_is = s.side_is;
   from = omega (arith, s.from);
-  kind = inside (e.number == c.number) e.kind c.kind (kind_in c.number kids) (kind_in c.number more) (differ e.number c.number (omega (arith, at, s.from))) s.kind;
-  more = own (is_table e.occurs) (most e) ++ s.more;
-  tables = s.tables ∙ tables_are (is_table e.occurs) (most e) before s.more;
-  refers = λ subscripts h. let (f, rest) = first (is_table e.occurs) (most e) s.more subscripts h in inl (f, inr (s.refers (later (is_table e.occurs) subscripts) rest));
+  kind = inside (e.number == c.number) e.kind c.kind (kind_in c.number children) (kind_in c.number more) (differ e.number c.number (omega (arith, at, s.from))) s.kind;
+  more = own (is_table e.occurs) (greatest_number e) ++ s.more;
+  tables = s.tables ∙ tables_are (is_table e.occurs) (greatest_number e) before s.more;
+  refers = λ subscripts h. let (f, rest) = first (is_table e.occurs) (greatest_number e) s.more subscripts h in inl (f, inr (s.refers (later (is_table e.occurs) subscripts) rest));
 }
 
-beside : (side : Side) (n : ℕ) (before : List ℕ) (e : Resolved) (kids more : Forest Resolved) (c : Candidate) → AreNumbered n (Grows e kids more) → Stands side (n + 1 + entries_in kids) before more c
-    → Stands side n before (Grows e kids more) c
-beside side n before e kids more c h s = record {
+beside : (side : Side) (n : ℕ) (before : List ℕ) (e : Resolved) (children more : Forest Resolved) (c : Candidate) → AreNumbered n (AnEntry e children more) → Stands side (n + 1 + entries_in children) before more c
+    → Stands side n before (AnEntry e children more) c
+beside side n before e children more c h s = record {
   side_is = s.side_is;
   from = omega (arith, s.from);
-  kind = skip (e.number == c.number) e.kind (kind_in c.number kids) (kind_in c.number more) (differ e.number c.number (omega (arith, h.0, s.from))) (none_before (n + 1) c.number kids h.1 (omega (arith, s.from))) ∙ s.kind;
+  kind = skip (e.number == c.number) e.kind (kind_in c.number children) (kind_in c.number more) (differ e.number c.number (omega (arith, h.0, s.from))) (none_before (n + 1) c.number children h.1 (omega (arith, s.from))) ∙ s.kind;
   more = s.more;
   tables = s.tables;
   refers = λ subscripts w. inr (s.refers subscripts w);
 }
 
 stands : (side : Side) (above : List (List ℕ)) (n : ℕ) (before : List ℕ) (f : Forest Resolved) (c : Candidate) → AreNumbered n f → IsOneOf c (candidates side above before f) → Stands side n before f c
-stands side above n before Bare c h o = absurd o
-stands side above n before (Grows e kids more) c h (inl is) = here side above n before e kids more c h.0 is
-stands side above n before (Grows e kids more) c h (inr o) =
-    either (stands side (with_name e.name above) (n + 1) (with_table (is_table e.occurs) (most e) before) kids c h.1) (stands side above (n + 1 + entries_in kids) before more c h.2)
-    (one_of c (candidates side (with_name e.name above) (with_table (is_table e.occurs) (most e) before) kids) (candidates side above before more) o)
+stands side above n before NoEntries c h o = absurd o
+stands side above n before (AnEntry e children more) c h (inl is) = here side above n before e children more c h.0 is
+stands side above n before (AnEntry e children more) c h (inr o) =
+    either (stands side (with_name e.name above) (n + 1) (with_table (is_table e.occurs) (greatest_number e) before) children c h.1) (stands side above (n + 1 + entries_in children) before more c h.2)
+    (one_of c (candidates side (with_name e.name above) (with_table (is_table e.occurs) (greatest_number e) before) children) (candidates side above before more) o)
   where
-    either : {P Q : Type 0} → (P → Stands side (n + 1) (with_table (is_table e.occurs) (most e) before) kids c) → (Q → Stands side (n + 1 + entries_in kids) before more c) → P ⊎ Q → Stands side n before (Grows e kids more) c
-    either p q (inl x) = beneath side n before e kids more c h.0 (p x)
-    either p q (inr x) = beside side n before e kids more c h (q x)
+    either : {P Q : Type 0} → (P → Stands side (n + 1) (with_table (is_table e.occurs) (greatest_number e) before) children c) → (Q → Stands side (n + 1 + entries_in children) before more c) → P ⊎ Q → Stands side n before (AnEntry e children more) c
+    either p q (inl x) = beneath side n before e children more c h.0 (p x)
+    either p q (inr x) = beside side n before e children more c h (q x)
 
 whole : {A : Type 0} (x : Option A) → x ≡ or_else x None
 whole None = refl

@@ -1,9 +1,9 @@
 -- The entries of the two records, as a reference may name them.
 use Rattle.std.specs.Prelude.{ℕ, Bool, true, false, ◌&&◌, bytes_eq, if◌then◌else◌, List, [], ◌∷◌, ◌++◌, filter, Option, Some, None}
 use Rattle.cob_copybook_tree.specs.declared.node.Kind.{Kind}
-use Rattle.cob_copybook_tree.specs.Forests.{Forest, Bare, Grows}
+use Rattle.cob_copybook_tree.specs.Forests.{Forest, NoEntries, AnEntry}
 use Rattle.cob_copybook_tree.specs.Nodes.{Resolved}
-use Rattle.cob_copybook_tree.specs.Lengths.{most}
+use Rattle.cob_copybook_tree.specs.Lengths.{greatest_number}
 use Rattle.cob_copybook_names.specs.Bearers.{with_name}
 use Rattle.cob_layout_places.specs.Places.{is_table}
 use Rattle.cob_move_operands.specs.declared.Side.{Side}
@@ -31,16 +31,16 @@ candidate side above tables e = record {
   number = e.number;
   name = e.name;
   above = above;
-  tables = with_table (is_table e.occurs) (most e) tables;
+  tables = with_table (is_table e.occurs) (greatest_number e) tables;
   kind = e.kind;
 }
 
 -- Entries side by side with those beneath them, a parent before its children; a group that is FILLER adds no name.
 abbrev pub candidates : Side → List (List ℕ) → List ℕ → Forest Resolved → List Candidate
-candidates side above tables Bare = []
-candidates side above tables (Grows e kids more) =
+candidates side above tables NoEntries = []
+candidates side above tables (AnEntry e children more) =
     candidate side above tables e
-    ∷ (candidates side (with_name e.name above) (with_table (is_table e.occurs) (most e) tables) kids ++ candidates side above tables more)
+    ∷ (candidates side (with_name e.name above) (with_table (is_table e.occurs) (greatest_number e) tables) children ++ candidates side above tables more)
 
 -- The entries of the input record, and behind them those of the output record.
 abbrev pub all_entries : Forest Resolved → Forest Resolved → List Candidate

@@ -1,29 +1,29 @@
 -- What follows from the definitions, said as laws.
 use Rattle.std.specs.Prelude.{◌≡◌, ◌↔◌, ℕ, List, IsTrue}
+use Rattle.cob_copybook_tree.specs.Nodes.{alone}
 use Rattle.cob_copybook_names.specs.Bearers.{Qualify}
-use Rattle.cob_copybook.specs.Books.{IsRecord}
-use Rattle.cob_layout_places.specs.Lengths.{alone}
+use Rattle.cob_copybook.specs.Books.{IsRecordDescription}
 use Rattle.cob_move_operands.specs.declared.Side.{Side}
 use Rattle.cob_move_operands.specs.declared.Operand.{Operand}
 use Rattle.cob_move_operands.specs.Moves.{IsOperand, Records, record_of}
 use Rattle.cob_move_statements.specs.declared.fault.MoveRule.{MoveRule}
 use Rattle.cob_move_statements.specs.Written.{WrittenReference}
 use Rattle.cob_move_references.specs.Candidates.{Candidate, all_entries, qualifies}
-use Rattle.cob_move_references.specs.References.{IsNamed, BreaksReference}
+use Rattle.cob_move_references.specs.References.{NamesOperand, BreaksReference}
 
 -- Law: what a reference names is an operand of its record, so that it can be placed and is of the kind that the record says.
 abbrev pub NamedAreOperands : Type 0
-NamedAreOperands = (records : Records) (r : WrittenReference) (side : Side) (o : Operand) → IsRecord (alone records.input) → IsRecord (alone records.output)
-    → IsNamed (all_entries (alone records.input) (alone records.output)) r side o → IsOperand (record_of records side) o
+NamedAreOperands = (records : Records) (r : WrittenReference) (side : Side) (o : Operand) → IsRecordDescription (alone records.input) → IsRecordDescription (alone records.output)
+    → NamesOperand (all_entries (alone records.input) (alone records.output)) r side o → IsOperand (record_of records side) o
 
 -- Law: a reference names one operand at most.
 abbrev pub OneNamed : Type 0
 OneNamed = (all : List Candidate) (r : WrittenReference) (side other_side : Side) (o other : Operand)
-    → IsNamed all r side o → IsNamed all r other_side other → (side ≡ other_side) × (o ≡ other)
+    → NamesOperand all r side o → NamesOperand all r other_side other → (side ≡ other_side) × (o ≡ other)
 
 -- Law: a reference that names an operand breaks no rule.
 abbrev pub NamedBreakNoRule : Type 0
-NamedBreakNoRule = (all : List Candidate) (r : WrittenReference) (side : Side) (o : Operand) (rule : MoveRule) → IsNamed all r side o → BreaksReference rule all r → ⊥
+NamedBreakNoRule = (all : List Candidate) (r : WrittenReference) (side : Side) (o : Operand) (rule : MoveRule) → NamesOperand all r side o → BreaksReference rule all r → ⊥
 
 -- Law: qualifiers are counted here as they qualify the name of a table's count.
 abbrev pub QualifyingIsOne : Type 0

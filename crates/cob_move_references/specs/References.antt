@@ -37,7 +37,7 @@ operand c subscripts = record { entry = record { node = c.number; subscripts = r
 
 -- A reference names an operand of this side's record: of all entries of the two records exactly one has its name and qualifiers, and its
 -- subscripts are those of that entry's tables.
-pub record IsNamed (all : List Candidate) (r : WrittenReference) (side : Side) (o : Operand) : Type 0 where
+pub record NamesOperand (all : List Candidate) (r : WrittenReference) (side : Side) (o : Operand) : Type 0 where
   pub entry : Candidate
   pub only : named r.name r.qualifiers all ≡ entry ∷ []
   pub subscripts : AreSubscriptsOf entry.tables r.subscripts
@@ -57,5 +57,5 @@ BreaksReference other all r = BreaksName other (named r.name r.qualifiers all)
 
 -- A receiver breaks a rule as any reference does, or by standing in the input record.
 abbrev pub BreaksReceiver : MoveRule → List Candidate → WrittenReference → Type 0
-BreaksReceiver rule.Receiver all r = (o : Operand) × IsNamed all r In o
+BreaksReceiver rule.Receiver all r = (o : Operand) × NamesOperand all r In o
 BreaksReceiver other all r = BreaksReference other all r

@@ -1,12 +1,11 @@
 //! The entries of a record with what stands above them.
 
 ghost use Rattle.std.specs.Prelude.{◌≡◌, List, [], ◌∷◌, ◌++◌, map, IfOk, OnOk};
-ghost use Rattle.cob_copybook_tree.specs.Lengths.{most};
-ghost use Rattle.cob_copybook_tree.specs.Nodes.{node, resolved_entry};
+ghost use Rattle.cob_copybook_tree.specs.Lengths.{greatest_number};
+ghost use Rattle.cob_copybook_tree.specs.Nodes.{node, resolved_entry, alone};
 ghost use Rattle.cob_copybook_tree.specs.declared.node.Node.TheViews.{out-Node};
 ghost use Rattle.cob_copybook_names.specs.Bearers.{with_name};
 ghost use Rattle.cob_copybook_names.specs.Listed.{texts};
-ghost use Rattle.cob_layout_places.specs.Lengths.{alone};
 ghost use Rattle.cob_layout_places.specs.Places.{is_table};
 ghost use Rattle.cob_move_references.specs.Candidates.{candidate, candidates, with_table};
 ghost use Rattle.cob_move_references.specs.Listed.{candidate_of};
@@ -47,7 +46,7 @@ fn names_beneath<'a>(
 /// The tables that hold an entry, and itself if it is one.
 fn tables_of(alloc: Global, entry: &Node, holding: &[u32]) -> Result<Vec<u32>, AllocError>
     ensures { IfOk result (λ v. v.items ≡ with_table (is_table (out-Node entry.now).occurs)
-        (most (resolved_entry (out-Node entry.now))) holding.now) }
+        (greatest_number (resolved_entry (out-Node entry.now))) holding.now) }
 {
     let mut tables = Vec::new(alloc);
     tables.extend_from_slice(holding)?;

@@ -10,7 +10,7 @@ ghost use Rattle.cob_move_statements.specs.Written.{word_texts, written_referenc
 ghost use Rattle.cob_move_references.specs.Candidates.{all_entries};
 ghost use Rattle.cob_move_references.specs.Directory.{entries_named};
 ghost use Rattle.cob_move_references.specs.Listed.{candidate_of};
-ghost use Rattle.cob_move_references.specs.References.{AreSubscriptsOf, BreaksReceiver, BreaksReference, IsNamed, operand, subscript_numbers};
+ghost use Rattle.cob_move_references.specs.References.{AreSubscriptsOf, BreaksReceiver, BreaksReference, NamesOperand, operand, subscript_numbers};
 
 use crate::candidate::{Candidate, list_tree};
 use crate::directory::Names;
@@ -78,11 +78,11 @@ impl<'a> Names<'a> {
     /// the subscripts aren't one for each table of the entry, from 1 to its greatest number.
     pub fn find(&self, reference: &Reference<'_>) -> Result<Named, MoveRule>
         // What is found is what the reference names.
-        ensures found { IfOk result (λ n. IsNamed
+        ensures found { IfOk result (λ n. NamesOperand
             (entries_named self.now) (written_reference reference.now) n.side n.operand) }
         // What a reference names is found.
         ensures only { (side : SeenSide) (o : SeenOperand)
-            → IsNamed (entries_named self.now) (written_reference reference.now) side o
+            → NamesOperand (entries_named self.now) (written_reference reference.now) side o
             → IsOkAnd result (λ n. (n.side ≡ side) × (n.operand ≡ o)) }
         // A refusal names a rule that is broken.
         ensures fault { IfErr result (λ rule. BreaksReference
@@ -105,11 +105,11 @@ impl<'a> Names<'a> {
     /// As [`Names::find`], and `Receiver` where what it names stands in the input record.
     pub fn find_receiver(&self, reference: &Reference<'_>) -> Result<Operand, MoveRule>
         // What is found is what the reference names in the output record.
-        ensures found { IfOk result (λ o. IsNamed
+        ensures found { IfOk result (λ o. NamesOperand
             (entries_named self.now) (written_reference reference.now) Out o) }
         // What a reference names there is found.
         ensures only { (o : SeenOperand)
-            → IsNamed (entries_named self.now) (written_reference reference.now) Out o
+            → NamesOperand (entries_named self.now) (written_reference reference.now) Out o
             → IsOkAnd result (λ found. found ≡ o) }
         // A refusal names a rule that is broken.
         ensures fault { IfErr result (λ rule. BreaksReceiver

@@ -7,7 +7,7 @@
 //! What is promised:
 //!
 //! - [`Names::of`] has the entries of both records (`all_entries` of specs/Candidates.antt, which the view `entries_named` shows).
-//! - [`Names::find`] answers what a reference names (`found`, `IsNamed` of specs/References.antt): of all entries of the two records exactly
+//! - [`Names::find`] answers what a reference names (`found`, `NamesOperand` of specs/References.antt): of all entries of the two records exactly
 //!   one has the name with these qualifiers, and each of its tables has a subscript, from 1 to its greatest number. What a reference names is
 //!   found (`only`), and a refusal names a rule that is broken (`fault`, `BreaksReference`). Neither takes memory.
 //! - [`Names::find_receiver`] does the same in the output record: a receiver that stands in the input record is refused (`BreaksReceiver`).

@@ -2,10 +2,10 @@
 use Rattle.std.proofs.Common.{◌≡◌, List, [], ◌∷◌, ◌++◌, ℕ, refl, sym, ap, subst, ◌∙◌, append_assoc, append-nil}
 use Rattle.std.specs.List.{AllByRecursion}
 use Rattle.cob_source.specs.Tokens.{Lexeme}
-use Rattle.cob_copybook_clauses.specs.declared.term.Term.TheVariants as term
+use Rattle.cob_copybook_clauses.specs.declared.term.WordClass.TheVariants as term
 use Rattle.cob_copybook_clauses.specs.Clauses.{IsConstant, IsNameWord}
-use Rattle.cob_copybook_clauses.specs.Reading.{NotFirst}
-use Rattle.cob_copybook_clauses.specs.Written.{WrittenConstant, Word, Quoted, Figure, Repeated}
+use Rattle.cob_copybook_clauses.specs.Reading.{NotFirstWord}
+use Rattle.cob_copybook_clauses.specs.Written.{WrittenValue, Word, Quoted, Figure, Repeated}
 use Rattle.cob_copybook_clauses.proofs.OneLemmas.{qualifiers_cut, constant_cut}
 use Rattle.cob_move_statements.specs.Written.{WrittenReference, WrittenSender, SentReference, SentConstant, WrittenAction, MoveTo, MoveCorresponding, WrittenStatement, word_texts}
 use Rattle.cob_move_statements.specs.Statements.{AreSubscripts, EndsReferences, FitsReference, FollowsStatements, IsAction, IsEndedStatement, IsHeading, IsNumeral, IsPeriod, IsReference, IsStatement, IsWrittenSender, NoName, NoPeriod, Several}
@@ -17,24 +17,24 @@ use Rattle.cob_move_statements.proofs.ParagraphLemmas.{same_statement, ended_spl
 
 -- ---- references
 
-numerals_one : (n m a b : List Lexeme) → AllByRecursion IsNumeral n → AllByRecursion IsNumeral m → NotFirst term.Plain a → NotFirst term.Plain b → n ++ a ≡ m ++ b → (n ≡ m) × (a ≡ b)
+numerals_one : (n m a b : List Lexeme) → AllByRecursion IsNumeral n → AllByRecursion IsNumeral m → NotFirstWord term.Plain a → NotFirstWord term.Plain b → n ++ a ≡ m ++ b → (n ≡ m) × (a ≡ b)
 numerals_one [] [] a b p q f g e = (refl, e)
-numerals_one [] (w ∷ m) a b p q f g e = absurd (subst (NotFirst term.Plain) e f q.0.plain)
-numerals_one (w ∷ n) [] a b p q f g e = absurd (subst (NotFirst term.Plain) (sym e) g p.0.plain)
+numerals_one [] (w ∷ m) a b p q f g e = absurd (subst (NotFirstWord term.Plain) e f q.0.plain)
+numerals_one (w ∷ n) [] a b p q f g e = absurd (subst (NotFirstWord term.Plain) (sym e) g p.0.plain)
 numerals_one (w ∷ n) (v ∷ m) a b p q f g e =
     let tail : n ++ a ≡ m ++ b = cc in
     let r : (n ≡ m) × (a ≡ b) = numerals_one n m a b p.1 q.1 f g tail in
     let rest : n ≡ m = r.0 in
     (cc, r.1)
 
-subscripts_one : (s t : List (List ℕ)) (n m a b : List Lexeme) → AreSubscripts s n → AreSubscripts t m → NotFirst term.OpenBracket a → NotFirst term.OpenBracket b → n ++ a ≡ m ++ b → (s ≡ t) × (a ≡ b)
+subscripts_one : (s t : List (List ℕ)) (n m a b : List Lexeme) → AreSubscripts s n → AreSubscripts t m → NotFirstWord term.OpenBracket a → NotFirstWord term.OpenBracket b → n ++ a ≡ m ++ b → (s ≡ t) × (a ≡ b)
 subscripts_one [] [] n m a b p q f g e = (refl, sym (ap (λ (x : List Lexeme). x ++ a) p) ∙ e ∙ ap (λ (x : List Lexeme). x ++ b) q)
 subscripts_one [] (t ∷ ts) n m a b p (o, c, ns, is, same, cut) f g e =
     let it : a ≡ o ∷ ((ns ++ c ∷ []) ++ b) = sym (ap (λ (x : List Lexeme). x ++ a) p) ∙ e ∙ ap (λ (x : List Lexeme). x ++ b) cut in
-    absurd (subst (NotFirst term.OpenBracket) it f is.opens)
+    absurd (subst (NotFirstWord term.OpenBracket) it f is.opens)
 subscripts_one (s ∷ ss) [] n m a b (o, c, ns, is, same, cut) q f g e =
     let it : b ≡ o ∷ ((ns ++ c ∷ []) ++ a) = sym (ap (λ (x : List Lexeme). x ++ b) q) ∙ sym e ∙ ap (λ (x : List Lexeme). x ++ a) cut in
-    absurd (subst (NotFirst term.OpenBracket) it g is.opens)
+    absurd (subst (NotFirstWord term.OpenBracket) it g is.opens)
 subscripts_one (s ∷ ss) (t ∷ ts) n m a b (o, c, ns, is, same, cut) (u, d, ms, si, emas, tuc) f g e =
     let it : o ∷ (ns ++ c ∷ a) ≡ u ∷ (ms ++ d ∷ b) =
     brackets o c ns a ∙ sym (ap (λ (x : List Lexeme). x ++ a) cut) ∙ e ∙ ap (λ (x : List Lexeme). x ++ b) tuc ∙ sym (brackets u d ms b) in
@@ -76,14 +76,14 @@ run_one Is Fits Ends run one (u ∷ us) (v ∷ vs) n m a b (own, rest, is, cut, 
 
 -- ---- senders
 
-constant_head : (c : WrittenConstant) (m : List Lexeme) → IsConstant c m → (w : Lexeme) × (tail : List Lexeme) × (m ≡ w ∷ tail)
+constant_head : (c : WrittenValue) (m : List Lexeme) → IsConstant c m → (w : Lexeme) × (tail : List Lexeme) × (m ≡ w ∷ tail)
 constant_head (Word text) m (w, free, e) = (w, [], e)
 constant_head (Quoted text) m (w, is, same, e) = (w, [], e)
 constant_head (Figure f) m ([], w, noise, figure, e) = (w, [], e)
 constant_head (Figure f) m (a ∷ all, w, noise, figure, e) = (a, all ++ w ∷ [], e)
 constant_head (Repeated text) m (all, w, is, literal, same, e) = (all, w ∷ [], e)
 
-no_both : (r : WrittenReference) (c : WrittenConstant) (n m a b : List Lexeme) → IsReference r n → IsConstant c m → NoName m → n ++ a ≡ m ++ b → ⊥
+no_both : (r : WrittenReference) (c : WrittenValue) (n m a b : List Lexeme) → IsReference r n → IsConstant c m → NoName m → n ++ a ≡ m ++ b → ⊥
 no_both r c n m a b p is none e =
     let (w, tail, f) = constant_head c m is in
     let never : IsNameWord w → ⊥ = subst NoName f none in

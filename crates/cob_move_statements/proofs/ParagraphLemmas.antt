@@ -7,8 +7,8 @@ use Rattle.std.specs.Prelude.{Bool, true, false, ◌==◌, IfErr, Result, Ok, Er
 use Rattle.cob_source.specs.Tokens.{Lexeme, lexeme, lexemes}
 use Rattle.cob_source.specs.declared.token.Token.{Token}
 use Rattle.cob_source.specs.declared.token.Kind.TheVariants as kind
-use Rattle.cob_copybook_clauses.specs.declared.term.Term.TheVariants as term
-use Rattle.cob_copybook_clauses.specs.Terms.{term_of, term_of_kind}
+use Rattle.cob_copybook_clauses.specs.declared.term.WordClass.TheVariants as term
+use Rattle.cob_copybook_clauses.specs.Terms.{word_class, term_of_kind}
 use Rattle.cob_copybook_clauses.specs.Clauses.{IsNameWord}
 use Rattle.cob_copybook_clauses.proofs.TableLemmas.{name_plain}
 use Rattle.cob_move_statements.specs.declared.fault.MoveFault.{MoveFault}
@@ -21,7 +21,7 @@ use Rattle.cob_move_statements.proofs.Runs.{IsRun, SoFar, begins, goes_on, ends_
 pub same_statement : (x : WrittenStatement) (line : ℕ) (action : WrittenAction) → line ≡ x.line → action ≡ x.action → record { line = line; action = action } ≡ x
 same_statement x line action a b = λ i. record { line = a i; action = b i }
 
-stop_term : (w : Lexeme) → IsPeriod w → term_of w ≡ term.Stop
+stop_term : (w : Lexeme) → IsPeriod w → word_class w ≡ term.Stop
 stop_term w is = ap (λ k. term_of_kind k w.text) is
 
 pub ended_cut : (words own stops behind more : List Lexeme) → words ≡ own ++ behind → behind ≡ stops ++ more → words ≡ (own ++ stops) ++ more
@@ -33,12 +33,12 @@ ended_split words ws own stops more e same = e ∙ ap (λ (t : List Lexeme). t +
 -- ---- several ended_statements
 
 -- a ended begins with MOVE
-move_first : (x : WrittenStatement) (ws more : List Lexeme) → IsEndedStatement x ws → (w : Lexeme) × (behind : List Lexeme) × (term_of w ≡ term.Move) × (ws ++ more ≡ w ∷ behind)
+move_first : (x : WrittenStatement) (ws more : List Lexeme) → IsEndedStatement x ws → (w : Lexeme) × (behind : List Lexeme) × (word_class w ≡ term.Move) × (ws ++ more ≡ w ∷ behind)
 move_first x ws more is =
     let s = is.statement in
     (s.move, (s.behind ++ is.stops) ++ more, s.is, ap (λ (t : List Lexeme). t ++ more) (is.words ∙ ap (λ (t : List Lexeme). t ++ is.stops) s.words))
 
-move_no_name : (w : Lexeme) → term_of w ≡ term.Move → IsNameWord w → ⊥
+move_no_name : (w : Lexeme) → word_class w ≡ term.Move → IsNameWord w → ⊥
 move_no_name w is named = let never : term.Move ≡ term.Plain = sym is ∙ name_plain w named in cc
 
 -- what ends a statement may follow a reference
@@ -139,7 +139,7 @@ pub some_statements : (ss : List WrittenStatement) (ws : List Lexeme) → Severa
 some_statements [] ws several some = absurd (some several)
 some_statements (s ∷ ss) ws several some = omega arith
 
-statements_first : (ss : List WrittenStatement) (ws : List Lexeme) → 0 < length ss → Several IsEndedStatement ss ws → (w : Lexeme) × (behind : List Lexeme) × (term_of w ≡ term.Move) × (ws ≡ w ∷ behind)
+statements_first : (ss : List WrittenStatement) (ws : List Lexeme) → 0 < length ss → Several IsEndedStatement ss ws → (w : Lexeme) × (behind : List Lexeme) × (word_class w ≡ term.Move) × (ws ≡ w ∷ behind)
 statements_first [] ws some several = absurd (omega (arith, some))
 statements_first (s ∷ ss) ws some (own, rest, is, cut, several) =
     let (w, behind, move, e) = move_first s own rest is in
@@ -163,7 +163,7 @@ longest words body only (w ∷ []) more is some e = absurd is
 longest words body only (w ∷ stop ∷ []) more is some e = only w stop more is.0 is.1 e
 longest words body only (w ∷ stop ∷ v ∷ ws) more is some e = absurd is
 
-pub by_end : (A : Type 0) (w : Lexeme) (ws : List Lexeme) → (IsPeriod w → A) → (term_of w ≡ term.Move → A) → EndsStatement (w ∷ ws) → A
+pub by_end : (A : Type 0) (w : Lexeme) (ws : List Lexeme) → (IsPeriod w → A) → (word_class w ≡ term.Move → A) → EndsStatement (w ∷ ws) → A
 by_end A w ws stop move (inl is) = stop is
 by_end A w ws stop move (inr is) = move is
 

@@ -6,10 +6,10 @@ use Rattle.cob_move_statements.proofs.Runs.{IsRun}
 use Rattle.std.specs.Prelude.{IfSome, IsSomeAnd}
 use Rattle.cob_source.specs.declared.token.Token.{Token}
 use Rattle.cob_source.specs.Tokens.{Lexeme, lexemes}
-use Rattle.cob_copybook_clauses.specs.declared.term.Term.{Term}
-use Rattle.cob_copybook_clauses.specs.declared.term.Term.TheVariants as term
-use Rattle.cob_copybook_clauses.specs.Terms.{term_of}
-use Rattle.cob_copybook_clauses.specs.Reading.{NotFirst}
+use Rattle.cob_copybook_clauses.specs.declared.term.WordClass.{WordClass}
+use Rattle.cob_copybook_clauses.specs.declared.term.WordClass.TheVariants as term
+use Rattle.cob_copybook_clauses.specs.Terms.{word_class}
+use Rattle.cob_copybook_clauses.specs.Reading.{NotFirstWord}
 use Rattle.cob_move_statements.specs.Written.{WrittenReference, word_texts}
 use Rattle.cob_move_statements.specs.Statements.{AreSubscripts, EndsReferences, FitsReference, IsBracketed, IsReference, NoName}
 
@@ -32,22 +32,22 @@ some_as : (ns : List Lexeme) (ts : List (List ℕ)) (more : List Lexeme) (o : Op
 some_as ns ts more None e h = h
 some_as ns ts more (Some r) e h = (ap word_texts h.0 ∙ sym e, h.1)
 
-pub only_in : (words rest : List Lexeme) (w : Lexeme) (o : Option (Bor (List Token) × Bor (List Token))) → words ≡ w ∷ rest → term_of w ≡ term.OpenBracket
+pub only_in : (words rest : List Lexeme) (w : Lexeme) (o : Option (Bor (List Token) × Bor (List Token))) → words ≡ w ∷ rest → word_class w ≡ term.OpenBracket
     → ((b a : Lexeme) (ns more : List Lexeme) → IsBracketed b a ns → words ≡ b ∷ (ns ++ a ∷ more) → IsSomeAnd o (λ r. (lexemes r.0.now ≡ ns) × (lexemes r.1.now ≡ more)))
-    → (ts : List (List ℕ)) (ws more : List Lexeme) → AreSubscripts ts ws → NotFirst term.OpenBracket more → words ≡ ws ++ more → IsSomeAnd o (λ r. (word_texts (lexemes r.0.now) ≡ ts) × (lexemes r.1.now ≡ more))
+    → (ts : List (List ℕ)) (ws more : List Lexeme) → AreSubscripts ts ws → NotFirstWord term.OpenBracket more → words ≡ ws ++ more → IsSomeAnd o (λ r. (word_texts (lexemes r.0.now) ≡ ts) × (lexemes r.1.now ≡ more))
 only_in words rest w o first opens only [] ws more are nf e =
     let same : more ≡ w ∷ rest = ap (λ (t : List Lexeme). t ++ more) (sym are) ∙ sym e ∙ first in
-    let never : term_of w ≢ term.OpenBracket = subst (NotFirst term.OpenBracket) same nf in
+    let never : word_class w ≢ term.OpenBracket = subst (NotFirstWord term.OpenBracket) same nf in
     absurd (never opens)
 only_in words rest w o first opens only (t ∷ ts) ws more (b, a, ns, is, same, cut) nf e =
     some_as ns (t ∷ ts) more o same (only b a ns more is (e ∙ ap (λ (x : List Lexeme). x ++ more) cut ∙ sym (brackets b a ns more)))
 
 -- ---- a whole reference
 
-pub not_of : (ts : List (List ℕ)) (ws more : List Lexeme) → AreSubscripts ts ws → NotFirst term.Of more → NotFirst term.Of (ws ++ more)
-not_of [] ws more are nf = subst (λ (t : List Lexeme). NotFirst term.Of (t ++ more)) (sym are) nf
+pub not_of : (ts : List (List ℕ)) (ws more : List Lexeme) → AreSubscripts ts ws → NotFirstWord term.Of more → NotFirstWord term.Of (ws ++ more)
+not_of [] ws more are nf = subst (λ (t : List Lexeme). NotFirstWord term.Of (t ++ more)) (sym are) nf
 not_of (t ∷ ts) ws more (b, a, ns, is, same, cut) nf =
-    subst (λ (x : List Lexeme). NotFirst term.Of (x ++ more)) (sym cut) (λ e. let never : term.OpenBracket ≡ term.Of = sym is.opens ∙ e in cc)
+    subst (λ (x : List Lexeme). NotFirstWord term.Of (x ++ more)) (sym cut) (λ e. let never : term.OpenBracket ≡ term.Of = sym is.opens ∙ e in cc)
 
 pub reference_cut : (w : Lexeme) (words named rest behind brackets more : List Lexeme) → words ≡ w ∷ named → named ≡ behind ++ rest → rest ≡ brackets ++ more → words ≡ (w ∷ (behind ++ brackets)) ++ more
 reference_cut w words named rest behind brackets more a b c =
@@ -61,9 +61,9 @@ same_reference x name qs ss a b c = λ i. record { name = a i; qualifiers = b i;
 
 -- ---- several references
 
-pub reference_first : (t : Term) (x : WrittenReference) (ws more : List Lexeme) → IsReference x ws → t ≢ term.Plain → NotFirst t (ws ++ more)
+pub reference_first : (t : WordClass) (x : WrittenReference) (ws more : List Lexeme) → IsReference x ws → t ≢ term.Plain → NotFirstWord t (ws ++ more)
 reference_first t x ws more is other =
-    subst (λ (y : List Lexeme). NotFirst t (y ++ more)) (sym is.words) (λ e. other (sym e ∙ name_plain is.named is.is))
+    subst (λ (y : List Lexeme). NotFirstWord t (y ++ more)) (sym is.words) (λ e. other (sym e ∙ name_plain is.named is.is))
 
 pub references_run : IsRun IsReference FitsReference EndsReferences
 references_run = record {

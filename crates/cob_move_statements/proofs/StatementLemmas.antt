@@ -2,19 +2,19 @@
 use Rattle.std.proofs.Common.{◌≡◌, ◌≢◌, List, [], ◌∷◌, ◌++◌, sym, ap, subst, ◌∙◌, append_assoc, Some, arith, length, ◌<◌}
 use Rattle.std.specs.Prelude.{Bool, true, false, ◌==◌}
 use Rattle.cob_source.specs.Tokens.{Lexeme}
-use Rattle.cob_copybook_clauses.specs.declared.term.Term.{Term}
-use Rattle.cob_copybook_clauses.specs.declared.term.Term.TheVariants as term
-use Rattle.cob_copybook_clauses.specs.Terms.{term_of, term_of_kind}
+use Rattle.cob_copybook_clauses.specs.declared.term.WordClass.{WordClass}
+use Rattle.cob_copybook_clauses.specs.declared.term.WordClass.TheVariants as term
+use Rattle.cob_copybook_clauses.specs.Terms.{word_class, term_of_kind}
 use Rattle.cob_copybook_clauses.specs.Clauses.{IsConstant, figurative_of}
-use Rattle.cob_copybook_clauses.specs.Reading.{NotFirst}
-use Rattle.cob_copybook_clauses.specs.Written.{WrittenConstant, Word, Quoted, Figure, Repeated}
+use Rattle.cob_copybook_clauses.specs.Reading.{NotFirstWord}
+use Rattle.cob_copybook_clauses.specs.Written.{WrittenValue, Word, Quoted, Figure, Repeated}
 use Rattle.cob_move_statements.specs.declared.parts.Reference.{Reference}
 use Rattle.cob_move_statements.specs.Written.{written_references, WrittenReference, WrittenSender, SentReference, SentConstant, WrittenAction, MoveTo, MoveCorresponding}
 use Rattle.cob_move_statements.specs.Statements.{EndsReferences, FitsReference, IsAction, IsWrittenSender}
 use Rattle.cob_move_statements.proofs.ReferenceLemmas.{reference_first}
 
 -- TO may follow a reference
-pub to_fits : (w : Lexeme) (more : List Lexeme) → term_of w ≡ term.To → FitsReference (w ∷ more)
+pub to_fits : (w : Lexeme) (more : List Lexeme) → word_class w ≡ term.To → FitsReference (w ∷ more)
 to_fits w more is =
     (λ e. let never : term.To ≡ term.Of = sym is ∙ e in cc, λ e. let never : term.To ≡ term.OpenBracket = sym is ∙ e in cc)
 
@@ -46,29 +46,29 @@ written_some (r ∷ rs) b e is = omega arith
 
 -- ---- CORRESPONDING comes first in no sender
 
-other_first : (t : Term) (w : Lexeme) (ws behind more : List Lexeme) → term_of w ≡ t → t ≢ term.Corresponding → ws ≡ w ∷ behind → NotFirst term.Corresponding (ws ++ more)
+other_first : (t : WordClass) (w : Lexeme) (ws behind more : List Lexeme) → word_class w ≡ t → t ≢ term.Corresponding → ws ≡ w ∷ behind → NotFirstWord term.Corresponding (ws ++ more)
 other_first t w ws behind more is other e =
-    subst (λ (y : List Lexeme). NotFirst term.Corresponding (y ++ more)) (sym e) (λ f. other (sym is ∙ f))
+    subst (λ (y : List Lexeme). NotFirstWord term.Corresponding (y ++ more)) (sym e) (λ f. other (sym is ∙ f))
 
-constant_first : (c : WrittenConstant) (ws more : List Lexeme) → IsConstant c ws → NotFirst term.Corresponding (ws ++ more)
+constant_first : (c : WrittenValue) (ws more : List Lexeme) → IsConstant c ws → NotFirstWord term.Corresponding (ws ++ more)
 constant_first (Word text) ws more (w, free, e) = other_first term.Plain w ws [] more free.free (λ f. cc) e
 constant_first (Quoted text) ws more (w, is, same, e) = other_first term.Literal w ws [] more (ap (λ k. term_of_kind k w.text) is) (λ f. cc) e
 constant_first (Figure f) ws more ([], w, noise, figure, e) =
-    subst (λ (y : List Lexeme). NotFirst term.Corresponding (y ++ more)) (sym e) (λ g. let never : figurative_of term.Corresponding ≡ Some f = sym (ap figurative_of g) ∙ figure in cc)
+    subst (λ (y : List Lexeme). NotFirstWord term.Corresponding (y ++ more)) (sym e) (λ g. let never : figurative_of term.Corresponding ≡ Some f = sym (ap figurative_of g) ∙ figure in cc)
 constant_first (Figure f) ws more (a ∷ [], w, noise, figure, e) = other_first term.All a ws (w ∷ []) more noise (λ f. cc) e
 constant_first (Figure f) ws more (a ∷ b ∷ all, w, noise, figure, e) = absurd noise
 constant_first (Repeated text) ws more (all, w, is, literal, same, e) = other_first term.All all ws (w ∷ []) more is (λ f. cc) e
 
-sender_first : (s : WrittenSender) (ws more : List Lexeme) → IsWrittenSender s ws → NotFirst term.Corresponding (ws ++ more)
+sender_first : (s : WrittenSender) (ws more : List Lexeme) → IsWrittenSender s ws → NotFirstWord term.Corresponding (ws ++ more)
 sender_first (SentReference r) ws more is = reference_first term.Corresponding r ws more is (λ e. cc)
 sender_first (SentConstant c) ws more (is, form, none) = constant_first c ws more is
 
 pub never_both : (words ws more own rest : List Lexeme) (s : WrittenSender) (rs : List WrittenReference) (a b : WrittenReference)
     → IsAction (MoveTo s rs) ws → words ≡ ws ++ more → IsAction (MoveCorresponding a b) own → words ≡ own ++ rest → ⊥
 never_both words ws more own rest s rs a b (sender, receivers, between, sends, to, some, several, e) f (k, between', sending, receiving, is, from, to', gets, g) h =
-    let moved : NotFirst term.Corresponding words =
-    subst (NotFirst term.Corresponding) (sym (move_split between words ws sender receivers more f e)) (sender_first s sender (between ∷ (receivers ++ more)) sends) in
-    let never : term_of k ≢ term.Corresponding = subst (NotFirst term.Corresponding) (h ∙ ap (λ (t : List Lexeme). t ++ rest) g) moved in
+    let moved : NotFirstWord term.Corresponding words =
+    subst (NotFirstWord term.Corresponding) (sym (move_split between words ws sender receivers more f e)) (sender_first s sender (between ∷ (receivers ++ more)) sends) in
+    let never : word_class k ≢ term.Corresponding = subst (NotFirstWord term.Corresponding) (h ∙ ap (λ (t : List Lexeme). t ++ rest) g) moved in
     never is
 
 pub only_corresponding : (words own rest : List Lexeme) (a b : WrittenReference) → IsAction (MoveCorresponding a b) own → words ≡ own ++ rest

@@ -4,11 +4,11 @@ use Rattle.std.specs.List.{AllByRecursion}
 use Rattle.cob_decimal.specs.Literals.{AreDigits, Literal}
 use Rattle.cob_source.specs.Tokens.{Lexeme}
 use Rattle.cob_source.specs.declared.token.Kind.TheVariants as kind
-use Rattle.cob_copybook_clauses.specs.declared.term.Term.TheVariants as term
-use Rattle.cob_copybook_clauses.specs.Terms.{term_of}
+use Rattle.cob_copybook_clauses.specs.declared.term.WordClass.TheVariants as term
+use Rattle.cob_copybook_clauses.specs.Terms.{word_class}
 use Rattle.cob_copybook_clauses.specs.Clauses.{AreQualifiers, IsConstant, IsNameWord}
-use Rattle.cob_copybook_clauses.specs.Reading.{NotFirst}
-use Rattle.cob_copybook_clauses.specs.Written.{WrittenConstant, Word, Quoted, Figure, Repeated, names_behind}
+use Rattle.cob_copybook_clauses.specs.Reading.{NotFirstWord}
+use Rattle.cob_copybook_clauses.specs.Written.{WrittenValue, Word, Quoted, Figure, Repeated, names_behind}
 use Rattle.cob_copybook_entries.specs.Parts.{IsLiteralOf}
 use Rattle.cob_move_statements.specs.declared.fault.MoveRule.{MoveRule}
 use Rattle.cob_move_statements.specs.declared.fault.MoveRule.TheVariants as rule
@@ -21,14 +21,14 @@ Several Is (v ∷ vs) ws = (own rest : List Lexeme) × Is v own × (ws ≡ own +
 
 -- a word of digits, one at least
 pub record IsNumeral (w : Lexeme) : Type 0 where
-  pub plain : term_of w ≡ term.Plain
+  pub plain : word_class w ≡ term.Plain
   pub some : 0 < length w.text
   pub digits : AreDigits w.text
 
 -- numbers between brackets
 pub record IsBracketed (open_bracket close_bracket : Lexeme) (numbers : List Lexeme) : Type 0 where
-  pub opens : term_of open_bracket ≡ term.OpenBracket
-  pub closes : term_of close_bracket ≡ term.CloseBracket
+  pub opens : word_class open_bracket ≡ term.OpenBracket
+  pub closes : word_class close_bracket ≡ term.CloseBracket
   pub some : 0 < length numbers
   pub are : AllByRecursion IsNumeral numbers
 
@@ -61,14 +61,14 @@ NameFirst (w ∷ ws) = IsNameWord w
 
 -- what may follow a reference: neither OF or IN nor an open bracket
 abbrev pub FitsReference : List Lexeme → Type 0
-FitsReference more = NotFirst term.Of more × NotFirst term.OpenBracket more
+FitsReference more = NotFirstWord term.Of more × NotFirstWord term.OpenBracket more
 
 -- what may follow the last of several references: no name either
 abbrev pub EndsReferences : List Lexeme → Type 0
-EndsReferences more = NoName more × NotFirst term.Of more × NotFirst term.OpenBracket more
+EndsReferences more = NoName more × NotFirstWord term.Of more × NotFirstWord term.OpenBracket more
 
 -- a literal or a figurative constant: a word that is written for one is a numeric literal, with however many digits
-abbrev pub IsLiteralOrFigurative : WrittenConstant → Type 0
+abbrev pub IsLiteralOrFigurative : WrittenValue → Type 0
 IsLiteralOrFigurative (Word text) = (l : Literal) × IsLiteralOf l text
 IsLiteralOrFigurative (Quoted text) = Unit {0}
 IsLiteralOrFigurative (Figure f) = Unit {0}
@@ -82,17 +82,17 @@ IsWrittenSender (SentConstant c) ws = IsConstant c ws × IsLiteralOrFigurative c
 -- what stands behind MOVE: a sender, TO, and a reference or more; or CORRESPONDING, a reference, TO, and a reference
 abbrev pub IsAction : WrittenAction → List Lexeme → Type 0
 IsAction (MoveTo s rs) ws = (sender receivers : List Lexeme) × (between : Lexeme)
-    × IsWrittenSender s sender × (term_of between ≡ term.To) × (0 < length rs) × Several IsReference rs receivers
+    × IsWrittenSender s sender × (word_class between ≡ term.To) × (0 < length rs) × Several IsReference rs receivers
     × (ws ≡ sender ++ between ∷ receivers)
 IsAction (MoveCorresponding from to) ws = (corresponding between : Lexeme) × (sender receiver : List Lexeme)
-    × (term_of corresponding ≡ term.Corresponding) × IsReference from sender × (term_of between ≡ term.To) × IsReference to receiver
+    × (word_class corresponding ≡ term.Corresponding) × IsReference from sender × (word_class between ≡ term.To) × IsReference to receiver
     × (ws ≡ corresponding ∷ (sender ++ between ∷ receiver))
 
 -- a statement: MOVE, and what stands behind it
 pub record IsStatement (s : WrittenStatement) (ws : List Lexeme) : Type 0 where
   pub move : Lexeme
   pub behind : List Lexeme
-  pub is : term_of move ≡ term.Move
+  pub is : word_class move ≡ term.Move
   pub line : s.line ≡ move.line
   pub acts : IsAction s.action behind
   pub words : ws ≡ move ∷ behind
@@ -109,12 +109,12 @@ NoPeriod (w ∷ ws) = IsPeriod w → ⊥
 -- nothing, a period or MOVE may follow a statement
 abbrev pub EndsStatement : List Lexeme → Type 0
 EndsStatement [] = Unit {0}
-EndsStatement (w ∷ ws) = IsPeriod w ⊎ (term_of w ≡ term.Move)
+EndsStatement (w ∷ ws) = IsPeriod w ⊎ (word_class w ≡ term.Move)
 
 -- what may follow a statement and the periods behind it: nothing, or MOVE
 abbrev pub FollowsStatements : List Lexeme → Type 0
 FollowsStatements [] = Unit {0}
-FollowsStatements (w ∷ ws) = term_of w ≡ term.Move
+FollowsStatements (w ∷ ws) = word_class w ≡ term.Move
 
 -- nothing may follow
 abbrev pub IsEnd : List Lexeme → Type 0

@@ -1,7 +1,7 @@
 -- Statements as they are written, without where their texts lie in memory.
 use Rattle.std.specs.Prelude.{ℕ, List, map}
 use Rattle.cob_source.specs.Tokens.{Lexeme, lexemes}
-use Rattle.cob_copybook_clauses.specs.Written.{WrittenConstant, written_constant, names_behind}
+use Rattle.cob_copybook_clauses.specs.Written.{WrittenValue, written_value, names_behind}
 use Rattle.cob_move_statements.specs.declared.parts.Reference.{Reference}
 use Rattle.cob_move_statements.specs.declared.parts.StatementSender.{StatementSender}
 use Rattle.cob_move_statements.specs.declared.parts.StatementSender.TheVariants as sender
@@ -18,7 +18,7 @@ pub record WrittenReference : Type 0 where
 -- what is moved: an entry, or a constant
 pub data WrittenSender : Type 0 where
   SentReference : WrittenReference → WrittenSender
-  SentConstant : WrittenConstant → WrittenSender
+  SentConstant : WrittenValue → WrittenSender
 
 -- what stands behind MOVE: a sender and its receivers, or CORRESPONDING and two references
 pub data WrittenAction : Type 0 where
@@ -45,7 +45,7 @@ written_references rs = map written_reference rs
 -- what is moved, likewise
 abbrev pub written_sender : StatementSender → WrittenSender
 written_sender (sender.Reference r) = SentReference (written_reference r)
-written_sender (sender.Constant c) = SentConstant (written_constant c)
+written_sender (sender.Constant c) = SentConstant (written_value c)
 
 -- what stands behind MOVE, likewise
 abbrev pub written_action : Action → WrittenAction

@@ -14,7 +14,7 @@ ghost use Rattle.cob_move_statements.specs.Statements.{EndsReferences, FitsRefer
 use crate::parts::{Action, Reference};
 use crate::references::{reference_at, references_at};
 use crate::senders::{reference_to_at, sender_to_at};
-use cob_copybook_clauses::{Term, behind};
+use cob_copybook_clauses::{WordClass, behind};
 use cob_source::Token;
 use std::alloc::{AllocError, Global};
 
@@ -29,7 +29,7 @@ fn corresponding_at(words: &[Token]) -> Option<(Reference<'_>, Reference<'_>, &[
         → IsSomeAnd result (λ r. (written_reference r.0 ≡ from) × (written_reference r.1 ≡ to)
         × (lexemes r.2.now ≡ more)) }
 {
-    let sent = behind(words, Term::Corresponding)?;
+    let sent = behind(words, WordClass::Corresponding)?;
     let (from, received) = reference_to_at(sent)?;
     let (to, more) = reference_at(received)?;
     Some((from, to, more))

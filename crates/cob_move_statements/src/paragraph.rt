@@ -14,8 +14,8 @@ ghost use Rattle.std.specs.Prelude.{
 };
 ghost use Rattle.std.specs.List.{AllByRecursion};
 ghost use Rattle.cob_copybook_clauses.specs.Clauses.{IsNameWord};
-ghost use Rattle.cob_copybook_clauses.specs.Terms.{term_of};
-ghost use Rattle.cob_copybook_clauses.specs.declared.term.Term.TheVariants as term;
+ghost use Rattle.cob_copybook_clauses.specs.Terms.{word_class};
+ghost use Rattle.cob_copybook_clauses.specs.declared.term.WordClass.TheVariants as term;
 ghost use Rattle.cob_source.specs.Tokens.{Lexeme, lexeme, lexemes};
 ghost use Rattle.cob_move_statements.specs.Written.{WrittenStatement, written_statements, written_statement};
 ghost use Rattle.cob_move_statements.specs.Statements.{
@@ -39,7 +39,7 @@ ghost use Rattle.cob_move_statements.specs.Statements.{
 use crate::actions::action_at;
 use crate::fault::{MoveFault, MoveRule};
 use crate::parts::Statement;
-use cob_copybook_clauses::{Term, is_name_word, is_term};
+use cob_copybook_clauses::{WordClass, is_name_word, is_term};
 use cob_source::{Kind, Token};
 use std::alloc::{AllocError, Global};
 
@@ -81,14 +81,14 @@ fn behind_stops(words: &[Token]) -> &[Token]
 
 /// The line of the MOVE in front, and what is behind it.
 fn move_line_at(words: &[Token]) -> Option<(u32, &[Token])>
-    ensures found { IfSome result (λ r. (w : Lexeme) × (term_of w ≡ term.Move) × (r.0 ≡ w.line)
+    ensures found { IfSome result (λ r. (w : Lexeme) × (word_class w ≡ term.Move) × (r.0 ≡ w.line)
         × (lexemes words.now ≡ w ∷ lexemes r.1.now)) }
-    ensures only { (w : Lexeme) (more : List Lexeme) → term_of w ≡ term.Move
+    ensures only { (w : Lexeme) (more : List Lexeme) → word_class w ≡ term.Move
         → lexemes words.now ≡ w ∷ more → IsSomeAnd result (λ r. (r.0 ≡ w.line)
         × (lexemes r.1.now ≡ more)) }
 {
     let (first, more) = words.split_first()?;
-    if !is_term(first, Term::Move) {
+    if !is_term(first, WordClass::Move) {
         return None;
     }
     Some((first.line, more))
@@ -124,7 +124,7 @@ fn ends_statement(words: &[Token]) -> bool
     ensures { IsTrue result ↔ EndsStatement (lexemes words.now) }
 {
     match words.split_first() {
-        Some((first, _)) => is_stop(first) || is_term(first, Term::Move),
+        Some((first, _)) => is_stop(first) || is_term(first, WordClass::Move),
         None => true,
     }
 }

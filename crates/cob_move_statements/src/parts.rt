@@ -1,4 +1,4 @@
-use cob_copybook_clauses::Constant;
+use cob_copybook_clauses::ValueClause;
 use cob_source::Token;
 
 /// A reference to an entry as it is written.
@@ -15,7 +15,7 @@ pub struct Reference<'a> {
 #[derive(Clone, Copy, Debug)]
 pub enum StatementSender<'a> {
     Reference(Reference<'a>),
-    Constant(Constant<'a>),
+    Constant(ValueClause<'a>),
 }
 
 /// What stands behind MOVE, as it is written.

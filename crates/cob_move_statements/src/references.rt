@@ -1,8 +1,8 @@
 ghost use Rattle.std.specs.Prelude.{◌≡◌, List, ℕ, ◌∷◌, ◌++◌, IfOk, IfSome, IsSomeAnd};
 ghost use Rattle.cob_source.specs.Tokens.{Lexeme, lexemes};
 ghost use Rattle.cob_copybook_clauses.specs.Clauses.{IsNameWord};
-ghost use Rattle.cob_copybook_clauses.specs.Reading.{NotFirst};
-ghost use Rattle.cob_copybook_clauses.specs.declared.term.Term.TheVariants as term;
+ghost use Rattle.cob_copybook_clauses.specs.Reading.{NotFirstWord};
+ghost use Rattle.cob_copybook_clauses.specs.declared.term.WordClass.TheVariants as term;
 ghost use Rattle.cob_move_statements.specs.Written.{WrittenReference, written_reference, written_references};
 ghost use Rattle.cob_move_statements.specs.Statements.{EndsReferences, IsReference, Several};
 
@@ -31,7 +31,8 @@ pub fn reference_at(words: &[Token]) -> Option<(Reference<'_>, &[Token])>
     ensures found { IfSome result (λ r. (ws : List Lexeme)
         × IsReference (written_reference r.0) ws × (lexemes words.now ≡ ws ++ lexemes r.1.now)) }
     ensures only { (x : WrittenReference) (ws more : List Lexeme) → IsReference x ws
-        → NotFirst term.Of more → NotFirst term.OpenBracket more → lexemes words.now ≡ ws ++ more
+        → NotFirstWord term.Of more → NotFirstWord term.OpenBracket more
+        → lexemes words.now ≡ ws ++ more
         → IsSomeAnd result (λ r. (written_reference r.0 ≡ x) × (lexemes r.1.now ≡ more)) }
 {
     let (name, named) = name_at(words)?;

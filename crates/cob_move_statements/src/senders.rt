@@ -1,15 +1,15 @@
 ghost use Rattle.std.specs.Prelude.{◌≡◌, List, ◌∷◌, ◌++◌, IfSome, IsFalse, IsSomeAnd, IsTrue, false};
 ghost use Rattle.cob_source.specs.Tokens.{Lexeme, lexemes};
-ghost use Rattle.cob_copybook_clauses.specs.Reading.{NotFirst};
-ghost use Rattle.cob_copybook_clauses.specs.Terms.{term_of};
-ghost use Rattle.cob_copybook_clauses.specs.declared.term.Term.TheVariants as term;
-ghost use Rattle.cob_copybook_clauses.specs.Written.{written_constant};
+ghost use Rattle.cob_copybook_clauses.specs.Reading.{NotFirstWord};
+ghost use Rattle.cob_copybook_clauses.specs.Terms.{word_class};
+ghost use Rattle.cob_copybook_clauses.specs.declared.term.WordClass.TheVariants as term;
+ghost use Rattle.cob_copybook_clauses.specs.Written.{written_value};
 ghost use Rattle.cob_move_statements.specs.Written.{WrittenReference, WrittenSender, written_reference, written_sender};
 ghost use Rattle.cob_move_statements.specs.Statements.{IsLiteralOrFigurative, IsReference, IsWrittenSender, NameFirst, NoName};
 
 use crate::parts::{Reference, StatementSender};
 use crate::references::reference_at;
-use cob_copybook_clauses::{Constant, Term, behind, constant_at, is_name_word};
+use cob_copybook_clauses::{ValueClause, WordClass, behind, constant_at, is_name_word};
 use cob_copybook_entries::is_numeric_literal;
 use cob_source::Token;
 
@@ -30,7 +30,8 @@ fn sent_entry_at(words: &[Token]) -> Option<(StatementSender<'_>, &[Token])>
     ensures found { IfSome result (λ r. (ws : List Lexeme)
         × IsWrittenSender (written_sender r.0) ws × (lexemes words.now ≡ ws ++ lexemes r.1.now)) }
     ensures only { (x : WrittenSender) (ws more : List Lexeme) → IsWrittenSender x ws
-        → NotFirst term.Of more → NotFirst term.OpenBracket more → lexemes words.now ≡ ws ++ more
+        → NotFirstWord term.Of more → NotFirstWord term.OpenBracket more
+        → lexemes words.now ≡ ws ++ more
         → IsSomeAnd result (λ r. (written_sender r.0 ≡ x) × (lexemes r.1.now ≡ more)) }
 {
     let (reference, more) = reference_at(words)?;
@@ -38,13 +39,13 @@ fn sent_entry_at(words: &[Token]) -> Option<(StatementSender<'_>, &[Token])>
 }
 
 /// Whether a constant is a literal or a figurative constant, and no other word.
-fn is_literal_or_figurative(constant: &Constant<'_>) -> bool
-    ensures yes { IsTrue result → IsLiteralOrFigurative (written_constant constant.now) }
-    ensures no { IsFalse result → IsLiteralOrFigurative (written_constant constant.now) → ⊥ }
+fn is_literal_or_figurative(constant: &ValueClause<'_>) -> bool
+    ensures yes { IsTrue result → IsLiteralOrFigurative (written_value constant.now) }
+    ensures no { IsFalse result → IsLiteralOrFigurative (written_value constant.now) → ⊥ }
 {
     match constant {
-        Constant::Word(text) => is_numeric_literal(text),
-        Constant::Literal(_) | Constant::Figurative(_) | Constant::All(_) => true,
+        ValueClause::Word(text) => is_numeric_literal(text),
+        ValueClause::Literal(_) | ValueClause::Figurative(_) | ValueClause::All(_) => true,
     }
 }
 
@@ -54,7 +55,8 @@ fn sent_constant_at(words: &[Token]) -> Option<(StatementSender<'_>, &[Token])>
     ensures found { IfSome result (λ r. (ws : List Lexeme)
         × IsWrittenSender (written_sender r.0) ws × (lexemes words.now ≡ ws ++ lexemes r.1.now)) }
     ensures only { (x : WrittenSender) (ws more : List Lexeme) → IsWrittenSender x ws
-        → NotFirst term.Of more → NotFirst term.OpenBracket more → lexemes words.now ≡ ws ++ more
+        → NotFirstWord term.Of more → NotFirstWord term.OpenBracket more
+        → lexemes words.now ≡ ws ++ more
         → IsSomeAnd result (λ r. (written_sender r.0 ≡ x) × (lexemes r.1.now ≡ more)) }
 {
     let (constant, more) = constant_at(words)?;
@@ -69,7 +71,8 @@ pub fn sender_at(words: &[Token]) -> Option<(StatementSender<'_>, &[Token])>
     ensures found { IfSome result (λ r. (ws : List Lexeme)
         × IsWrittenSender (written_sender r.0) ws × (lexemes words.now ≡ ws ++ lexemes r.1.now)) }
     ensures only { (x : WrittenSender) (ws more : List Lexeme) → IsWrittenSender x ws
-        → NotFirst term.Of more → NotFirst term.OpenBracket more → lexemes words.now ≡ ws ++ more
+        → NotFirstWord term.Of more → NotFirstWord term.OpenBracket more
+        → lexemes words.now ≡ ws ++ more
         → IsSomeAnd result (λ r. (written_sender r.0 ≡ x) × (lexemes r.1.now ≡ more)) }
 {
     if begins_with_name(words) {
@@ -82,27 +85,27 @@ pub fn sender_at(words: &[Token]) -> Option<(StatementSender<'_>, &[Token])>
 /// The sender in front of TO, and what is behind TO.
 pub fn sender_to_at(words: &[Token]) -> Option<(StatementSender<'_>, &[Token])>
     ensures found { IfSome result (λ r. (ws : List Lexeme) × (to : Lexeme)
-        × IsWrittenSender (written_sender r.0) ws × (term_of to ≡ term.To)
+        × IsWrittenSender (written_sender r.0) ws × (word_class to ≡ term.To)
         × (lexemes words.now ≡ ws ++ to ∷ lexemes r.1.now)) }
     ensures only { (x : WrittenSender) (ws more : List Lexeme) (to : Lexeme)
-        → IsWrittenSender x ws → term_of to ≡ term.To → lexemes words.now ≡ ws ++ to ∷ more
+        → IsWrittenSender x ws → word_class to ≡ term.To → lexemes words.now ≡ ws ++ to ∷ more
         → IsSomeAnd result (λ r. (written_sender r.0 ≡ x) × (lexemes r.1.now ≡ more)) }
 {
     let (sender, rest) = sender_at(words)?;
-    let more = behind(rest, Term::To)?;
+    let more = behind(rest, WordClass::To)?;
     Some((sender, more))
 }
 
 /// The reference in front of TO, and what is behind TO.
 pub fn reference_to_at(words: &[Token]) -> Option<(Reference<'_>, &[Token])>
     ensures found { IfSome result (λ r. (ws : List Lexeme) × (to : Lexeme)
-        × IsReference (written_reference r.0) ws × (term_of to ≡ term.To)
+        × IsReference (written_reference r.0) ws × (word_class to ≡ term.To)
         × (lexemes words.now ≡ ws ++ to ∷ lexemes r.1.now)) }
     ensures only { (x : WrittenReference) (ws more : List Lexeme) (to : Lexeme) → IsReference x ws
-        → term_of to ≡ term.To → lexemes words.now ≡ ws ++ to ∷ more
+        → word_class to ≡ term.To → lexemes words.now ≡ ws ++ to ∷ more
         → IsSomeAnd result (λ r. (written_reference r.0 ≡ x) × (lexemes r.1.now ≡ more)) }
 {
     let (reference, rest) = reference_at(words)?;
-    let more = behind(rest, Term::To)?;
+    let more = behind(rest, WordClass::To)?;
     Some((reference, more))
 }

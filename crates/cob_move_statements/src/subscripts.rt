@@ -2,12 +2,12 @@ ghost use Rattle.std.specs.Prelude.{◌≡◌, ◌≢◌, ◌≤◌, ◌<◌, �
 ghost use Rattle.std.specs.List.{AllByRecursion};
 ghost use Rattle.cob_decimal.specs.Literals.{AreDigits};
 ghost use Rattle.cob_source.specs.Tokens.{Lexeme, lexeme, lexemes};
-ghost use Rattle.cob_copybook_clauses.specs.declared.term.Term.TheVariants as term;
+ghost use Rattle.cob_copybook_clauses.specs.declared.term.WordClass.TheVariants as term;
 ghost use Rattle.cob_move_statements.specs.Written.{word_texts};
 ghost use Rattle.cob_move_statements.specs.Statements.{AreSubscripts, IsBracketed, IsNumeral};
-ghost use Rattle.cob_copybook_clauses.specs.Reading.{NotFirst};
+ghost use Rattle.cob_copybook_clauses.specs.Reading.{NotFirstWord};
 
-use cob_copybook_clauses::{Term, behind, is_term};
+use cob_copybook_clauses::{WordClass, behind, is_term};
 use cob_source::Token;
 
 /// Whether each character is a digit.
@@ -27,7 +27,7 @@ fn is_numeral(token: &Token) -> bool
     ensures { IsTrue result ↔ IsNumeral (lexeme token.now) }
 {
     let text = token.text.as_slice();
-    is_term(token, Term::Plain) && !text.is_empty() && are_digits(text)
+    is_term(token, WordClass::Plain) && !text.is_empty() && are_digits(text)
 }
 
 /// The words behind the one in front, if that is of digits.
@@ -58,7 +58,7 @@ fn numerals_at(words: &[Token]) -> (&[Token], &[Token])
     ensures are { AllByRecursion IsNumeral (lexemes result.0.now) }
     ensures found { lexemes words.now ≡ lexemes result.0.now ++ lexemes result.1.now }
     ensures only { (ns more : List Lexeme) → AllByRecursion IsNumeral ns
-        → NotFirst term.Plain more → lexemes words.now ≡ ns ++ more
+        → NotFirstWord term.Plain more → lexemes words.now ≡ ns ++ more
         → (lexemes result.0.now ≡ ns) × (lexemes result.1.now ≡ more) }
 {
     let mut rest = words;
@@ -77,9 +77,9 @@ fn bracketed_at(words: &[Token]) -> Option<(&[Token], &[Token])>
         → lexemes words.now ≡ before ∷ (ns ++ after ∷ more)
         → IsSomeAnd result (λ r. (lexemes r.0.now ≡ ns) × (lexemes r.1.now ≡ more)) }
 {
-    let inside = behind(words, Term::OpenBracket)?;
+    let inside = behind(words, WordClass::OpenBracket)?;
     let (numbers, rest) = numerals_at(inside);
-    let more = behind(rest, Term::CloseBracket)?;
+    let more = behind(rest, WordClass::CloseBracket)?;
     if numbers.is_empty() {
         return None;
     }
@@ -92,11 +92,11 @@ pub fn subscripts_at(words: &[Token]) -> Option<(&[Token], &[Token])>
         × AreSubscripts (word_texts (lexemes r.0.now)) ws
         × (lexemes words.now ≡ ws ++ lexemes r.1.now)) }
     ensures only { (ts : List (List ℕ)) (ws more : List Lexeme) → AreSubscripts ts ws
-        → NotFirst term.OpenBracket more → lexemes words.now ≡ ws ++ more
+        → NotFirstWord term.OpenBracket more → lexemes words.now ≡ ws ++ more
         → IsSomeAnd result (λ r. (word_texts (lexemes r.0.now) ≡ ts) × (lexemes r.1.now ≡ more)) }
 {
     match words.split_first() {
-        Some((first, _)) if is_term(first, Term::OpenBracket) => bracketed_at(words),
+        Some((first, _)) if is_term(first, WordClass::OpenBracket) => bracketed_at(words),
         _ => Some((&words[..0], words)),
     }
 }

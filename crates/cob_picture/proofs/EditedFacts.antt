@@ -13,10 +13,10 @@ use Rattle.cob_picture.specs.declared.edited.Part.{Part}
 use Rattle.cob_picture.specs.declared.edited.Part.TheVariants.{Lead, Currency, Front, Whole, PointPart, Fraction, Trail}
 use Rattle.cob_picture.specs.declared.category.Category.{Category}
 use Rattle.cob_picture.specs.declared.category.Category.TheVariants.{Alphabetic, Numeric, Alphanumeric, AlphanumericEdited, NumericEdited}
-use Rattle.cob_picture.specs.Positions.{is, times, written_out, is_that}
+use Rattle.cob_picture.specs.Positions.{is, symbol_count, written_out, is_that}
 use Rattle.cob_picture.specs.Runs.{ArePositive, is_mark, runs_end_in_mark}
 use Rattle.cob_picture.specs.Numeric.{IsNumeric, numeric_symbols}
-use Rattle.cob_picture.specs.Edited.{run_symbol, settled_kind, kind_of, belongs, AreOf, Edited, edited_symbols, HasKinds, counts_in, AreAllowed, IsNumericEdited, ends_in_mark, unscaled, is_sign_run, CurrencyLeads}
+use Rattle.cob_picture.specs.Edited.{run_symbol, settled_kind, symbol_kind, belongs, AreOf, Edited, edited_symbols, HasKinds, counts_in, AreAllowed, IsNumericEdited, ends_in_mark, unscaled, is_sign_run, CurrencyLeads}
 use Rattle.cob_picture.specs.Categories.{IsOf}
 use Rattle.cob_picture.proofs.Times.{is_other, is_same, times-append, times-replicate, one_more, signs_written, points_written, digits_written, scaling_written, length_written, times_written}
 use Rattle.cob_picture.proofs.Placed.{one_if}
@@ -37,18 +37,18 @@ chosen_not false false false false true s h1 h2 h3 h4 h5 = h5
 chosen_not false false false false false s h1 h2 h3 h4 h5 = refl
 
 pub run_symbol_not : (xs : List Symbol) (s : Symbol) → is Dollar s ≡ false → is Plus s ≡ false → is Minus s ≡ false → is Z s ≡ false → is Star s ≡ false → is_that (run_symbol xs) s ≡ false
-run_symbol_not xs s = chosen_not (nat_le 2 (times Dollar xs)) (nat_le 2 (times Plus xs)) (nat_le 2 (times Minus xs)) (nat_le 1 (times Z xs)) (nat_le 1 (times Star xs)) s
+run_symbol_not xs s = chosen_not (nat_le 2 (symbol_count Dollar xs)) (nat_le 2 (symbol_count Plus xs)) (nat_le 2 (symbol_count Minus xs)) (nat_le 1 (symbol_count Z xs)) (nat_le 1 (symbol_count Star xs)) s
 
 -- ---- what is not of a part
 
-times_none : (f : Part) (q : Option Symbol) (s : Symbol) (xs : List Symbol) → belongs f (kind_of q s) ≡ false → AreOf f q xs → times s xs ≡ 0
+times_none : (f : Part) (q : Option Symbol) (s : Symbol) (xs : List Symbol) → belongs f (symbol_kind q s) ≡ false → AreOf f q xs → symbol_count s xs ≡ 0
 times_none f q s [] out all = refl
 times_none f q s (t ∷ xs) out all =
-    let other : is s t ≡ false = is_other s t (λ e. let x : true ≡ false = sym all.0 ∙ ap (λ (u : Symbol). belongs f (kind_of q u)) e ∙ out in cc) in
+    let other : is s t ≡ false = is_other s t (λ e. let x : true ≡ false = sym all.0 ∙ ap (λ (u : Symbol). belongs f (symbol_kind q u)) e ∙ out in cc) in
     let none : one_if (is s t) ≡ 0 = ap one_if other in
     omega (arith, none, times_none f q s xs out all.1)
 
-pub times_edited : (s : Symbol) (e : Edited) → times s (edited_symbols e) ≡ times s e.lead + times s e.currency + times s e.front + times s e.whole + times s e.point + times s e.fraction + times s e.trail
+pub times_edited : (s : Symbol) (e : Edited) → symbol_count s (edited_symbols e) ≡ symbol_count s e.lead + symbol_count s e.currency + symbol_count s e.front + symbol_count s e.whole + symbol_count s e.point + symbol_count s e.fraction + symbol_count s e.trail
 times_edited s e =
     let t6 = e.fraction ++ e.trail in
     let t5 = e.point ++ t6 in
@@ -57,13 +57,13 @@ times_edited s e =
     let t2 = e.currency ++ t3 in
     omega (arith, times-append s e.lead t2, times-append s e.currency t3, times-append s e.front t4, times-append s e.whole t5, times-append s e.point t6, times-append s e.fraction e.trail)
 
-kind_is : (q : Option Symbol) (s : Symbol) (k : Kind) → is_that q s ≡ false → settled_kind s ≡ k → kind_of q s ≡ k
+kind_is : (q : Option Symbol) (s : Symbol) (k : Kind) → is_that q s ≡ false → settled_kind s ≡ k → symbol_kind q s ≡ k
 kind_is q s k out e = ap (λ (b : Bool). (if b then OfRun else settled_kind s)) out ∙ e
 
 -- a symbol of no kind stands nowhere
-no_kind : (q : Option Symbol) (s : Symbol) (e : Edited) → kind_of q s ≡ OfNone → HasKinds q e → times s (edited_symbols e) ≡ 0
+no_kind : (q : Option Symbol) (s : Symbol) (e : Edited) → symbol_kind q s ≡ OfNone → HasKinds q e → symbol_count s (edited_symbols e) ≡ 0
 no_kind q s e none k =
-    let out : (f : Part) → belongs f OfNone ≡ false → belongs f (kind_of q s) ≡ false = λ f h. ap (belongs f) none ∙ h in
+    let out : (f : Part) → belongs f OfNone ≡ false → belongs f (symbol_kind q s) ≡ false = λ f h. ap (belongs f) none ∙ h in
     omega (
       arith,
       times_edited s e,
@@ -76,18 +76,18 @@ no_kind q s e none k =
       times_none Trail q s e.trail (out Trail refl) k.trail,
     )
 
-times_le_length : (s : Symbol) (xs : List Symbol) → times s xs ≤ length xs
+times_le_length : (s : Symbol) (xs : List Symbol) → symbol_count s xs ≤ length xs
 times_le_length s [] = omega arith
 times_le_length s (t ∷ xs) = at (is s t) refl (times_le_length s xs)
   where
-    at : (b : Bool) → is s t ≡ b → times s xs ≤ length xs → times s (t ∷ xs) ≤ length (t ∷ xs)
+    at : (b : Bool) → is s t ≡ b → symbol_count s xs ≤ length xs → symbol_count s (t ∷ xs) ≤ length (t ∷ xs)
     at true e h = let x : one_if (is s t) ≡ 1 = ap one_if e in omega (arith, x)
     at false e h = let x : one_if (is s t) ≡ 0 = ap one_if e in omega (arith, x)
 
 -- a point stands once at most
-pub one_point : (q : Option Symbol) (s : Symbol) (e : Edited) → kind_of q s ≡ OfPoint → HasKinds q e → AreAllowed q (counts_in q e) → times s (edited_symbols e) ≤ 1
+pub one_point : (q : Option Symbol) (s : Symbol) (e : Edited) → symbol_kind q s ≡ OfPoint → HasKinds q e → AreAllowed q (counts_in q e) → symbol_count s (edited_symbols e) ≤ 1
 one_point q s e is k n =
-    let out : (f : Part) → belongs f OfPoint ≡ false → belongs f (kind_of q s) ≡ false = λ f h. ap (belongs f) is ∙ h in
+    let out : (f : Part) → belongs f OfPoint ≡ false → belongs f (symbol_kind q s) ≡ false = λ f h. ap (belongs f) is ∙ h in
     omega (
       arith,
       times_edited s e,
@@ -103,22 +103,22 @@ one_point q s e is k n =
 
 -- A, X, S and P stand in no numeric edited picture, and V once at most
 pub record HasNone (xs : List Symbol) : Type 0 where
-  pub no_a : times A xs ≡ 0
-  pub no_x : times X xs ≡ 0
-  pub no_s : times S xs ≡ 0
-  pub no_p : times P xs ≡ 0
-  pub one_v : times V xs ≤ 1
+  pub no_a : symbol_count A xs ≡ 0
+  pub no_x : symbol_count X xs ≡ 0
+  pub no_s : symbol_count S xs ≡ 0
+  pub no_p : symbol_count P xs ≡ 0
+  pub one_v : symbol_count V xs ≤ 1
 
 pub edited_none : (xs : List Symbol) → IsNumericEdited xs → HasNone xs
 edited_none xs h =
     let q = run_symbol xs in
-    let none : (s : Symbol) → kind_of q s ≡ OfNone → times s xs ≡ 0 = λ s e. ap (times s) h.written ∙ no_kind q s h.parts e h.kinds in
+    let none : (s : Symbol) → symbol_kind q s ≡ OfNone → symbol_count s xs ≡ 0 = λ s e. ap (symbol_count s) h.written ∙ no_kind q s h.parts e h.kinds in
     record {
       no_a = none A (kind_is q A OfNone (run_symbol_not xs A refl refl refl refl refl) refl);
       no_x = none X (kind_is q X OfNone (run_symbol_not xs X refl refl refl refl refl) refl);
       no_s = none S (kind_is q S OfNone (run_symbol_not xs S refl refl refl refl refl) refl);
       no_p = none P (kind_is q P OfNone (run_symbol_not xs P refl refl refl refl refl) refl);
-      one_v = omega (arith, ap (times V) h.written, one_point q V h.parts (kind_is q V OfPoint (run_symbol_not xs V refl refl refl refl refl) refl) h.kinds h.allowed);
+      one_v = omega (arith, ap (symbol_count V) h.written, one_point q V h.parts (kind_is q V OfPoint (run_symbol_not xs V refl refl refl refl refl) refl) h.kinds h.allowed);
     }
 
 -- a numeric edited picture is of no other category
@@ -129,7 +129,7 @@ edited_alone Alphanumeric xs h o = let n = edited_none xs h in absurd (omega (ar
 edited_alone AlphanumericEdited xs h o = let n = edited_none xs h in absurd (omega (arith, o.characters, n.no_a, n.no_x))
 edited_alone Numeric xs h (n, is_one, e) =
     let none = edited_none xs h in
-    absurd (omega (arith, none.no_s, none.no_p, h.not_digits_alone, ap (times S) e, ap (times P) e, ap (times V) e, ap (times Nine) e, ap (length {A = Symbol}) e, signs_written n, scaling_written n, points_written n, digits_written n, length_written n))
+    absurd (omega (arith, none.no_s, none.no_p, h.not_digits_alone, ap (symbol_count S) e, ap (symbol_count P) e, ap (symbol_count V) e, ap (symbol_count Nine) e, ap (length {A = Symbol}) e, signs_written n, scaling_written n, points_written n, digits_written n, length_written n))
 
 -- ---- what stands last
 
@@ -202,15 +202,15 @@ positive_at (r ∷ runs) (suc i) d lt pos = positive_at runs i d (omega arith) p
 
 -- ---- a run at the front of runs
 
-front_once : (r : Run) (runs : List Run) → r.symbol ≡ Dollar → 0 < r.count → times Dollar (written_out (r ∷ runs)) ≡ 1 → (written_out (r ∷ runs) ≡ Dollar ∷ written_out runs) × (times Dollar (written_out runs) ≡ 0)
+front_once : (r : Run) (runs : List Run) → r.symbol ≡ Dollar → 0 < r.count → symbol_count Dollar (written_out (r ∷ runs)) ≡ 1 → (written_out (r ∷ runs) ≡ Dollar ∷ written_out runs) × (symbol_count Dollar (written_out runs) ≡ 0)
 front_once r runs e pos once =
-    let own : times Dollar (replicate r.count r.symbol) ≡ r.count = times-replicate Dollar r.symbol r.count e in
+    let own : symbol_count Dollar (replicate r.count r.symbol) ≡ r.count = times-replicate Dollar r.symbol r.count e in
     let split = times-append Dollar (replicate r.count r.symbol) (written_out runs) in
     let one : r.count ≡ 1 = omega (arith, own, split, once, pos) in
     let first : replicate r.count r.symbol ≡ Dollar ∷ [] = ap (λ (m : ℕ). replicate m r.symbol) one ∙ ap (λ (s : Symbol). s ∷ []) e in
     (ap (λ (t : List Symbol). t ++ written_out runs) first, omega (arith, own, split, once, one))
 
-pub leads_yes : (r : Run) (runs : List Run) → ArePositive (r ∷ runs) → r.symbol ≡ Dollar → times Dollar (written_out (r ∷ runs)) ≡ 1 → IsTrue (is_sign_run (run_symbol (written_out runs))) → IsNumericEdited (written_out runs) → CurrencyLeads (written_out (r ∷ runs))
+pub leads_yes : (r : Run) (runs : List Run) → ArePositive (r ∷ runs) → r.symbol ≡ Dollar → symbol_count Dollar (written_out (r ∷ runs)) ≡ 1 → IsTrue (is_sign_run (run_symbol (written_out runs))) → IsNumericEdited (written_out runs) → CurrencyLeads (written_out (r ∷ runs))
 leads_yes r runs pos e once floats edited =
     let f = front_once r runs e pos.0 once in
     record { behind = written_out runs; leads = f.0; only = f.1; floats = floats; edited = edited }
@@ -218,7 +218,7 @@ leads_yes r runs pos e once floats edited =
 -- what a leading currency sign asks of runs
 pub record LeadsRuns (r : Run) (runs : List Run) : Type 0 where
   pub first : r.symbol ≡ Dollar
-  pub once : times Dollar (written_out (r ∷ runs)) ≡ 1
+  pub once : symbol_count Dollar (written_out (r ∷ runs)) ≡ 1
   pub floats : IsTrue (is_sign_run (run_symbol (written_out runs)))
   pub edited : IsNumericEdited (written_out runs)
 
@@ -229,7 +229,7 @@ head_is (suc n) s x y lt e = cc
 pub leads_must : (r : Run) (runs : List Run) → ArePositive (r ∷ runs) → CurrencyLeads (written_out (r ∷ runs)) → LeadsRuns r runs
 leads_must r runs pos h =
     let e : r.symbol ≡ Dollar = head_is r.count r.symbol (written_out runs) h.behind pos.0 h.leads in
-    let twice : times Dollar (written_out (r ∷ runs)) ≡ 1 = ap (times Dollar) h.leads ∙ (let x : 1 + times Dollar h.behind ≡ 1 = omega (arith, h.only) in x) in
+    let twice : symbol_count Dollar (written_out (r ∷ runs)) ≡ 1 = ap (symbol_count Dollar) h.leads ∙ (let x : 1 + symbol_count Dollar h.behind ≡ 1 = omega (arith, h.only) in x) in
     let f = front_once r runs e pos.0 twice in
     let same : h.behind ≡ written_out runs = (let x : Dollar ∷ h.behind ≡ Dollar ∷ written_out runs = sym h.leads ∙ f.0 in cc) in
     record { first = e; once = twice; floats = subst (λ (t : List Symbol). IsTrue (is_sign_run (run_symbol t))) same h.floats; edited = subst IsNumericEdited same h.edited }
@@ -238,11 +238,11 @@ leads_must r runs pos h =
 pub numeric_alone : (c : Category) (ps : List Symbol) (n : NumericParts) → IsNumeric n → ps ≡ numeric_symbols n → IsOf c ps → c ≡ Numeric
 numeric_alone Numeric ps n is e h = refl
 numeric_alone Alphabetic ps n is e h =
-    absurd (omega (arith, h.each, h.some, ap (times A) e, times_written A n (λ x. cc) (λ x. cc) (λ x. cc) (λ x. cc)))
+    absurd (omega (arith, h.each, h.some, ap (symbol_count A) e, times_written A n (λ x. cc) (λ x. cc) (λ x. cc) (λ x. cc)))
 numeric_alone Alphanumeric ps n is e h =
-    absurd (omega (arith, h.each, h.not_digits, ap (times A) e, ap (times X) e, times_written A n (λ x. cc) (λ x. cc) (λ x. cc) (λ x. cc), times_written X n (λ x. cc) (λ x. cc) (λ x. cc) (λ x. cc)))
+    absurd (omega (arith, h.each, h.not_digits, ap (symbol_count A) e, ap (symbol_count X) e, times_written A n (λ x. cc) (λ x. cc) (λ x. cc) (λ x. cc), times_written X n (λ x. cc) (λ x. cc) (λ x. cc) (λ x. cc)))
 numeric_alone AlphanumericEdited ps n is e h =
-    absurd (omega (arith, h.characters, ap (times A) e, ap (times X) e, times_written A n (λ x. cc) (λ x. cc) (λ x. cc) (λ x. cc), times_written X n (λ x. cc) (λ x. cc) (λ x. cc) (λ x. cc)))
+    absurd (omega (arith, h.characters, ap (symbol_count A) e, ap (symbol_count X) e, times_written A n (λ x. cc) (λ x. cc) (λ x. cc) (λ x. cc), times_written X n (λ x. cc) (λ x. cc) (λ x. cc) (λ x. cc)))
 numeric_alone NumericEdited ps n is e h =
     let bad : Numeric ≡ NumericEdited = edited_alone Numeric ps h (n, is, e) in
     sym bad

@@ -7,7 +7,7 @@ use Rattle.cob_picture.specs.declared.symbol.Run.{Run}
 use Rattle.cob_picture.specs.declared.numeric.NumericParts.{NumericParts}
 use Rattle.cob_picture.specs.Numeric.{numeric_symbols, IsNumeric}
 use Rattle.cob_picture.specs.Positions.{written_out}
-use Rattle.cob_picture.specs.Runs.{ArePositive, NotFirst}
+use Rattle.cob_picture.specs.Runs.{ArePositive, NotFirstSymbol}
 
 pub record Fronts (runs : List Run) (s : Symbol) (count i : ℕ) : Type 0 where
   pub parts : written_out runs ≡ replicate count s ++ written_out (drop i runs)
@@ -30,19 +30,19 @@ fronts_step runs s count i d lt fits same f =
       bound = let b : count ≤ 65535 * i = f.bound in omega arith;
     }
 
-first_is : (n : ℕ) (t s : Symbol) (ps : List Symbol) → 0 < n → (t ≡ s → ⊥) → NotFirst s (replicate n t ++ ps)
+first_is : (n : ℕ) (t s : Symbol) (ps : List Symbol) → 0 < n → (t ≡ s → ⊥) → NotFirstSymbol s (replicate n t ++ ps)
 first_is zero t s ps pos ne = absurd (omega arith)
 first_is (suc n) t s ps pos ne = ne
 
-pub fronts_stop : (runs : List Run) (s : Symbol) (count i : ℕ) (d : Run) → i < length runs → ((get_or runs i d).symbol ≡ s → ⊥) → Fronts runs s count i → NotFirst s (written_out (drop i runs))
+pub fronts_stop : (runs : List Run) (s : Symbol) (count i : ℕ) (d : Run) → i < length runs → ((get_or runs i d).symbol ≡ s → ⊥) → Fronts runs s count i → NotFirstSymbol s (written_out (drop i runs))
 fronts_stop runs s count i d lt other f =
     let r = get_or runs i d in
     let cut : drop i runs ≡ r ∷ drop (i + 1) runs = drop_more runs i d lt in
     let positive : ArePositive (r ∷ drop (i + 1) runs) = subst ArePositive cut f.positive in
-    subst (λ (t : List Run). NotFirst s (written_out t)) (sym cut) (first_is r.count r.symbol s (written_out (drop (i + 1) runs)) positive.0 other)
+    subst (λ (t : List Run). NotFirstSymbol s (written_out t)) (sym cut) (first_is r.count r.symbol s (written_out (drop (i + 1) runs)) positive.0 other)
 
 -- where a symbol doesn't stand behind its repeats, they are as many as they are
-pub peel : (s : Symbol) (n m : ℕ) (x y : List Symbol) → NotFirst s x → NotFirst s y → replicate n s ++ x ≡ replicate m s ++ y → (n ≡ m) × (x ≡ y)
+pub peel : (s : Symbol) (n m : ℕ) (x y : List Symbol) → NotFirstSymbol s x → NotFirstSymbol s y → replicate n s ++ x ≡ replicate m s ++ y → (n ≡ m) × (x ≡ y)
 peel s zero zero x y p q e = (refl, e)
 peel s zero (suc m) [] y p q e = absurd cc
 peel s zero (suc m) (t ∷ x) y p q e = let same : t ≡ s = cc in absurd (p same)
@@ -53,19 +53,19 @@ peel s (suc n) (suc m) x y p q e =
     let r = peel s n m x y p q tails in
     (ap suc r.0, r.1)
 
-after_others : (n : ℕ) (t s : Symbol) (ps : List Symbol) → (t ≡ s → ⊥) → NotFirst s ps → NotFirst s (replicate n t ++ ps)
+after_others : (n : ℕ) (t s : Symbol) (ps : List Symbol) → (t ≡ s → ⊥) → NotFirstSymbol s ps → NotFirstSymbol s (replicate n t ++ ps)
 after_others zero t s ps ne h = h
 after_others (suc n) t s ps ne h = ne
 
 -- where no 9 stands, nothing stands behind
-nines_then : (n e f g : ℕ) (s : Symbol) → (Nine ≡ s → ⊥) → (n ≡ 0 → e + f ≡ 0) → (f ≡ 0 → g ≡ 0) → NotFirst s (replicate n Nine ++ (replicate e P ++ (replicate f V ++ replicate g Nine)))
+nines_then : (n e f g : ℕ) (s : Symbol) → (Nine ≡ s → ⊥) → (n ≡ 0 → e + f ≡ 0) → (f ≡ 0 → g ≡ 0) → NotFirstSymbol s (replicate n Nine ++ (replicate e P ++ (replicate f V ++ replicate g Nine)))
 nines_then (suc n) e f g s ne h k = ne
 nines_then zero zero zero zero s ne h k = tt
 nines_then zero zero zero (suc g) s ne h k = absurd (let z : suc g ≡ 0 = k refl in omega arith)
 nines_then zero (suc e) f g s ne h k = absurd (let z : suc e + f ≡ 0 = h refl in omega arith)
 nines_then zero zero (suc f) g s ne h k = absurd (let z : zero + suc f ≡ 0 = h refl in omega arith)
 
-only_others : (n : ℕ) (t s : Symbol) → (t ≡ s → ⊥) → NotFirst s (replicate n t)
+only_others : (n : ℕ) (t s : Symbol) → (t ≡ s → ⊥) → NotFirstSymbol s (replicate n t)
 only_others zero t s ne = tt
 only_others (suc n) t s ne = ne
 
@@ -84,13 +84,13 @@ pub record Peeled (ps : List Symbol) (n : NumericParts) (rest : List Symbol) : T
   pub right : p4 ≡ replicate n.right P ++ p5
   pub after : p5 ≡ replicate n.after V ++ p6
   pub fraction : p6 ≡ replicate n.fraction Nine ++ rest
-  pub not1 : NotFirst S p1
-  pub not2 : NotFirst V p2
-  pub not3 : NotFirst P p3
-  pub not4 : NotFirst Nine p4
-  pub not5 : NotFirst P p5
-  pub not6 : NotFirst V p6
-  pub not7 : NotFirst Nine rest
+  pub not1 : NotFirstSymbol S p1
+  pub not2 : NotFirstSymbol V p2
+  pub not3 : NotFirstSymbol P p3
+  pub not4 : NotFirstSymbol Nine p4
+  pub not5 : NotFirstSymbol P p5
+  pub not6 : NotFirstSymbol V p6
+  pub not7 : NotFirstSymbol Nine rest
 
 pub peeled_written : (ps : List Symbol) (n : NumericParts) → Peeled ps n [] → ps ≡ numeric_symbols n
 peeled_written ps n p =
@@ -98,7 +98,7 @@ peeled_written ps n p =
     (p.nines ∙ ap (λ (t : List Symbol). replicate n.nines Nine ++ t) (p.right ∙ ap (λ (t : List Symbol). replicate n.right P ++ t) (p.after ∙ ap (λ (t : List Symbol). replicate n.after V ++ t)
     (p.fraction ∙ append-nil (replicate n.fraction Nine)))))))
 
-not_nine : (e f g : ℕ) → (0 < e → g ≡ 0) → (f ≡ 0 → g ≡ 0) → NotFirst Nine (replicate e P ++ (replicate f V ++ replicate g Nine))
+not_nine : (e f g : ℕ) → (0 < e → g ≡ 0) → (f ≡ 0 → g ≡ 0) → NotFirstSymbol Nine (replicate e P ++ (replicate f V ++ replicate g Nine))
 not_nine (suc e) f g h k = λ e. cc
 not_nine zero (suc f) g h k = λ e. cc
 not_nine zero zero zero h k = tt
@@ -116,12 +116,12 @@ must ps n m rest p is e =
     let t3 = replicate m.nines Nine ++ t4 in
     let t2 = replicate m.left P ++ t3 in
     let t1 = replicate m.points V ++ t2 in
-    let n1 : NotFirst S t1 = after_others m.points V S t2 (λ h. cc) (after_others m.left P S t3 (λ h. cc) (nines_then m.nines m.right m.after m.fraction S (λ h. cc) is.digitless is.fraction)) in
-    let n2 : NotFirst V t2 = after_others m.left P V t3 (λ h. cc) (nines_then m.nines m.right m.after m.fraction V (λ h. cc) is.digitless is.fraction) in
-    let n3 : NotFirst P t3 = nines_then m.nines m.right m.after m.fraction P (λ h. cc) is.digitless is.fraction in
-    let n4 : NotFirst Nine t4 = not_nine m.right m.after m.fraction is.right is.fraction in
-    let n5 : NotFirst P t5 = after_others m.after V P t6 (λ h. cc) (only_others m.fraction Nine P (λ h. cc)) in
-    let n6 : NotFirst V t6 = only_others m.fraction Nine V (λ h. cc) in
+    let n1 : NotFirstSymbol S t1 = after_others m.points V S t2 (λ h. cc) (after_others m.left P S t3 (λ h. cc) (nines_then m.nines m.right m.after m.fraction S (λ h. cc) is.digitless is.fraction)) in
+    let n2 : NotFirstSymbol V t2 = after_others m.left P V t3 (λ h. cc) (nines_then m.nines m.right m.after m.fraction V (λ h. cc) is.digitless is.fraction) in
+    let n3 : NotFirstSymbol P t3 = nines_then m.nines m.right m.after m.fraction P (λ h. cc) is.digitless is.fraction in
+    let n4 : NotFirstSymbol Nine t4 = not_nine m.right m.after m.fraction is.right is.fraction in
+    let n5 : NotFirstSymbol P t5 = after_others m.after V P t6 (λ h. cc) (only_others m.fraction Nine P (λ h. cc)) in
+    let n6 : NotFirstSymbol V t6 = only_others m.fraction Nine V (λ h. cc) in
     let e1 = peel S n.signs m.signs p.p1 t1 p.not1 n1 (sym p.signs ∙ e) in
     let e2 = peel V n.points m.points p.p2 t2 p.not2 n2 (sym p.points ∙ e1.1) in
     let e3 = peel P n.left m.left p.p3 t3 p.not3 n3 (sym p.left ∙ e2.1) in

@@ -13,10 +13,10 @@ use Rattle.cob_picture.specs.declared.position.Role.{Role}
 use Rattle.cob_picture.specs.declared.position.Role.TheVariants.{Digit, Character}
 use Rattle.cob_picture.specs.declared.category.Category.{Category}
 use Rattle.cob_picture.specs.declared.category.Category.TheVariants.{Alphabetic, Numeric, Alphanumeric, AlphanumericEdited, NumericEdited}
-use Rattle.cob_picture.specs.Positions.{is, times, written_out, shows_number, is_edited, settled_role, floating, is_that, role_at, position_at, placed, positions}
+use Rattle.cob_picture.specs.Positions.{is, symbol_count, written_out, shows_number, is_edited, settled_role, floating, is_that, role_at, position_at, positions_from, positions}
 use Rattle.cob_picture.specs.Runs.{ArePositive}
-use Rattle.cob_picture.specs.Counts.{is_digit_place, width, size, digits, is_scaling, decimal_places, is_point, point_leads, before_point, after_point, whole_part, fraction_part, is_sign_symbol, signed}
-use Rattle.cob_picture.specs.Measures.{AreCountsOf, run_leads, symbols_size}
+use Rattle.cob_picture.specs.Counts.{is_digit_place, width, size, digits, is_scaling, decimal_places, is_decimal_point, point_leads, before_point, after_point, left_of_point, right_of_point, is_sign_symbol, signed}
+use Rattle.cob_picture.specs.Measures.{AreCountsOver, run_leads, symbols_size}
 use Rattle.cob_picture.specs.Categories.{IsOf}
 use Rattle.cob_picture.specs.Pictures.{IsPicture}
 use Rattle.cob_picture.specs.Laws.{TakesBytes}
@@ -27,7 +27,7 @@ use Rattle.cob_picture.proofs.Placed.{one_if, seen_after, seen_runs, placed-appe
 -- ---- pictures that show no number
 
 abbrev sixth : List Symbol → ℕ
-sixth xs = times A xs + times X xs + times Nine xs + times B xs + times Zero xs + times Slash xs
+sixth xs = symbol_count A xs + symbol_count X xs + symbol_count Nine xs + symbol_count B xs + symbol_count Zero xs + symbol_count Slash xs
 
 sixth-cons : (s : Symbol) (xs : List Symbol) → sixth (s ∷ xs) ≡ one_if (is_plain s) + sixth xs
 sixth-cons A xs = omega arith
@@ -158,13 +158,13 @@ plain_scaling Minus p = absurd cc
 plain_scaling Credit p = absurd cc
 plain_scaling Debit p = absurd cc
 
-plain_digits : (c : Category) (q : Option Symbol) (seen : Bool) (xs : List Symbol) → MayFloat q → shows_number c ≡ false → ArePlain xs → digits (placed c q seen xs) ≡ 0
+plain_digits : (c : Category) (q : Option Symbol) (seen : Bool) (xs : List Symbol) → MayFloat q → shows_number c ≡ false → ArePlain xs → digits (positions_from c q seen xs) ≡ 0
 plain_digits c q seen [] may e all = refl
 plain_digits c q seen (s ∷ xs) may e all =
     let here : one_if (is_digit_place (role_at c (is_that q s) seen s)) ≡ 0 = ap (λ (f : Bool). one_if (is_digit_place (role_at c f seen s))) (may.not_plain s all.0) ∙ ap one_if (settled_plain c s e all.0) in
-    omega (arith, digits-cons (position_at c q seen s) (placed c q (seen || is_that q s) xs), here, plain_digits c q (seen || is_that q s) xs may e all.1)
+    omega (arith, digits-cons (position_at c q seen s) (positions_from c q (seen || is_that q s) xs), here, plain_digits c q (seen || is_that q s) xs may e all.1)
 
-plain_times : (xs : List Symbol) → ArePlain xs → times P xs ≡ 0
+plain_times : (xs : List Symbol) → ArePlain xs → symbol_count P xs ≡ 0
 plain_times [] all = refl
 plain_times (s ∷ xs) all = let none : one_if (is P s) ≡ 0 = ap one_if (plain_scaling s all.0) in omega (arith, none, plain_times xs all.1)
 
@@ -225,17 +225,17 @@ digit_wide c q seen s may = at (is_that q s) refl
     at true e = omega (arith, one_le (is_digit_place (role_at c (is_that q s) seen s)), may.wide s e)
     at false e = subst (λ (f : Bool). one_if (is_digit_place (role_at c f seen s)) ≤ width s) (sym e) (settled_wide c s)
 
-digits_le_size : (c : Category) (q : Option Symbol) (seen : Bool) (xs : List Symbol) → MayFloat q → digits (placed c q seen xs) ≤ symbols_size xs
+digits_le_size : (c : Category) (q : Option Symbol) (seen : Bool) (xs : List Symbol) → MayFloat q → digits (positions_from c q seen xs) ≤ symbols_size xs
 digits_le_size c q seen [] may = omega arith
-digits_le_size c q seen (s ∷ xs) may = omega (arith, digits-cons (position_at c q seen s) (placed c q (seen || is_that q s) xs), digit_wide c q seen s may, digits_le_size c q (seen || is_that q s) xs may)
+digits_le_size c q seen (s ∷ xs) may = omega (arith, digits-cons (position_at c q seen s) (positions_from c q (seen || is_that q s) xs), digit_wide c q seen s may, digits_le_size c q (seen || is_that q s) xs may)
 
 -- ---- parts hold no more than the whole
 
 after_le : (ps : List Position) → decimal_places (after_point ps) ≤ decimal_places ps
 after_le [] = omega arith
-after_le (p ∷ ps) = at (is_point p.symbol) refl (after_le ps)
+after_le (p ∷ ps) = at (is_decimal_point p.symbol) refl (after_le ps)
   where
-    at : (b : Bool) → is_point p.symbol ≡ b → decimal_places (after_point ps) ≤ decimal_places ps → decimal_places (after_point (p ∷ ps)) ≤ decimal_places (p ∷ ps)
+    at : (b : Bool) → is_decimal_point p.symbol ≡ b → decimal_places (after_point ps) ≤ decimal_places ps → decimal_places (after_point (p ∷ ps)) ≤ decimal_places (p ∷ ps)
     at true e h = let x : decimal_places (after_point (p ∷ ps)) ≡ decimal_places ps = ap (λ (b : Bool). decimal_places (if b then ps else after_point ps)) e in omega (arith, decimal-cons p ps)
     at false e h = let x : decimal_places (after_point (p ∷ ps)) ≡ decimal_places (after_point ps) = ap (λ (b : Bool). decimal_places (if b then ps else after_point ps)) e in omega (arith, decimal-cons p ps)
 
@@ -247,20 +247,20 @@ scaling-cons p ps = sum_by-cons (λ (p : Position). cond (is_scaling p) 1 0) p p
 
 before_le : (ps : List Position) → scaling_count (before_point ps) ≤ scaling_count ps
 before_le [] = omega arith
-before_le (p ∷ ps) = at (is_point p.symbol) refl (before_le ps)
+before_le (p ∷ ps) = at (is_decimal_point p.symbol) refl (before_le ps)
   where
-    at : (b : Bool) → is_point p.symbol ≡ b → scaling_count (before_point ps) ≤ scaling_count ps → scaling_count (before_point (p ∷ ps)) ≤ scaling_count (p ∷ ps)
+    at : (b : Bool) → is_decimal_point p.symbol ≡ b → scaling_count (before_point ps) ≤ scaling_count ps → scaling_count (before_point (p ∷ ps)) ≤ scaling_count (p ∷ ps)
     at true e h = let x : scaling_count (before_point (p ∷ ps)) ≡ 0 = ap (λ (b : Bool). scaling_count (if b then [] else p ∷ before_point ps)) e in omega arith
     at false e h = let x : scaling_count (before_point (p ∷ ps)) ≡ scaling_count (p ∷ before_point ps) = ap (λ (b : Bool). scaling_count (if b then [] else p ∷ before_point ps)) e in omega (arith, scaling-cons p ps, scaling-cons p (before_point ps))
 
-fraction_le : (ps : List Position) → decimal_places (fraction_part ps) ≤ decimal_places ps
+fraction_le : (ps : List Position) → decimal_places (right_of_point ps) ≤ decimal_places ps
 fraction_le ps = at (point_leads ps)
   where
     at : (b : Bool) → decimal_places (if b then ps else after_point ps) ≤ decimal_places ps
     at true = omega arith
     at false = after_le ps
 
-missing_le : (ps : List Position) → scaling_count (whole_part ps) ≤ scaling_count ps
+missing_le : (ps : List Position) → scaling_count (left_of_point ps) ≤ scaling_count ps
 missing_le ps = at (point_leads ps)
   where
     at : (b : Bool) → scaling_count (if b then [] else before_point ps) ≤ scaling_count ps
@@ -271,8 +271,8 @@ missing_le ps = at (point_leads ps)
 
 pub record IsBounded (c : Category) (ps : List Position) : Type 0 where
   pub few_digits : digits ps ≤ 31
-  pub fraction : decimal_places (fraction_part ps) ≤ 31
-  pub missing : count_by is_scaling (whole_part ps) ≤ 30
+  pub fraction : decimal_places (right_of_point ps) ≤ 31
+  pub missing : count_by is_scaling (left_of_point ps) ≤ 30
   pub some : 0 < size ps
   pub fits : size ps ≤ 32752
 
@@ -285,10 +285,10 @@ bounded c xs p = at (shows_number c) refl
     may : MayFloat (floating xs)
     may = floating_may xs
 
-    all : decimal_places ps ≡ digits ps + times P xs
+    all : decimal_places ps ≡ digits ps + symbol_count P xs
     all = decimal-placed c (floating xs) false xs may.no_scaling
 
-    scaling : scaling_count ps ≡ times P xs
+    scaling : scaling_count ps ≡ symbol_count P xs
     scaling = scaling-placed c (floating xs) false xs
 
     bytes : size ps ≡ symbols_size xs
@@ -315,7 +315,7 @@ bounded c xs p = at (shows_number c) refl
           fits = p.limits.fits;
         }
 
-pub scale_none : (c : Category) (xs : List Symbol) → shows_number c ≡ false → IsPicture c xs → (decimal_places (fraction_part (positions c xs)) ≡ 0) × (count_by is_scaling (whole_part (positions c xs)) ≡ 0)
+pub scale_none : (c : Category) (xs : List Symbol) → shows_number c ≡ false → IsPicture c xs → (decimal_places (right_of_point (positions c xs)) ≡ 0) × (count_by is_scaling (left_of_point (positions c xs)) ≡ 0)
 scale_none c xs e p =
     let none = shows_none c xs e p.order in
     let ps = positions c xs in
@@ -324,29 +324,29 @@ scale_none c xs e p =
 
 -- ---- no symbol stands there more often than a picture has bytes, but S, V and P
 
-times_le : (s : Symbol) (xs : List Symbol) → 0 < width s → times s xs ≤ symbols_size xs
+times_le : (s : Symbol) (xs : List Symbol) → 0 < width s → symbol_count s xs ≤ symbols_size xs
 times_le s [] lt = omega arith
 times_le s (t ∷ xs) lt = at (is s t) refl (times_le s xs lt)
   where
-    at : (b : Bool) → is s t ≡ b → times s xs ≤ symbols_size xs → times s (t ∷ xs) ≤ symbols_size (t ∷ xs)
+    at : (b : Bool) → is s t ≡ b → symbol_count s xs ≤ symbols_size xs → symbol_count s (t ∷ xs) ≤ symbols_size (t ∷ xs)
     at true e h = let x : one_if (is s t) ≡ 1 = ap one_if e in let w : width t ≡ width s = ap width (is_true s t e) in omega (arith, x, w)
     at false e h = let x : one_if (is s t) ≡ 0 = ap one_if e in omega (arith, x)
 
-plain_times_of : (s : Symbol) (xs : List Symbol) → is_plain s ≡ false → ArePlain xs → times s xs ≡ 0
+plain_times_of : (s : Symbol) (xs : List Symbol) → is_plain s ≡ false → ArePlain xs → symbol_count s xs ≡ 0
 plain_times_of s [] n all = refl
 plain_times_of s (t ∷ xs) n all =
     let other : is s t ≡ false = is_other s t (λ e. let x : true ≡ false = sym all.0 ∙ ap is_plain e ∙ n in cc) in
     let none : one_if (is s t) ≡ 0 = ap one_if other in
     omega (arith, none, plain_times_of s xs n all.1)
 
-pub once_at_most : (c : Category) (xs : List Symbol) → IsOf c xs → (times S xs ≤ 1) × (times V xs ≤ 1)
-once_at_most Numeric xs (n, is_one, e) = (omega (arith, ap (times S) e, signs_written n, is_one.signs), omega (arith, ap (times V) e, points_written n, is_one.points))
+pub once_at_most : (c : Category) (xs : List Symbol) → IsOf c xs → (symbol_count S xs ≤ 1) × (symbol_count V xs ≤ 1)
+once_at_most Numeric xs (n, is_one, e) = (omega (arith, ap (symbol_count S) e, signs_written n, is_one.signs), omega (arith, ap (symbol_count V) e, points_written n, is_one.points))
 once_at_most Alphabetic xs o = let all = are_plain Alphabetic xs refl o in (omega (arith, plain_times_of S xs refl all.0), omega (arith, plain_times_of V xs refl all.0))
 once_at_most Alphanumeric xs o = let all = are_plain Alphanumeric xs refl o in (omega (arith, plain_times_of S xs refl all.0), omega (arith, plain_times_of V xs refl all.0))
 once_at_most AlphanumericEdited xs o = let all = are_plain AlphanumericEdited xs refl o in (omega (arith, plain_times_of S xs refl all.0), omega (arith, plain_times_of V xs refl all.0))
 once_at_most NumericEdited xs o = let n = edited_none xs o in (omega (arith, n.no_s), n.one_v)
 
-pub times_fit : (c : Category) (xs : List Symbol) → IsPicture c xs → (s : Symbol) → times s xs ≤ 32752
+pub times_fit : (c : Category) (xs : List Symbol) → IsPicture c xs → (s : Symbol) → symbol_count s xs ≤ 32752
 times_fit c xs p A = omega (arith, times_le A xs (omega arith), size-placed c (floating xs) false xs, p.limits.fits)
 times_fit c xs p X = omega (arith, times_le X xs (omega arith), size-placed c (floating xs) false xs, p.limits.fits)
 times_fit c xs p Nine = omega (arith, times_le Nine xs (omega arith), size-placed c (floating xs) false xs, p.limits.fits)
@@ -374,20 +374,20 @@ positive_take (suc k) [] pos = tt
 positive_take (suc k) (r ∷ runs) pos = (pos.0, positive_take k runs pos.1)
 
 pub counts_are : (c : Category) (runs : List Run) (k before behind missing added bytes : ℕ) (sign : Bool) → ArePositive runs
-    → k ≡ (if run_leads runs then 0 else position_or_len (λ r. is_point r.symbol) runs)
-    → before ≡ digits (placed c (floating (written_out runs)) false (written_out (take k runs)))
-    → behind ≡ digits (placed c (floating (written_out runs)) (list_any (λ r. is_that (floating (written_out runs)) r.symbol) (take k runs)) (written_out (drop k runs)))
-    → missing ≡ times P (written_out (take k runs)) → added ≡ times P (written_out (drop k runs)) → bytes ≡ symbols_size (written_out runs)
+    → k ≡ (if run_leads runs then 0 else position_or_len (λ r. is_decimal_point r.symbol) runs)
+    → before ≡ digits (positions_from c (floating (written_out runs)) false (written_out (take k runs)))
+    → behind ≡ digits (positions_from c (floating (written_out runs)) (list_any (λ r. is_that (floating (written_out runs)) r.symbol) (take k runs)) (written_out (drop k runs)))
+    → missing ≡ symbol_count P (written_out (take k runs)) → added ≡ symbol_count P (written_out (drop k runs)) → bytes ≡ symbols_size (written_out runs)
     → sign ≡ list_any (λ r. is_sign_symbol r.symbol) runs
-    → AreCountsOf (positions c (written_out runs)) record { digits = before + behind; decimal_places = before + behind + missing + added; fraction = behind + added; missing = missing; size = bytes; signed = sign }
+    → AreCountsOver (positions c (written_out runs)) record { digits = before + behind; decimal_places = before + behind + missing + added; fraction = behind + added; missing = missing; size = bytes; signed = sign }
 counts_are c runs k before behind missing added bytes sign pos here eb ef em ea es eg =
     let may = floating_may xs in
     let joined : xs ≡ wx ++ fx = ap written_out (sym (take-append-drop k runs)) ∙ flat_map-append (λ (r : Run). replicate r.count r.symbol) (take k runs) (drop k runs) in
     let seen : seen_after q false wx ≡ found = seen_runs q false (take k runs) (positive_take k runs pos) in
-    let cut : placed c q false xs ≡ placed c q false wx ++ placed c q found fx =
-    ap (placed c q false) joined ∙ placed-append c q false wx fx ∙ ap (λ (b : Bool). placed c q false wx ++ placed c q b fx) seen in
-    let kept : digits (placed c q false xs) ≡ before + behind = ap digits cut ∙ digits-append (placed c q false wx) (placed c q found fx) ∙ (let x : digits (placed c q false wx) + digits (placed c q found fx) ≡ before + behind = omega (arith, eb, ef) in x) in
-    let scaling : times P xs ≡ missing + added = ap (times P) joined ∙ times-append P wx fx ∙ (let x : times P wx + times P fx ≡ missing + added = omega (arith, em, ea) in x) in
+    let cut : positions_from c q false xs ≡ positions_from c q false wx ++ positions_from c q found fx =
+    ap (positions_from c q false) joined ∙ placed-append c q false wx fx ∙ ap (λ (b : Bool). positions_from c q false wx ++ positions_from c q b fx) seen in
+    let kept : digits (positions_from c q false xs) ≡ before + behind = ap digits cut ∙ digits-append (positions_from c q false wx) (positions_from c q found fx) ∙ (let x : digits (positions_from c q false wx) + digits (positions_from c q found fx) ≡ before + behind = omega (arith, eb, ef) in x) in
+    let scaling : symbol_count P xs ≡ missing + added = ap (symbol_count P) joined ∙ times-append P wx fx ∙ (let x : symbol_count P wx + symbol_count P fx ≡ missing + added = omega (arith, em, ea) in x) in
     let right = decimal-placed c q found fx may.no_scaling in
     let sides = at_point (run_leads runs) refl seen in
     record {
@@ -415,29 +415,29 @@ counts_are c runs k before behind missing added bytes sign pos here eb ef em ea 
     found = list_any (λ (r : Run). is_that q r.symbol) (take k runs)
 
     ps : List Position
-    ps = placed c q false xs
+    ps = positions_from c q false xs
 
-    at_point : (b : Bool) → run_leads runs ≡ b → seen_after q false wx ≡ found → (decimal_places (fraction_part ps) ≡ decimal_places (placed c q found fx)) × (count_by is_scaling (whole_part ps) ≡ times P wx)
+    at_point : (b : Bool) → run_leads runs ≡ b → seen_after q false wx ≡ found → (decimal_places (right_of_point ps) ≡ decimal_places (positions_from c q found fx)) × (count_by is_scaling (left_of_point ps) ≡ symbol_count P wx)
     at_point true e seen =
-        let zero_runs : k ≡ 0 = here ∙ ap (λ (b : Bool). (if b then 0 else position_or_len (λ (r : Run). is_point r.symbol) runs)) e in
+        let zero_runs : k ≡ 0 = here ∙ ap (λ (b : Bool). (if b then 0 else position_or_len (λ (r : Run). is_decimal_point r.symbol) runs)) e in
         let leads : point_leads ps ≡ true = leads_runs c q false runs pos ∙ e in
         let none : take k runs ≡ [] = ap (λ (n : ℕ). take n runs) zero_runs in
         let all : drop k runs ≡ runs = ap (λ (n : ℕ). drop n runs) zero_runs in
         let no_seen : found ≡ false = ap (list_any (λ (r : Run). is_that q r.symbol)) none in (
-          ap (λ (b : Bool). decimal_places (if b then ps else after_point ps)) leads ∙ ap (λ (t : List Run). decimal_places (placed c q false (written_out t))) (sym all) ∙ ap (λ (b : Bool). decimal_places (placed c q b fx)) (sym no_seen),
-          ap (λ (b : Bool). scaling_count (if b then [] else before_point ps)) leads ∙ ap (λ (t : List Run). times P (written_out t)) (sym none),
+          ap (λ (b : Bool). decimal_places (if b then ps else after_point ps)) leads ∙ ap (λ (t : List Run). decimal_places (positions_from c q false (written_out t))) (sym all) ∙ ap (λ (b : Bool). decimal_places (positions_from c q b fx)) (sym no_seen),
+          ap (λ (b : Bool). scaling_count (if b then [] else before_point ps)) leads ∙ ap (λ (t : List Run). symbol_count P (written_out t)) (sym none),
         )
     at_point false e seen =
-        let place : k ≡ position_or_len (λ r. is_point r.symbol) runs = here ∙ ap (λ (b : Bool). (if b then 0 else position_or_len (λ (r : Run). is_point r.symbol) runs)) e in
+        let place : k ≡ position_or_len (λ r. is_decimal_point r.symbol) runs = here ∙ ap (λ (b : Bool). (if b then 0 else position_or_len (λ (r : Run). is_decimal_point r.symbol) runs)) e in
         let leads : point_leads ps ≡ false = leads_runs c q false runs pos ∙ e in
         let two = subst (IsParted c q false runs) (sym place) (parted c q false runs (floating_may xs) pos) in (
-          ap (λ (b : Bool). decimal_places (if b then ps else after_point ps)) leads ∙ two.after ∙ ap (λ (b : Bool). decimal_places (placed c q b fx)) seen,
+          ap (λ (b : Bool). decimal_places (if b then ps else after_point ps)) leads ∙ two.after ∙ ap (λ (b : Bool). decimal_places (positions_from c q b fx)) seen,
           ap (λ (b : Bool). scaling_count (if b then [] else before_point ps)) leads ∙ ap scaling_count two.before ∙ scaling-placed c q false wx,
         )
 
 -- ---- how many positions a picture of a number has
 
-length_size : (xs : List Symbol) → length xs ≤ symbols_size xs + times S xs + times V xs + times P xs
+length_size : (xs : List Symbol) → length xs ≤ symbols_size xs + symbol_count S xs + symbol_count V xs + symbol_count P xs
 length_size [] = omega arith
 length_size (s ∷ xs) = omega (arith, one_wide s, length_size xs)
   where
@@ -461,14 +461,14 @@ length_size (s ∷ xs) = omega (arith, one_wide s, length_size xs)
     one_wide Credit = omega arith
     one_wide Debit = omega arith
 
-nines_le : (c : Category) (q : Option Symbol) (seen : Bool) (xs : List Symbol) → shows_number c ≡ true → MayFloat q → times Nine xs ≤ digits (placed c q seen xs)
+nines_le : (c : Category) (q : Option Symbol) (seen : Bool) (xs : List Symbol) → shows_number c ≡ true → MayFloat q → symbol_count Nine xs ≤ digits (positions_from c q seen xs)
 nines_le c q seen [] e may = omega arith
 nines_le c q seen (s ∷ xs) e may = at (is Nine s) refl (nines_le c q (seen || is_that q s) xs e may)
   where
     ps : List Position
-    ps = placed c q (seen || is_that q s) xs
+    ps = positions_from c q (seen || is_that q s) xs
 
-    at : (b : Bool) → is Nine s ≡ b → times Nine xs ≤ digits ps → times Nine (s ∷ xs) ≤ digits (placed c q seen (s ∷ xs))
+    at : (b : Bool) → is Nine s ≡ b → symbol_count Nine xs ≤ digits ps → symbol_count Nine (s ∷ xs) ≤ digits (positions_from c q seen (s ∷ xs))
     at true h more =
         let nine : s ≡ Nine = is_true Nine s h in
         let settled : is_that q s ≡ false = ap (is_that q) nine ∙ may.not_plain Nine refl in
@@ -484,7 +484,7 @@ few_numeric xs p =
     let n = (p.order).0 in
     let is_one = (p.order).1 in
     let w = (p.order).2 in
-    omega (arith, ap (length {A = Symbol}) w, length_written n, ap (times Nine) w, digits_written n, ap (times P) w, scaling_written n, is_one.signs, is_one.points, nines_le Numeric (floating xs) false xs refl (floating_may xs), decimal-placed Numeric (floating xs) false xs (floating_may xs).no_scaling, p.limits.few_digits)
+    omega (arith, ap (length {A = Symbol}) w, length_written n, ap (symbol_count Nine) w, digits_written n, ap (symbol_count P) w, scaling_written n, is_one.signs, is_one.points, nines_le Numeric (floating xs) false xs refl (floating_may xs), decimal-placed Numeric (floating xs) false xs (floating_may xs).no_scaling, p.limits.few_digits)
 
 -- each symbol of a picture that shows no number takes one byte
 pub one_byte_each : (c : Category) (xs : List Symbol) → shows_number c ≡ false → IsOf c xs → size (positions c xs) ≡ length xs

@@ -12,11 +12,11 @@ use Rattle.cob_picture.specs.declared.edited.Part.{Part}
 use Rattle.cob_picture.specs.declared.edited.Part.TheVariants.{Lead, Currency, Front, Whole, PointPart, Fraction, Trail}
 use Rattle.cob_picture.specs.declared.symbol.Symbol.TheVariants.{Nine, V}
 use Rattle.cob_picture.specs.declared.edited.EditedCounts.{EditedCounts}
-use Rattle.cob_picture.specs.Positions.{written_out, times}
+use Rattle.cob_picture.specs.Positions.{written_out, symbol_count}
 use Rattle.cob_picture.specs.Runs.{ArePositive}
-use Rattle.cob_picture.specs.Edited.{kind_of, belongs, AreOf, Stops, Edited, edited_symbols, HasKinds, counts_in, AreAllowed, run_symbol, IsNumericEdited, ends_in_mark}
+use Rattle.cob_picture.specs.Edited.{symbol_kind, belongs, AreOf, Stops, Edited, edited_symbols, HasKinds, counts_in, AreAllowed, run_symbol, IsNumericEdited, ends_in_mark}
 use Rattle.cob_picture.proofs.Times.{one_more}
-use Rattle.cob_picture.specs.Parted.{IsSplit, edited_of, AreShort}
+use Rattle.cob_picture.specs.Parted.{IsSplit, edited_of, HaveFewRuns}
 
 -- ---- which kinds stand in one part and not in another
 
@@ -106,11 +106,11 @@ fraction_trail k h = absurd cc
 -- ---- cuts
 
 abbrev pub AreNot : Part → Option Symbol → List Symbol → Type 0
-AreNot part q symbols = AllByRecursion (λ s. belongs part (kind_of q s) ≡ false) symbols
+AreNot part q symbols = AllByRecursion (λ s. belongs part (symbol_kind q s) ≡ false) symbols
 
 not_of : (f g : Part) (q : Option Symbol) → ((k : Kind) → belongs g k ≡ true → belongs f k ≡ false) → (xs : List Symbol) → AreOf g q xs → AreNot f q xs
 not_of f g q apart [] all = tt
-not_of f g q apart (s ∷ xs) all = (apart (kind_of q s) all.0, not_of f g q apart xs all.1)
+not_of f g q apart (s ∷ xs) all = (apart (symbol_kind q s) all.0, not_of f g q apart xs all.1)
 
 stops_or : (f : Part) (q : Option Symbol) (a x : List Symbol) → AreNot f q a → (length a ≡ 0 → Stops f q x) → Stops f q (a ++ x)
 stops_or f q [] x all h = h refl
@@ -132,9 +132,9 @@ stops_front : (f : Part) (q : Option Symbol) (a x : List Symbol) → Stops f q (
 stops_front f q [] x h = tt
 stops_front f q (s ∷ a) x h = h
 
-no_sign_trails : (q : Option Symbol) (trail : List Symbol) → list_any (λ s. belongs Lead (kind_of q s)) trail ≡ false → Stops Lead q trail
+no_sign_trails : (q : Option Symbol) (trail : List Symbol) → list_any (λ s. belongs Lead (symbol_kind q s)) trail ≡ false → Stops Lead q trail
 no_sign_trails q [] e = tt
-no_sign_trails q (s ∷ trail) e = first (belongs Lead (kind_of q s)) (list_any (λ s. belongs Lead (kind_of q s)) trail) e
+no_sign_trails q (s ∷ trail) e = first (belongs Lead (symbol_kind q s)) (list_any (λ s. belongs Lead (symbol_kind q s)) trail) e
   where
     first : (a b : Bool) → (a || b) ≡ false → a ≡ false
     first true b h = absurd cc
@@ -149,14 +149,14 @@ same_span f q [] x [] y pa nx pb ny e = (refl, e)
 same_span f q [] [] (t ∷ b) y pa nx pb ny e = absurd cc
 same_span f q [] (s ∷ x) (t ∷ b) y pa nx pb ny e =
     let heads : s ≡ t = cc in
-    let no : belongs f (kind_of q t) ≡ false = subst (λ (s : Symbol). belongs f (kind_of q s) ≡ false) heads nx in
-    let yes : belongs f (kind_of q t) ≡ true = pb.0 in
+    let no : belongs f (symbol_kind q t) ≡ false = subst (λ (s : Symbol). belongs f (symbol_kind q s) ≡ false) heads nx in
+    let yes : belongs f (symbol_kind q t) ≡ true = pb.0 in
     absurd cc
 same_span f q (s ∷ a) x [] [] pa nx pb ny e = absurd cc
 same_span f q (s ∷ a) x [] (t ∷ y) pa nx pb ny e =
     let heads : s ≡ t = cc in
-    let yes : belongs f (kind_of q t) ≡ true = subst (λ (s : Symbol). belongs f (kind_of q s) ≡ true) heads pa.0 in
-    let no : belongs f (kind_of q t) ≡ false = ny in
+    let yes : belongs f (symbol_kind q t) ≡ true = subst (λ (s : Symbol). belongs f (symbol_kind q s) ≡ true) heads pa.0 in
+    let no : belongs f (symbol_kind q t) ≡ false = ny in
     absurd cc
 same_span f q (s ∷ a) x (t ∷ b) y pa nx pb ny e =
     let tails : a ++ x ≡ b ++ y = cc in
@@ -187,7 +187,7 @@ one_split q xs lead currency front whole point fraction trail rest e s k n is =
     stops_or Lead q e.whole t5 (not_of Lead Whole q lead_whole e.whole k.whole) (λ z4.
     stops_or Lead q e.point t6 (not_of Lead PointPart q lead_point e.point k.point) (λ z5.
     stops_or Lead q e.fraction e.trail (not_of Lead Fraction q lead_fraction e.fraction k.fraction) (λ z6.
-    no_sign_trails q e.trail (is_not (list_any (λ s. belongs Lead (kind_of q s)) e.trail) (length e.currency + (length e.front + (length e.whole + length e.point))) n.lone_sign (omega arith))))))) in
+    no_sign_trails q e.trail (is_not (list_any (λ s. belongs Lead (symbol_kind q s)) e.trail) (length e.currency + (length e.front + (length e.whole + length e.point))) n.lone_sign (omega arith))))))) in
     let n2 : Stops Currency q t3 =
     stops_or Currency q e.front t4 (not_of Currency Front q currency_front e.front k.front) (λ z3.
     stops_or Currency q e.whole t5 (not_of Currency Whole q currency_whole e.whole k.whole) (λ z4.
@@ -239,7 +239,7 @@ split_written q xs lead currency front whole point fraction trail rest s none =
     (s.p7.parts ∙ ap (λ (t : List Symbol). written_out trail ++ t) none ∙ append-nil (written_out trail)))))))
 
 pub split_short : (q : Option Symbol) (xs : List Symbol) (lead currency front whole point fraction trail rest : List Run) → IsSplit q xs lead currency front whole point fraction trail rest
-    → AreShort lead currency front whole point fraction trail
+    → HaveFewRuns lead currency front whole point fraction trail
 split_short q xs lead currency front whole point fraction trail rest s = record {
   r1 = (s.p1.short, s.p1.positive);
   r2 = (s.p2.short, s.p2.positive);
@@ -252,7 +252,7 @@ split_short q xs lead currency front whole point fraction trail rest s = record 
 
 -- what the tests over runs decide
 pub edited_yes : (xs : List Symbol) (q : Option Symbol) (lead currency front whole point fraction trail rest : List Run) → q ≡ run_symbol xs → IsSplit q xs lead currency front whole point fraction trail rest → written_out rest ≡ []
-    → AreAllowed q (counts_in q (edited_of lead currency front whole point fraction trail)) → IsFalse (ends_in_mark xs) → times Nine xs + times V xs < length xs → IsNumericEdited xs
+    → AreAllowed q (counts_in q (edited_of lead currency front whole point fraction trail)) → IsFalse (ends_in_mark xs) → symbol_count Nine xs + symbol_count V xs < length xs → IsNumericEdited xs
 edited_yes xs q lead currency front whole point fraction trail rest e s none allowed ending more = record {
   parts = edited_of lead currency front whole point fraction trail;
   written = split_written q xs lead currency front whole point fraction trail rest s none;
@@ -283,11 +283,11 @@ AreOf-append : (f : Part) (q : Option Symbol) (a b : List Symbol) → AreOf f q 
 AreOf-append f q [] b pa pb = pb
 AreOf-append f q (s ∷ a) b pa pb = (pa.0, AreOf-append f q a b pa.1 pb)
 
-AreOf-replicate : (f : Part) (q : Option Symbol) (n : ℕ) (s : Symbol) → belongs f (kind_of q s) ≡ true → AreOf f q (replicate n s)
+AreOf-replicate : (f : Part) (q : Option Symbol) (n : ℕ) (s : Symbol) → belongs f (symbol_kind q s) ≡ true → AreOf f q (replicate n s)
 AreOf-replicate f q zero s e = tt
 AreOf-replicate f q (suc n) s e = (e, AreOf-replicate f q n s e)
 
-pub are_more : (f : Part) (q : Option Symbol) (runs : List Run) (i : ℕ) (d : Run) → i < length runs → belongs f (kind_of q (get_or runs i d).symbol) ≡ true → AreOf f q (written_out (take i runs)) → AreOf f q (written_out (take (i + 1) runs))
+pub are_more : (f : Part) (q : Option Symbol) (runs : List Run) (i : ℕ) (d : Run) → i < length runs → belongs f (symbol_kind q (get_or runs i d).symbol) ≡ true → AreOf f q (written_out (take i runs)) → AreOf f q (written_out (take (i + 1) runs))
 are_more f q runs i d lt e all =
     let r = get_or runs i d in
     subst (AreOf f q) (sym (one_more runs i d lt)) (AreOf-append f q (written_out (take i runs)) (replicate r.count r.symbol) all (AreOf-replicate f q r.count r.symbol e))
@@ -297,11 +297,11 @@ positive_drop zero runs pos = pos
 positive_drop (suc i) [] pos = tt
 positive_drop (suc i) (r ∷ runs) pos = positive_drop i runs pos.1
 
-stops_first : (f : Part) (q : Option Symbol) (n : ℕ) (s : Symbol) (x : List Symbol) → 0 < n → belongs f (kind_of q s) ≡ false → Stops f q (replicate n s ++ x)
+stops_first : (f : Part) (q : Option Symbol) (n : ℕ) (s : Symbol) (x : List Symbol) → 0 < n → belongs f (symbol_kind q s) ≡ false → Stops f q (replicate n s ++ x)
 stops_first f q zero s x lt e = absurd (omega arith)
 stops_first f q (suc n) s x lt e = e
 
-pub stops_at : (f : Part) (q : Option Symbol) (runs : List Run) (i : ℕ) (d : Run) → i < length runs → ArePositive runs → belongs f (kind_of q (get_or runs i d).symbol) ≡ false → Stops f q (written_out (drop i runs))
+pub stops_at : (f : Part) (q : Option Symbol) (runs : List Run) (i : ℕ) (d : Run) → i < length runs → ArePositive runs → belongs f (symbol_kind q (get_or runs i d).symbol) ≡ false → Stops f q (written_out (drop i runs))
 stops_at f q runs i d lt pos e =
     let r = get_or runs i d in
     let cut : drop i runs ≡ r ∷ drop (i + 1) runs = drop_more runs i d lt in

@@ -10,9 +10,9 @@ use Rattle.cob_picture.specs.declared.position.Role.TheVariants.{FirstFloating}
 use Rattle.cob_picture.specs.declared.edited.Kind.TheVariants.{OfRun, OfPoint, OfNone}
 use Rattle.cob_picture.specs.declared.edited.Part.{Part}
 use Rattle.cob_picture.specs.declared.edited.Part.TheVariants.{Lead, Currency, Front, Whole, PointPart, Fraction, Trail}
-use Rattle.cob_picture.specs.Positions.{times, is_that, floating, settled_role, role_at, position_at, placed, positions}
-use Rattle.cob_picture.specs.Counts.{is_point}
-use Rattle.cob_picture.specs.Edited.{run_symbol, is_floating_run, settled_kind, kind_of, belongs, AreOf, Edited, edited_symbols, HasKinds, counts_in, AreAllowed, IsNumericEdited}
+use Rattle.cob_picture.specs.Positions.{symbol_count, is_that, floating, settled_role, role_at, position_at, positions_from, positions}
+use Rattle.cob_picture.specs.Counts.{is_decimal_point}
+use Rattle.cob_picture.specs.Edited.{run_symbol, is_floating_run, settled_kind, symbol_kind, belongs, AreOf, Edited, edited_symbols, HasKinds, counts_in, AreAllowed, IsNumericEdited}
 use Rattle.cob_picture.specs.Pictures.{IsPicture}
 use Rattle.cob_picture.specs.Laws.{is_run_role}
 
@@ -27,7 +27,7 @@ floats_is_run false false true e f s h = refl
 floats_is_run false false false e f s h = absurd cc
 
 floating_is_run : (xs : List Symbol) (s : Symbol) → is_that (floating xs) s ≡ true → floating xs ≡ run_symbol xs
-floating_is_run xs s = floats_is_run (nat_le 2 (times Dollar xs)) (nat_le 2 (times Plus xs)) (nat_le 2 (times Minus xs)) (nat_le 1 (times Z xs)) (nat_le 1 (times Star xs)) s
+floating_is_run xs s = floats_is_run (nat_le 2 (symbol_count Dollar xs)) (nat_le 2 (symbol_count Plus xs)) (nat_le 2 (symbol_count Minus xs)) (nat_le 1 (symbol_count Z xs)) (nat_le 1 (symbol_count Star xs)) s
 
 floats_floats : (a b d : Bool) (s : Symbol) → is_that (if a then Some Dollar else (if b then Some Plus else (if d then Some Minus else None))) s ≡ true
     → is_floating_run (if a then Some Dollar else (if b then Some Plus else (if d then Some Minus else None))) ≡ true
@@ -37,12 +37,12 @@ floats_floats false false true s h = refl
 floats_floats false false false s h = absurd cc
 
 floating_floats : (xs : List Symbol) (s : Symbol) → is_that (floating xs) s ≡ true → is_floating_run (floating xs) ≡ true
-floating_floats xs s = floats_floats (nat_le 2 (times Dollar xs)) (nat_le 2 (times Plus xs)) (nat_le 2 (times Minus xs)) s
+floating_floats xs s = floats_floats (nat_le 2 (symbol_count Dollar xs)) (nat_le 2 (symbol_count Plus xs)) (nat_le 2 (symbol_count Minus xs)) s
 
 -- ---- each symbol has a kind
 
 abbrev HaveKinds : Option Symbol → List Symbol → Type 0
-HaveKinds q xs = AllByRecursion (λ s. kind_of q s ≡ OfNone → ⊥) xs
+HaveKinds q xs = AllByRecursion (λ s. symbol_kind q s ≡ OfNone → ⊥) xs
 
 have_kinds : (f : Part) (q : Option Symbol) (xs : List Symbol) → belongs f OfNone ≡ false → AreOf f q xs → HaveKinds q xs
 have_kinds f q [] none all = tt
@@ -83,7 +83,7 @@ settled_run Credit h = absurd cc
 settled_run Debit h = absurd cc
 
 -- a symbol with the role of the run is the run's
-run_place : (q fl : Option Symbol) (seen : Bool) (s : Symbol) → (is_that fl s ≡ true → is_that q s ≡ true) → (kind_of q s ≡ OfNone → ⊥) → is_run_role (role_at NumericEdited (is_that fl s) seen s) ≡ true → is_that q s ≡ true
+run_place : (q fl : Option Symbol) (seen : Bool) (s : Symbol) → (is_that fl s ≡ true → is_that q s ≡ true) → (symbol_kind q s ≡ OfNone → ⊥) → is_run_role (role_at NumericEdited (is_that fl s) seen s) ≡ true → is_that q s ≡ true
 run_place q fl seen s same kind h = at (is_that q s) refl
   where
     at : (b : Bool) → is_that q s ≡ b → is_that q s ≡ true
@@ -97,7 +97,7 @@ run_place q fl seen s same kind h = at (is_that q s) refl
             kind (ap (λ (b : Bool). (if b then OfRun else settled_kind s)) e ∙ settled_run s settled)
 
 run_places : (q fl : Option Symbol) (seen : Bool) (xs : List Symbol) → ((s : Symbol) → is_that fl s ≡ true → is_that q s ≡ true) → HaveKinds q xs
-    → AllByRecursion (λ x. is_run_role x.role ≡ true → is_that q x.symbol ≡ true) (placed NumericEdited fl seen xs)
+    → AllByRecursion (λ x. is_run_role x.role ≡ true → is_that q x.symbol ≡ true) (positions_from NumericEdited fl seen xs)
 run_places q fl seen [] same kinds = tt
 run_places q fl seen (s ∷ xs) same kinds = (run_place q fl seen s (same s) kinds.0, run_places q fl (seen || is_that fl s) xs same kinds.1)
 
@@ -140,7 +140,7 @@ first_floats fl seen s h = at (is_that fl s) seen refl h
     at true false e r = (e, refl)
     at false c e r = absurd (settled_first s r)
 
-never_again : (fl : Option Symbol) (xs : List Symbol) (before after : List Position) (f : Position) → placed NumericEdited fl true xs ≡ before ++ f ∷ after → f.role ≡ FirstFloating → ⊥
+never_again : (fl : Option Symbol) (xs : List Symbol) (before after : List Position) (f : Position) → positions_from NumericEdited fl true xs ≡ before ++ f ∷ after → f.role ≡ FirstFloating → ⊥
 never_again fl [] [] after f e r = cc
 never_again fl [] (b ∷ before) after f e r = cc
 never_again fl (s ∷ xs) [] after f e r =
@@ -148,18 +148,18 @@ never_again fl (s ∷ xs) [] after f e r =
     let x = first_floats fl true s (ap (λ (p : Position). p.role) here ∙ r) in
     let y : true ≡ false = x.1 in
     cc
-never_again fl (s ∷ xs) (b ∷ before) after f e r = never_again fl xs before after f (let tails : placed NumericEdited fl true xs ≡ before ++ f ∷ after = cc in tails) r
+never_again fl (s ∷ xs) (b ∷ before) after f e r = never_again fl xs before after f (let tails : positions_from NumericEdited fl true xs ≡ before ++ f ∷ after = cc in tails) r
 
 -- the symbols before a first floating symbol do not float, and stand at the front of the picture's
 record Begins (fl : Option Symbol) (xs : List Symbol) (before : List Position) (f : Position) : Type 0 where
   pub floats : is_that fl f.symbol ≡ true
   pub front : List Symbol
   pub behind : List Symbol
-  pub are : before ≡ placed NumericEdited fl false front
+  pub are : before ≡ positions_from NumericEdited fl false front
   pub parts : xs ≡ front ++ behind
   pub others : list_any (is_that fl) front ≡ false
 
-begins_at : (fl : Option Symbol) (xs : List Symbol) (before after : List Position) (f : Position) → placed NumericEdited fl false xs ≡ before ++ f ∷ after → f.role ≡ FirstFloating → Begins fl xs before f
+begins_at : (fl : Option Symbol) (xs : List Symbol) (before after : List Position) (f : Position) → positions_from NumericEdited fl false xs ≡ before ++ f ∷ after → f.role ≡ FirstFloating → Begins fl xs before f
 begins_at fl [] [] after f e r = absurd cc
 begins_at fl [] (b ∷ before) after f e r = absurd cc
 begins_at fl (s ∷ xs) [] after f e r =
@@ -172,14 +172,14 @@ begins_at fl (s ∷ xs) (b ∷ before) after f e r = at (is_that fl s) refl (λ 
     first : position_at NumericEdited fl false s ≡ b
     first = cc
 
-    tails : placed NumericEdited fl (is_that fl s) xs ≡ before ++ f ∷ after
+    tails : positions_from NumericEdited fl (is_that fl s) xs ≡ before ++ f ∷ after
     tails = cc
 
-    at : (c : Bool) → is_that fl s ≡ c → (placed NumericEdited fl false xs ≡ before ++ f ∷ after → Begins fl xs before f) → Begins fl (s ∷ xs) (b ∷ before) f
-    at true g more = absurd (never_again fl xs before after f (ap (λ (c : Bool). placed NumericEdited fl c xs) (sym g) ∙ tails) r)
+    at : (c : Bool) → is_that fl s ≡ c → (positions_from NumericEdited fl false xs ≡ before ++ f ∷ after → Begins fl xs before f) → Begins fl (s ∷ xs) (b ∷ before) f
+    at true g more = absurd (never_again fl xs before after f (ap (λ (c : Bool). positions_from NumericEdited fl c xs) (sym g) ∙ tails) r)
     at false g more =
-        let m = more (ap (λ (c : Bool). placed NumericEdited fl c xs) (sym g) ∙ tails) in
-        let rest : before ≡ placed NumericEdited fl (is_that fl s) m.front = m.are ∙ ap (λ (c : Bool). placed NumericEdited fl c m.front) (sym g) in
+        let m = more (ap (λ (c : Bool). positions_from NumericEdited fl c xs) (sym g) ∙ tails) in
+        let rest : before ≡ positions_from NumericEdited fl (is_that fl s) m.front = m.are ∙ ap (λ (c : Bool). positions_from NumericEdited fl c m.front) (sym g) in
         record {
           floats = m.floats;
           front = s ∷ m.front;
@@ -213,7 +213,7 @@ any-behind f (s ∷ a) b h = at (f s) (any-behind f a b h)
     at false g = g
 
 -- no point stands in a part that has none
-point_kind : (q : Option Symbol) (s : Symbol) → is_point s ≡ true → is_that q s ≡ false → kind_of q s ≡ OfPoint
+point_kind : (q : Option Symbol) (s : Symbol) → is_decimal_point s ≡ true → is_that q s ≡ false → symbol_kind q s ≡ OfPoint
 point_kind q V h e = ap (λ (b : Bool). (if b then OfRun else OfPoint)) e
 point_kind q Point h e = ap (λ (b : Bool). (if b then OfRun else OfPoint)) e
 point_kind q A h e = absurd cc
@@ -234,7 +234,7 @@ point_kind q Credit h e = absurd cc
 point_kind q Debit h e = absurd cc
 
 abbrev NotPoint : Option Symbol → Symbol → Type 0
-NotPoint q s = kind_of q s ≡ OfPoint → ⊥
+NotPoint q s = symbol_kind q s ≡ OfPoint → ⊥
 
 no_points : (f : Part) (q : Option Symbol) (xs : List Symbol) → belongs f OfPoint ≡ false → AreOf f q xs → AllByRecursion (NotPoint q) xs
 no_points f q [] none all = tt
@@ -250,12 +250,12 @@ kinds_front q (s ∷ a) b h = (h.0, kinds_front q a b h.1)
 
 -- places before the first floating symbol
 settled_places : (q : Option Symbol) (xs : List Symbol) → list_any (is_that q) xs ≡ false → HaveKinds q xs → AllByRecursion (NotPoint q) xs
-    → AllByRecursion (λ x. (is_run_role x.role ≡ false) × (is_point x.symbol ≡ false)) (placed NumericEdited q false xs)
+    → AllByRecursion (λ x. (is_run_role x.role ≡ false) × (is_decimal_point x.symbol ≡ false)) (positions_from NumericEdited q false xs)
 settled_places q [] none kinds points = tt
 settled_places q (s ∷ xs) none kinds points =
     let both = parts (is_that q s) (list_any (is_that q) xs) none in (
-      (not_run (is_run_role (role_at NumericEdited (is_that q s) false s)) refl both.0, not_point (is_point s) refl both.0),
-      subst (λ (c : Bool). AllByRecursion (λ x. (is_run_role x.role ≡ false) × (is_point x.symbol ≡ false)) (placed NumericEdited q c xs)) (sym both.0) (settled_places q xs both.1 kinds.1 points.1),
+      (not_run (is_run_role (role_at NumericEdited (is_that q s) false s)) refl both.0, not_point (is_decimal_point s) refl both.0),
+      subst (λ (c : Bool). AllByRecursion (λ x. (is_run_role x.role ≡ false) × (is_decimal_point x.symbol ≡ false)) (positions_from NumericEdited q c xs)) (sym both.0) (settled_places q xs both.1 kinds.1 points.1),
     )
   where
     parts : (a b : Bool) → (a || b) ≡ false → (a ≡ false) × (b ≡ false)
@@ -266,13 +266,13 @@ settled_places q (s ∷ xs) none kinds points =
     not_run false e g = e
     not_run true e g = absurd (let x : true ≡ false = sym (run_place q q false s (λ t. t) kinds.0 e) ∙ g in cc)
 
-    not_point : (b : Bool) → is_point s ≡ b → is_that q s ≡ false → is_point s ≡ false
+    not_point : (b : Bool) → is_decimal_point s ≡ b → is_that q s ≡ false → is_decimal_point s ≡ false
     not_point false e g = e
     not_point true e g = absurd (points.0 (point_kind q s e g))
 
 pub first_leads : (xs : List Symbol) (before after : List Position) (first : Position) → IsPicture NumericEdited xs
     → positions NumericEdited xs ≡ before ++ first ∷ after → first.role ≡ FirstFloating
-    → AllByRecursion (λ x. (is_run_role x.role ≡ false) × (is_point x.symbol ≡ false)) before
+    → AllByRecursion (λ x. (is_run_role x.role ≡ false) × (is_decimal_point x.symbol ≡ false)) before
 first_leads xs before after first p parted role =
     let edited : IsNumericEdited xs = p.order in
     let m = begins_at (floating xs) xs before after first parted role in
@@ -290,4 +290,4 @@ first_leads xs before after first p parted role =
     let joined : front ++ rest ≡ m.front ++ m.behind = append_assoc ed.lead (ed.currency ++ ed.front) rest ∙ ap (λ (t : List Symbol). ed.lead ++ t) (append_assoc ed.currency ed.front rest) ∙ sym edited.written ∙ m.parts in
     let none = shorter_front (NotPoint q) (is_that q) front rest m.front m.behind points some m.others joined in
     let have = kinds_front q m.front m.behind (subst (HaveKinds q) m.parts all) in
-    subst (λ (ps : List Position). AllByRecursion (λ x. (is_run_role x.role ≡ false) × (is_point x.symbol ≡ false)) ps) (sym m.are) (settled_places q m.front m.others have none)
+    subst (λ (ps : List Position). AllByRecursion (λ x. (is_run_role x.role ≡ false) × (is_decimal_point x.symbol ≡ false)) ps) (sym m.are) (settled_places q m.front m.others have none)

@@ -9,7 +9,7 @@ use Rattle.cob_picture.specs.declared.symbol.Run.{Run}
 use Rattle.cob_picture.specs.declared.numeric.NumericParts.{NumericParts}
 use Rattle.cob_picture.specs.Symbols.{first_of, symbol_with}
 use Rattle.cob_picture.specs.Numeric.{numeric_symbols}
-use Rattle.cob_picture.specs.Positions.{is, times, written_out}
+use Rattle.cob_picture.specs.Positions.{is, symbol_count, written_out}
 
 -- each symbol is the one with its first character
 pub with_first : (s : Symbol) → symbol_with (first_of s) ≡ Some s
@@ -43,15 +43,15 @@ is_same s t e = eq-eqb (first_of t) (first_of s) (ap first_of e)
 pub is_other : (s t : Symbol) → (t ≡ s → ⊥) → is s t ≡ false
 is_other s t ne = ne_eqb (first_of t) (first_of s) (λ e. ne (first_one t s e))
 
-pub times-append : (s : Symbol) (ps qs : List Symbol) → times s (ps ++ qs) ≡ times s ps + times s qs
+pub times-append : (s : Symbol) (ps qs : List Symbol) → symbol_count s (ps ++ qs) ≡ symbol_count s ps + symbol_count s qs
 times-append s [] qs = omega arith
 times-append s (t ∷ ps) qs = omega (arith, times-append s ps qs)
 
-pub times-replicate : (s t : Symbol) (n : ℕ) → t ≡ s → times s (replicate n t) ≡ n
+pub times-replicate : (s t : Symbol) (n : ℕ) → t ≡ s → symbol_count s (replicate n t) ≡ n
 times-replicate s t zero e = refl
 times-replicate s t (suc n) e = rw (is_same s t e) (omega (arith, times-replicate s t n e))
 
-pub times-replicate_other : (s t : Symbol) (n : ℕ) → (t ≡ s → ⊥) → times s (replicate n t) ≡ 0
+pub times-replicate_other : (s t : Symbol) (n : ℕ) → (t ≡ s → ⊥) → symbol_count s (replicate n t) ≡ 0
 times-replicate_other s t zero ne = refl
 times-replicate_other s t (suc n) ne = rw (is_other s t ne) (omega (arith, times-replicate_other s t n ne))
 
@@ -60,33 +60,33 @@ one_more runs i d lt =
     let r = get_or runs i d in
     ap written_out (take_more runs i d lt) ∙ flat_map-append (λ (r : Run). replicate r.count r.symbol) (take i runs) (r ∷ []) ∙ ap (λ (t : List Symbol). written_out (take i runs) ++ t) (append-nil (replicate r.count r.symbol))
 
-pub times_more_yes : (s : Symbol) (runs : List Run) (i : ℕ) (d : Run) → i < length runs → (get_or runs i d).symbol ≡ s → times s (written_out (take (i + 1) runs)) ≡ times s (written_out (take i runs)) + (get_or runs i d).count
+pub times_more_yes : (s : Symbol) (runs : List Run) (i : ℕ) (d : Run) → i < length runs → (get_or runs i d).symbol ≡ s → symbol_count s (written_out (take (i + 1) runs)) ≡ symbol_count s (written_out (take i runs)) + (get_or runs i d).count
 times_more_yes s runs i d lt e =
     let r = get_or runs i d in
-    omega (arith, ap (times s) (one_more runs i d lt), times-append s (written_out (take i runs)) (replicate r.count r.symbol), times-replicate s r.symbol r.count e)
+    omega (arith, ap (symbol_count s) (one_more runs i d lt), times-append s (written_out (take i runs)) (replicate r.count r.symbol), times-replicate s r.symbol r.count e)
 
-pub times_more_no : (s : Symbol) (runs : List Run) (i : ℕ) (d : Run) → i < length runs → ((get_or runs i d).symbol ≡ s → ⊥) → times s (written_out (take (i + 1) runs)) ≡ times s (written_out (take i runs))
+pub times_more_no : (s : Symbol) (runs : List Run) (i : ℕ) (d : Run) → i < length runs → ((get_or runs i d).symbol ≡ s → ⊥) → symbol_count s (written_out (take (i + 1) runs)) ≡ symbol_count s (written_out (take i runs))
 times_more_no s runs i d lt ne =
     let r = get_or runs i d in
-    omega (arith, ap (times s) (one_more runs i d lt), times-append s (written_out (take i runs)) (replicate r.count r.symbol), times-replicate_other s r.symbol r.count ne)
+    omega (arith, ap (symbol_count s) (one_more runs i d lt), times-append s (written_out (take i runs)) (replicate r.count r.symbol), times-replicate_other s r.symbol r.count ne)
 
 pub length_more : (runs : List Run) (i : ℕ) (d : Run) → i < length runs → length (written_out (take (i + 1) runs)) ≡ length (written_out (take i runs)) + (get_or runs i d).count
 length_more runs i d lt =
     let r = get_or runs i d in
     omega (arith, ap (length {A = Symbol}) (one_more runs i d lt), length-append (written_out (take i runs)) (replicate r.count r.symbol), length-replicate r.count r.symbol)
 
-pub two_times : (s t : Symbol) (ps : List Symbol) → (s ≡ t → ⊥) → times s ps + times t ps ≤ length ps
+pub two_times : (s t : Symbol) (ps : List Symbol) → (s ≡ t → ⊥) → symbol_count s ps + symbol_count t ps ≤ length ps
 two_times s t [] ne = omega arith
 two_times s t (p ∷ ps) ne = step (is s p) (is t p) refl refl (two_times s t ps ne)
   where
-    step : (a b : Bool) → is s p ≡ a → is t p ≡ b → times s ps + times t ps ≤ length ps → times s (p ∷ ps) + times t (p ∷ ps) ≤ length (p ∷ ps)
+    step : (a b : Bool) → is s p ≡ a → is t p ≡ b → symbol_count s ps + symbol_count t ps ≤ length ps → symbol_count s (p ∷ ps) + symbol_count t (p ∷ ps) ≤ length (p ∷ ps)
     step true true x y ih = absurd (ne (first_one s t (sym (eqb-true _ _ x) ∙ eqb-true _ _ y)))
     step true false x y ih = rw (x, y) (omega arith)
     step false true x y ih = rw (x, y) (omega arith)
     step false false x y ih = rw (x, y) (omega arith)
 
 -- the counts of a numeric picture
-pub times_written : (s : Symbol) (n : NumericParts) → (S ≡ s → ⊥) → (V ≡ s → ⊥) → (P ≡ s → ⊥) → (Nine ≡ s → ⊥) → times s (numeric_symbols n) ≡ 0
+pub times_written : (s : Symbol) (n : NumericParts) → (S ≡ s → ⊥) → (V ≡ s → ⊥) → (P ≡ s → ⊥) → (Nine ≡ s → ⊥) → symbol_count s (numeric_symbols n) ≡ 0
 times_written s n a b c d =
     let t6 = replicate n.fraction Nine in
     let t5 = replicate n.after V ++ t6 in
@@ -111,7 +111,7 @@ times_written s n a b c d =
       times-replicate_other s Nine n.fraction d,
     )
 
-pub nines_written : (n : NumericParts) → n.nines ≤ times Nine (numeric_symbols n)
+pub nines_written : (n : NumericParts) → n.nines ≤ symbol_count Nine (numeric_symbols n)
 nines_written n =
     let t6 = replicate n.fraction Nine in
     let t5 = replicate n.after V ++ t6 in
@@ -129,7 +129,7 @@ nines_written n =
     )
 
 -- the S and the Vs of a numeric picture
-pub signs_written : (n : NumericParts) → times S (numeric_symbols n) ≡ n.signs
+pub signs_written : (n : NumericParts) → symbol_count S (numeric_symbols n) ≡ n.signs
 signs_written n =
     let t6 = replicate n.fraction Nine in
     let t5 = replicate n.after V ++ t6 in
@@ -154,7 +154,7 @@ signs_written n =
       times-replicate_other S Nine n.fraction (λ e. cc),
     )
 
-pub points_written : (n : NumericParts) → times V (numeric_symbols n) ≡ n.points + n.after
+pub points_written : (n : NumericParts) → symbol_count V (numeric_symbols n) ≡ n.points + n.after
 points_written n =
     let t6 = replicate n.fraction Nine in
     let t5 = replicate n.after V ++ t6 in
@@ -179,7 +179,7 @@ points_written n =
       times-replicate_other V Nine n.fraction (λ e. cc),
     )
 
-pub digits_written : (n : NumericParts) → times Nine (numeric_symbols n) ≡ n.nines + n.fraction
+pub digits_written : (n : NumericParts) → symbol_count Nine (numeric_symbols n) ≡ n.nines + n.fraction
 digits_written n =
     let t6 = replicate n.fraction Nine in
     let t5 = replicate n.after V ++ t6 in
@@ -204,7 +204,7 @@ digits_written n =
       times-replicate Nine Nine n.fraction refl,
     )
 
-pub scaling_written : (n : NumericParts) → times P (numeric_symbols n) ≡ n.left + n.right
+pub scaling_written : (n : NumericParts) → symbol_count P (numeric_symbols n) ≡ n.left + n.right
 scaling_written n =
     let t6 = replicate n.fraction Nine in
     let t5 = replicate n.after V ++ t6 in

@@ -63,8 +63,8 @@ abbrev pub decimal_places : List Position → ℕ
 decimal_places ps = count_by is_decimal_place ps
 
 -- the place of the decimal point
-abbrev pub is_point : Symbol → Bool
-is_point s = is V s || is Point s
+abbrev pub is_decimal_point : Symbol → Bool
+is_decimal_point s = is V s || is Point s
 
 -- a P at the left, before which only an S may stand, puts the point left of all
 abbrev pub point_leads : List Position → Bool
@@ -74,25 +74,25 @@ point_leads (p ∷ ps) = if is S p.symbol then point_leads ps else is P p.symbol
 -- the positions left of the first point
 abbrev pub before_point : List Position → List Position
 before_point [] = []
-before_point (p ∷ ps) = if is_point p.symbol then [] else p ∷ before_point ps
+before_point (p ∷ ps) = if is_decimal_point p.symbol then [] else p ∷ before_point ps
 
 -- the positions right of the first point
 abbrev pub after_point : List Position → List Position
 after_point [] = []
-after_point (p ∷ ps) = if is_point p.symbol then ps else after_point ps
+after_point (p ∷ ps) = if is_decimal_point p.symbol then ps else after_point ps
 
 -- the positions left of the decimal point; where no point stands, and no P leads, these are all
-abbrev pub whole_part : List Position → List Position
-whole_part ps = if point_leads ps then [] else before_point ps
+abbrev pub left_of_point : List Position → List Position
+left_of_point ps = if point_leads ps then [] else before_point ps
 
 -- the positions right of the decimal point
-abbrev pub fraction_part : List Position → List Position
-fraction_part ps = if point_leads ps then ps else after_point ps
+abbrev pub right_of_point : List Position → List Position
+right_of_point ps = if point_leads ps then ps else after_point ps
 
 -- How many digits, kept or not, stand right of the point, less those that a P stands for left of it: the picture's unit is
 -- ten to the power of minus this.
 abbrev pub scale : List Position → ℤ
-scale ps = pos (decimal_places (fraction_part ps)) -ℤ pos (count_by is_scaling (whole_part ps))
+scale ps = pos (decimal_places (right_of_point ps)) -ℤ pos (count_by is_scaling (left_of_point ps))
 
 -- a symbol that shows the sign
 abbrev pub is_sign_symbol : Symbol → Bool

@@ -8,18 +8,18 @@ use Rattle.cob_picture.specs.declared.edited.Kind.TheVariants.{OfRun, OfInsertio
 use Rattle.cob_picture.specs.declared.edited.Part.{Part}
 use Rattle.cob_picture.specs.declared.edited.Part.TheVariants.{Lead, Currency, Front, Whole, PointPart, Fraction, Trail}
 use Rattle.cob_picture.specs.declared.edited.EditedCounts.{EditedCounts}
-use Rattle.cob_picture.specs.Positions.{is, times, is_that}
+use Rattle.cob_picture.specs.Positions.{is, symbol_count, is_that}
 use Rattle.cob_picture.specs.Runs.{is_mark}
 
 -- The symbol of the run: the currency sign or the sign that stands twice or more, which floats; else Z or the asterisk, which
 -- suppresses zeros.
 abbrev pub run_symbol : List Symbol → Option Symbol
 run_symbol symbols =
-    if nat_le 2 (times Dollar symbols) then Some Dollar else
-    if nat_le 2 (times Plus symbols) then Some Plus else
-    if nat_le 2 (times Minus symbols) then Some Minus else
-    if nat_le 1 (times Z symbols) then Some Z else
-    if nat_le 1 (times Star symbols) then Some Star else None
+    if nat_le 2 (symbol_count Dollar symbols) then Some Dollar else
+    if nat_le 2 (symbol_count Plus symbols) then Some Plus else
+    if nat_le 2 (symbol_count Minus symbols) then Some Minus else
+    if nat_le 1 (symbol_count Z symbols) then Some Z else
+    if nat_le 1 (symbol_count Star symbols) then Some Star else None
 
 -- whether the run is of a sign
 abbrev pub is_sign_run : Option Symbol → Bool
@@ -51,8 +51,8 @@ settled_kind Z = OfNone
 settled_kind Star = OfNone
 
 -- what a symbol is, where the run is of q
-abbrev pub kind_of : Option Symbol → Symbol → Kind
-kind_of q s = if is_that q s then OfRun else settled_kind s
+abbrev pub symbol_kind : Option Symbol → Symbol → Kind
+symbol_kind q s = if is_that q s then OfRun else settled_kind s
 
 -- which kinds stand in which part of the picture
 abbrev pub belongs : Part → Kind → Bool
@@ -78,12 +78,12 @@ belongs Trail _ = false
 
 -- each symbol is of a kind that stands in this part
 abbrev pub AreOf : Part → Option Symbol → List Symbol → Type 0
-AreOf part q symbols = AllByRecursion (λ s. belongs part (kind_of q s) ≡ true) symbols
+AreOf part q symbols = AllByRecursion (λ s. belongs part (symbol_kind q s) ≡ true) symbols
 
 -- no symbol of the part comes first
 abbrev pub Stops : Part → Option Symbol → List Symbol → Type 0
 Stops part q [] = Unit {0}
-Stops part q (s ∷ symbols) = belongs part (kind_of q s) ≡ false
+Stops part q (s ∷ symbols) = belongs part (symbol_kind q s) ≡ false
 
 -- The parts of a numeric edited picture, in order: a leading sign; a currency sign in its place; the run with the insertions
 -- before, in and right behind it; from the first 9 on the 9s and insertions; the point; the fraction; a trailing sign, CR or DB.
@@ -120,10 +120,10 @@ counts_in q e = record {
   points = length e.point;
   behind_point = length e.fraction;
   between = length e.currency + (length e.front + (length e.whole + length e.point));
-  nines = times Nine e.whole + times Nine e.fraction;
+  nines = symbol_count Nine e.whole + symbol_count Nine e.fraction;
   run_in_front = list_any (is_that q) e.front;
   run_in_fraction = list_any (is_that q) e.fraction;
-  sign_trails = list_any (λ s. belongs Lead (kind_of q s)) e.trail;
+  sign_trails = list_any (λ s. belongs Lead (symbol_kind q s)) e.trail;
 }
 
 -- One currency sign outside the run at most, one point, a fraction only behind it, and one sign control of any kind.
@@ -159,7 +159,7 @@ pub record IsNumericEdited (symbols : List Symbol) : Type 0 where
   pub kinds : HasKinds (run_symbol symbols) parts
   pub allowed : AreAllowed (run_symbol symbols) (counts_in (run_symbol symbols) parts)
   pub ending : IsFalse (ends_in_mark symbols)
-  pub not_digits_alone : times Nine symbols + times V symbols < length symbols
+  pub not_digits_alone : symbol_count Nine symbols + symbol_count V symbols < length symbols
 
 -- the symbols without those that scale
 abbrev pub unscaled : List Symbol → List Symbol
@@ -167,17 +167,17 @@ unscaled symbols = filter (λ s. not (is P s)) symbols
 
 -- a P in a picture that is numeric edited without it
 pub record IsScaled (symbols : List Symbol) : Type 0 where
-  pub some : 0 < times P symbols
+  pub some : 0 < symbol_count P symbols
   pub edited : IsNumericEdited (unscaled symbols)
 
 -- a currency sign, the only one, before a picture whose sign floats
 pub record CurrencyLeads (symbols : List Symbol) : Type 0 where
   pub behind : List Symbol
   pub leads : symbols ≡ Dollar ∷ behind
-  pub only : times Dollar behind ≡ 0
+  pub only : symbol_count Dollar behind ≡ 0
   pub floats : IsTrue (is_sign_run (run_symbol behind))
   pub edited : IsNumericEdited behind
 
 -- what the standard has and this profile leaves out
-abbrev pub IsLeftOut : List Symbol → Type 0
-IsLeftOut symbols = IsScaled symbols ⊎ CurrencyLeads symbols
+abbrev pub IsOutsideProfile : List Symbol → Type 0
+IsOutsideProfile symbols = IsScaled symbols ⊎ CurrencyLeads symbols

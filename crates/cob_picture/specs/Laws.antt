@@ -7,22 +7,22 @@ use Rattle.cob_picture.specs.declared.position.Position.{Position}
 use Rattle.cob_picture.specs.declared.position.Role.{Role}
 use Rattle.cob_picture.specs.declared.position.Role.TheVariants.{Character, Insertion, DecimalPoint, Digit, Suppressed, Floating, FirstFloating, FixedSign, FixedCurrency, NoByte}
 use Rattle.cob_picture.specs.declared.symbol.Symbol.{Symbol}
-use Rattle.cob_picture.specs.Positions.{Seen, is_that, positions}
-use Rattle.cob_picture.specs.Counts.{is_point, size}
+use Rattle.cob_picture.specs.Positions.{PlainPicture, is_that, positions}
+use Rattle.cob_picture.specs.Counts.{is_decimal_point, size}
 use Rattle.cob_picture.specs.Edited.{run_symbol}
-use Rattle.cob_picture.specs.Pictures.{IsPicture, IsPictureOf, IsBroken}
+use Rattle.cob_picture.specs.Pictures.{IsPicture, IsPictureOf, BreaksPictureRule}
 
 -- a text is one picture at most
 abbrev pub IsOnePicture : Type 0
-IsOnePicture = (text : List ℕ) (p q : Seen) → IsPictureOf text p → IsPictureOf text q → p ≡ q
+IsOnePicture = (text : List ℕ) (p q : PlainPicture) → IsPictureOf text p → IsPictureOf text q → p ≡ q
 
 -- a text that is a picture breaks no rule
-abbrev pub BreaksNoRule : Type 0
-BreaksNoRule = (text : List ℕ) (p : Seen) (f : PictureFault) → IsPictureOf text p → IsBroken f text → ⊥
+abbrev pub PictureBreaksNoRule : Type 0
+PictureBreaksNoRule = (text : List ℕ) (p : PlainPicture) (f : PictureFault) → IsPictureOf text p → BreaksPictureRule f text → ⊥
 
 -- an item of each picture takes a byte at least
 abbrev pub TakesBytes : Type 0
-TakesBytes = (text : List ℕ) (p : Seen) → IsPictureOf text p → 0 < size p.positions
+TakesBytes = (text : List ℕ) (p : PlainPicture) → IsPictureOf text p → 0 < size p.positions
 
 -- a place of the run
 abbrev pub is_run_role : Role → Bool
@@ -48,4 +48,4 @@ abbrev pub FirstLeads : Type 0
 FirstLeads =
     (symbols : List Symbol) (before after : List Position) (first : Position) → IsPicture NumericEdited symbols
     → positions NumericEdited symbols ≡ before ++ first ∷ after → first.role ≡ FirstFloating
-    → AllByRecursion (λ x. (is_run_role x.role ≡ false) × (is_point x.symbol ≡ false)) before
+    → AllByRecursion (λ x. (is_run_role x.role ≡ false) × (is_decimal_point x.symbol ≡ false)) before

@@ -8,7 +8,7 @@ use Rattle.cob_picture.specs.Runs.{ArePositive}
 use Rattle.cob_picture.specs.Edited.{AreOf, Stops, Edited}
 
 -- a part of the runs, taken as far as it goes from the symbols, and the symbols behind it
-pub record IsTaken (symbols : List Symbol) (taken : List Run) (rest : List Symbol) : Type 0 where
+pub record IsFrontPart (symbols : List Symbol) (taken : List Run) (rest : List Symbol) : Type 0 where
   pub parts : symbols ≡ written_out taken ++ rest
   pub short : length taken ≤ 50
   pub positive : ArePositive taken
@@ -21,13 +21,13 @@ pub record IsSplit (q : Option Symbol) (symbols : List Symbol) (lead currency fr
   pub s4 : List Symbol
   pub s5 : List Symbol
   pub s6 : List Symbol
-  pub p1 : IsTaken symbols lead s1
-  pub p2 : IsTaken s1 currency s2
-  pub p3 : IsTaken s2 front s3
-  pub p4 : IsTaken s3 whole s4
-  pub p5 : IsTaken s4 point s5
-  pub p6 : IsTaken s5 fraction s6
-  pub p7 : IsTaken s6 trail (written_out rest)
+  pub p1 : IsFrontPart symbols lead s1
+  pub p2 : IsFrontPart s1 currency s2
+  pub p3 : IsFrontPart s2 front s3
+  pub p4 : IsFrontPart s3 whole s4
+  pub p5 : IsFrontPart s4 point s5
+  pub p6 : IsFrontPart s5 fraction s6
+  pub p7 : IsFrontPart s6 trail (written_out rest)
   pub of1 : AreOf Lead q (written_out lead)
   pub of2 : AreOf Currency q (written_out currency)
   pub of3 : AreOf Front q (written_out front)
@@ -57,15 +57,15 @@ edited_of lead currency front whole point fraction trail = record {
 }
 
 -- a part has few runs, none of them of nothing
-abbrev pub IsShort : List Run → Type 0
-IsShort runs = (length runs ≤ 50) × ArePositive runs
+abbrev pub HasFewRuns : List Run → Type 0
+HasFewRuns runs = (length runs ≤ 50) × ArePositive runs
 
 -- each part has few runs
-pub record AreShort (lead currency front whole point fraction trail : List Run) : Type 0 where
-  pub r1 : IsShort lead
-  pub r2 : IsShort currency
-  pub r3 : IsShort front
-  pub r4 : IsShort whole
-  pub r5 : IsShort point
-  pub r6 : IsShort fraction
-  pub r7 : IsShort trail
+pub record HaveFewRuns (lead currency front whole point fraction trail : List Run) : Type 0 where
+  pub r1 : HasFewRuns lead
+  pub r2 : HasFewRuns currency
+  pub r3 : HasFewRuns front
+  pub r4 : HasFewRuns whole
+  pub r5 : HasFewRuns point
+  pub r6 : HasFewRuns fraction
+  pub r7 : HasFewRuns trail

@@ -16,9 +16,9 @@ abbrev pub is : Symbol → Symbol → Bool
 is s t = first_of t == first_of s
 
 -- how often the symbol stands there
-abbrev pub times : Symbol → List Symbol → ℕ
-times s [] = 0
-times s (t ∷ symbols) = (if is s t then 1 else 0) + times s symbols
+abbrev pub symbol_count : Symbol → List Symbol → ℕ
+symbol_count s [] = 0
+symbol_count s (t ∷ symbols) = (if is s t then 1 else 0) + symbol_count s symbols
 
 -- the symbols of runs, with each repeat written out
 abbrev pub written_out : List Run → List Symbol
@@ -64,9 +64,9 @@ settled_role c Debit = FixedSign
 -- the currency sign or the sign that stands twice or more: it floats
 abbrev pub floating : List Symbol → Option Symbol
 floating symbols =
-    if nat_le 2 (times Dollar symbols) then Some Dollar else
-    if nat_le 2 (times Plus symbols) then Some Plus else
-    if nat_le 2 (times Minus symbols) then Some Minus else None
+    if nat_le 2 (symbol_count Dollar symbols) then Some Dollar else
+    if nat_le 2 (symbol_count Plus symbols) then Some Plus else
+    if nat_le 2 (symbol_count Minus symbols) then Some Minus else None
 
 -- whether this is the symbol that was found
 abbrev pub is_that : Option Symbol → Symbol → Bool
@@ -82,16 +82,16 @@ abbrev pub position_at : Category → (q : Option Symbol) → (seen : Bool) → 
 position_at c q seen s = record { symbol = s; role = role_at c (is_that q s) seen s }
 
 -- the positions of these symbols, where q floats, and where it stood before if it was seen
-abbrev pub placed : Category → (q : Option Symbol) → (seen : Bool) → List Symbol → List Position
-placed c q seen [] = []
-placed c q seen (s ∷ symbols) = position_at c q seen s ∷ placed c q (seen || is_that q s) symbols
+abbrev pub positions_from : Category → (q : Option Symbol) → (seen : Bool) → List Symbol → List Position
+positions_from c q seen [] = []
+positions_from c q seen (s ∷ symbols) = position_at c q seen s ∷ positions_from c q (seen || is_that q s) symbols
 
 -- the positions of a picture of this category with these symbols
 abbrev pub positions : Category → List Symbol → List Position
-positions c symbols = placed c (floating symbols) false symbols
+positions c symbols = positions_from c (floating symbols) false symbols
 
 -- a picture as contracts see it
-pub record Seen : Type 0 where
+pub record PlainPicture : Type 0 where
   pub category : Category
   pub positions : List Position
 

@@ -11,9 +11,9 @@ abbrev pub ArePositive : List Run → Type 0
 ArePositive runs = AllByRecursion (λ r. 0 < r.count) runs
 
 -- something else comes first, or nothing
-abbrev pub NotFirst : Symbol → List Symbol → Type 0
-NotFirst s [] = Unit {0}
-NotFirst s (t ∷ symbols) = t ≡ s → ⊥
+abbrev pub NotFirstSymbol : Symbol → List Symbol → Type 0
+NotFirstSymbol s [] = Unit {0}
+NotFirstSymbol s (t ∷ symbols) = t ≡ s → ⊥
 
 -- a comma or a point
 abbrev pub is_mark : Symbol → Bool

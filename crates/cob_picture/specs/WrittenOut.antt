@@ -13,48 +13,48 @@ abbrev pub IsDigit : ℕ → Type 0
 IsDigit c = (48 ≤ c) × (c < 58)
 
 -- the number that digits spell
-abbrev pub number_of : List ℕ → ℕ
-number_of digits = fold (λ n c. n * 10 + (c - 48)) 0 digits
+abbrev pub repeat_number : List ℕ → ℕ
+repeat_number digits = fold (λ n c. n * 10 + (c - 48)) 0 digits
 
 -- a symbol, alone or with the digits of its repeat
-pub data Item : Type 0 where
-  Once : Symbol → Item
-  Times : Symbol → List ℕ → Item
+pub data SpelledSymbol : Type 0 where
+  Once : Symbol → SpelledSymbol
+  Times : Symbol → List ℕ → SpelledSymbol
 
 -- a repeat has digits, and its number isn't 0
-abbrev pub IsItem : Item → Type 0
+abbrev pub IsItem : SpelledSymbol → Type 0
 IsItem (Once s) = Unit {0}
-IsItem (Times s digits) = AllByRecursion IsDigit digits × (0 < number_of digits)
+IsItem (Times s digits) = AllByRecursion IsDigit digits × (0 < repeat_number digits)
 
 -- the digits of a repeat and its closing bracket
 abbrev pub closed : List ℕ → List ℕ
 closed digits = digits ++ 41 ∷ []
 
 -- the characters of an item
-abbrev pub spelling : Item → List ℕ
+abbrev pub spelling : SpelledSymbol → List ℕ
 spelling (Once s) = chars s
 spelling (Times s digits) = chars s ++ (40 ∷ closed digits)
 
 -- the symbol that stands there
-abbrev pub symbol_in : Item → Symbol
+abbrev pub symbol_in : SpelledSymbol → Symbol
 symbol_in (Once s) = s
 symbol_in (Times s digits) = s
 
 -- how often the symbol stands there
-abbrev pub times_in : Item → ℕ
+abbrev pub times_in : SpelledSymbol → ℕ
 times_in (Once s) = 1
-times_in (Times s digits) = number_of digits
+times_in (Times s digits) = repeat_number digits
 
 -- the symbols that an item stands for
-abbrev pub symbols_in : Item → List Symbol
+abbrev pub symbols_in : SpelledSymbol → List Symbol
 symbols_in i = replicate (times_in i) (symbol_in i)
 
 -- The same, with a repeat of more than 40,000 counted as 40,000: no picture may have as many of any symbol.
-abbrev pub counted_in : Item → List Symbol
+abbrev pub counted_in : SpelledSymbol → List Symbol
 counted_in i = replicate (min (times_in i) MANY) (symbol_in i)
 
 -- the run of an item
-abbrev pub run_of : Item → Run
+abbrev pub run_of : SpelledSymbol → Run
 run_of i = record { symbol = symbol_in i; count = min (times_in i) MANY }
 
 -- no bracket opens here
@@ -63,19 +63,19 @@ NotOpen [] = Unit {0}
 NotOpen (c ∷ more) = c ≢ 40
 
 -- what may follow these items: behind a symbol alone no bracket opens
-abbrev pub Ready : List Item → List ℕ → Type 0
+abbrev pub Ready : List SpelledSymbol → List ℕ → Type 0
 Ready [] rest = Unit {0}
 Ready (Once s ∷ []) rest = NotOpen rest
 Ready (Times s digits ∷ []) rest = Unit {0}
 Ready (i ∷ j ∷ items) rest = Ready (j ∷ items) rest
 
 -- the text spells the items
-pub record Reads (text : List ℕ) (items : List Item) : Type 0 where
+pub record SpellsItems (text : List ℕ) (items : List SpelledSymbol) : Type 0 where
   pub each : AllByRecursion IsItem items
   pub spelled : text ≡ flat_map spelling items
 
 -- the items stand at the front of the text, and the rest behind them
-pub record Front (text : List ℕ) (items : List Item) (rest : List ℕ) : Type 0 where
+pub record Front (text : List ℕ) (items : List SpelledSymbol) (rest : List ℕ) : Type 0 where
   pub each : AllByRecursion IsItem items
   pub spelled : text ≡ flat_map spelling items ++ rest
   pub ready : Ready items rest
@@ -83,7 +83,7 @@ pub record Front (text : List ℕ) (items : List Item) (rest : List ℕ) : Type 
 -- a symbol and an opening bracket, behind which no closed number above 0 stands
 abbrev pub IsBadRepeat : List ℕ → Type 0
 IsBadRepeat text = (s : Symbol) × (more : List ℕ) × (text ≡ chars s ++ (40 ∷ more))
-    × ((digits after : List ℕ) → AllByRecursion IsDigit digits → 0 < number_of digits → more ≡ closed digits ++ after → ⊥)
+    × ((digits after : List ℕ) → AllByRecursion IsDigit digits → 0 < repeat_number digits → more ≡ closed digits ++ after → ⊥)
 
 -- What is wrong at the front of a text: a character that begins no symbol of any picture, a repeat that is none or stands
 -- behind no symbol, or a symbol that is left out.
@@ -98,4 +98,4 @@ IsItemFault TooLong text = ⊥
 
 -- behind some items something stands, and it is wrong
 abbrev pub IsBrokenAfter : PictureFault → List ℕ → Type 0
-IsBrokenAfter f text = (items : List Item) × (rest : List ℕ) × Front text items rest × (0 < length rest) × IsItemFault f rest
+IsBrokenAfter f text = (items : List SpelledSymbol) × (rest : List ℕ) × Front text items rest × (0 < length rest) × IsItemFault f rest

@@ -1,5 +1,5 @@
 ghost use Rattle.std.specs.Prelude.{◌≡◌, ℕ, ◌+◌, ◌*◌, ◌<◌, ◌≤◌, ◌++◌, length, IfSome, Some};
-ghost use Rattle.cob_picture.specs.Positions.{times, written_out, shows_number, is_edited};
+ghost use Rattle.cob_picture.specs.Positions.{symbol_count, written_out, shows_number, is_edited};
 ghost use Rattle.cob_picture.specs.Runs.{ArePositive};
 ghost use Rattle.cob_picture.specs.Categories.{IsOf};
 ghost use Rattle.cob_picture.specs.declared.category.Category.{Category};
@@ -42,7 +42,7 @@ impl Category {
 /// How often the symbol stands there.
 pub(crate) fn count_of(runs: &[Run], symbol: Symbol) -> u32
     requires { length runs.now ≤ 50 }
-    ensures value { result ≡ times symbol (written_out runs.now) }
+    ensures value { result ≡ symbol_count symbol (written_out runs.now) }
     ensures bound { result ≤ 65535 * 50 }
 {
     let mut count: u32 = 0;

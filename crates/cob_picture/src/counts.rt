@@ -1,9 +1,9 @@
 ghost use Rattle.std.specs.Prelude.{◌≡◌, ℕ, ◌+◌, ◌*◌, ◌<◌, ◌≤◌, length, replicate, if◌then◌else◌, ◌||◌};
 ghost use Rattle.std.specs.List.{list_any, position_or_len};
-ghost use Rattle.cob_picture.specs.Measures.{AreCountsOf, run_leads, symbols_size};
-ghost use Rattle.cob_picture.specs.Positions.{written_out, is_that, settled_role, floating, placed, positions};
+ghost use Rattle.cob_picture.specs.Measures.{AreCountsOver, run_leads, symbols_size};
+ghost use Rattle.cob_picture.specs.Positions.{written_out, is_that, settled_role, floating, positions_from, positions};
 ghost use Rattle.cob_picture.specs.Runs.{ArePositive};
-ghost use Rattle.cob_picture.specs.Counts.{width, digits, is_point, is_sign_symbol};
+ghost use Rattle.cob_picture.specs.Counts.{width, digits, is_decimal_point, is_sign_symbol};
 ghost use Rattle.cob_picture.specs.declared.symbol.Symbol.{Symbol};
 ghost use Rattle.cob_picture.specs.declared.category.Category.{Category};
 
@@ -68,7 +68,7 @@ pub fn is_that(found: Option<Symbol>, symbol: Symbol) -> bool
 
 /// Whether the decimal point stands at the symbol.
 pub fn is_point(symbol: Symbol) -> bool
-    ensures { result ≡ is_point symbol }
+    ensures { result ≡ is_decimal_point symbol }
 {
     symbol == Symbol::V || symbol == Symbol::Point
 }
@@ -86,7 +86,7 @@ pub fn is_sign_symbol(symbol: Symbol) -> bool
 /// How many digits stand in a run. `seen` says that the floating symbol stood before: its first place holds none.
 pub fn digits_in(run: Run, category: Category, floating: Option<Symbol>, seen: bool) -> u32
     ensures value { result ≡ digits
-        (placed category floating seen (replicate run.count run.symbol)) }
+        (positions_from category floating seen (replicate run.count run.symbol)) }
     ensures bound { result ≤ 65535 }
 {
     let count = u32::from(run.count);
@@ -110,7 +110,7 @@ pub fn is_seen_by(seen: bool, floating: Option<Symbol>, symbol: Symbol) -> bool
 pub fn digits_of(runs: &[Run], category: Category, floating: Option<Symbol>, seen: bool) -> u32
     requires short { length runs.now ≤ 50 }
     requires positive { ArePositive runs.now }
-    ensures value { result ≡ digits (placed category floating seen (written_out runs.now)) }
+    ensures value { result ≡ digits (positions_from category floating seen (written_out runs.now)) }
     ensures bound { result ≤ 65535 * 50 }
 {
     let mut seen = seen;
@@ -151,7 +151,7 @@ pub fn point_leads(runs: &[Run]) -> bool
 /// How many runs stand left of the decimal point.
 pub fn runs_before_point(runs: &[Run]) -> usize
     ensures value { result ≡ (if run_leads runs.now then 0
-        else position_or_len (λ r. is_point r.symbol) runs.now) }
+        else position_or_len (λ r. is_decimal_point r.symbol) runs.now) }
     ensures inside { result ≤ length runs.now }
 {
     if point_leads(runs) {
@@ -186,7 +186,7 @@ pub struct Counts {
 pub fn counted(runs: &[Run], category: Category) -> Counts
     requires short { length runs.now ≤ 50 }
     requires positive { ArePositive runs.now }
-    ensures counts { AreCountsOf (positions category (written_out runs.now)) result }
+    ensures counts { AreCountsOver (positions category (written_out runs.now)) result }
     ensures fraction { result.fraction ≤ result.decimal_places }
     ensures missing { result.missing + result.digits ≤ result.decimal_places }
     ensures short { result.size ≤ 131070 * 50 }

@@ -1,9 +1,9 @@
 ghost use Rattle.std.specs.Prelude.{◌≡◌, ℕ, ◌+◌, ◌<◌, ◌≤◌, ◌++◌, not, length, replicate, IsTrue};
 ghost use Rattle.std.specs.List.{AllByRecursion, list_any};
-ghost use Rattle.cob_picture.specs.Positions.{times, written_out, is_that};
+ghost use Rattle.cob_picture.specs.Positions.{symbol_count, written_out, is_that};
 ghost use Rattle.cob_picture.specs.Runs.{ArePositive, runs_end_in_mark, is_mark};
-ghost use Rattle.cob_picture.specs.Edited.{run_symbol, is_sign_run, is_floating_run, settled_kind, kind_of, belongs, AreOf, Stops, counts_in, AreSingle, SuitsRun, AreAllowed, IsNumericEdited, unscaled, IsScaled, CurrencyLeads, IsLeftOut};
-ghost use Rattle.cob_picture.specs.Parted.{IsSplit, AreShort, edited_of};
+ghost use Rattle.cob_picture.specs.Edited.{run_symbol, is_sign_run, is_floating_run, settled_kind, symbol_kind, belongs, AreOf, Stops, counts_in, AreSingle, SuitsRun, AreAllowed, IsNumericEdited, unscaled, IsScaled, CurrencyLeads, IsOutsideProfile};
+ghost use Rattle.cob_picture.specs.Parted.{IsSplit, HaveFewRuns, edited_of};
 ghost use Rattle.cob_picture.specs.declared.symbol.Symbol.TheVariants.{Nine};
 ghost use Rattle.cob_picture.specs.declared.edited.Part.TheVariants.{Lead};
 
@@ -119,7 +119,7 @@ pub fn settled_kind(symbol: Symbol) -> Kind
 
 /// What a symbol is, where the run is of this one.
 pub fn kind_of(run: Option<Symbol>, symbol: Symbol) -> Kind
-    ensures { result ≡ kind_of run symbol }
+    ensures { result ≡ symbol_kind run symbol }
 {
     if is_that(run, symbol) {
         Kind::OfRun
@@ -145,7 +145,7 @@ pub fn belongs(part: Part, kind: Kind) -> bool
 
 /// Whether a run is of this part.
 pub fn is_of(run: Option<Symbol>, part: Part, symbol: Symbol) -> bool
-    ensures { result ≡ belongs part (kind_of run symbol) }
+    ensures { result ≡ belongs part (symbol_kind run symbol) }
 {
     belongs(part, kind_of(run, symbol))
 }
@@ -199,7 +199,7 @@ pub fn parted(runs: &[Run], run: Option<Symbol>) -> Split<'_>
 
 /// Counts over the parts.
 pub fn counts_in(split: &Split, run: Option<Symbol>) -> EditedCounts
-    requires { AreShort split.now.lead.now split.now.currency.now split.now.front.now
+    requires { HaveFewRuns split.now.lead.now split.now.currency.now split.now.front.now
         split.now.whole.now split.now.point.now split.now.fraction.now split.now.trail.now }
     ensures { result ≡ counts_in run
         (edited_of split.now.lead.now split.now.currency.now split.now.front.now
@@ -222,7 +222,7 @@ pub fn counts_in(split: &Split, run: Option<Symbol>) -> EditedCounts
 
 /// Whether a sign stands in the runs, outside the run.
 pub fn sign_trails(runs: &[Run], run: Option<Symbol>) -> bool
-    ensures { result ≡ list_any (λ r. belongs Lead (kind_of run r.symbol)) runs.now }
+    ensures { result ≡ list_any (λ r. belongs Lead (symbol_kind run r.symbol)) runs.now }
 {
     runs.iter().any(|one| is_of(run, Part::Lead, one.symbol))
 }
@@ -368,8 +368,8 @@ pub fn currency_leads(runs: &[Run]) -> bool
 pub fn is_left_out(runs: &[Run]) -> bool
     requires short { length runs.now ≤ 50 }
     requires positive { ArePositive runs.now }
-    ensures yes { IsTrue result → IsLeftOut (written_out runs.now) }
-    ensures must { IsLeftOut (written_out runs.now) → IsTrue result }
+    ensures yes { IsTrue result → IsOutsideProfile (written_out runs.now) }
+    ensures must { IsOutsideProfile (written_out runs.now) → IsTrue result }
 {
     is_scaled(runs) || currency_leads(runs)
 }

@@ -2,7 +2,7 @@ ghost use Rattle.std.specs.Prelude.{◌≡◌, ℕ, ◌+◌, ◌<◌, ◌≤◌,
 ghost use Rattle.cob_limits.specs.Limits.{longest_edited, longest_record, most_digits};
 ghost use Rattle.cob_picture.specs.Positions.{written_out, positions, shows_number, is_edited};
 ghost use Rattle.cob_picture.specs.Runs.{ArePositive};
-ghost use Rattle.cob_picture.specs.Measures.{AreCountsOf};
+ghost use Rattle.cob_picture.specs.Measures.{AreCountsOver};
 ghost use Rattle.cob_picture.specs.Categories.{IsOf};
 ghost use Rattle.cob_picture.specs.Pictures.{IsPicture, IsMisplaced};
 ghost use Rattle.cob_picture.specs.declared.category.Category.{Category};
@@ -49,11 +49,11 @@ pub fn misplaced(runs: &[Run]) -> PictureFault
 }
 
 /// The category of the runs of a picture, and what is counted over its positions.
-pub fn judged(runs: &[Run]) -> Result<(Category, Counts), PictureFault>
+pub fn category_and_counts(runs: &[Run]) -> Result<(Category, Counts), PictureFault>
     requires short { length runs.now ≤ 50 }
     requires positive { ArePositive runs.now }
     ensures found { IfOk result (λ r. IsPicture r.0 (written_out runs.now)
-        × AreCountsOf (positions r.0 (written_out runs.now)) r.1) }
+        × AreCountsOver (positions r.0 (written_out runs.now)) r.1) }
     ensures only { (c : Category)
         → IsPicture c (written_out runs.now) → IsOkAnd result (λ r. r.0 ≡ c) }
     ensures fault { IfErr result (λ f. IsMisplaced f (written_out runs.now)) }

@@ -1,4 +1,4 @@
-ghost use Rattle.cob_picture.specs.Laws.{IsOnePicture, BreaksNoRule, IsOneRun, FirstLeads, TakesBytes};
+ghost use Rattle.cob_picture.specs.Laws.{IsOnePicture, PictureBreaksNoRule, IsOneRun, FirstLeads, TakesBytes};
 
 /// A text is one picture at most.
 pub fn one_picture()
@@ -7,7 +7,7 @@ pub fn one_picture()
 
 /// A text that is a picture breaks none of the rules that are named for others.
 pub fn breaks_no_rule()
-    ensures { BreaksNoRule }
+    ensures { PictureBreaksNoRule }
 {}
 
 /// The places of a run, those that suppress zeros or float, have one symbol.

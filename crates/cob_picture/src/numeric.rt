@@ -1,7 +1,7 @@
 ghost use Rattle.std.specs.Prelude.{◌≡◌, ℕ, ◌+◌, ◌*◌, ◌<◌, ◌≤◌, ◌++◌, length, replicate, IfSome, Some, IsTrue};
 ghost use Rattle.cob_picture.specs.Numeric.{numeric_symbols, IsNumeric};
 ghost use Rattle.cob_picture.specs.Positions.{written_out};
-ghost use Rattle.cob_picture.specs.Runs.{ArePositive, NotFirst};
+ghost use Rattle.cob_picture.specs.Runs.{ArePositive, NotFirstSymbol};
 ghost use Rattle.cob_picture.specs.declared.numeric.NumericParts.{NumericParts};
 
 use crate::symbol::{Run, Symbol};
@@ -23,7 +23,7 @@ pub fn front(runs: &[Run], symbol: Symbol) -> (u32, &[Run])
     requires short { length runs.now ≤ 50 }
     requires positive { ArePositive runs.now }
     ensures parts { written_out runs.now ≡ replicate result.0 symbol ++ written_out result.1.now }
-    ensures other { NotFirst symbol (written_out result.1.now) }
+    ensures other { NotFirstSymbol symbol (written_out result.1.now) }
     ensures short { length result.1.now ≤ length runs.now }
     ensures positive { ArePositive result.1.now }
 {

@@ -1,15 +1,15 @@
 ghost use Rattle.std.specs.Prelude.{◌≡◌, ℕ, ◌+◌, ◌<◌, ◌≤◌, ◌≤ℤ◌, ◌-ℤ◌, pos, negsuc, ◌⊎◌, List, length, IfOk, IfErr, IsOkAnd, IsTrue, IsFalse};
 ghost use Rattle.cob_limits.specs.Limits.{greatest_scale, longest_edited, longest_picture, longest_record, most_digits};
-ghost use Rattle.cob_picture.specs.Positions.{Seen, written_out, positions, symbols_of, shows_number, is_edited};
+ghost use Rattle.cob_picture.specs.Positions.{PlainPicture, written_out, positions, symbols_of, shows_number, is_edited};
 ghost use Rattle.cob_picture.specs.Runs.{ArePositive};
 ghost use Rattle.cob_picture.specs.Counts.{size, digits, scale, signed};
-ghost use Rattle.cob_picture.specs.Pictures.{IsPictureOf, IsPicture, IsBroken};
+ghost use Rattle.cob_picture.specs.Pictures.{IsPictureOf, IsPicture, BreaksPictureRule};
 ghost use Rattle.cob_picture.specs.Measures.{IsKept};
 ghost use Rattle.cob_picture.specs.declared.category.Category.{Category};
 
 use crate::category::Category;
 use crate::fault::PictureFault;
-use crate::judge::judged;
+use crate::judge::category_and_counts;
 use crate::position::{Position, positions_of};
 use crate::reading::runs_of;
 use crate::symbol::Run;
@@ -29,7 +29,7 @@ pub struct Picture {
 }
 
 impl Model for Picture {
-    ghost Value = { Seen };
+    ghost Value = { PlainPicture };
 
     ghost view = { λ p. record { category = p.category; positions = positions p.category (written_out p.runs.items) } };
 
@@ -44,8 +44,8 @@ impl Picture {
     /// The first rule that is found broken. The text is at most `MAX_PICTURE_TEXT` characters.
     pub fn read(text: &[u8]) -> Result<Picture, PictureFault>
         ensures found { IfOk result (λ p. IsPictureOf text.now p) }
-        ensures only { (p : Seen) → IsPictureOf text.now p → IsOkAnd result (λ q. q ≡ p) }
-        ensures fault { IfErr result (λ f. IsBroken f text.now) }
+        ensures only { (p : PlainPicture) → IsPictureOf text.now p → IsOkAnd result (λ q. q ≡ p) }
+        ensures fault { IfErr result (λ f. BreaksPictureRule f text.now) }
     {
         if text.is_empty() {
             return Err(PictureFault::Empty);
@@ -54,7 +54,7 @@ impl Picture {
             return Err(PictureFault::TooLong);
         }
         let runs = runs_of(text)?;
-        let (category, counts) = judged(runs.as_slice())?;
+        let (category, counts) = category_and_counts(runs.as_slice())?;
         Ok(Picture {
             category,
             size: counts.size as u16,

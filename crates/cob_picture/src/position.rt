@@ -1,5 +1,5 @@
 ghost use Rattle.std.specs.Prelude.{◌≡◌, ℕ, ◌+◌, ◌≤◌, ◌++◌, length, replicate};
-ghost use Rattle.cob_picture.specs.Positions.{position_at, placed, positions, written_out};
+ghost use Rattle.cob_picture.specs.Positions.{position_at, positions_from, positions, written_out};
 ghost use Rattle.cob_picture.specs.Runs.{ArePositive};
 ghost use Rattle.cob_picture.specs.Counts.{is_digit_place};
 
@@ -86,7 +86,7 @@ pub(crate) fn push_run(
     seen: bool,
 )
     requires { length positions.old.items + run.count ≤ 250 }
-    ensures { positions.new.items ≡ positions.old.items ++ placed category floating seen
+    ensures { positions.new.items ≡ positions.old.items ++ positions_from category floating seen
         (replicate run.count run.symbol) }
 {
     let mut seen = seen;

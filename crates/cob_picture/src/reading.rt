@@ -2,7 +2,7 @@ ghost use Rattle.std.specs.Prelude.{◌≡◌, ℕ, ◌<◌, ◌≤◌, min, Lis
 ghost use Rattle.std.specs.List.{AllByRecursion};
 ghost use Rattle.cob_picture.specs.Symbols.{chars};
 ghost use Rattle.cob_picture.specs.declared.symbol.Symbol.{Symbol};
-ghost use Rattle.cob_picture.specs.WrittenOut.{IsDigit, number_of, closed, Item, IsItem, spelling, run_of, NotOpen, Ready, Reads, Front, IsItemFault, IsBrokenAfter};
+ghost use Rattle.cob_picture.specs.WrittenOut.{IsDigit, repeat_number, closed, SpelledSymbol, IsItem, spelling, run_of, NotOpen, Ready, SpellsItems, Front, IsItemFault, IsBrokenAfter};
 
 use crate::MANY;
 use crate::fault::PictureFault;
@@ -12,11 +12,12 @@ use arrayvec::ArrayVec;
 /// The number at the front, closed by a bracket, or `MANY` where it is more, and what follows.
 pub fn repeat_at(text: &[u8]) -> Option<(u16, &[u8])>
     ensures found { IfSome result
-        (λ r. (digits : List ℕ) × AllByRecursion IsDigit digits × (0 < number_of digits)
-        × (text.now ≡ closed digits ++ r.1.now) × (r.0 ≡ min (number_of digits) MANY)) }
+        (λ r. (digits : List ℕ) × AllByRecursion IsDigit digits × (0 < repeat_number digits)
+        × (text.now ≡ closed digits ++ r.1.now) × (r.0 ≡ min (repeat_number digits) MANY)) }
     ensures only { (digits more : List ℕ)
-        → AllByRecursion IsDigit digits → 0 < number_of digits → text.now ≡ closed digits ++ more
-        → IsSomeAnd result (λ r. (r.0 ≡ min (number_of digits) MANY) × (r.1.now ≡ more)) }
+        → AllByRecursion IsDigit digits → 0 < repeat_number digits
+        → text.now ≡ closed digits ++ more
+        → IsSomeAnd result (λ r. (r.0 ≡ min (repeat_number digits) MANY) × (r.1.now ≡ more)) }
 {
     let mut number: u32 = 0;
     for (i, c) in text.iter().enumerate() {
@@ -43,9 +44,9 @@ pub fn unreadable(text: &[u8]) -> PictureFault
 
 /// The symbol with its repeat at the front, and what follows.
 pub fn item_at(text: &[u8]) -> Result<(Run, &[u8]), PictureFault>
-    ensures found { IfOk result (λ r. (i : Item) × IsItem i
+    ensures found { IfOk result (λ r. (i : SpelledSymbol) × IsItem i
         × (text.now ≡ spelling i ++ r.1.now) × Ready (i ∷ []) r.1.now × (r.0 ≡ run_of i)) }
-    ensures only { (i : Item) (more : List ℕ)
+    ensures only { (i : SpelledSymbol) (more : List ℕ)
         → IsItem i → NotOpen more → text.now ≡ spelling i ++ more
         → IsOkAnd result (λ r. (r.0 ≡ run_of i) × (r.1.now ≡ more)) }
     ensures fault { IfErr result (λ f. IsItemFault f text.now) }
@@ -69,9 +70,10 @@ pub fn item_at(text: &[u8]) -> Result<(Run, &[u8]), PictureFault>
 pub fn runs_of(text: &[u8]) -> Result<ArrayVec<Run, 50>, PictureFault>
     requires { length text.now ≤ 50 }
     ensures found { IfOk result
-        (λ v. (items : List Item) × Reads text.now items × (v.items ≡ map run_of items)) }
-    ensures only { (items : List Item)
-        → Reads text.now items → IsOkAnd result (λ v. v.items ≡ map run_of items) }
+        (λ v. (items : List SpelledSymbol) × SpellsItems text.now items
+        × (v.items ≡ map run_of items)) }
+    ensures only { (items : List SpelledSymbol)
+        → SpellsItems text.now items → IsOkAnd result (λ v. v.items ≡ map run_of items) }
     ensures fault { IfErr result (λ f. IsBrokenAfter f text.now) }
 {
     let mut runs = ArrayVec::new();

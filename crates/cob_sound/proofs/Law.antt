@@ -3,11 +3,11 @@ use Rattle.std.proofs.Common.{◌≡◌, sym, subst, []}
 use Rattle.std.specs.Prelude.{None}
 use Rattle.std.specs.List.{AllByRecursion}
 use Rattle.cob_copybook_tree.specs.Forests.{Forest}
-use Rattle.cob_copybook_tree.specs.Nodes.{Resolved}
+use Rattle.cob_copybook_tree.specs.Nodes.{Resolved, alone}
 use Rattle.cob_copybook_tree.specs.Resolving.{resolved}
 use Rattle.cob_copybook_lengths.specs.Areas.{ArePossible}
 use Rattle.cob_copybook.proofs.Storages.{possible}
-use Rattle.cob_layout_places.specs.Lengths.{alone, IsFit}
+use Rattle.cob_layout_places.specs.Lengths.{FitsInRecord}
 use Rattle.cob_layout_places.specs.Cover.{AreNumbered}
 use Rattle.cob_layout_places.specs.Counts.{tables_of}
 use Rattle.cob_sound.specs.Sound.{HoldSome, AreNested, AreStorable, RecordsAreSound}
@@ -26,7 +26,7 @@ sound t (role, text, book) =
     let occur = subst ArePossible tree (possible counts 0 0 None None w is.agree.tables is.agree.filled) in
     let items = storable counts 0 None None w is.agree.usages is.agree.placements in
     let first : t.top.redefines ≡ None = redefines_none t.top.redefines t is.stored.fit.areas.0 in
-    let fit : IsFit 0 t = record {
+    let fit : FitsInRecord 0 t = record {
       possible = may_occur (alone t) occur;
       leaves = leaves (alone t) occur;
       areas = in_areas [] t.beneath is.stored.fit.areas.1;

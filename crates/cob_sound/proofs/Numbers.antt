@@ -2,25 +2,25 @@
 use Rattle.std.proofs.Common.{◌≡◌, sym, subst, ℕ, ◌+◌, List, refl, arith, Option}
 use Rattle.cob_entry.specs.declared.kinds.Usage.{Usage}
 use Rattle.cob_entry.specs.declared.kinds.Sign.{Sign}
-use Rattle.cob_entry.specs.Described.{Described}
-use Rattle.cob_copybook_tree.specs.Forests.{Forest, Bare, Grows, entries_in}
+use Rattle.cob_entry.specs.Described.{PlainEntry}
+use Rattle.cob_copybook_tree.specs.Forests.{Forest, NoEntries, AnEntry, entries_in}
 use Rattle.cob_copybook_tree.specs.Resolving.{inherited, resolved}
 use Rattle.cob_layout_places.specs.Cover.{AreNumbered}
 
 -- what entries inherit adds none
-pub same_entries : (counts : List ℕ) (n : ℕ) (usage : Option Usage) (sign : Option Sign) (f : Forest Described) → entries_in (resolved counts n usage sign f) ≡ entries_in f
-same_entries counts n usage sign Bare = refl
-same_entries counts n usage sign (Grows e kids more) =
-    let below = same_entries counts (n + 1) (inherited usage e.usage) (inherited sign e.sign) kids in
-    let beside = same_entries counts (n + 1 + entries_in kids) usage sign more in
+pub same_entries : (counts : List ℕ) (n : ℕ) (usage : Option Usage) (sign : Option Sign) (f : Forest PlainEntry) → entries_in (resolved counts n usage sign f) ≡ entries_in f
+same_entries counts n usage sign NoEntries = refl
+same_entries counts n usage sign (AnEntry e children more) =
+    let below = same_entries counts (n + 1) (inherited usage e.usage) (inherited sign e.sign) children in
+    let beside = same_entries counts (n + 1 + entries_in children) usage sign more in
     omega (arith, below, beside)
 
-pub numbered : (counts : List ℕ) (n : ℕ) (usage : Option Usage) (sign : Option Sign) (f : Forest Described) → AreNumbered n (resolved counts n usage sign f)
-numbered counts n usage sign Bare = tt
-numbered counts n usage sign (Grows e kids more) =
-    let same = same_entries counts (n + 1) (inherited usage e.usage) (inherited sign e.sign) kids in
-    let beside = numbered counts (n + 1 + entries_in kids) usage sign more in (
+pub numbered : (counts : List ℕ) (n : ℕ) (usage : Option Usage) (sign : Option Sign) (f : Forest PlainEntry) → AreNumbered n (resolved counts n usage sign f)
+numbered counts n usage sign NoEntries = tt
+numbered counts n usage sign (AnEntry e children more) =
+    let same = same_entries counts (n + 1) (inherited usage e.usage) (inherited sign e.sign) children in
+    let beside = numbered counts (n + 1 + entries_in children) usage sign more in (
       refl,
-      numbered counts (n + 1) (inherited usage e.usage) (inherited sign e.sign) kids,
-      subst (λ (k : ℕ). AreNumbered (n + 1 + k) (resolved counts (n + 1 + entries_in kids) usage sign more)) (sym same) beside,
+      numbered counts (n + 1) (inherited usage e.usage) (inherited sign e.sign) children,
+      subst (λ (k : ℕ). AreNumbered (n + 1 + k) (resolved counts (n + 1 + entries_in children) usage sign more)) (sym same) beside,
     )

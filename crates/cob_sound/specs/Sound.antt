@@ -3,16 +3,16 @@ use Rattle.std.specs.Prelude.{◌≡◌, ◌⊎◌, ℕ, ◌+◌, ◌<◌, ◌�
 use Rattle.std.specs.List.{AllByRecursion}
 use Rattle.cob_copybook_tree.specs.declared.node.Kind.{Kind}
 use Rattle.cob_copybook_tree.specs.declared.node.Kind.TheVariants.{Group, Item as ItemKind}
-use Rattle.cob_copybook_tree.specs.declared.node.Times.{Times}
-use Rattle.cob_copybook_tree.specs.declared.node.Times.TheVariants.{Once, Fixed, Varying}
-use Rattle.cob_copybook_tree.specs.Forests.{Forest, Bare, Grows, Tree}
-use Rattle.cob_copybook_tree.specs.Nodes.{Resolved}
+use Rattle.cob_copybook_tree.specs.declared.node.ResolvedOccurs.{ResolvedOccurs}
+use Rattle.cob_copybook_tree.specs.declared.node.ResolvedOccurs.TheVariants.{Once, Fixed, Varying}
+use Rattle.cob_copybook_tree.specs.Forests.{Forest, NoEntries, AnEntry, Tree}
+use Rattle.cob_copybook_tree.specs.Nodes.{Resolved, alone}
 use Rattle.cob_limits.specs.Limits.{most_dimensions}
 use Rattle.cob_copybook_lengths.specs.Areas.{AreAreas}
 use Rattle.cob_copybook_lengths.specs.Values.{AreValues}
-use Rattle.cob_copybook.specs.Books.{IsRecord}
+use Rattle.cob_copybook.specs.Books.{IsRecordDescription}
 use Rattle.cob_layout_places.specs.declared.varying.Table.{Table}
-use Rattle.cob_layout_places.specs.Lengths.{alone, IsFit}
+use Rattle.cob_layout_places.specs.Lengths.{FitsInRecord}
 use Rattle.cob_layout_places.specs.Places.{is_table}
 use Rattle.cob_layout_places.specs.Needs.{Has}
 use Rattle.cob_layout_places.specs.Cover.{AreNumbered}
@@ -26,36 +26,36 @@ IsStorableKind (ItemKind i) = IsStorable i
 
 -- each item can be stored
 abbrev pub AreStorable : Forest Resolved → Type 0
-AreStorable Bare = Unit {0}
-AreStorable (Grows e kids more) = IsStorableKind e.kind × AreStorable kids × AreStorable more
+AreStorable NoEntries = Unit {0}
+AreStorable (AnEntry e children more) = IsStorableKind e.kind × AreStorable children × AreStorable more
 
 -- a group has an entry beneath it
 abbrev pub HoldsSome : Kind → Forest Resolved → Type 0
-HoldsSome (ItemKind i) kids = Unit {0}
-HoldsSome Group Bare = ⊥
-HoldsSome Group (Grows e kids more) = Unit {0}
+HoldsSome (ItemKind i) children = Unit {0}
+HoldsSome Group NoEntries = ⊥
+HoldsSome Group (AnEntry e children more) = Unit {0}
 
 -- each group has one
 abbrev pub HoldSome : Forest Resolved → Type 0
-HoldSome Bare = Unit {0}
-HoldSome (Grows e kids more) = HoldsSome e.kind kids × HoldSome kids × HoldSome more
+HoldSome NoEntries = Unit {0}
+HoldSome (AnEntry e children more) = HoldsSome e.kind children × HoldSome children × HoldSome more
 
 -- one for a table
-abbrev pub own_dimension : Times → ℕ
+abbrev pub own_dimension : ResolvedOccurs → ℕ
 own_dimension Once = 0
 own_dimension (Fixed n) = 1
 own_dimension (Varying least most count) = 1
 
 -- beneath so many tables, no more than 7 stand within one another
 abbrev pub AreNested : ℕ → Forest Resolved → Type 0
-AreNested n Bare = Unit {0}
-AreNested n (Grows e kids more) =
-    (n + own_dimension e.occurs ≤ most_dimensions) × AreNested (n + own_dimension e.occurs) kids × AreNested n more
+AreNested n NoEntries = Unit {0}
+AreNested n (AnEntry e children more) =
+    (n + own_dimension e.occurs ≤ most_dimensions) × AreNested (n + own_dimension e.occurs) children × AreNested n more
 
 -- the entry with this number stands beneath a table
 abbrev pub InTable : ℕ → Forest Resolved → Type 0
-InTable a Bare = ⊥
-InTable a (Grows e kids more) = ((is_table e.occurs ≡ true) × Has a kids) ⊎ (InTable a kids ⊎ InTable a more)
+InTable a NoEntries = ⊥
+InTable a (AnEntry e children more) = ((is_table e.occurs ≡ true) × Has a children) ⊎ (InTable a children ⊎ InTable a more)
 
 -- the count of a table that varies stands before the table, and beneath none
 pub record IsAhead (f : Forest Resolved) (x : Table) : Type 0 where
@@ -67,7 +67,7 @@ pub record IsAhead (f : Forest Resolved) (x : Table) : Type 0 where
 -- each table that varies is counted by a whole number, which stands before it and in no table; each item can be stored; the values fit; and
 -- the record itself redefines nothing.
 pub record IsSound (t : Tree Resolved) : Type 0 where
-  pub fit : IsFit 0 t
+  pub fit : FitsInRecord 0 t
   pub filled : HoldSome (alone t)
   pub areas : AreAreas [] (alone t)
   pub numbered : AreNumbered 0 (alone t)
@@ -80,4 +80,4 @@ pub record IsSound (t : Tree Resolved) : Type 0 where
 
 -- so it is of every record description
 abbrev pub RecordsAreSound : Type 0
-RecordsAreSound = (t : Tree Resolved) → IsRecord (alone t) → IsSound t
+RecordsAreSound = (t : Tree Resolved) → IsRecordDescription (alone t) → IsSound t

@@ -5,7 +5,7 @@ use Rattle.std.proofs.lemmas.Bool.{eq-eqb, ne_eqb}
 use Rattle.cob_source.specs.declared.token.Cell.{Cell}
 use Rattle.cob_source.specs.declared.token.Cutting.{Cutting}
 use Rattle.cob_source.specs.Tokens.{Lexeme}
-use Rattle.cob_source.specs.Cuts.{Piece, Gap, Chunk, Quoted, Body, Close, One, Two, is_quote, open_with, open_from, open_quote, spelled, IsPiece, Cuts, End, Then}
+use Rattle.cob_source.specs.Cuts.{Piece, Gap, Chunk, Quoted, Body, Close, One, Two, is_quote, open_with, open_from, open_quote, cells_of_piece, IsPiece, Cuts, End, Then}
 use Rattle.cob_source.proofs.CutLemmas.{open_gap, open_chunk, open_literal}
 
 -- behind a literal none is open
@@ -28,7 +28,7 @@ body_closes q inside rest text iq (Two {rest = more} c d e b k t v) =
     ∙ ap (λ (o : Option ℕ). open_from o (more ++ rest)) opens ∙ body_closes q more rest _ iq v
 
 -- behind a piece the same is open as without it
-piece_closes : (p : Piece) (rest : List Cell) → IsPiece p → open_quote (spelled p ++ rest) ≡ open_quote rest
+piece_closes : (p : Piece) (rest : List Cell) → IsPiece p → open_quote (cells_of_piece p ++ rest) ≡ open_quote rest
 piece_closes (Gap c) rest ip = open_gap c rest ip
 piece_closes (Chunk cs) rest ip = open_chunk cs rest ip.1
 piece_closes (Quoted o inside text) rest ip = open_literal o (inside ++ rest) ip.0 ∙ body_closes o.byte inside rest text ip.0 ip.1

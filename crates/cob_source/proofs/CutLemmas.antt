@@ -7,7 +7,7 @@ use Rattle.std.proofs.lemmas.List.{append-nil}
 use Rattle.cob_source.specs.declared.token.Cell.{Cell}
 use Rattle.cob_source.specs.declared.token.Cutting.{Cutting}
 use Rattle.cob_source.specs.Tokens.{Lexeme}
-use Rattle.cob_source.specs.Cuts.{Piece, is_quote, is_gap, is_plain, IsPlain, spelled, IsPiece, Follows, plain_first, lexemes_of, Cuts, End, Then, open_from, open_quote}
+use Rattle.cob_source.specs.Cuts.{Piece, is_quote, is_gap, is_plain, IsPlain, cells_of_piece, IsPiece, Follows, plain_first, lexemes_of, Cuts, End, Then, open_from, open_quote}
 
 -- whatever the rest is cut into, behind what is cut so far, is what the whole is cut into
 abbrev pub SoFar : Cutting → List Cell → List Cell → List Lexeme → List Lexeme → Type 0
@@ -16,7 +16,7 @@ SoFar m cells rest old now = (ts : List Lexeme) → Cuts m rest ts → (all : Li
 pub begins : (m : Cutting) (cells : List Cell) (old : List Lexeme) → SoFar m cells cells old old
 begins m cells old = λ ts c. (ts, c, refl)
 
-pub goes_on : (m : Cutting) (cells rest : List Cell) (old now next : List Lexeme) (p : Piece) (after : List Cell) → SoFar m cells rest old now → IsPiece p → Follows p after → rest ≡ spelled p ++ after → next ≡ now ++ lexemes_of m p after → SoFar m cells after old next
+pub goes_on : (m : Cutting) (cells rest : List Cell) (old now next : List Lexeme) (p : Piece) (after : List Cell) → SoFar m cells rest old now → IsPiece p → Follows p after → rest ≡ cells_of_piece p ++ after → next ≡ now ++ lexemes_of m p after → SoFar m cells after old next
 goes_on m cells rest old now next p after so ip fp e n = λ ts c.
     let f = so (lexemes_of m p after ++ ts) (Then p ip fp e refl c) in
     (f.0, f.1, f.2 ∙ sym (append_assoc now (lexemes_of m p after) ts) ∙ ap (λ (t : List Lexeme). t ++ ts) (sym n))

@@ -4,7 +4,7 @@ use Rattle.std.specs.List.{AllByRecursion}
 use Rattle.cob_source.specs.declared.token.Cell.{Cell}
 use Rattle.cob_source.specs.declared.token.Cutting.{Cutting}
 use Rattle.cob_source.specs.Tokens.{Lexeme}
-use Rattle.cob_source.specs.Cuts.{Piece, Gap, Chunk, Quoted, Body, Close, One, Two, NotFirst, is_quote, is_gap, is_plain, spelled, IsPiece, Follows, IsPlain, plain_first, quote_first, lexemes_of, Cuts, End, Then}
+use Rattle.cob_source.specs.Cuts.{Piece, Gap, Chunk, Quoted, Body, Close, One, Two, NotFirstQuote, is_quote, is_gap, is_plain, cells_of_piece, IsPiece, Follows, IsPlain, plain_first, quote_first, lexemes_of, Cuts, End, Then}
 use Rattle.cob_source.proofs.CutLemmas.{plain_no_quote, gap_no_quote}
 
 pub record SamePiece (p q : Piece) (x y : List Cell) : Type 0 where
@@ -29,11 +29,11 @@ pub record SameBody (a b : List Cell) (t u : List ℕ) (x y : List Cell) : Type 
   pub rest : x ≡ y
 
 -- what doesn't begin with this quote
-first_is : {q : ℕ} (rest : List Cell) (c : Cell) (more : List Cell) → rest ≡ c ∷ more → NotFirst q rest → c.byte ≡ q → ⊥
-first_is {q} rest c more e f is = let h : NotFirst q (c ∷ more) = subst (NotFirst q) e f in h is
+first_is : {q : ℕ} (rest : List Cell) (c : Cell) (more : List Cell) → rest ≡ c ∷ more → NotFirstQuote q rest → c.byte ≡ q → ⊥
+first_is {q} rest c more e f is = let h : NotFirstQuote q (c ∷ more) = subst (NotFirstQuote q) e f in h is
 
 -- a literal ends in one place
-same_body : {q : ℕ} {a b : List Cell} {t u : List ℕ} (x y : List Cell) → Body q a t → Body q b u → NotFirst q x → NotFirst q y → a ++ x ≡ b ++ y → SameBody a b t u x y
+same_body : {q : ℕ} {a b : List Cell} {t u : List ℕ} (x y : List Cell) → Body q a t → Body q b u → NotFirstQuote q x → NotFirstQuote q y → a ++ x ≡ b ++ y → SameBody a b t u x y
 same_body {q} x y (Close c ea qa ta) (Close d eb qb tb) fx fy e =
     let h : c ∷ x ≡ d ∷ y = ap (λ (l : List Cell). l ++ x) (sym ea) ∙ e ∙ ap (λ (l : List Cell). l ++ y) eb in
     let heads : c ≡ d = cc in
@@ -92,7 +92,7 @@ quote_not_gap b q g = let t = gap_no_quote b g in let h : true ≡ false = sym q
 abbrev byte : Cell → ℕ
 byte c = c.byte
 
-same_piece : (p q : Piece) (x y : List Cell) → IsPiece p → IsPiece q → Follows p x → Follows q y → spelled p ++ x ≡ spelled q ++ y → SamePiece p q x y
+same_piece : (p q : Piece) (x y : List Cell) → IsPiece p → IsPiece q → Follows p x → Follows q y → cells_of_piece p ++ x ≡ cells_of_piece q ++ y → SamePiece p q x y
 same_piece (Gap c) (Gap d) x y ip iq fp fq e = let h : c ≡ d = cc in record { piece = ap Gap h; rest = cc }
 same_piece (Gap c) (Chunk []) x y ip iq fp fq e = absurd (omega (arith, iq.0))
 same_piece (Gap c) (Chunk (d ∷ b)) x y ip iq fp fq e = let h : d ≡ c = cc in absurd (gap_not_plain c.byte ip (subst IsPlain h iq.1.0))
@@ -108,20 +108,20 @@ same_piece (Quoted o inside text) (Quoted k inner other) x y ip iq fp fq e =
     let heads : k ≡ o = cc in
     let tails : inside ++ x ≡ inner ++ y = cc in
     let bytes : k.byte ≡ o.byte = ap (λ (c : Cell). c.byte) heads in
-    let s = same_body x y ip.1 (subst (λ (q : ℕ). Body q inner other) bytes iq.1) fp (subst (λ (q : ℕ). NotFirst q y) bytes fq) tails in
+    let s = same_body x y ip.1 (subst (λ (q : ℕ). Body q inner other) bytes iq.1) fp (subst (λ (q : ℕ). NotFirstQuote q y) bytes fq) tails in
     let a : o ≡ k = sym heads in
     let b = s.inside in
     let t = s.text in
     record { piece = cc; rest = s.rest }
 
-spelled_some : (p : Piece) (x : List Cell) → IsPiece p → spelled p ++ x ≡ [] → ⊥
+spelled_some : (p : Piece) (x : List Cell) → IsPiece p → cells_of_piece p ++ x ≡ [] → ⊥
 spelled_some (Gap c) x ip e = cc
 spelled_some (Chunk []) x ip e = omega (arith, ip.0)
 spelled_some (Chunk (c ∷ cs)) x ip e = cc
 spelled_some (Quoted o inside text) x ip e = cc
 
 -- what is cut behind a piece
-behind : {m : Cutting} {cells : List Cell} {ts : List Lexeme} (p : Piece) (rest : List Cell) → IsPiece p → Follows p rest → cells ≡ spelled p ++ rest → Cuts m cells ts → (more : List Lexeme) × Cuts m rest more × (ts ≡ lexemes_of m p rest ++ more)
+behind : {m : Cutting} {cells : List Cell} {ts : List Lexeme} (p : Piece) (rest : List Cell) → IsPiece p → Follows p rest → cells ≡ cells_of_piece p ++ rest → Cuts m cells ts → (more : List Lexeme) × Cuts m rest more × (ts ≡ lexemes_of m p rest ++ more)
 behind p rest ip fp e (End nothing none_left) = absurd (spelled_some p rest ip (sym e ∙ nothing))
 behind {m} {cells} {ts} p rest ip fp e (Then {rest = y} {more = more} q iq fq e' t c) =
     let s = same_piece p q rest y ip iq fp fq (sym e ∙ e') in (
@@ -158,7 +158,7 @@ quote_before (c ∷ x) y f = refl
 other_quote : (q : ℕ) → is_quote q ≡ true → 10 ≡ q → ⊥
 other_quote q e h = let k : is_quote 10 ≡ true = ap is_quote h ∙ e in cc
 
-free_before : (q : ℕ) (x y : List Cell) → is_quote q ≡ true → EndFirst y → NotFirst q x → NotFirst q (x ++ y)
+free_before : (q : ℕ) (x y : List Cell) → is_quote q ≡ true → EndFirst y → NotFirstQuote q x → NotFirstQuote q (x ++ y)
 free_before q [] [] iq f n = tt
 free_before q [] (c ∷ y) iq f n = λ e. other_quote q iq (sym f ∙ e)
 free_before q (c ∷ x) y iq f n = n
@@ -178,6 +178,6 @@ pub cut_both : {m : Cutting} {x y : List Cell} {a b : List Lexeme} → EndFirst 
 cut_both {m} {x} {y} {a} {b} f (End nothing none_left) other =
     subst (λ (l : List Cell). Cuts m (l ++ y) (a ++ b)) (sym nothing) (subst (λ (l : List Lexeme). Cuts m y (l ++ b)) (sym none_left) other)
 cut_both {m} {x} {y} {a} {b} f (Then {rest = r} {more = more} p ip fp e t c) other =
-    Then p ip (follows_before p r y ip f fp) (ap (λ (l : List Cell). l ++ y) e ∙ append_assoc (spelled p) r y)
+    Then p ip (follows_before p r y ip f fp) (ap (λ (l : List Cell). l ++ y) e ∙ append_assoc (cells_of_piece p) r y)
     (ap (λ (l : List Lexeme). l ++ b) t ∙ append_assoc (lexemes_of m p r) more b ∙ ap (λ (l : List Lexeme). l ++ (more ++ b)) (sym (lexemes_before m p r y f)))
     (cut_both f c other)

@@ -9,8 +9,8 @@ use Rattle.cob_source.specs.declared.lines.LineKind.TheVariants.{Skipped, Plain,
 use Rattle.cob_source.specs.declared.fault.SourceRule.TheVariants.{NotAscii, Tab, OpenLiteral, BadContinuation, TooLong, UnknownIndicator, Memory}
 use Rattle.cob_source.specs.Tokens.{Lexeme}
 use Rattle.cob_source.specs.Cuts.{open_quote}
-use Rattle.cob_source.specs.Lines.{lines, kind_of, joined_of, last_joined}
-use Rattle.cob_source.specs.Words.{breaks, Fits, AreFit, BreaksAt, GoesOnNothing, IsLeftOpen, AreCutsOf}
+use Rattle.cob_source.specs.Lines.{lines, kind_of_line, joined_of, last_joined}
+use Rattle.cob_source.specs.Words.{breaks, FitsLine, AreFit, BreaksAt, GoesOnNothing, IsLeftOpen, AreCutsOf}
 use Rattle.cob_source.proofs.ReadingLemmas.{AllFit-push}
 
 -- no rule is broken on any line of these
@@ -23,19 +23,19 @@ unbroken false h = refl
 unbroken true h = absurd (h refl)
 
 -- where a plain line breaks the rule on open literals, one is left open before it
-plain_open : (k : LineKind) (joined : List Cell) (line : List ℕ) → kind_of line ≡ k → breaks OpenLiteral joined line ≡ true → (kind_of line ≡ Plain) × (is_some (open_quote joined) ≡ true)
+plain_open : (k : LineKind) (joined : List Cell) (line : List ℕ) → kind_of_line line ≡ k → breaks OpenLiteral joined line ≡ true → (kind_of_line line ≡ Plain) × (is_some (open_quote joined) ≡ true)
 plain_open Skipped joined line e h = absurd (let f : breaks OpenLiteral joined line ≡ false = rw e refl in let t : true ≡ false = sym h ∙ f in cc)
 plain_open Plain joined line e h = (e, let f : breaks OpenLiteral joined line ≡ is_some (open_quote joined) = rw e refl in sym f ∙ h)
 plain_open Continuation joined line e h = absurd (let f : breaks OpenLiteral joined line ≡ false = rw e refl in let t : true ≡ false = sym h ∙ f in cc)
 
-line_fits : (ls before : List (List ℕ)) (line : List ℕ) (after : List (List ℕ)) → BreakNone ls → ls ≡ before ++ line ∷ after → AreFit before → Fits (joined_of before) line
+line_fits : (ls before : List (List ℕ)) (line : List ℕ) (after : List (List ℕ)) → BreakNone ls → ls ≡ before ++ line ∷ after → AreFit before → FitsLine (joined_of before) line
 line_fits ls before line after none e fit NotAscii = unbroken _ (λ h. none.0 (length before + 1) record { before = before; line = line; after = after; lines_are = e; broken = h; number = refl })
 line_fits ls before line after none e fit Tab = unbroken _ (λ h. none.1 (length before + 1) record { before = before; line = line; after = after; lines_are = e; broken = h; number = refl })
 line_fits ls before line after none e fit UnknownIndicator = unbroken _ (λ h. none.2 (length before + 1) record { before = before; line = line; after = after; lines_are = e; broken = h; number = refl })
 line_fits ls before line after none e fit BadContinuation =
     unbroken _ (λ h. none.3 (length before + 1) (record { before = before; line = line; after = after; lines_are = e; broken = h; number = refl }, fit))
 line_fits ls before line after none e fit OpenLiteral =
-    unbroken _ (λ h. let p = plain_open (kind_of line) (joined_of before) line refl h in
+    unbroken _ (λ h. let p = plain_open (kind_of_line line) (joined_of before) line refl h in
     none.4 (last_joined before) record { before = before; after = line ∷ after; lines_are = e; fit = fit; left_open = p.1; none_follows = p.0; number = refl })
 line_fits ls before line after none e fit TooLong = refl
 line_fits ls before line after none e fit Memory = refl

@@ -4,7 +4,7 @@ use Rattle.std.specs.Prelude.{Some, None, ◌==◌}
 use Rattle.std.proofs.lemmas.List.{append-nil}
 use Rattle.std.proofs.lemmas.Bool.{ne_eqb, eq-eqb}
 use Rattle.cob_source.specs.declared.token.Cell.{Cell}
-use Rattle.cob_source.specs.Cuts.{Body, Close, One, Two, NotFirst, is_quote, open_from}
+use Rattle.cob_source.specs.Cuts.{Body, Close, One, Two, NotFirstQuote, is_quote, open_from}
 
 -- whatever closes the rest closes the whole
 abbrev pub Within : ℕ → List Cell → List Cell → List ℕ → Type 0
@@ -23,7 +23,7 @@ takes_two q cells rest text c k after w e qc qk = λ b t B.
     let f = w (c ∷ (k ∷ b)) (q ∷ t) (Two c k refl qc qk refl B) in
     (f.0, subst (λ (l : List ℕ). Body q f.0 l) (sym (append_assoc text (q ∷ []) t)) f.1, λ x h. f.2 x (e ∙ ap (λ (l : List Cell). c ∷ (k ∷ l)) h))
 
-pub closes : (q : ℕ) (cells rest : List Cell) (text : List ℕ) (c : Cell) (after : List Cell) → Within q cells rest text → rest ≡ c ∷ after → c.byte ≡ q → NotFirst q after → (inside : List Cell) × Body q inside text × NotFirst q after × (cells ≡ inside ++ after)
+pub closes : (q : ℕ) (cells rest : List Cell) (text : List ℕ) (c : Cell) (after : List Cell) → Within q cells rest text → rest ≡ c ∷ after → c.byte ≡ q → NotFirstQuote q after → (inside : List Cell) × Body q inside text × NotFirstQuote q after × (cells ≡ inside ++ after)
 closes q cells rest text c after w e qc free =
     let f = w (c ∷ []) [] (Close c refl qc refl) in
     (f.0, subst (λ (l : List ℕ). Body q f.0 l) (append-nil text) f.1, free, f.2 after e)

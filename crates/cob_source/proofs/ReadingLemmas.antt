@@ -11,8 +11,8 @@ use Rattle.cob_source.specs.declared.fault.SourceRule.TheVariants.{NotAscii, Tab
 use Rattle.cob_limits.specs.Limits.{longest_text}
 use Rattle.cob_source.specs.Tokens.{Lexeme}
 use Rattle.cob_source.specs.Cuts.{is_quote, open_from, open_quote, nowhere, Cuts, End}
-use Rattle.cob_source.specs.Lines.{lines, written, behind_spaces, is_nil, is_blank, kind_of, line_end, cells_behind, trim_end, continued_text, left_out, continued, join, join_by, joined_from, joined_of, last_by, last_from, last_joined}
-use Rattle.cob_source.specs.Words.{breaks, BreaksAlone, KeepsCharacters, BreaksAt, NoContinuation, IsLeftOpen, IsBroken, IsRefusal, AreCutsOf, Fits, AllFit, is_bad_continuation, is_misfit, ends_quoted, first_character}
+use Rattle.cob_source.specs.Lines.{lines, program_text, behind_spaces, is_nil, is_blank, kind_of_line, line_end, cells_behind, trim_end, continued_text, left_out, continued, join, join_by, joined_from, joined_of, last_by, last_from, last_joined}
+use Rattle.cob_source.specs.Words.{breaks, BreaksAlone, KeepsCharacters, BreaksAt, NoContinuation, IsLeftOpen, BreaksSourceRule, IsSourceRefusal, AreCutsOf, FitsLine, AllFit, is_bad_continuation, is_misfit, ends_quoted, first_character}
 use Rattle.cob_source.specs.Reading.{Begins, HasRead, EndRefused, ContinuationRefused, IsContinued, LineRefused}
 use Rattle.cob_source.proofs.Opens.{open_from-append}
 use Rattle.cob_source.proofs.CutOnce.{EndFirst, cut_both, cut_once}
@@ -33,20 +33,20 @@ last_from-append : (n k : ℕ) (a b : List (List ℕ)) → last_from n k (a ++ b
 last_from-append n k [] b = let e : n + 0 ≡ n = omega arith in rw e refl
 last_from-append n k (x ∷ a) b =
     let e : n + 1 + length a ≡ n + suc (length a) = omega arith in
-    last_from-append (n + 1) (last_by (kind_of x) n k) a b ∙ ap (λ (m : ℕ). last_from m (last_from (n + 1) (last_by (kind_of x) n k) a) b) e
+    last_from-append (n + 1) (last_by (kind_of_line x) n k) a b ∙ ap (λ (m : ℕ). last_from m (last_from (n + 1) (last_by (kind_of_line x) n k) a) b) e
 
-last_joined-push : (before : List (List ℕ)) (line : List ℕ) → last_joined (before ++ line ∷ []) ≡ last_by (kind_of line) (length before + 1) (last_joined before)
-last_joined-push before line = last_from-append 1 0 before (line ∷ []) ∙ ap (λ (k : ℕ). last_by (kind_of line) k (last_joined before)) (plus_one (length before))
+last_joined-push : (before : List (List ℕ)) (line : List ℕ) → last_joined (before ++ line ∷ []) ≡ last_by (kind_of_line line) (length before + 1) (last_joined before)
+last_joined-push before line = last_from-append 1 0 before (line ∷ []) ∙ ap (λ (k : ℕ). last_by (kind_of_line line) k (last_joined before)) (plus_one (length before))
 
-pub AllFit-push : (n : ℕ) (j : List Cell) (a : List (List ℕ)) (line : List ℕ) → AllFit n j a → Fits (joined_from n j a) line → AllFit n j (a ++ line ∷ [])
+pub AllFit-push : (n : ℕ) (j : List Cell) (a : List (List ℕ)) (line : List ℕ) → AllFit n j a → FitsLine (joined_from n j a) line → AllFit n j (a ++ line ∷ [])
 AllFit-push n j [] line all fits = (fits, tt)
 AllFit-push n j (x ∷ a) line all fits = (all.0, AllFit-push (n + 1) (join n j x) a line all.1 fits)
 
-fits_at : (n : ℕ) (j : List Cell) (a : List (List ℕ)) (line : List ℕ) (b : List (List ℕ)) → AllFit n j (a ++ line ∷ b) → Fits (joined_from n j a) line
+fits_at : (n : ℕ) (j : List Cell) (a : List (List ℕ)) (line : List ℕ) (b : List (List ℕ)) → AllFit n j (a ++ line ∷ b) → FitsLine (joined_from n j a) line
 fits_at n j [] line b all = all.0
 fits_at n j (x ∷ a) line b all = fits_at (n + 1) (join n j x) a line b all.1
 
-fits_by : (joined : List Cell) (line : List ℕ) → KeepsCharacters line → breaks BadContinuation joined line ≡ false → breaks OpenLiteral joined line ≡ false → Fits joined line
+fits_by : (joined : List Cell) (line : List ℕ) → KeepsCharacters line → breaks BadContinuation joined line ≡ false → breaks OpenLiteral joined line ≡ false → FitsLine joined line
 fits_by joined line k bad left NotAscii = k.ascii
 fits_by joined line k bad left Tab = k.tabs
 fits_by joined line k bad left OpenLiteral = left
@@ -55,13 +55,13 @@ fits_by joined line k bad left TooLong = refl
 fits_by joined line k bad left UnknownIndicator = k.indicators
 fits_by joined line k bad left Memory = refl
 
-skipped_fits : (joined : List Cell) (line : List ℕ) → KeepsCharacters line → kind_of line ≡ Skipped → Fits joined line
+skipped_fits : (joined : List Cell) (line : List ℕ) → KeepsCharacters line → kind_of_line line ≡ Skipped → FitsLine joined line
 skipped_fits joined line k e = fits_by joined line k (rw e refl) (rw e refl)
 
-plain_fits : (joined : List Cell) (line : List ℕ) → KeepsCharacters line → kind_of line ≡ Plain → open_quote joined ≡ None → Fits joined line
+plain_fits : (joined : List Cell) (line : List ℕ) → KeepsCharacters line → kind_of_line line ≡ Plain → open_quote joined ≡ None → FitsLine joined line
 plain_fits joined line k e c = fits_by joined line k (rw e refl) (rw (e, c) refl)
 
-continuation_fits : (joined : List Cell) (line : List ℕ) → KeepsCharacters line → kind_of line ≡ Continuation → is_bad_continuation joined line ≡ false → Fits joined line
+continuation_fits : (joined : List Cell) (line : List ℕ) → KeepsCharacters line → kind_of_line line ≡ Continuation → is_bad_continuation joined line ≡ false → FitsLine joined line
 continuation_fits joined line k e bad = fits_by joined line k (rw e bad) (rw e refl)
 
 -- what is open at the end of all is what is open at the end of the last joined line
@@ -69,7 +69,7 @@ pub open_of : {m : Cutting} {before : List (List ℕ)} {cells : List Cell} {q : 
 open_of {cells = cells} r =
     ap open_quote r.joined_is ∙ open_from-append None r.done cells ∙ ap (λ (s : Option ℕ). open_from s cells) r.closed ∙ sym r.open_is
 
-pub skips : {m : Cutting} {before : List (List ℕ)} {cells : List Cell} {q : Option ℕ} {last : ℕ} {words : List Lexeme} (line : List ℕ) → HasRead m before cells q last words → KeepsCharacters line → kind_of line ≡ Skipped → HasRead m (before ++ line ∷ []) cells q last words
+pub skips : {m : Cutting} {before : List (List ℕ)} {cells : List Cell} {q : Option ℕ} {last : ℕ} {words : List Lexeme} (line : List ℕ) → HasRead m before cells q last words → KeepsCharacters line → kind_of_line line ≡ Skipped → HasRead m (before ++ line ∷ []) cells q last words
 skips {m} {before} {cells} {q} {last} line r k e = record {
   done = r.done;
   joined_is = joined_of-push before line ∙ ap (λ (x : LineKind). join_by x (length before + 1) (joined_of before) line) e ∙ r.joined_is;
@@ -86,7 +86,7 @@ end_first done [] b = tt
 end_first done (c ∷ cells) b = b
 
 pub starts : {m : Cutting} {before : List (List ℕ)} {cells : List Cell} {q : Option ℕ} {last : ℕ} {words : List Lexeme} (line : List ℕ) (n : ℕ) (ts : List Lexeme) (new : List Cell) (open_now : Option ℕ) (words' : List Lexeme)
-    → HasRead m before cells q last words → KeepsCharacters line → kind_of line ≡ Plain → q ≡ None → Cuts m cells ts → words ++ ts ≡ words' → n ≡ length before + 1
+    → HasRead m before cells q last words → KeepsCharacters line → kind_of_line line ≡ Plain → q ≡ None → Cuts m cells ts → words ++ ts ≡ words' → n ≡ length before + 1
     → new ≡ line_end n ∷ cells_behind n 0 line → open_now ≡ open_quote new → HasRead m (before ++ line ∷ []) new open_now n words'
 starts {m} {before} {cells} {q} {last} {words} line n ts new open_now words' r k e none c w num cells_are open_is = record {
   done = joined_of before;
@@ -144,8 +144,8 @@ misfit_behind (Some q) done cells b h = refl
 -- whether a continuation fits is seen at the last joined line
 pub bad_same : {m : Cutting} {before : List (List ℕ)} {cells : List Cell} {q : Option ℕ} {last : ℕ} {words : List Lexeme} (line : List ℕ) → HasRead m before cells q last words → is_bad_continuation (joined_of before) line ≡ is_bad_continuation cells line
 bad_same {m} {before} {cells} {q} line r =
-    let b = first_character (behind_spaces (written line)) in
-    let blank = not (is_blank (written line)) in
+    let b = first_character (behind_spaces (program_text line)) in
+    let blank = not (is_blank (program_text line)) in
     let nils : is_nil (joined_of before) ≡ is_nil cells = ap is_nil r.joined_is ∙ nil_behind r.done cells r.begins in
     let opens : open_quote (joined_of before) ≡ open_quote cells = open_of r ∙ r.open_is in
     let fits : is_misfit (open_quote (joined_of before)) (joined_of before) b ≡ is_misfit (open_quote cells) cells b =
@@ -163,9 +163,9 @@ not_nil [] line e = absurd cc
 not_nil (c ∷ cells) line e = refl
 
 pub continues : {m : Cutting} {before : List (List ℕ)} {cells : List Cell} {q : Option ℕ} {last : ℕ} {words : List Lexeme} (line : List ℕ) (n : ℕ) (new : List Cell) (open_now : Option ℕ) (last' : ℕ)
-    → HasRead m before cells q last words → KeepsCharacters line → kind_of line ≡ Continuation → n ≡ length before + 1 → IsContinued n line cells new open_now last' → HasRead m (before ++ line ∷ []) new open_now last' words
+    → HasRead m before cells q last words → KeepsCharacters line → kind_of_line line ≡ Continuation → n ≡ length before + 1 → IsContinued n line cells new open_now last' → HasRead m (before ++ line ∷ []) new open_now last' words
 continues {m} {before} {cells} {q} {last} {words} line n new open_now last' r k e num j =
-    let more = cells_behind n (left_out (open_quote cells) (written line)) line in
+    let more = cells_behind n (left_out (open_quote cells) (program_text line)) line in
     let opens : open_quote (joined_of before) ≡ open_quote cells = open_of r ∙ r.open_is in
     record {
       done = r.done;
@@ -217,7 +217,7 @@ finishes text {m} {before} {cells} {q} {last} {words} ts words' r e short none c
       cut = subst (λ (l : List Cell). Cuts m l words') (sym whole) (subst (λ (l : List Lexeme). Cuts m (r.done ++ cells) l) w (cut_both (end_first r.done cells r.begins) r.cut c));
     }
   where
-    breaks_none : AllFit 1 [] (lines text) → open_quote (joined_of (lines text)) ≡ None → (rule : SourceRule) (n : ℕ) → IsBroken rule n text → ⊥
+    breaks_none : AllFit 1 [] (lines text) → open_quote (joined_of (lines text)) ≡ None → (rule : SourceRule) (n : ℕ) → BreaksSourceRule rule n text → ⊥
     breaks_none all closed NotAscii n b = none_at NotAscii n (lines text) all b
     breaks_none all closed Tab n b = none_at Tab n (lines text) all b
     breaks_none all closed OpenLiteral n b = none_left n (lines text) all closed b
@@ -237,7 +237,7 @@ character_refused TooLong n before line num b = b
 character_refused UnknownIndicator n before line num b = (b, num)
 character_refused Memory n before line num b = absurd b
 
-pub open_refused : {m : Cutting} {before : List (List ℕ)} {cells : List Cell} {q : Option ℕ} {last : ℕ} {words : List Lexeme} (rule : SourceRule) (n : ℕ) (line : List ℕ) → HasRead m before cells q last words → kind_of line ≡ Plain → EndRefused rule n q last → LineRefused rule n before line
+pub open_refused : {m : Cutting} {before : List (List ℕ)} {cells : List Cell} {q : Option ℕ} {last : ℕ} {words : List Lexeme} (rule : SourceRule) (n : ℕ) (line : List ℕ) → HasRead m before cells q last words → kind_of_line line ≡ Plain → EndRefused rule n q last → LineRefused rule n before line
 open_refused NotAscii n line r e b = absurd b
 open_refused Tab n line r e b = absurd b
 open_refused OpenLiteral n line r e b = (r.fit, e, ap is_some (open_of r) ∙ b.0, b.1 ∙ r.last_is)
@@ -246,7 +246,7 @@ open_refused TooLong n line r e b = b
 open_refused UnknownIndicator n line r e b = absurd b
 open_refused Memory n line r e b = b
 
-pub continuation_refused : {m : Cutting} {before : List (List ℕ)} {cells : List Cell} {q : Option ℕ} {last : ℕ} {words : List Lexeme} (rule : SourceRule) (n number : ℕ) (line : List ℕ) → HasRead m before cells q last words → kind_of line ≡ Continuation → number ≡ length before + 1
+pub continuation_refused : {m : Cutting} {before : List (List ℕ)} {cells : List Cell} {q : Option ℕ} {last : ℕ} {words : List Lexeme} (rule : SourceRule) (n number : ℕ) (line : List ℕ) → HasRead m before cells q last words → kind_of_line line ≡ Continuation → number ≡ length before + 1
     → ContinuationRefused rule n number cells line → LineRefused rule n before line
 continuation_refused NotAscii n number line r e num b = absurd b
 continuation_refused Tab n number line r e num b = absurd b
@@ -256,7 +256,7 @@ continuation_refused TooLong n number line r e num b = b
 continuation_refused UnknownIndicator n number line r e num b = absurd b
 continuation_refused Memory n number line r e num b = b
 
-pub refusal_at : (text : List ℕ) (rule : SourceRule) (n : ℕ) (before : List (List ℕ)) (line : List ℕ) (after : List (List ℕ)) → lines text ≡ before ++ line ∷ after → LineRefused rule n before line → IsRefusal rule n text
+pub refusal_at : (text : List ℕ) (rule : SourceRule) (n : ℕ) (before : List (List ℕ)) (line : List ℕ) (after : List (List ℕ)) → lines text ≡ before ++ line ∷ after → LineRefused rule n before line → IsSourceRefusal rule n text
 refusal_at text NotAscii n before line after e b = record { before = before; line = line; after = after; lines_are = e; broken = b.0; number = b.1 }
 refusal_at text Tab n before line after e b = record { before = before; line = line; after = after; lines_are = e; broken = b.0; number = b.1 }
 refusal_at text OpenLiteral n before line after e b = record { before = before; after = line ∷ after; lines_are = e; fit = b.0; left_open = b.2; none_follows = b.1; number = b.3 }
@@ -265,7 +265,7 @@ refusal_at text TooLong n before line after e b = absurd b
 refusal_at text UnknownIndicator n before line after e b = record { before = before; line = line; after = after; lines_are = e; broken = b.0; number = b.1 }
 refusal_at text Memory n before line after e b = b
 
-pub refusal_end : (text : List ℕ) {m : Cutting} {before : List (List ℕ)} {cells : List Cell} {q : Option ℕ} {last : ℕ} {words : List Lexeme} (rule : SourceRule) (n : ℕ) → HasRead m before cells q last words → lines text ≡ before → EndRefused rule n q last → IsRefusal rule n text
+pub refusal_end : (text : List ℕ) {m : Cutting} {before : List (List ℕ)} {cells : List Cell} {q : Option ℕ} {last : ℕ} {words : List Lexeme} (rule : SourceRule) (n : ℕ) → HasRead m before cells q last words → lines text ≡ before → EndRefused rule n q last → IsSourceRefusal rule n text
 refusal_end text NotAscii n r e b = absurd b
 refusal_end text Tab n r e b = absurd b
 refusal_end text {before = before} OpenLiteral n r e b = record { before = before; after = []; lines_are = e ∙ sym (append-nil before); fit = r.fit; left_open = ap is_some (open_of r) ∙ b.0; none_follows = tt; number = b.1 ∙ r.last_is }
@@ -275,7 +275,7 @@ refusal_end text UnknownIndicator n r e b = absurd b
 refusal_end text Memory n r e b = b
 
 -- a text with words isn't refused but for memory
-pub not_refused : (m : Cutting) (text : List ℕ) (ts : List Lexeme) (rule : SourceRule) (n : ℕ) → AreCutsOf m text ts → IsRefusal rule n text → rule ≡ Memory
+pub not_refused : (m : Cutting) (text : List ℕ) (ts : List Lexeme) (rule : SourceRule) (n : ℕ) → AreCutsOf m text ts → IsSourceRefusal rule n text → rule ≡ Memory
 not_refused m text ts NotAscii n w b = absurd (w.breaks_none NotAscii n b)
 not_refused m text ts Tab n w b = absurd (w.breaks_none Tab n b)
 not_refused m text ts OpenLiteral n w b = absurd (w.breaks_none OpenLiteral n b)

@@ -41,9 +41,9 @@ abbrev pub open_quote : List Cell → Option ℕ
 open_quote cells = open_from None cells
 
 -- this quote doesn't come first
-abbrev pub NotFirst : ℕ → List Cell → Type 0
-NotFirst q [] = Unit {0}
-NotFirst q (c ∷ rest) = c.byte ≢ q
+abbrev pub NotFirstQuote : ℕ → List Cell → Type 0
+NotFirstQuote q [] = Unit {0}
+NotFirstQuote q (c ∷ rest) = c.byte ≢ q
 
 -- what stands behind an opening quote up to the closing one, and the characters that it means: a doubled quote is one
 pub data Body : ℕ → List Cell → List ℕ → Type 0 where
@@ -59,10 +59,10 @@ pub data Piece : Type 0 where
   Quoted : Cell → List Cell → List ℕ → Piece
 
 -- the characters of a piece
-abbrev pub spelled : Piece → List Cell
-spelled (Gap c) = c ∷ []
-spelled (Chunk cs) = cs
-spelled (Quoted o inside text) = o ∷ inside
+abbrev pub cells_of_piece : Piece → List Cell
+cells_of_piece (Gap c) = c ∷ []
+cells_of_piece (Chunk cs) = cs
+cells_of_piece (Quoted o inside text) = o ∷ inside
 
 -- a space is a gap; a chunk is a word's characters, one at least; a quoted piece is a literal
 abbrev pub IsPiece : Piece → Type 0
@@ -84,7 +84,7 @@ quote_first (c ∷ rest) = is_quote c.byte
 abbrev pub Follows : Piece → List Cell → Type 0
 Follows (Gap c) rest = Unit {0}
 Follows (Chunk cs) rest = plain_first rest ≡ false
-Follows (Quoted o inside text) rest = NotFirst o.byte rest
+Follows (Quoted o inside text) rest = NotFirstQuote o.byte rest
 
 -- a word is read in capitals
 abbrev pub word_text : List Cell → List ℕ
@@ -120,16 +120,16 @@ abbrev pub nowhere : Cell
 nowhere = record { byte = 0; line = 0; column = 0 }
 
 -- the words that a chunk is before a space or the end: a sign at its end is none of theirs
-abbrev pub signed : Cutting → List Cell → List Lexeme
-signed m cs = with_sign m (take (length cs - 1) cs) (slice_index_or cs (length cs - 1) nowhere)
+abbrev pub words_before_sign : Cutting → List Cell → List Lexeme
+words_before_sign m cs = with_sign m (take (length cs - 1) cs) (slice_index_or cs (length cs - 1) nowhere)
 
 -- what a piece means, before this rest: a word that a quote ends keeps its last sign
 abbrev pub lexemes_of : Cutting → Piece → List Cell → List Lexeme
 lexemes_of m (Gap c) rest = []
-lexemes_of m (Chunk cs) rest = if quote_first rest then words_of m cs else signed m cs
+lexemes_of m (Chunk cs) rest = if quote_first rest then words_of m cs else words_before_sign m cs
 lexemes_of m (Quoted o inside text) rest = literal o text
 
 -- the text is cut into these words, literals and stops
 pub data Cuts : Cutting → List Cell → List Lexeme → Type 0 where
   End : {m : Cutting} {cells : List Cell} {ts : List Lexeme} → cells ≡ [] → ts ≡ [] → Cuts m cells ts
-  Then : {m : Cutting} {cells rest : List Cell} {ts more : List Lexeme} (p : Piece) → IsPiece p → Follows p rest → cells ≡ spelled p ++ rest → ts ≡ lexemes_of m p rest ++ more → Cuts m rest more → Cuts m cells ts
+  Then : {m : Cutting} {cells rest : List Cell} {ts more : List Lexeme} (p : Piece) → IsPiece p → Follows p rest → cells ≡ cells_of_piece p ++ rest → ts ≡ lexemes_of m p rest ++ more → Cuts m rest more → Cuts m cells ts

@@ -42,8 +42,8 @@ cut_return [] = []
 cut_return (b ∷ bs) = if (b == 13) && is_empty bs then [] else b ∷ cut_return bs
 
 -- what is written in columns 8 to 72
-abbrev pub written : List ℕ → List ℕ
-written line = drop 7 (take 72 line)
+abbrev pub program_text : List ℕ → List ℕ
+program_text line = drop 7 (take 72 line)
 
 -- filled with spaces to 65 columns
 abbrev pub filled : List ℕ → List ℕ
@@ -51,7 +51,7 @@ filled bs = bs ++ replicate (65 - length bs) 32
 
 -- the 65 columns from 8 to 72: a line that is shorter is filled with spaces
 abbrev pub area : List ℕ → List ℕ
-area line = filled (written line)
+area line = filled (program_text line)
 
 -- column 7; a line that doesn't reach it has a space there
 abbrev pub indicator : List ℕ → ℕ
@@ -101,8 +101,8 @@ kind_by i text =
     if (i == 32) && not (is_listing text) then Plain else Skipped
 
 -- what kind of line it is
-abbrev pub kind_of : List ℕ → LineKind
-kind_of line = kind_by (indicator line) (written line)
+abbrev pub kind_of_line : List ℕ → LineKind
+kind_of_line line = kind_by (indicator line) (program_text line)
 
 -- characters with their places, from this line and column on
 abbrev pub cells_from : ℕ → ℕ → List ℕ → List Cell
@@ -140,7 +140,7 @@ left_out (Some q) text = spaces text + 1
 
 -- a continuation line joined directly behind a text at whose end this quote's literal is open, or none
 abbrev pub continued : Option ℕ → ℕ → List Cell → List ℕ → List Cell
-continued q n joined line = continued_text q joined ++ cells_behind n (left_out q (written line)) line
+continued q n joined line = continued_text q joined ++ cells_behind n (left_out q (program_text line)) line
 
 -- line n joined to the text of the lines before it
 abbrev pub join_by : LineKind → ℕ → List Cell → List ℕ → List Cell
@@ -150,7 +150,7 @@ join_by Continuation n joined line = continued (open_quote joined) n joined line
 
 -- the text that is joined so far, and line n
 abbrev pub join : ℕ → List Cell → List ℕ → List Cell
-join n joined line = join_by (kind_of line) n joined line
+join n joined line = join_by (kind_of_line line) n joined line
 
 -- the text that is joined so far, and these lines, from number n on
 abbrev pub joined_from : ℕ → List Cell → List (List ℕ) → List Cell
@@ -170,7 +170,7 @@ last_by Continuation n k = n
 -- the last line that is joined, from number n on, where line k was the last before
 abbrev pub last_from : ℕ → ℕ → List (List ℕ) → ℕ
 last_from n k [] = k
-last_from n k (line ∷ more) = last_from (n + 1) (last_by (kind_of line) n k) more
+last_from n k (line ∷ more) = last_from (n + 1) (last_by (kind_of_line line) n k) more
 
 -- the last line that is joined; 0 where none is
 abbrev pub last_joined : List (List ℕ) → ℕ

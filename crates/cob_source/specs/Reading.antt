@@ -7,7 +7,7 @@ use Rattle.cob_source.specs.declared.fault.SourceRule.{SourceRule}
 use Rattle.cob_source.specs.declared.fault.SourceRule.TheVariants.{OpenLiteral, BadContinuation, TooLong, Memory}
 use Rattle.cob_source.specs.Tokens.{Lexeme}
 use Rattle.cob_source.specs.Cuts.{open_quote, Cuts}
-use Rattle.cob_source.specs.Lines.{kind_of, joined_of, last_joined, continued}
+use Rattle.cob_source.specs.Lines.{kind_of_line, joined_of, last_joined, continued}
 use Rattle.cob_source.specs.Words.{breaks, AreFit, is_bad_continuation}
 
 -- the last joined line begins with the line's end before it, or there is none yet
@@ -50,6 +50,6 @@ pub record IsContinued (number : ℕ) (line : List ℕ) (old new : List Cell) (o
 abbrev pub LineRefused : SourceRule → ℕ → List (List ℕ) → List ℕ → Type 0
 LineRefused Memory n before line = n ≡ 0
 LineRefused TooLong n before line = ⊥
-LineRefused OpenLiteral n before line = AreFit before × (kind_of line ≡ Plain) × (is_some (open_quote (joined_of before)) ≡ true) × (n ≡ last_joined before)
+LineRefused OpenLiteral n before line = AreFit before × (kind_of_line line ≡ Plain) × (is_some (open_quote (joined_of before)) ≡ true) × (n ≡ last_joined before)
 LineRefused BadContinuation n before line = AreFit before × (breaks BadContinuation (joined_of before) line ≡ true) × (n ≡ length before + 1)
 LineRefused rule n before line = (breaks rule (joined_of before) line ≡ true) × (n ≡ length before + 1)

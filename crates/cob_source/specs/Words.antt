@@ -11,7 +11,7 @@ use Rattle.cob_source.specs.declared.fault.SourceRule.TheVariants.{NotAscii, Tab
 use Rattle.cob_limits.specs.Limits.{longest_text}
 use Rattle.cob_source.specs.Tokens.{Lexeme}
 use Rattle.cob_source.specs.Cuts.{is_quote, open_quote, nowhere, Cuts}
-use Rattle.cob_source.specs.Lines.{lines, written, indicator, is_comment, is_blank, behind_spaces, is_nil, kind_of, join, joined_of, last_joined}
+use Rattle.cob_source.specs.Lines.{lines, program_text, indicator, is_comment, is_blank, behind_spaces, is_nil, kind_of_line, join, joined_of, last_joined}
 
 -- a byte that no text may have in columns 7 to 72; a tab has a rule of its own
 abbrev pub is_foreign : ℕ → Bool
@@ -45,7 +45,7 @@ is_misfit (Some q) joined b = not (b == q)
 -- a continuation with no line before it, with something in area A (columns 8 to 11), or that doesn't fit what is before it
 abbrev pub is_bad_continuation : List Cell → List ℕ → Bool
 is_bad_continuation joined line =
-    is_nil joined || not (is_blank (take 4 (written line))) || is_misfit (open_quote joined) joined (first_character (behind_spaces (written line)))
+    is_nil joined || not (is_blank (take 4 (program_text line))) || is_misfit (open_quote joined) joined (first_character (behind_spaces (program_text line)))
 
 -- the two are one kind of line
 abbrev pub is_kind : LineKind → LineKind → Bool
@@ -59,19 +59,19 @@ abbrev pub breaks : SourceRule → List Cell → List ℕ → Bool
 breaks NotAscii joined line = not (is_comment (indicator line)) && has_foreign line
 breaks Tab joined line = not (is_comment (indicator line)) && has_tab line
 breaks UnknownIndicator joined line = not (is_comment (indicator line)) && is_unknown (indicator line)
-breaks BadContinuation joined line = is_kind (kind_of line) Continuation && is_bad_continuation joined line
-breaks OpenLiteral joined line = is_kind (kind_of line) Plain && is_some (open_quote joined)
+breaks BadContinuation joined line = is_kind (kind_of_line line) Continuation && is_bad_continuation joined line
+breaks OpenLiteral joined line = is_kind (kind_of_line line) Plain && is_some (open_quote joined)
 breaks TooLong joined line = false
 breaks Memory joined line = false
 
 -- a line breaks no rule behind the text that the lines before it are joined to
-abbrev pub Fits : List Cell → List ℕ → Type 0
-Fits joined line = (rule : SourceRule) → breaks rule joined line ≡ false
+abbrev pub FitsLine : List Cell → List ℕ → Type 0
+FitsLine joined line = (rule : SourceRule) → breaks rule joined line ≡ false
 
 -- and so does each of these lines, from number n on
 abbrev pub AllFit : ℕ → List Cell → List (List ℕ) → Type 0
 AllFit n joined [] = Unit {0}
-AllFit n joined (line ∷ more) = Fits joined line × AllFit (n + 1) (join n joined line) more
+AllFit n joined (line ∷ more) = FitsLine joined line × AllFit (n + 1) (join n joined line) more
 
 -- none of a text's first lines breaks a rule behind those before it
 abbrev pub AreFit : List (List ℕ) → Type 0
@@ -107,7 +107,7 @@ GoesOnNothing n ls = (at : BreaksAt BadContinuation n ls) × AreFit at.before
 -- a plain line comes next, or none
 abbrev pub NoContinuation : List (List ℕ) → Type 0
 NoContinuation [] = Unit {0}
-NoContinuation (line ∷ more) = kind_of line ≡ Plain
+NoContinuation (line ∷ more) = kind_of_line line ≡ Plain
 
 -- a literal is open at the end of line n, the last one joined before a plain line or the text's end, and no line up to there breaks
 -- a rule
@@ -121,18 +121,18 @@ pub record IsLeftOpen (n : ℕ) (ls : List (List ℕ)) : Type 0 where
   pub number : n ≡ last_joined before
 
 -- the text breaks the rule on line n; a text that is too long breaks its rule on line 1
-abbrev pub IsBroken : SourceRule → ℕ → List ℕ → Type 0
-IsBroken NotAscii n text = BreaksAt NotAscii n (lines text)
-IsBroken Tab n text = BreaksAt Tab n (lines text)
-IsBroken UnknownIndicator n text = BreaksAt UnknownIndicator n (lines text)
-IsBroken BadContinuation n text = GoesOnNothing n (lines text)
-IsBroken OpenLiteral n text = IsLeftOpen n (lines text)
-IsBroken TooLong n text = (longest_text < length text) × (n ≡ 1)
-IsBroken Memory n text = ⊥
+abbrev pub BreaksSourceRule : SourceRule → ℕ → List ℕ → Type 0
+BreaksSourceRule NotAscii n text = BreaksAt NotAscii n (lines text)
+BreaksSourceRule Tab n text = BreaksAt Tab n (lines text)
+BreaksSourceRule UnknownIndicator n text = BreaksAt UnknownIndicator n (lines text)
+BreaksSourceRule BadContinuation n text = GoesOnNothing n (lines text)
+BreaksSourceRule OpenLiteral n text = IsLeftOpen n (lines text)
+BreaksSourceRule TooLong n text = (longest_text < length text) × (n ≡ 1)
+BreaksSourceRule Memory n text = ⊥
 
 -- what a text that breaks no rule is cut into: the cuts of the one text that its lines are joined to
 pub record AreCutsOf (m : Cutting) (text : List ℕ) (ts : List Lexeme) : Type 0 where
-  pub breaks_none : (rule : SourceRule) (n : ℕ) → IsBroken rule n text → ⊥
+  pub breaks_none : (rule : SourceRule) (n : ℕ) → BreaksSourceRule rule n text → ⊥
   pub cut : Cuts m (joined_of (lines text)) ts
 
 -- the words of a text
@@ -144,9 +144,9 @@ abbrev pub AreParagraphWordsOf : List ℕ → List Lexeme → Type 0
 AreParagraphWordsOf text ts = AreCutsOf Apart text ts
 
 -- a refusal names a rule that is broken, on the line that breaks it, or memory, and then line 0
-abbrev pub IsRefusal : SourceRule → ℕ → List ℕ → Type 0
-IsRefusal Memory n text = n ≡ 0
-IsRefusal rule n text = IsBroken rule n text
+abbrev pub IsSourceRefusal : SourceRule → ℕ → List ℕ → Type 0
+IsSourceRefusal Memory n text = n ≡ 0
+IsSourceRefusal rule n text = BreaksSourceRule rule n text
 
 -- law: a text has its words in one way
 abbrev pub WordsAreOne : Type 0
@@ -158,7 +158,7 @@ ParagraphWordsAreOne = (text : List ℕ) (a b : List Lexeme) → AreParagraphWor
 
 -- law: a text that has words, as they stand or cut again, breaks no rule of words
 abbrev pub WordsBreakNoRule : Type 0
-WordsBreakNoRule = (m : Cutting) (text : List ℕ) (ts : List Lexeme) (rule : SourceRule) (n : ℕ) → AreCutsOf m text ts → IsRefusal rule n text → rule ≡ Memory
+WordsBreakNoRule = (m : Cutting) (text : List ℕ) (ts : List Lexeme) (rule : SourceRule) (n : ℕ) → AreCutsOf m text ts → IsSourceRefusal rule n text → rule ≡ Memory
 
 -- law: in a text that has words each line fits behind those before it, and no literal is open at its end
 abbrev pub LinesOfWordsFit : Type 0

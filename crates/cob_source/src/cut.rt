@@ -1,7 +1,7 @@
 ghost use Rattle.std.specs.Prelude.{◌≡◌, ℕ, ◌+◌, ◌<◌, ◌≤◌, List, ◌++◌, ◌∷◌, true, false, length, take, drop, IfOk, OnOk, Some, None};
 ghost use Rattle.std.specs.List.{AllByRecursion};
 ghost use Rattle.cob_source.specs.Tokens.{Lexeme, lexemes};
-ghost use Rattle.cob_source.specs.Cuts.{IsPlain, is_plain, is_gap, is_quote, plain_first, quote_first, open_from, open_quote, stop, signed, lexemes_of, Chunk, Body, NotFirst, literal, Cuts};
+ghost use Rattle.cob_source.specs.Cuts.{IsPlain, is_plain, is_gap, is_quote, plain_first, quote_first, open_from, open_quote, stop, words_before_sign, lexemes_of, Chunk, Body, NotFirstQuote, literal, Cuts};
 
 use crate::token::{Cell, Cutting, Kind, Token};
 use crate::word::push_words;
@@ -59,7 +59,7 @@ fn push_signed(
 ) -> Result<(), AllocError>
     requires { 0 < length cells.now }
     ensures ok { OnOk result
-        (lexemes out.new.items ≡ lexemes out.old.items ++ signed cutting cells.now) }
+        (lexemes out.new.items ≡ lexemes out.old.items ++ words_before_sign cutting cells.now) }
 {
     let end = cells.len() - 1;
     let last = cells[end];
@@ -107,7 +107,8 @@ fn literal_at(alloc: Global, cells: &[Cell], quote: u8) -> Result<(Vec<u8>, &[Ce
     requires quote { is_quote quote ≡ true }
     requires closed { open_from (Some quote) cells.now ≡ None }
     ensures found { IfOk result (λ r. (inside : List Cell)
-        × Body quote inside r.0.items × NotFirst quote r.1.now × (cells.now ≡ inside ++ r.1.now)) }
+        × Body quote inside r.0.items × NotFirstQuote quote r.1.now
+        × (cells.now ≡ inside ++ r.1.now)) }
     ensures closed { IfOk result (λ r. open_quote r.1.now ≡ None) }
     ensures shorter { IfOk result (λ r. length r.1.now ≤ length cells.now) }
 {

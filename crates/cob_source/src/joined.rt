@@ -1,7 +1,7 @@
 ghost use Rattle.std.specs.Prelude.{◌≡◌, ℕ, ◌+◌, ◌<◌, ◌≤◌, List, [], ◌∷◌, ◌++◌, length, drop, slice_index_or, true, OnOk, IfErr, IfSome, Some, None};
 ghost use Rattle.cob_source.specs.Tokens.{Lexeme, lexemes};
 ghost use Rattle.cob_source.specs.Cuts.{open_with, open_from, open_quote, is_quote, Cuts};
-ghost use Rattle.cob_source.specs.Lines.{filled, written, kind_of, trim_end, continued_text, left_out, cells_from, cells_behind, line_end};
+ghost use Rattle.cob_source.specs.Lines.{filled, program_text, kind_of_line, trim_end, continued_text, left_out, cells_from, cells_behind, line_end};
 ghost use Rattle.cob_source.specs.Words.{ends_quoted, first_character, is_misfit, is_bad_continuation};
 ghost use Rattle.cob_source.specs.Reading.{EndRefused, ContinuationRefused, IsContinued};
 ghost use Rattle.cob_source.specs.declared.lines.LineKind.TheVariants.{Continuation};
@@ -135,7 +135,7 @@ fn misfits(quote: Option<u8>, cells: &[Cell], first: u8) -> bool
 fn is_bad(text: &[u8], quote: Option<u8>, cells: &[Cell]) -> bool
     requires { quote ≡ open_quote cells.now }
     ensures { (line : List ℕ)
-        → text.now ≡ written line → result ≡ is_bad_continuation cells.now line }
+        → text.now ≡ program_text line → result ≡ is_bad_continuation cells.now line }
 {
     let first = without_spaces(text).first().copied().unwrap_or(b' ');
     cells.is_empty() || !is_blank_text(front(text, 4)) || misfits(quote, cells, first)
@@ -163,7 +163,7 @@ fn make_ready(text: &[u8], joined: &mut Joined) -> usize
 /// # Errors
 /// T4 where the line may not be joined, T9 where memory is refused.
 pub fn continue_line(number: u32, line: &[u8], joined: &mut Joined) -> Result<(), SourceFault>
-    requires kind { kind_of line.now ≡ Continuation }
+    requires kind { kind_of_line line.now ≡ Continuation }
     requires quote { joined.old.quote ≡ open_quote joined.old.cells.items }
     ensures ok { OnOk result (IsContinued number
         line.now joined.old.cells.items joined.new.cells.items joined.new.quote joined.new.last) }

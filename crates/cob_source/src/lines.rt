@@ -1,5 +1,5 @@
 ghost use Rattle.std.specs.Prelude.{◌≡◌, ℕ, ◌+◌, ◌<◌, ◌≤◌, List, ◌∷◌, length, IfSome, IfNone, ◌≢◌, take, drop};
-ghost use Rattle.cob_source.specs.Lines.{lines, cut_return, FeedFirst, written, indicator, is_comment, is_blank, spaces, behind_spaces, same_letters, is_listing_word, is_period_or_nothing, is_listing, kind_by, kind_of};
+ghost use Rattle.cob_source.specs.Lines.{lines, cut_return, FeedFirst, program_text, indicator, is_comment, is_blank, spaces, behind_spaces, same_letters, is_listing_word, is_period_or_nothing, is_listing, kind_by, kind_of_line};
 ghost use Rattle.cob_source.specs.Words.{is_foreign, has_foreign, has_tab, is_unknown, BreaksAlone, KeepsCharacters};
 ghost use Rattle.std.specs.List.{AllByRecursion};
 
@@ -77,7 +77,7 @@ fn behind(line: &[u8], columns: usize) -> &[u8]
 
 /// What is written in columns 8 to 72.
 pub fn written_in(line: &[u8]) -> &[u8]
-    ensures columns { result.now ≡ written line.now }
+    ensures columns { result.now ≡ program_text line.now }
     ensures short { length result.now ≤ 65 }
 {
     behind(front(line, 72), 7)
@@ -171,7 +171,7 @@ fn is_listing_text(bytes: &[u8]) -> bool
 
 /// The kind of a line.
 pub fn line_kind(line: &[u8]) -> LineKind
-    ensures { result ≡ kind_of line.now }
+    ensures { result ≡ kind_of_line line.now }
 {
     let indicator = indicator_of(line);
     let text = written_in(line);

@@ -1,7 +1,7 @@
 ghost use Rattle.std.specs.Prelude.{◌≡◌, ℕ, ◌+◌, ◌<◌, ◌≤◌, List, [], ◌∷◌, ◌++◌, length, IfOk, IfErr, OnOk};
 ghost use Rattle.cob_source.specs.Tokens.{Lexeme, lexemes};
 ghost use Rattle.cob_source.specs.Cuts.{open_quote};
-ghost use Rattle.cob_source.specs.Words.{IsRefusal, AreCutsOf, AreWordsOf, AreParagraphWordsOf};
+ghost use Rattle.cob_source.specs.Words.{IsSourceRefusal, AreCutsOf, AreWordsOf, AreParagraphWordsOf};
 ghost use Rattle.cob_source.specs.Reading.{HasRead, LineRefused};
 ghost use Rattle.cob_source.specs.declared.fault.SourceRule.TheVariants.{Memory};
 
@@ -55,7 +55,7 @@ fn read(alloc: Global, cutting: Cutting, text: &[u8]) -> Result<Vec<Token>, Sour
     ensures words { IfOk result (λ v. AreCutsOf cutting text.now (lexemes v.items)) }
     ensures reads { (ts : List Lexeme)
         → AreCutsOf cutting text.now ts → IfErr result (λ f. f.rule ≡ Memory) }
-    ensures refused { IfErr result (λ f. IsRefusal f.rule f.line text.now) }
+    ensures refused { IfErr result (λ f. IsSourceRefusal f.rule f.line text.now) }
 {
     if text.len() > MAX_TEXT_BYTES {
         return Err(SourceFault {
@@ -94,7 +94,7 @@ pub fn tokens(alloc: Global, text: &[u8]) -> Result<Vec<Token>, SourceFault>
     ensures reads { (ts : List Lexeme)
         → AreWordsOf text.now ts → IfErr result (λ f. f.rule ≡ Memory) }
     // A refused text breaks the rule that is named, on the line that is named.
-    ensures refused { IfErr result (λ f. IsRefusal f.rule f.line text.now) }
+    ensures refused { IfErr result (λ f. IsSourceRefusal f.rule f.line text.now) }
 {
     read(alloc, Cutting::Whole, text)
 }
@@ -108,7 +108,7 @@ pub fn paragraph_tokens(alloc: Global, text: &[u8]) -> Result<Vec<Token>, Source
     ensures words { IfOk result (λ v. AreParagraphWordsOf text.now (lexemes v.items)) }
     ensures reads { (ts : List Lexeme)
         → AreParagraphWordsOf text.now ts → IfErr result (λ f. f.rule ≡ Memory) }
-    ensures refused { IfErr result (λ f. IsRefusal f.rule f.line text.now) }
+    ensures refused { IfErr result (λ f. IsSourceRefusal f.rule f.line text.now) }
 {
     read(alloc, Cutting::Apart, text)
 }

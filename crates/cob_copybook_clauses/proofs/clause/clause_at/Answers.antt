@@ -1,12 +1,12 @@
 use Rattle.std.proofs.Common.{◌≡◌, ◌∙◌, ap, sym, Some, None, IsSomeAnd}
 use Rattle.cob_source.specs.Tokens.{lexemes}
 use Rattle.cob_copybook_clauses.specs.Clauses.{Clause, Spells}
-use Rattle.cob_copybook_clauses.specs.Reading.{clause_of, kind_of}
+use Rattle.cob_copybook_clauses.specs.Reading.{clause_of, clause_kind_of}
 use Rattle.cob_copybook_clauses.proofs.ClauseLemmas.{by_redefines, by_picture, by_usage, by_sign, by_occurs, by_value, by_justified, by_blank}
 use Rattle.cob_copybook_clauses.proofs.clause.clause_at.Goals as goal
 
 pub returns-in_err-kind_in_front-clause-only : goal.returns-in_err-kind_in_front-clause-only
-returns-in_err-kind_in_front-clause-only c = λ d ws more spells first e. let h : None ≡ Some (kind_of d) = c.in_err-kind_in_front.ensures d ws more spells e in absurd cc
+returns-in_err-kind_in_front-clause-only c = λ d ws more spells first e. let h : None ≡ Some (clause_kind_of d) = c.in_err-kind_in_front.ensures d ws more spells e in absurd cc
 
 pub returns-in-Redefines-clause-only : goal.returns-in-Redefines-clause-only
 returns-in-Redefines-clause-only c = λ d ws more spells first e.

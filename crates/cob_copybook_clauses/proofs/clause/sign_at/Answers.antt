@@ -10,6 +10,6 @@ returns-clause-found c =
     let (sep, separate, f) = c.separate_at-separate.ensures.found in
     let w = lexeme c.in_ok-first.first.now in (
       before ++ w ∷ sep,
-      (before, w, sep, pre, ap leading_of (sym c.term_of.ensures) ∙ sym c.leading_of.ensures ∙ c.in_ok-leading.was, separate, refl),
+      (before, w, sep, pre, ap leading_of (sym c.word_class.ensures) ∙ sym c.leading_of.ensures ∙ c.in_ok-leading.was, separate, refl),
       prefix_words w _ before _ _ sep _ e (ap lexemes c.in_ok-first.ensures.cases.0) f,
     )

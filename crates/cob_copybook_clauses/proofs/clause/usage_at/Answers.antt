@@ -9,6 +9,6 @@ returns-clause-found c =
     let (before, pre, e) = c.skip_prefix.ensures.found in
     let w = lexeme c.in_ok-first.first.now in (
       before ++ w ∷ [],
-      (before, w, pre, ap usage_of (sym c.term_of.ensures) ∙ sym c.usage_of.ensures ∙ c.in_ok-usage.was, refl),
+      (before, w, pre, ap usage_of (sym c.word_class.ensures) ∙ sym c.usage_of.ensures ∙ c.in_ok-usage.was, refl),
       prefix_words w _ before _ _ [] _ e (ap lexemes c.in_ok-first.ensures.cases.0) refl,
     )

@@ -4,4 +4,4 @@ use Rattle.cob_copybook_clauses.specs.Clauses.{figurative_of}
 use Rattle.cob_copybook_clauses.proofs.constant.figurative_at.Goals as goal
 
 pub returns-clause-found : goal.returns-clause-found
-returns-clause-found c = (lexeme c.in_ok-first.first.now, ap figurative_of (sym c.term_of.ensures) ∙ sym c.figurative_of.ensures ∙ c.in_ok-figurative.was, ap lexemes c.in_ok-first.ensures.cases.0)
+returns-clause-found c = (lexeme c.in_ok-first.first.now, ap figurative_of (sym c.word_class.ensures) ∙ sym c.figurative_of.ensures ∙ c.in_ok-figurative.was, ap lexemes c.in_ok-first.ensures.cases.0)

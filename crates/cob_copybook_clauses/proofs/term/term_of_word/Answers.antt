@@ -1,6 +1,6 @@
 use Rattle.std.proofs.Common.{◌∙◌}
 use Rattle.cob_copybook_clauses.proofs.Terms.{word_by_table}
-use Rattle.cob_copybook_clauses.specs.declared.term.Term.TheVariants as term
+use Rattle.cob_copybook_clauses.specs.declared.term.WordClass.TheVariants as term
 use Rattle.cob_copybook_clauses.proofs.term.term_of_word.Goals as goal
 
 pub returns : goal.returns

@@ -1,6 +1,6 @@
 use Rattle.std.proofs.Common.{inl, inr, sym, subst}
 use Rattle.cob_copybook_clauses.specs.Written.{WrittenEntry}
-use Rattle.cob_copybook_entries.specs.Meaning.{Means}
+use Rattle.cob_copybook_entries.specs.Meaning.{EntryMeans}
 use Rattle.cob_copybook_entries.proofs.Qualifiers.{written_short}
 use Rattle.cob_copybook_entries.proofs.sentence.data_entry.Goals as goal
 
@@ -16,4 +16,4 @@ entry_of-requires c = written_short _ _ c.in-Some.ensures.found
 pub returns-clause-only : goal.returns-clause-only
 returns-clause-only c = λ d h.
     let same = c.in-Some.ensures.only h.written h.is in
-    c.entry_of.ensures.only d (subst (λ (w : WrittenEntry). Means w d) (sym same) h.means)
+    c.entry_of.ensures.only d (subst (λ (w : WrittenEntry). EntryMeans w d) (sym same) h.means)

@@ -2,9 +2,9 @@ use Rattle.std.proofs.Common.{◌≡◌, ◌≤◌, ℕ, ◌+◌, sym, ap, subst
 use Rattle.std.specs.Option.{is_some}
 use Rattle.cob_copybook_tree.specs.Forests.{Forest, Tree}
 use Rattle.cob_copybook_tree.specs.Nodes.{Resolved, node, forest}
-use Rattle.cob_copybook_tree.specs.Lengths.{most, sum_of}
+use Rattle.cob_copybook_tree.specs.Lengths.{greatest_number, sum_of}
 use Rattle.cob_limits.specs.Limits.{longest_record}
-use Rattle.cob_copybook_lengths.specs.Areas.{AreAreas, ArePossible, joined}
+use Rattle.cob_copybook_lengths.specs.Areas.{AreAreas, ArePossible, area_with}
 use Rattle.cob_copybook_lengths.specs.Short.{IsShortArea}
 use Rattle.cob_copybook_lengths.proofs.NodeLemmas.{depth, less_deep, forest_at, beneath_out, node_out, part, part_more, part_one}
 use Rattle.cob_copybook_lengths.proofs.AreaLemmas.{whole_short, beneath_short, joined_short, joined_fresh, joined_more}
@@ -16,12 +16,12 @@ wrong_area-requires t c =
     let n = c.index-entries-i.result in
     let at = forest_at c.args.entries.now c.loop-i.i n (omega arith) c.index-entries-i.is in
     let area = map node (part c.loop-i.start c.loop-i.i c.args.entries.now) in
-    let kids : (node n).beneath ≡ forest c.as_slice.result.now = rw c.as_slice.ensures.value (beneath_out n) in
-    let short = subst (λ (f : Forest Resolved). sum_of most f ≤ longest_record) at c.loop-i.invariant.short in
+    let children : (node n).beneath ≡ forest c.as_slice.result.now = rw c.as_slice.ensures.value (beneath_out n) in
+    let short = subst (λ (f : Forest Resolved). sum_of greatest_number f ≤ longest_record) at c.loop-i.invariant.short in
     let possible = subst ArePossible at c.loop-i.invariant.possible in
-    let length = whole_short (node n).top.redefines area (node n) (sum_of most (forest (drop (c.loop-i.i + 1) c.args.entries.now))) c.loop-i.invariant.area (c.may_follow.ensures.yes c.if-not-may_follow.false) short in (
+    let length = whole_short (node n).top.redefines area (node n) (sum_of greatest_number (forest (drop (c.loop-i.i + 1) c.args.entries.now))) c.loop-i.invariant.area (c.may_follow.ensures.yes c.if-not-may_follow.false) short in (
       (let below = less_deep c.args.entries.now c.as_slice.result.now c.loop-i.i n (omega arith) c.index-entries-i.is c.as_slice.ensures.value in let all : depth c.args.entries.now ≡ t = c.decreases in omega (arith, below, all)),
-      (subst (λ (f : Forest Resolved). sum_of most f ≤ longest_record) kids (beneath_short (node n) possible.0 possible.1 length), subst ArePossible kids possible.2),
+      (subst (λ (f : Forest Resolved). sum_of greatest_number f ≤ longest_record) children (beneath_short (node n) possible.0 possible.1 length), subst ArePossible children possible.2),
     )
 
 pub returns-in-Some-clause-must : goal.returns-in-Some-clause-must
@@ -29,9 +29,9 @@ returns-in-Some-clause-must t c = λ h.
     let n = c.index-entries-i.result in
     let at = forest_at c.args.entries.now c.loop-i.i n (omega arith) c.index-entries-i.is in
     let area = map node (part c.loop-i.start c.loop-i.i c.args.entries.now) in
-    let kids : (node n).beneath ≡ forest c.as_slice.result.now = rw c.as_slice.ensures.value (beneath_out n) in
+    let children : (node n).beneath ≡ forest c.as_slice.result.now = rw c.as_slice.ensures.value (beneath_out n) in
     let all = subst (AreAreas area) at (c.loop-i.invariant.whole h) in
-    c.in-Some.ensures.must (subst (AreAreas []) kids all.1)
+    c.in-Some.ensures.must (subst (AreAreas []) children all.1)
 
 pub loop-i-preserved : goal.loop-i-preserved
 loop-i-preserved t c =
@@ -41,13 +41,13 @@ loop-i-preserved t c =
     let area = map node (part c.loop-i.start c.loop-i.i ns) in
     let o = (node n).top.redefines in
     let own : (node n).top.redefines ≡ _ = ap (λ (t : Tree Resolved). t.top.redefines) (node_out n) in
-    let kids : (node n).beneath ≡ forest c.as_slice.result.now = rw c.as_slice.ensures.value (beneath_out n) in
-    let short = subst (λ (f : Forest Resolved). sum_of most f ≤ longest_record) at c.loop-i.invariant.short in
+    let children : (node n).beneath ≡ forest c.as_slice.result.now = rw c.as_slice.ensures.value (beneath_out n) in
+    let short = subst (λ (f : Forest Resolved). sum_of greatest_number f ≤ longest_record) at c.loop-i.invariant.short in
     let possible = subst ArePossible at c.loop-i.invariant.possible in
     let follows = c.may_follow.ensures.yes c.if-not-may_follow.false in
-    let length = whole_short o area (node n) (sum_of most (forest (drop (c.loop-i.i + 1) ns))) c.loop-i.invariant.area follows short in
+    let length = whole_short o area (node n) (sum_of greatest_number (forest (drop (c.loop-i.i + 1) ns))) c.loop-i.invariant.area follows short in
     let start = λ (x y : ℕ) (p : x ≡ y). ap (λ (k : ℕ). map node (part k (c.loop-i.i + 1) ns)) p in
-    let next : map node (part c.if-is_none.start (c.loop-i.i + 1) ns) ≡ joined o area (node n) = elim c.if-is_none.branch [
+    let next : map node (part c.if-is_none.start (c.loop-i.i + 1) ns) ≡ area_with o area (node n) = elim c.if-is_none.branch [
       | then-is_none w ↦ start _ _ w.start-is ∙ part_one ns c.loop-i.i n (omega arith) c.index-entries-i.is ∙ sym (joined_fresh o area (node n) (ap is_some own ∙ w.if-is_none.ensures))
       | else-is_none w ↦ start _ _ w.start-is ∙ part_more ns c.loop-i.start c.loop-i.i n c.loop-i.invariant.order (omega arith) c.index-entries-i.is ∙ sym (joined_more o area (node n) (ap is_some own ∙ w.if-is_none.ensures))
     ] in
@@ -58,7 +58,7 @@ loop-i-preserved t c =
       possible = possible.3;
       left = λ h. c.loop-i.invariant.left (subst (AreAreas area) (sym at) (
         follows,
-        subst (AreAreas []) (sym kids) (c.in_default.ensures.fine refl),
+        subst (AreAreas []) (sym children) (c.in_default.ensures.fine refl),
         subst (λ (a : List (Tree Resolved)). AreAreas a (forest (drop (c.loop-i.i + 1) ns))) next h,
       ));
       whole = λ h. subst (λ (a : List (Tree Resolved)). AreAreas a (forest (drop (c.loop-i.i + 1) ns))) (sym next) (subst (AreAreas area) at (c.loop-i.invariant.whole h)).2;

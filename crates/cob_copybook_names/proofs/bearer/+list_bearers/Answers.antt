@@ -1,8 +1,8 @@
 use Rattle.std.proofs.Common.{◌≡◌, List, ◌+◌, ◌<◌, sym, subst, ap, ◌∙◌, map, ◌++◌, arith, drop, length}
-use Rattle.cob_copybook_tree.specs.Forests.{Forest, Grows, flat, entries_in}
+use Rattle.cob_copybook_tree.specs.Forests.{Forest, AnEntry, flat, entries_in}
 use Rattle.cob_copybook_tree.specs.Branches.{forest_of}
 use Rattle.cob_copybook_tree.specs.declared.branch.Branch.{Branch}
-use Rattle.cob_entry.specs.Described.{Described, described}
+use Rattle.cob_entry.specs.Described.{PlainEntry, plain_entry}
 use Rattle.cob_copybook_tree.specs.declared.branch.Branch.TheViews.{out-Branch}
 use Rattle.cob_copybook_names.specs.Bearers.{bearers}
 use Rattle.cob_copybook_names.specs.Listed.{bearer_of, entry_of, texts}
@@ -11,22 +11,22 @@ use Rattle.cob_copybook_names.proofs.bearer.+list_bearers.Goals as goal
 
 pub loop-branch-preserved : goal.loop-branch-preserved
 loop-branch-preserved t c =
-    let d = described (out-Branch c.branch-item.result).entry in
-    let kids = c.as_slice-in-loop-branch.result.now in
+    let d = plain_entry (out-Branch c.branch-item.result).entry in
+    let children = c.as_slice-in-loop-branch.result.now in
     let more = forest_of (drop (c.loop-branch.branch-index + 1) c.args.branches.now) in
     let at = forest_at c.args.branches.now c.loop-branch.branch-index c.branch-item.result (omega arith) c.branch-item.is in
-    let here : forest_of (drop c.loop-branch.branch-index c.args.branches.now) ≡ Grows d (forest_of kids) more =
-    at ∙ ap (λ (bs : List Branch). Grows d (forest_of bs) more) (sym c.as_slice-in-loop-branch.ensures.value) in
+    let here : forest_of (drop c.loop-branch.branch-index c.args.branches.now) ≡ AnEntry d (forest_of children) more =
+    at ∙ ap (λ (bs : List Branch). AnEntry d (forest_of bs) more) (sym c.as_slice-in-loop-branch.ensures.value) in
     let one = c.in_ok-list_entry.ensures.length in
     let some = c.in_ok-list_bearers.ensures.length in
     let above = texts c.args.above.now in
     let n = length c.loop-branch.listed.items in
     record {
-      room = c.loop-branch.invariant.room ∙ ap (λ (f : Forest Described). n + entries_in f) here ∙ omega (arith, one, some);
-      names = step_kids _ _ _ _ above _ c.args.in_table _ n _ _ d kids more
-          (c.loop-branch.invariant.names ∙ ap (λ (f : Forest Described). map bearer_of c.loop-branch.listed.items ++ bearers above c.args.in_table n f) here)
+      room = c.loop-branch.invariant.room ∙ ap (λ (f : Forest PlainEntry). n + entries_in f) here ∙ omega (arith, one, some);
+      names = step_kids _ _ _ _ above _ c.args.in_table _ n _ _ d children more
+          (c.loop-branch.invariant.names ∙ ap (λ (f : Forest PlainEntry). map bearer_of c.loop-branch.listed.items ++ bearers above c.args.in_table n f) here)
           (λ some. ap texts c.as_slice.ensures.value ∙ c.in_ok-beneath.ensures (subst (λ (bs : List Branch). 0 < length bs) c.as_slice-in-loop-branch.ensures.value some)) c.is_in_table-inside.ensures one some c.in_ok-list_entry.ensures.bearers c.in_ok-list_bearers.ensures.bearers;
-      written = regroup _ _ _ _ (flat (forest_of kids)) (flat more) d
-          (c.loop-branch.invariant.written ∙ ap (λ (f : Forest Described). map entry_of c.loop-branch.listed.items ++ flat f) here)
+      written = regroup _ _ _ _ (flat (forest_of children)) (flat more) d
+          (c.loop-branch.invariant.written ∙ ap (λ (f : Forest PlainEntry). map entry_of c.loop-branch.listed.items ++ flat f) here)
           c.in_ok-list_entry.ensures.entries c.in_ok-list_bearers.ensures.entries;
     }

@@ -2,7 +2,7 @@ use Rattle.std.proofs.Common.{◌+◌, min, ap, ◌∙◌, arith}
 use Rattle.std.proofs.lemmas.List.{at_drop_all}
 use Rattle.cob_copybook_tree.specs.declared.lengths.TheConstants.{MANY}
 use Rattle.cob_copybook_tree.specs.Nodes.{forest}
-use Rattle.cob_copybook_tree.specs.Lengths.{most, sum_of}
+use Rattle.cob_copybook_tree.specs.Lengths.{greatest_number, sum_of}
 use Rattle.cob_copybook_tree.proofs.LengthLemmas.{group_length, all_elements, adds, skips}
 use Rattle.cob_copybook_tree.proofs.lengths.+element_length.Goals as goal
 use Rattle.cob_copybook_tree.proofs.lengths.+element_length.Goals.{then-is_none, else-is_none}
@@ -31,9 +31,9 @@ loop-child-preserved t c =
 pub returns-after-loop-child : goal.returns-after-loop-child
 returns-after-loop-child t c =
     let ns = c.deref-child-items.result.now in
-    let end = at_drop_all (λ ms. sum_of most (forest ms)) ns c.loop-child.child-index c.loop-child-test.false in
+    let end = at_drop_all (λ ms. sum_of greatest_number (forest ms)) ns c.loop-child.child-index c.loop-child-test.false in
     let sum = c.loop-child.invariant.sum in
     let small = c.loop-child.invariant.most in
     let group = group_length c.args.entry.now c.in-Group.is in
-    let items = ap (λ ms. sum_of most (forest ms)) c.deref-child-items.ensures.value in
+    let items = ap (λ ms. sum_of greatest_number (forest ms)) c.deref-child-items.ensures.value in
     omega (arith, end, sum, small, group, items)

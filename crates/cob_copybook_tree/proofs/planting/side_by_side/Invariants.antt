@@ -1,12 +1,12 @@
 use Rattle.std.proofs.Common.{◌≡◌, ◌++◌, map, length}
-use Rattle.cob_entry.specs.Described.{described}
+use Rattle.cob_entry.specs.Described.{plain_entry}
 use Rattle.cob_copybook_tree.specs.Forests.{flat, IsTree}
 use Rattle.cob_copybook_tree.specs.Branches.{forest_of, level_of}
 use Rattle.cob_copybook_tree.proofs.planting.side_by_side.Given as goal
 
 abbrev pub invariant-loop-entry : goal.invariant-loop-entry
 invariant-loop-entry l = record {
-  entries : map described l.fn.entries.items ≡ map described l.entries.items ++ flat (forest_of l.pending.items);
+  entries : map plain_entry l.fn.entries.items ≡ map plain_entry l.entries.items ++ flat (forest_of l.pending.items);
   tree : IsTree level_of (forest_of l.pending.items);
 }
 

@@ -6,7 +6,7 @@ use Rattle.cob_picture.specs.Counts.{size}
 use Rattle.cob_picture.specs.Pictures.{IsPicture}
 use Rattle.cob_picture.proofs.Placed.{length_placed}
 use Rattle.cob_picture.proofs.Limits.{one_byte_each}
-use Rattle.cob_edit.specs.Characters.{spelled, HasCharacters}
+use Rattle.cob_edit.specs.Characters.{characters_from, HasCharacters}
 use Rattle.cob_edit.proofs.CharacterLemmas.{spelled_has}
 use Rattle.cob_edit.proofs.spelling.edit_text.Goals as goal
 
@@ -29,5 +29,5 @@ spell-requires c =
 pub returns : goal.returns
 returns c =
     let ps = c.args.picture.now.positions in
-    let text = c.spell.ensures ∙ ap (λ qs. spelled qs c.args.sender.now) (c.as_slice.ensures.value ∙ c.positions.ensures.value) in
+    let text = c.spell.ensures ∙ ap (λ qs. characters_from qs c.args.sender.now) (c.as_slice.ensures.value ∙ c.positions.ensures.value) in
     record { text = subst (λ bytes. HasCharacters ps c.args.sender.now bytes) (sym text) (spelled_has ps c.args.sender.now) }

@@ -1,6 +1,5 @@
 use Rattle.std.proofs.Common.{◌≡◌, ◌++◌, length, map}
-use Rattle.cob_copybook_tree.specs.Nodes.{node}
-use Rattle.cob_layout_places.specs.Lengths.{alone}
+use Rattle.cob_copybook_tree.specs.Nodes.{node, alone}
 use Rattle.cob_layout_places.proofs.ForestLemmas.{left}
 use Rattle.cob_layout_places.proofs.NeedLemmas.{AreUpTo}
 use Rattle.cob_sound.specs.Sound.{AreNested}

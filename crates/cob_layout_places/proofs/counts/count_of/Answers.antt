@@ -1,7 +1,7 @@
 use Rattle.std.proofs.Common.{[], sym, ◌∙◌}
 use Rattle.cob_copybook_tree.specs.Nodes.{node}
 use Rattle.cob_layout_places.specs.Lengths.{times}
-use Rattle.cob_layout_places.specs.Places.{find_one}
+use Rattle.cob_layout_places.specs.Places.{place_in_entry}
 use Rattle.cob_layout_places.specs.Counts.{kind_one}
 use Rattle.cob_layout_places.proofs.CountLemmas.{pairs_one, found_there, at_counts, fault_at_counts}
 use Rattle.cob_layout_places.proofs.counts.count_of.Goals as goal
@@ -17,5 +17,5 @@ returns-in-Some-clause-err c = fault_at_counts (node c.args.root.now) c.args.byt
 
 pub returns-in-None-clause-err : goal.returns-in-None-clause-err
 returns-in-None-clause-err c =
-    absurd (found_there (kind_one c.args.table.count (node c.args.root.now)) (find_one (times c.args.counts.now) c.args.table.count (node c.args.root.now) 0 []) c.requires.countable.item
+    absurd (found_there (kind_one c.args.table.count (node c.args.root.now)) (place_in_entry (times c.args.counts.now) c.args.table.count (node c.args.root.now) 0 []) c.requires.countable.item
     (pairs_one (times c.args.counts.now) c.args.table.count (node c.args.root.now) 0 []) c.requires.countable.is (sym c.seek.ensures ∙ c.in-None.is))

@@ -1,7 +1,7 @@
 use Rattle.std.proofs.Common.{[]}
 use Rattle.cob_copybook_tree.specs.Nodes.{node}
 use Rattle.cob_layout_places.specs.Lengths.{times}
-use Rattle.cob_layout_places.specs.Places.{find_one}
+use Rattle.cob_layout_places.specs.Places.{place_in_entry}
 use Rattle.cob_layout_places.specs.Counts.{kind_one}
 use Rattle.cob_layout_places.proofs.CountLemmas.{pairs_one, found_size, counted_ok, counted_err}
 use Rattle.cob_layout_places.proofs.counts.count_there.Goals as goal
@@ -10,7 +10,7 @@ pub count_at-requires-clause-long : goal.count_at-requires-clause-long
 count_at-requires-clause-long c =
     let t = node c.args.root.now in
     let counts = c.requires.stands.0 in
-    found_size (kind_one c.args.table.count t) (find_one (times counts) c.args.table.count t 0 []) c.in-Some.item.now c.args.found
+    found_size (kind_one c.args.table.count t) (place_in_entry (times counts) c.args.table.count t 0 []) c.in-Some.item.now c.args.found
     (pairs_one (times counts) c.args.table.count t 0 []) c.in-Some.ensures.found c.requires.stands.1
 
 pub returns-in-Some-clause-ok : goal.returns-in-Some-clause-ok

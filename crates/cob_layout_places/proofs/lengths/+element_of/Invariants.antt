@@ -1,5 +1,5 @@
 use Rattle.std.proofs.Common.{◌≡◌, ◌≤◌, ◌+◌}
-use Rattle.cob_copybook_tree.specs.Lengths.{most, sum_of}
+use Rattle.cob_copybook_tree.specs.Lengths.{greatest_number, sum_of}
 use Rattle.cob_layout_places.specs.Lengths.{times, MayOccur}
 use Rattle.cob_layout_places.proofs.ForestLemmas.{left, below}
 use Rattle.cob_layout_places.proofs.lengths.+element_of.Given as goal
@@ -14,5 +14,5 @@ invariant-loop-child l =
       sum : l.sum + sum_of (times l.counts) rest ≡ sum_of (times l.counts) (below l.entry);
       possible : MayOccur rest;
       small : sum_of (times l.counts) (below l.entry) ≤ 32752;
-      greatest : sum_of most rest ≤ 32752;
+      greatest : sum_of greatest_number rest ≤ 32752;
     }

@@ -2,7 +2,7 @@ use Rattle.std.proofs.Common.{◌≡◌, ◌++◌, ◌+◌, ◌-◌, drop, take,
 use Rattle.std.proofs.lemmas.List.{drop_all, drop-drop, length-take}
 use Rattle.cob_copybook_tree.specs.Forests.{entries_in}
 use Rattle.cob_copybook_tree.specs.declared.node.Node.TheViews.{out-Node}
-use Rattle.cob_copybook_tree.specs.Lengths.{most, sum_of, room, whole, element, one}
+use Rattle.cob_copybook_tree.specs.Lengths.{greatest_number, sum_of, own_length, whole_length, element_length, length_by_kind}
 use Rattle.cob_copybook_tree.specs.Nodes.{node}
 use Rattle.cob_layout_places.specs.declared.spots.Spot.{Spot}
 use Rattle.cob_layout_places.specs.Lengths.{times}
@@ -15,7 +15,7 @@ use Rattle.cob_layout_places.proofs.spots.+put_spots.Goals as goal
 pub loop-child-init : goal.loop-child-init
 loop-child-init t c =
     let f = fits c.args.counts.now (node c.args.entry.now) c.args.start c.requires.fit in
-    let e = element_small (whole most (node c.args.entry.now).top (node c.args.entry.now).beneath) (node c.args.entry.now).top (node c.args.entry.now).beneath f.possible.0 (omega arith) in
+    let e = element_small (whole_length greatest_number (node c.args.entry.now).top (node c.args.entry.now).beneath) (node c.args.entry.now).top (node c.args.entry.now).beneath f.possible.0 (omega arith) in
     let l = entries _ c.args.entry.now c.args.start c.args.start 32752 f (omega (arith, e, f.small)) in
     let none : drop 1 (take 1 c.args.spots.now) ≡ [] = drop_all 1 (take 1 c.args.spots.now) (omega (arith, length-take 1 c.args.spots.now)) in
     record {
@@ -52,7 +52,7 @@ overflow_add-at t c =
     inv.first (omega (arith, many, all, inv.count, inv.long, c.requires.room)) (omega (arith, many, all, inv.count, inv.long, c.requires.room, c.put_spots-count.ensures.count)) c.put_spots-count.ensures.count c.put_spots-count.ensures.spots in
     let size = p.size (record { offset = 0; length = 0; times = 0 }) in
     let r = left_rest _ c.deref-child-items.result.now c.loop-child.child-index n c.loop-child.at c.loop-child.area 32752 c.loop-child-test.true c.child-item.is inv.left in
-    let q = c.room_of-at.ensures ∙ ap (room (out-Node n).redefines) size in
+    let q = c.room_of-at.ensures ∙ ap (own_length (out-Node n).redefines) size in
     omega (arith, q, r.greatest)
 
 pub overflow_add-next : goal.overflow_add-next
@@ -74,7 +74,7 @@ loop-child-preserved t c =
     inv.first (omega (arith, many, all, inv.count, inv.long, c.requires.room)) (omega (arith, many, all, inv.count, inv.long, c.requires.room, c.put_spots-count.ensures.count)) c.put_spots-count.ensures.count c.put_spots-count.ensures.spots in
     let size = p.size (record { offset = 0; length = 0; times = 0 }) in
     let r = left_rest _ c.deref-child-items.result.now c.loop-child.child-index n c.loop-child.at c.loop-child.area 32752 c.loop-child-test.true c.child-item.is inv.left in
-    let q = c.room_of-at.ensures ∙ ap (room (out-Node n).redefines) size in
+    let q = c.room_of-at.ensures ∙ ap (own_length (out-Node n).redefines) size in
     let b = c.begins_at-begin.ensures in
     let s = left_sum (times c.args.counts.now) c.deref-child-items.result.now c.loop-child.child-index n c.loop-child-test.true c.child-item.is in
     let spots = spots_left (times c.args.counts.now) c.deref-child-items.result.now c.loop-child.child-index n c.loop-child.at c.loop-child.area c.begins_at-begin.result c.room_of-at.result c.loop-child-test.true c.child-item.is b q in
@@ -100,7 +100,7 @@ returns-clause-spots t c =
     let e = left_end c.deref-child-items.result.now c.loop-child.child-index c.loop-child-test.false in
     let sum : c.args.start + sum_of (times c.args.counts.now) (below c.args.entry.now) ≡ c.loop-child.at = omega (arith, inv.sum, ap (sum_of (times c.args.counts.now)) e) in
     let rest : c.loop-child.at - c.args.start ≡ sum_of (times c.args.counts.now) (below c.args.entry.now) = omega (arith, sum) in
-    let size : c.element_by.result ≡ element (times c.args.counts.now) (node n).top (node n).beneath = c.element_by.ensures ∙ ap (one (out-Node n).kind) rest ∙ sym (element_out (times c.args.counts.now) n) in
+    let size : c.element_by.result ≡ element_length (times c.args.counts.now) (node n).top (node n).beneath = c.element_by.ensures ∙ ap (length_by_kind (out-Node n).kind) rest ∙ sym (element_out (times c.args.counts.now) n) in
     let same : drop 1 (take c.loop-child.next c.loop-child.spots) ++ [] ≡ spots_of (times c.args.counts.now) (node n).beneath c.args.start c.args.start =
     ap (λ f. drop 1 (take c.loop-child.next c.loop-child.spots) ++ spots_of (times c.args.counts.now) f c.loop-child.at c.loop-child.area) (sym e) ∙ inv.same
     ∙ ap (λ f. spots_of (times c.args.counts.now) f c.args.start c.args.start) (sym (below_is n)) in
@@ -108,4 +108,4 @@ returns-clause-spots t c =
     first_set c.loop-child.spots c.args.spots.now c.loop-child.next x (spots_of (times c.args.counts.now) (node n).beneath c.args.start c.args.start) inv.first
     (omega (arith, inv.count, inv.long, c.requires.room, ap entries_in e, ap entries_in (below_is n))) inv.kept same
     ∙ ap (λ (l : ℕ). record { offset = c.args.start; length = l; times = c.times_of.result } ∷ (spots_of (times c.args.counts.now) (node n).beneath c.args.start c.args.start ++ drop c.loop-child.next c.args.spots.now)) size
-    ∙ ap (λ (k : ℕ). record { offset = c.args.start; length = element (times c.args.counts.now) (node n).top (node n).beneath; times = k } ∷ (spots_of (times c.args.counts.now) (node n).beneath c.args.start c.args.start ++ drop c.loop-child.next c.args.spots.now)) c.times_of.ensures
+    ∙ ap (λ (k : ℕ). record { offset = c.args.start; length = element_length (times c.args.counts.now) (node n).top (node n).beneath; times = k } ∷ (spots_of (times c.args.counts.now) (node n).beneath c.args.start c.args.start ++ drop c.loop-child.next c.args.spots.now)) c.times_of.ensures

@@ -1,7 +1,6 @@
 use Rattle.std.proofs.Common.{◌≡◌, ◌++◌, map}
-use Rattle.cob_copybook_tree.specs.Nodes.{node}
+use Rattle.cob_copybook_tree.specs.Nodes.{node, alone}
 use Rattle.cob_copybook_names.specs.Listed.{texts}
-use Rattle.cob_layout_places.specs.Lengths.{alone}
 use Rattle.cob_layout_places.proofs.ForestLemmas.{left}
 use Rattle.cob_move_references.specs.Candidates.{candidates}
 use Rattle.cob_move_references.specs.Listed.{candidate_of}

@@ -3,7 +3,7 @@ use denote.Enum.Bare.{differs_false}
 use Rattle.cob_picture.specs.contracts.symbol.Symbol.{the_type}
 use Rattle.cob_picture.specs.declared.symbol.Symbol.TheVariants.{Dollar}
 use Rattle.cob_picture.specs.declared.symbol.Run.{Run}
-use Rattle.cob_picture.specs.Positions.{written_out, times}
+use Rattle.cob_picture.specs.Positions.{written_out, symbol_count}
 use Rattle.cob_picture.specs.Runs.{ArePositive}
 use Rattle.cob_picture.specs.Edited.{CurrencyLeads, is_sign_run}
 use Rattle.cob_picture.proofs.EditedFacts.{leads_yes, leads_must}
@@ -22,7 +22,7 @@ returns-clause-yes c = λ t.
     subst (λ (t : List Run). CurrencyLeads (written_out t)) (sym e)
     (leads_yes c.in-Some.first.now c.in-Some.rest.now (subst ArePositive e c.requires.positive)
     (differs_false the_type tt _ _ (sym c.ne.ensures ∙ c.if-ne.false))
-    (subst (λ (t : List Run). times Dollar (written_out t) ≡ 1) e (sym c.count_of.ensures.value ∙ c.if-count_of-ne1.false))
+    (subst (λ (t : List Run). symbol_count Dollar (written_out t) ≡ 1) e (sym c.count_of.ensures.value ∙ c.if-count_of-ne1.false))
     (sym (c.is_sign_run.ensures ∙ ap is_sign_run c.run_symbol_of.ensures) ∙ c.if-not-is_sign_run.false)
     (c.is_numeric_edited.ensures.yes t))
 

@@ -1,15 +1,15 @@
 use Rattle.std.proofs.Common.{◌≡◌, ◌≢◌, ◌≤◌, ℕ, List, ◌∷◌, length, sym, ap, subst, ◌∙◌, arith}
 use Rattle.std.proofs.lemmas.List.{nil_from_length}
 use Rattle.cob_source.specs.declared.token.Cell.{Cell}
-use Rattle.cob_source.specs.Cuts.{NotFirst}
+use Rattle.cob_source.specs.Cuts.{NotFirstQuote}
 use Rattle.cob_source.proofs.Literals.{within, takes_one, takes_two, closes, open_past, open_past_two}
 use Rattle.cob_source.proofs.cut.literal_at.Goals as goal
 
-none_first : (q : ℕ) (after : List Cell) → length after ≡ 0 → NotFirst q after
-none_first q after e = subst (NotFirst q) (sym (nil_from_length after e)) tt
+none_first : (q : ℕ) (after : List Cell) → length after ≡ 0 → NotFirstQuote q after
+none_first q after e = subst (NotFirstQuote q) (sym (nil_from_length after e)) tt
 
-other_first : (q : ℕ) (after : List Cell) (c : Cell) (more : List Cell) → after ≡ c ∷ more → c.byte ≢ q → NotFirst q after
-other_first q after c more e ne = subst (NotFirst q) (sym e) ne
+other_first : (q : ℕ) (after : List Cell) (c : Cell) (more : List Cell) → after ≡ c ∷ more → c.byte ≢ q → NotFirstQuote q after
+other_first q after c more e ne = subst (NotFirstQuote q) (sym e) ne
 
 shorter_one : (rest : List Cell) (c : Cell) (after : List Cell) (n : ℕ) → rest ≡ c ∷ after → length rest ≤ n → length after ≤ n
 shorter_one rest c after n e h = let k = ap (length {A = Cell}) e in omega arith

@@ -4,7 +4,7 @@ use Rattle.std.proofs.Math.Seq.{drop-append_seam}
 use Rattle.std.proofs.lemmas.List.{take_rest}
 use Rattle.cob_source.specs.declared.token.Cell.{Cell}
 use Rattle.cob_source.specs.Cuts.{open_from, open_quote}
-use Rattle.cob_source.specs.Lines.{spaces, written, indicator, left_out, continued_text, continued, filled, cells_from}
+use Rattle.cob_source.specs.Lines.{spaces, program_text, indicator, left_out, continued_text, continued, filled, cells_from}
 use Rattle.cob_source.specs.Words.{is_bad_continuation}
 use Rattle.cob_source.proofs.Trims.{spaces_before, not_blank}
 use Rattle.cob_source.proofs.Opens.{open_from-append, open_trim_end}
@@ -21,14 +21,14 @@ few (Some q) text some short = omega arith
 pub push_columns-requires : goal.push_columns-requires
 push_columns-requires c =
     let line = c.args.line.now in
-    let short : length (written line) ≤ 65 = rw (← c.written_in-text.ensures.columns) c.written_in-text.ensures.short in
+    let short : length (program_text line) ≤ 65 = rw (← c.written_in-text.ensures.columns) c.written_in-text.ensures.short in
     record {
-      few = rw (c.make_ready-skipped.ensures.skipped, c.written_in-text.ensures.columns) (few c.args.joined.now.quote (written line) (spaces_before _ (not_blank (indicator line) (written line) c.requires.kind)) short);
+      few = rw (c.make_ready-skipped.ensures.skipped, c.written_in-text.ensures.columns) (few c.args.joined.now.quote (program_text line) (spaces_before _ (not_blank (indicator line) (program_text line) c.requires.kind)) short);
       short = c.written_in-text.ensures.short;
     }
 
 continued_is : (q : Option ℕ) (text line : List ℕ) (n skipped : ℕ) (old base new : List Cell) → base ≡ continued_text q old → skipped ≡ left_out q text → new ≡ base ++ cells_from n (8 + skipped) (drop skipped (filled text))
-    → text ≡ written line → q ≡ open_quote old → new ≡ continued (open_quote old) n old line
+    → text ≡ program_text line → q ≡ open_quote old → new ≡ continued (open_quote old) n old line
 continued_is q text line n skipped old base new b s p t r =
     p ∙ ap (λ (l : List Cell). l ++ cells_from n (8 + skipped) (drop skipped (filled text))) b
     ∙ ap (λ (k : ℕ). continued_text q old ++ cells_from n (8 + k) (drop k (filled text))) s

@@ -1,6 +1,6 @@
 use Rattle.std.proofs.Common.{◌≡◌, ℕ, ◌+◌, ◌-◌, ◌*◌, ◌/◌, ◌<◌, List, ◌++◌, [], ◌∷◌, length, get_or, ap, ◌∙◌, arith}
 use Rattle.cob_codec.specs.Sign.{sign_code}
-use Rattle.cob_codec.specs.Packed.{joined, packed_halves}
+use Rattle.cob_codec.specs.Packed.{bytes_of_halves, packed_halves}
 use Rattle.cob_codec.proofs.PackedLemmas.{whole_item, front_length}
 use Rattle.cob_codec.proofs.SliceLemmas.{last_after}
 use Rattle.cob_codec.proofs.packed.PackedStorage.store.Goals as goal
@@ -17,5 +17,5 @@ returns-clause-bytes c =
     last_after c.args.bytes.now c.put_front.new.bytes (length c.args.bytes.now - 1) byte (omega arith) (omega arith)
     ∙ ap (λ xs. xs ++ byte ∷ []) c.put_front.ensures
     ∙ whole_item ds (length ds - 1) c.code_of.result (omega arith)
-    ∙ ap (λ k. joined (packed_halves (length ds) ds k)) code
-    ∙ ap (λ xs. joined (packed_halves (length xs) xs (sign_code c.args.shape.now.signed c.args.number.now.negative))) same
+    ∙ ap (λ k. bytes_of_halves (packed_halves (length ds) ds k)) code
+    ∙ ap (λ xs. bytes_of_halves (packed_halves (length xs) xs (sign_code c.args.shape.now.signed c.args.number.now.negative))) same

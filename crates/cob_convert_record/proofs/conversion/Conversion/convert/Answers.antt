@@ -1,11 +1,11 @@
 use Rattle.std.proofs.Common.{ℕ, sym, subst, take}
+use Rattle.cob_copybook_tree.specs.Nodes.{alone}
 use Rattle.std.proofs.lemmas.Result.{err_from_is_err_and}
-use Rattle.cob_layout_places.specs.Lengths.{alone}
 use Rattle.cob_move.specs.Initial.{IsInitial}
 use Rattle.cob_convert_record.specs.Conversion.{Conversion}
 use Rattle.cob_move_apply.specs.Prepared.{moves_of}
 use Rattle.cob_move_apply.specs.declared.stop.Stop.{Stop}
-use Rattle.cob_convert_record.specs.Becoming.{Becomes, IsCountStop, IsWritten, StopsAt}
+use Rattle.cob_convert_record.specs.Becoming.{Becomes, IsCountStop, IsOutputOf, StopsAt}
 use Rattle.cob_convert_record.proofs.Outcomes.{at_move, at_count, becomes, if_error, if_value}
 use Rattle.cob_convert_record.proofs.conversion.Conversion.convert.Goals as goal
 
@@ -34,7 +34,7 @@ returns-clause-converts c =
     let own : Conversion = record { in_form = c.self.inside.in_form; out_form = c.self.inside.out_form; records = record { input = c.self.inside.input; output = c.self.inside.output }; moves = moves_of c.self.inside.moves } in
     let begins : IsInitial (alone c.self.inside.output) c.begin.new.output
     = subst (λ (x : Conversion). IsInitial (alone x.records.output) c.begin.new.output) (sym c.self.view_is) c.begin.ensures.begins in
-    if_value c.written_length.result (λ (made : ℕ). IsWritten c.self.inside.out_form c.self.inside.output c.apply.new.output (take made c.apply.new.output))
+    if_value c.written_length.result (λ (made : ℕ). IsOutputOf c.self.inside.out_form c.self.inside.output c.apply.new.output (take made c.apply.new.output))
     (λ (made : ℕ). Becomes c.args.self.now c.args.input.now (take made c.apply.new.output)) c.written_length.ensures.written
     (λ made writes. subst (λ (x : Conversion). Becomes x c.args.input.now (take made c.apply.new.output)) c.self.view_is
     (becomes own c.args.input.now c.begin.new.output c.apply.new.output (take made c.apply.new.output) begins c.in_ok-apply.ensures.applied writes))

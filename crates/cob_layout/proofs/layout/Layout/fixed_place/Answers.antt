@@ -1,6 +1,6 @@
 use Rattle.std.proofs.Common.{Ok, sym, ap, ◌∙◌}
-use Rattle.cob_copybook_tree.specs.Nodes.{node}
-use Rattle.cob_layout_places.specs.Lengths.{alone, times}
+use Rattle.cob_copybook_tree.specs.Nodes.{node, alone}
+use Rattle.cob_layout_places.specs.Lengths.{times}
 use Rattle.cob_layout_places.specs.Spots.{spots_of}
 use Rattle.cob_layout.specs.Counting.{greatest_counts}
 use Rattle.cob_layout.proofs.ReferenceLemmas.{refers_has}

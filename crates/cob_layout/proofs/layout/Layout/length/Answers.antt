@@ -1,7 +1,7 @@
 use Rattle.std.proofs.Common.{subst, refl, arith, ◌≤◌, ◌*◌}
-use Rattle.cob_copybook_tree.specs.Nodes.{node}
-use Rattle.cob_copybook_tree.specs.Lengths.{most, sum_of}
-use Rattle.cob_layout_places.specs.Lengths.{alone, times}
+use Rattle.cob_copybook_tree.specs.Nodes.{node, alone}
+use Rattle.cob_copybook_tree.specs.Lengths.{greatest_number, sum_of}
+use Rattle.cob_layout_places.specs.Lengths.{times}
 use Rattle.cob_layout_places.specs.Cover.{IsCovered}
 use Rattle.cob_layout.proofs.RecordLemmas.{length_is, length_least, length_small}
 use Rattle.cob_layout.proofs.ByteLemmas.{length_some}
@@ -19,7 +19,7 @@ overflow_cast-result c =
 
 pub returns-clause-most : goal.returns-clause-most
 returns-clause-most c =
-    subst (λ t. c.times_of.result * c.element_of.result ≤ sum_of most (alone t)) c.self.view_is
+    subst (λ t. c.times_of.result * c.element_of.result ≤ sum_of greatest_number (alone t)) c.self.view_is
     (length_least c.as_slice-counts.result.now (node c.self.inside.root) c.times_of.result c.element_of.result c.self.invariant.1 c.times_of.ensures c.element_of.ensures)
 
 pub returns-clause-covered : goal.returns-clause-covered

@@ -2,11 +2,10 @@ use Rattle.std.proofs.Common.{rules, ◌≡◌, ap, ◌∙◌, length, arith, Er
 use Rattle.std.specs.Prelude.{IfErr}
 use Rattle.std.proofs.lemmas.List.{length-replicate}
 use Rattle.cob_copybook_tree.specs.Forests.{entries_in}
-use Rattle.cob_copybook_tree.specs.Nodes.{node}
-use Rattle.cob_layout_places.specs.Lengths.{alone}
+use Rattle.cob_copybook_tree.specs.Nodes.{node, alone}
 use Rattle.cob_layout.proofs.RecordLemmas.{number_below, slots_for}
 use Rattle.cob_layout_places.specs.Counts.{tables_of, Taken}
-use Rattle.cob_layout_places.specs.Needs.{needed}
+use Rattle.cob_layout_places.specs.Needs.{needed_tables}
 use Rattle.cob_layout.specs.Counting.{greatest_counts}
 use Rattle.cob_layout.proofs.NeedLemmas.{front_is, zeros_are, needed_at, needed_err}
 use Rattle.cob_layout.proofs.layout.Layout.needed.Goals as goal
@@ -31,7 +30,7 @@ pub returns-in_err-take_needed-clause-err : goal.returns-in_err-take_needed-clau
 returns-in_err-take_needed-clause-err c =
     let u = c.args.self.now in
     let r = c.args.r.now.node in
-    let taken : IfErr c.from_residual.result (λ e. Taken c.args.self.now c.args.bytes.now (needed c.args.self.now c.args.r.now.node c.args.receiving (tables_of (alone c.args.self.now))) (greatest_counts c.args.self.now) (Err e)) = search rules in
+    let taken : IfErr c.from_residual.result (λ e. Taken c.args.self.now c.args.bytes.now (needed_tables c.args.self.now c.args.r.now.node c.args.receiving (tables_of (alone c.args.self.now))) (greatest_counts c.args.self.now) (Err e)) = search rules in
     needed_err c.needs_are_read.ensures (node c.self.inside.root) u r c.args.receiving c.args.bytes.now c.args.r.now.subscripts.items c.from_residual.result c.self.invariant.1 c.self.view_is c.requires.refers taken
 
 pub returns-clause-ok : goal.returns-clause-ok

@@ -1,7 +1,7 @@
 use Rattle.std.proofs.Common.{◌≡◌, sym, ap, ◌∙◌, length}
 use Rattle.cob_copybook_tree.specs.Forests.{entries_in}
-use Rattle.cob_copybook_tree.specs.Nodes.{node}
-use Rattle.cob_layout_places.specs.Lengths.{alone, times}
+use Rattle.cob_copybook_tree.specs.Nodes.{node, alone}
+use Rattle.cob_layout_places.specs.Lengths.{times}
 use Rattle.cob_layout_places.proofs.SpotLemmas.{length_spots}
 use Rattle.cob_layout.proofs.GreatestLemmas.{greatest_length}
 use Rattle.cob_layout.proofs.layout.Layout.new_places.Goals as goal

@@ -1,8 +1,8 @@
 use Rattle.std.proofs.Common.{◌≡◌, ℕ, List, length, sym, ap, subst, ◌∙◌, arith}
-use Rattle.cob_copybook_tree.specs.Nodes.{node}
-use Rattle.cob_copybook_tree.specs.Lengths.{most, sum_of}
-use Rattle.cob_copybook.specs.Books.{IsRecord}
-use Rattle.cob_layout_places.specs.Lengths.{alone, times}
+use Rattle.cob_copybook_tree.specs.Nodes.{node, alone}
+use Rattle.cob_copybook_tree.specs.Lengths.{greatest_number, sum_of}
+use Rattle.cob_copybook.specs.Books.{IsRecordDescription}
+use Rattle.cob_layout_places.specs.Lengths.{times}
 use Rattle.cob_layout_places.specs.Spots.{spots_of}
 use Rattle.cob_layout.proofs.GreatestLemmas.{greatest_is, length_in_order}
 use Rattle.cob_layout.proofs.layout.Layout.of.Goals as goal
@@ -11,10 +11,10 @@ pub invariant_of-result : goal.invariant_of-result
 invariant_of-result c =
     let t = node c.in_ok-root.root in
     let same : alone t ≡ c.args.book.now = ap alone c.in_ok-root.ensures.same ∙ c.root.ensures.tree in
-    let is : IsRecord (alone t) = subst IsRecord (sym same) c.root.ensures.record in
+    let is : IsRecordDescription (alone t) = subst IsRecordDescription (sym same) c.root.ensures.record in
     let sound = c.records_are_sound.ensures t is in
     let counts = c.in_ok-counts.ensures ∙ c.deref.ensures.value ∙ c.in_ok-in_order.ensures ∙ sym (greatest_is t sound.numbered) in
-    (is, sound, c.in_ok-tables.ensures, counts, c.greatest-greatest.ensures.value ∙ ap (sum_of most) (sym same), c.in_ok-root.ensures.bytes, c.in_ok-ways.ensures, c.in_ok-spots.ensures ∙ ap (λ (cs : List ℕ). spots_of (times cs) (alone t) 0 0) (c.deref-2.ensures.value ∙ c.in_ok-in_order.ensures ∙ sym (greatest_is t sound.numbered)))
+    (is, sound, c.in_ok-tables.ensures, counts, c.greatest-greatest.ensures.value ∙ ap (sum_of greatest_number) (sym same), c.in_ok-root.ensures.bytes, c.in_ok-ways.ensures, c.in_ok-spots.ensures ∙ ap (λ (cs : List ℕ). spots_of (times cs) (alone t) 0 0) (c.deref-2.ensures.value ∙ c.in_ok-in_order.ensures ∙ sym (greatest_is t sound.numbered)))
 
 pub ways-requires-clause-end : goal.ways-requires-clause-end
 ways-requires-clause-end c =

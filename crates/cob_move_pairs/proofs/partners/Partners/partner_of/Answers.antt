@@ -1,6 +1,6 @@
 use Rattle.std.proofs.Common.{◌≡◌, ◌++◌, ◌+◌, ◌<◌, ℕ, Option, Bor, false, get_or, length, take, true, refl, sym, subst, ap, ◌∙◌, arith}
 use Rattle.std.proofs.lemmas.List.{length-map}
-use Rattle.cob_copybook_names.specs.Links.{reach, IsLast}
+use Rattle.cob_copybook_names.specs.Links.{entries_up_to, IsLast}
 use Rattle.cob_move_pairs.specs.declared.subordinate.Subordinate.{Subordinate as Listed}
 use Rattle.cob_move_pairs.specs.Listed.{subordinate, subordinates_listed}
 use Rattle.cob_move_pairs.specs.Pairs.{partners}
@@ -44,8 +44,8 @@ earlier_at c =
 pub loop-place-smaller : goal.loop-place-smaller
 loop-place-smaller c =
     let l = earlier_at (goal.at.loop-place-smaller c).After-index-place in
-    let less : reach c.index-place.result.now < c.in-Some.here + 1 = omega (arith, l.before) in
-    subst (λ (o : Option ℕ). reach c.index-place.result.now < reach o) (sym c.in-Some.is) less
+    let less : entries_up_to c.index-place.result.now < c.in-Some.here + 1 = omega (arith, l.before) in
+    subst (λ (o : Option ℕ). entries_up_to c.index-place.result.now < entries_up_to o) (sym c.in-Some.is) less
 
 pub loop-place-preserved : goal.loop-place-preserved
 loop-place-preserved c =
@@ -59,11 +59,11 @@ loop-place-preserved c =
     let lt = inside_at c.loop-place.place p (length cs) c.in-Some.is c.loop-place.invariant.inside in
     let l = earlier_at (goal.at.loop-place-preserved c).After-index-place in
     let front = front_at cs c.loop-place.place p item c.in-Some.is lt read in
-    let whole : partners all x ≡ partners (take (reach next) all) x ++ partner_list c.if-correspond.found = elim c.if-correspond.branch [
+    let whole : partners all x ≡ partners (take (entries_up_to next) all) x ++ partner_list c.if-correspond.found = elim c.if-correspond.branch [
       | then-correspond+else-is_some w ↦ walk_meet x all next item c.loop-place.found (sym (w.is_some.ensures) ∙ w.if-is_some.false)
           (walk_step x all c.loop-place.place next p (subordinate item) true (partner_list c.loop-place.found) front l (sym c.correspond.ensures ∙ w.if-correspond.true) c.loop-place.invariant.whole)
-          ∙ ap (λ (f : Option (Bor Listed)). partners (take (reach next) all) x ++ partner_list f) (sym w.found-is)
-      | else-correspond w ↦ subst (λ (f : Option (Bor Listed)). partners all x ≡ partners (take (reach next) all) x ++ partner_list f) (sym w.found-is)
+          ∙ ap (λ (f : Option (Bor Listed)). partners (take (entries_up_to next) all) x ++ partner_list f) (sym w.found-is)
+      | else-correspond w ↦ subst (λ (f : Option (Bor Listed)). partners all x ≡ partners (take (entries_up_to next) all) x ++ partner_list f) (sym w.found-is)
           (walk_step x all c.loop-place.place next p (subordinate item) false (partner_list c.loop-place.found) front l (sym c.correspond.ensures ∙ w.if-correspond.false) c.loop-place.invariant.whole)
     ] in
     record { inside = omega (arith, l.before, lt); borne = l.bears; whole = whole }

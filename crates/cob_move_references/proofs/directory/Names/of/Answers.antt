@@ -1,7 +1,6 @@
 use Rattle.std.proofs.Common.{◌≡◌, List, [], ◌++◌, map, sym, subst, ap, ◌∙◌}
-use Rattle.cob_copybook_tree.specs.Nodes.{node}
-use Rattle.cob_copybook.specs.Books.{IsRecord}
-use Rattle.cob_layout_places.specs.Lengths.{alone}
+use Rattle.cob_copybook_tree.specs.Nodes.{node, alone}
+use Rattle.cob_copybook.specs.Books.{IsRecordDescription}
 use Rattle.cob_move_operands.specs.declared.Side.TheVariants.{In, Out}
 use Rattle.cob_move_references.specs.declared.candidate.Candidate.{Candidate as Listed}
 use Rattle.cob_move_references.specs.Candidates.{Candidate, all_entries, candidates}
@@ -18,5 +17,5 @@ linked-requires c =
     let both : map candidate_of c.list_tree-2.new.listed.items ≡ all_entries (alone input) (alone output) =
     c.in_ok-list_tree-2.ensures ∙ ap (λ (xs : List Candidate). xs ++ candidates Out [] [] (alone output)) first in
     subst AreShallow (sym both)
-    (all_shallow input output (c.records_are_sound.ensures input (subst IsRecord (sym c.root.ensures.tree) c.root.ensures.record)).nested
-    (c.records_are_sound.ensures output (subst IsRecord (sym c.root-2.ensures.tree) c.root-2.ensures.record)).nested)
+    (all_shallow input output (c.records_are_sound.ensures input (subst IsRecordDescription (sym c.root.ensures.tree) c.root.ensures.record)).nested
+    (c.records_are_sound.ensures output (subst IsRecordDescription (sym c.root-2.ensures.tree) c.root-2.ensures.record)).nested)

@@ -1,7 +1,7 @@
 use Rattle.std.proofs.Common.{◌≡◌, ◌++◌, ◌+◌, ◌<◌, ℕ, List, Option, Bor, false, map, length, take, true, sym, subst, ap, ◌∙◌, arith}
 use Rattle.std.proofs.lemmas.List.{length-map}
 use Rattle.cob_copybook_clauses.specs.Written.{names_behind}
-use Rattle.cob_copybook_names.specs.Links.{reach, IsLast}
+use Rattle.cob_copybook_names.specs.Links.{entries_up_to, IsLast}
 use Rattle.cob_copybook_names.specs.Listed.{texts}
 use Rattle.cob_source.specs.Tokens.{lexemes}
 use Rattle.cob_move_references.specs.declared.candidate.Candidate.{Candidate as Listed}
@@ -45,8 +45,8 @@ earlier_at c =
 pub loop-place-smaller : goal.loop-place-smaller
 loop-place-smaller c =
     let l = earlier_at (goal.at.loop-place-smaller c).After-index-place in
-    let less : reach c.index-place.result.now < c.in-Some.here + 1 = omega (arith, l.before) in
-    subst (λ (o : Option ℕ). reach c.index-place.result.now < reach o) (sym c.in-Some.is) less
+    let less : entries_up_to c.index-place.result.now < c.in-Some.here + 1 = omega (arith, l.before) in
+    subst (λ (o : Option ℕ). entries_up_to c.index-place.result.now < entries_up_to o) (sym c.in-Some.is) less
 
 pub loop-place-preserved : goal.loop-place-preserved
 loop-place-preserved c =
@@ -62,11 +62,11 @@ loop-place-preserved c =
     let bears = sym (name_at cs p item.now lt c.index-candidate.ensures) ∙ c.loop-place.invariant.borne p c.in-Some.is in
     let front = front_at cs c.loop-place.place p item.now c.in-Some.is lt c.index-candidate.ensures in
     let above : qualifies qs (texts c.as_slice.result.now) ≡ qualifies qs (candidate_of item.now).above = ap (λ (t : List (Bor (List ℕ))). qualifies qs (texts t)) c.as_slice.ensures.value in
-    let whole : named name qs all ≡ named name qs (take (reach next) all) ++ found_list c.if-qualifies.found = elim c.if-qualifies.branch [
-      | then-qualifies+else-is_some w ↦ subst (λ (f : Option (Bor Listed)). named name qs all ≡ named name qs (take (reach next) all) ++ found_list f) (sym w.found-is)
+    let whole : named name qs all ≡ named name qs (take (entries_up_to next) all) ++ found_list c.if-qualifies.found = elim c.if-qualifies.branch [
+      | then-qualifies+else-is_some w ↦ subst (λ (f : Option (Bor Listed)). named name qs all ≡ named name qs (take (entries_up_to next) all) ++ found_list f) (sym w.found-is)
           (walk_meet name qs all next item c.loop-place.found (sym (w.is_some.ensures) ∙ w.if-is_some.false)
           (walk_step name qs all c.loop-place.place next p (candidate_of item.now) true (found_list c.loop-place.found) front l bears (sym above ∙ sym c.qualifies.ensures ∙ w.if-qualifies.true) c.loop-place.invariant.whole))
-      | else-qualifies w ↦ subst (λ (f : Option (Bor Listed)). named name qs all ≡ named name qs (take (reach next) all) ++ found_list f) (sym w.found-is)
+      | else-qualifies w ↦ subst (λ (f : Option (Bor Listed)). named name qs all ≡ named name qs (take (entries_up_to next) all) ++ found_list f) (sym w.found-is)
           (walk_step name qs all c.loop-place.place next p (candidate_of item.now) false (found_list c.loop-place.found) front l bears (sym above ∙ sym c.qualifies.ensures ∙ w.if-qualifies.false) c.loop-place.invariant.whole)
     ] in
     record { inside = omega (arith, l.before, lt); borne = l.bears; whole = whole }

@@ -9,8 +9,8 @@ use Rattle.cob_picture.proofs.Limits.{bounded}
 use Rattle.cob_picture.proofs.Found.{positive_is, is_found, is_only, same_seen, broken_order}
 use Rattle.cob_picture.proofs.picture.Picture.read.Goals as goal
 
-pub judged-requires-clause-positive : goal.judged-requires-clause-positive
-judged-requires-clause-positive c = rw c.as_slice.ensures.value (positive_is _ _ c.in_ok-runs.ensures.found)
+pub category_and_counts-requires-clause-positive : goal.category_and_counts-requires-clause-positive
+category_and_counts-requires-clause-positive c = rw c.as_slice.ensures.value (positive_is _ _ c.in_ok-runs.ensures.found)
 
 pub returns-in_err-category-clause-only : goal.returns-in_err-category-clause-only
 returns-in_err-category-clause-only c = λ p h.

@@ -1,8 +1,8 @@
 use Rattle.std.proofs.Common.{◌≡◌}
-use Rattle.cob_layout_places.specs.Needs.{reach}
+use Rattle.cob_layout_places.specs.Needs.{number_behind}
 use Rattle.cob_layout_places.proofs.ForestLemmas.{left, below}
 use Rattle.cob_layout_places.proofs.NeedLemmas.{AreUpTo}
-use Rattle.cob_layout_places.proofs.needs.+reach.Given as goal
+use Rattle.cob_layout_places.proofs.needs.+number_behind.Given as goal
 
 abbrev pub decreases-reach : goal.decreases-reach
 decreases-reach l = goal.size-reach l
@@ -12,6 +12,6 @@ invariant-loop-child l =
     let rest = left l.child-items l.child-index in
     record {
       at : l.at ≡ l.child-index;
-      same : reach l.tables l.number (below l.entry) ≡ reach l.tables l.number rest;
+      same : number_behind l.tables l.number (below l.entry) ≡ number_behind l.tables l.number rest;
       numbered : AreUpTo l.end rest;
     }

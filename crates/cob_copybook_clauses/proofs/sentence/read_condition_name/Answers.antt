@@ -1,5 +1,5 @@
 use Rattle.std.proofs.Common.{codes, ◌∷◌}
-use Rattle.cob_copybook_clauses.proofs.sentence.condition.Goals as goal
+use Rattle.cob_copybook_clauses.proofs.sentence.read_condition_name.Goals as goal
 
 pub returns-in_err-level-clause-only : goal.returns-in_err-level-clause-only
 returns-in_err-level-clause-only c = λ n is. absurd (c.in_err-level.ensures.only (codes "88") is.level (is.named ∷ (is.value ∷ is.more)) is.level_is is.words)
