@@ -10,12 +10,12 @@ use Rattle.cob_records.specs.Frame.{Reads, Puts, framed, IsLength, IsRecord, fra
 use Rattle.cob_records.specs.declared.records.Form.{Form}
 use Rattle.cob_records.specs.declared.records.Form.TheVariants.{Fixed, Variable}
 use Rattle.cob_convert_record.specs.Conversion.{Conversion, in_length}
-use Rattle.cob_convert.specs.declared.run.RunFault.{RunFault}
+use Rattle.cob_convert_record.specs.declared.fault.RunFault.{RunFault}
 use Rattle.cob_move_apply.specs.declared.stop.Stop.{Stop}
 use Rattle.cob_move_operands.specs.declared.Side.{Side}
 use Rattle.cob_move_operands.specs.declared.Side.TheVariants.{Out}
-use Rattle.cob_convert.specs.declared.run.Cause.{Cause}
-use Rattle.cob_convert.specs.declared.run.Cause.TheVariants.{Record}
+use Rattle.cob_convert_record.specs.declared.fault.Cause.{Cause}
+use Rattle.cob_convert_record.specs.declared.fault.Cause.TheVariants.{Record}
 use Rattle.cob_records.specs.declared.records.RecordFault.{RecordFault}
 use Rattle.cob_records.specs.declared.records.RecordFault.TheVariants.{Truncated, Descriptor, Spanned, Length, ReadFailed, WriteFailed, TookNothing}
 use Rattle.cob_move_operands.specs.declared.Side.TheVariants.{In}

@@ -7,7 +7,7 @@ use Rattle.std.proofs.Math.Seq.{take-append_seam, take-add}
 use Rattle.std.specs.Io.KnownBytes.{append_known}
 use Rattle.cob_records.specs.declared.device.DeviceFault.{DeviceFault}
 use Rattle.cob_records.specs.Device.{Took}
-use Rattle.cob_convert.specs.Hex.{PutsPairs, PutsText, byte_text, hex_text}
+use Rattle.cob_records.specs.Hex.{PutsPairs, PutsText, byte_text, hex_text}
 use Rattle.cob_convert.proofs.Carried.{append_twice}
 
 length-hex_text : (xs : List ℕ) → length (hex_text xs) ≡ 2 * length xs

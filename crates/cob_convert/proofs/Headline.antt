@@ -4,10 +4,10 @@ use Rattle.std.specs.Io.KnownBytes.{append_known}
 use Rattle.cob_records.specs.Device.{Told, counted}
 use Rattle.cob_records.specs.Frame.{Puts, framed, is_read_failure, is_write_fault}
 use Rattle.cob_convert_record.specs.Conversion.{Conversion}
-use Rattle.cob_convert.specs.declared.run.Cause.TheVariants.{Record}
+use Rattle.cob_convert_record.specs.declared.fault.Cause.TheVariants.{Record}
 use Rattle.cob_records.specs.declared.records.RecordFault.{RecordFault}
 use Rattle.cob_records.specs.declared.records.RecordFault.TheVariants.{WriteFailed, TookNothing}
-use Rattle.cob_convert.specs.declared.run.RunFault.{RunFault}
+use Rattle.cob_convert_record.specs.declared.fault.RunFault.{RunFault}
 use Rattle.cob_convert.specs.Run.{Ran, Ends, Reason, Remains, RecordStops, WriteStops, InRead, InLayout, InConversion, InWrite, frames_out, is_read_stop, is_write_stop, reason_of}
 use Rattle.cob_convert.specs.Converted.{Writes}
 

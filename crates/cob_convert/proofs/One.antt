@@ -12,8 +12,8 @@ use Rattle.cob_move_apply.specs.declared.stop.Stop.{Stop}
 use Rattle.cob_move_operands.specs.declared.Side.TheVariants.{In}
 use Rattle.cob_convert_record.specs.Conversion.{Conversion, in_length}
 use Rattle.cob_convert_record.specs.declared.misfit.MeasureFault.{MeasureFault}
-use Rattle.cob_convert.specs.declared.run.Cause.TheVariants.{Record}
-use Rattle.cob_convert.specs.declared.run.RunFault.{RunFault}
+use Rattle.cob_convert_record.specs.declared.fault.Cause.TheVariants.{Record}
+use Rattle.cob_convert_record.specs.declared.fault.RunFault.{RunFault}
 use Rattle.cob_convert_record.specs.Sizes.{IsSized, IsMeasureFault}
 use Rattle.cob_convert_record.specs.Becoming.{Becomes, StopsAt}
 use Rattle.cob_convert.specs.Run.{Came, Ends, Reason, Remains, RecordStops, StopsFor, InRead, InLayout, InConversion, InWrite, IsConverted, cause_from, offset_from, reason_of, refusal_from, frames_in, frames_out, most_records, is_read_stop, is_write_stop}

@@ -2,7 +2,7 @@
 use Rattle.std.specs.Prelude.{◌≡◌, ℕ, ◌+◌, ◌-◌, ◌%◌, ◌^◌, Bool, true, false, ◌==◌, ◌||◌, not, List, ◌∷◌, ◌++◌, length, map, flat_map, filter, min, ◌⊎◌}
 use Rattle.std.specs.List.{AllByRecursion, list_all}
 use Rattle.std.specs.Char.{is_ascii_hexdigit, to_ascii_uppercase}
-use Rattle.cob_convert.specs.Hex.{hex_text}
+use Rattle.cob_records.specs.Hex.{hex_text}
 use Rattle.cob_source.specs.Lines.{lines}
 use Rattle.cob_convert.specs.declared.job_data.DataFault.{DataFault}
 use Rattle.cob_convert.specs.declared.job_data.DataFault.TheVariants.{Line, Memory}

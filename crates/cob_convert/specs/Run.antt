@@ -10,10 +10,10 @@ use Rattle.cob_move_apply.specs.declared.stop.Stop.{Stop}
 use Rattle.cob_move_operands.specs.declared.Side.{Side}
 use Rattle.cob_move_operands.specs.declared.Side.TheVariants.{In, Out}
 use Rattle.cob_move_apply.specs.declared.stop.StopCause.{StopCause}
-use Rattle.cob_convert.specs.declared.run.Cause.{Cause}
-use Rattle.cob_convert.specs.declared.run.Cause.TheVariants.{NoValue, Count, Subscript, Limit, Record}
+use Rattle.cob_convert_record.specs.declared.fault.Cause.{Cause}
+use Rattle.cob_convert_record.specs.declared.fault.Cause.TheVariants.{NoValue, Count, Subscript, Limit, Record}
 use Rattle.cob_move_apply.specs.declared.stop.StopCause.TheVariants.{NoValue as StopNoValue, Count as StopCount, Subscript as StopSubscript}
-use Rattle.cob_convert.specs.declared.run.RunFault.{RunFault}
+use Rattle.cob_convert_record.specs.declared.fault.RunFault.{RunFault}
 use Rattle.cob_convert_record.specs.declared.misfit.MeasureFault.{MeasureFault}
 use Rattle.cob_convert_record.specs.declared.misfit.MeasureFault.TheVariants.{Count as Uncounted, Length as Unfitting}
 use Rattle.cob_convert_record.specs.Sizes.{IsSized, IsMeasureFault}

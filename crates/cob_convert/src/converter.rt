@@ -13,7 +13,8 @@ ghost use Rattle.cob_convert.specs.Means.{Means, IsMovesRefusal, IsPrepareRefusa
 
 use crate::books;
 use crate::fault::PrepareFault;
-use crate::run::{RunFault, run_over};
+use crate::run::run_over;
+use cob_convert_record::RunFault;
 use cob_convert_record::{Conversion, Room};
 use cob_copybook::Book;
 use cob_layout::Layout;

@@ -2,7 +2,7 @@ ghost use Rattle.std.specs.Prelude.{◌≡◌};
 ghost use Rattle.cob_convert.specs.declared.fault.PrepareFault.TheVariants.{Memory};
 ghost use Rattle.cob_convert.specs.Means.{moves_refusal};
 
-use crate::run::{Cause, RunFault};
+use cob_convert_record::{Cause, RunFault};
 use cob_convert_record::Side;
 use cob_entry::BookFault;
 use cob_move::{MoveFault, MoveRule};

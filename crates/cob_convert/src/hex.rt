@@ -1,6 +1,6 @@
 ghost use Rattle.std.specs.Prelude.{◌≡◌, ◌<◌, ◌≤◌, ◌*◌, ◌%◌, length, None, IfOk, is_err};
 ghost use Rattle.cob_records.specs.Device.{Took, counted, took_nothing};
-ghost use Rattle.cob_convert.specs.Hex.{PutsPairs, PutsText, digit_character, hex_text};
+ghost use Rattle.cob_records.specs.Hex.{PutsPairs, PutsText, digit_character, hex_text};
 
 use cob_records::{DeviceFault, Sink};
 

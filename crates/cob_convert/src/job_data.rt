@@ -1,7 +1,7 @@
 ghost use Rattle.std.specs.Prelude.{◌≡◌, ◌≤◌, ◌<◌, ◌+◌, ◌*◌, ◌%◌, ◌∷◌, ◌++◌, length, IfOk, IfErr, IfSome, OnOk, true, [], List};
 ghost use Rattle.std.specs.List.{list_all};
 ghost use Rattle.std.specs.Char.{is_ascii_hexdigit, to_ascii_uppercase};
-ghost use Rattle.cob_convert.specs.Hex.{byte_text, digit_character};
+ghost use Rattle.cob_records.specs.Hex.{byte_text, digit_character};
 ghost use Rattle.cob_convert.specs.JobData.{is_data_line, line_digits, AreDigitsOf, IsData, IsRefusedBy, line_number_behind};
 ghost use Rattle.cob_convert.specs.declared.job_data.DataFault.TheVariants.{Memory};
 

@@ -7,7 +7,7 @@ use crate::fault::PrepareFault;
 use crate::hex::HexSink;
 use crate::job_data::{DataFault, decode};
 use crate::job_text::JobText;
-use crate::run::{Cause, RunFault};
+use cob_convert_record::{Cause, RunFault};
 use arrayvec::ArrayString;
 use cob_limits::MAX_JOB_BYTES;
 use cob_records::{DeviceFault, Form, MemSource, RecordFault, Sink, Source, put_record};

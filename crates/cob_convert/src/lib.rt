@@ -43,4 +43,4 @@ pub use converter::Converter;
 pub use fault::PrepareFault;
 pub use jobs::{Status, job};
 pub use laws::conversion_is_one;
-pub use run::{Cause, RunFault};
+pub use cob_convert_record::{Cause, RunFault};

@@ -7,35 +7,8 @@ ghost use Rattle.cob_convert.specs.Run.{Ran, cause_from, offset_from, refusal_fr
 ghost use Rattle.cob_convert.specs.declared.run.TheConstants.{LIMIT};
 ghost use Rattle.cob_limits.specs.Limits.{longest_record};
 
-use cob_convert_record::{Conversion, MeasureFault, Room, Side, StopCause};
+use cob_convert_record::{Cause, Conversion, MeasureFault, Room, Side, StopCause};
 use cob_records::{Form, RecordFault, Sink, Source, next_record, put_record};
-
-/// Why a run stopped.
-#[derive(Clone, Copy, Debug, PartialEq, Eq)]
-pub enum Cause {
-    /// The sender's bytes represent no value.
-    NoValue,
-    /// The bytes of a count represent no number within its table's bounds.
-    Count,
-    /// A subscript is past its table's count.
-    Subscript,
-    /// The greatest number of records was converted.
-    Limit,
-    /// A record could not be read, or its frame not be written.
-    Record(RecordFault),
-}
-
-/// A run that stopped: at which record, counted from 1; on which side, and at which byte of the record, its
-/// descriptor apart (0 where a frame is at fault); why; and how many bytes the sink took in this run, up to
-/// the greatest `u64`.
-#[derive(Clone, Copy, Debug, PartialEq, Eq)]
-pub struct RunFault {
-    pub number: u64,
-    pub side: Side,
-    pub offset: u32,
-    pub cause: Cause,
-    pub written: u64,
-}
 
 /// How many records a run converts at most.
 const LIMIT: u64 = u64::MAX - 1;

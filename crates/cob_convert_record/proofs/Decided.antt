@@ -8,8 +8,8 @@ use Rattle.cob_layout_places.specs.declared.counts.CountFault.{CountFault}
 use Rattle.cob_layout.specs.Counting.{CountsOf}
 use Rattle.cob_layout.specs.Laws.{OneOfAll}
 use Rattle.cob_layout.specs.Storage.{current_length}
-use Rattle.cob_move.specs.Initial.{IsInitial}
-use Rattle.cob_move.specs.Laws.{OneInitial}
+use Rattle.cob_move_initial.specs.Initial.{IsInitial}
+use Rattle.cob_move_initial.specs.Laws.{OneInitial}
 use Rattle.cob_move_operands.specs.declared.Side.TheVariants.{Out}
 use Rattle.cob_convert_record.specs.Conversion.{Conversion}
 use Rattle.cob_move_apply.specs.declared.stop.Stop.{Stop}

@@ -7,7 +7,7 @@ use Rattle.cob_copybook_tree.specs.Nodes.{Resolved, alone}
 use Rattle.cob_layout_places.specs.declared.counts.CountFault.{CountFault}
 use Rattle.cob_layout.specs.Counting.{CountsOf}
 use Rattle.cob_layout.specs.Storage.{IsCurrentPart}
-use Rattle.cob_move.specs.Initial.{IsInitial}
+use Rattle.cob_move_initial.specs.Initial.{IsInitial}
 use Rattle.cob_move_operands.specs.declared.Side.TheVariants.{Out}
 use Rattle.cob_convert_record.specs.Conversion.{Conversion}
 use Rattle.cob_move_apply.specs.declared.stop.Stop.{Stop}

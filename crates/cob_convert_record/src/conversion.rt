@@ -14,7 +14,7 @@ use crate::misfit::MeasureFault;
 use crate::room::Room;
 use cob_copybook::Book;
 use cob_layout::{CountFault, Counts, Layout};
-use cob_move::initial;
+use cob_move_initial::initial;
 use cob_move_apply::{Moves, Stop, StopCause};
 use cob_move_operands::Side;
 use cob_records::Form;
@@ -37,7 +37,7 @@ impl Model for Conversion {
     ghost use Rattle.std.specs.Prelude.{◌≡◌, length};
     ghost use Rattle.cob_copybook_tree.specs.Nodes.{alone};
     ghost use Rattle.cob_layout.specs.Storage.{greatest_length};
-    ghost use Rattle.cob_move.specs.Initial.{IsInitial};
+    ghost use Rattle.cob_move_initial.specs.Initial.{IsInitial};
     ghost use Rattle.cob_convert_record.specs.Conversion.{Conversion};
     ghost use Rattle.cob_move_apply.specs.Prepared.{ArePrepared, moves_of};
     ghost use Rattle.std.specs.Coded.{codes};
@@ -122,7 +122,7 @@ impl Conversion {
     ghost use Rattle.cob_records.specs.Frame.{IsRecord};
     ghost use Rattle.cob_move_apply.specs.Prepared.{ArePrepared, moves_of, single_moves};
     ghost use Rattle.cob_layout.specs.Storage.{IsStorage};
-    ghost use Rattle.cob_move.specs.Initial.{IsInitial};
+    ghost use Rattle.cob_move_initial.specs.Initial.{IsInitial};
     ghost use Rattle.cob_convert_record.specs.Conversion.{in_length, out_length};
     ghost use Rattle.cob_convert_record.specs.Sizes.{IsSized, IsMeasureFault};
     ghost use Rattle.cob_convert_record.specs.Becoming.{Becomes, StopsAt};

@@ -22,6 +22,7 @@
 #![tactic(auto)]
 
 mod conversion;
+mod fault;
 mod laws;
 mod misfit;
 mod room;
@@ -32,3 +33,4 @@ pub use conversion::Conversion;
 pub use laws::conversions_are_decided;
 pub use misfit::MeasureFault;
 pub use room::Room;
+pub use fault::{Cause, RunFault};

@@ -1,6 +1,6 @@
 -- How values are shown.
 use Rattle.std.specs.Prelude.{ℕ, Bool, ◌==◌, ◌||◌, List, ◌∷◌}
-use Rattle.cob_convert.specs.Hex.{byte_text}
+use Rattle.cob_records.specs.Hex.{byte_text}
 use Rattle.cob_copybook_tree.specs.declared.node.Item.{Item}
 use Rattle.cob_decimal.specs.Decimal.{number_of}
 use Rattle.cob_decimal.specs.Literals.{IsNumberText}

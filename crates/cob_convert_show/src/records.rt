@@ -11,7 +11,7 @@ ghost use Rattle.cob_convert_show.specs.declared.records.ShowFault.TheVariants.{
 
 use crate::elements::{Contents, Tables, put_items};
 use crate::text::{put, put_number};
-use cob_convert::{Cause, RunFault, Side};
+use cob_convert_record::{Cause, RunFault, Side};
 use cob_copybook::Book;
 use cob_copybook_tree::Node;
 use cob_layout::{CountFault, Counts, Layout};

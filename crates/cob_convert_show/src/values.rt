@@ -1,7 +1,7 @@
 //! The values of items.
 
 ghost use Rattle.std.specs.Prelude.{◌≡◌, ◌≤◌, ◌<◌, length, IfErr, IfSome, IfNone, Some, None, is_err, true, false, Bool, List, [], ◌∷◌, ℕ};
-ghost use Rattle.cob_convert.specs.Hex.{digit_character};
+ghost use Rattle.cob_records.specs.Hex.{digit_character};
 ghost use Rattle.cob_copybook_tree.specs.Lengths.{item_size};
 ghost use Rattle.cob_cp037.specs.Table.{IsCoded};
 ghost use Rattle.cob_item.specs.Items.{IsNumberItem, Represents};

@@ -1,5 +1,5 @@
 -- VALUE: which entries may have which constant.
-use Rattle.std.specs.Prelude.{◌≡◌, ℕ, ◌+◌, ◌*◌, ◌^◌, ◌<◌, ◌≤◌, ℤ, pos, negsuc, ◌-ℤ◌, Bool, true, false, ◌&&◌, ◌||◌, not, is_some, List, length, Option, Some, None, IsTrue}
+use Rattle.std.specs.Prelude.{◌≡◌, ℕ, ◌+◌, ◌*◌, ◌^◌, ◌<◌, ◌≤◌, ℤ, pos, negsuc, ◌-ℤ◌, Bool, true, false, ◌&&◌, ◌||◌, is_some, List, length, Option, Some, None, IsTrue}
 use Rattle.cob_decimal.specs.Decimal.{number_of}
 use Rattle.cob_picture.specs.Positions.{PlainPicture}
 use Rattle.cob_picture.specs.Counts as counts
@@ -11,7 +11,7 @@ use Rattle.cob_copybook_tree.specs.declared.node.Item.{Item}
 use Rattle.cob_copybook_tree.specs.Forests.{Forest, NoEntries, AnEntry}
 use Rattle.cob_copybook_tree.specs.Nodes.{Resolved}
 use Rattle.cob_copybook_tree.specs.Lengths.{greatest_number, element_length}
-use Rattle.cob_copybook_tree.specs.Resolving.{is_numeric}
+use Rattle.cob_copybook_tree.specs.Resolving.{is_number}
 
 -- a units of 10 ^ -s are b units that are so many powers of ten finer, or coarser
 abbrev pub IsSameBy : ℤ → ℕ → ℕ → Type 0
@@ -42,10 +42,6 @@ IsCharacterValue size (Numeric sign negative digits scale) = ⊥
 IsCharacterValue size (Quoted text) = length text ≤ size
 IsCharacterValue size (Figure f) = Unit {0}
 IsCharacterValue size (Repeated text) = Unit {0}
-
--- BLANK WHEN ZERO makes a number an edited one
-abbrev pub is_number : Item → Bool
-is_number i = is_numeric i.picture.category && not i.blank
 
 -- an item takes a numeric value if it is a number, and characters if it isn't
 abbrev pub IsItemValue : Bool → Item → ℕ → PlainValue → Type 0

@@ -27,4 +27,3 @@ mod values;
 
 pub use judge::judge_lengths;
 pub use laws::breaks_no_rule;
-pub use values::is_number;

@@ -5,19 +5,12 @@ ghost use Rattle.std.specs.Option.{IsNone, is_some};
 ghost use Rattle.cob_entry.specs.Described.{plain_value};
 ghost use Rattle.cob_copybook_tree.specs.Nodes.{node, forest};
 ghost use Rattle.cob_copybook_tree.specs.Lengths.{greatest_number, element_length};
-ghost use Rattle.cob_copybook_lengths.specs.Values.{is_number, IsNumericValue, IsCharacterValue, IsValueFor, MayHaveValue, AreValues};
+ghost use Rattle.cob_copybook_lengths.specs.Values.{IsNumericValue, IsCharacterValue, IsValueFor, MayHaveValue, AreValues};
 
 use crate::fitting::fits_number;
-use cob_copybook_tree::{Item, Kind, Node, element_length};
+use cob_copybook_tree::{Kind, Node, element_length, is_number};
 use cob_entry::{Figurative, Value};
-use cob_picture::{Category, Picture};
-
-/// Whether an item is a number that isn't edited.
-pub fn is_number(item: &Item) -> bool
-    ensures { result ≡ is_number item.now }
-{
-    matches!(item.picture.category(), Category::Numeric) && !item.blank
-}
+use cob_picture::Picture;
 
 /// Whether a numeric item of this picture takes the value.
 fn is_numeric_value(picture: &Picture, value: &Value) -> bool

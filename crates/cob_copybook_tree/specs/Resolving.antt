@@ -1,5 +1,5 @@
 -- What entries inherit, and what their counts' names refer to.
-use Rattle.std.specs.Prelude.{ℕ, ◌+◌, Bool, true, false, ◌&&◌, List, slice_index, Option, Some, None, unwrap_or}
+use Rattle.std.specs.Prelude.{ℕ, ◌+◌, Bool, true, false, ◌&&◌, not, List, slice_index, Option, Some, None, unwrap_or}
 use Rattle.cob_picture.specs.Positions.{PlainPicture}
 use Rattle.cob_picture.specs.Counts.{signed}
 use Rattle.cob_picture.specs.declared.category.Category.{Category}
@@ -11,6 +11,7 @@ use Rattle.cob_entry.specs.Described as described
 use Rattle.cob_entry.specs.Described.{PlainEntry}
 use Rattle.cob_copybook_tree.specs.declared.node.ResolvedOccurs.{ResolvedOccurs}
 use Rattle.cob_copybook_tree.specs.declared.node.ResolvedOccurs.TheVariants.{Once, Fixed, Varying}
+use Rattle.cob_copybook_tree.specs.declared.node.Item.{Item}
 use Rattle.cob_copybook_tree.specs.declared.node.Kind.{Kind}
 use Rattle.cob_copybook_tree.specs.declared.node.Kind.TheVariants.{Group, Item as ItemKind}
 use Rattle.cob_copybook_tree.specs.Forests.{Forest, NoEntries, AnEntry, entries_in}
@@ -28,6 +29,10 @@ is_numeric Alphabetic = false
 is_numeric Alphanumeric = false
 is_numeric AlphanumericEdited = false
 is_numeric NumericEdited = false
+
+-- an item that is a number and is not edited: BLANK WHEN ZERO makes a number an edited one
+abbrev pub is_number : Item → Bool
+is_number i = is_numeric i.picture.category && not i.blank
 
 -- the usage of characters
 abbrev pub is_display : Usage → Bool

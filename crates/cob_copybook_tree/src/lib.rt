@@ -36,4 +36,4 @@ pub use laws::{as_many_entries, branch_opens, node_opens, one_tree};
 pub use lengths::{MANY, element_length, whole_length};
 pub use node::{Item, Kind, Node, ResolvedOccurs};
 pub use planting::build_tree;
-pub use resolving::{keeps_sign, resolve};
+pub use resolving::{is_number, keeps_sign, resolve};

@@ -7,8 +7,7 @@ use Rattle.cob_entry.specs.declared.kinds.Usage.TheVariants as usage
 use Rattle.cob_entry.specs.declared.kinds.Sign.{Sign}
 use Rattle.cob_copybook_tree.specs.declared.node.Item.{Item}
 use Rattle.cob_copybook_tree.specs.Lengths.{item_size}
-use Rattle.cob_copybook_tree.specs.Resolving.{is_numeric}
-use Rattle.cob_copybook_lengths.specs.Values.{is_number}
+use Rattle.cob_copybook_tree.specs.Resolving.{is_numeric, is_number}
 use Rattle.cob_limits.specs.Limits.{most_binary_digits}
 use Rattle.cob_codec.specs.Sign.{IsHeld}
 use Rattle.cob_codec.specs.Zoned.{IsZoned, zoned_form}

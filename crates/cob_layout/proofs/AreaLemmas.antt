@@ -13,7 +13,7 @@ use Rattle.cob_layout_places.specs.Places.{place_of, or_else, choose, also, begi
 use Rattle.cob_layout_places.specs.Cover.{AreNumbered}
 use Rattle.cob_layout_places.specs.Needs.{Has}
 use Rattle.cob_layout_places.proofs.CoverLaw.{not_or}
-use Rattle.cob_sound.specs.Sound.{RecordsAreSound}
+use Rattle.cob_layout.specs.Sound.{RecordsAreSound}
 use Rattle.cob_layout_places.specs.References.{Refers}
 use Rattle.cob_layout.specs.Laws.{IsBehind, IsRedefinitionOf, offset_of, BeginWithArea}
 use Rattle.cob_layout.proofs.ReferenceLemmas.{refers_has}

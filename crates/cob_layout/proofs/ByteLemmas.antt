@@ -18,7 +18,7 @@ use Rattle.cob_layout_places.specs.Lengths.{times, MayOccur}
 use Rattle.cob_layout_places.specs.Places.{choose, or_else}
 use Rattle.cob_layout_places.specs.Cover.{AreNumbered}
 use Rattle.cob_layout_places.specs.Counts.{kind_in, kind_one, table_of, tables_of, IsCountable}
-use Rattle.cob_sound.specs.Sound.{HoldSome, IsAhead, HoldsSome, IsSound}
+use Rattle.cob_layout.specs.Sound.{HoldSome, IsAhead, HoldsSome, IsSound}
 use Rattle.cob_copybook.specs.Bytes.{TakesByte, TakeBytes}
 use Rattle.cob_layout.proofs.SteadyLemmas.{steady_times}
 use Rattle.cob_layout.proofs.ThoseLemmas.{IsIn, of_all}

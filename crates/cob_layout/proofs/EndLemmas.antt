@@ -14,8 +14,8 @@ use Rattle.cob_layout_places.specs.Cover.{AreNumbered, CountsOccurrences}
 use Rattle.cob_layout_places.specs.Needs.{Has}
 use Rattle.cob_layout_places.proofs.CoverLaw.{counted}
 use Rattle.cob_copybook.specs.Books.{IsRecordDescription}
-use Rattle.cob_sound.specs.Sound.{RecordsAreSound}
-use Rattle.cob_fields.specs.declared.Place.{Place}
+use Rattle.cob_layout.specs.Sound.{RecordsAreSound}
+use Rattle.cob_layout.specs.declared.fields.Place.{Place}
 use Rattle.cob_layout.specs.declared.layout.PlaceFault.{PlaceFault}
 use Rattle.cob_layout_places.specs.References.{IsSubscripted, Refers}
 use Rattle.cob_layout.specs.Placed.{placed}

@@ -18,3 +18,11 @@ pub mod ReadLaw
 pub mod KeepLaw
 pub mod StandingLemmas
 pub mod TakingLemmas
+pub mod Loans
+pub mod Lists
+pub mod Numbers
+pub mod Shapes
+pub mod Fits
+pub mod Storables
+pub mod Counted
+pub mod SoundLaw

@@ -4,7 +4,7 @@ use Rattle.std.specs.Prelude.{IfOk}
 use Rattle.cob_copybook_tree.specs.Forests.{Tree, entries_in}
 use Rattle.cob_copybook_tree.specs.Nodes.{Resolved, alone}
 use Rattle.cob_copybook_tree.specs.Lengths.{greatest_number, own_length, element_length, whole_length, sum_of}
-use Rattle.cob_sound.specs.Sound.{IsSound}
+use Rattle.cob_layout.specs.Sound.{IsSound}
 use Rattle.cob_layout_places.specs.declared.varying.Table.{Table}
 use Rattle.cob_layout_places.specs.Lengths.{times}
 use Rattle.cob_layout_places.specs.Counts.{tables_of, AreNumberedBelow}

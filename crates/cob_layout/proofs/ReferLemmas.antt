@@ -5,7 +5,7 @@ use Rattle.cob_copybook_tree.specs.declared.node.ResolvedOccurs.TheVariants.{Onc
 use Rattle.cob_copybook_tree.specs.Forests.{Forest, NoEntries, AnEntry}
 use Rattle.cob_copybook_tree.specs.Nodes.{Resolved, alone}
 use Rattle.cob_layout_places.specs.Places.{is_table, later}
-use Rattle.cob_sound.specs.Sound.{own_dimension, AreNested, RecordsAreSound}
+use Rattle.cob_layout.specs.Sound.{own_dimension, AreNested, RecordsAreSound}
 use Rattle.cob_layout_places.specs.References.{IsSubscripted, Refers}
 use Rattle.cob_layout.specs.Laws.{FitsRef}
 

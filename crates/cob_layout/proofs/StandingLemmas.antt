@@ -6,8 +6,8 @@ use Rattle.cob_copybook_tree.specs.Forests.{Forest, NoEntries, AnEntry, Tree, en
 use Rattle.cob_copybook_tree.specs.Nodes.{Resolved, alone}
 use Rattle.cob_copybook_tree.specs.Lengths.{greatest_number, element_length, whole_length, own_length, sum_of}
 use Rattle.cob_copybook.specs.Books.{IsRecordDescription}
-use Rattle.cob_sound.specs.Sound.{IsSound}
-use Rattle.cob_fields.specs.declared.Place.{Place}
+use Rattle.cob_layout.specs.Sound.{IsSound}
+use Rattle.cob_layout.specs.declared.fields.Place.{Place}
 use Rattle.cob_layout.specs.declared.layout.PlaceFault.{PlaceFault}
 use Rattle.cob_layout_places.specs.declared.places.Found.{Found}
 use Rattle.cob_layout_places.specs.declared.spots.Spot.{Spot}

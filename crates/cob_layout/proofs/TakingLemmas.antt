@@ -4,7 +4,7 @@ use Rattle.std.specs.Prelude.{slice_set, slice_index}
 use Rattle.std.proofs.lemmas.List.{get_or-set_other}
 use Rattle.cob_copybook_tree.specs.Forests.{Tree, entries_in}
 use Rattle.cob_copybook_tree.specs.Nodes.{Resolved, alone}
-use Rattle.cob_sound.specs.Sound.{IsSound}
+use Rattle.cob_layout.specs.Sound.{IsSound}
 use Rattle.cob_layout_places.specs.declared.counts.CountFault.{CountFault}
 use Rattle.cob_layout_places.specs.declared.spots.Spot.{Spot}
 use Rattle.cob_layout_places.specs.declared.varying.Table.{Table}

@@ -4,3 +4,5 @@ pub mod Storage
 pub mod Laws
 pub mod Ways
 pub mod Standing
+pub mod Fields
+pub mod Sound

@@ -1,6 +1,6 @@
 -- Where an element stands, or would stand.
 use Rattle.std.specs.Prelude.{if◌then◌else◌, Ok, Err, Result}
-use Rattle.cob_fields.specs.declared.Place.{Place}
+use Rattle.cob_layout.specs.declared.fields.Place.{Place}
 use Rattle.cob_layout_places.specs.declared.places.Found.{Found}
 use Rattle.cob_layout.specs.declared.layout.PlaceFault.{PlaceFault}
 

@@ -2,8 +2,8 @@
 use Rattle.std.specs.Prelude.{◌≡◌, ◌⊎◌, ◌&&◌, nat_lt, ℕ, ◌+◌, ◌≤◌, Bool, true, false, List, [], ◌∷◌, length, Ok}
 use Rattle.cob_copybook_tree.specs.Forests.{Tree, entries_in}
 use Rattle.cob_copybook_tree.specs.Nodes.{Resolved, alone}
-use Rattle.cob_fields.specs.declared.Place.{Place}
-use Rattle.cob_fields.specs.Fields.{with_field}
+use Rattle.cob_layout.specs.declared.fields.Place.{Place}
+use Rattle.cob_layout.specs.Fields.{with_field}
 use Rattle.cob_layout_places.specs.declared.spots.Spot.{Spot}
 use Rattle.cob_layout_places.specs.declared.varying.Table.{Table}
 use Rattle.cob_layout_places.specs.Lengths.{times}

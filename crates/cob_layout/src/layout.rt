@@ -22,12 +22,12 @@ use crate::ways::{Way, ways};
 use arrayvec::ArrayVec;
 use cob_copybook::Book;
 use cob_copybook_tree::Node;
-use cob_fields::Place;
+use crate::fields::Place;
 use cob_layout_places::{
     CountFault, Found, Ref, Spot, Table, covering, element_of, needs_are_read,
     places_end_in_record, refers, seek, tables, take_counts, take_needed, times_of,
 };
-use cob_sound::records_are_sound;
+use crate::sound::records_are_sound;
 use std::alloc::{AllocError, Global};
 use std::marker::Model;
 
@@ -62,7 +62,7 @@ impl Model for Layout {
     ghost use Rattle.cob_layout_places.specs.Counts.{tables_of};
     ghost use Rattle.cob_layout_places.specs.Spots.{spots_of};
     ghost use Rattle.cob_layout.specs.Ways.{held, held_in};
-    ghost use Rattle.cob_sound.specs.Sound.{IsSound};
+    ghost use Rattle.cob_layout.specs.Sound.{IsSound};
     ghost use Rattle.cob_layout.specs.Counting.{greatest_counts};
     ghost use Rattle.cob_copybook.specs.Bytes.{TakeBytes};
     ghost use Rattle.std.specs.Coded.{codes};

@@ -41,21 +41,23 @@
 //!
 //! The definitions: `CountsOf`, `NeededOf` and `AreGreatest` of specs/Counting.antt, `placed` of specs/Placed.antt, `ArePlaces`, `StandsIn`,
 //! `KeepsCounts` and `SparesNone` of specs/Standing.antt, those of the laws of specs/Laws.antt, and what they name of `cob_copybook`
-//! (`TakeBytes`) and of `cob_layout_places`, which has the arithmetic of lengths and places. `cob_fields` lends the bytes of a place ([`field`], [`field_mut`]).
+//! (`TakeBytes`) and of `cob_layout_places`, which has the arithmetic of lengths and places. The bytes of a place are lent by ([`field`], [`field_mut`]).
 //! Only [`Layout::of`], [`Layout::new_counts`] and [`Layout::new_places`] take memory.
 #![tactic(auto)]
 
 mod copy;
 mod counts;
+mod fields;
 mod laws;
 mod layout;
 mod places;
 mod reads;
+mod sound;
 mod spots;
 mod taking;
 mod ways;
 
-pub use cob_fields::{Place, field, field_mut};
+pub use fields::{Place, field, field_mut};
 pub use cob_layout_places::{CountFault, Ref};
 pub use counts::Counts;
 pub use laws::{
@@ -64,3 +66,4 @@ pub use laws::{
 };
 pub use layout::{Layout, PlaceFault};
 pub use places::Places;
+pub use sound::records_are_sound;

@@ -18,11 +18,11 @@ use crate::reads::{meets_no_count, none_needed, none_spared};
 use crate::spots::{element_at, new_spots, put_all_spots, spot_at};
 use crate::taking::{copied_counts, take_all_counts};
 use crate::ways::{end_of_table, is_last_receiver, tables_at};
-use cob_fields::Place;
+use crate::fields::Place;
 use cob_layout_places::{
     CountFault, Found, Ref, Spot, needs_are_read, one_place, places_end_in_record, same_counts,
 };
-use cob_sound::records_are_sound;
+use crate::sound::records_are_sound;
 use std::alloc::{AllocError, Global};
 use std::marker::Model;
 

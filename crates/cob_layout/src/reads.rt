@@ -8,7 +8,7 @@ ghost use Rattle.cob_layout.specs.Standing.{are_none, is_spared, IsApart};
 ghost use Rattle.cob_layout.specs.Ways.{spot_at};
 
 use crate::spots::spot_at;
-use cob_fields::Place;
+use crate::fields::Place;
 use cob_layout_places::{Spot, Table, is_needed};
 
 /// Whether the count of none of the tables is needed below this number, for the last entry of a record that receives or not.

@@ -2,7 +2,7 @@
 
 ghost use Rattle.std.specs.Prelude.{◌≡◌, ◌<◌, [], length, Ok, Err, Some, OnOk, IfOk, IfErr};
 ghost use Rattle.cob_copybook_tree.specs.Nodes.{node, alone};
-ghost use Rattle.cob_sound.specs.Sound.{IsSound};
+ghost use Rattle.cob_layout.specs.Sound.{IsSound};
 ghost use Rattle.cob_layout_places.specs.Counts.{tables_of, AreNumberedBelow, IsCountable, IsCounted};
 ghost use Rattle.cob_layout_places.specs.Lengths.{times, FitsInRecord};
 ghost use Rattle.cob_layout_places.specs.Places.{place_in_entry};

@@ -4,7 +4,7 @@ ghost use Rattle.std.specs.Prelude.{◌≡◌, ◌==◌, ◌&&◌, ◌+◌, ◌+
 ghost use Rattle.cob_copybook_tree.specs.Forests.{entries_in};
 ghost use Rattle.cob_copybook_tree.specs.Nodes.{node, alone};
 ghost use Rattle.cob_layout_places.specs.Cover.{AreNumbered};
-ghost use Rattle.cob_sound.specs.Sound.{own_dimension, AreNested};
+ghost use Rattle.cob_layout.specs.Sound.{own_dimension, AreNested};
 ghost use Rattle.cob_limits.specs.Limits.{most_dimensions};
 ghost use Rattle.cob_layout.specs.Ways.{end_of_table, held, held_at, held_in, own_table};
 

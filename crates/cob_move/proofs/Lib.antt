@@ -1,7 +1,8 @@
-pub mod PartLemmas
-pub mod ReadyLemmas
-pub mod InitialLemmas
-pub mod BegunLemmas
-pub mod AtPlaceLemmas
-pub mod OneInitialLaw
 pub mod ParagraphLemmas
+pub mod SomeLemmas
+pub mod SingleLemmas
+pub mod OneLemmas
+pub mod NoRuleLemmas
+pub mod MoveLemmas
+pub mod CorrespondingLemmas
+pub mod MeaningLemmas

@@ -15,8 +15,8 @@ use Rattle.cob_move_statements.specs.Written.{WrittenStatement}
 use Rattle.cob_move_statements.specs.Statements.{IsLineOf, IsParagraph}
 use Rattle.cob_move_statements.specs.Laws.{OneListOfStatements}
 use Rattle.cob_move_operands.specs.Moves.{AreMoves, Move, Records}
-use Rattle.cob_move_meaning.specs.Meaning.{AreMeant}
-use Rattle.cob_move_meaning.specs.Laws.{MeantAreMoves, MeantBreakNoRule, OneMeant}
+use Rattle.cob_move.specs.Meaning.{AreMeant}
+use Rattle.cob_move.specs.MeaningLaws.{MeantAreMoves, MeantBreakNoRule, OneMeant}
 use Rattle.cob_move_references.specs.Candidates.{all_entries}
 use Rattle.cob_move.specs.Paragraphs.{BreaksParagraph, IsParagraphOf, IsRefusalOf}
 use Rattle.cob_move.specs.Laws.{OneParagraph, ParagraphBreaksNoRule}

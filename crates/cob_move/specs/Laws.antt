@@ -5,12 +5,7 @@ use Rattle.cob_copybook_tree.specs.Nodes.{Resolved}
 use Rattle.cob_move_operands.specs.Moves.{Move}
 use Rattle.cob_move_statements.specs.declared.fault.MoveFault.{MoveFault}
 use Rattle.cob_move_statements.specs.declared.fault.MoveRule.TheVariants.{Memory}
-use Rattle.cob_move.specs.Initial.{IsInitial}
 use Rattle.cob_move.specs.Paragraphs.{IsParagraphOf, IsRefusalOf}
-
--- a record has one storage before the first move
-abbrev pub OneInitial : Type 0
-OneInitial = (f : Forest Resolved) (a b : List ℕ) → IsInitial f a → IsInitial f b → a ≡ b
 
 -- Law: a text says its moves between two records in one way.
 abbrev pub OneParagraph : Type 0

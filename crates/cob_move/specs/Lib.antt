@@ -1,6 +1,5 @@
-pub mod Initial
-pub mod Ready
-pub mod Begun
-pub mod AtPlaces
 pub mod Paragraphs
 pub mod Laws
+pub mod Meaning
+pub mod Refusals
+pub mod MeaningLaws

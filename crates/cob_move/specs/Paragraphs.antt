@@ -10,8 +10,8 @@ use Rattle.cob_move_statements.specs.declared.fault.MoveRule.TheVariants as rule
 use Rattle.cob_move_statements.specs.Written.{WrittenStatement}
 use Rattle.cob_move_statements.specs.Statements.{IsLineOf, IsParagraph}
 use Rattle.cob_move_operands.specs.Moves.{Move, Records}
-use Rattle.cob_move_meaning.specs.Meaning.{AreMeant}
-use Rattle.cob_move_meaning.specs.Refusals.{AreBroken}
+use Rattle.cob_move.specs.Meaning.{AreMeant}
+use Rattle.cob_move.specs.Refusals.{AreBroken}
 use Rattle.cob_move_apply.specs.Prepared.{ArePrepared, moves_of}
 use Rattle.cob_move.specs.declared.paragraph.Paragraph.{Paragraph}
 

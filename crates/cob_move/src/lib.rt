@@ -22,19 +22,40 @@
 //! [`initial`] takes no memory, and writes each byte of a record as often as tables hold it, at most: an element is written once and then
 //! copied. [`apply`] takes no memory either.
 //!
+//! ## What a statement means
+//!
+//! MOVE with a sender and its receivers means one move: its sender is the operand that its reference names or the constant that its literal
+//! means, its receivers are operands of the output record, and each single move is one that the table of categories has (`IsMoveOf` of
+//! specs/Meaning.antt). MOVE CORRESPONDING means one move for each pair of its two groups, in the order of the sending group, each with the
+//! subscripts of the groups (`AreMovesOf`).
+//!
+//! What is promised of [`meaning_of`], for one statement, and of [`all_meant`], for statements one behind another: `Ok` has just the moves
+//! that are meant (clause `found`); what has a meaning is answered, memory aside, and as these moves (`only`); and a refusal names a rule
+//! that is broken, M1 to M10 (`fault`; `BreaksStatement` of specs/Refusals.antt says each in its words), with the line of the statement that
+//! breaks it, or line 0 for want of memory (`AreBroken`). Which of several broken rules is named isn't said.
+//!
+//! Laws: statements mean one list of moves at most ([`one_meaning`], [`one_meant`]); where they have a meaning, none breaks a rule
+//! ([`meanings_break_no_rule`], [`meant_break_no_rule`]); and what they mean are moves between the two records ([`meant_are_moves`]).
+//!
 //! It puts the reading of a paragraph together: it stands on `cob_source` for words, on `cob_move_statements` for statements, on
-//! `cob_move_meaning` for the moves that they mean, and on `cob_move_apply` for what these do. For the storage before the first move it stands
+//! `cob_move_references`, `cob_move_pairs` and `cob_move_receive` for the moves that they mean, and on `cob_move_apply` for what these do. For the storage before the first move it stands
 //! on `cob_move_initial`, and by it on the rule of MOVE of `cob_move_receive`, for what one item or a group with a VALUE holds, on `cob_copybook_tree` for lengths, on `cob_copybook` and `cob_layout` for
 //! the record and its layout, and on `cob_sound` for what holds of every record description.
 #![tactic(auto)]
 
+mod corresponding;
 mod laws;
+mod meaning;
+mod meaning_laws;
 mod paragraph;
-mod storage;
+mod senders;
+mod single;
 
 pub use cob_move_apply::{Scratch, Stop, StopCause};
 pub use cob_move_pairs::pairs;
 pub use cob_move_statements::{MoveFault, MoveRule};
-pub use laws::{one_initial, one_paragraph, paragraph_breaks_no_rule};
+pub use laws::{one_paragraph, paragraph_breaks_no_rule};
 pub use paragraph::{Paragraph, apply};
-pub use storage::initial;
+pub use cob_move_initial::{initial, one_initial};
+pub use meaning::{all_meant, meaning_of};
+pub use meaning_laws::{meanings_break_no_rule, meant_are_moves, meant_break_no_rule, one_meaning, one_meant};

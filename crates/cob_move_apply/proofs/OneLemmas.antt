@@ -3,8 +3,8 @@ use Rattle.std.proofs.Common.{◌≡◌, ℕ, Bool, true, false, List, [], ◌�
 use Rattle.std.specs.Prelude.{option_map}
 use Rattle.cob_copybook_tree.specs.Forests.{Tree}
 use Rattle.cob_copybook_tree.specs.Nodes.{Resolved, alone}
-use Rattle.cob_fields.specs.declared.Place.{Place}
-use Rattle.cob_fields.specs.Fields.{with_field}
+use Rattle.cob_layout.specs.declared.fields.Place.{Place}
+use Rattle.cob_layout.specs.Fields.{with_field}
 use Rattle.cob_layout_places.specs.declared.counts.CountFault.{CountFault}
 use Rattle.cob_layout_places.specs.Lengths.{times}
 use Rattle.cob_layout_places.specs.Places.{place_of}

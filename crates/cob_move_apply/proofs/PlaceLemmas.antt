@@ -7,7 +7,7 @@ use Rattle.cob_copybook_tree.specs.declared.node.Kind.TheVariants.{Group, Item a
 use Rattle.cob_copybook_tree.specs.Forests.{Forest, NoEntries, AnEntry, Tree}
 use Rattle.cob_copybook_tree.specs.Nodes.{Resolved, alone}
 use Rattle.cob_copybook_tree.specs.Lengths.{item_size}
-use Rattle.cob_fields.specs.declared.Place.{Place}
+use Rattle.cob_layout.specs.declared.fields.Place.{Place}
 use Rattle.cob_layout_places.specs.Lengths.{times}
 use Rattle.cob_layout_places.specs.Places.{place_of, place_in_entry, or_else, choose}
 use Rattle.cob_layout_places.specs.Counts.{kind_in, kind_one}
@@ -29,7 +29,7 @@ use Rattle.cob_move_apply.specs.declared.step.Basis.TheVariants as basis
 use Rattle.cob_move_apply.specs.declared.stop.StopCause.TheVariants.{Subscript}
 use Rattle.cob_move_apply.specs.Located.{Located, StandsUnder, stop_at}
 use Rattle.cob_move_apply.specs.Placed.{IsFixed, IsPlaced, IsBasis}
-use Rattle.cob_sound.specs.Sound.{IsSound, IsStorableKind, AreStorable}
+use Rattle.cob_layout.specs.Sound.{IsSound, IsStorableKind, AreStorable}
 use Rattle.cob_move_receive.specs.Sent.{Occupies}
 
 -- ---- an entry's item can be stored

@@ -2,8 +2,8 @@
 use Rattle.std.specs.Prelude.{◌≡◌, ◌⊎◌, ℕ, List, [], ◌∷◌, Option, Some, None, true, false, Ok, Err, Result}
 use Rattle.cob_copybook_tree.specs.Forests.{Tree}
 use Rattle.cob_copybook_tree.specs.Nodes.{Resolved}
-use Rattle.cob_fields.specs.declared.Place.{Place}
-use Rattle.cob_fields.specs.Fields.{field_of, with_field}
+use Rattle.cob_layout.specs.declared.fields.Place.{Place}
+use Rattle.cob_layout.specs.Fields.{field_of, with_field}
 use Rattle.cob_move_operands.specs.declared.Side.{Side}
 use Rattle.cob_move_operands.specs.declared.Side.TheVariants.{In, Out}
 use Rattle.cob_move_operands.specs.declared.Operand.{Operand}

@@ -2,7 +2,7 @@
 use Rattle.std.specs.Prelude.{◌≡◌, ◌⊎◌, ℕ, Bool, List, Some, Ok, Err, Result, option_map}
 use Rattle.cob_copybook_tree.specs.Forests.{Tree}
 use Rattle.cob_copybook_tree.specs.Nodes.{Resolved, alone}
-use Rattle.cob_fields.specs.declared.Place.{Place}
+use Rattle.cob_layout.specs.declared.fields.Place.{Place}
 use Rattle.cob_layout_places.specs.declared.counts.CountFault.{CountFault}
 use Rattle.cob_layout_places.specs.Lengths.{times}
 use Rattle.cob_layout_places.specs.Places.{place_of}

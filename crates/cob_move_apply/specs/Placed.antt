@@ -4,7 +4,7 @@ use Rattle.std.specs.List.{AllByRecursion}
 use Rattle.cob_entry.specs.Described.{plain_value}
 use Rattle.cob_copybook_tree.specs.Forests.{Tree}
 use Rattle.cob_copybook_tree.specs.Nodes.{Resolved}
-use Rattle.cob_fields.specs.declared.Place.{Place}
+use Rattle.cob_layout.specs.declared.fields.Place.{Place}
 use Rattle.cob_layout.specs.Standing.{SparesNone}
 use Rattle.cob_layout.specs.Storage.{greatest_length}
 use Rattle.cob_move_operands.specs.declared.Side.{Side}

@@ -14,7 +14,7 @@ use crate::stop::Stop;
 use crate::workspace::Layouts;
 use cob_layout::Layout;
 use cob_move_operands::Move;
-use cob_sound::records_are_sound;
+use cob_layout::records_are_sound;
 use std::alloc::{AllocError, Global};
 
 /// A number, or the greatest u32 where it is more.

@@ -2,7 +2,7 @@
 
 ghost use Rattle.std.specs.Prelude.{◌≡◌, length, map, OnErr, true};
 ghost use Rattle.std.specs.List.{AllByRecursion};
-ghost use Rattle.cob_sound.specs.Sound.{IsSound};
+ghost use Rattle.cob_layout.specs.Sound.{IsSound};
 ghost use Rattle.cob_layout.specs.Storage.{greatest_length};
 ghost use Rattle.cob_move_receive.specs.Sent.{sent, IsComplete};
 ghost use Rattle.cob_move_apply.specs.Applied.{AllGet, Gets, ending, kept};

@@ -2,8 +2,8 @@
 
 ghost use Rattle.std.specs.Prelude.{◌≡◌, ◌+◌, ◌≤◌, ℕ, List, length, map, take, true, false};
 ghost use Rattle.std.specs.List.{AllByRecursion};
-ghost use Rattle.cob_fields.specs.Fields.{field_of};
-ghost use Rattle.cob_sound.specs.Sound.{IsSound};
+ghost use Rattle.cob_layout.specs.Fields.{field_of};
+ghost use Rattle.cob_layout.specs.Sound.{IsSound};
 ghost use Rattle.cob_layout.specs.Storage.{greatest_length, IsStorage};
 ghost use Rattle.cob_move_operands.specs.Moves.{Entry};
 ghost use Rattle.cob_move_operands.specs.declared.Side.TheVariants.{In, Out};

@@ -3,7 +3,7 @@
 ghost use Rattle.std.specs.Prelude.{◌≡◌, ◌+◌, ◌≤◌, ℕ, List, length, IfOk, IsTrue};
 ghost use Rattle.cob_copybook_tree.specs.Forests.{Tree};
 ghost use Rattle.cob_copybook_tree.specs.Nodes.{Resolved};
-ghost use Rattle.cob_fields.specs.Fields.{with_field};
+ghost use Rattle.cob_layout.specs.Fields.{with_field};
 ghost use Rattle.cob_layout.specs.Standing.{StandsIn};
 ghost use Rattle.cob_move_apply.specs.Surveyed.{HasRoom, IsSurvey};
 

@@ -5,15 +5,15 @@ ghost use Rattle.cob_picture.specs.Positions.{shows_number};
 ghost use Rattle.cob_entry.specs.Described.{plain_value};
 ghost use Rattle.cob_copybook_tree.specs.Lengths.{item_size};
 ghost use Rattle.cob_copybook_tree.specs.declared.node.Kind.TheVariants.{Item as ItemKind};
-ghost use Rattle.cob_copybook_lengths.specs.Values.{is_number, IsItemValue, IsNumericValue};
+ghost use Rattle.cob_copybook_lengths.specs.Values.{IsItemValue, IsNumericValue};
+ghost use Rattle.cob_copybook_tree.specs.Resolving.{is_number};
 ghost use Rattle.cob_item.specs.Items.{IsStorable};
 ghost use Rattle.cob_move_receive.specs.Sent.{Amount, Literal};
 ghost use Rattle.cob_move_receive.specs.Numbers.{ConstantGives};
 ghost use Rattle.cob_move_receive.specs.Received.{Received};
 ghost use Rattle.cob_move_initial.specs.Values.{figurative_for, HoldsGroup, HoldsItem};
 
-use cob_copybook_lengths::is_number;
-use cob_copybook_tree::Item;
+use cob_copybook_tree::{Item, is_number};
 use cob_entry::{Figurative, Value};
 use cob_move_receive::{Sent, receive_in_group, receive_in_item};
 

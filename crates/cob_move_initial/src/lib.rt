@@ -14,6 +14,8 @@
 
 mod items;
 mod laws;
+mod storage;
 
 pub use items::{write_group, write_item};
-pub use laws::{one_group, one_item};
+pub use laws::{one_group, one_initial, one_item};
+pub use storage::initial;

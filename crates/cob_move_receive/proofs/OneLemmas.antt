@@ -17,7 +17,7 @@ use Rattle.cob_entry.specs.Described as constant
 use Rattle.cob_copybook_tree.specs.declared.node.Kind.{Kind}
 use Rattle.cob_copybook_tree.specs.declared.node.Kind.TheVariants.{Group, Item as ItemKind}
 use Rattle.cob_copybook_tree.specs.declared.node.Item.{Item}
-use Rattle.cob_copybook_lengths.specs.Values.{is_number}
+use Rattle.cob_copybook_tree.specs.Resolving.{is_number}
 use Rattle.cob_item.specs.Items.{OneItemNumber, stored_form}
 use Rattle.cob_move_receive.proofs.CharacterLemmas as characters
 use Rattle.cob_move_receive.specs.Sent.{Sent, Entry, Literal, Amount}

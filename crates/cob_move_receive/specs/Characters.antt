@@ -13,7 +13,7 @@ use Rattle.cob_entry.specs.Described as constant
 use Rattle.cob_copybook_tree.specs.declared.node.Kind.{Kind}
 use Rattle.cob_copybook_tree.specs.declared.node.Kind.TheVariants.{Group, Item as ItemKind}
 use Rattle.cob_copybook_tree.specs.declared.node.Item.{Item}
-use Rattle.cob_copybook_lengths.specs.Values.{is_number}
+use Rattle.cob_copybook_tree.specs.Resolving.{is_number}
 use Rattle.cob_item.specs.Items.{Represents}
 use Rattle.cob_move_receive.specs.Sent.{Sent, Entry, Literal}
 

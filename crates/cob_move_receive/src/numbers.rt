@@ -13,8 +13,7 @@ ghost use Rattle.cob_move_receive.specs.Sent.{Amount, amount, sent, IsComplete};
 ghost use Rattle.cob_move_receive.specs.Numbers.{whole_number, digits_of, is_numeral, AreNumerals, ConstantGives, FigureGives, GivesNumber, HoldsAmount, IsDigitText, IsReadAs, IsUnedited, ItemGives};
 
 use crate::sent::Sent;
-use cob_copybook_lengths::is_number;
-use cob_copybook_tree::{Item, Kind};
+use cob_copybook_tree::{Item, Kind, is_number};
 use cob_decimal::{Digits, Number};
 use cob_edit::{deedit, edit};
 use cob_entry::{Figurative, Value};

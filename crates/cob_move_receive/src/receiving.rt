@@ -15,8 +15,7 @@ use crate::constants::{constant_in, constant_left};
 use crate::numbers::{hold, number_given};
 use crate::numerals::numerals_to_point;
 use crate::sent::Sent;
-use cob_copybook_lengths::is_number;
-use cob_copybook_tree::{Item, Kind};
+use cob_copybook_tree::{Item, Kind, is_number};
 use cob_item::read_number;
 use cob_picture::Category;
 

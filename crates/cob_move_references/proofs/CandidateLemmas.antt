@@ -7,7 +7,7 @@ use Rattle.cob_copybook_tree.specs.Lengths.{greatest_number}
 use Rattle.cob_copybook_tree.specs.Nodes.{Resolved, alone}
 use Rattle.cob_copybook_names.specs.Bearers.{with_name}
 use Rattle.cob_layout_places.specs.Places.{is_table}
-use Rattle.cob_sound.specs.Sound.{AreNested, own_dimension}
+use Rattle.cob_layout.specs.Sound.{AreNested, own_dimension}
 use Rattle.cob_move_operands.specs.declared.Side.{Side}
 use Rattle.cob_move_operands.specs.declared.Side.TheVariants.{In, Out}
 use Rattle.cob_move_references.specs.Candidates.{Candidate, all_entries, candidates, with_table}

@@ -12,7 +12,7 @@ use Rattle.cob_layout_places.specs.Counts.{kind_in, kind_one}
 use Rattle.cob_layout_places.specs.Cover.{AreNumbered}
 use Rattle.cob_layout_places.specs.Places.{choose, is_table, later, or_else}
 use Rattle.cob_layout_places.specs.References.{IsSubscripted, Refers}
-use Rattle.cob_sound.specs.Sound.{RecordsAreSound}
+use Rattle.cob_layout.specs.Sound.{RecordsAreSound}
 use Rattle.cob_move_operands.specs.declared.Side.{Side}
 use Rattle.cob_move_operands.specs.declared.Side.TheVariants.{In, Out}
 use Rattle.cob_move_operands.specs.declared.Operand.{Operand}

@@ -20,7 +20,7 @@ use cob_copybook::Book;
 use cob_layout_places::Ref;
 use cob_move_operands::{Operand, Side};
 use cob_move_statements::{MoveRule, Reference};
-use cob_sound::records_are_sound;
+use cob_layout::records_are_sound;
 use cob_source::Token;
 use std::alloc::{AllocError, Global};
 

@@ -2,7 +2,7 @@
 
 ghost use Rattle.cob_move_references.specs.Laws.{NamedAreOperands, NamedBreakNoRule, OneNamed, QualifyingIsOne};
 
-use cob_sound::records_are_sound;
+use cob_layout::records_are_sound;
 
 /// A law: what a reference names is an operand of its record.
 pub fn named_are_operands()

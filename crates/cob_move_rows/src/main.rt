@@ -12,8 +12,7 @@ mod constants;
 
 use crate::constants::constant_of;
 use cob_copybook::{Book, Role};
-use cob_copybook_lengths::is_number;
-use cob_copybook_tree::{Item, Kind};
+use cob_copybook_tree::{Item, Kind, is_number};
 use cob_entry::BookRule;
 use cob_item::is_number_item;
 use cob_move_receive::{Refusal, SenderKind, Sent, receive, refusal_of};

@@ -1,5 +1,5 @@
 use Rattle.std.proofs.Common.{◌≡◌, ◌*◌, length, take}
-use Rattle.cob_convert.specs.Hex.{hex_text}
+use Rattle.cob_records.specs.Hex.{hex_text}
 use Rattle.cob_convert.proofs.hex.write_text.Given as goal
 
 abbrev pub invariant-loop-at : goal.invariant-loop-at

@@ -2,7 +2,7 @@ use Rattle.std.proofs.Common.{◌≡◌, ◌++◌, length, map}
 use Rattle.cob_copybook_tree.specs.Nodes.{node, alone}
 use Rattle.cob_layout_places.proofs.ForestLemmas.{left}
 use Rattle.cob_layout_places.proofs.NeedLemmas.{AreUpTo}
-use Rattle.cob_sound.specs.Sound.{AreNested}
+use Rattle.cob_layout.specs.Sound.{AreNested}
 use Rattle.cob_layout.specs.Ways.{held, held_in}
 use Rattle.cob_layout.proofs.ways.+push_ways.Given as goal
 

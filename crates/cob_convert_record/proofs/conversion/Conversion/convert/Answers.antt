@@ -1,7 +1,7 @@
 use Rattle.std.proofs.Common.{ℕ, sym, subst, take}
 use Rattle.cob_copybook_tree.specs.Nodes.{alone}
 use Rattle.std.proofs.lemmas.Result.{err_from_is_err_and}
-use Rattle.cob_move.specs.Initial.{IsInitial}
+use Rattle.cob_move_initial.specs.Initial.{IsInitial}
 use Rattle.cob_convert_record.specs.Conversion.{Conversion}
 use Rattle.cob_move_apply.specs.Prepared.{moves_of}
 use Rattle.cob_move_apply.specs.declared.stop.Stop.{Stop}

@@ -1,0 +1,16 @@
+use Rattle.std.proofs.Common.{◌++◌, drop, List}
+use Rattle.cob_move.specs.Meaning.{AreMeanings}
+use Rattle.cob_move.specs.Refusals.{BreaksOn, SomeOf}
+use Rattle.cob_move_operands.specs.Moves.{Move, moves}
+use Rattle.cob_move_references.specs.Directory.{entries_named}
+use Rattle.cob_move_statements.specs.declared.fault.MoveFault.{MoveFault}
+use Rattle.cob_move_statements.specs.Written.{written_statements}
+use Rattle.cob_move.proofs.meaning.meanings_of.Given as goal
+
+abbrev pub invariant-loop-statement : goal.invariant-loop-statement
+invariant-loop-statement l = record {
+  found : (more : List Move) → AreMeanings (entries_named l.names) l.input l.output (written_statements (drop l.statement-index l.statements)) more
+      → AreMeanings (entries_named l.names) l.input l.output (written_statements l.statements) (moves l.list.items ++ more);
+  broken : (f : MoveFault) → SomeOf (BreaksOn f (entries_named l.names) l.input l.output) (written_statements (drop l.statement-index l.statements))
+      → SomeOf (BreaksOn f (entries_named l.names) l.input l.output) (written_statements l.statements);
+}

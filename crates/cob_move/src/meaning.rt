@@ -1,0 +1,199 @@
+//! What statements mean.
+
+ghost use Rattle.std.specs.Prelude.{◌≡◌, List, [], ◌∷◌, IfErr, IfOk};
+ghost use Rattle.cob_copybook_tree.specs.Forests.{Forest};
+ghost use Rattle.cob_copybook_tree.specs.Nodes.{Resolved};
+ghost use Rattle.cob_move.specs.Meaning.{AreMeanings, AreMeant, IsMeaning};
+ghost use Rattle.cob_move.specs.Refusals.{
+  AreBroken,
+  BreaksOn,
+  BreaksStatement,
+  SomeBroken,
+  fault_on,
+};
+ghost use Rattle.cob_move_operands.specs.Moves.{Move as Meant, moves};
+ghost use Rattle.cob_move_references.specs.Directory.{entries_named};
+ghost use Rattle.cob_move_statements.specs.Written.{
+  MoveTo,
+  written_action,
+  written_references,
+  written_sender,
+  written_statement,
+  written_statements,
+};
+
+use crate::corresponding::moves_of;
+use crate::laws::{meanings_break_no_rule, meant_break_no_rule, one_meaning, one_meant};
+use crate::single::move_of;
+use cob_copybook::Book;
+use cob_move_operands::Move;
+use cob_move_references::Names;
+use cob_move_statements::{Action, MoveFault, MoveRule, Reference, Statement, StatementSender};
+use std::alloc::Global;
+
+/// The one move of a MOVE with a sender and its receivers, as a list.
+fn single_move(
+    alloc: Global,
+    names: &Names<'_>,
+    sender: &StatementSender<'_>,
+    receivers: &[Reference<'_>],
+) -> Result<Vec<Move>, MoveRule>
+    ensures found { IfOk result (λ v. (input output : Forest Resolved)
+        → IsMeaning (entries_named names.now) input output
+        (MoveTo (written_sender sender.now) (written_references receivers.now)) (moves v.items)) }
+    ensures fault { IfErr result (λ r. (input output : Forest Resolved)
+        → BreaksStatement r (entries_named names.now) input output
+        (MoveTo (written_sender sender.now) (written_references receivers.now))) }
+{
+    let single = move_of(alloc, names, sender, receivers)?;
+    let mut list = Vec::new(alloc);
+    list.push(single)?;
+    Ok(list)
+}
+
+/// The moves of what stands behind MOVE.
+fn action_moves(
+    alloc: Global,
+    names: &Names<'_>,
+    input: &Book,
+    output: &Book,
+    action: &Action<'_>,
+) -> Result<Vec<Move>, MoveRule>
+    ensures found { IfOk result (λ v. IsMeaning (entries_named names.now) input.now output.now
+        (written_action action.now) (moves v.items)) }
+    ensures fault { IfErr result (λ r. BreaksStatement r (entries_named names.now)
+        input.now output.now (written_action action.now)) }
+{
+    match action {
+        Action::Move { sender, receivers } => {
+            let single = single_move(alloc, names, sender, receivers.as_slice())?;
+            Ok(single)
+        }
+        Action::Corresponding { from, to } => moves_of(alloc, names, input, output, from, to),
+    }
+}
+
+/// The moves that a statement means, where the names are those of the entries of two records.
+///
+/// # Errors
+///
+/// A rule that the statement breaks, or `Memory`.
+pub fn meaning_of(
+    alloc: Global,
+    names: &Names<'_>,
+    input: &Book,
+    output: &Book,
+    statement: &Statement<'_>,
+) -> Result<Vec<Move>, MoveRule>
+    // What is answered is what the statement means.
+    ensures found { IfOk result (λ v. IsMeaning (entries_named names.now) input.now output.now
+        (written_action statement.now.action) (moves v.items)) }
+    // What a statement means is answered, memory aside.
+    ensures only { (ms : List Meant) → IsMeaning (entries_named names.now) input.now output.now
+        (written_action statement.now.action) ms
+        → IfOk result (λ v. moves v.items ≡ ms) × IfErr result (λ r. r ≡ MoveRule.Memory) }
+    // A refusal names a rule that is broken.
+    ensures fault { IfErr result (λ r. BreaksStatement r (entries_named names.now)
+        input.now output.now (written_action statement.now.action)) }
+{
+    one_meaning();
+    meanings_break_no_rule();
+    let own = action_moves(alloc, names, input, output, &statement.action)?;
+    Ok(own)
+}
+
+/// The fault of a rule that a statement on this line breaks.
+fn fault_on(rule: MoveRule, line: u32) -> MoveFault
+    ensures { result ≡ fault_on rule line }
+{
+    match rule {
+        MoveRule::Memory => MoveFault { rule, line: 0 },
+        _ => MoveFault { rule, line },
+    }
+}
+
+/// The moves of a statement, or its fault on its line.
+fn meaning_on(
+    alloc: Global,
+    names: &Names<'_>,
+    input: &Book,
+    output: &Book,
+    statement: &Statement<'_>,
+) -> Result<Vec<Move>, MoveFault>
+    ensures found { IfOk result (λ v. IsMeaning (entries_named names.now) input.now output.now
+        (written_action statement.now.action) (moves v.items)) }
+    ensures fault { IfErr result (λ f. BreaksOn f (entries_named names.now)
+        input.now output.now (written_statement statement.now)) }
+{
+    match meaning_of(alloc, names, input, output, statement) {
+        Ok(own) => Ok(own),
+        Err(rule) => Err(fault_on(rule, statement.line)),
+    }
+}
+
+/// The moves of statements, where the names are those of the entries of two records.
+fn meanings_of(
+    alloc: Global,
+    names: &Names<'_>,
+    input: &Book,
+    output: &Book,
+    statements: &[Statement<'_>],
+) -> Result<Vec<Move>, MoveFault>
+    ensures found { IfOk result (λ v. AreMeanings (entries_named names.now) input.now output.now
+        (written_statements statements.now) (moves v.items)) }
+    ensures fault { IfErr result (λ f. SomeBroken f (entries_named names.now) input.now output.now
+        (written_statements statements.now)) }
+{
+    let mut list = Vec::new(alloc);
+    for statement in statements {
+        let mut own = meaning_on(alloc, names, input, output, statement)?;
+        list.append(&mut own)?;
+    }
+    Ok(list)
+}
+
+/// The moves of statements between two records, and what refuses them.
+fn meant_between(
+    alloc: Global,
+    input: &Book,
+    output: &Book,
+    statements: &[Statement<'_>],
+) -> Result<Vec<Move>, MoveFault>
+    ensures found { IfOk result (λ v. AreMeant input.now output.now
+        (written_statements statements.now) (moves v.items)) }
+    ensures fault { IfErr result (λ f. AreBroken f input.now output.now
+        (written_statements statements.now)) }
+{
+    let names = Names::of(alloc, input, output)?;
+    let list = meanings_of(alloc, &names, input, output, statements)?;
+    Ok(list)
+}
+
+/// The moves that statements mean between two records, one statement's behind another's.
+///
+/// # Errors
+///
+/// A rule that a statement breaks, with its line; `Memory`, with line 0.
+pub fn all_meant(
+    alloc: Global,
+    input: &Book,
+    output: &Book,
+    statements: &[Statement<'_>],
+) -> Result<Vec<Move>, MoveFault>
+    // What is answered is what the statements mean.
+    ensures found { IfOk result (λ v. AreMeant input.now output.now
+        (written_statements statements.now) (moves v.items)) }
+    // What statements mean is answered, memory aside.
+    ensures only { (ms : List Meant)
+        → AreMeant input.now output.now (written_statements statements.now) ms
+        → IfOk result (λ v. moves v.items ≡ ms)
+        × IfErr result (λ f. f ≡ record { rule = MoveRule.Memory; line = 0 }) }
+    // A refusal names a rule that a statement breaks, with the statement's line.
+    ensures fault { IfErr result (λ f. AreBroken f input.now output.now
+        (written_statements statements.now)) }
+{
+    one_meant();
+    meant_break_no_rule();
+    let list = meant_between(alloc, input, output, statements)?;
+    Ok(list)
+}

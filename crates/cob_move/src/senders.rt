@@ -1,0 +1,77 @@
+//! What a sender means.
+
+ghost use Rattle.std.specs.Prelude.{◌≡◌, List, IfErr, IfOk};
+ghost use Rattle.cob_copybook_clauses.specs.Written.{written_value};
+ghost use Rattle.cob_entry.specs.Described.{plain_value};
+ghost use Rattle.cob_copybook_entries.specs.Meaning.{IsConstantOf};
+ghost use Rattle.cob_move.specs.Meaning.{IsSenderOf};
+ghost use Rattle.cob_move.specs.Refusals.{BreaksSender};
+ghost use Rattle.cob_move_operands.specs.Moves.{sender};
+ghost use Rattle.cob_move_references.specs.Candidates.{Candidate};
+ghost use Rattle.cob_move_references.specs.Directory.{entries_named};
+ghost use Rattle.cob_move_statements.specs.Written.{SentConstant, SentReference, written_reference, written_sender};
+
+use cob_copybook_clauses::ValueClause;
+use cob_copybook_entries::value_of;
+use cob_entry::{BookRule, Value};
+use cob_move_operands::Sender;
+use cob_move_references::Names;
+use cob_move_statements::{MoveRule, Reference, StatementSender};
+
+/// What the constant of a sender means.
+///
+/// # Errors
+///
+/// `Grammar` for a word that is no numeric literal; `Literal` for a literal of too many characters or digits, or an empty one behind ALL.
+fn constant_of(written: &ValueClause<'_>) -> Result<Value, MoveRule>
+    ensures found { IfOk result (λ v. IsConstantOf (written_value written.now) (plain_value v)) }
+    ensures fault { IfErr result (λ r. (all : List Candidate)
+        → BreaksSender r all (SentConstant (written_value written.now))) }
+{
+    match value_of(written) {
+        Ok(value) => Ok(value),
+        Err(BookRule::Grammar) => Err(MoveRule::Grammar),
+        Err(_) => Err(MoveRule::Literal),
+    }
+}
+
+/// What the reference of a sender names.
+///
+/// # Errors
+///
+/// `Unknown`, `Ambiguous`, `Subscripts`.
+fn entry_of(names: &Names<'_>, reference: &Reference<'_>) -> Result<Sender, MoveRule>
+    ensures found { IfOk result (λ s. IsSenderOf (entries_named names.now)
+        (SentReference (written_reference reference.now)) (sender s)) }
+    ensures fault { IfErr result (λ r. BreaksSender r (entries_named names.now)
+        (SentReference (written_reference reference.now))) }
+{
+    let named = names.find(reference)?;
+    Ok(Sender::Entry {
+        side: named.side,
+        operand: named.operand,
+    })
+}
+
+/// What a sender means.
+///
+/// # Errors
+///
+/// `Unknown`, `Ambiguous`, `Subscripts` for a reference; `Grammar`, `Literal` for a constant.
+pub(crate) fn sender_of(
+    names: &Names<'_>,
+    written: &StatementSender<'_>,
+) -> Result<Sender, MoveRule>
+    ensures found { IfOk result (λ s. IsSenderOf (entries_named names.now)
+        (written_sender written.now) (sender s)) }
+    ensures fault { IfErr result (λ r. BreaksSender r (entries_named names.now)
+        (written_sender written.now)) }
+{
+    match written {
+        StatementSender::Reference(reference) => entry_of(names, reference),
+        StatementSender::Constant(literal) => {
+            let value = constant_of(literal)?;
+            Ok(Sender::Constant(value))
+        }
+    }
+}

@@ -1,0 +1,125 @@
+//! Single moves: of a sender to one of its receivers.
+
+ghost use Rattle.std.specs.Prelude.{◌≡◌, ◌⊎◌, List, [], ◌∷◌, IfErr, IfNone, IfOk, IfSome, OnOk};
+ghost use Rattle.std.specs.List.{AllByRecursion};
+ghost use Rattle.cob_copybook_tree.specs.Forests.{Forest};
+ghost use Rattle.cob_copybook_tree.specs.Nodes.{Resolved};
+ghost use Rattle.cob_move.specs.Meaning.{AreReceiversOf, IsMoveOf, kind_of_sender};
+ghost use Rattle.cob_move.specs.Refusals.{BreaksMove, BreaksReceipt, BreaksStatement, SomeOf};
+ghost use Rattle.cob_move_operands.specs.declared.Side.TheVariants.{Out};
+ghost use Rattle.cob_move_operands.specs.Moves.{move, sender};
+ghost use Rattle.cob_move_receive.specs.Refusals.{IsAllowed};
+ghost use Rattle.cob_move_receive.specs.Table.{sender_kind};
+ghost use Rattle.cob_move_references.specs.Directory.{entries_named};
+ghost use Rattle.cob_move_references.specs.References.{NamesOperand};
+ghost use Rattle.cob_move_statements.specs.Written.{
+  MoveTo,
+  written_reference,
+  written_references,
+  written_sender,
+};
+
+use crate::senders::sender_of;
+use cob_copybook_tree::Kind;
+use cob_move_operands::{Move, Operand, Sender};
+use cob_move_receive::{Refusal, SenderKind, refusal_of};
+use cob_move_references::Names;
+use cob_move_statements::{MoveRule, Reference, StatementSender};
+use std::alloc::Global;
+
+/// What the table of categories asks of a sender.
+fn kind_of_sender(from: &Sender) -> SenderKind<'_>
+    ensures { sender_kind result ≡ kind_of_sender (sender from.now) }
+{
+    match from {
+        Sender::Entry { operand, .. } => SenderKind::Entry(&operand.kind),
+        Sender::Constant(value) => SenderKind::Constant(value),
+    }
+}
+
+/// Judges the move of a sender to one receiver.
+///
+/// # Errors
+///
+/// `NotAllowed`, `Literal`, `TooLong`.
+pub(crate) fn judge(from: &Sender, to: &Kind) -> Result<(), MoveRule>
+    ensures allowed { OnOk result (IsAllowed (kind_of_sender (sender from.now)) to.now) }
+    ensures fault { IfErr result (λ r. BreaksMove r (kind_of_sender (sender from.now)) to.now) }
+{
+    match refusal_of(&kind_of_sender(from), to) {
+        None => Ok(()),
+        Some(Refusal::NotAllowed) => Err(MoveRule::NotAllowed),
+        Some(Refusal::Literal) => Err(MoveRule::Literal),
+        Some(Refusal::TooLong) => Err(MoveRule::TooLong),
+    }
+}
+
+/// What a receiver's reference names, where the sender may be moved to it.
+///
+/// # Errors
+///
+/// `Unknown`, `Ambiguous`, `Subscripts`, `Receiver`; `NotAllowed`, `Literal`, `TooLong`.
+fn receiver_of(
+    names: &Names<'_>,
+    from: &Sender,
+    reference: &Reference<'_>,
+) -> Result<Operand, MoveRule>
+    ensures found { IfOk result (λ o. NamesOperand (entries_named names.now)
+        (written_reference reference.now) Out o) }
+    ensures allowed { IfOk result (λ o. IsAllowed (kind_of_sender (sender from.now)) o.kind) }
+    ensures fault { IfErr result (λ r. BreaksReceipt r (entries_named names.now)
+        (sender from.now) (written_reference reference.now)) }
+{
+    let operand = names.find_receiver(reference)?;
+    judge(from, &operand.kind)?;
+    Ok(operand)
+}
+
+/// What the receivers of a sender mean.
+///
+/// # Errors
+///
+/// As [`receiver_of`], for one of them; `Memory`.
+fn receivers_of(
+    alloc: Global,
+    names: &Names<'_>,
+    from: &Sender,
+    references: &[Reference<'_>],
+) -> Result<Vec<Operand>, MoveRule>
+    ensures found { IfOk result (λ v. AreReceiversOf (entries_named names.now)
+        (written_references references.now) v.items) }
+    ensures allowed { IfOk result (λ v.
+        AllByRecursion (λ o. IsAllowed (kind_of_sender (sender from.now)) o.kind) v.items) }
+    ensures fault { IfErr result (λ r. (r ≡ MoveRule.Memory)
+        ⊎ SomeOf (BreaksReceipt r (entries_named names.now) (sender from.now))
+        (written_references references.now)) }
+{
+    let mut receivers = Vec::new(alloc);
+    for reference in references {
+        let receiver = receiver_of(names, from, reference)?;
+        receivers.push(receiver)?;
+    }
+    Ok(receivers)
+}
+
+/// The move that a sender and its receivers mean.
+///
+/// # Errors
+///
+/// A rule that the sender or one of the receivers breaks; `Memory`.
+pub(crate) fn move_of(
+    alloc: Global,
+    names: &Names<'_>,
+    written: &StatementSender<'_>,
+    references: &[Reference<'_>],
+) -> Result<Move, MoveRule>
+    ensures found { IfOk result (λ m. IsMoveOf (entries_named names.now)
+        (written_sender written.now) (written_references references.now) (move m)) }
+    ensures fault { IfErr result (λ r. (input output : Forest Resolved)
+        → BreaksStatement r (entries_named names.now) input output
+        (MoveTo (written_sender written.now) (written_references references.now))) }
+{
+    let sender = sender_of(names, written)?;
+    let receivers = receivers_of(alloc, names, &sender, references)?;
+    Ok(Move { sender, receivers })
+}

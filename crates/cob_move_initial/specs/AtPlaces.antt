@@ -1,0 +1,21 @@
+-- What entries hold at their places, before the first move.
+use Rattle.std.specs.Prelude.{◌≡◌, ◌⊎◌, ℕ, List, take, drop, None, IsSomeAnd}
+use Rattle.cob_copybook_tree.specs.declared.node.Kind.TheVariants.{Group}
+use Rattle.cob_copybook_tree.specs.Forests.{Forest, NoEntries, AnEntry, Tree}
+use Rattle.cob_copybook_tree.specs.Nodes.{Resolved}
+use Rattle.cob_copybook_tree.specs.Lengths.{greatest_number, sum_of}
+use Rattle.cob_layout_places.specs.Places.{place_of}
+use Rattle.cob_move_initial.specs.Initial.{HoldsElement, IsInitial}
+
+-- the entry with those beneath it is one of these or stands beneath one, in no redefinition and beneath no group with a value
+abbrev pub HaveEntry : Forest Resolved → Tree Resolved → Type 0
+HaveEntry NoEntries t = ⊥
+HaveEntry (AnEntry e children more) t =
+    ((e.redefines ≡ None) × (((record { top = e; beneath = children }) ≡ t) ⊎ ((e.kind ≡ Group) × (e.value ≡ None) × HaveEntry children t)))
+    ⊎ HaveEntry more t
+
+-- Each such entry has places, whatever the subscripts, where tables have their greatest number of elements; and the bytes at each of them hold
+-- what one element of it does: what its item does, or, of a group, its VALUE or the entries beneath it.
+abbrev pub HoldAtPlaces : Forest Resolved → List ℕ → Type 0
+HoldAtPlaces f bytes = (t : Tree Resolved) (subscripts : List ℕ) → HaveEntry f t
+    → IsSomeAnd (place_of greatest_number t.top.number f 0 0 subscripts) (λ p. HoldsElement t.top.kind t.top.value (sum_of greatest_number t.beneath) (IsInitial t.beneath) (take p.length (drop p.offset bytes)))

@@ -1,5 +1,0 @@
-use Rattle.cob_move_meaning.proofs.NoRuleLemmas.{no_rule}
-use Rattle.cob_move_meaning.proofs.laws.meanings_break_no_rule.Goals as goal
-
-pub returns : goal.returns
-returns c = no_rule c.one_named.ensures c.named_break_no_rule.ensures

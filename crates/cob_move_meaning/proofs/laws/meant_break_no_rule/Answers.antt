@@ -1,5 +1,0 @@
-use Rattle.cob_move_meaning.proofs.NoRuleLemmas.{no_broken}
-use Rattle.cob_move_meaning.proofs.laws.meant_break_no_rule.Goals as goal
-
-pub returns : goal.returns
-returns c = no_broken c.meanings_break_no_rule.ensures

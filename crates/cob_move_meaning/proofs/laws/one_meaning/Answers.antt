@@ -1,5 +1,0 @@
-use Rattle.cob_move_meaning.proofs.OneLemmas.{one_meaning}
-use Rattle.cob_move_meaning.proofs.laws.one_meaning.Goals as goal
-
-pub returns : goal.returns
-returns c = one_meaning c.one_named.ensures
