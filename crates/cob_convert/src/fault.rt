@@ -2,10 +2,8 @@ ghost use Rattle.std.specs.Prelude.{◌≡◌};
 ghost use Rattle.cob_convert.specs.declared.fault.PrepareFault.TheVariants.{Memory};
 ghost use Rattle.cob_convert.specs.Means.{moves_refusal};
 
-use cob_convert_record::{Cause, RunFault};
-use cob_convert_record::Side;
-use cob_entry::BookFault;
-use cob_move::{MoveFault, MoveRule};
+use cob_convert_record::{Cause, RunFault, Side};
+use cob_move::{BookFault, MoveFault, MoveRule};
 use std::alloc::AllocError;
 use std::fmt;
 use thiserror::Error;

@@ -37,10 +37,9 @@ mod jobs;
 mod laws;
 mod run;
 
-pub use cob_convert_record::Side;
-pub use cob_move::{MoveFault, MoveRule};
+pub use cob_convert_record::{Cause, RunFault, Side};
+pub use cob_move::{Book, BookFault, BookRule, Layout, MoveFault, MoveRule, Paragraph, Role};
 pub use converter::Converter;
 pub use fault::PrepareFault;
 pub use jobs::{Status, job};
 pub use laws::conversion_is_one;
-pub use cob_convert_record::{Cause, RunFault};

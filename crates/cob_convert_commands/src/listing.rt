@@ -1,9 +1,8 @@
 use crate::fault::{CommandFault, FileName};
 use crate::texts::read_text;
+use cob_convert::{Book, Layout, Role};
 use cob_convert_line::{LayoutLine, ShowLine};
 use cob_convert_show::{layout_text, show};
-use cob_copybook::{Book, Role};
-use cob_layout::Layout;
 use cob_records::{Progress, create_sink, open_source};
 use std::io::{Eprint, Input, Print};
 use std::rt::{Clock, Files};

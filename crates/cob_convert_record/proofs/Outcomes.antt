@@ -1,6 +1,6 @@
 -- What becomes of a record, and where its conversion stops.
 use Rattle.std.proofs.Common.{ℕ, List, inl, inr, IfErr, IfOk, Ok, Err, Result}
-use Rattle.cob_copybook_tree.specs.Nodes.{alone}
+use Rattle.cob_move_apply.specs.Nodes.{alone}
 use Rattle.cob_move_initial.specs.Initial.{IsInitial}
 use Rattle.cob_convert_record.specs.Conversion.{Conversion}
 use Rattle.cob_move_apply.specs.declared.stop.Stop.{Stop}

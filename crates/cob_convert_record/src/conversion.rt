@@ -2,21 +2,18 @@
 
 ghost use Rattle.std.specs.Prelude.{◌≡◌, ◌<◌, ◌≤◌, ℕ, List, length, min, take, Err, IfOk, IfErr, OnOk};
 ghost use Rattle.cob_limits.specs.Limits.{longest_record};
-ghost use Rattle.cob_layout.specs.Storage.{greatest_length};
-ghost use Rattle.cob_copybook_tree.specs.Forests.{Tree, entries_in};
-ghost use Rattle.cob_copybook_tree.specs.Nodes.{Resolved, alone};
-ghost use Rattle.cob_layout.specs.Counting.{CountsOf};
+ghost use Rattle.cob_move_apply.specs.Storage.{greatest_length};
+ghost use Rattle.cob_move_apply.specs.Forests.{Tree, entries_in};
+ghost use Rattle.cob_move_apply.specs.Nodes.{Resolved, alone};
+ghost use Rattle.cob_move_apply.specs.Counting.{CountsOf};
 ghost use Rattle.cob_convert_record.specs.Becoming.{IsCountStop, IsOutputOf};
 ghost use Rattle.cob_convert_record.specs.Sizes.{IsMeasureFault, IsSized};
 ghost use Rattle.cob_records.specs.declared.records.Form.TheVariants.{Variable};
 
 use crate::misfit::MeasureFault;
 use crate::room::Room;
-use cob_copybook::Book;
-use cob_layout::{CountFault, Counts, Layout};
+use cob_move_apply::{Book, CountFault, Counts, Layout, Moves, Side, Stop, StopCause};
 use cob_move_initial::initial;
-use cob_move_apply::{Moves, Stop, StopCause};
-use cob_move_operands::Side;
 use cob_records::Form;
 use std::alloc::{AllocError, Global};
 use std::marker::Model;
@@ -35,13 +32,13 @@ pub struct Conversion {
 
 impl Model for Conversion {
     ghost use Rattle.std.specs.Prelude.{◌≡◌, length};
-    ghost use Rattle.cob_copybook_tree.specs.Nodes.{alone};
-    ghost use Rattle.cob_layout.specs.Storage.{greatest_length};
+    ghost use Rattle.cob_move_apply.specs.Nodes.{alone};
+    ghost use Rattle.cob_move_apply.specs.Storage.{greatest_length};
     ghost use Rattle.cob_move_initial.specs.Initial.{IsInitial};
     ghost use Rattle.cob_convert_record.specs.Conversion.{Conversion};
     ghost use Rattle.cob_move_apply.specs.Prepared.{ArePrepared, moves_of};
     ghost use Rattle.std.specs.Coded.{codes};
-    ghost use Rattle.cob_copybook.specs.Codes.{coded_forest};
+    ghost use Rattle.cob_move_apply.specs.Codes.{coded_forest};
 
     ghost Value = { Conversion };
 
@@ -121,7 +118,7 @@ fn written_length(
 impl Conversion {
     ghost use Rattle.cob_records.specs.Frame.{IsRecord};
     ghost use Rattle.cob_move_apply.specs.Prepared.{ArePrepared, moves_of, single_moves};
-    ghost use Rattle.cob_layout.specs.Storage.{IsStorage};
+    ghost use Rattle.cob_move_apply.specs.Storage.{IsStorage};
     ghost use Rattle.cob_move_initial.specs.Initial.{IsInitial};
     ghost use Rattle.cob_convert_record.specs.Conversion.{in_length, out_length};
     ghost use Rattle.cob_convert_record.specs.Sizes.{IsSized, IsMeasureFault};

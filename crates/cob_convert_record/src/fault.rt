@@ -1,6 +1,6 @@
 //! Where and why a run stops.
 
-use cob_move_operands::Side;
+use cob_move_apply::Side;
 use cob_records::RecordFault;
 
 /// Why a run stopped.

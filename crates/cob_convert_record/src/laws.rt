@@ -2,9 +2,8 @@
 
 ghost use Rattle.cob_convert_record.specs.Laws.{ConversionsAreDecided};
 
-use cob_layout::one_outcome_of_counts;
+use cob_move_apply::{one_ending, one_outcome_of_counts};
 use cob_move_initial::one_initial;
-use cob_move_apply::one_ending;
 
 /// A record is one of its layout or isn't, for one reason, and what becomes of it is determined: its output or its stop.
 #[tactic(auto, using(crate::proofs::Decided::conversions_are_decided))]

@@ -27,10 +27,12 @@ mod laws;
 mod misfit;
 mod room;
 
-pub use cob_move_apply::{Stop, StopCause};
-pub use cob_move_operands::Side;
+pub use cob_move_apply::{
+    Book, BookRule, CountFault, Counts, Item, Kind, Layout, Name, Node, Place, ResolvedOccurs,
+    Role, Side, Sign, Stop, StopCause, Usage, field, is_number_item, is_table, read_number,
+};
 pub use conversion::Conversion;
+pub use fault::{Cause, RunFault};
 pub use laws::conversions_are_decided;
 pub use misfit::MeasureFault;
 pub use room::Room;
-pub use fault::{Cause, RunFault};

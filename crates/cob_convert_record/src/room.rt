@@ -4,8 +4,7 @@ ghost use Rattle.std.specs.Prelude.{◌≡◌, IfOk};
 ghost use Rattle.cob_convert_record.specs.Rooms.{capacity_for};
 
 use crate::conversion::Conversion;
-use cob_layout::Counts;
-use cob_move_apply::Scratch;
+use cob_move_apply::{Counts, Scratch};
 use std::alloc::{AllocError, Global};
 use std::marker::Model;
 

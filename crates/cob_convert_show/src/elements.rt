@@ -1,18 +1,15 @@
 //! The elements of a record that items have, and their places.
 
 ghost use Rattle.std.specs.Prelude.{◌≡◌, ◌≤◌, ◌+◌, length, IfErr, IfSome, is_err, true};
-ghost use Rattle.cob_copybook_tree.specs.Nodes.{alone};
-ghost use Rattle.cob_copybook_tree.specs.Lengths.{greatest_number, sum_of};
+ghost use Rattle.cob_convert_record.specs.Nodes.{alone};
+ghost use Rattle.cob_convert_record.specs.TreeLengths.{greatest_number, sum_of};
 ghost use Rattle.cob_records.specs.Device.{counted};
 ghost use Rattle.cob_records.specs.Frame.{is_write_error, is_write_fault};
 
 use crate::text::{put, put_behind_space, put_number};
 use crate::values::put_value;
 use arrayvec::ArrayVec;
-use cob_copybook_tree::{Item, Kind, Node};
-use cob_entry::Name;
-use cob_layout::{Counts, Layout, Place, field};
-use cob_layout_places::is_table;
+use cob_convert_record::{Counts, Item, Kind, Layout, Name, Node, Place, field, is_table};
 use cob_limits::MAX_SUBSCRIPTS;
 use cob_records::{RecordFault, Sink};
 

@@ -6,11 +6,9 @@ ghost use Rattle.cob_records.specs.Frame.{is_write_error, is_write_fault, taken_
 
 use crate::elements::{Subscripts, place_of};
 use crate::text::{put, put_behind_space};
-use cob_copybook::Book;
-use cob_copybook_tree::{Item, Kind, Node, ResolvedOccurs};
-use cob_entry::{Name, Sign, Usage};
-use cob_layout::{Layout, Place};
-use cob_layout_places::is_table;
+use cob_convert_record::{
+    Book, Item, Kind, Layout, Name, Node, Place, ResolvedOccurs, Sign, Usage, is_table,
+};
 use cob_picture::Category;
 use cob_records::{RecordFault, Sink};
 

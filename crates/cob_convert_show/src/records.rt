@@ -1,9 +1,9 @@
 //! The records of a file.
 
 ghost use Rattle.std.specs.Prelude.{◌≡◌, length, IfErr, Err, is_err, true, false};
-ghost use Rattle.cob_copybook_tree.specs.Nodes.{alone};
-ghost use Rattle.cob_copybook_tree.specs.Lengths.{greatest_number, sum_of};
-ghost use Rattle.cob_copybook_tree.specs.Forests.{entries_in};
+ghost use Rattle.cob_convert_record.specs.Nodes.{alone};
+ghost use Rattle.cob_convert_record.specs.TreeLengths.{greatest_number, sum_of};
+ghost use Rattle.cob_convert_record.specs.Forests.{entries_in};
 ghost use Rattle.cob_records.specs.Device.{counted};
 ghost use Rattle.cob_records.specs.Frame.{is_write_error, is_write_fault};
 ghost use Rattle.cob_convert_show.specs.Records.{is_read_cause, is_write_cause, is_error_cause, stopped_by, refused_by, IsStop, IsShowFault};
@@ -11,10 +11,7 @@ ghost use Rattle.cob_convert_show.specs.declared.records.ShowFault.TheVariants.{
 
 use crate::elements::{Contents, Tables, put_items};
 use crate::text::{put, put_number};
-use cob_convert_record::{Cause, RunFault, Side};
-use cob_copybook::Book;
-use cob_copybook_tree::Node;
-use cob_layout::{CountFault, Counts, Layout};
+use cob_convert_record::{Book, Cause, CountFault, Counts, Layout, Node, RunFault, Side};
 use cob_records::{Form, RecordFault, Sink, Source, next_record};
 use std::alloc::{AllocError, Global};
 

@@ -9,10 +9,7 @@
 //! - `room`, with a number of bytes behind: the same, where the output takes no more than so many.
 #![tactic(auto)]
 
-use cob_convert_show::{ShowFault, layout_text, show};
-use cob_copybook::{Book, Role};
-use cob_entry::BookRule;
-use cob_layout::Layout;
+use cob_convert_show::{Book, BookRule, Layout, Role, ShowFault, layout_text, show};
 use cob_records::{Form, MemSink, MemSource, RecordFault};
 use cob_rows::{Family, Row, RowFault, bytes_of, print_rows};
 use std::alloc::{AllocError, Global};

@@ -12,8 +12,7 @@ use crate::role::Role;
 use crate::storage::storage_of;
 use crate::tree::tree_of;
 use crate::words::entries_of;
-use cob_copybook_tree::{Node, whole_length};
-use cob_entry::BookFault;
+use cob_copybook_tree::{BookFault, Node, whole_length};
 use std::alloc::Global;
 use std::marker::Model;
 

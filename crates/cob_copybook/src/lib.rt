@@ -24,5 +24,10 @@ mod tree;
 mod words;
 
 pub use book::Book;
+pub use cob_copybook_entries::{ValueClause, value_of};
+pub use cob_copybook_tree::{
+    BookFault, BookRule, Figurative, Item, Kind, Name, Node, ResolvedOccurs, Sign, Text, Usage,
+    Value, element_length, is_number, whole_length,
+};
 pub use laws::{book_breaks_no_rule, records_take_bytes};
 pub use role::Role;

@@ -1,8 +1,8 @@
 //! The record that a tree of entries describes.
 
 ghost use Rattle.std.specs.Prelude.{◌≡◌, ◌≤◌, [], ◌∷◌, IfOk, IfErr};
-ghost use Rattle.cob_entry.specs.Described.{PlainEntry};
-ghost use Rattle.cob_entry.specs.declared.fault.BookRule.TheVariants.{Memory};
+ghost use Rattle.cob_copybook_tree.specs.Described.{PlainEntry};
+ghost use Rattle.cob_copybook_tree.specs.BookRule.TheVariants.{Memory};
 ghost use Rattle.cob_copybook_tree.specs.Forests.{Forest, entries_in};
 ghost use Rattle.cob_copybook_tree.specs.Branches.{forest_of};
 ghost use Rattle.cob_copybook_tree.specs.Nodes.{Resolved, forest};
@@ -11,8 +11,7 @@ ghost use Rattle.cob_copybook.specs.Records.{IsStored, IsStorageRefusal};
 
 use cob_copybook_lengths::{breaks_no_rule, judge_lengths};
 use cob_copybook_names::counts;
-use cob_copybook_tree::{Branch, Node, resolve};
-use cob_entry::BookFault;
+use cob_copybook_tree::{BookFault, Branch, Node, resolve};
 use std::alloc::Global;
 
 /// The record that a tree of entries whose clauses agree describes.

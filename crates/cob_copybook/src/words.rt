@@ -2,12 +2,12 @@
 
 ghost use Rattle.std.specs.Prelude.{◌≡◌, ℕ, ◌≤◌, ◌<◌, List, length, map, IfOk, IfErr};
 ghost use Rattle.cob_limits.specs.Limits.{longest_name};
-ghost use Rattle.cob_entry.specs.Described.{PlainEntry, plain_entry};
+ghost use Rattle.cob_copybook_tree.specs.Described.{PlainEntry, plain_entry};
 ghost use Rattle.cob_copybook.specs.Books.{record_name, implied, with_record, HasEntries, IsTextRefusal, IsMemory};
 
 use crate::role::Role;
 use cob_copybook_entries::entries;
-use cob_entry::{BookFault, Entry, Name};
+use cob_copybook_tree::{BookFault, Entry, Name};
 use cob_source::{tokens, words_are_one};
 use std::alloc::{AllocFailed, Global};
 

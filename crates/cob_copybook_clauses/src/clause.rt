@@ -29,7 +29,7 @@ ghost use Rattle.std.specs.Prelude.{
 };
 
 use crate::constant::constant_at;
-use crate::parts::{ValueClause, OccursClause};
+use crate::parts::{OccursClause, ValueClause};
 use crate::table::table_at;
 use crate::term::{WordClass, word_class};
 use crate::words::{behind, other_word_at, skip, skip_is_or_are, skip_prefix, word_at};
@@ -69,7 +69,9 @@ pub fn kind_at(term: WordClass) -> Option<ClauseKind>
     match term {
         WordClass::Redefines => Some(ClauseKind::Redefines),
         WordClass::Picture => Some(ClauseKind::Picture),
-        WordClass::Usage | WordClass::Display | WordClass::Binary | WordClass::Packed => Some(ClauseKind::Usage),
+        WordClass::Usage | WordClass::Display | WordClass::Binary | WordClass::Packed => Some(
+            ClauseKind::Usage,
+        ),
         WordClass::Sign | WordClass::Leading | WordClass::Trailing => Some(ClauseKind::Sign),
         WordClass::Occurs => Some(ClauseKind::Occurs),
         WordClass::Value => Some(ClauseKind::Value),

@@ -29,6 +29,7 @@ mod reader;
 mod sentence;
 mod value;
 
+pub use cob_copybook_clauses::ValueClause;
 pub use laws::{entries_break_no_rule, one_list_of_entries};
 pub use name::name_of_text;
 pub use reader::entries;

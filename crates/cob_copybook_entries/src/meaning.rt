@@ -16,7 +16,7 @@ use crate::name::name_of_text;
 use crate::number::whole;
 use crate::occurs::occurs_of;
 use crate::value::value_of;
-use cob_copybook_clauses::{ValueClause, OccursClause, Written};
+use cob_copybook_clauses::{OccursClause, ValueClause, Written};
 use cob_entry::{BookRule, Entry, Name, Occurs, Value};
 use cob_picture::Picture;
 use std::alloc::Global;

@@ -11,7 +11,7 @@ ghost use Rattle.cob_copybook_entries.specs.Adds.{Adds};
 
 use crate::meaning::entry_of;
 use arrayvec::ArrayString;
-use cob_copybook_clauses::{read_condition_name, is_condition, is_name, left_out, read_entry};
+use cob_copybook_clauses::{is_condition, is_name, left_out, read_condition_name, read_entry};
 use cob_entry::{BookRule, Entry, MAX_WORD};
 use cob_source::Token;
 use std::alloc::Global;

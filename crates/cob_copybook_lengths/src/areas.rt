@@ -9,8 +9,7 @@ ghost use Rattle.cob_limits.specs.Limits.{longest_record};
 ghost use Rattle.cob_copybook_lengths.specs.Areas.{hold_varying, is_varying, Bears, FitsArea, MayFollow, AreAreas, ArePossible};
 ghost use Rattle.cob_copybook_lengths.specs.Short.{IsShortArea};
 
-use cob_copybook_tree::{Node, ResolvedOccurs, whole_length};
-use cob_entry::Name;
+use cob_copybook_tree::{Name, Node, ResolvedOccurs, whole_length};
 use std::slice;
 
 /// Whether a table varies.

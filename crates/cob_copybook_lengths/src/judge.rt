@@ -9,8 +9,7 @@ ghost use Rattle.cob_copybook_lengths.specs.Rules.{KeepsLengthRules, BreaksLengt
 
 use crate::areas::wrong_area;
 use crate::values::wrong_value;
-use cob_copybook_tree::{Node, whole_length};
-use cob_entry::{BookFault, BookRule};
+use cob_copybook_tree::{BookFault, BookRule, Node, whole_length};
 use cob_limits::MAX_RECORD;
 use std::slice;
 

@@ -2,14 +2,13 @@
 
 ghost use Rattle.std.specs.Prelude.{◌≡◌, ℕ, ◌||◌, IsTrue};
 ghost use Rattle.std.specs.Option.{IsNone, is_some};
-ghost use Rattle.cob_entry.specs.Described.{plain_value};
+ghost use Rattle.cob_copybook_tree.specs.Described.{plain_value};
 ghost use Rattle.cob_copybook_tree.specs.Nodes.{node, forest};
 ghost use Rattle.cob_copybook_tree.specs.Lengths.{greatest_number, element_length};
 ghost use Rattle.cob_copybook_lengths.specs.Values.{IsNumericValue, IsCharacterValue, IsValueFor, MayHaveValue, AreValues};
 
 use crate::fitting::fits_number;
-use cob_copybook_tree::{Kind, Node, element_length, is_number};
-use cob_entry::{Figurative, Value};
+use cob_copybook_tree::{Figurative, Kind, Node, Value, element_length, is_number};
 use cob_picture::Picture;
 
 /// Whether a numeric item of this picture takes the value.

@@ -1,10 +1,10 @@
 -- The counts of a list of entries, one after the other.
 use Rattle.std.proofs.Common.{◌≡◌, ℕ, ◌+◌, List, [], ◌∷◌, ◌++◌, Result, Ok, Err, IfOk, IfErr, refl, sym, ap, subst, ◌∙◌, append_assoc}
 use Rattle.std.proofs.lemmas.List.{append-nil}
-use Rattle.cob_entry.specs.Described.{PlainEntry}
-use Rattle.cob_entry.specs.declared.fault.BookFault.{BookFault}
-use Rattle.cob_entry.specs.declared.fault.BookRule.{BookRule}
-use Rattle.cob_entry.specs.declared.fault.BookRule.TheVariants as rule
+use Rattle.cob_copybook_tree.specs.Described.{PlainEntry}
+use Rattle.cob_copybook_tree.specs.BookFault.{BookFault}
+use Rattle.cob_copybook_tree.specs.BookRule.{BookRule}
+use Rattle.cob_copybook_tree.specs.BookRule.TheVariants as rule
 use Rattle.cob_copybook_names.specs.Bearers.{Bearer}
 use Rattle.cob_copybook_names.specs.Counts.{IsCountOf, AreCounts, IsRefusedAmong}
 use Rattle.cob_copybook_names.proofs.OnlyOnes.{one_list}

@@ -1,6 +1,6 @@
 -- The only one of a list that is so.
 use Rattle.std.proofs.Common.{◌≡◌, ℕ, ◌+◌, List, [], ◌∷◌, Option, Some, None, sym, ap, ◌∙◌, inl, inr}
-use Rattle.cob_entry.specs.Described.{PlainEntry, PlainOccurs, Fixed, Varying}
+use Rattle.cob_copybook_tree.specs.Described.{PlainEntry, PlainOccurs, Fixed, Varying}
 use Rattle.cob_copybook_names.specs.Bearers.{Bearer, NamesEntry, NoneIs, IsOnlyOne}
 use Rattle.cob_copybook_names.specs.Counts.{IsCountOfTable, IsCountOf, AreCounts}
 

@@ -1,7 +1,7 @@
 -- The entries of a record by their names, and which of them a qualified name names.
 use Rattle.std.specs.Prelude.{◌≡◌, ◌⊎◌, ℕ, ◌+◌, Bool, ◌||◌, is_some, List, [], ◌∷◌, ◌++◌, Option, Some, None}
 use Rattle.cob_picture.specs.Positions.{PlainPicture}
-use Rattle.cob_entry.specs.Described.{PlainEntry}
+use Rattle.cob_copybook_tree.specs.Described.{PlainEntry}
 use Rattle.cob_copybook_tree.specs.Forests.{Forest, NoEntries, AnEntry, entries_in}
 
 -- an entry that may bear a name: its number, the names of the groups above it, the nearest first, and whether it is, or is held by, a table;

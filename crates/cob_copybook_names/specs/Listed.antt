@@ -1,7 +1,7 @@
 -- The listed entries of a record without where they lie in memory.
 use Rattle.std.specs.Prelude.{ℕ, List, map}
 use Rattle.std.specs.Borrow.{Bor}
-use Rattle.cob_entry.specs.Described.{PlainEntry, plain_entry}
+use Rattle.cob_copybook_tree.specs.Described.{PlainEntry, plain_entry}
 use Rattle.cob_copybook_names.specs.declared.bearer.Bearer.{Bearer as Listed}
 use Rattle.cob_copybook_names.specs.Bearers.{Bearer}
 

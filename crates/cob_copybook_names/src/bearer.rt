@@ -1,13 +1,12 @@
 ghost use Rattle.std.specs.Prelude.{◌≡◌, ℕ, ◌+◌, ◌<◌, ◌≤◌, List, [], ◌∷◌, ◌++◌, map, length, IfOk, OnOk, Bool, ◌||◌, is_some};
-ghost use Rattle.cob_entry.specs.Described.{plain_entry};
+ghost use Rattle.cob_copybook_tree.specs.Described.{plain_entry};
 ghost use Rattle.cob_copybook_tree.specs.declared.branch.Branch.TheViews.{out-Branch};
 ghost use Rattle.cob_copybook_tree.specs.Forests.{flat, entries_in};
 ghost use Rattle.cob_copybook_tree.specs.Branches.{forest_of};
 ghost use Rattle.cob_copybook_names.specs.Bearers.{bearer_at, bearers, with_name};
 ghost use Rattle.cob_copybook_names.specs.Listed.{bearer_of, entry_of, texts};
 
-use cob_copybook_tree::Branch;
-use cob_entry::Entry;
+use cob_copybook_tree::{Branch, Entry};
 use std::alloc::{AllocError, Global};
 
 /// An entry of a record with what stands above it.

@@ -1,6 +1,6 @@
 ghost use Rattle.std.specs.Prelude.{◌≡◌, ℕ, ◌≤◌, List, [], ◌∷◌, map, IsTrue, IfOk, IfErr, IfSome, IsSomeAnd, IsOkAnd};
-ghost use Rattle.cob_entry.specs.Described.{PlainEntry, plain_entry};
-ghost use Rattle.cob_entry.specs.declared.fault.BookRule.TheVariants.{Memory, Count};
+ghost use Rattle.cob_copybook_tree.specs.Described.{PlainEntry, plain_entry};
+ghost use Rattle.cob_copybook_tree.specs.BookRule.TheVariants.{Memory, Count};
 ghost use Rattle.cob_copybook_tree.specs.Forests.{Forest, entries_in};
 ghost use Rattle.cob_copybook_tree.specs.Branches.{forest_of};
 ghost use Rattle.cob_copybook_names.specs.Counts.{IsWholeNumber, MayCount, IsCountOfTable, IsCountOf, AreCounts, AreCountsOfTables, IsRefusedAmong, IsRefused};
@@ -8,8 +8,7 @@ ghost use Rattle.cob_copybook_names.specs.Listed.{bearer_of, entry_of};
 
 use crate::bearer::{Bearer, list_bearers};
 use crate::directory::Directory;
-use cob_copybook_tree::Branch;
-use cob_entry::{BookFault, BookRule, Entry, Occurs, Qualified};
+use cob_copybook_tree::{BookFault, BookRule, Branch, Entry, Occurs, Qualified};
 use cob_picture::{Category, Picture};
 use std::alloc::Global;
 use std::slice;

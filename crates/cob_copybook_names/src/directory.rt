@@ -1,12 +1,12 @@
 ghost use Rattle.std.specs.Prelude.{◌≡◌, ◌≢◌, ℕ, List, map, length, Some, IfOk, OnOk, IfSome, IsSomeAnd};
-ghost use Rattle.cob_entry.specs.Described.{plain_entry};
+ghost use Rattle.cob_copybook_tree.specs.Described.{plain_entry};
 ghost use Rattle.cob_copybook_names.specs.Bearers.{Bearer as SeenBearer, NamesEntry, IsOnlyOne};
 ghost use Rattle.cob_copybook_names.specs.Listed.{bearer_of};
 ghost use Rattle.cob_copybook_names.specs.Links.{names_of, IsLast, AreLinked, noted_for};
 
 use crate::bearer::Bearer;
 use crate::qualifiers::qualify;
-use cob_entry::{Entry, Name};
+use cob_copybook_tree::{Entry, Name};
 use indexmap::IndexMap;
 use std::alloc::{AllocError, Global};
 

@@ -2,7 +2,7 @@ ghost use Rattle.std.specs.Prelude.{◌≡◌, ℕ, List, ◌∷◌, map, IsTrue
 ghost use Rattle.cob_copybook_names.specs.Bearers.{Qualify};
 ghost use Rattle.cob_copybook_names.specs.Listed.{texts};
 
-use cob_entry::Name;
+use cob_copybook_tree::Name;
 
 /// Whether the name is this text.
 fn is_text(name: &Name, text: &[u8]) -> bool

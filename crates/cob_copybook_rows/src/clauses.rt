@@ -3,7 +3,8 @@
 use crate::refusal::Refusal;
 use crate::texts::{push_whether, push_word, words_of};
 use cob_copybook_clauses::{
-    Clauses, ValueClause, OccursClause, read_condition_name, is_condition, is_name, left_out, sentence_at, read_entry,
+    Clauses, OccursClause, ValueClause, is_condition, is_name, left_out, read_condition_name,
+    read_entry, sentence_at,
 };
 use cob_rows::{Row, RowFault};
 use cob_source::Token;

@@ -9,7 +9,7 @@ use crate::nodes::{push_each, push_tree};
 use crate::refusal::Refusal;
 use crate::texts::entries_of;
 use cob_copybook_tree::{
-    Branch, Kind, Node, as_many_entries, element_length, build_tree, resolve, whole_length,
+    Branch, Kind, Node, as_many_entries, build_tree, element_length, resolve, whole_length,
 };
 use cob_entry::Entry;
 use cob_rows::{Row, RowFault};

@@ -3,8 +3,7 @@ ghost use Rattle.std.specs.Option.{IsNone};
 ghost use Rattle.cob_copybook_tree.specs.Branches.{forest_of};
 ghost use Rattle.cob_copybook_rules.specs.Filled.{IsFilled, AreFilled};
 
-use cob_copybook_tree::Branch;
-use cob_entry::Entry;
+use cob_copybook_tree::{Branch, Entry};
 
 /// Whether the entry has a picture or entries beneath it, and not both.
 fn is_filled(entry: &Entry, children: &[Branch]) -> bool

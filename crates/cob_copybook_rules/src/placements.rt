@@ -6,8 +6,7 @@ ghost use Rattle.cob_copybook_tree.specs.Branches.{forest_of};
 ghost use Rattle.cob_copybook_rules.specs.Placements.{TakesCharacters, MayBeJustified, CanBeBlank, MayBeBlank, ArePlaced};
 
 use crate::usages::inherited;
-use cob_copybook_tree::Branch;
-use cob_entry::Usage;
+use cob_copybook_tree::{Branch, Usage};
 use cob_picture::{Category, Picture, Run, Symbol};
 
 /// Whether one of the runs is of the symbol.

@@ -8,8 +8,7 @@ use crate::placements::wrong_placement;
 use crate::signs::wrong_sign;
 use crate::tables::wrong_table;
 use crate::usages::wrong_usage;
-use cob_copybook_tree::Branch;
-use cob_entry::{BookFault, BookRule};
+use cob_copybook_tree::{BookFault, BookRule, Branch};
 use std::slice;
 
 /// That the rule is kept, unless there is a line where it is broken.

@@ -4,8 +4,7 @@ ghost use Rattle.cob_copybook_tree.specs.Branches.{forest_of};
 ghost use Rattle.cob_copybook_rules.specs.Signs.{MayBeSigned, AreSigned};
 
 use crate::usages::inherited;
-use cob_copybook_tree::{Branch, keeps_sign};
-use cob_entry::{Sign, Usage};
+use cob_copybook_tree::{Branch, Sign, Usage, keeps_sign};
 use cob_picture::Picture;
 
 /// Whether an entry with the usage and the picture may have the sign.

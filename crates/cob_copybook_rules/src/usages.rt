@@ -4,8 +4,7 @@ ghost use Rattle.cob_copybook_tree.specs.Branches.{forest_of};
 ghost use Rattle.cob_copybook_tree.specs.Resolving.{inherited};
 ghost use Rattle.cob_copybook_rules.specs.Usages.{Agree, IsNarrow, Takes, MayHave, AreUsages};
 
-use cob_copybook_tree::Branch;
-use cob_entry::Usage;
+use cob_copybook_tree::{Branch, Usage};
 use cob_picture::{Category, Picture};
 
 /// The most digits of a binary item, those that a P stands for counted too.

@@ -32,6 +32,9 @@ mod planting;
 mod resolving;
 
 pub use branch::Branch;
+pub use cob_entry::{
+    BookFault, BookRule, Entry, Figurative, Name, Occurs, Qualified, Sign, Text, Usage, Value,
+};
 pub use laws::{as_many_entries, branch_opens, node_opens, one_tree};
 pub use lengths::{MANY, element_length, whole_length};
 pub use node::{Item, Kind, Node, ResolvedOccurs};

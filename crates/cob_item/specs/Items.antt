@@ -2,9 +2,9 @@
 use Rattle.std.specs.Prelude.{◌≡◌, ℕ, ◌+◌, ◌/◌, ◌<◌, ◌≤◌, Bool, true, false, List, Option, Some, None, MatchBool}
 use Rattle.cob_picture.specs.Positions.{PlainPicture}
 use Rattle.cob_picture.specs.Counts.{digits, signed, size}
-use Rattle.cob_entry.specs.declared.kinds.Usage.{Usage}
-use Rattle.cob_entry.specs.declared.kinds.Usage.TheVariants as usage
-use Rattle.cob_entry.specs.declared.kinds.Sign.{Sign}
+use Rattle.cob_copybook_tree.specs.Usage.{Usage}
+use Rattle.cob_copybook_tree.specs.Usage.TheVariants as usage
+use Rattle.cob_copybook_tree.specs.Sign.{Sign}
 use Rattle.cob_copybook_tree.specs.declared.node.Item.{Item}
 use Rattle.cob_copybook_tree.specs.Lengths.{item_size}
 use Rattle.cob_copybook_tree.specs.Resolving.{is_numeric, is_number}

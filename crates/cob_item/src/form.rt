@@ -3,8 +3,7 @@ ghost use Rattle.std.specs.Bool.{OnTrue};
 ghost use Rattle.cob_copybook_tree.specs.Resolving.{is_numeric};
 ghost use Rattle.cob_item.specs.Items.{form_of, is_leading, is_separate, IsNumberItem, TakesPicture};
 
-use cob_copybook_tree::Item;
-use cob_entry::{Sign, Usage};
+use cob_copybook_tree::{Item, Sign, Usage};
 use cob_limits::MAX_BINARY_DIGITS;
 use cob_picture::{Category, Picture};
 

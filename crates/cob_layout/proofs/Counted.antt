@@ -5,27 +5,26 @@ use Rattle.std.specs.List.{AllByRecursion}
 use Rattle.std.proofs.lemmas.Bool.{MatchBool-at_true}
 use Rattle.cob_picture.specs.Positions.{PlainPicture}
 use Rattle.cob_picture.specs.Counts.{scale, size}
-use Rattle.cob_entry.specs.declared.kinds.Usage.{Usage}
-use Rattle.cob_entry.specs.declared.kinds.Usage.TheVariants.{Display}
-use Rattle.cob_entry.specs.declared.kinds.Sign.{Sign}
-use Rattle.cob_entry.specs.Described as described
-use Rattle.cob_entry.specs.Described.{PlainEntry}
-use Rattle.cob_copybook_tree.specs.declared.node.Item.{Item}
-use Rattle.cob_copybook_tree.specs.declared.node.Kind.{Kind}
-use Rattle.cob_copybook_tree.specs.declared.node.Kind.TheVariants.{Item as ItemKind}
-use Rattle.cob_copybook_tree.specs.Forests.{Forest, NoEntries, AnEntry, Tree, flat, entries_in}
-use Rattle.cob_copybook_tree.specs.Nodes.{Resolved, alone}
-use Rattle.cob_copybook_tree.specs.Lengths.{item_size}
-use Rattle.cob_copybook_tree.specs.Resolving.{inherited, is_numeric, kind_by_picture, times_of, resolved_by, resolved, is_number}
-use Rattle.cob_copybook_names.specs.Bearers.{Bearer, bearers, bearer_at, with_name, NamesEntry, IsOnlyOne}
-use Rattle.cob_copybook_names.specs.Counts.{IsCountOfTable, IsCountOf, AreCounts}
-use Rattle.cob_item.specs.Items.{IsNumberItem}
+use Rattle.cob_copybook.specs.Usage.{Usage}
+use Rattle.cob_copybook.specs.Usage.TheVariants.{Display}
+use Rattle.cob_copybook.specs.Sign.{Sign}
+use Rattle.cob_copybook.specs.Described as described
+use Rattle.cob_copybook.specs.Described.{PlainEntry}
+use Rattle.cob_copybook.specs.Item.{Item}
+use Rattle.cob_copybook.specs.Kind.{Kind}
+use Rattle.cob_copybook.specs.Kind.TheVariants.{Item as ItemKind}
+use Rattle.cob_copybook.specs.Forests.{Forest, NoEntries, AnEntry, Tree, flat, entries_in}
+use Rattle.cob_copybook.specs.Nodes.{Resolved, alone}
+use Rattle.cob_copybook.specs.TreeLengths.{item_size}
+use Rattle.cob_copybook.specs.Resolving.{inherited, is_numeric, kind_by_picture, times_of, resolved_by, resolved, is_number}
+use Rattle.cob_copybook.specs.Bearers.{Bearer, bearers, bearer_at, with_name, NamesEntry, IsOnlyOne}
+use Rattle.cob_copybook.specs.Counts.{IsCountOfTable, IsCountOf, AreCounts}
+use Rattle.cob_layout_places.specs.Items.{IsNumberItem, IsStorable}
 use Rattle.cob_layout_places.specs.declared.varying.Table.{Table}
 use Rattle.cob_layout_places.specs.Places.{is_table, or_else, choose}
 use Rattle.cob_layout_places.specs.Needs.{Has}
 use Rattle.cob_layout_places.proofs.NeedLaw.{low, high}
 use Rattle.cob_layout_places.specs.Counts.{table_of, tables_of, kind_in, kind_one, IsCountable}
-use Rattle.cob_item.specs.Items.{IsStorable}
 use Rattle.cob_layout.specs.Sound.{IsStorableKind, AreStorable, InTable, IsAhead}
 use Rattle.cob_layout.proofs.Lists.{all_append, all_map, first_left, others_left, same, differs}
 use Rattle.cob_layout.proofs.Numbers.{numbered, same_entries}

@@ -26,3 +26,11 @@ pub mod Fits
 pub mod Storables
 pub mod Counted
 pub mod SoundLaw
+pub use Rattle.cob_copybook.proofs.Links
+pub use Rattle.cob_copybook.proofs.NoRule
+pub use Rattle.cob_copybook.proofs.Numbers
+pub use Rattle.cob_copybook.proofs.OneList
+pub use Rattle.cob_copybook.proofs.Qualifying
+pub use Rattle.cob_layout_places.proofs.CountLemmas
+pub use Rattle.cob_layout_places.proofs.CoverLaw
+pub use Rattle.cob_layout_places.proofs.ForestLemmas

@@ -1,10 +1,10 @@
 -- References that read no count.
 use Rattle.std.proofs.Common.{◌≡◌, ℕ, ◌<◌, ◌==◌, Bool, true, false, List, [], ◌∷◌, Option, Some, None, refl, sym, subst, arith, inl, inr, Ok, Err, Result}
-use Rattle.cob_copybook_tree.specs.declared.node.Kind.{Kind}
-use Rattle.cob_copybook_tree.specs.declared.node.Kind.TheVariants.{Item as ItemKind}
-use Rattle.cob_copybook_tree.specs.Forests.{Forest, NoEntries, AnEntry, Tree}
-use Rattle.cob_copybook_tree.specs.Nodes.{Resolved, alone}
-use Rattle.cob_copybook_tree.specs.Lengths.{item_size}
+use Rattle.cob_copybook.specs.Kind.{Kind}
+use Rattle.cob_copybook.specs.Kind.TheVariants.{Item as ItemKind}
+use Rattle.cob_copybook.specs.Forests.{Forest, NoEntries, AnEntry, Tree}
+use Rattle.cob_copybook.specs.Nodes.{Resolved, alone}
+use Rattle.cob_copybook.specs.TreeLengths.{item_size}
 use Rattle.cob_copybook.specs.Bytes.{TakesByte, TakeBytes}
 use Rattle.cob_layout_places.specs.declared.counts.CountFault.{CountFault}
 use Rattle.cob_layout_places.specs.declared.varying.Table.{Table}

@@ -1,7 +1,7 @@
 -- The counts of a record's tables, and where its entries stand under them.
 use Rattle.std.specs.Prelude.{◌≡◌, ◌⊎◌, ◌&&◌, nat_lt, ℕ, ◌+◌, ◌≤◌, Bool, true, false, List, [], ◌∷◌, length, Ok}
-use Rattle.cob_copybook_tree.specs.Forests.{Tree, entries_in}
-use Rattle.cob_copybook_tree.specs.Nodes.{Resolved, alone}
+use Rattle.cob_copybook.specs.Forests.{Tree, entries_in}
+use Rattle.cob_copybook.specs.Nodes.{Resolved, alone}
 use Rattle.cob_layout.specs.declared.fields.Place.{Place}
 use Rattle.cob_layout.specs.Fields.{with_field}
 use Rattle.cob_layout_places.specs.declared.spots.Spot.{Spot}

@@ -1,12 +1,11 @@
 //! Copies of trees.
 
 ghost use Rattle.std.specs.Prelude.{◌≡◌, IfOk};
-ghost use Rattle.cob_copybook_tree.specs.Nodes.{forest, node, resolved_entry, alone};
-ghost use Rattle.cob_copybook_tree.specs.declared.node.Node.TheViews.{out-Node};
+ghost use Rattle.cob_copybook.specs.Nodes.{forest, node, resolved_entry, alone};
+ghost use Rattle.cob_copybook.specs.Node.TheViews.{out-Node};
 ghost use Rattle.cob_copybook.specs.Bytes.{TakesByte, TakeBytes};
 
-use cob_copybook_tree::{Item, Kind, Node};
-use cob_entry::{Name, Value};
+use cob_copybook::{Item, Kind, Name, Node, Value};
 use std::alloc::{AllocError, Global};
 
 /// What an entry describes, once more. It takes no memory, and so cannot fail. An item takes a byte, since its picture does.

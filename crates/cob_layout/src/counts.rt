@@ -1,10 +1,10 @@
 //! The counts of the tables of a record.
 
 ghost use Rattle.std.specs.Prelude.{◌≡◌, ◌++◌, [], ◌∷◌, IfOk};
-ghost use Rattle.cob_copybook_tree.specs.Nodes.{node, alone};
+ghost use Rattle.cob_copybook.specs.Nodes.{node, alone};
 ghost use Rattle.cob_layout.specs.Counting.{in_order, varying};
 
-use cob_copybook_tree::{Node, ResolvedOccurs};
+use cob_copybook::{Node, ResolvedOccurs};
 use std::alloc::{AllocError, Global};
 use std::marker::Model;
 

@@ -1,7 +1,7 @@
 ghost use Rattle.cob_layout.specs.Laws.{AllGiveNeeded, BeginWithArea, EndInLength, FitsRef, LieInStorage, OneOfAll, OneOfNeeded, OnePlaceByNeeds};
 
-use cob_layout_places::{needs_are_read, one_outcome, one_place, same_counts};
 use crate::sound::records_are_sound;
+use cob_layout_places::{needs_are_read, one_outcome, one_place, same_counts};
 
 /// A legal reference has at most as many subscripts as a `Ref` has room for.
 pub fn fits_ref()

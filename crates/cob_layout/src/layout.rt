@@ -1,9 +1,9 @@
 //! Layouts.
 
 ghost use Rattle.std.specs.Prelude.{◌≡◌, ◌<◌, ◌≤◌, ◌+◌, length, Ok, Err, Some, OnOk, IfNone, IfOk, IfErr, IfSome, IsFalse, IsTrue, OnErr, option_map};
-ghost use Rattle.cob_copybook_tree.specs.Nodes.{alone};
-ghost use Rattle.cob_copybook_tree.specs.Forests.{entries_in};
-ghost use Rattle.cob_copybook_tree.specs.Lengths.{greatest_number, sum_of};
+ghost use Rattle.cob_copybook.specs.Nodes.{alone};
+ghost use Rattle.cob_copybook.specs.Forests.{entries_in};
+ghost use Rattle.cob_copybook.specs.TreeLengths.{greatest_number, sum_of};
 ghost use Rattle.cob_limits.specs.Limits.{longest_record};
 ghost use Rattle.cob_copybook.specs.Books.{IsRecordDescription};
 ghost use Rattle.cob_layout_places.specs.Lengths.{times};
@@ -16,18 +16,17 @@ ghost use Rattle.cob_layout.specs.Counting.{greatest_counts, AreGreatest, Counts
 
 use crate::copy::copied;
 use crate::counts::{Counts, greatest_in_order};
+use crate::fields::Place;
 use crate::laws::{fits_ref, places_end_in_length};
+use crate::sound::records_are_sound;
 use crate::spots::new_spots;
 use crate::ways::{Way, ways};
 use arrayvec::ArrayVec;
-use cob_copybook::Book;
-use cob_copybook_tree::Node;
-use crate::fields::Place;
+use cob_copybook::{Book, Node};
 use cob_layout_places::{
     CountFault, Found, Ref, Spot, Table, covering, element_of, needs_are_read,
     places_end_in_record, refers, seek, tables, take_counts, take_needed, times_of,
 };
-use crate::sound::records_are_sound;
 use std::alloc::{AllocError, Global};
 use std::marker::Model;
 
@@ -54,9 +53,9 @@ pub struct Layout {
 
 impl Model for Layout {
     ghost use Rattle.std.specs.Prelude.{◌≡◌, [], map};
-    ghost use Rattle.cob_copybook_tree.specs.Forests.{Tree};
-    ghost use Rattle.cob_copybook_tree.specs.Nodes.{Resolved, node, alone};
-    ghost use Rattle.cob_copybook_tree.specs.Lengths.{greatest_number, sum_of};
+    ghost use Rattle.cob_copybook.specs.Forests.{Tree};
+    ghost use Rattle.cob_copybook.specs.Nodes.{Resolved, node, alone};
+    ghost use Rattle.cob_copybook.specs.TreeLengths.{greatest_number, sum_of};
     ghost use Rattle.cob_copybook.specs.Books.{IsRecordDescription};
     ghost use Rattle.cob_layout_places.specs.Lengths.{times};
     ghost use Rattle.cob_layout_places.specs.Counts.{tables_of};

@@ -57,9 +57,15 @@ mod spots;
 mod taking;
 mod ways;
 
-pub use fields::{Place, field, field_mut};
-pub use cob_layout_places::{CountFault, Ref};
+pub use cob_copybook::{
+    Book, BookFault, BookRule, Figurative, Item, Kind, Name, Node, ResolvedOccurs, Role, Sign,
+    Text, Usage, Value, ValueClause, element_length, is_number, value_of, whole_length,
+};
+pub use cob_layout_places::{
+    CountFault, Ref, is_number_item, is_table, read_number, tables, times_of,
+};
 pub use counts::Counts;
+pub use fields::{Place, field, field_mut};
 pub use laws::{
     all_give_needed, fits_ref, one_outcome_of_counts, one_place_by_needs, places_end_in_length,
     places_lie_in_storage, redefinitions_begin_with_area,

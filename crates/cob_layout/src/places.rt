@@ -1,8 +1,8 @@
 //! The places of a record: the counts of its tables, and where its entries stand under them.
 
 ghost use Rattle.std.specs.Prelude.{◌≡◌, ◌<◌, ◌≤◌, ◌+◌, ℕ, List, Ok, Err, Some, OnOk, IfOk, IfErr, IfNone, IfSome, IsFalse, IsTrue, option_map};
-ghost use Rattle.cob_copybook_tree.specs.Nodes.{alone};
-ghost use Rattle.cob_copybook_tree.specs.Lengths.{greatest_number, sum_of};
+ghost use Rattle.cob_copybook.specs.Nodes.{alone};
+ghost use Rattle.cob_copybook.specs.TreeLengths.{greatest_number, sum_of};
 ghost use Rattle.cob_layout_places.specs.Lengths.{times};
 ghost use Rattle.cob_layout_places.specs.Places.{place_of};
 ghost use Rattle.cob_layout_places.specs.Needs.{Has};
@@ -12,17 +12,17 @@ ghost use Rattle.cob_layout.specs.Placed.{placed};
 ghost use Rattle.cob_layout.specs.Counting.{greatest_counts, CountsOf, ReadsNone};
 ghost use Rattle.cob_layout.specs.Standing.{ArePlaces, IsRoomFor, KeepsCounts, SparesNone, AreSomePlaces, StandsIn};
 
+use crate::fields::Place;
 use crate::laws::places_end_in_length;
 use crate::layout::{Layout, PlaceFault, placed};
 use crate::reads::{meets_no_count, none_needed, none_spared};
+use crate::sound::records_are_sound;
 use crate::spots::{element_at, new_spots, put_all_spots, spot_at};
 use crate::taking::{copied_counts, take_all_counts};
 use crate::ways::{end_of_table, is_last_receiver, tables_at};
-use crate::fields::Place;
 use cob_layout_places::{
     CountFault, Found, Ref, Spot, needs_are_read, one_place, places_end_in_record, same_counts,
 };
-use crate::sound::records_are_sound;
 use std::alloc::{AllocError, Global};
 use std::marker::Model;
 

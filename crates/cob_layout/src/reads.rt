@@ -7,8 +7,8 @@ ghost use Rattle.cob_layout_places.specs.declared.varying.Table.{Table};
 ghost use Rattle.cob_layout.specs.Standing.{are_none, is_spared, IsApart};
 ghost use Rattle.cob_layout.specs.Ways.{spot_at};
 
-use crate::spots::spot_at;
 use crate::fields::Place;
+use crate::spots::spot_at;
 use cob_layout_places::{Spot, Table, is_needed};
 
 /// Whether the count of none of the tables is needed below this number, for the last entry of a record that receives or not.

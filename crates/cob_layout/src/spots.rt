@@ -1,14 +1,14 @@
 //! The spots of a record's entries, and elements that subscripts move from them.
 
 ghost use Rattle.std.specs.Prelude.{◌≡◌, ◌+◌, ◌-◌, ◌*◌, ◌≤◌, ◌&&◌, nat_le, length, drop, IfOk};
-ghost use Rattle.cob_copybook_tree.specs.Forests.{entries_in};
-ghost use Rattle.cob_copybook_tree.specs.Nodes.{node, alone};
+ghost use Rattle.cob_copybook.specs.Forests.{entries_in};
+ghost use Rattle.cob_copybook.specs.Nodes.{node, alone};
 ghost use Rattle.cob_limits.specs.Limits.{longest_record};
 ghost use Rattle.cob_layout_places.specs.Lengths.{times, FitsInRecord};
 ghost use Rattle.cob_layout_places.specs.Spots.{spots_of};
 ghost use Rattle.cob_layout.specs.Ways.{first_element, moved, spot_at};
 
-use cob_copybook_tree::Node;
+use cob_copybook::Node;
 use cob_layout_places::{Found, Spot, put_spots};
 use std::alloc::{AllocError, Global};
 

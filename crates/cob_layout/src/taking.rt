@@ -1,7 +1,7 @@
 //! The counts of a record, taken where they stand.
 
 ghost use Rattle.std.specs.Prelude.{◌≡◌, ◌<◌, [], length, Ok, Err, Some, OnOk, IfOk, IfErr};
-ghost use Rattle.cob_copybook_tree.specs.Nodes.{node, alone};
+ghost use Rattle.cob_copybook.specs.Nodes.{node, alone};
 ghost use Rattle.cob_layout.specs.Sound.{IsSound};
 ghost use Rattle.cob_layout_places.specs.Counts.{tables_of, AreNumberedBelow, IsCountable, IsCounted};
 ghost use Rattle.cob_layout_places.specs.Lengths.{times, FitsInRecord};
@@ -12,7 +12,7 @@ ghost use Rattle.cob_layout.specs.Standing.{first_of};
 ghost use Rattle.cob_layout.specs.Ways.{first_element};
 
 use crate::spots::spot_at;
-use cob_copybook_tree::Node;
+use cob_copybook::Node;
 use cob_layout_places::{CountFault, Found, Spot, Table, count_of, count_there, one_place};
 use std::alloc::{AllocError, Global};
 

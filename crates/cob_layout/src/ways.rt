@@ -1,15 +1,15 @@
 //! What is known of the entries of a record whatever its counts: the tables that hold them, and where those beneath them end.
 
 ghost use Rattle.std.specs.Prelude.{◌≡◌, ◌==◌, ◌&&◌, ◌+◌, ◌++◌, ◌≤◌, [], length, map, IfOk};
-ghost use Rattle.cob_copybook_tree.specs.Forests.{entries_in};
-ghost use Rattle.cob_copybook_tree.specs.Nodes.{node, alone};
+ghost use Rattle.cob_copybook.specs.Forests.{entries_in};
+ghost use Rattle.cob_copybook.specs.Nodes.{node, alone};
 ghost use Rattle.cob_layout_places.specs.Cover.{AreNumbered};
 ghost use Rattle.cob_layout.specs.Sound.{own_dimension, AreNested};
 ghost use Rattle.cob_limits.specs.Limits.{most_dimensions};
 ghost use Rattle.cob_layout.specs.Ways.{end_of_table, held, held_at, held_in, own_table};
 
 use arrayvec::ArrayVec;
-use cob_copybook_tree::Node;
+use cob_copybook::Node;
 use cob_layout_places::is_table;
 use cob_limits::MAX_SUBSCRIPTS;
 use std::alloc::{AllocError, Global};

@@ -34,6 +34,7 @@ mod reference;
 mod spots;
 mod varying;
 
+pub use cob_item::{is_number_item, read_number};
 pub use counts::{CountFault, count_of, count_there, take_counts};
 pub use laws::{
     covering, needs_are_read, one_outcome, one_place, places_end_in_record, same_counts,

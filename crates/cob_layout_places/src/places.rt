@@ -6,8 +6,7 @@ ghost use Rattle.cob_limits.specs.Limits.{longest_record};
 ghost use Rattle.cob_layout_places.specs.Places.{also, begins, place_in_entry, is_table, is_there, later, skipped};
 
 use crate::lengths::{element_of, times_of};
-use cob_copybook_tree::{Kind, Node, ResolvedOccurs};
-use cob_entry::Name;
+use cob_copybook_tree::{Kind, Name, Node, ResolvedOccurs};
 
 /// Where an element stands, in bytes from the start of the record, and whether it is one of those that are there.
 #[derive(Clone, Copy, Debug, PartialEq, Eq)]

@@ -1,15 +1,12 @@
 //! The records of rows, and references to their entries.
 
 ghost use Rattle.std.specs.Prelude.{IfOk};
-ghost use Rattle.cob_copybook_tree.specs.Nodes.{alone};
-ghost use Rattle.cob_layout_places.specs.References.{Refers};
+ghost use Rattle.cob_move.specs.Nodes.{alone};
+ghost use Rattle.cob_move.specs.References.{Refers};
 
 use arrayvec::ArrayVec;
-use cob_copybook::{Book, Role};
-use cob_copybook_tree::Node;
-use cob_entry::BookRule;
-use cob_layout::{Layout, Ref};
 use cob_limits::MAX_SUBSCRIPTS;
+use cob_move::{Book, BookRule, Layout, Node, Ref, Role};
 use cob_rows::{Row, RowFault};
 use std::alloc::Global;
 

@@ -1,11 +1,11 @@
 //! How the counts are taken under which a row asks.
 
 ghost use Rattle.std.specs.Prelude.{◌≡◌, length};
-ghost use Rattle.cob_copybook_tree.specs.Nodes.{alone};
-ghost use Rattle.cob_copybook_tree.specs.Forests.{entries_in};
-ghost use Rattle.cob_layout_places.specs.References.{Refers};
+ghost use Rattle.cob_move.specs.Nodes.{alone};
+ghost use Rattle.cob_move.specs.Forests.{entries_in};
+ghost use Rattle.cob_move.specs.References.{Refers};
 
-use cob_layout::{CountFault, Counts, Layout, Ref};
+use cob_move::{CountFault, Counts, Layout, Ref};
 use cob_rows::{RowFault, bytes_of};
 use std::alloc::Global;
 

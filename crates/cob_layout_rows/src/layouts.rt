@@ -1,11 +1,11 @@
 //! Lengths and places under counts.
 
-ghost use Rattle.cob_layout_places.specs.References.{Refers};
-ghost use Rattle.cob_copybook_tree.specs.Nodes.{alone};
+ghost use Rattle.cob_move.specs.References.{Refers};
+ghost use Rattle.cob_move.specs.Nodes.{alone};
 
 use crate::books::{book_of, reference_of};
 use crate::counted::{Counted, counted_of, take};
-use cob_layout::{CountFault, Counts, Layout, PlaceFault, Ref, field};
+use cob_move::{CountFault, Counts, Layout, PlaceFault, Ref, field};
 use cob_rows::{Row, RowFault, push_digits};
 use std::alloc::{AllocError, Global};
 use std::fmt::Write;

@@ -1,11 +1,8 @@
 //! What records hold before the first move.
 
 use crate::books::book_of;
-use cob_entry::{Figurative, Text, Value};
-use cob_layout::Layout;
 use cob_limits::MAX_LITERAL;
-use cob_move::initial;
-use cob_move_initial::write_group;
+use cob_move::{Figurative, Layout, Text, Value, initial, write_group};
 use cob_rows::{Row, RowFault, push_digits};
 use std::alloc::Global;
 

@@ -1,7 +1,7 @@
 //! The tables of a record, and how often entries occur.
 
 use crate::books::{book_of, entry_named};
-use cob_layout_places::{tables, times_of};
+use cob_move::{tables, times_of};
 use cob_rows::{Row, RowFault};
 use std::alloc::Global;
 use std::fmt::Write;

@@ -3,13 +3,13 @@ use Rattle.std.proofs.Common.{◌≡◌, ℕ, ◌+◌, ◌<◌, Bool, true, fals
 use Rattle.std.specs.Prelude.{◌||◌}
 use Rattle.std.specs.List.{AllByRecursion}
 use Rattle.std.proofs.lemmas.List.{map-append}
-use Rattle.cob_copybook_tree.specs.Forests.{Forest}
-use Rattle.cob_copybook_tree.specs.Nodes.{Resolved}
-use Rattle.cob_move_operands.specs.declared.Side.{Side}
-use Rattle.cob_move_operands.specs.declared.Side.TheVariants.{Out}
-use Rattle.cob_move_operands.specs.declared.Operand.{Operand}
-use Rattle.cob_move_operands.specs.declared.Move as code_move
-use Rattle.cob_move_operands.specs.Moves.{Move, move, moves}
+use Rattle.cob_move_apply.specs.Forests.{Forest}
+use Rattle.cob_move_apply.specs.Nodes.{Resolved}
+use Rattle.cob_move_apply.specs.Side.{Side}
+use Rattle.cob_move_apply.specs.Side.TheVariants.{Out}
+use Rattle.cob_move_apply.specs.Operand.{Operand}
+use Rattle.cob_move_apply.specs.Move as code_move
+use Rattle.cob_move_apply.specs.Moves.{Move, move, moves}
 use Rattle.cob_move_statements.specs.declared.fault.MoveRule.{MoveRule}
 use Rattle.cob_move_statements.specs.declared.fault.MoveRule.TheVariants as rule
 use Rattle.cob_move_statements.specs.Written.{WrittenReference, MoveCorresponding}

@@ -1,10 +1,10 @@
 -- Statements, one after another.
 use Rattle.std.proofs.Common.{◌≡◌, ℕ, ◌+◌, ◌<◌, ◌≤◌, List, [], ◌++◌, length, get_or, drop, refl, sym, ap, subst, ◌∙◌, append_assoc, append-nil}
 use Rattle.std.proofs.lemmas.List.{drop_all, map-append}
-use Rattle.cob_copybook_tree.specs.Forests.{Forest}
-use Rattle.cob_copybook_tree.specs.Nodes.{Resolved}
-use Rattle.cob_move_operands.specs.declared.Move as code_move
-use Rattle.cob_move_operands.specs.Moves.{Move, move, moves}
+use Rattle.cob_move_apply.specs.Forests.{Forest}
+use Rattle.cob_move_apply.specs.Nodes.{Resolved}
+use Rattle.cob_move_apply.specs.Move as code_move
+use Rattle.cob_move_apply.specs.Moves.{Move, move, moves}
 use Rattle.cob_move_statements.specs.declared.parts.Statement.{Statement}
 use Rattle.cob_move_statements.specs.Written.{written_statement, written_statements}
 use Rattle.cob_move_references.specs.Candidates.{Candidate}

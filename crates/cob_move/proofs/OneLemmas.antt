@@ -1,11 +1,11 @@
 -- A statement has one meaning at most.
 use Rattle.std.proofs.Common.{◌≡◌, List, [], ◌∷◌, ◌++◌, map, sym, ap, ◌∙◌}
-use Rattle.cob_entry.specs.Described.{PlainValue}
-use Rattle.cob_copybook_entries.proofs.OneList.{one_constant}
-use Rattle.cob_move_operands.specs.declared.Side.{Side}
-use Rattle.cob_move_operands.specs.declared.Side.TheVariants.{Out}
-use Rattle.cob_move_operands.specs.declared.Operand.{Operand}
-use Rattle.cob_move_operands.specs.Moves.{Sender, Entry, Literal, Move}
+use Rattle.cob_move_apply.specs.Described.{PlainValue}
+use Rattle.cob_move_apply.proofs.OneList.{one_constant}
+use Rattle.cob_move_apply.specs.Side.{Side}
+use Rattle.cob_move_apply.specs.Side.TheVariants.{Out}
+use Rattle.cob_move_apply.specs.Operand.{Operand}
+use Rattle.cob_move_apply.specs.Moves.{Sender, Entry, Literal, Move}
 use Rattle.cob_move_statements.specs.Written.{WrittenReference, WrittenSender, SentReference, SentConstant, MoveTo, MoveCorresponding}
 use Rattle.cob_move_references.specs.Candidates.{Candidate}
 use Rattle.cob_move_references.specs.Laws.{OneNamed}

@@ -2,8 +2,8 @@
 
 ghost use Rattle.std.specs.Prelude.{◌≡◌, ◌⊎◌, ◌≤◌, ◌||◌, List, [], ◌∷◌, length, map, IfErr, IfOk};
 ghost use Rattle.std.specs.List.{AllByRecursion};
-ghost use Rattle.cob_copybook_tree.specs.Forests.{Forest};
-ghost use Rattle.cob_copybook_tree.specs.Nodes.{Resolved};
+ghost use Rattle.cob_move_apply.specs.Forests.{Forest};
+ghost use Rattle.cob_move_apply.specs.Nodes.{Resolved};
 ghost use Rattle.cob_limits.specs.Limits.{most_dimensions};
 ghost use Rattle.cob_move.specs.Meaning.{
   AreGroupsOf,
@@ -14,7 +14,7 @@ ghost use Rattle.cob_move.specs.Meaning.{
   pairs_of,
 };
 ghost use Rattle.cob_move.specs.Refusals.{BreaksPair, BreaksStatement, SomeOf};
-ghost use Rattle.cob_move_operands.specs.Moves.{move, moves};
+ghost use Rattle.cob_move_apply.specs.Moves.{move, moves};
 ghost use Rattle.cob_move_pairs.specs.Groups.{entries_below, operand_below};
 ghost use Rattle.cob_move_pairs.specs.Listed.{subordinates_listed, pair, pairs, subordinate};
 ghost use Rattle.cob_move_pairs.specs.Pairing.{IsTwice};
@@ -24,10 +24,8 @@ ghost use Rattle.cob_move_statements.specs.Written.{MoveCorresponding, written_r
 
 use crate::single::judge;
 use arrayvec::ArrayVec;
-use cob_copybook::Book;
-use cob_layout_places::Ref;
 use cob_limits::MAX_SUBSCRIPTS;
-use cob_move_operands::{Move, Operand, Sender, Side};
+use cob_move_apply::{Book, Move, Operand, Ref, Sender, Side};
 use cob_move_pairs::{
     Pair, Subordinate, entries_below, is_elementary, pairs_between, subordinates,
 };

@@ -51,11 +51,16 @@ mod paragraph;
 mod senders;
 mod single;
 
-pub use cob_move_apply::{Scratch, Stop, StopCause};
+pub use cob_move_apply::{
+    Book, BookFault, BookRule, CountFault, Counts, Figurative, Layout, Node, Place, PlaceFault,
+    Ref, Role, Scratch, Stop, StopCause, Text, Value, field, field_mut, tables, times_of,
+};
+pub use cob_move_initial::{initial, one_initial, write_group};
 pub use cob_move_pairs::pairs;
 pub use cob_move_statements::{MoveFault, MoveRule};
 pub use laws::{one_paragraph, paragraph_breaks_no_rule};
-pub use paragraph::{Paragraph, apply};
-pub use cob_move_initial::{initial, one_initial};
 pub use meaning::{all_meant, meaning_of};
-pub use meaning_laws::{meanings_break_no_rule, meant_are_moves, meant_break_no_rule, one_meaning, one_meant};
+pub use meaning_laws::{
+    meanings_break_no_rule, meant_are_moves, meant_break_no_rule, one_meaning, one_meant,
+};
+pub use paragraph::{Paragraph, apply};

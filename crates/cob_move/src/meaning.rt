@@ -1,8 +1,8 @@
 //! What statements mean.
 
 ghost use Rattle.std.specs.Prelude.{◌≡◌, List, [], ◌∷◌, IfErr, IfOk};
-ghost use Rattle.cob_copybook_tree.specs.Forests.{Forest};
-ghost use Rattle.cob_copybook_tree.specs.Nodes.{Resolved};
+ghost use Rattle.cob_move_apply.specs.Forests.{Forest};
+ghost use Rattle.cob_move_apply.specs.Nodes.{Resolved};
 ghost use Rattle.cob_move.specs.Meaning.{AreMeanings, AreMeant, IsMeaning};
 ghost use Rattle.cob_move.specs.Refusals.{
   AreBroken,
@@ -11,7 +11,7 @@ ghost use Rattle.cob_move.specs.Refusals.{
   SomeBroken,
   fault_on,
 };
-ghost use Rattle.cob_move_operands.specs.Moves.{Move as Meant, moves};
+ghost use Rattle.cob_move_apply.specs.Moves.{Move as Meant, moves};
 ghost use Rattle.cob_move_references.specs.Directory.{entries_named};
 ghost use Rattle.cob_move_statements.specs.Written.{
   MoveTo,
@@ -25,8 +25,7 @@ ghost use Rattle.cob_move_statements.specs.Written.{
 use crate::corresponding::moves_of;
 use crate::laws::{meanings_break_no_rule, meant_break_no_rule, one_meaning, one_meant};
 use crate::single::move_of;
-use cob_copybook::Book;
-use cob_move_operands::Move;
+use cob_move_apply::{Book, Move};
 use cob_move_references::Names;
 use cob_move_statements::{Action, MoveFault, MoveRule, Reference, Statement, StatementSender};
 use std::alloc::Global;

@@ -1,23 +1,20 @@
 //! Paragraphs.
 
 ghost use Rattle.std.specs.Prelude.{◌≡◌, length, map, min, IfErr, IfOk, List};
-ghost use Rattle.cob_copybook_tree.specs.Nodes.{alone};
-ghost use Rattle.cob_copybook.specs.Books.{IsRecordDescription};
-ghost use Rattle.cob_layout.specs.Storage.{IsStorage, greatest_length};
+ghost use Rattle.cob_move_apply.specs.Nodes.{alone};
+ghost use Rattle.cob_move_apply.specs.Books.{IsRecordDescription};
+ghost use Rattle.cob_move_apply.specs.Storage.{IsStorage, greatest_length};
 ghost use Rattle.cob_move_apply.specs.Applied.{Applied, ending};
 ghost use Rattle.cob_move_apply.specs.Prepared.{ArePrepared, moves_of, single_moves};
 ghost use Rattle.cob_move_apply.specs.Room.{room_of};
-ghost use Rattle.cob_move_operands.specs.Moves.{AreMoves, Move as Meant, Records, moves};
+ghost use Rattle.cob_move_apply.specs.Moves.{AreMoves, Move as Meant, Records, moves};
 ghost use Rattle.cob_move_statements.specs.declared.fault.MoveRule.TheVariants.{Memory};
 ghost use Rattle.cob_move.specs.Paragraphs.{IsParagraphOf, IsReadyFor, IsRefusalOf, moves_in};
 
 use crate::laws::{one_paragraph, paragraph_breaks_no_rule};
-use cob_copybook::Book;
-use cob_layout::Layout;
-use cob_move_apply::{Moves, Scratch, Stop};
 use crate::meaning::all_meant;
 use crate::meaning_laws::meant_are_moves;
-use cob_move_operands::Move;
+use cob_move_apply::{Book, Layout, Move, Moves, Scratch, Stop};
 use cob_move_statements::{MoveFault, statements};
 use cob_source::paragraph_tokens;
 use std::alloc::{AllocError, Global};

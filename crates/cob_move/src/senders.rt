@@ -1,20 +1,17 @@
 //! What a sender means.
 
 ghost use Rattle.std.specs.Prelude.{◌≡◌, List, IfErr, IfOk};
-ghost use Rattle.cob_copybook_clauses.specs.Written.{written_value};
-ghost use Rattle.cob_entry.specs.Described.{plain_value};
-ghost use Rattle.cob_copybook_entries.specs.Meaning.{IsConstantOf};
+ghost use Rattle.cob_move_apply.specs.Written.{written_value};
+ghost use Rattle.cob_move_apply.specs.Described.{plain_value};
+ghost use Rattle.cob_move_apply.specs.Meaning.{IsConstantOf};
 ghost use Rattle.cob_move.specs.Meaning.{IsSenderOf};
 ghost use Rattle.cob_move.specs.Refusals.{BreaksSender};
-ghost use Rattle.cob_move_operands.specs.Moves.{sender};
+ghost use Rattle.cob_move_apply.specs.Moves.{sender};
 ghost use Rattle.cob_move_references.specs.Candidates.{Candidate};
 ghost use Rattle.cob_move_references.specs.Directory.{entries_named};
 ghost use Rattle.cob_move_statements.specs.Written.{SentConstant, SentReference, written_reference, written_sender};
 
-use cob_copybook_clauses::ValueClause;
-use cob_copybook_entries::value_of;
-use cob_entry::{BookRule, Value};
-use cob_move_operands::Sender;
+use cob_move_apply::{BookRule, Sender, Value, ValueClause, value_of};
 use cob_move_references::Names;
 use cob_move_statements::{MoveRule, Reference, StatementSender};
 

@@ -2,14 +2,14 @@
 
 ghost use Rattle.std.specs.Prelude.{◌≡◌, ◌⊎◌, List, [], ◌∷◌, IfErr, IfNone, IfOk, IfSome, OnOk};
 ghost use Rattle.std.specs.List.{AllByRecursion};
-ghost use Rattle.cob_copybook_tree.specs.Forests.{Forest};
-ghost use Rattle.cob_copybook_tree.specs.Nodes.{Resolved};
+ghost use Rattle.cob_move_apply.specs.Forests.{Forest};
+ghost use Rattle.cob_move_apply.specs.Nodes.{Resolved};
 ghost use Rattle.cob_move.specs.Meaning.{AreReceiversOf, IsMoveOf, kind_of_sender};
 ghost use Rattle.cob_move.specs.Refusals.{BreaksMove, BreaksReceipt, BreaksStatement, SomeOf};
-ghost use Rattle.cob_move_operands.specs.declared.Side.TheVariants.{Out};
-ghost use Rattle.cob_move_operands.specs.Moves.{move, sender};
-ghost use Rattle.cob_move_receive.specs.Refusals.{IsAllowed};
-ghost use Rattle.cob_move_receive.specs.Table.{sender_kind};
+ghost use Rattle.cob_move_apply.specs.Side.TheVariants.{Out};
+ghost use Rattle.cob_move_apply.specs.Moves.{move, sender};
+ghost use Rattle.cob_move_initial.specs.Refusals.{IsAllowed};
+ghost use Rattle.cob_move_initial.specs.Table.{sender_kind};
 ghost use Rattle.cob_move_references.specs.Directory.{entries_named};
 ghost use Rattle.cob_move_references.specs.References.{NamesOperand};
 ghost use Rattle.cob_move_statements.specs.Written.{
@@ -20,9 +20,8 @@ ghost use Rattle.cob_move_statements.specs.Written.{
 };
 
 use crate::senders::sender_of;
-use cob_copybook_tree::Kind;
-use cob_move_operands::{Move, Operand, Sender};
-use cob_move_receive::{Refusal, SenderKind, refusal_of};
+use cob_move_apply::{Kind, Move, Operand, Sender};
+use cob_move_initial::{Refusal, SenderKind, refusal_of};
 use cob_move_references::Names;
 use cob_move_statements::{MoveRule, Reference, StatementSender};
 use std::alloc::Global;

@@ -1,13 +1,13 @@
 -- Moves end in one way.
 use Rattle.std.proofs.Common.{◌≡◌, ℕ, Bool, true, false, List, [], ◌∷◌, sym, ap, subst, ◌∙◌, inl, inr, Ok, Err, Some, None, Result}
 use Rattle.std.specs.Prelude.{option_map}
-use Rattle.cob_copybook_tree.specs.Forests.{Tree}
-use Rattle.cob_copybook_tree.specs.Nodes.{Resolved, alone}
+use Rattle.cob_layout.specs.Forests.{Tree}
+use Rattle.cob_layout.specs.Nodes.{Resolved, alone}
 use Rattle.cob_layout.specs.declared.fields.Place.{Place}
 use Rattle.cob_layout.specs.Fields.{with_field}
-use Rattle.cob_layout_places.specs.declared.counts.CountFault.{CountFault}
-use Rattle.cob_layout_places.specs.Lengths.{times}
-use Rattle.cob_layout_places.specs.Places.{place_of}
+use Rattle.cob_layout.specs.CountFault.{CountFault}
+use Rattle.cob_layout.specs.PlaceLengths.{times}
+use Rattle.cob_layout.specs.Places.{place_of}
 use Rattle.cob_layout.specs.declared.layout.PlaceFault.{PlaceFault}
 use Rattle.cob_layout.specs.Counting.{NeededOf}
 use Rattle.cob_layout.specs.Laws.{OneOfNeeded}

@@ -1,21 +1,21 @@
 -- Where operands stand.
 use Rattle.std.proofs.Common.{◌≡◌, ℕ, ◌+◌, ◌≤◌, [], ◌==◌, Bool, true, false, List, refl, sym, ap, subst, ◌∙◌, Option, Some, None, inr, Ok, Err, Result}
 use Rattle.std.specs.Prelude.{option_map}
-use Rattle.cob_copybook_tree.specs.declared.node.Item.{Item}
-use Rattle.cob_copybook_tree.specs.declared.node.Kind.{Kind}
-use Rattle.cob_copybook_tree.specs.declared.node.Kind.TheVariants.{Group, Item as ItemKind}
-use Rattle.cob_copybook_tree.specs.Forests.{Forest, NoEntries, AnEntry, Tree}
-use Rattle.cob_copybook_tree.specs.Nodes.{Resolved, alone}
-use Rattle.cob_copybook_tree.specs.Lengths.{item_size}
+use Rattle.cob_layout.specs.Item.{Item}
+use Rattle.cob_layout.specs.Kind.{Kind}
+use Rattle.cob_layout.specs.Kind.TheVariants.{Group, Item as ItemKind}
+use Rattle.cob_layout.specs.Forests.{Forest, NoEntries, AnEntry, Tree}
+use Rattle.cob_layout.specs.Nodes.{Resolved, alone}
+use Rattle.cob_layout.specs.TreeLengths.{item_size}
 use Rattle.cob_layout.specs.declared.fields.Place.{Place}
-use Rattle.cob_layout_places.specs.Lengths.{times}
-use Rattle.cob_layout_places.specs.Places.{place_of, place_in_entry, or_else, choose}
-use Rattle.cob_layout_places.specs.Counts.{kind_in, kind_one}
-use Rattle.cob_layout_places.proofs.CountLemmas.{found_size, pairs_one}
+use Rattle.cob_layout.specs.PlaceLengths.{times}
+use Rattle.cob_layout.specs.Places.{place_of, place_in_entry, or_else, choose}
+use Rattle.cob_layout.specs.Counts.{kind_in, kind_one}
+use Rattle.cob_layout.proofs.CountLemmas.{found_size, pairs_one}
 use Rattle.cob_layout.specs.Placed.{placed}
 use Rattle.cob_layout.proofs.ReferenceLemmas.{find_alone}
 use Rattle.cob_layout.proofs.StorageLemmas.{found_by}
-use Rattle.cob_copybook.specs.Books.{IsRecordDescription}
+use Rattle.cob_layout.specs.Books.{IsRecordDescription}
 use Rattle.cob_layout.specs.declared.layout.PlaceFault.{PlaceFault}
 use Rattle.cob_layout.specs.Counting.{greatest_counts, NeededOf, ReadsNone}
 use Rattle.cob_layout.specs.Laws.{AllGiveNeeded}

@@ -1,7 +1,7 @@
 -- What moves make of the output record's storage, one after another, and where they stop.
 use Rattle.std.specs.Prelude.{◌≡◌, ◌⊎◌, ℕ, List, [], ◌∷◌, Option, Some, None, true, false, Ok, Err, Result}
-use Rattle.cob_copybook_tree.specs.Forests.{Tree}
-use Rattle.cob_copybook_tree.specs.Nodes.{Resolved}
+use Rattle.cob_layout.specs.Forests.{Tree}
+use Rattle.cob_layout.specs.Nodes.{Resolved}
 use Rattle.cob_layout.specs.declared.fields.Place.{Place}
 use Rattle.cob_layout.specs.Fields.{field_of, with_field}
 use Rattle.cob_move_operands.specs.declared.Side.{Side}

@@ -1,11 +1,11 @@
 -- Where an operand stands in a storage, or why it doesn't.
 use Rattle.std.specs.Prelude.{◌≡◌, ◌⊎◌, ℕ, Bool, List, Some, Ok, Err, Result, option_map}
-use Rattle.cob_copybook_tree.specs.Forests.{Tree}
-use Rattle.cob_copybook_tree.specs.Nodes.{Resolved, alone}
+use Rattle.cob_layout.specs.Forests.{Tree}
+use Rattle.cob_layout.specs.Nodes.{Resolved, alone}
 use Rattle.cob_layout.specs.declared.fields.Place.{Place}
-use Rattle.cob_layout_places.specs.declared.counts.CountFault.{CountFault}
-use Rattle.cob_layout_places.specs.Lengths.{times}
-use Rattle.cob_layout_places.specs.Places.{place_of}
+use Rattle.cob_layout.specs.CountFault.{CountFault}
+use Rattle.cob_layout.specs.PlaceLengths.{times}
+use Rattle.cob_layout.specs.Places.{place_of}
 use Rattle.cob_layout.specs.declared.layout.PlaceFault.{PlaceFault}
 use Rattle.cob_layout.specs.Placed.{placed}
 use Rattle.cob_layout.specs.Counting.{NeededOf}

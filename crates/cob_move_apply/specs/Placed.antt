@@ -1,9 +1,9 @@
 -- Moves with the places of their operands, or what these rest on.
 use Rattle.std.specs.Prelude.{ℕ, ◌+◌, ◌≤◌, Bool, true, false, List, map, Ok}
 use Rattle.std.specs.List.{AllByRecursion}
-use Rattle.cob_entry.specs.Described.{plain_value}
-use Rattle.cob_copybook_tree.specs.Forests.{Tree}
-use Rattle.cob_copybook_tree.specs.Nodes.{Resolved}
+use Rattle.cob_layout.specs.Described.{plain_value}
+use Rattle.cob_layout.specs.Forests.{Tree}
+use Rattle.cob_layout.specs.Nodes.{Resolved}
 use Rattle.cob_layout.specs.declared.fields.Place.{Place}
 use Rattle.cob_layout.specs.Standing.{SparesNone}
 use Rattle.cob_layout.specs.Storage.{greatest_length}

@@ -1,7 +1,7 @@
 -- The room that moves are carried out in.
 use Rattle.std.specs.Prelude.{ℕ}
-use Rattle.cob_copybook_tree.specs.Nodes.{alone}
-use Rattle.cob_copybook_tree.specs.Forests.{entries_in}
+use Rattle.cob_layout.specs.Nodes.{alone}
+use Rattle.cob_layout.specs.Forests.{entries_in}
 use Rattle.cob_layout.specs.Storage.{greatest_length}
 use Rattle.cob_move_operands.specs.Moves.{Records}
 

@@ -1,7 +1,7 @@
 -- What is known of both records' storages while moves go on.
 use Rattle.std.specs.Prelude.{◌≡◌, ℕ, List, length}
-use Rattle.cob_copybook_tree.specs.Forests.{Tree, entries_in}
-use Rattle.cob_copybook_tree.specs.Nodes.{Resolved, alone}
+use Rattle.cob_layout.specs.Forests.{Tree, entries_in}
+use Rattle.cob_layout.specs.Nodes.{Resolved, alone}
 use Rattle.cob_layout.specs.Standing.{IsRoomFor, Standing, StandsIn, room_in}
 use Rattle.cob_layout.specs.Storage.{greatest_length}
 use Rattle.cob_move_operands.specs.Moves.{Records}

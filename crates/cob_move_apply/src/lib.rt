@@ -31,6 +31,13 @@ mod stop;
 mod survey;
 mod workspace;
 
+pub use cob_layout::{
+    Book, BookFault, BookRule, CountFault, Counts, Figurative, Item, Kind, Layout, Name, Node,
+    Place, PlaceFault, Ref, ResolvedOccurs, Role, Sign, Text, Usage, Value, ValueClause, field,
+    field_mut, is_number_item, is_table, one_outcome_of_counts, read_number, records_are_sound,
+    tables, times_of, value_of,
+};
+pub use cob_move_operands::{Move, Operand, Sender, Side};
 pub use laws::one_ending;
 pub use moves::Moves;
 pub use scratch::Scratch;

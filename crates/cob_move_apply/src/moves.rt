@@ -12,9 +12,8 @@ use crate::scratch::Scratch;
 use crate::step::Step;
 use crate::stop::Stop;
 use crate::workspace::Layouts;
-use cob_layout::Layout;
+use cob_layout::{Layout, records_are_sound};
 use cob_move_operands::Move;
-use cob_layout::records_are_sound;
 use std::alloc::{AllocError, Global};
 
 /// A number, or the greatest u32 where it is more.

@@ -1,8 +1,8 @@
 //! Where operands stand.
 
 ghost use Rattle.std.specs.Prelude.{◌≡◌, ◌+◌, ◌≤◌, length, IfOk, IfErr, OnOk, Ok, Err};
-ghost use Rattle.cob_copybook_tree.specs.Nodes.{alone};
-ghost use Rattle.cob_copybook_tree.specs.Forests.{entries_in};
+ghost use Rattle.cob_layout.specs.Nodes.{alone};
+ghost use Rattle.cob_layout.specs.Forests.{entries_in};
 ghost use Rattle.cob_layout.specs.Sound.{IsSound};
 ghost use Rattle.cob_layout.specs.Storage.{greatest_length};
 ghost use Rattle.cob_layout.specs.Standing.{SparesNone, StandsIn};

@@ -1,7 +1,6 @@
 //! Moves with what the places of their operands rest on.
 
-use cob_entry::Value;
-use cob_layout::Place;
+use cob_layout::{Place, Value};
 use cob_move_operands::{Operand, Side};
 
 /// What the place of an operand rests on.

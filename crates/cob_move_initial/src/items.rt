@@ -2,19 +2,18 @@
 
 ghost use Rattle.std.specs.Prelude.{◌≡◌, length, option_map, true, IfSome, Some};
 ghost use Rattle.cob_picture.specs.Positions.{shows_number};
-ghost use Rattle.cob_entry.specs.Described.{plain_value};
-ghost use Rattle.cob_copybook_tree.specs.Lengths.{item_size};
-ghost use Rattle.cob_copybook_tree.specs.declared.node.Kind.TheVariants.{Item as ItemKind};
-ghost use Rattle.cob_copybook_lengths.specs.Values.{IsItemValue, IsNumericValue};
-ghost use Rattle.cob_copybook_tree.specs.Resolving.{is_number};
-ghost use Rattle.cob_item.specs.Items.{IsStorable};
+ghost use Rattle.cob_layout.specs.Described.{plain_value};
+ghost use Rattle.cob_layout.specs.TreeLengths.{item_size};
+ghost use Rattle.cob_layout.specs.Kind.TheVariants.{Item as ItemKind};
+ghost use Rattle.cob_layout.specs.Values.{IsItemValue, IsNumericValue};
+ghost use Rattle.cob_layout.specs.Resolving.{is_number};
+ghost use Rattle.cob_layout.specs.Items.{IsStorable};
 ghost use Rattle.cob_move_receive.specs.Sent.{Amount, Literal};
 ghost use Rattle.cob_move_receive.specs.Numbers.{ConstantGives};
 ghost use Rattle.cob_move_receive.specs.Received.{Received};
 ghost use Rattle.cob_move_initial.specs.Values.{figurative_for, HoldsGroup, HoldsItem};
 
-use cob_copybook_tree::{Item, is_number};
-use cob_entry::{Figurative, Value};
+use cob_layout::{Figurative, Item, Value, is_number};
 use cob_move_receive::{Sent, receive_in_group, receive_in_item};
 
 /// Moves a constant to an item: a number to one that shows numbers.

@@ -16,6 +16,7 @@ mod items;
 mod laws;
 mod storage;
 
+pub use cob_move_receive::{Refusal, SenderKind, refusal_of};
 pub use items::{write_group, write_item};
 pub use laws::{one_group, one_initial, one_item};
 pub use storage::initial;

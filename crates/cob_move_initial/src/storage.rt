@@ -1,19 +1,16 @@
 //! The storage of a record before the first move.
 
 ghost use Rattle.std.specs.Prelude.{◌≡◌, ℕ, ◌*◌, ◌<◌, length, take, None};
-ghost use Rattle.cob_copybook_tree.specs.Nodes.{node, forest, alone};
-ghost use Rattle.cob_copybook_tree.specs.Lengths.{greatest_number, sum_of, element_length, whole_length};
+ghost use Rattle.cob_layout.specs.Nodes.{node, forest, alone};
+ghost use Rattle.cob_layout.specs.TreeLengths.{greatest_number, sum_of, element_length, whole_length};
 ghost use Rattle.cob_move_receive.specs.Characters.{repeated};
 ghost use Rattle.cob_move_initial.specs.Initial.{HoldsElement, IsInitial};
 ghost use Rattle.cob_move_initial.specs.Begun.{AreElements, IsBegun};
 ghost use Rattle.cob_move_initial.specs.AtPlaces.{HoldAtPlaces};
 ghost use Rattle.cob_move_initial.specs.Ready.{HaveInitialStorage, HasInitialStorage};
 
-use cob_copybook::Book;
-use cob_copybook_tree::{Kind, Node, element_length, whole_length};
-use cob_layout::Layout;
 use crate::items::{write_group, write_item};
-use cob_layout::records_are_sound;
+use cob_layout::{Book, Kind, Layout, Node, element_length, records_are_sound, whole_length};
 
 /// Copies the first bytes, `size` of them, behind themselves, until they stand there so many times.
 fn repeat(bytes: &mut [u8], size: usize, times: usize)

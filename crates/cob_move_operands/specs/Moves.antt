@@ -1,7 +1,7 @@
 -- Moves between two records.
 use Rattle.std.specs.Prelude.{◌≡◌, ℕ, List, map, Some}
 use Rattle.std.specs.List.{AllByRecursion}
-use Rattle.cob_entry.specs.Described.{PlainValue, plain_value}
+use Rattle.cob_copybook_tree.specs.Described.{PlainValue, plain_value}
 use Rattle.cob_copybook_tree.specs.Forests.{Tree}
 use Rattle.cob_copybook_tree.specs.Nodes.{Resolved, alone}
 use Rattle.cob_layout_places.specs.Counts.{kind_one}

@@ -16,7 +16,7 @@ ghost use Rattle.std.specs.Prelude.{
   IfErr,
   OnOk,
 };
-ghost use Rattle.cob_copybook_tree.specs.Nodes.{forest, node};
+ghost use Rattle.cob_move_operands.specs.Nodes.{forest, node};
 ghost use Rattle.cob_move_pairs.specs.Listed.{subordinates_listed, pair, pairs, subordinate};
 ghost use Rattle.cob_move_pairs.specs.Pairing.{
   IsPairing,
@@ -36,7 +36,7 @@ ghost use Rattle.cob_move_pairs.specs.Pairs.{
 
 use crate::partners::Partners;
 use crate::subordinate::{Subordinate, is_elementary, list_entries};
-use cob_copybook_tree::Node;
+use cob_move_operands::Node;
 use cob_move_statements::{MoveFault, MoveRule};
 use std::alloc::Global;
 

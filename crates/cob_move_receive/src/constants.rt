@@ -2,7 +2,7 @@
 
 ghost use Rattle.std.specs.Prelude.{◌≡◌, ◌≤◌, ℕ, List, length, IsTrue};
 ghost use Rattle.cob_limits.specs.Limits.{longest_literal};
-ghost use Rattle.cob_entry.specs.Described.{Repeated, plain_value};
+ghost use Rattle.cob_copybook_tree.specs.Described.{Repeated, plain_value};
 ghost use Rattle.cob_copybook_tree.specs.Lengths.{item_size};
 ghost use Rattle.cob_item.specs.Items.{IsStorable};
 ghost use Rattle.cob_move_receive.specs.Characters.{
@@ -19,9 +19,8 @@ ghost use Rattle.cob_move_receive.specs.Characters.{
 
 use crate::characters::{SPACE, put, put_left};
 use crate::numerals::numerals;
-use cob_copybook_tree::Item;
+use cob_copybook_tree::{Figurative, Item, Value};
 use cob_cp037::encode_char;
-use cob_entry::{Figurative, Value};
 use cob_limits::{MAX_EDITED_SIZE, MAX_LITERAL};
 use cob_picture::Category;
 

@@ -2,7 +2,7 @@
 
 ghost use Rattle.std.specs.Prelude.{◌≡◌, true, IfNone, IfSome};
 ghost use Rattle.std.specs.List.{list_all};
-ghost use Rattle.cob_entry.specs.Described.{plain_value};
+ghost use Rattle.cob_copybook_tree.specs.Described.{plain_value};
 ghost use Rattle.cob_move_receive.specs.Table.{sender_kind};
 ghost use Rattle.cob_move_receive.specs.Refusals.{
   is_digit_character,
@@ -17,8 +17,7 @@ ghost use Rattle.cob_move_receive.specs.Refusals.{
 };
 
 use crate::table::{SenderKind, has_fraction, may_move};
-use cob_copybook_tree::{Item, Kind};
-use cob_entry::Value;
+use cob_copybook_tree::{Item, Kind, Value};
 use cob_limits::MAX_DIGITS;
 use cob_picture::Category;
 

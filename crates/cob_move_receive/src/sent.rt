@@ -1,5 +1,4 @@
-use cob_copybook_tree::Kind;
-use cob_entry::Value;
+use cob_copybook_tree::{Kind, Value};
 
 /// What a statement sends to each of its receivers.
 #[derive(Clone, Copy)]

@@ -1,7 +1,7 @@
 //! The table of categories: which sender may be moved to which receiver.
 
 ghost use Rattle.std.specs.Prelude.{◌≡◌};
-ghost use Rattle.cob_entry.specs.Described.{plain_value};
+ghost use Rattle.cob_copybook_tree.specs.Described.{plain_value};
 ghost use Rattle.cob_move_receive.specs.Table.{
   category_with,
   constant_receivers,
@@ -16,8 +16,7 @@ ghost use Rattle.cob_move_receive.specs.Table.{
   sender_kind,
 };
 
-use cob_copybook_tree::{Item, Kind};
-use cob_entry::{Figurative, Value};
+use cob_copybook_tree::{Figurative, Item, Kind, Value};
 use cob_picture::Category;
 
 /// What is known of a sender before a record comes.

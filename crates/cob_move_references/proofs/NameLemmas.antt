@@ -4,8 +4,8 @@ use Rattle.std.proofs.Math.Seq.{take-length}
 use Rattle.std.proofs.lemmas.List.{get_or_default}
 use Rattle.std.proofs.lemmas.List.Elements.{filter-append}
 use Rattle.std.proofs.lemmas.Slice.Eq.{bytes_eq-Decides}
-use Rattle.cob_copybook_names.specs.Links.{AreLinked, BearsAt, IsLast, entries_up_to}
-use Rattle.cob_copybook_names.proofs.Links.{differs}
+use Rattle.cob_layout.specs.Links.{AreLinked, BearsAt, IsLast, entries_up_to}
+use Rattle.cob_layout.proofs.Links.{differs}
 use Rattle.cob_move_references.specs.declared.candidate.Candidate.{Candidate as Listed}
 use Rattle.cob_move_references.specs.Candidates.{Candidate, has_name, is_named, named, qualifies}
 use Rattle.cob_move_references.specs.Listed.{candidate_of, found_list, own_names}

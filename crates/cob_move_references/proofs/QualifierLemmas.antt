@@ -2,8 +2,8 @@
 use Rattle.std.proofs.Common.{◌≡◌, ℕ, Bool, true, false, List, [], ◌∷◌, refl, inl, inr}
 use Rattle.std.specs.Prelude.{bytes_eq}
 use Rattle.std.proofs.lemmas.Slice.Eq.{bytes_eq-Decides}
-use Rattle.cob_copybook_names.specs.Bearers.{Qualify}
-use Rattle.cob_copybook_names.proofs.Qualifying.{skipped, taken}
+use Rattle.cob_layout.specs.Bearers.{Qualify}
+use Rattle.cob_layout.proofs.Qualifying.{skipped, taken}
 use Rattle.cob_move_references.specs.Candidates.{qualifies}
 use Rattle.cob_move_references.specs.Laws.{QualifyingIsOne}
 

@@ -1,17 +1,16 @@
 -- What a reference names is an operand of its record, and no other.
-use Rattle.std.proofs.Common.{◌≡◌, ℕ, ◌+◌, ◌<◌, ◌≤◌, ◌==◌, Bool, true, false, List, [], ◌∷◌, ◌++◌, refl, sym, ap, subst, ◌∙◌, inl, inr, ◌⊎◌, arith, Option, Some, None, append_assoc, append-nil}
+use Rattle.std.proofs.Common.{◌≡◌, ℕ, ◌+◌, ◌<◌, ◌≤◌, ◌==◌, Bool, true, false, List, [], ◌∷◌, ◌++◌, refl, sym, ap, subst, ◌∙◌, inl, inr, ◌⊎◌, arith, Option, Some, None, append_assoc, append-nil, length}
 use Rattle.std.specs.Prelude.{filter}
 use Rattle.std.proofs.lemmas.Bool.Decides.{nat_tests}
 use Rattle.cob_limits.specs.Limits.{most_dimensions}
-use Rattle.std.proofs.Common.{length}
-use Rattle.cob_copybook_tree.specs.Forests.{Forest, NoEntries, AnEntry, Tree, entries_in}
-use Rattle.cob_copybook_tree.specs.Lengths.{greatest_number}
-use Rattle.cob_copybook_tree.specs.Nodes.{Resolved, alone}
-use Rattle.cob_copybook_names.specs.Bearers.{with_name}
-use Rattle.cob_layout_places.specs.Counts.{kind_in, kind_one}
-use Rattle.cob_layout_places.specs.Cover.{AreNumbered}
-use Rattle.cob_layout_places.specs.Places.{choose, is_table, later, or_else}
-use Rattle.cob_layout_places.specs.References.{IsSubscripted, Refers}
+use Rattle.cob_layout.specs.Forests.{Forest, NoEntries, AnEntry, Tree, entries_in}
+use Rattle.cob_layout.specs.TreeLengths.{greatest_number}
+use Rattle.cob_layout.specs.Nodes.{Resolved, alone}
+use Rattle.cob_layout.specs.Bearers.{with_name}
+use Rattle.cob_layout.specs.Counts.{kind_in, kind_one}
+use Rattle.cob_layout.specs.Cover.{AreNumbered}
+use Rattle.cob_layout.specs.Places.{choose, is_table, later, or_else}
+use Rattle.cob_layout.specs.References.{IsSubscripted, Refers}
 use Rattle.cob_layout.specs.Sound.{RecordsAreSound}
 use Rattle.cob_move_operands.specs.declared.Side.{Side}
 use Rattle.cob_move_operands.specs.declared.Side.TheVariants.{In, Out}

@@ -1,11 +1,11 @@
 -- The entries of the two records, as a reference may name them.
 use Rattle.std.specs.Prelude.{ℕ, Bool, true, false, ◌&&◌, bytes_eq, if◌then◌else◌, List, [], ◌∷◌, ◌++◌, filter, Option, Some, None}
-use Rattle.cob_copybook_tree.specs.declared.node.Kind.{Kind}
-use Rattle.cob_copybook_tree.specs.Forests.{Forest, NoEntries, AnEntry}
-use Rattle.cob_copybook_tree.specs.Nodes.{Resolved}
-use Rattle.cob_copybook_tree.specs.Lengths.{greatest_number}
-use Rattle.cob_copybook_names.specs.Bearers.{with_name}
-use Rattle.cob_layout_places.specs.Places.{is_table}
+use Rattle.cob_layout.specs.Kind.{Kind}
+use Rattle.cob_layout.specs.Forests.{Forest, NoEntries, AnEntry}
+use Rattle.cob_layout.specs.Nodes.{Resolved}
+use Rattle.cob_layout.specs.TreeLengths.{greatest_number}
+use Rattle.cob_layout.specs.Bearers.{with_name}
+use Rattle.cob_layout.specs.Places.{is_table}
 use Rattle.cob_move_operands.specs.declared.Side.{Side}
 use Rattle.cob_move_operands.specs.declared.Side.TheVariants.{In, Out}
 

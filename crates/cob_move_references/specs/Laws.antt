@@ -1,8 +1,8 @@
 -- What follows from the definitions, said as laws.
 use Rattle.std.specs.Prelude.{◌≡◌, ◌↔◌, ℕ, List, IsTrue}
-use Rattle.cob_copybook_tree.specs.Nodes.{alone}
-use Rattle.cob_copybook_names.specs.Bearers.{Qualify}
-use Rattle.cob_copybook.specs.Books.{IsRecordDescription}
+use Rattle.cob_layout.specs.Nodes.{alone}
+use Rattle.cob_layout.specs.Bearers.{Qualify}
+use Rattle.cob_layout.specs.Books.{IsRecordDescription}
 use Rattle.cob_move_operands.specs.declared.Side.{Side}
 use Rattle.cob_move_operands.specs.declared.Operand.{Operand}
 use Rattle.cob_move_operands.specs.Moves.{IsOperand, Records, record_of}

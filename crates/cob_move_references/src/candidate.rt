@@ -1,17 +1,16 @@
 //! The entries of a record with what stands above them.
 
 ghost use Rattle.std.specs.Prelude.{◌≡◌, List, [], ◌∷◌, ◌++◌, map, IfOk, OnOk};
-ghost use Rattle.cob_copybook_tree.specs.Lengths.{greatest_number};
-ghost use Rattle.cob_copybook_tree.specs.Nodes.{node, resolved_entry, alone};
-ghost use Rattle.cob_copybook_tree.specs.declared.node.Node.TheViews.{out-Node};
-ghost use Rattle.cob_copybook_names.specs.Bearers.{with_name};
-ghost use Rattle.cob_copybook_names.specs.Listed.{texts};
-ghost use Rattle.cob_layout_places.specs.Places.{is_table};
+ghost use Rattle.cob_layout.specs.TreeLengths.{greatest_number};
+ghost use Rattle.cob_layout.specs.Nodes.{node, resolved_entry, alone};
+ghost use Rattle.cob_layout.specs.Node.TheViews.{out-Node};
+ghost use Rattle.cob_layout.specs.Bearers.{with_name};
+ghost use Rattle.cob_layout.specs.Listed.{texts};
+ghost use Rattle.cob_layout.specs.Places.{is_table};
 ghost use Rattle.cob_move_references.specs.Candidates.{candidate, candidates, with_table};
 ghost use Rattle.cob_move_references.specs.Listed.{candidate_of};
 
-use cob_copybook_tree::Node;
-use cob_layout_places::is_table;
+use cob_layout::{Node, is_table};
 use cob_move_operands::Side;
 use std::alloc::{AllocError, Global};
 

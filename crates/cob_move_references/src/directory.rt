@@ -2,9 +2,9 @@
 
 ghost use Rattle.std.specs.Prelude.{◌≡◌, ◌≢◌, ◌<◌, ◌≤◌, ℕ, List, ◌∷◌, [], Option, Some, length, map, IfErr, IfOk, OnOk};
 ghost use Rattle.std.proofs.Props.{props};
-ghost use Rattle.cob_copybook_clauses.specs.Written.{names_behind};
-ghost use Rattle.cob_copybook_names.specs.Links.{AreLinked, IsLast, noted_for};
-ghost use Rattle.cob_copybook_tree.specs.declared.node.Node.TheViews.{out-Node};
+ghost use Rattle.cob_layout.specs.Written.{names_behind};
+ghost use Rattle.cob_layout.specs.Links.{AreLinked, IsLast, noted_for};
+ghost use Rattle.cob_layout.specs.Node.TheViews.{out-Node};
 ghost use Rattle.cob_source.specs.Tokens.{lexemes};
 ghost use Rattle.cob_move_references.specs.Candidates.{named};
 ghost use Rattle.cob_move_references.specs.Listed.{AreShallow, candidate_of, own_names};
@@ -12,7 +12,7 @@ ghost use Rattle.cob_move_references.specs.References.{BreaksName};
 
 use crate::candidate::Candidate;
 use crate::qualifiers::qualifies;
-use cob_copybook_tree::Node;
+use cob_layout::Node;
 use cob_move_statements::MoveRule;
 use cob_source::Token;
 use indexmap::IndexMap;

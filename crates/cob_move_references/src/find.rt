@@ -16,11 +16,9 @@ use crate::candidate::{Candidate, list_tree};
 use crate::directory::Names;
 use crate::subscripts::read_subscripts;
 use arrayvec::ArrayVec;
-use cob_copybook::Book;
-use cob_layout_places::Ref;
+use cob_layout::{Book, Ref, records_are_sound};
 use cob_move_operands::{Operand, Side};
 use cob_move_statements::{MoveRule, Reference};
-use cob_layout::records_are_sound;
 use cob_source::Token;
 use std::alloc::{AllocError, Global};
 

@@ -1,8 +1,8 @@
 //! Whether qualifiers name groups above an entry.
 
 ghost use Rattle.std.specs.Prelude.{◌≡◌, ℕ, List, [], ◌∷◌, IfNone, IfSome, bytes_eq};
-ghost use Rattle.cob_copybook_clauses.specs.Written.{names_behind};
-ghost use Rattle.cob_copybook_names.specs.Listed.{texts};
+ghost use Rattle.cob_layout.specs.Written.{names_behind};
+ghost use Rattle.cob_layout.specs.Listed.{texts};
 ghost use Rattle.cob_source.specs.Tokens.{lexemes};
 ghost use Rattle.cob_move_references.specs.Candidates.{qualifies};
 

@@ -7,9 +7,7 @@
 //! from the rules of COBOL.
 #![tactic(auto)]
 
-use cob_copybook::{Book, Role};
-use cob_entry::BookRule;
-use cob_move::{MoveRule, Paragraph};
+use cob_move::{Book, BookRule, MoveRule, Paragraph, Role};
 use cob_rows::{Family, Row, RowFault, print_rows};
 use std::alloc::Global;
 use std::fmt::Write;

@@ -1,8 +1,8 @@
 -- No call of either end has failed so far, and there is room for a record and its counts.
 use Rattle.std.proofs.Common.{◌≡◌, length}
-use Rattle.cob_copybook_tree.specs.Nodes.{alone}
-use Rattle.cob_copybook_tree.specs.Forests.{entries_in}
-use Rattle.cob_copybook_tree.specs.Lengths.{greatest_number, sum_of}
+use Rattle.cob_convert_record.specs.Nodes.{alone}
+use Rattle.cob_convert_record.specs.Forests.{entries_in}
+use Rattle.cob_convert_record.specs.TreeLengths.{greatest_number, sum_of}
 use Rattle.cob_convert_show.proofs.records.show_records.Given as goal
 
 abbrev pub invariant-loop-done : goal.invariant-loop-done

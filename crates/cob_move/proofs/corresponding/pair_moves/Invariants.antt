@@ -2,7 +2,7 @@ use Rattle.std.proofs.Common.{◌≡◌, ◌++◌, drop, map}
 use Rattle.std.specs.List.{AllByRecursion}
 use Rattle.cob_move.specs.Meaning.{IsAllowedMove, pair_move}
 use Rattle.cob_move.specs.Refusals.{BreaksPair, SomeOf}
-use Rattle.cob_move_operands.specs.Moves.{moves}
+use Rattle.cob_move_apply.specs.Moves.{moves}
 use Rattle.cob_move_pairs.specs.Listed.{pairs}
 use Rattle.cob_move_statements.specs.declared.fault.MoveRule.{MoveRule}
 use Rattle.cob_move.proofs.corresponding.pair_moves.Given as goal

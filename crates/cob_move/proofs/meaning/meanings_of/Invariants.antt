@@ -1,7 +1,7 @@
 use Rattle.std.proofs.Common.{◌++◌, drop, List}
 use Rattle.cob_move.specs.Meaning.{AreMeanings}
 use Rattle.cob_move.specs.Refusals.{BreaksOn, SomeOf}
-use Rattle.cob_move_operands.specs.Moves.{Move, moves}
+use Rattle.cob_move_apply.specs.Moves.{Move, moves}
 use Rattle.cob_move_references.specs.Directory.{entries_named}
 use Rattle.cob_move_statements.specs.declared.fault.MoveFault.{MoveFault}
 use Rattle.cob_move_statements.specs.Written.{written_statements}

@@ -2,9 +2,9 @@ use Rattle.std.proofs.Common.{◌++◌, drop, List}
 use Rattle.std.specs.List.{AllByRecursion}
 use Rattle.cob_move.specs.Meaning.{AreReceiversOf, kind_of_sender}
 use Rattle.cob_move.specs.Refusals.{BreaksReceipt, SomeOf}
-use Rattle.cob_move_operands.specs.declared.Operand.{Operand}
-use Rattle.cob_move_operands.specs.Moves.{sender}
-use Rattle.cob_move_receive.specs.Refusals.{IsAllowed}
+use Rattle.cob_move_apply.specs.Operand.{Operand}
+use Rattle.cob_move_apply.specs.Moves.{sender}
+use Rattle.cob_move_initial.specs.Refusals.{IsAllowed}
 use Rattle.cob_move_references.specs.Directory.{entries_named}
 use Rattle.cob_move_statements.specs.declared.fault.MoveRule.{MoveRule}
 use Rattle.cob_move_statements.specs.Written.{written_references}

@@ -1,7 +1,7 @@
 use Rattle.std.proofs.Common.{◌≡◌, ◌++◌, map}
-use Rattle.cob_copybook_tree.specs.Nodes.{node, alone}
-use Rattle.cob_copybook_names.specs.Listed.{texts}
-use Rattle.cob_layout_places.proofs.ForestLemmas.{left}
+use Rattle.cob_layout.specs.Nodes.{node, alone}
+use Rattle.cob_layout.specs.Listed.{texts}
+use Rattle.cob_layout.proofs.ForestLemmas.{left}
 use Rattle.cob_move_references.specs.Candidates.{candidates}
 use Rattle.cob_move_references.specs.Listed.{candidate_of}
 use Rattle.cob_move_references.proofs.candidate.+list_tree.Given as goal

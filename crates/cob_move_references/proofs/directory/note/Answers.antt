@@ -1,5 +1,5 @@
 use Rattle.std.proofs.Common.{List, ℕ, Some, Bor, sym, ap, ◌∙◌}
-use Rattle.cob_copybook_names.proofs.Links.{differs}
+use Rattle.cob_layout.proofs.Links.{differs}
 use Rattle.cob_move_references.proofs.directory.note.Goals as goal
 
 pub returns-in_ok-insert-in-Some-clause-others : goal.returns-in_ok-insert-in-Some-clause-others

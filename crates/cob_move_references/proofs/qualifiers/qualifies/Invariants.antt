@@ -1,6 +1,6 @@
 use Rattle.std.proofs.Common.{◌≡◌, drop}
-use Rattle.cob_copybook_clauses.specs.Written.{names_behind}
-use Rattle.cob_copybook_names.specs.Listed.{texts}
+use Rattle.cob_layout.specs.Written.{names_behind}
+use Rattle.cob_layout.specs.Listed.{texts}
 use Rattle.cob_source.specs.Tokens.{lexemes}
 use Rattle.cob_move_references.specs.Candidates.{qualifies}
 use Rattle.cob_move_references.proofs.qualifiers.qualifies.Given as goal

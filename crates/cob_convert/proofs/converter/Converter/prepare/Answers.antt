@@ -1,5 +1,5 @@
 use Rattle.std.proofs.lemmas.Result.{err_from_is_err_and}
-use Rattle.cob_copybook_tree.specs.Nodes.{alone}
+use Rattle.cob_move.specs.Nodes.{alone}
 use Rattle.cob_convert.proofs.Refused.{out_refused, paragraph_too}
 use Rattle.cob_convert.proofs.converter.Converter.prepare.Goals as goal
 

@@ -1,5 +1,5 @@
 use Rattle.std.proofs.Common.{ℕ, sym, subst, take}
-use Rattle.cob_copybook_tree.specs.Nodes.{alone}
+use Rattle.cob_move_apply.specs.Nodes.{alone}
 use Rattle.std.proofs.lemmas.Result.{err_from_is_err_and}
 use Rattle.cob_move_initial.specs.Initial.{IsInitial}
 use Rattle.cob_convert_record.specs.Conversion.{Conversion}

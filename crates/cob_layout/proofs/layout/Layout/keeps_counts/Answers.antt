@@ -1,5 +1,5 @@
 use Rattle.std.proofs.Common.{ap, ◌∙◌}
-use Rattle.cob_copybook_tree.specs.Nodes.{node}
+use Rattle.cob_copybook.specs.Nodes.{node}
 use Rattle.cob_layout.specs.Standing.{Standing}
 use Rattle.cob_layout.proofs.KeepLaw.{keep_in}
 use Rattle.cob_layout.proofs.layout.Layout.keeps_counts.Goals as goal

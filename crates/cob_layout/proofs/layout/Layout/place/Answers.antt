@@ -1,5 +1,5 @@
 use Rattle.std.proofs.Common.{sym, subst, ◌∙◌}
-use Rattle.cob_copybook_tree.specs.Nodes.{node, alone}
+use Rattle.cob_copybook.specs.Nodes.{node, alone}
 use Rattle.cob_layout_places.specs.Lengths.{times}
 use Rattle.cob_layout_places.specs.Needs.{Has}
 use Rattle.cob_layout.proofs.ReferenceLemmas.{find_alone, found_there, refers_has}

@@ -1,5 +1,5 @@
 use Rattle.std.proofs.Common.{◌≡◌, ℕ, List, Some, refl, ap, ◌∙◌}
-use Rattle.cob_copybook_tree.specs.Nodes.{alone}
+use Rattle.cob_copybook.specs.Nodes.{alone}
 use Rattle.cob_layout_places.specs.Lengths.{times}
 use Rattle.cob_layout_places.specs.Places.{place_of}
 use Rattle.cob_layout.specs.Standing.{Standing, ArePlaces}

@@ -1,6 +1,6 @@
 use Rattle.std.proofs.Common.{◌∙◌}
 use Rattle.std.proofs.lemmas.Result.{err_from_is_err_and}
-use Rattle.cob_move_operands.specs.Moves.{moves}
+use Rattle.cob_move_apply.specs.Moves.{moves}
 use Rattle.cob_move.proofs.ParagraphLemmas.{are_moves}
 use Rattle.cob_move.proofs.paragraph.Paragraph.read.Goals as goal
 

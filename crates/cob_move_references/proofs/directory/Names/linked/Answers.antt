@@ -1,6 +1,6 @@
 use Rattle.std.proofs.Common.{◌≡◌, ℕ, List, get_or, ap, map, length, sym, subst, ◌∙◌, arith, length-append}
-use Rattle.cob_copybook_names.specs.Links.{IsLast, AreLinked, noted_for}
-use Rattle.cob_copybook_names.proofs.Links.{linked_more, latest_more}
+use Rattle.cob_layout.specs.Links.{IsLast, AreLinked, noted_for}
+use Rattle.cob_layout.proofs.Links.{linked_more, latest_more}
 use Rattle.cob_move_references.specs.declared.candidate.Candidate.{Candidate as Listed}
 use Rattle.cob_move_references.specs.Listed.{candidate_of, own_names}
 use Rattle.cob_move_references.proofs.NameLemmas.{name_at}

@@ -1,5 +1,5 @@
 use Rattle.std.proofs.Common.{◌≡◌, List, ℕ, length, map}
-use Rattle.cob_copybook_names.specs.Links.{IsLast, AreLinked, noted_for}
+use Rattle.cob_layout.specs.Links.{IsLast, AreLinked, noted_for}
 use Rattle.cob_move_references.specs.Listed.{candidate_of, own_names}
 use Rattle.cob_move_references.proofs.directory.Names.linked.Given as goal
 

@@ -1,6 +1,6 @@
 use Rattle.std.proofs.Common.{◌≡◌, List, [], ◌++◌, map, sym, subst, ap, ◌∙◌}
-use Rattle.cob_copybook_tree.specs.Nodes.{node, alone}
-use Rattle.cob_copybook.specs.Books.{IsRecordDescription}
+use Rattle.cob_layout.specs.Nodes.{node, alone}
+use Rattle.cob_layout.specs.Books.{IsRecordDescription}
 use Rattle.cob_move_operands.specs.declared.Side.TheVariants.{In, Out}
 use Rattle.cob_move_references.specs.declared.candidate.Candidate.{Candidate as Listed}
 use Rattle.cob_move_references.specs.Candidates.{Candidate, all_entries, candidates}

@@ -1,8 +1,8 @@
 use Rattle.std.proofs.Common.{◌≡◌, ◌++◌, ◌+◌, ◌<◌, ℕ, List, Option, Bor, false, map, length, take, true, sym, subst, ap, ◌∙◌, arith}
 use Rattle.std.proofs.lemmas.List.{length-map}
-use Rattle.cob_copybook_clauses.specs.Written.{names_behind}
-use Rattle.cob_copybook_names.specs.Links.{entries_up_to, IsLast}
-use Rattle.cob_copybook_names.specs.Listed.{texts}
+use Rattle.cob_layout.specs.Written.{names_behind}
+use Rattle.cob_layout.specs.Links.{entries_up_to, IsLast}
+use Rattle.cob_layout.specs.Listed.{texts}
 use Rattle.cob_source.specs.Tokens.{lexemes}
 use Rattle.cob_move_references.specs.declared.candidate.Candidate.{Candidate as Listed}
 use Rattle.cob_move_references.specs.Candidates.{named, qualifies}

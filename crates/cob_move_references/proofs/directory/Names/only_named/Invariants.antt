@@ -1,6 +1,6 @@
 use Rattle.std.proofs.Common.{◌≡◌, ◌≤◌, ◌++◌, ℕ, map, take, length, Some}
-use Rattle.cob_copybook_clauses.specs.Written.{names_behind}
-use Rattle.cob_copybook_names.specs.Links.{BearsAt, entries_up_to}
+use Rattle.cob_layout.specs.Written.{names_behind}
+use Rattle.cob_layout.specs.Links.{BearsAt, entries_up_to}
 use Rattle.cob_source.specs.Tokens.{lexemes}
 use Rattle.cob_move_references.specs.Candidates.{named}
 use Rattle.cob_move_references.specs.Listed.{candidate_of, found_list, own_names}

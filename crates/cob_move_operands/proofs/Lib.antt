@@ -1,0 +1,1 @@
+pub use Rattle.cob_layout_places.proofs.ForestLemmas
