@@ -3,7 +3,7 @@ use Rattle.std.proofs.Common.{◌≡◌, Bool, true, false, List, [], ◌∷◌,
 use Rattle.std.specs.Prelude.{◌||◌}
 use Rattle.std.specs.List.{AllByRecursion}
 use Rattle.cob_move_apply.specs.EntryLists.{BreaksConstant, BreaksValue}
-use Rattle.cob_move_apply.proofs.NoRule.{no_constant, no_value}
+use Rattle.cob_move_apply.proofs.EntryNoRule.{no_constant, no_value}
 use Rattle.cob_move_apply.specs.Kind.{Kind}
 use Rattle.cob_move_apply.specs.Forests.{Forest}
 use Rattle.cob_move_apply.specs.Nodes.{Resolved}

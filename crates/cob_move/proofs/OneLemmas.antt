@@ -1,7 +1,7 @@
 -- A statement has one meaning at most.
 use Rattle.std.proofs.Common.{◌≡◌, List, [], ◌∷◌, ◌++◌, map, sym, ap, ◌∙◌}
 use Rattle.cob_move_apply.specs.Described.{PlainValue}
-use Rattle.cob_move_apply.proofs.OneList.{one_constant}
+use Rattle.cob_move_apply.proofs.EntryOneList.{one_constant}
 use Rattle.cob_move_apply.specs.Side.{Side}
 use Rattle.cob_move_apply.specs.Side.TheVariants.{Out}
 use Rattle.cob_move_apply.specs.Operand.{Operand}

@@ -3,5 +3,5 @@ pub mod ListLemmas
 pub mod ReceiverLemmas
 pub mod OneLemmas
 pub mod CountLemmas
-pub use Rattle.cob_layout.proofs.NoRule
-pub use Rattle.cob_layout.proofs.OneList
+pub use Rattle.cob_layout.proofs.EntryNoRule
+pub use Rattle.cob_layout.proofs.EntryOneList

@@ -4,8 +4,8 @@ use Rattle.cob_layout_places.proofs.ForestLemmas.{left, below}
 use Rattle.cob_layout_places.proofs.NeedLemmas.{AreUpTo}
 use Rattle.cob_layout_places.proofs.needs.+number_behind.Given as goal
 
-abbrev pub decreases-reach : goal.decreases-reach
-decreases-reach l = goal.size-reach l
+abbrev pub decreases-number_behind : goal.decreases-number_behind
+decreases-number_behind l = goal.size-number_behind l
 
 abbrev pub invariant-loop-child : goal.invariant-loop-child
 invariant-loop-child l =

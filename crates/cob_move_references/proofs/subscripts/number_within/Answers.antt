@@ -1,5 +1,5 @@
 use Rattle.std.proofs.Common.{refl, arith, ◌+◌}
-use Rattle.cob_layout.proofs.Numbers.{one_digit_more}
+use Rattle.cob_layout.proofs.EntryNumbers.{one_digit_more}
 use Rattle.cob_move_references.proofs.SubscriptLemmas.{at_least, digits_more}
 use Rattle.cob_move_references.proofs.subscripts.number_within.Goals as goal
 
