@@ -41,7 +41,9 @@
 //!
 //! The definitions: `CountsOf`, `NeededOf` and `AreGreatest` of specs/Counting.antt, `placed` of specs/Placed.antt, `ArePlaces`, `StandsIn`,
 //! `KeepsCounts` and `SparesNone` of specs/Standing.antt, those of the laws of specs/Laws.antt, and what they name of `cob_copybook`
-//! (`TakeBytes`) and of `cob_layout_places`, which has the arithmetic of lengths and places. The bytes of a place are lent by ([`field`], [`field_mut`]).
+//! (`TakeBytes`) and of `cob_layout_places`, which has the arithmetic of lengths and places. What holds of every record description is the law
+//! [`records_are_sound`] (specs/Sound.antt). The bytes of a [`Place`] are read through [`field`] and written through [`field_mut`], which
+//! changes these bytes and no other (specs/Fields.antt).
 //! Only [`Layout::of`], [`Layout::new_counts`] and [`Layout::new_places`] take memory.
 #![tactic(auto)]
 

@@ -1,7 +1,7 @@
 //! What holds of every record description: the premises that the crates above it ask of the tree of a record.
 //!
-//! `cob_copybook` says which trees are record descriptions, in the rules of copybooks (`IsRecordDescription` of its specs/Records.antt): levels, clauses
-//! that agree with each other, counts, lengths and values. The crates that lay a record out in bytes ask for less, each in its own words:
+//! `cob_copybook` says which trees are record descriptions, in the rules of copybooks (`IsRecordDescription` of its specs/Books.antt): levels,
+//! clauses that agree with each other, counts, lengths and values. The crates that lay a record out in bytes ask for less, each in its own words:
 //! `cob_layout_places` for lengths, numbers and counts of tables, `cob_item` for items that can be stored. The law
 //! [`records_are_sound`] says that every record description is so (`IsSound` of specs/Sound.antt), so that what reads a copybook can hand its
 //! record on, and no caller has a premise left to show:
@@ -16,6 +16,7 @@
 //!   picture that has one;
 //! - each VALUE suits its entry, and stands where a value may;
 //! - and the record itself redefines nothing.
+
 ghost use Rattle.cob_layout.specs.Sound.{RecordsAreSound};
 
 /// Every record description has what its places, counts, storage and values ask for.

@@ -10,17 +10,9 @@
 //!   statements. A text says its moves in one way ([`one_paragraph`]), and then breaks no rule ([`paragraph_breaks_no_rule`]).
 //! - [`Paragraph::moves`] counts single moves, each of a sender to one of its receivers.
 //! - [`apply`] carries the moves out on one record (`applied`; `Applied` of cob_move_apply), and [`pairs`] answers the pairs of CORRESPONDING.
-//! - [`initial`] writes the storage that a record has before the first move (clause `initial`; `IsInitial` of specs/Initial.antt): for each entry
-//!   that redefines nothing, as many elements as there are at most, one behind another, in the record's order; an element of an item holds the
-//!   item's VALUE, or without one what MOVE ZERO or MOVE SPACE leaves; an element of a group holds the group's VALUE, or the entries beneath it.
-//!   Nothing is written for a redefinition.
-//! - What it writes stands at the places of the layout under the greatest counts (clause `places`; `HoldAtPlaces` of specs/AtPlaces.antt): each
-//!   entry that stands in no redefinition and beneath no group with a VALUE is found, whatever the subscripts, and the bytes there hold what one
-//!   element of it does.
-//! - [`one_initial`] is the law that a record has one such storage.
+//! - [`initial`], the storage of a record before the first move, is that of cob_move_initial, with its law [`one_initial`].
 //!
-//! [`initial`] takes no memory, and writes each byte of a record as often as tables hold it, at most: an element is written once and then
-//! copied. [`apply`] takes no memory either.
+//! [`apply`] takes no memory.
 //!
 //! ## What a statement means
 //!
@@ -38,9 +30,8 @@
 //! ([`meanings_break_no_rule`], [`meant_break_no_rule`]); and what they mean are moves between the two records ([`meant_are_moves`]).
 //!
 //! It puts the reading of a paragraph together: it stands on `cob_source` for words, on `cob_move_statements` for statements, on
-//! `cob_move_references`, `cob_move_pairs` and `cob_move_receive` for the moves that they mean, and on `cob_move_apply` for what these do. For the storage before the first move it stands
-//! on `cob_move_initial`, and by it on the rule of MOVE of `cob_move_receive`, for what one item or a group with a VALUE holds, on `cob_copybook_tree` for lengths, on `cob_copybook` and `cob_layout` for
-//! the record and its layout, and on `cob_sound` for what holds of every record description.
+//! `cob_move_references`, `cob_move_pairs` and, through `cob_move_initial`, `cob_move_receive` for the moves that they mean, and on
+//! `cob_move_apply` for what these do.
 #![tactic(auto)]
 
 mod corresponding;

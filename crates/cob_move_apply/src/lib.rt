@@ -15,7 +15,7 @@
 //! taken once, and again only behind a receiver whose place meets the item of a count. Else it is found by those that the operand needs.
 //!
 //! It stands on cob_move_operands for moves as data, on cob_layout for places and counts, on cob_move_receive for what one receiver gets, and
-//! on cob_sound for what holds of every record. [`Moves::apply`] takes no memory: its room is a [`Scratch`].
+//! on cob_layout for what holds of every record. [`Moves::apply`] takes no memory: its room is a [`Scratch`].
 #![tactic(auto)]
 
 mod application;

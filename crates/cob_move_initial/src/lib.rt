@@ -1,4 +1,4 @@
-//! What items and groups of a record hold before the first move: the constant of their VALUE clause, or without one what MOVE ZERO or MOVE
+//! What a record, its items and its groups hold before the first move: the constant of their VALUE clause, or without one what MOVE ZERO or MOVE
 //! SPACE would leave (ANSI X3.23-1985, Nucleus: the VALUE clause; IBM Enterprise COBOL for z/OS, Language Reference, "VALUE clause").
 //!
 //! What is promised: [`write_item`] writes what `HoldsItem` of specs/Values.antt says of the item and its constant, into all bytes of one
@@ -7,9 +7,19 @@
 //! spaces behind them, so that JUSTIFIED, editing and BLANK WHEN ZERO don't act; and an item without VALUE receives ZERO or SPACE. The
 //! laws: a group with a VALUE holds one thing ([`one_group`]), and so does an item ([`one_item`]).
 //!
-//! It stands on cob_move_receive for the rule of MOVE, on cob_item for items that can be stored, on cob_copybook_tree and cob_picture for
-//! items and their categories, on cob_copybook_lengths for which entry takes which constant, and on cob_entry for constants.
-//! Nothing here takes memory, and the work grows with the bytes that are written.
+//! - [`initial`] writes the storage that a record has before the first move (clause `initial`; `IsInitial` of specs/Initial.antt): for each entry
+//!   that redefines nothing, as many elements as there are at most, one behind another, in the record's order; an element of an item holds the
+//!   item's VALUE, or without one what MOVE ZERO or MOVE SPACE leaves; an element of a group holds the group's VALUE, or the entries beneath it.
+//!   Nothing is written for a redefinition.
+//! - What it writes stands at the places of the layout under the greatest counts (clause `places`; `HoldAtPlaces` of specs/AtPlaces.antt): each
+//!   entry that stands in no redefinition and beneath no group with a VALUE is found, whatever the subscripts, and the bytes there hold what one
+//!   element of it does.
+//! - [`one_initial`] is the law that a record has one such storage.
+//!
+//! [`initial`] takes no memory, and writes each byte of a record as often as tables hold it, at most: an element is written once and then copied.
+//!
+//! It stands on cob_move_receive for the rule of MOVE, and on cob_layout for the record, its layout and what holds of every record description,
+//! with the words of copybooks that this passes on.
 #![tactic(auto)]
 
 mod items;

@@ -8,8 +8,11 @@
 //! It stands on cob_layout_places for references, on cob_copybook_tree for kinds of entries and on cob_entry for constants.
 #![tactic(auto)]
 
-use cob_copybook_tree::{Kind, Value};
+use cob_copybook_tree::Value;
 use cob_layout_places::Ref;
+
+pub use cob_copybook_tree::{Kind, Name, Node};
+pub use cob_layout_places::is_table;
 
 /// The record in which an entry or a fault stands.
 #[derive(Clone, Copy, Debug, PartialEq, Eq)]
@@ -42,6 +45,3 @@ pub struct Move {
     pub sender: Sender,
     pub receivers: Vec<Operand>,
 }
-
-pub use cob_copybook_tree::{Kind, Name, Node};
-pub use cob_layout_places::is_table;

@@ -18,7 +18,7 @@
 //! entries that bear its name, and not of all entries.
 //!
 //! It stands on `cob_move_statements` for references as they are written and for the rules, on `cob_move_operands` for operands, on
-//! `cob_copybook` for records and on `cob_sound` for what holds of them, on `cob_copybook_names` for chains of names, and on `indexmap`.
+//! `cob_copybook` for records and on `cob_layout` for what holds of them, on `cob_copybook_names` for chains of names, and on `indexmap`.
 #![tactic(auto)]
 
 mod candidate;

@@ -16,7 +16,7 @@
 //! The definitions stand in `specs/`: `Lines` joins columns 8 to 72 of the plain and continuation lines to one text, `Pieces`
 //! is the cut at brackets and commas, `Cuts` cuts a joined text into words, literals and stops, `Words` says which rules a
 //! text breaks and which words it has, and `Tokens` is what a reader of tokens sees of them. `Reading` holds what the
-//! reader keeps from line to line; no public clause names it. The crate stands on std alone, and `thiserror` for the
+//! reader keeps from line to line; no public clause names it. The crate stands on `cob_limits` for the length of a text, and on `thiserror` for the
 //! fault's message.
 #![tactic(auto)]
 

@@ -28,9 +28,9 @@ use denote.Triple.Table.{entered}
 use denote.Triple.Walked.{needs, says, Stays, stay_dropped, walk_of, ends_at, walked, Goes-dropped, Goes-spent_slice, walk_Meets}
 use borrow.Table.Elements.{at, at_mul, length-take-le}
 use Rattle.cob_layout.specs.declared.fields.Place.{Place}
-use Rattle.cob_layout.specs.contracts.Place as place_type
-use Rattle.cob_layout.specs.contracts.field_mut as field_mut
-use Rattle.cob_layout.proofs.Place.TheLaws as place_laws
+use Rattle.cob_layout.specs.contracts.fields.Place as place_type
+use Rattle.cob_layout.specs.contracts.fields.field_mut as field_mut
+use Rattle.cob_layout.proofs.fields.Place.TheLaws as place_laws
 use Rattle.cob_layout.proofs.fields.field_mut.Statement as stated
 use Rattle.cob_layout.proofs.fields.field_mut.Code as code
 use Rattle.cob_layout.proofs.Loans.{middle_lent, lends_middle}
