@@ -2,10 +2,8 @@ ghost use Rattle.std.specs.Prelude.{◌≡◌};
 ghost use Rattle.cob_convert.specs.declared.fault.PrepareFault.TheVariants.{Memory};
 ghost use Rattle.cob_convert.specs.Means.{moves_refusal};
 
-use cob_convert_record::{Cause, RunFault, Side};
 use cob_move::{BookFault, MoveFault, MoveRule};
 use std::alloc::AllocError;
-use std::fmt;
 use thiserror::Error;
 
 /// Why a converter is not prepared.
@@ -41,38 +39,5 @@ impl From<AllocError> for PrepareFault {
 
     fn from(_: AllocError) -> PrepareFault {
         PrepareFault::Memory
-    }
-}
-
-impl fmt::Display for Cause {
-    fn fmt<W: fmt::Write>(&self, f: &mut fmt::Formatter<W>) -> fmt::Result {
-        match self {
-            Cause::NoValue => write!(f, "NoValue"),
-            Cause::Count => write!(f, "Count"),
-            Cause::Subscript => write!(f, "Subscript"),
-            Cause::Limit => write!(f, "Limit"),
-            Cause::Record(fault) => write!(f, "{fault}"),
-        }
-    }
-}
-
-/// A side as a fault line names it.
-fn side_name(side: Side) -> &'static str {
-    match side {
-        Side::In => "in",
-        Side::Out => "out",
-    }
-}
-
-impl fmt::Display for RunFault {
-    fn fmt<W: fmt::Write>(&self, f: &mut fmt::Formatter<W>) -> fmt::Result {
-        let side = side_name(self.side);
-        let RunFault {
-            number,
-            offset,
-            cause,
-            ..
-        } = self;
-        write!(f, "record {number} {side} offset {offset} {cause}")
     }
 }

@@ -7,7 +7,7 @@ ghost use Rattle.cob_convert.specs.Run.{Ran, cause_from, offset_from, refusal_fr
 ghost use Rattle.cob_convert.specs.declared.run.TheConstants.{LIMIT};
 ghost use Rattle.cob_limits.specs.Limits.{longest_record};
 
-use cob_convert_record::{Cause, Conversion, MeasureFault, Room, Side, StopCause};
+use cob_convert_record::{Cause, Conversion, MeasureFault, Room, RunFault, Side, StopCause};
 use cob_records::{Form, RecordFault, Sink, Source, next_record, put_record};
 
 /// How many records a run converts at most.

@@ -2,6 +2,7 @@
 
 use cob_move_apply::Side;
 use cob_records::RecordFault;
+use std::fmt;
 
 /// Why a run stopped.
 #[derive(Clone, Copy, Debug, PartialEq, Eq)]
@@ -28,4 +29,37 @@ pub struct RunFault {
     pub offset: u32,
     pub cause: Cause,
     pub written: u64,
+}
+
+impl fmt::Display for Cause {
+    fn fmt<W: fmt::Write>(&self, f: &mut fmt::Formatter<W>) -> fmt::Result {
+        match self {
+            Cause::NoValue => write!(f, "NoValue"),
+            Cause::Count => write!(f, "Count"),
+            Cause::Subscript => write!(f, "Subscript"),
+            Cause::Limit => write!(f, "Limit"),
+            Cause::Record(fault) => write!(f, "{fault}"),
+        }
+    }
+}
+
+/// A side as a fault line names it.
+fn side_name(side: Side) -> &'static str {
+    match side {
+        Side::In => "in",
+        Side::Out => "out",
+    }
+}
+
+impl fmt::Display for RunFault {
+    fn fmt<W: fmt::Write>(&self, f: &mut fmt::Formatter<W>) -> fmt::Result {
+        let side = side_name(self.side);
+        let RunFault {
+            number,
+            offset,
+            cause,
+            ..
+        } = self;
+        write!(f, "record {number} {side} offset {offset} {cause}")
+    }
 }

@@ -23,7 +23,7 @@ ghost use Rattle.cob_move_statements.specs.Written.{
 };
 
 use crate::corresponding::moves_of;
-use crate::laws::{meanings_break_no_rule, meant_break_no_rule, one_meaning, one_meant};
+use crate::meaning_laws::{meanings_break_no_rule, meant_break_no_rule, one_meaning, one_meant};
 use crate::single::move_of;
 use cob_move_apply::{Book, Move};
 use cob_move_references::Names;
