@@ -42,7 +42,7 @@ fn form(options: &ArgMatches<'_>, name: &str) -> Result<Form, LineFault>
 
 // Whether a flag was given.
 fn flag(options: &ArgMatches<'_>, name: &str) -> bool
-    ensures { result ≡ is_flagged name.now (rows_of (found_of options.now)) }
+    ensures { result ≡ is_flagged name.now (λ id. first_of id (rows_of (found_of options.now))) }
 {
     match options.get_str(name) {
         Some(value) => value == "true",
@@ -51,7 +51,7 @@ fn flag(options: &ArgMatches<'_>, name: &str) -> bool
 }
 
 fn convert_line<'a>(options: &ArgMatches<'a>) -> Result<ConvertLine<'a>, LineFault>
-    ensures { IfOk result (IsConvert (rows_of (found_of options.now))) }
+    ensures { IfOk result (IsConvert (λ id. first_of id (rows_of (found_of options.now)))) }
 {
     Ok(ConvertLine {
         in_book: named(options, "in-book")?,
@@ -66,7 +66,7 @@ fn convert_line<'a>(options: &ArgMatches<'a>) -> Result<ConvertLine<'a>, LineFau
 }
 
 fn check_line<'a>(options: &ArgMatches<'a>) -> Result<CheckLine<'a>, LineFault>
-    ensures { IfOk result (IsCheck (rows_of (found_of options.now))) }
+    ensures { IfOk result (IsCheck (λ id. first_of id (rows_of (found_of options.now)))) }
 {
     Ok(CheckLine {
         in_book: named(options, "in-book")?,
@@ -76,7 +76,7 @@ fn check_line<'a>(options: &ArgMatches<'a>) -> Result<CheckLine<'a>, LineFault>
 }
 
 fn layout_line<'a>(options: &ArgMatches<'a>) -> Result<LayoutLine<'a>, LineFault>
-    ensures { IfOk result (IsLayout (rows_of (found_of options.now))) }
+    ensures { IfOk result (IsLayout (λ id. first_of id (rows_of (found_of options.now)))) }
 {
     Ok(LayoutLine {
         book: named(options, "book")?,
@@ -84,7 +84,7 @@ fn layout_line<'a>(options: &ArgMatches<'a>) -> Result<LayoutLine<'a>, LineFault
 }
 
 fn show_line<'a>(options: &ArgMatches<'a>) -> Result<ShowLine<'a>, LineFault>
-    ensures { IfOk result (IsShow (rows_of (found_of options.now))) }
+    ensures { IfOk result (IsShow (λ id. first_of id (rows_of (found_of options.now)))) }
 {
     Ok(ShowLine {
         book: named(options, "book")?,
@@ -96,7 +96,8 @@ fn show_line<'a>(options: &ArgMatches<'a>) -> Result<ShowLine<'a>, LineFault>
 
 // The line of a command that was named with these options.
 fn command_line<'a>(name: &str, options: &ArgMatches<'a>) -> Result<Line<'a>, LineFault>
-    ensures { IfOk result (IsCommand name.now (rows_of (found_of options.now))) }
+    ensures { IfOk result (IsCommand name.now
+        (λ id. first_of id (rows_of (found_of options.now)))) }
 {
     match name {
         "convert" => Ok(Line::Convert(convert_line(options)?)),

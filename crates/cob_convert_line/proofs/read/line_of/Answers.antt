@@ -1,15 +1,18 @@
-use Rattle.std.proofs.Common.{ap, sym, refl, subst, map, option_map, true, ◌≡◌, ◌∙◌}
+use Rattle.std.proofs.Common.{ap, sym, refl, map, option_map, true, ◌≡◌, ◌∙◌}
 use Rattle.std.specs.Box.{box_value}
 use Rattle.std.proofs.lemmas.Result.{IfOk-weaker}
-use Rattle.clap.specs.Words.{App, app_of, found_of, is_simple, rows_of, subcommand_of}
+use Rattle.clap.specs.Words.{App, app_of, fault_of, found_of, is_simple, is_simple_and_free, rows_of, subcommand_of}
 use Rattle.clap.specs.declared.parser.matches.ArgMatches.TheViews.{out-ArgMatches, out-SubCommand}
-use Rattle.cob_convert_line.specs.Lines.{IsReading}
 use Rattle.cob_convert_line.specs.Program.{program_app}
-use Rattle.cob_convert_line.proofs.Apps.{both_parts, none_said, said_by, some_said}
+use Rattle.cob_convert_line.proofs.Apps.{both_parts, none_said, some_said}
+use Rattle.cob_convert_line.proofs.Said.{said_by}
 use Rattle.cob_convert_line.proofs.read.line_of.Goals as goal
 
 simple : is_simple program_app ≡ true
 simple = refl
+
+free : is_simple_and_free program_app ≡ true
+free = refl
 
 pub returns-then-is_empty : goal.returns-then-is_empty
 returns-then-is_empty g c = record { options = none_said g.S.AsStr.text c.args.words.now (sym c.is_empty.ensures ∙ c.if-is_empty.true) }
@@ -24,7 +27,8 @@ returns-in-Some g c =
     (sym c.subcommand.ensures.name ∙ ap (option_map (λ p. p.0.now)) c.in-Some.is)
     (sym c.subcommand.ensures.rows ∙ ap (option_map (λ p. rows_of (found_of p.1.now))) c.in-Some.is) in
     let reading = ap (λ (a : App). subcommand_of a words) (sym built) ∙ sym found.1 ∙ entered in
+    let passed = ap (λ (a : App). fault_of a words) (sym built) ∙ c.in_ok-matches.ensures.kinds (ap is_simple_and_free built ∙ free) in
     record {
-      options = IfOk-weaker c.command_line.result _ _ (λ said h. said_by words said (some_said g.S.AsStr.text c.args.words.now (sym c.is_empty.ensures ∙ c.if-is_empty.false))
-          (subst (λ r. IsReading r said) (sym reading) h)) c.command_line.ensures;
+      options = IfOk-weaker c.command_line.result _ _ (λ said h. said_by words c.in-Some.name.now (rows_of (found_of c.in-Some.options.now)) said
+          (some_said g.S.AsStr.text c.args.words.now (sym c.is_empty.ensures ∙ c.if-is_empty.false)) passed reading h) c.command_line.ensures;
     }
