@@ -264,3 +264,9 @@ level_complete command os words given names are there =
     let checks = ap (λ r. check_fault (leaf_shape command os) r false) rows ∙ ap (λ b. check_kinds false false b) (nothing_lacks os os given there) in
     all_four (walk_of command os words) (settle_of os words) (rest_fault command os words) found.0
     (ap₂ or_else (defaults_pass os (rows_behind command os (at (hold [] None)) words)) checks)
+
+pub level_rows : (command : Text) (os : Options) (words : List Text) (given : Given) → AreNames os → AreOptions os words given
+    → rows_after (rules_from os) [] words ≡ rows_of_given os given
+level_rows command os words given names are =
+    let found = complete command os names words given are [] None refl (λ name none_there. absurd (true≢false (sym none_there))) in
+    ap (λ rows. fold with_default rows (rules_from os)) found.1

@@ -1,5 +1,5 @@
 -- The words behind a command's name: they pass exactly where they are its options, and leave a row for each.
-use Rattle.std.proofs.Common.{◌≡◌, ◌∙◌, ◌&&◌, ◌||◌, ◌⊎◌, inl, inr, ℕ, Bool, true, false, not, refl, sym, ap, List, [], ◌∷◌, ◌++◌, map, Option, Some, None, is_some, option_map, codes, find, fold, cond, subst, ap₂, true≢false}
+use Rattle.std.proofs.Common.{◌≡◌, ◌∙◌, ◌&&◌, ◌||◌, ◌⊎◌, inl, inr, ℕ, Bool, true, false, not, refl, sym, ap, List, [], ◌∷◌, ◌++◌, map, Option, Some, None, is_some, option_map, codes, find, fold, length, ◌==◌, cond, subst, ap₂, true≢false}
 use Rattle.std.specs.Prelude.{slice_get}
 use Rattle.std.specs.List.{list_all}
 use Rattle.std.specs.Option.{option_map_or}
@@ -281,7 +281,11 @@ module _ (command : Text) (os : Options) where
 -- names of options have a character or more, and no `=`
 abbrev pub AreNames : Options → Type 0
 AreNames [] = Unit {0}
-AreNames (o ∷ names) = ((z : ℕ) × (zs : Text) × (o.0 ≡ z ∷ zs) × (has_byte 61 o.0 ≡ false)) × AreNames names
+AreNames (o ∷ names) = (((length o.0 == 0) ≡ false) × (has_byte 61 o.0 ≡ false)) × AreNames names
+
+split_name : (name : Text) → (length name == 0) ≡ false → (z : ℕ) × (zs : Text) × (name ≡ z ∷ zs)
+split_name [] e = absurd (true≢false e)
+split_name (z ∷ zs) e = (z, zs, refl)
 
 name_of_some : (os : Options) (name : Text) → AreNames os → is_some (found_at name os) ≡ true → (z : ℕ) × (zs : Text) × (name ≡ z ∷ zs) × Lacks 61 name
 name_of_some [] name names there = absurd (true≢false (sym there))
@@ -290,7 +294,8 @@ name_of_some (o ∷ os) name names there = go (bytes_eq o.0 name) refl (name_of_
     go : (b : Bool) → bytes_eq o.0 name ≡ b → (is_some (found_at name os) ≡ true → (z : ℕ) × (zs : Text) × (name ≡ z ∷ zs) × Lacks 61 name)
         → (z : ℕ) × (zs : Text) × (name ≡ z ∷ zs) × Lacks 61 name
     go true e later = let same = same_text o.0 name e in
-        (names.0.0, names.0.1, sym same ∙ names.0.2, subst (Lacks 61) same (lacks_of o.0 names.0.3))
+        let split = split_name o.0 names.0.0 in
+        (split.0, split.1, sym same ∙ split.2, subst (Lacks 61) same (lacks_of o.0 names.0.1))
     go false e later = later (sym (ap (λ b. is_some (option_map (λ (it : Text × Kind). it.1) (cond b (Some o) (find (λ it. bytes_eq it.0 name) os)))) e) ∙ there)
 
 takes_some : (found : Option Kind) → takes_value found ≡ true → is_some found ≡ true
