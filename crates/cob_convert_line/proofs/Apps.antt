@@ -1,5 +1,5 @@
 -- What the parser says of a command, and of what it found, in the words of this crate.
-use Rattle.std.proofs.Common.{◌≡◌, ◌∙◌, ◌&&◌, ◌==◌, ℕ, arith, length, map, eqb-true, Bool, List, [], ◌∷◌, Option, Some, None, option_map, true, false, refl, sym, ap, ap₂, true≢false}
+use Rattle.std.proofs.Common.{◌≡◌, ◌&&◌, ◌==◌, arith, length, map, eqb-true, Bool, List, [], ◌∷◌, Option, Some, None, option_map, true, false, refl, sym, ap, ap₂, true≢false}
 use Rattle.std.specs.Prelude.{not, is_some, unwrap_or}
 use Rattle.clap.specs.Words.{Row, Text, app_of}
 use Rattle.clap.specs.declared.builder.command.Command.{Command}

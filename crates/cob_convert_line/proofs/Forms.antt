@@ -1,15 +1,13 @@
 -- What a word looks like: a value, an option, letters behind a hyphen, or two hyphens.
-use Rattle.std.proofs.Common.{ap₂, if◌then◌else◌, ◌≡◌, ◌∙◌, ◌&&◌, ◌⊎◌, inl, inr, ◌==◌, ◌<◌, ℕ, Bool, true, false, not, refl, sym, ap, arith, List, [], ◌∷◌, ◌++◌, length, zero, suc, Option, Some, None, eqb-true, subst, get_or, true≢false, ◌≢◌}
+use Rattle.std.proofs.Common.{ap₂, if◌then◌else◌, ◌≡◌, ◌∙◌, ◌&&◌, ◌⊎◌, inl, inr, ◌==◌, ℕ, Bool, true, false, not, refl, sym, ap, arith, List, [], ◌∷◌, ◌++◌, length, zero, suc, Option, Some, None, eqb-true, subst, true≢false}
 use Rattle.std.specs.Prelude.{slice_get}
-use Rattle.std.specs.List.{after_first, list_any, list_all}
+use Rattle.std.specs.List.{after_first}
 use Rattle.std.specs.Str.{bytes_eq, chars}
 use Rattle.std.proofs.lemmas.Bool.Decides.{nat_tests}
-use Rattle.std.proofs.lemmas.Grind.{common_steps}
 use Rattle.clap.specs.Lexer.{has_byte, long_of, short_of}
 use Rattle.clap.specs.Walk.{Text}
 use Rattle.clap.proofs.CutLemmas.{Lacks, after_first-at, before_first-Lacks, before_first-at, list_any-Lacks, list_any-at}
-use Rattle.cob_convert_line.specs.Options.{Kind, Options, found_at, is_value, option_word}
-use Rattle.cob_convert_line.proofs.Rules.{same_text}
+use Rattle.cob_convert_line.specs.Options.{is_value, option_word}
 use Rattle.cob_convert_line.proofs.Turns.{dashes}
 
 -- a name, with the value that stands behind `=`
@@ -87,9 +85,11 @@ long_form z zs no_value = go (cut 61 (z ∷ zs))
   where
     empty_name : (rest : Text) → (z ∷ zs) ≡ 61 ∷ rest → IsLong (45 ∷ 45 ∷ z ∷ zs) [] (Some rest)
     empty_name rest e = subst (λ (t : Text). IsLong (45 ∷ 45 ∷ t) [] (Some rest)) (sym e) (record { other = refl; long = refl })
+
     named : (name rest : Text) → Lacks 61 name → (z ∷ zs) ≡ name ++ 61 ∷ rest → IsLong (45 ∷ 45 ∷ z ∷ zs) name (Some rest)
     named [] rest lacks e = empty_name rest e
     named (y ∷ ys) rest lacks e = subst (λ (t : Text). IsLong (45 ∷ 45 ∷ t) (y ∷ ys) (Some rest)) (sym e) (long_joined (y ∷ ys) rest y ys refl lacks)
+
     go : Lacks 61 (z ∷ zs) ⊎ ((name rest : Text) × Lacks 61 name × ((z ∷ zs) ≡ name ++ 61 ∷ rest)) → Form (45 ∷ 45 ∷ z ∷ zs)
     go (inl lacks) = option (45 ∷ 45 ∷ z ∷ zs) (z ∷ zs) None (long_named (z ∷ zs) z zs refl lacks) refl no_value
     go (inr found) = option (45 ∷ 45 ∷ z ∷ zs) found.0 (Some found.1) (named found.0 found.1 found.2 found.3) (ap option_word found.3) no_value
@@ -108,10 +108,13 @@ letters_form y ys ne = go (chars (y ∷ ys)) refl
   where
     short : short_of (45 ∷ y ∷ ys) ≡ Some (y ∷ ys)
     short = rw ne refl
+
     long : long_of (45 ∷ y ∷ ys) ≡ None
     long = rw ne refl
+
     other : bytes_eq (45 ∷ y ∷ ys) dashes ≡ false
     other = rw ne refl
+
     go : (read : List ℕ) → chars (y ∷ ys) ≡ read → Form (45 ∷ y ∷ ys)
     go [] e = value (45 ∷ y ∷ ys) (record { other = other; long = long; short = inr (y, ys, short, ap (λ cs. slice_get cs 0) e) })
         (ap (λ (cs : List ℕ). not (true && not (length cs == 0))) e)
@@ -127,9 +130,11 @@ form_of (x ∷ xs) = first (x == 45) refl xs
     second true y [] e = subst (λ n. Form (45 ∷ n ∷ [])) (sym (eqb-true y 45 e)) hyphens
     second true y (z ∷ zs) e = subst (λ n. Form (45 ∷ n ∷ z ∷ zs)) (sym (eqb-true y 45 e)) (long_form z zs (hyphens_no_value (z ∷ zs)))
     second false y ys e = letters_form y ys e
+
     behind : (xs : Text) → Form (45 ∷ xs)
     behind [] = value (45 ∷ []) (record { other = refl; long = refl; short = inl refl }) refl
     behind (y ∷ ys) = second (y == 45) y ys refl
+
     first : (b : Bool) → (x == 45) ≡ b → (xs : Text) → Form (x ∷ xs)
     first true e xs = subst (λ n. Form (n ∷ xs)) (sym (eqb-true x 45 e)) (behind xs)
     first false e xs = value (x ∷ xs) (record { other = rw e refl; long = rw e refl; short = inl (rw e refl) }) (rw e refl)

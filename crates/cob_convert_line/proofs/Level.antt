@@ -1,5 +1,5 @@
 -- What is left of a command behind its words: defaults, and what has to be there.
-use Rattle.std.proofs.Common.{◌≡◌, ◌∙◌, ◌&&◌, ◌||◌, ℕ, Bool, true, false, not, refl, sym, ap, ap₂, List, [], ◌∷◌, ◌++◌, map, Option, Some, None, is_some, option_map, codes, find, fold, cond, subst, true≢false}
+use Rattle.std.proofs.Common.{◌≡◌, ◌∙◌, ◌&&◌, ◌||◌, Bool, true, false, not, refl, sym, ap, ap₂, List, [], ◌∷◌, ◌++◌, map, Option, Some, None, is_some, option_map, codes, find, fold, cond, true≢false}
 use Rattle.std.specs.Prelude.{option_and_then, slice_get}
 use Rattle.std.specs.List.{list_any}
 use Rattle.clap.specs.Facts.{explicit_source}
@@ -7,8 +7,7 @@ use Rattle.std.specs.Option.{option_map_or, option_or}
 use Rattle.std.specs.Str.{bytes_eq}
 use Rattle.std.proofs.lemmas.List.{map-append}
 use Rattle.std.proofs.lemmas.List.Folds.{find-append}
-use Rattle.clap.specs.Walk.{Row, Rule, Text, at_row, first_of, has_row, more_values, rows_after, with_default}
-use Rattle.clap.specs.Simple.{Shape}
+use Rattle.clap.specs.Walk.{Row, Text, at_row, first_of, has_row, more_values, rows_after, with_default}
 use Rattle.clap.specs.Kinds.{Kinds, check_kinds, or_else}
 use Rattle.clap.specs.Takes.{is_given}
 use Rattle.clap.specs.Faults.{check_fault, default_fault, defaults_fault, level_fault, settle_fault, walk_fault}
@@ -19,8 +18,8 @@ use Rattle.clap.specs.declared.builder.value_parser.Reading.TheVariants.{AsWritt
 use Rattle.cob_convert_line.specs.Options.{Alone, AreOptions, Default, Given, Kind, Options, Request, Required, default_of, found_at, taken}
 use Rattle.cob_convert_line.proofs.Rules.{rule_from, rules_from, same_text}
 use Rattle.cob_convert_line.proofs.Rows.{add_row, given_row}
-use Rattle.cob_convert_line.proofs.Turns.{at, hold, leaf_shape, not_nil, or_else_first, or_else_next}
-use Rattle.cob_convert_line.proofs.Walks.{Apart, AreNames, complete, ends, rows_behind, sound}
+use Rattle.cob_convert_line.proofs.Turns.{at, hold, leaf_shape, or_else_first}
+use Rattle.cob_convert_line.proofs.Walks.{AreNames, complete, rows_behind, sound}
 
 -- an option with its value, and where that comes from
 abbrev Entry : Type 0
@@ -88,9 +87,11 @@ given_keeps n kind os E there later = (later.0, ap (λ rows. fold with_default r
     same (Default value) = rw there refl
     same Alone = rw there refl
     same Request = rw there refl
+
     some : (x d : Option Entry) → is_some x ≡ true → (rest : Option Entry) → option_or x rest ≡ option_or x (option_or d rest)
     some None d e rest = absurd (true≢false (sym e))
     some (Some y) d e rest = refl
+
     look : (name : Text) (b : Bool) → bytes_eq n name ≡ b
         → option_or (entry_at name E) (defaults_in name os) ≡ option_or (entry_at name E) (option_or (pick (bytes_eq n name) (default_entry n kind)) (defaults_in name os))
     look name true e = some (entry_at name E) (pick (bytes_eq n name) (default_entry n kind))
@@ -100,8 +101,12 @@ given_keeps n kind os E there later = (later.0, ap (λ rows. fold with_default r
 -- an option without a default leaves no row
 nothing_added : (n : Text) (kind : Kind) (os : Options) (E : List Entry) → with_default (map entry_row E) (rule_from n kind) ≡ map entry_row E → default_entry n kind ≡ None
     → WithDefaults os E → WithDefaults ((n, kind) ∷ os) E
-nothing_added n kind os E same empty later = (later.0, ap (λ rows. fold with_default rows (rules_from os)) same ∙ later.1, λ name. later.2 name
-    ∙ ap (λ d. option_or (entry_at name E) (option_or d (defaults_in name os))) (sym (ap (pick (bytes_eq n name)) empty ∙ pick_none (bytes_eq n name))))
+nothing_added n kind os E same empty later = (
+  later.0,
+  ap (λ rows. fold with_default rows (rules_from os)) same ∙ later.1,
+  λ name. later.2 name
+      ∙ ap (λ d. option_or (entry_at name E) (option_or d (defaults_in name os))) (sym (ap (pick (bytes_eq n name)) empty ∙ pick_none (bytes_eq n name))),
+)
 
 -- an option with a default leaves a row of it
 default_added : (n : Text) (kind : Kind) (os : Options) (E : List Entry) (e : Entry) → with_default (map entry_row E) (rule_from n kind) ≡ map entry_row (E ++ e ∷ [])
@@ -175,6 +180,7 @@ look_is os given name default =
         of_entry : (found : Option Entry) → option_and_then (λ (r : Row). slice_get r.values 0) (option_map entry_row found) ≡ value_in found
         of_entry None = refl
         of_entry (Some x) = refl
+
     of_given : (found : Option Text) → value_in (option_or (option_map (λ v. (name, v, CommandLine)) found) (defaults_in name os)) ≡ option_or found (default_of (found_at name os))
     of_given None = default
     of_given (Some v) = refl

@@ -1,5 +1,5 @@
 -- What is found on words, row by row.
-use Rattle.std.proofs.Common.{◌≡◌, ◌∙◌, ◌&&◌, ◌||◌, ℕ, Bool, true, false, not, refl, sym, ap, List, [], ◌∷◌, ◌++◌, map, Option, Some, None, is_some, option_map, codes, find, cond, subst, true≢false}
+use Rattle.std.proofs.Common.{◌≡◌, ◌∙◌, ◌||◌, Bool, true, false, refl, sym, ap, List, [], ◌∷◌, ◌++◌, Some, None, codes, cond, true≢false}
 use Rattle.std.specs.Str.{bytes_eq}
 use Rattle.std.proofs.lemmas.List.{append-nil}
 use Rattle.clap.specs.Walk.{Row, Text, at_row, has_row, more_values, used}
@@ -7,7 +7,7 @@ use Rattle.clap.specs.Faults.{use_fault}
 use Rattle.clap.specs.declared.error.kind.ErrorKind.TheVariants.{ArgumentConflict}
 use Rattle.clap.specs.declared.parser.matches.ValueSource.TheVariants.{CommandLine}
 use Rattle.clap.specs.declared.builder.value_parser.Reading.TheVariants.{AsWritten}
-use Rattle.cob_convert_line.proofs.Rules.{flag_rule, or_false, same_as_itself, valued_rule}
+use Rattle.cob_convert_line.proofs.Rules.{flag_rule, or_false, valued_rule}
 
 -- the row of an option that is given
 abbrev pub given_row : Text × Text → Row

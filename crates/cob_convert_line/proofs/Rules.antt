@@ -1,5 +1,5 @@
 -- The rules of `clap` for options of this crate, and how it finds them.
-use Rattle.std.proofs.Common.{◌≡◌, ◌∙◌, ◌&&◌, ◌||◌, ◌==◌, ℕ, Bool, true, false, not, refl, sym, ap, List, [], ◌∷◌, map, Option, Some, None, is_some, option_map, codes, find, cond, subst, true≢false}
+use Rattle.std.proofs.Common.{◌≡◌, ◌&&◌, ◌||◌, ◌==◌, ℕ, Bool, true, false, not, refl, ap, List, [], ◌∷◌, Option, Some, None, is_some, option_map, codes, find, cond}
 use Rattle.std.specs.Str.{bytes_eq}
 use Rattle.std.proofs.lemmas.Slice.Eq.{bytes_eq-Decides}
 use Rattle.clap.specs.Walk.{Rule, Text, arg_by_id, arg_by_index, arg_by_long, arg_by_short, has_long}
@@ -109,6 +109,7 @@ by_short (o ∷ os) x = go o.1 (by_short os x)
     asks : (b : Bool) → AsksOrNot (arg_by_short (rules_from os) x) → AsksOrNot (cond b (Some (request_rule o.0)) (arg_by_short (rules_from os) x))
     asks true later = (o.0, refl)
     asks false later = later
+
     go : (kind : Kind) → AsksOrNot (arg_by_short (rules_from os) x) → AsksOrNot (arg_by_short (rule_from o.0 kind ∷ rules_from os) x)
     go Required later = later
     go (Default value) later = later

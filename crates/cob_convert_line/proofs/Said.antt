@@ -1,10 +1,9 @@
 -- What the parser finds is what the words say.
-use Rattle.std.proofs.Common.{◌⊎◌, inl, inr, Result, Ok, Err, IsErrAnd, IfErr, ◌≡◌, ◌∙◌, ◌||◌, Bool, true, false, refl, sym, ap, ap₂, List, [], ◌∷◌, Option, Some, None, is_some, codes, subst, true≢false}
+use Rattle.std.proofs.Common.{◌⊎◌, inl, inr, Result, Ok, Err, IsErrAnd, IfErr, ◌≡◌, ◌∙◌, Bool, false, refl, sym, ap, List, [], ◌∷◌, Option, Some, None, is_some, codes, subst, true≢false}
 use Rattle.std.specs.Prelude.{unwrap_or}
 use Rattle.std.specs.Option.{option_map_or, option_or}
 use Rattle.std.specs.Str.{bytes_eq}
 use Rattle.clap.specs.Words.{Row, Text, first_of, subcommand_of}
-use Rattle.clap.specs.Walk.{rows_after}
 use Rattle.clap.specs.Faults.{fault_of}
 use Rattle.clap.specs.Kinds.{HasKind, Kinds}
 use Rattle.clap.specs.declared.error.Error.{Error}
@@ -20,7 +19,6 @@ use Rattle.cob_convert_line.specs.declared.line.ConvertLine.{ConvertLine}
 use Rattle.cob_convert_line.specs.declared.line.CheckLine.{CheckLine}
 use Rattle.cob_convert_line.specs.declared.line.LayoutLine.{LayoutLine}
 use Rattle.cob_convert_line.specs.declared.line.ShowLine.{ShowLine}
-use Rattle.cob_convert_line.proofs.Rules.{rules_from}
 use Rattle.cob_convert_line.proofs.Level.{AreThere, level_complete, level_rows, level_sound, look_is, rows_of_given}
 use Rattle.cob_convert_line.proofs.Walks.{AreNames}
 use Rattle.cob_convert_line.proofs.Top.{known_fault, known_rows, unknown}
@@ -66,14 +64,26 @@ named_options w name os named is same here = ap (λ o. unwrap_or o []) (sym here
 said_of : (w : Text) (os : Options) (given : Given) (said : Line) → found_at w commands ≡ Some os → IsCommand w (λ id. first_of id (rows_of_given os given)) said
     → IsCommand w (taken os given) said
 said_of w os given line.Job is h = h
-said_of w os given (line.Convert o) is h = (h.0, subst (λ (x : Options). IsConvert (λ id. first_of id (rows_of_given x given)) o → IsConvert (taken x given) o)
-    (named_options w (codes "convert") os convert_options is h.0 refl) (convert_said given o) h.1)
-said_of w os given (line.Check o) is h = (h.0, subst (λ (x : Options). IsCheck (λ id. first_of id (rows_of_given x given)) o → IsCheck (taken x given) o)
-    (named_options w (codes "check") os check_options is h.0 refl) (check_said given o) h.1)
-said_of w os given (line.Layout o) is h = (h.0, subst (λ (x : Options). IsLayout (λ id. first_of id (rows_of_given x given)) o → IsLayout (taken x given) o)
-    (named_options w (codes "layout") os layout_options is h.0 refl) (layout_said given o) h.1)
-said_of w os given (line.Show o) is h = (h.0, subst (λ (x : Options). IsShow (λ id. first_of id (rows_of_given x given)) o → IsShow (taken x given) o)
-    (named_options w (codes "show") os show_options is h.0 refl) (show_said given o) h.1)
+said_of w os given (line.Convert o) is h = (
+  h.0,
+  subst (λ (x : Options). IsConvert (λ id. first_of id (rows_of_given x given)) o → IsConvert (taken x given) o)
+      (named_options w (codes "convert") os convert_options is h.0 refl) (convert_said given o) h.1,
+)
+said_of w os given (line.Check o) is h = (
+  h.0,
+  subst (λ (x : Options). IsCheck (λ id. first_of id (rows_of_given x given)) o → IsCheck (taken x given) o)
+      (named_options w (codes "check") os check_options is h.0 refl) (check_said given o) h.1,
+)
+said_of w os given (line.Layout o) is h = (
+  h.0,
+  subst (λ (x : Options). IsLayout (λ id. first_of id (rows_of_given x given)) o → IsLayout (taken x given) o)
+      (named_options w (codes "layout") os layout_options is h.0 refl) (layout_said given o) h.1,
+)
+said_of w os given (line.Show o) is h = (
+  h.0,
+  subst (λ (x : Options). IsShow (λ id. first_of id (rows_of_given x given)) o → IsShow (taken x given) o)
+      (named_options w (codes "show") os show_options is h.0 refl) (show_said given o) h.1,
+)
 
 -- words that pass say what the parser finds in them
 pub said_by : (words : List Text) (name : Text) (rows : List Row) (said : Line) → (words ≡ [] → ⊥) → fault_of program_app words ≡ []
@@ -86,7 +96,7 @@ said_by (w ∷ rest) name rows said some passed found h = go (found_at w command
     go (Some os) is =
         let level = level_sound w os rest (sym (known_fault w os is rest) ∙ passed) in
         let same : ◌≡◌ {A = Text × List Row} (name, rows) (w, rows_of_given os level.0) =
-            ap (λ o. unwrap_or o (name, rows)) (sym found ∙ (known_rows w os is rest ∙ ap (λ r. Some (w, r)) level.2)) in
+        ap (λ o. unwrap_or o (name, rows)) (sym found ∙ (known_rows w os is rest ∙ ap (λ r. Some (w, r)) level.2)) in
         (os, level.0, is, level.1, said_of w os level.0 said is (subst (λ (p : Text × List Row). IsCommand p.0 (λ id. first_of id p.1) said) same h))
 
 -- and words that say something pass, and the parser finds it in them
@@ -148,19 +158,19 @@ back_of : (w : Text) (os : Options) (given : Given) (said : Line) → found_at w
 back_of w os given line.Job is h = absurd h
 back_of w os given (line.Convert o) is h =
     let found = subst (λ (x : Options). IsConvert (taken x given) o → AreNames x × AreThere x given × IsConvert (λ id. first_of id (rows_of_given x given)) o)
-        (named_options w (codes "convert") os convert_options is h.0 refl) (convert_back given o) h.1 in
+    (named_options w (codes "convert") os convert_options is h.0 refl) (convert_back given o) h.1 in
     (found.0, found.1, (h.0, found.2))
 back_of w os given (line.Check o) is h =
     let found = subst (λ (x : Options). IsCheck (taken x given) o → AreNames x × AreThere x given × IsCheck (λ id. first_of id (rows_of_given x given)) o)
-        (named_options w (codes "check") os check_options is h.0 refl) (check_back given o) h.1 in
+    (named_options w (codes "check") os check_options is h.0 refl) (check_back given o) h.1 in
     (found.0, found.1, (h.0, found.2))
 back_of w os given (line.Layout o) is h =
     let found = subst (λ (x : Options). IsLayout (taken x given) o → AreNames x × AreThere x given × IsLayout (λ id. first_of id (rows_of_given x given)) o)
-        (named_options w (codes "layout") os layout_options is h.0 refl) (layout_back given o) h.1 in
+    (named_options w (codes "layout") os layout_options is h.0 refl) (layout_back given o) h.1 in
     (found.0, found.1, (h.0, found.2))
 back_of w os given (line.Show o) is h =
     let found = subst (λ (x : Options). IsShow (taken x given) o → AreNames x × AreThere x given × IsShow (λ id. first_of id (rows_of_given x given)) o)
-        (named_options w (codes "show") os show_options is h.0 refl) (show_back given o) h.1 in
+    (named_options w (codes "show") os show_options is h.0 refl) (show_back given o) h.1 in
     (found.0, found.1, (h.0, found.2))
 
 pub found_by : (words : List Text) (said : Line) → (words ≡ [] → ⊥) → IsCommandLineOf words said
@@ -169,9 +179,13 @@ found_by [] said some h = absurd (some refl)
 found_by (w ∷ rest) said some h =
     let os = h.0 in
     let given = h.1 in
-    let back = back_of w os given said h.2 h.4 in
-    (known_fault w os h.2 rest ∙ level_complete w os rest given back.0 h.3 back.1, w, rows_of_given os given,
-    known_rows w os h.2 rest ∙ ap (λ r. Some (w, r)) (level_rows w os rest given back.0 h.3), back.2)
+    let back = back_of w os given said h.2 h.4 in (
+      known_fault w os h.2 rest ∙ level_complete w os rest given back.0 h.3 back.1,
+      w,
+      rows_of_given os given,
+      known_rows w os h.2 rest ∙ ap (λ r. Some (w, r)) (level_rows w os rest given back.0 h.3),
+      back.2,
+    )
 
 -- what words say is what the parser found
 pub named_by : (words : List Text) (name : Text) (rows : List Row) (said : Line) → (words ≡ [] → ⊥) → subcommand_of program_app words ≡ Some (name, rows)

@@ -1,11 +1,11 @@
 -- The first word names a command, and the words behind it are its options.
-use Rattle.std.proofs.Common.{◌≡◌, ◌∙◌, ◌&&◌, ◌||◌, ◌⊎◌, inl, inr, ◌==◌, ℕ, Bool, true, false, not, refl, sym, ap, ap₂, List, [], ◌∷◌, ◌++◌, map, length, Option, Some, None, is_some, option_map, codes, find, fold, cond, subst, true≢false}
+use Rattle.std.proofs.Common.{◌≡◌, ◌∙◌, ◌||◌, ◌⊎◌, inl, inr, ◌==◌, ℕ, Bool, true, false, refl, sym, ap, ap₂, List, [], ◌∷◌, length, Option, Some, None, is_some, option_map, codes, find, fold, cond, subst, true≢false}
 use Rattle.std.specs.Prelude.{if◌then◌else◌, slice_get}
 use Rattle.std.specs.Option.{option_map_or}
 use Rattle.std.specs.Str.{bytes_eq, chars}
 use Rattle.clap.specs.Lexer.{long_of, short_of}
-use Rattle.clap.specs.Walk.{Held, Names, Row, Rule, Text, Walk, answers_to, bundle_met, finished, nothing_held, rows_after, settled, walk, walk_from, walked}
-use Rattle.clap.specs.Simple.{App, Shape, built, entered, filled, help_rule, version_rule, label_of, names_of, rows_at, subcommand_of}
+use Rattle.clap.specs.Walk.{Held, Names, Rule, Text, Walk, answers_to, bundle_met, finished, nothing_held, rows_after, settled, walk, walk_from, walked}
+use Rattle.clap.specs.Simple.{Shape, built, entered, filled, help_rule, version_rule, label_of, names_of, rows_at, subcommand_of}
 use Rattle.clap.specs.Kinds.{Kinds, or_else}
 use Rattle.clap.specs.Faults.{check_fault, defaults_fault, entered_fault, bundle_fault, bundle_step_fault, fault_of, flag_word_fault, other_fault, flags_fault, level_fault, long_fault, short_fault, settle_fault, turn_fault, walk_fault}
 use Rattle.clap.specs.declared.error.kind.ErrorKind.TheVariants.{DisplayHelp, DisplayVersion, InvalidSubcommand, MissingSubcommand, TooManyValues, UnknownArgument}
@@ -15,9 +15,9 @@ use Rattle.clap.proofs.OnLiterals.{clap_on_literals}
 use Rattle.cob_convert_line.specs.Options.{Options, found_at}
 use Rattle.cob_convert_line.specs.Lines.{commands}
 use Rattle.cob_convert_line.specs.Program.{program_app}
-use Rattle.cob_convert_line.proofs.Rules.{or_false, rules_from, same_text}
+use Rattle.cob_convert_line.proofs.Rules.{rules_from, same_text}
 use Rattle.cob_convert_line.proofs.Turns.{dashes, leaf_shape, not_nil, or_else_first, or_else_next}
-use Rattle.cob_convert_line.proofs.Forms.{Form, IsLong, IsPlain, form_of, hyphens, letters, option, value}
+use Rattle.cob_convert_line.proofs.Forms.{Form, IsPlain, form_of, hyphens, letters, option, value}
 
 abbrev Commands : Type 0
 Commands = List (Text × Options)
@@ -186,17 +186,21 @@ module _ (w : Text) (rest : List Text) (is : found_at w commands ≡ None) (pass
       only [] e later all = not_nil MissingSubcommand [] (sym only_hyphens ∙ (sym (ap (λ v. fault_of program_app (v ∷ [])) e) ∙ all))
       only (x ∷ xs) e later all = behind_hyphens x xs
           (sym (ap (λ v. walk_fault top all_names v (x ∷ xs)) (ap (walked top.rules all_names (walk_from nothing_held)) e ∙ hyphens_walked)) ∙ later)
+
       as_option : (n : Text) (given : Option Text) → bytes_eq w dashes ≡ false → long_of w ≡ Some (n, given) → ⊥
       as_option n given other long = asked (bytes_eq (codes "help") n || false) (bytes_eq (codes "version") n || false) given
           (sym (ap (λ o. flag_word_fault top.rules false o w nothing_held) long) ∙ flag_passes other)
+
       as_letters : (f : ℕ) (flags : Text) (x : ℕ) → bytes_eq w dashes ≡ false → long_of w ≡ None → short_of w ≡ Some (f ∷ flags) → slice_get (chars (f ∷ flags)) 0 ≡ Some x → ⊥
       as_letters f flags x other long short letter = asked_shortly ((104 == x) || false) ((86 == x) || false) _ _
           (sym (ap (λ o. bundle_step_fault top.rules false o (f ∷ flags) 0 nothing_held (flags_fault top.rules false (length flags))) letter)
           ∙ (sym (ap (λ o. option_map_or (λ fs. bundle_fault top.rules false fs nothing_held) o []) short)
           ∙ (sym (ap (λ o. flag_word_fault top.rules false o w nothing_held) long) ∙ flag_passes other)))
+
       as_value : IsPlain w → (short_of w ≡ None) ⊎ ((f : ℕ) × (flags : Text) × (short_of w ≡ Some (f ∷ flags)) × (slice_get (chars (f ∷ flags)) 0 ≡ None)) → ⊥
       as_value plain (inl short) = not_nil UnknownArgument (InvalidSubcommand ∷ []) (sym (stray_plain plain.other plain.long short) ∙ first_passes)
       as_value plain (inr found) = not_nil UnknownArgument (InvalidSubcommand ∷ []) (sym (stray_letters found.0 found.1 plain.other plain.long found.2 found.3) ∙ first_passes)
+
       go : (v : Text) → v ≡ w → Form v → ⊥
       go v e hyphens = only rest (sym e) later_passes passed
       go v e (option u n given long spelt no_value) = as_option n given (ap (λ x. bytes_eq x dashes) (sym e) ∙ long.other) (ap long_of (sym e) ∙ long.long)

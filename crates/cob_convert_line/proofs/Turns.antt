@@ -1,16 +1,16 @@
 -- What each word does behind the name of a command.
-use Rattle.std.proofs.Common.{◌≡◌, ◌∙◌, ◌&&◌, ◌||◌, ◌==◌, ◌+◌, ◌⊎◌, inl, inr, ℕ, Bool, true, false, not, refl, sym, ap, arith, List, [], ◌∷◌, ◌++◌, map, length, take, drop, zero, suc, Option, Some, None, is_some, option_map, codes, find, fold, cond, subst, true≢false}
+use Rattle.std.proofs.Common.{◌≡◌, ◌∙◌, ℕ, Bool, true, false, refl, sym, ap, arith, List, [], ◌∷◌, length, Option, Some, None, option_map, true≢false}
 use Rattle.std.specs.Prelude.{if◌then◌else◌, slice_get}
 use Rattle.std.specs.Option.{option_map_or}
 use Rattle.std.specs.Str.{bytes_eq, chars}
 use Rattle.clap.specs.Lexer.{long_of, short_of}
-use Rattle.clap.specs.Walk.{Held, Row, Rule, Text, Waiting, Walk, arg_by_short, bundle_met, idle, option, settled, settled_rows, used, walk_from, walked}
+use Rattle.clap.specs.Walk.{Held, Row, Rule, Text, Waiting, Walk, arg_by_short, bundle_met, idle, option, settled_rows, used, walk_from, walked}
 use Rattle.clap.specs.Simple.{Shape, new_shape}
 use Rattle.clap.specs.Kinds.{Kinds, or_else}
-use Rattle.clap.specs.Faults.{bundle_fault, bundle_step_fault, flag_word_fault, flags_fault, long_fault, react_fault, settle_fault, short_fault, turn_fault, walk_fault}
+use Rattle.clap.specs.Faults.{bundle_fault, bundle_step_fault, flag_word_fault, flags_fault, long_fault, react_fault, settle_fault, short_fault, turn_fault}
 use Rattle.clap.specs.declared.error.kind.ErrorKind.TheVariants.{InvalidValue, UnknownArgument}
-use Rattle.cob_convert_line.specs.Options.{Alone, Default, Given, Kind, Options, Request, Required, found_at, is_value, option_word, stands_alone, takes_value}
-use Rattle.cob_convert_line.proofs.Rules.{AsksOrNot, by_id, by_index, by_long, by_short, flag_rule, same_as_itself, request_rule, rule_from, rules_from, valued_rule}
+use Rattle.cob_convert_line.specs.Options.{Alone, Default, Kind, Options, Request, Required, found_at, stands_alone, takes_value}
+use Rattle.cob_convert_line.proofs.Rules.{AsksOrNot, by_id, by_index, by_long, by_short, flag_rule, same_as_itself, rule_from, rules_from, valued_rule}
 
 -- a built command with these options, and with no command below it
 abbrev pub leaf_shape : Text → Options → Shape

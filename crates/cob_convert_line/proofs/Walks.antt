@@ -1,15 +1,14 @@
 -- The words behind a command's name: they pass exactly where they are its options, and leave a row for each.
-use Rattle.std.proofs.Common.{◌≡◌, ◌∙◌, ◌&&◌, ◌||◌, ◌⊎◌, inl, inr, ℕ, Bool, true, false, not, refl, sym, ap, List, [], ◌∷◌, ◌++◌, map, Option, Some, None, is_some, option_map, codes, find, fold, length, ◌==◌, cond, subst, ap₂, true≢false}
+use Rattle.std.proofs.Common.{◌≡◌, ◌∙◌, ◌||◌, ◌⊎◌, inl, inr, ℕ, Bool, true, false, refl, sym, ap, List, [], ◌∷◌, ◌++◌, map, Option, Some, None, is_some, option_map, codes, find, fold, length, ◌==◌, cond, subst, ap₂, true≢false}
 use Rattle.std.specs.Prelude.{slice_get}
-use Rattle.std.specs.List.{list_all}
 use Rattle.std.specs.Option.{option_map_or}
 use Rattle.std.specs.Str.{bytes_eq, chars}
 use Rattle.std.proofs.lemmas.List.{append-nil, append_assoc}
 use Rattle.clap.specs.Lexer.{has_byte, long_of, short_of}
-use Rattle.clap.specs.Walk.{Held, Row, Rule, Text, Waiting, Walk, arg_by_id, arg_by_long, has_row, idle, option as option_waits, settled, settled_rows, used, used_by_id, walk_from, walked}
+use Rattle.clap.specs.Walk.{Held, Row, Rule, Text, Waiting, Walk, arg_by_id, has_row, idle, option as option_waits, settled, settled_rows, used, used_by_id, walked}
 use Rattle.clap.specs.Simple.{Shape}
 use Rattle.clap.specs.Kinds.{Kinds, or_else}
-use Rattle.clap.specs.Faults.{flag_word_fault, long_fault, react_fault, settle_fault, turn_fault, use_fault, walk_fault}
+use Rattle.clap.specs.Faults.{flag_word_fault, long_fault, settle_fault, turn_fault, use_fault, walk_fault}
 use Rattle.clap.specs.declared.error.kind.ErrorKind.TheVariants.{ArgumentConflict}
 use Rattle.cob_convert_line.specs.Options.{Alone, AreOptions, Default, Given, Kind, Options, Request, Required, alone, apart, ended, found_at, is_value, joined, none, option_word, stands_alone, takes_value}
 use Rattle.cob_convert_line.proofs.Rules.{by_id, by_long, flag_rule, or_false, rule_from, rules_from, same_as_itself, same_text, valued_rule}
@@ -44,6 +43,7 @@ new_of rows name v given clear = go (has_row name rows) refl
   where
     none_is_some : Some v ≡ None → ⊥
     none_is_some e = true≢false (ap is_some e)
+
     go : (b : Bool) → has_row name rows ≡ b → has_row name rows ≡ false
     go true e = absurd (none_is_some (sym (ap (λ b. option_map (λ (it : Text × Text). it.1) (cond b (Some (name, v)) (find (λ it. bytes_eq it.0 name) given))) (same_as_itself name)) ∙ clear name e))
     go false e = e
@@ -129,8 +129,11 @@ module _ (command : Text) (os : Options) where
       by : (required : Bool) (defaults : List Text) → arg_by_id c n ≡ Some (valued_rule n required defaults)
           → (settle_fault c false (hold rows (Some (n, v ∷ []))) ≡ cond (has_row n rows) (ArgumentConflict ∷ []) [])
           × (has_row n rows ≡ false → settled_rows c (Some (n, v ∷ [])) rows ≡ rows ++ given_row (n, v) ∷ [])
-      by required defaults is = (ap (λ o. option_map_or (λ a. use_fault false a (v ∷ []) rows) o []) is ∙ valued_fault n required defaults v rows,
-          λ new. ap (λ o. used_by_id o (v ∷ []) rows) is ∙ used_valued n required defaults v rows new)
+      by required defaults is = (
+        ap (λ o. option_map_or (λ a. use_fault false a (v ∷ []) rows) o []) is ∙ valued_fault n required defaults v rows,
+        λ new. ap (λ o. used_by_id o (v ∷ []) rows) is ∙ used_valued n required defaults v rows new,
+      )
+
       go : (found : Option Kind) → found_at n os ≡ found → takes_value found ≡ true
           → (settle_fault c false (hold rows (Some (n, v ∷ []))) ≡ cond (has_row n rows) (ArgumentConflict ∷ []) [])
           × (has_row n rows ≡ false → settled_rows c (Some (n, v ∷ [])) rows ≡ rows ++ given_row (n, v) ∷ [])
@@ -175,26 +178,39 @@ module _ (command : Text) (os : Options) where
     where
       bare : settle_fault c false (hold rows (Some (n, []))) ≡ [] → ⊥
       bare = turn.bare_refused command os rows n takes
+
       first : turn_fault s [] (waits n (hold rows (Some (n, [])))) word ≡ []
       first = first_passes (waits n (hold rows (Some (n, [])))) word rest e
+
       with_value : is_value word ≡ true → walked c [] (waits n (hold rows (Some (n, [])))) word ≡ at (hold rows (Some (n, word ∷ []))) → Waited rows n (word ∷ rest)
       with_value is walk =
           let later = ih rows (Some (n, word ∷ [])) (sym (ap (λ x. ends x rest) walk) ∙ later_pass (waits n (hold rows (Some (n, [])))) word rest e) in
           let facts = value_rows n word rows takes in
           let new = no_fault (has_row n rows) (sym facts.0 ∙ later.3) in
-          let same = facts.1 new in
-          (word, rest, refl, is, later.0, later.1, new, subst (λ S. Apart S later.0) same later.2,
-          ap (λ x. rows_behind x rest) walk ∙ (later.4 ∙ (ap (λ S. S ++ map given_row later.0) same ∙ rows_on rows (n, word) later.0)))
+          let same = facts.1 new in (
+            word,
+            rest,
+            refl,
+            is,
+            later.0,
+            later.1,
+            new,
+            subst (λ S. Apart S later.0) same later.2,
+            ap (λ x. rows_behind x rest) walk ∙ (later.4 ∙ (ap (λ S. S ++ map given_row later.0) same ∙ rows_on rows (n, word) later.0)),
+          )
+
       by : IsPlain word → (short_of word ≡ None) ⊎ ((f : ℕ) × (flags : Text) × (short_of word ≡ Some (f ∷ flags)) × (slice_get (chars (f ∷ flags)) 0 ≡ None))
           → walked c [] (waits n (hold rows (Some (n, [])))) word ≡ at (hold rows (Some (n, word ∷ [])))
       by plain (inl short) = (turn.value_turn command os rows n word takes plain.other plain.long short).1
       by plain (inr found) = (turn.value_letters_turn command os rows n word found.0 found.1 takes plain.other plain.long found.2 found.3).1
+
       cut : word ≡ dashes → ⊥
       cut is =
           let after = sym (ap (λ x. ends x rest) (ap (walked c [] (waits n (hold rows (Some (n, []))))) is ∙ turn.waiting_dashes_turn command os n rows (Some (n, []))))
           ∙ later_pass (waits n (hold rows (Some (n, [])))) word rest e in
           let end = past_is_end (option_waits n) (hold rows (Some (n, []))) rest after in
           bare (settles (past (option_waits n) (hold rows (Some (n, [])))) (sym (ap (ends (past (option_waits n) (hold rows (Some (n, []))))) end) ∙ after))
+
       go : (w : Text) → w ≡ word → Form w → Waited rows n (word ∷ rest)
       go w is hyphens = absurd (cut (sym is))
       go w is (option v name given long spelt no_value) = absurd (option_waiting (hold rows (Some (n, []))) w name given long.long bare
@@ -211,33 +227,45 @@ module _ (command : Text) (os : Options) where
     where
       first : turn_fault s [] (at (hold rows p)) word ≡ []
       first = first_passes (at (hold rows p)) word words e
+
       cut : word ≡ dashes → Sound rows p (word ∷ words)
       cut is =
           let walk = ap (walked c [] (at (hold rows p))) is ∙ (turn.dashes_turn command os rows p).1 in
           let after = sym (ap (λ x. ends x words) walk) ∙ later_pass (at (hold rows p)) word words e in
-          let end = past_is_end idle (hold rows p) words after in
-          ([], subst (λ (ws : List Text). AreOptions os ws []) (sym (ap₂ (λ (w : Text) (ws : List Text). w ∷ ws) is end)) ended, λ name there. refl,
-          settles (past idle (hold rows p)) (sym (ap (ends (past idle (hold rows p))) end) ∙ after),
-          ap (λ x. rows_behind x words) walk ∙ (ap (rows_behind (past idle (hold rows p))) end ∙ sym (append-nil (settled_rows c p rows))))
+          let end = past_is_end idle (hold rows p) words after in (
+            [],
+            subst (λ (ws : List Text). AreOptions os ws []) (sym (ap₂ (λ (w : Text) (ws : List Text). w ∷ ws) is end)) ended,
+            λ name there. refl,
+            settles (past idle (hold rows p)) (sym (ap (ends (past idle (hold rows p))) end) ∙ after),
+            ap (λ x. rows_behind x words) walk ∙ (ap (rows_behind (past idle (hold rows p))) end ∙ sym (append-nil (settled_rows c p rows))),
+          )
+
       named : (n : Text) → IsLong word n None → word ≡ option_word n → takes_value (found_at n os) ≡ true → Sound rows p (word ∷ words)
       named n long spelt takes =
           let walk = turn.named_walk command os rows p word n long.other long.long takes in
           let w = waiting_sound (settled_rows c p rows) n words takes behind (sym (ap (λ x. ends x words) walk) ∙ later_pass (at (hold rows p)) word words e) in
-          let given = w.4 in
-          (((n, w.0) ∷ given), subst (λ (ws : List Text). AreOptions os ws ((n, w.0) ∷ given)) (sym (ap₂ (λ (x : Text) (ws : List Text). x ∷ ws) spelt w.2))
-          (apart n w.0 w.1 given takes w.3 (fresh_next (settled_rows c p rows) n w.0 given w.7) w.5),
-          apart_next (settled_rows c p rows) n w.0 given w.6 w.7,
-          or_else_first _ _ (sym (turn.named_turn command os rows p word n long.other long.long takes) ∙ first),
-          ap (λ x. rows_behind x words) walk ∙ w.8)
+          let given = w.4 in (
+            ((n, w.0) ∷ given),
+            subst (λ (ws : List Text). AreOptions os ws ((n, w.0) ∷ given)) (sym (ap₂ (λ (x : Text) (ws : List Text). x ∷ ws) spelt w.2))
+                (apart n w.0 w.1 given takes w.3 (fresh_next (settled_rows c p rows) n w.0 given w.7) w.5),
+            apart_next (settled_rows c p rows) n w.0 given w.6 w.7,
+            or_else_first _ _ (sym (turn.named_turn command os rows p word n long.other long.long takes) ∙ first),
+            ap (λ x. rows_behind x words) walk ∙ w.8,
+          )
+
       with_row : (n v : Text) (X : List Row) → settle_fault c false (hold rows p) ≡ [] → has_row n (settled_rows c p rows) ≡ false
           → X ≡ settled_rows c p rows ++ given_row (n, v) ∷ [] → walked c [] (at (hold rows p)) word ≡ at (hold X None)
           → ((given : Given) → found_at n given ≡ None → AreOptions os words given → AreOptions os (word ∷ words) ((n, v) ∷ given)) → Sound rows p (word ∷ words)
       with_row n v X settle new same walk make =
           let later = ih X None (sym (ap (λ x. ends x words) walk) ∙ later_pass (at (hold rows p)) word words e) in
-          let clear = subst (λ R. Apart R later.0) same later.2 in
-          (((n, v) ∷ later.0), make later.0 (fresh_next (settled_rows c p rows) n v later.0 clear) later.1,
-          apart_next (settled_rows c p rows) n v later.0 new clear, settle,
-          ap (λ x. rows_behind x words) walk ∙ (later.4 ∙ (ap (λ R. R ++ map given_row later.0) same ∙ rows_on (settled_rows c p rows) (n, v) later.0)))
+          let clear = subst (λ R. Apart R later.0) same later.2 in (
+            ((n, v) ∷ later.0),
+            make later.0 (fresh_next (settled_rows c p rows) n v later.0 clear) later.1,
+            apart_next (settled_rows c p rows) n v later.0 new clear,
+            settle,
+            ap (λ x. rows_behind x words) walk ∙ (later.4 ∙ (ap (λ R. R ++ map given_row later.0) same ∙ rows_on (settled_rows c p rows) (n, v) later.0)),
+          )
+
       by_equals : (n v : Text) → IsLong word n (Some v) → word ≡ option_word (n ++ 61 ∷ v) → takes_value (found_at n os) ≡ true → Sound rows p (word ∷ words)
       by_equals n v long spelt takes =
           let t = turn.joined_turn command os rows p word n v long.other long.long takes in
@@ -245,6 +273,7 @@ module _ (command : Text) (os : Options) where
           let new = no_fault (has_row n (settled_rows c p rows)) (sym (valued_fault n t.0 t.1 v (settled_rows c p rows)) ∙ or_else_next _ _ passed) in
           with_row n v (used (valued_rule n t.0 t.1) (v ∷ []) (settled_rows c p rows)) (or_else_first _ _ passed) new (used_valued n t.0 t.1 v (settled_rows c p rows) new) t.3
           (λ given fresh A. subst (λ (x : Text). AreOptions os (x ∷ words) ((n, v) ∷ given)) (sym spelt) (joined n v words given takes fresh A))
+
       flagged : (n : Text) → IsLong word n None → word ≡ option_word n → stands_alone (found_at n os) ≡ true → Sound rows p (word ∷ words)
       flagged n long spelt stands =
           let t = turn.alone_turn command os rows p word n long.other long.long stands in
@@ -252,6 +281,7 @@ module _ (command : Text) (os : Options) where
           let new = no_fault (has_row n (settled_rows c p rows)) (sym (flag_fault n (settled_rows c p rows)) ∙ or_else_next _ _ passed) in
           with_row n (codes "true") (used (flag_rule n) [] (settled_rows c p rows)) (or_else_first _ _ passed) new (used_flag n (settled_rows c p rows) new) t.1
           (λ given fresh A. subst (λ (x : Text). AreOptions os (x ∷ words) ((n, codes "true") ∷ given)) (sym spelt) (alone n words given stands fresh A))
+
       known : (b : Bool) (n : Text) (given : Option Text) → takes_value (found_at n os) ≡ b → IsLong word n given → word ≡ option_word (spelled n given)
           → Sound rows p (word ∷ words)
       known true n None takes long spelt = named n long spelt takes
@@ -263,9 +293,11 @@ module _ (command : Text) (os : Options) where
           single false stands = absurd (turn.other_option command os (hold rows p) word n None long.long takes (λ is. stands) (turn.idle_word command os (hold rows p) word long.other first))
       known false n (Some v) takes long spelt = absurd (turn.other_option command os (hold rows p) word n (Some v) long.long takes
           (λ is. absurd (true≢false (ap is_some is))) (turn.idle_word command os (hold rows p) word long.other first))
+
       stray : IsPlain word → (short_of word ≡ None) ⊎ ((f : ℕ) × (flags : Text) × (short_of word ≡ Some (f ∷ flags)) × (slice_get (chars (f ∷ flags)) 0 ≡ None)) → ⊥
       stray plain (inl short) = turn.stray_refused command os rows p word plain.other plain.long short first
       stray plain (inr found) = turn.stray_letters_refused command os rows p word found.0 found.1 plain.other plain.long found.2 found.3 first
+
       go : (w : Text) → w ≡ word → Form w → Sound rows p (word ∷ words)
       go w is hyphens = cut (sym is)
       go w is (option v n given long spelt no_value) = known (takes_value (found_at n os)) n given refl (subst (λ x. IsLong x n given) is long) (sym is ∙ spelt)
@@ -336,9 +368,10 @@ module _ (command : Text) (os : Options) (names : AreNames os) where
   with_later : (w : Walk) (word : Text) (words : List Text) (X S : List Row) (q : Option (Text × List Text)) (n v : Text) (given : Given)
       → turn_fault (leaf_shape command os) [] w word ≡ [] → walked rules [] w word ≡ at (hold X q) → settled_rows rules q X ≡ S ++ given_row (n, v) ∷ []
       → Passes X q words given → (ends command os w (word ∷ words) ≡ []) × (rows_behind command os w (word ∷ words) ≡ S ++ map given_row ((n, v) ∷ given))
-  with_later w word words X S q n v given first walk same later =
-      (all_pass command os w word words first (ap (λ x. ends command os x words) walk ∙ later.0),
-      ap (λ x. rows_behind command os x words) walk ∙ (later.1 ∙ (ap (λ R. R ++ map given_row given) same ∙ append_assoc S (given_row (n, v) ∷ []) (map given_row given))))
+  with_later w word words X S q n v given first walk same later = (
+    all_pass command os w word words first (ap (λ x. ends command os x words) walk ∙ later.0),
+    ap (λ x. rows_behind command os x words) walk ∙ (later.1 ∙ (ap (λ R. R ++ map given_row given) same ∙ append_assoc S (given_row (n, v) ∷ []) (map given_row given))),
+  )
 
   named_passes : (name v : Text) (words : List Text) (given : Given) → takes_value (found_at name os) ≡ true → is_value v ≡ true → found_at name given ≡ None
       → Complete words given → Complete (option_word name ∷ v ∷ words) ((name, v) ∷ given)
@@ -353,9 +386,10 @@ module _ (command : Text) (os : Options) (names : AreNames os) where
       let new = new_of S name v given clear in
       let same = facts.1 new in
       let behind = later S (Some (name, v ∷ [])) (facts.0 ∙ unless (has_row name S) new) (subst (λ R. Apart R given) (sym same) (later_of S name v given fresh clear)) in
-      let rest = with_later (waits name (hold S (Some (name, [])))) v words S S (Some (name, v ∷ [])) name v given two.0 two.1 same behind in
-      (all_pass command os (at (hold rows p)) (option_word name) (v ∷ words) turn_one (ap (λ x. ends command os x (v ∷ words)) walk_one ∙ rest.0),
-      ap (λ x. rows_behind command os x (v ∷ words)) walk_one ∙ rest.1)
+      let rest = with_later (waits name (hold S (Some (name, [])))) v words S S (Some (name, v ∷ [])) name v given two.0 two.1 same behind in (
+        all_pass command os (at (hold rows p)) (option_word name) (v ∷ words) turn_one (ap (λ x. ends command os x (v ∷ words)) walk_one ∙ rest.0),
+        ap (λ x. rows_behind command os x (v ∷ words)) walk_one ∙ rest.1,
+      )
 
   joined_passes : (name v : Text) (words : List Text) (given : Given) → takes_value (found_at name os) ≡ true → found_at name given ≡ None
       → Complete words given → Complete (option_word (name ++ 61 ∷ v) ∷ words) ((name, v) ∷ given)
@@ -387,9 +421,10 @@ module _ (command : Text) (os : Options) (names : AreNames os) where
 
   ended_passes : Complete (dashes ∷ []) []
   ended_passes rows p settle clear =
-      let t = turn.dashes_turn command os rows p in
-      (all_pass command os (at (hold rows p)) dashes [] t.0 (ap (λ x. ends command os x []) t.1 ∙ no_words command os (past idle (hold rows p)) settle),
-      ap (λ x. rows_behind command os x []) t.1 ∙ sym (append-nil (settled_rows rules p rows)))
+      let t = turn.dashes_turn command os rows p in (
+        all_pass command os (at (hold rows p)) dashes [] t.0 (ap (λ x. ends command os x []) t.1 ∙ no_words command os (past idle (hold rows p)) settle),
+        ap (λ x. rows_behind command os x []) t.1 ∙ sym (append-nil (settled_rows rules p rows)),
+      )
 
   no_words_pass : Complete [] []
   no_words_pass rows p settle clear = (no_words command os (at (hold rows p)) settle, sym (append-nil (settled_rows rules p rows)))
