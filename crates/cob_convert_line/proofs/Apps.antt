@@ -1,12 +1,10 @@
 -- What the parser says of a command, and of what it found, in the words of this crate.
-use Rattle.std.proofs.Common.{◌≡◌, ◌∙◌, ◌&&◌, ◌==◌, ℕ, arith, length, map, eqb-true, Bool, List, [], ◌∷◌, Option, Some, None, option_map, true, false, refl, sym, ap, ap₂, true≢false}
+use Rattle.std.proofs.Common.{◌≡◌, ◌&&◌, ◌==◌, arith, length, map, eqb-true, Bool, List, [], ◌∷◌, Option, Some, None, option_map, true, false, refl, sym, ap, ap₂, true≢false}
 use Rattle.std.specs.Prelude.{not, is_some, unwrap_or}
-use Rattle.clap.specs.Words.{Row, Text, app_of, subcommand_of}
+use Rattle.clap.specs.Words.{Row, Text, app_of}
 use Rattle.clap.specs.declared.builder.command.Command.{Command}
 use Rattle.clap.specs.declared.builder.command.Command.TheViews.{out-Command}
-use Rattle.cob_convert_line.specs.Lines.{IsCommand, IsCommandLineOf, IsReading}
-use Rattle.cob_convert_line.specs.Program.{program_app}
-use Rattle.cob_convert_line.specs.declared.line.Line.{Line}
+use Rattle.cob_convert_line.specs.Lines.{IsCommandLineOf}
 use Rattle.cob_convert_line.specs.declared.line.Line.TheVariants as line
 
 third_is_false : (a b c d : Bool) → (a && (not b && (not c && d))) ≡ true → c ≡ false
@@ -26,11 +24,6 @@ pub both_parts : {X : Type 0} (found : Option X) (name_of : X → Text) (rows_of
 both_parts None name_of rows_of name rows n r = absurd (true≢false (sym (ap is_some n)))
 both_parts (Some x) name_of rows_of name rows n r =
     ap₂ (λ (a : Text) (b : List Row). Some (a, b)) (ap (λ o. unwrap_or o name) n) (ap (λ o. unwrap_or o rows) r)
-
--- the reading of words that are there is the line's
-pub said_by : (words : List Text) (said : Line) → (words ≡ [] → ⊥) → IsReading (subcommand_of program_app words) said → IsCommandLineOf words said
-said_by [] said some h = absurd (some refl)
-said_by (word ∷ words) said some h = h
 
 -- no words are a job
 pub none_said : {X : Type 0} (text : X → Text) (words : List X) → (length words == 0) ≡ true → IsCommandLineOf (map text words) line.Job

@@ -1,1 +1,9 @@
+pub mod Rules
+pub mod Rows
+pub mod Turns
+pub mod Forms
+pub mod Walks
+pub mod Level
+pub mod Top
+pub mod Said
 pub mod Apps

@@ -1,14 +1,14 @@
 -- What a command line says.
-use Rattle.std.specs.Prelude.{◌≡◌, ◌==◌, Bool, true, false, List, [], ◌∷◌, Some, None, Option, Result, if◌then◌else◌, codes}
+use Rattle.std.specs.Prelude.{◌≡◌, Bool, false, List, [], ◌∷◌, Some, None, Option, if◌then◌else◌, codes}
 use Rattle.std.specs.Str.{bytes_eq}
 use Rattle.std.specs.Option.{option_map_or}
-use Rattle.clap.specs.Words.{Row, Text, first_of, kind_of, one_of, subcommand_of}
+use Rattle.clap.specs.Words.{Text, kind_of}
 use Rattle.clap.specs.declared.error.Error.{Error}
 use Rattle.clap.specs.declared.error.kind.ErrorKind.{ErrorKind}
 use Rattle.clap.specs.declared.error.kind.ErrorKind.TheVariants as kind
 use Rattle.cob_records.specs.declared.records.Form.{Form}
 use Rattle.cob_records.specs.declared.records.Form.TheVariants.{Fixed, Variable}
-use Rattle.cob_convert_line.specs.Program.{program_app}
+use Rattle.cob_convert_line.specs.Options.{Alone, AreOptions, Default, Given, Options, Request, Required, found_at, taken}
 use Rattle.cob_convert_line.specs.declared.line.Line.{Line}
 use Rattle.cob_convert_line.specs.declared.line.Line.TheVariants as line
 use Rattle.cob_convert_line.specs.declared.line.ConvertLine.{ConvertLine}
@@ -37,52 +37,74 @@ abbrev pub form_by_letter : Text → Option Form
 form_by_letter letter = if bytes_eq letter (codes "f") then Some Fixed
     else (if bytes_eq letter (codes "v") then Some Variable else None)
 
--- the flag was given
-abbrev pub is_flagged : Text → List Row → Bool
-is_flagged name rows = option_map_or (λ value. bytes_eq value (codes "true")) (first_of name rows) false
+-- what options name, by the name of each
+abbrev pub Look : Type 0
+Look = Text → Option Text
+
+-- a flag was given
+abbrev pub is_flagged : Text → Look → Bool
+is_flagged name look = option_map_or (λ value. bytes_eq value (codes "true")) (look name) false
 
 -- The options of `convert` name the line's files, its forms and its flag.
-pub record IsConvert (rows : List Row) (line : ConvertLine) : Type 0 where
-  pub in_book : first_of (codes "in-book") rows ≡ Some line.in_book.now
-  pub out_book : first_of (codes "out-book") rows ≡ Some line.out_book.now
-  pub moves : first_of (codes "moves") rows ≡ Some line.moves.now
-  pub input : first_of (codes "in") rows ≡ Some line.input.now
-  pub output : first_of (codes "out") rows ≡ Some line.output.now
-  pub in_form : first_of (codes "in-form") rows ≡ Some (letter_of line.in_form)
-  pub out_form : first_of (codes "out-form") rows ≡ Some (letter_of line.out_form)
-  pub progress : is_flagged (codes "progress") rows ≡ line.progress
+pub record IsConvert (look : Look) (line : ConvertLine) : Type 0 where
+  pub in_book : look (codes "in-book") ≡ Some line.in_book.now
+  pub out_book : look (codes "out-book") ≡ Some line.out_book.now
+  pub moves : look (codes "moves") ≡ Some line.moves.now
+  pub input : look (codes "in") ≡ Some line.input.now
+  pub output : look (codes "out") ≡ Some line.output.now
+  pub in_form : look (codes "in-form") ≡ Some (letter_of line.in_form)
+  pub out_form : look (codes "out-form") ≡ Some (letter_of line.out_form)
+  pub progress : is_flagged (codes "progress") look ≡ line.progress
 
 -- The options of `check` name the line's files.
-pub record IsCheck (rows : List Row) (line : CheckLine) : Type 0 where
-  pub in_book : first_of (codes "in-book") rows ≡ Some line.in_book.now
-  pub out_book : first_of (codes "out-book") rows ≡ Some line.out_book.now
-  pub moves : first_of (codes "moves") rows ≡ Some line.moves.now
+pub record IsCheck (look : Look) (line : CheckLine) : Type 0 where
+  pub in_book : look (codes "in-book") ≡ Some line.in_book.now
+  pub out_book : look (codes "out-book") ≡ Some line.out_book.now
+  pub moves : look (codes "moves") ≡ Some line.moves.now
 
 -- The option of `layout` names the line's file.
-pub record IsLayout (rows : List Row) (line : LayoutLine) : Type 0 where
-  pub book : first_of (codes "book") rows ≡ Some line.book.now
+pub record IsLayout (look : Look) (line : LayoutLine) : Type 0 where
+  pub book : look (codes "book") ≡ Some line.book.now
 
 -- The options of `show` name the line's files, its form and its flag.
-pub record IsShow (rows : List Row) (line : ShowLine) : Type 0 where
-  pub book : first_of (codes "book") rows ≡ Some line.book.now
-  pub input : first_of (codes "in") rows ≡ Some line.input.now
-  pub form : first_of (codes "form") rows ≡ Some (letter_of line.form)
-  pub progress : is_flagged (codes "progress") rows ≡ line.progress
+pub record IsShow (look : Look) (line : ShowLine) : Type 0 where
+  pub book : look (codes "book") ≡ Some line.book.now
+  pub input : look (codes "in") ≡ Some line.input.now
+  pub form : look (codes "form") ≡ Some (letter_of line.form)
+  pub progress : is_flagged (codes "progress") look ≡ line.progress
 
 -- the command is that of the line, and its options name what the line says
-abbrev pub IsCommand : Text → List Row → Line → Type 0
-IsCommand name rows line.Job = ⊥
-IsCommand name rows (line.Convert options) = (name ≡ codes "convert") × IsConvert rows options
-IsCommand name rows (line.Check options) = (name ≡ codes "check") × IsCheck rows options
-IsCommand name rows (line.Layout options) = (name ≡ codes "layout") × IsLayout rows options
-IsCommand name rows (line.Show options) = (name ≡ codes "show") × IsShow rows options
+abbrev pub IsCommand : Text → Look → Line → Type 0
+IsCommand name look line.Job = ⊥
+IsCommand name look (line.Convert options) = (name ≡ codes "convert") × IsConvert look options
+IsCommand name look (line.Check options) = (name ≡ codes "check") × IsCheck look options
+IsCommand name look (line.Layout options) = (name ≡ codes "layout") × IsLayout look options
+IsCommand name look (line.Show options) = (name ≡ codes "show") × IsShow look options
 
--- What words say that name a command: the parser's reading of them, the command's name with a row for each option, is the line's.
-abbrev pub IsReading : Option (Text × List Row) → Line → Type 0
-IsReading None said = ⊥
-IsReading (Some command) said = IsCommand command.0 command.1 said
+-- the options for the three texts, and help
+abbrev pub check_options : Options
+check_options = (codes "in-book", Required) ∷ (codes "out-book", Required) ∷ (codes "moves", Required) ∷ (codes "help", Request) ∷ []
 
--- What the words behind the program's name say: none at all are a job, others name a command with its options.
+-- the options of `convert`
+abbrev pub convert_options : Options
+convert_options = (codes "in-book", Required) ∷ (codes "out-book", Required) ∷ (codes "moves", Required) ∷ (codes "in", Required) ∷ (codes "out", Required)
+    ∷ (codes "in-form", Default (codes "f")) ∷ (codes "out-form", Default (codes "f")) ∷ (codes "progress", Alone) ∷ (codes "help", Request) ∷ []
+
+-- the option of `layout`
+abbrev pub layout_options : Options
+layout_options = (codes "book", Required) ∷ (codes "help", Request) ∷ []
+
+-- the options of `show`
+abbrev pub show_options : Options
+show_options = (codes "book", Required) ∷ (codes "in", Required) ∷ (codes "form", Default (codes "f")) ∷ (codes "progress", Alone) ∷ (codes "help", Request) ∷ []
+
+-- the commands by their names, each with its options
+abbrev pub commands : List (Text × Options)
+commands = (codes "convert", convert_options) ∷ (codes "check", check_options) ∷ (codes "layout", layout_options) ∷ (codes "show", show_options) ∷ []
+
+-- What the words behind the program's name say: none at all are a job; others are the name of a command and then its options, each of which names
+-- what the line says, by the value that it is given or by its default.
 abbrev pub IsCommandLineOf : List Text → Line → Type 0
 IsCommandLineOf [] said = said ≡ line.Job
-IsCommandLineOf (word ∷ words) said = IsReading (subcommand_of program_app (word ∷ words)) said
+IsCommandLineOf (command ∷ words) said = (options : Options) × (given : Given) × (found_at command commands ≡ Some options)
+    × AreOptions options words given × IsCommand command (taken options given) said

@@ -1,6 +1,7 @@
-ghost use Rattle.std.specs.Prelude.{◌≡◌, IfOk, Some, map, option_map};
+ghost use Rattle.std.specs.Prelude.{◌≡◌, ◌⊎◌, IfErr, IfOk, None, Some, map, option_map};
 ghost use Rattle.clap.specs.Words.{first_of, found_of, one_of, rows_of};
 ghost use Rattle.cob_convert_line.specs.Lines.{IsCheck, IsCommand, IsConvert, IsLayout, IsCommandLineOf, IsShow, form_by_letter, is_flagged, letter_of};
+ghost use Rattle.cob_convert_line.specs.declared.fault.LineFault.TheVariants.{Memory};
 
 use crate::fault::LineFault;
 use crate::line::{CheckLine, ConvertLine, LayoutLine, Line, ShowLine};
@@ -23,8 +24,9 @@ fn form_named(letter: &str) -> Option<Form>
 
 // What an option names, where `clap` has seen to it that it is there.
 fn named<'a>(options: &ArgMatches<'a>, name: &str) -> Result<&'a str, LineFault>
-    ensures { IfOk result (λ word.
+    ensures named { IfOk result (λ word.
         first_of name.now (rows_of (found_of options.now)) ≡ Some word.now) }
+    ensures lacks { IfErr result (λ _. first_of name.now (rows_of (found_of options.now)) ≡ None) }
 {
     match options.get_str(name) {
         Some(word) => Ok(word),
@@ -34,15 +36,17 @@ fn named<'a>(options: &ArgMatches<'a>, name: &str) -> Result<&'a str, LineFault>
 
 // The form that an option names.
 fn form(options: &ArgMatches<'_>, name: &str) -> Result<Form, LineFault>
-    ensures { IfOk result (λ form.
+    ensures named { IfOk result (λ form.
         first_of name.now (rows_of (found_of options.now)) ≡ Some (letter_of form)) }
+    ensures lacks { IfErr result (λ _. (form : Form)
+        → first_of name.now (rows_of (found_of options.now)) ≡ Some (letter_of form) → ⊥) }
 {
     form_named(named(options, name)?).ok_or(LineFault::Form)
 }
 
 // Whether a flag was given.
 fn flag(options: &ArgMatches<'_>, name: &str) -> bool
-    ensures { result ≡ is_flagged name.now (rows_of (found_of options.now)) }
+    ensures { result ≡ is_flagged name.now (λ id. first_of id (rows_of (found_of options.now))) }
 {
     match options.get_str(name) {
         Some(value) => value == "true",
@@ -51,7 +55,9 @@ fn flag(options: &ArgMatches<'_>, name: &str) -> bool
 }
 
 fn convert_line<'a>(options: &ArgMatches<'a>) -> Result<ConvertLine<'a>, LineFault>
-    ensures { IfOk result (IsConvert (rows_of (found_of options.now))) }
+    ensures options { IfOk result (IsConvert (λ id. first_of id (rows_of (found_of options.now)))) }
+    ensures lacks { IfErr result (λ _. (line : ConvertLine)
+        → IsConvert (λ id. first_of id (rows_of (found_of options.now))) line → ⊥) }
 {
     Ok(ConvertLine {
         in_book: named(options, "in-book")?,
@@ -66,7 +72,9 @@ fn convert_line<'a>(options: &ArgMatches<'a>) -> Result<ConvertLine<'a>, LineFau
 }
 
 fn check_line<'a>(options: &ArgMatches<'a>) -> Result<CheckLine<'a>, LineFault>
-    ensures { IfOk result (IsCheck (rows_of (found_of options.now))) }
+    ensures options { IfOk result (IsCheck (λ id. first_of id (rows_of (found_of options.now)))) }
+    ensures lacks { IfErr result (λ _. (line : CheckLine)
+        → IsCheck (λ id. first_of id (rows_of (found_of options.now))) line → ⊥) }
 {
     Ok(CheckLine {
         in_book: named(options, "in-book")?,
@@ -76,7 +84,9 @@ fn check_line<'a>(options: &ArgMatches<'a>) -> Result<CheckLine<'a>, LineFault>
 }
 
 fn layout_line<'a>(options: &ArgMatches<'a>) -> Result<LayoutLine<'a>, LineFault>
-    ensures { IfOk result (IsLayout (rows_of (found_of options.now))) }
+    ensures options { IfOk result (IsLayout (λ id. first_of id (rows_of (found_of options.now)))) }
+    ensures lacks { IfErr result (λ _. (line : LayoutLine)
+        → IsLayout (λ id. first_of id (rows_of (found_of options.now))) line → ⊥) }
 {
     Ok(LayoutLine {
         book: named(options, "book")?,
@@ -84,7 +94,9 @@ fn layout_line<'a>(options: &ArgMatches<'a>) -> Result<LayoutLine<'a>, LineFault
 }
 
 fn show_line<'a>(options: &ArgMatches<'a>) -> Result<ShowLine<'a>, LineFault>
-    ensures { IfOk result (IsShow (rows_of (found_of options.now))) }
+    ensures options { IfOk result (IsShow (λ id. first_of id (rows_of (found_of options.now)))) }
+    ensures lacks { IfErr result (λ _. (line : ShowLine)
+        → IsShow (λ id. first_of id (rows_of (found_of options.now))) line → ⊥) }
 {
     Ok(ShowLine {
         book: named(options, "book")?,
@@ -96,7 +108,10 @@ fn show_line<'a>(options: &ArgMatches<'a>) -> Result<ShowLine<'a>, LineFault>
 
 // The line of a command that was named with these options.
 fn command_line<'a>(name: &str, options: &ArgMatches<'a>) -> Result<Line<'a>, LineFault>
-    ensures { IfOk result (IsCommand name.now (rows_of (found_of options.now))) }
+    ensures options { IfOk result (IsCommand name.now
+        (λ id. first_of id (rows_of (found_of options.now)))) }
+    ensures lacks { IfErr result (λ _. (line : Line)
+        → IsCommand name.now (λ id. first_of id (rows_of (found_of options.now))) line → ⊥) }
 {
     match name {
         "convert" => Ok(Line::Convert(convert_line(options)?)),
@@ -115,6 +130,8 @@ fn command_line<'a>(name: &str, options: &ArgMatches<'a>) -> Result<Line<'a>, Li
 /// f nor v, [`LineFault::Memory`].
 pub fn line_of<'a, S: AsStr>(alloc: Global, words: &'a [S]) -> Result<Line<'a>, LineFault>
     ensures options { IfOk result (IsCommandLineOf (map S.text words.entry.now)) }
+    ensures refused { IfErr result (λ fault. (fault ≡ Memory)
+        ⊎ ((line : Line) → IsCommandLineOf (map S.text words.entry.now) line → ⊥)) }
 {
     if words.is_empty() {
         return Ok(Line::Job);
