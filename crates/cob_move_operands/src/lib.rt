@@ -9,9 +9,8 @@
 #![tactic(auto)]
 
 use cob_copybook_tree::Value;
-use cob_layout_places::Ref;
-
 pub use cob_copybook_tree::{Kind, Name, Node};
+use cob_layout_places::Ref;
 pub use cob_layout_places::is_table;
 
 /// The record in which an entry or a fault stands.
