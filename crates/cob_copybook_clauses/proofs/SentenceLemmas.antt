@@ -9,7 +9,7 @@ use Rattle.cob_source.specs.declared.token.Kind.TheVariants as kind
 use Rattle.cob_source.specs.Tokens.{Lexeme, lexeme, lexemes}
 use Rattle.cob_copybook_clauses.specs.declared.term.WordClass.{WordClass}
 use Rattle.cob_copybook_clauses.specs.declared.term.WordClass.TheVariants as term
-use Rattle.cob_copybook_clauses.specs.Terms.{Keyword, term_by, word_class, term_of_kind, term_of_word, clause_words, usage_words, figurative_words, left_out_words, statement_words}
+use Rattle.cob_copybook_clauses.specs.Terms.{Keyword, term_by, word_class, term_of_kind, term_of_word, reserved_words}
 use Rattle.cob_copybook_clauses.specs.Clauses.{IsWord}
 use Rattle.cob_copybook_clauses.specs.Entries.{IsLeftOut, IsLeftOutLevel, IsLeftOutWord, looked_at}
 use Rattle.cob_copybook_clauses.specs.Reading.{StopFirst}
@@ -68,12 +68,7 @@ short_else text other (inr e) more = more e
 
 pub short_word : (text : List ℕ) → term_of_word text ≡ term.LeftOut → IsShort text
 unfolding term_of_word is_short
-short_word text e =
-    short_else text _ (by_table clause_words text term.LeftOut _ (short_table clause_words refl) e) (λ e.
-    short_else text _ (by_table usage_words text term.LeftOut _ (short_table usage_words refl) e) (λ e.
-    short_else text _ (by_table figurative_words text term.LeftOut _ (short_table figurative_words refl) e) (λ e.
-    short_else text _ (by_table left_out_words text term.LeftOut _ (short_table left_out_words refl) e) (λ e.
-    short_else text _ (by_table statement_words text term.LeftOut _ (short_table statement_words refl) e) (λ e. absurd cc)))))
+short_word text e = short_else text _ (by_table reserved_words text term.LeftOut _ (short_table reserved_words refl) e) (λ e. absurd cc)
 
 pub short_lexeme : (k : Kind) (text : List ℕ) → term_of_kind k text ≡ term.LeftOut → IsShort text
 short_lexeme kind.Word text e = short_word text e

@@ -1,5 +1,5 @@
 -- What a word means to the grammar of entries and statements.
-use Rattle.std.specs.Prelude.{ℕ, List, [], ◌∷◌, map, codes, if◌then◌else◌, bytes_eq}
+use Rattle.std.specs.Prelude.{ℕ, ◌==◌, List, [], ◌∷◌, ◌++◌, length, filter, map, codes, if◌then◌else◌, bytes_eq}
 use denote.Ref.{Bor}
 use Rattle.cob_source.specs.Tokens.{Lexeme}
 use Rattle.cob_source.specs.declared.token.Kind.{Kind}
@@ -84,10 +84,17 @@ abbrev pub term_by : List Keyword → List ℕ → WordClass → WordClass
 term_by [] text other = other
 term_by (k ∷ ks) text other = if bytes_eq k.text text then k.term else term_by ks text other
 
+-- the reserved words
+abbrev pub reserved_words : List Keyword
+reserved_words = clause_words ++ (usage_words ++ (figurative_words ++ (left_out_words ++ statement_words)))
+
+-- those of this length
+abbrev pub words_of_length : ℕ → List Keyword
+words_of_length n = filter (λ k. length k.text == n) reserved_words
+
 -- what a word is
 unfoldable pub term_of_word : List ℕ → WordClass
-term_of_word text =
-    term_by clause_words text (term_by usage_words text (term_by figurative_words text (term_by left_out_words text (term_by statement_words text term.Plain))))
+term_of_word text = term_by reserved_words text term.Plain
 
 -- what a text means as a word, and what a literal and a Stop are
 abbrev pub term_of_kind : Kind → List ℕ → WordClass

@@ -1,4 +1,4 @@
-ghost use Rattle.std.specs.Prelude.{◌≡◌, unwrap_or};
+ghost use Rattle.std.specs.Prelude.{◌≡◌, [], length, map, slice_index_or, unwrap_or};
 ghost use Rattle.cob_copybook_clauses.specs.Terms.{term_by, term_of_word, word_class, keywords};
 ghost use Rattle.cob_source.specs.Tokens.{lexeme};
 
@@ -95,87 +95,114 @@ pub enum WordClass {
     Stop,
 }
 
-/// The reserved words, and what each means.
-static KEYWORDS: [(&[u8], WordClass); 79] = [
-    (b"REDEFINES", WordClass::Redefines),
-    (b"PICTURE", WordClass::Picture),
-    (b"PIC", WordClass::Picture),
-    (b"IS", WordClass::Is),
-    (b"USAGE", WordClass::Usage),
-    (b"SIGN", WordClass::Sign),
-    (b"LEADING", WordClass::Leading),
-    (b"TRAILING", WordClass::Trailing),
-    (b"SEPARATE", WordClass::Separate),
-    (b"CHARACTER", WordClass::Character),
-    (b"OCCURS", WordClass::Occurs),
-    (b"TIMES", WordClass::Times),
-    (b"TO", WordClass::To),
-    (b"DEPENDING", WordClass::Depending),
-    (b"ON", WordClass::On),
-    (b"OF", WordClass::Of),
-    (b"IN", WordClass::Of),
-    (b"ASCENDING", WordClass::Ordered),
-    (b"DESCENDING", WordClass::Ordered),
-    (b"KEY", WordClass::Key),
-    (b"INDEXED", WordClass::Indexed),
-    (b"BY", WordClass::By),
-    (b"VALUE", WordClass::Value),
-    (b"VALUES", WordClass::Value),
-    (b"ARE", WordClass::Are),
-    (b"JUSTIFIED", WordClass::Justified),
-    (b"JUST", WordClass::Justified),
-    (b"RIGHT", WordClass::Right),
-    (b"BLANK", WordClass::Blank),
-    (b"WHEN", WordClass::When),
-    (b"FILLER", WordClass::Filler),
-    (b"DISPLAY", WordClass::Display),
-    (b"COMP", WordClass::Binary),
-    (b"COMPUTATIONAL", WordClass::Binary),
-    (b"COMP-4", WordClass::Binary),
-    (b"COMPUTATIONAL-4", WordClass::Binary),
-    (b"BINARY", WordClass::Binary),
-    (b"COMP-3", WordClass::Packed),
-    (b"COMPUTATIONAL-3", WordClass::Packed),
-    (b"PACKED-DECIMAL", WordClass::Packed),
-    (b"SPACE", WordClass::Space),
-    (b"SPACES", WordClass::Space),
-    (b"ZERO", WordClass::Zero),
-    (b"ZEROS", WordClass::Zero),
-    (b"ZEROES", WordClass::Zero),
-    (b"HIGH-VALUE", WordClass::HighValue),
-    (b"HIGH-VALUES", WordClass::HighValue),
-    (b"LOW-VALUE", WordClass::LowValue),
-    (b"LOW-VALUES", WordClass::LowValue),
-    (b"QUOTE", WordClass::Quote),
-    (b"QUOTES", WordClass::Quote),
-    (b"ALL", WordClass::All),
-    (b"SYNC", WordClass::LeftOut),
-    (b"SYNCHRONIZED", WordClass::LeftOut),
-    (b"COMP-1", WordClass::LeftOut),
-    (b"COMP-2", WordClass::LeftOut),
-    (b"COMP-5", WordClass::LeftOut),
-    (b"COMPUTATIONAL-1", WordClass::LeftOut),
-    (b"COMPUTATIONAL-2", WordClass::LeftOut),
-    (b"COMPUTATIONAL-5", WordClass::LeftOut),
-    (b"INDEX", WordClass::LeftOut),
-    (b"POINTER", WordClass::LeftOut),
-    (b"PROCEDURE-POINTER", WordClass::LeftOut),
-    (b"FUNCTION-POINTER", WordClass::LeftOut),
-    (b"NATIONAL", WordClass::LeftOut),
-    (b"DISPLAY-1", WordClass::LeftOut),
-    (b"EXTERNAL", WordClass::LeftOut),
-    (b"GLOBAL", WordClass::LeftOut),
-    (b"TYPEDEF", WordClass::LeftOut),
-    (b"GROUP-USAGE", WordClass::LeftOut),
-    (b"UNBOUNDED", WordClass::LeftOut),
-    (b"COPY", WordClass::LeftOut),
-    (b"REPLACE", WordClass::LeftOut),
-    (b"EXEC", WordClass::LeftOut),
-    (b"MOVE", WordClass::Move),
-    (b"CORRESPONDING", WordClass::Corresponding),
-    (b"CORR", WordClass::Corresponding),
-    (b"(", WordClass::OpenBracket),
-    (b")", WordClass::CloseBracket),
+/// The reserved words of each length, from 0 on, and what each means.
+static KEYWORDS: [&[(&[u8], WordClass)]; 18] = [
+    &[],
+    &[
+        (b"(", WordClass::OpenBracket),
+        (b")", WordClass::CloseBracket),
+    ],
+    &[
+        (b"IS", WordClass::Is),
+        (b"TO", WordClass::To),
+        (b"ON", WordClass::On),
+        (b"OF", WordClass::Of),
+        (b"IN", WordClass::Of),
+        (b"BY", WordClass::By),
+    ],
+    &[
+        (b"PIC", WordClass::Picture),
+        (b"KEY", WordClass::Key),
+        (b"ARE", WordClass::Are),
+        (b"ALL", WordClass::All),
+    ],
+    &[
+        (b"SIGN", WordClass::Sign),
+        (b"JUST", WordClass::Justified),
+        (b"WHEN", WordClass::When),
+        (b"COMP", WordClass::Binary),
+        (b"ZERO", WordClass::Zero),
+        (b"SYNC", WordClass::LeftOut),
+        (b"COPY", WordClass::LeftOut),
+        (b"EXEC", WordClass::LeftOut),
+        (b"MOVE", WordClass::Move),
+        (b"CORR", WordClass::Corresponding),
+    ],
+    &[
+        (b"USAGE", WordClass::Usage),
+        (b"TIMES", WordClass::Times),
+        (b"VALUE", WordClass::Value),
+        (b"RIGHT", WordClass::Right),
+        (b"BLANK", WordClass::Blank),
+        (b"SPACE", WordClass::Space),
+        (b"ZEROS", WordClass::Zero),
+        (b"QUOTE", WordClass::Quote),
+        (b"INDEX", WordClass::LeftOut),
+    ],
+    &[
+        (b"OCCURS", WordClass::Occurs),
+        (b"VALUES", WordClass::Value),
+        (b"FILLER", WordClass::Filler),
+        (b"COMP-4", WordClass::Binary),
+        (b"BINARY", WordClass::Binary),
+        (b"COMP-3", WordClass::Packed),
+        (b"SPACES", WordClass::Space),
+        (b"ZEROES", WordClass::Zero),
+        (b"QUOTES", WordClass::Quote),
+        (b"COMP-1", WordClass::LeftOut),
+        (b"COMP-2", WordClass::LeftOut),
+        (b"COMP-5", WordClass::LeftOut),
+        (b"GLOBAL", WordClass::LeftOut),
+    ],
+    &[
+        (b"PICTURE", WordClass::Picture),
+        (b"LEADING", WordClass::Leading),
+        (b"INDEXED", WordClass::Indexed),
+        (b"DISPLAY", WordClass::Display),
+        (b"POINTER", WordClass::LeftOut),
+        (b"TYPEDEF", WordClass::LeftOut),
+        (b"REPLACE", WordClass::LeftOut),
+    ],
+    &[
+        (b"TRAILING", WordClass::Trailing),
+        (b"SEPARATE", WordClass::Separate),
+        (b"NATIONAL", WordClass::LeftOut),
+        (b"EXTERNAL", WordClass::LeftOut),
+    ],
+    &[
+        (b"REDEFINES", WordClass::Redefines),
+        (b"CHARACTER", WordClass::Character),
+        (b"DEPENDING", WordClass::Depending),
+        (b"ASCENDING", WordClass::Ordered),
+        (b"JUSTIFIED", WordClass::Justified),
+        (b"LOW-VALUE", WordClass::LowValue),
+        (b"DISPLAY-1", WordClass::LeftOut),
+        (b"UNBOUNDED", WordClass::LeftOut),
+    ],
+    &[
+        (b"DESCENDING", WordClass::Ordered),
+        (b"HIGH-VALUE", WordClass::HighValue),
+        (b"LOW-VALUES", WordClass::LowValue),
+    ],
+    &[
+        (b"HIGH-VALUES", WordClass::HighValue),
+        (b"GROUP-USAGE", WordClass::LeftOut),
+    ],
+    &[(b"SYNCHRONIZED", WordClass::LeftOut)],
+    &[
+        (b"COMPUTATIONAL", WordClass::Binary),
+        (b"CORRESPONDING", WordClass::Corresponding),
+    ],
+    &[(b"PACKED-DECIMAL", WordClass::Packed)],
+    &[
+        (b"COMPUTATIONAL-4", WordClass::Binary),
+        (b"COMPUTATIONAL-3", WordClass::Packed),
+        (b"COMPUTATIONAL-1", WordClass::LeftOut),
+        (b"COMPUTATIONAL-2", WordClass::LeftOut),
+        (b"COMPUTATIONAL-5", WordClass::LeftOut),
+    ],
+    &[(b"FUNCTION-POINTER", WordClass::LeftOut)],
+    &[(b"PROCEDURE-POINTER", WordClass::LeftOut)],
 ];
 
 /// What a text is by a table of keywords, if it is in it.
@@ -191,11 +218,22 @@ fn term_in(table: &[(&[u8], WordClass)], text: &[u8]) -> Option<WordClass>
     None
 }
 
+/// What a text is by the table of keywords of its length, if there is one and it is in it.
+fn term_of_length(tables: &[&[(&[u8], WordClass)]], text: &[u8]) -> Option<WordClass>
+    ensures { (other : WordClass) → unwrap_or result other ≡ term_by
+        (slice_index_or (map (λ t. keywords t.now) tables.now) (length text.now) []) text.now other }
+{
+    match tables.get(text.len()) {
+        Some(table) => term_in(table, text),
+        None => None,
+    }
+}
+
 /// What a word is.
 pub fn term_of_word(text: &[u8]) -> WordClass
     ensures { result ≡ term_of_word text.now }
 {
-    term_in(&KEYWORDS, text).unwrap_or(WordClass::Plain)
+    term_of_length(&KEYWORDS, text).unwrap_or(WordClass::Plain)
 }
 
 /// What a word, a literal or a Stop is to the grammar of entries.
