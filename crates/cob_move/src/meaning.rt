@@ -45,7 +45,7 @@ fn single_move(
         (MoveTo (written_sender sender.now) (written_references receivers.now))) }
 {
     let single = move_of(alloc, names, sender, receivers)?;
-    let mut list = Vec::new(alloc);
+    let mut list = Vec::with_capacity(alloc, 1)?;
     list.push(single)?;
     Ok(list)
 }
@@ -143,7 +143,7 @@ fn meanings_of(
     ensures fault { IfErr result (λ f. SomeBroken f (entries_named names.now) input.now output.now
         (written_statements statements.now)) }
 {
-    let mut list = Vec::new(alloc);
+    let mut list = Vec::with_capacity(alloc, statements.len())?;
     for statement in statements {
         let mut own = meaning_on(alloc, names, input, output, statement)?;
         list.append(&mut own)?;

@@ -93,7 +93,7 @@ fn receivers_of(
         ⊎ SomeOf (BreaksReceipt r (entries_named names.now) (sender from.now))
         (written_references references.now)) }
 {
-    let mut receivers = Vec::new(alloc);
+    let mut receivers = Vec::with_capacity(alloc, references.len())?;
     for reference in references {
         let receiver = receiver_of(names, from, reference)?;
         receivers.push(receiver)?;

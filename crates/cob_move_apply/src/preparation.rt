@@ -70,7 +70,7 @@ fn placed_receivers(
     ensures same { IfOk result (λ all. map operand_of all.items ≡ receivers.items) }
     ensures placed { IfOk result (λ all. AllByRecursion (IsPlaced layout.now true) all.items) }
 {
-    let mut all = Vec::new(alloc);
+    let mut all = Vec::with_capacity(alloc, receivers.len())?;
     for receiver in receivers {
         all.push(placed(layout, receiver, true))?;
     }
@@ -116,7 +116,7 @@ pub(crate) fn placed_moves(
     ensures placed { IfOk result
         (λ steps. ArePlacedMoves (record { input = input.now; output = output.now }) steps.items) }
 {
-    let mut steps = Vec::new(alloc);
+    let mut steps = Vec::with_capacity(alloc, given.len())?;
     for one in given {
         let step = placed_move(alloc, one, input, output)?;
         steps.push(step)?;
