@@ -1,5 +1,5 @@
 -- The forest of a list of branches.
-use Rattle.std.proofs.Common.{refl, ◌≡◌, ℕ, ◌+◌, ◌<◌, Bool, ◌||◌, is_some, List, [], ◌∷◌, ◌++◌, length, drop, get_or, sym, ap, ◌∙◌, append_assoc, arith}
+use Rattle.std.proofs.Common.{◌≡◌, ℕ, ◌+◌, ◌<◌, Bool, ◌||◌, is_some, List, [], ◌∷◌, ◌++◌, length, drop, get_or, sym, ap, ◌∙◌, append_assoc}
 use Rattle.std.proofs.lemmas.List.{at_drop_more}
 use Rattle.cob_copybook_tree.specs.Described.{PlainEntry, plain_entry}
 use Rattle.cob_copybook_tree.specs.declared.branch.Branch.{Branch}

@@ -1,4 +1,4 @@
-use Rattle.std.proofs.Common.{rules, ◌≡◌, ◌+◌, ◌∷◌, map, drop, List, get_or, length, ◌<◌, ◌≤◌, subst, sym, ap, ◌∙◌, arith}
+use Rattle.std.proofs.Common.{rules, ◌≡◌, ◌+◌, ◌∷◌, map, drop, List, get_or, length, ◌<◌, ◌≤◌, subst, sym, ap, ◌∙◌}
 use Rattle.std.proofs.lemmas.List.{drop_all, at_drop_more}
 use Rattle.cob_copybook_names.specs.declared.bearer.Bearer.{Bearer as Listed}
 use Rattle.cob_copybook_names.specs.declared.listing.NumberedEntry.{NumberedEntry as ListedEntry}

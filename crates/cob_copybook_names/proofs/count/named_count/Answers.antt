@@ -1,6 +1,5 @@
-use Rattle.std.proofs.Common.{◌≡◌, ◌∷◌, [], map, arith, true, false, refl}
+use Rattle.std.proofs.Common.{◌≡◌, map, arith, true, false, refl}
 use Rattle.cob_copybook_names.specs.Entries.{bearer_of}
-use Rattle.cob_copybook_names.specs.Naming.{named}
 use Rattle.cob_copybook_names.proofs.Counting.{count_missed, count_named, count_same}
 use Rattle.cob_copybook_names.proofs.count.named_count.Goals as goal
 use Rattle.cob_copybook_names.proofs.count.named_count.Goals.{else-may_count-via-then-may_count+else-named-number, else-may_count-via-else-may_count}

@@ -1,4 +1,4 @@
-use Rattle.std.proofs.Common.{◌≡◌, List, ◌+◌, ◌<◌, sym, subst, ap, ◌∙◌, map, ◌++◌, arith, drop, length}
+use Rattle.std.proofs.Common.{◌≡◌, List, ◌+◌, sym, ap, ◌∙◌, map, ◌++◌, arith, drop, length}
 use Rattle.cob_copybook_tree.specs.Forests.{Forest, AnEntry, flat, entries_in}
 use Rattle.cob_copybook_tree.specs.Branches.{forest_of}
 use Rattle.cob_copybook_tree.specs.declared.branch.Branch.{Branch}

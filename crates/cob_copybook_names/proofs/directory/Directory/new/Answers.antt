@@ -1,7 +1,6 @@
-use Rattle.std.proofs.Common.{◌≡◌, ℕ, List, get_or, ap, map, length, sym, subst, ◌∙◌, arith, length-append}
+use Rattle.std.proofs.Common.{◌≡◌, ℕ, get_or, ap, map, length, sym, subst, ◌∙◌, arith, length-append}
 use Rattle.cob_copybook_names.specs.Links.{IsLast, AreLinked, noted_for}
 use Rattle.cob_copybook_names.proofs.Links.{linked_more, latest_more}
-use Rattle.cob_copybook_names.specs.declared.bearer.Bearer.{Bearer as Listed}
 use Rattle.cob_copybook_names.specs.Naming.{own_names}
 use Rattle.cob_copybook_names.specs.Listed.{seen}
 use Rattle.cob_copybook_names.proofs.Namings.{name_at}

@@ -2,7 +2,6 @@ use Rattle.std.proofs.Common.{◌≡◌, ◌++◌, ◌+◌, ◌<◌, ℕ, List, 
 use Rattle.std.proofs.lemmas.List.{length-map}
 use Rattle.cob_copybook_names.specs.Links.{entries_up_to, IsLast}
 use Rattle.cob_copybook_names.specs.Listed.{found_list, seen, texts}
-use Rattle.cob_copybook_names.specs.declared.bearer.Bearer.{Bearer as Listed}
 use Rattle.cob_copybook_names.specs.Naming.{named, own_names, qualifies}
 use Rattle.cob_copybook_names.proofs.Namings.{front_at, inside_at, link_at, name_at, walk_at, walk_meet, walk_start, walk_step, walk_twice}
 use Rattle.cob_copybook_names.proofs.directory.Directory.only_named.Goals as goal
