@@ -81,7 +81,7 @@ item_takes (Some p) Display sign right zero h = omega (arith, h)
 item_takes (Some p) Packed sign right zero h = omega arith
 item_takes (Some p) Binary sign right zero h = binary_takes (digits p.positions)
 
-resolved_take : (counts : List ℕ) (n : ℕ) (usage : Option Usage) (sign : Option Sign) (f : Forest PlainEntry) → AllByRecursion EntryTakes (flat f) → TakeBytes (resolved counts n usage sign f)
+resolved_take : (counts : List (Option ℕ)) (n : ℕ) (usage : Option Usage) (sign : Option Sign) (f : Forest PlainEntry) → AllByRecursion EntryTakes (flat f) → TakeBytes (resolved counts n usage sign f)
 resolved_take counts n usage sign NoEntries h = tt
 resolved_take counts n usage sign (AnEntry e children more) h = (
   item_takes e.picture (unwrap_or (inherited usage e.usage) Display) (inherited sign e.sign) e.justified e.blank h.0,
@@ -106,7 +106,7 @@ own_bytes None usage sign right zero NoEntries sum filled h takes = absurd fille
 own_bytes None usage sign right zero (AnEntry e children more) sum filled h takes = h tt
 own_bytes (Some p) usage sign right zero children sum filled h takes = takes
 
-some_bytes : (counts : List ℕ) (n : ℕ) (usage : Option Usage) (sign : Option Sign) (f : Forest PlainEntry)
+some_bytes : (counts : List (Option ℕ)) (n : ℕ) (usage : Option Usage) (sign : Option Sign) (f : Forest PlainEntry)
     → AreFilled f → ArePossible (resolved counts n usage sign f) → AreAreas [] (resolved counts n usage sign f) → TakeBytes (resolved counts n usage sign f)
     → HasEntry f → 0 < sum_of greatest_number (resolved counts n usage sign f)
 some_bytes counts n usage sign NoEntries filled may areas takes h = absurd h

@@ -7,5 +7,3 @@ pub mod NoRule
 pub use Rattle.cob_copybook_entries.proofs.NoRule as EntryNoRule
 pub use Rattle.cob_copybook_entries.proofs.Numbers as EntryNumbers
 pub use Rattle.cob_copybook_entries.proofs.OneList as EntryOneList
-pub use Rattle.cob_copybook_names.proofs.Links
-pub use Rattle.cob_copybook_names.proofs.Qualifying

@@ -1,6 +1,6 @@
 -- A text that is a record description breaks no rule of copybooks, each rule by itself.
 use Rattle.std.proofs.Common.{◌≡◌, sym, subst, ap, ◌∙◌, ℕ, List, inl, inr, refl}
-use Rattle.std.specs.Prelude.{None}
+use Rattle.std.specs.Prelude.{Option, None}
 use Rattle.cob_source.specs.Tokens.{Lexeme}
 use Rattle.cob_source.specs.declared.token.Cutting.TheVariants.{Whole}
 use Rattle.cob_source.specs.Words.{WordsAreOne, WordsBreakNoRule}
@@ -26,7 +26,7 @@ use Rattle.cob_copybook.proofs.Storages.{same_record, unfit}
 
 -- a record has its counts in one way
 abbrev pub OneListOfCounts : Type 0
-OneListOfCounts = (t : Forest PlainEntry) (a b : List ℕ) → AreCountsOfTables t a → AreCountsOfTables t b → a ≡ b
+OneListOfCounts = (t : Forest PlainEntry) (a b : List (Option ℕ)) → AreCountsOfTables t a → AreCountsOfTables t b → a ≡ b
 
 -- ---- the text and its words
 
@@ -53,7 +53,7 @@ tree_keeps one none ds t r is breaks = disagrees one none ds breaks.0 is.written
 -- ---- its counts and lengths
 
 lengths_keep : OneListOfCounts → FitBreaksNone → (written : Forest PlainEntry) (t : Forest Resolved) (r : BookRule) → IsStored written t
-    → (counts : List ℕ) × AreCountsOfTables written counts × BreaksLengths r (resolved counts 0 None None written) → ⊥
+    → (counts : List (Option ℕ)) × AreCountsOfTables written counts × BreaksLengths r (resolved counts 0 None None written) → ⊥
 lengths_keep one none written t r stored (counts, counted, breaks) =
     let same : counts ≡ stored.counts = one written counts stored.counts counted stored.counted in
     let u : Forest Resolved = resolved counts 0 None None written in

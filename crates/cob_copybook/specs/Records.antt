@@ -1,5 +1,5 @@
 -- Which tree the entries of a record stand for, and which rule they break.
-use Rattle.std.specs.Prelude.{◌≡◌, ◌⊎◌, ℕ, List, None}
+use Rattle.std.specs.Prelude.{◌≡◌, ◌⊎◌, ℕ, List, Option, None}
 use Rattle.cob_copybook_tree.specs.Described.{PlainEntry}
 use Rattle.cob_copybook_tree.specs.BookRule.{BookRule}
 use Rattle.cob_copybook_tree.specs.BookRule.TheVariants as rule
@@ -14,7 +14,7 @@ use Rattle.cob_copybook_lengths.specs.Rules.{KeepsLengthRules, BreaksLengthRule 
 -- The tree as it is written has this one, with what its entries inherit: each table that varies has its count, and the rules on lengths are
 -- kept.
 pub record IsStored (written : Forest PlainEntry) (t : Forest Resolved) : Type 0 where
-  pub counts : List ℕ
+  pub counts : List (Option ℕ)
   pub counted : AreCountsOfTables written counts
   pub tree : t ≡ resolved counts 0 None None written
   pub fit : KeepsLengthRules t
@@ -39,8 +39,8 @@ IsTreeRefusal r ds = BreaksTree r ds
 
 -- a table's count is none, or the tree with its counts breaks the rule on lengths
 abbrev pub BreaksStorage : BookRule → Forest PlainEntry → Type 0
-BreaksStorage rule.Count t = (counts : List ℕ) → AreCountsOfTables t counts → ⊥
-BreaksStorage r t = (counts : List ℕ) × AreCountsOfTables t counts × BreaksLengths r (resolved counts 0 None None t)
+BreaksStorage rule.Count t = (counts : List (Option ℕ)) → AreCountsOfTables t counts → ⊥
+BreaksStorage r t = (counts : List (Option ℕ)) × AreCountsOfTables t counts × BreaksLengths r (resolved counts 0 None None t)
 
 -- a refusal of a tree whose clauses agree names a rule that is broken, or memory
 abbrev pub IsStorageRefusal : BookRule → Forest PlainEntry → Type 0

@@ -1,5 +1,5 @@
 -- The forest of a list of branches.
-use Rattle.std.proofs.Common.{refl, ◌≡◌, ℕ, ◌+◌, ◌<◌, Bool, ◌||◌, is_some, List, [], ◌∷◌, ◌++◌, length, drop, get_or, sym, ap, ◌∙◌, append_assoc, arith}
+use Rattle.std.proofs.Common.{◌≡◌, ℕ, ◌+◌, ◌<◌, Bool, ◌||◌, is_some, List, [], ◌∷◌, ◌++◌, length, drop, get_or, sym, ap, ◌∙◌, append_assoc}
 use Rattle.std.proofs.lemmas.List.{at_drop_more}
 use Rattle.cob_copybook_tree.specs.Described.{PlainEntry, plain_entry}
 use Rattle.cob_copybook_tree.specs.declared.branch.Branch.{Branch}
@@ -7,7 +7,8 @@ use Rattle.cob_copybook_tree.specs.declared.branch.Branch.TheViews.{out-Branch}
 use Rattle.cob_copybook_tree.specs.declared.branch.Branch.TheFolds.{fold_out-Branch}
 use Rattle.cob_copybook_tree.specs.Forests.{Forest, Tree, AnEntry, entries_in}
 use Rattle.cob_copybook_tree.specs.Branches.{branch, branch_step, forest_of}
-use Rattle.cob_copybook_names.specs.Bearers.{Bearer, bearer_at, bearers, with_name}
+use Rattle.cob_copybook_names.specs.Naming.{Bearer, with_name}
+use Rattle.cob_copybook_names.specs.Entries.{NumberedEntry, bearer_at, bearers}
 
 pub branch_out : (b : Branch) → branch b ≡ record { top = plain_entry (out-Branch b).entry; beneath = forest_of (out-Branch b).children.items }
 branch_out b = fold_out-Branch (Tree PlainEntry) branch_step b
@@ -22,21 +23,10 @@ pub regroup : {A : Type 0} (all m m1 m2 k r : List A) (b : A) → all ≡ m ++ (
 regroup all m m1 m2 k r b e f g = e ∙ sym (append_assoc m (b ∷ k) r) ∙ ap (λ t. t ++ r) (sym (append_assoc m (b ∷ []) k)) ∙ ap (λ t. (t ++ k) ++ r) (sym f) ∙ ap (λ t. t ++ r) (sym g)
 
 -- a listed branch and those beneath it go from what is left to what is done
-pub step_names : (all m m1 m2 : List Bearer) (above beneath : List (List ℕ)) (tab inside : Bool) (n n1 n2 : ℕ) (d : PlainEntry) (children more : Forest PlainEntry)
+pub step_names : (all m m1 m2 : List (Bearer NumberedEntry)) (above beneath : List (List ℕ)) (tab inside : Bool) (n n1 n2 : ℕ) (d : PlainEntry) (children more : Forest PlainEntry)
     → all ≡ m ++ bearers above tab n (AnEntry d children more)
     → beneath ≡ with_name d.name above → inside ≡ (tab || is_some d.occurs) → n1 ≡ n + 1 → n2 ≡ n1 + entries_in children
     → m1 ≡ m ++ bearer_at above inside n d ∷ [] → m2 ≡ m1 ++ bearers beneath inside n1 children
     → all ≡ m2 ++ bearers above tab n2 more
 step_names all m m1 m2 above beneath tab inside n n1 n2 d children more e eb ei e1 e2 f g =
     regroup all m m1 m2 (bearers beneath inside n1 children) (bearers above tab n2 more) (bearer_at above inside n d) (rw (eb, ei, e2, e1) e) f g
-
--- the names beneath matter only where there are children
-pub step_kids : (all m m1 m2 : List Bearer) (above beneath : List (List ℕ)) (tab inside : Bool) (n n1 n2 : ℕ) (d : PlainEntry) (children : List Branch) (more : Forest PlainEntry)
-    → all ≡ m ++ bearers above tab n (AnEntry d (forest_of children) more)
-    → (0 < length children → beneath ≡ with_name d.name above) → inside ≡ (tab || is_some d.occurs) → n1 ≡ n + 1 → n2 ≡ n1 + entries_in (forest_of children)
-    → m1 ≡ m ++ bearer_at above inside n d ∷ [] → m2 ≡ m1 ++ bearers beneath inside n1 (forest_of children)
-    → all ≡ m2 ++ bearers above tab n2 more
-step_kids all m m1 m2 above beneath tab inside n n1 n2 d [] more e eb ei e1 e2 f g =
-    step_names all m m1 m2 above (with_name d.name above) tab inside n n1 n2 d (forest_of []) more e refl ei e1 e2 f g
-step_kids all m m1 m2 above beneath tab inside n n1 n2 d (k ∷ ks) more e eb ei e1 e2 f g =
-    step_names all m m1 m2 above beneath tab inside n n1 n2 d (forest_of (k ∷ ks)) more e (eb (omega arith)) ei e1 e2 f g

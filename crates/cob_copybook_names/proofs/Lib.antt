@@ -1,6 +1,6 @@
 pub mod Branches
 pub mod Qualifying
-pub mod OnlyOnes
+pub mod Namings
+pub mod OneList
 pub mod Counting
 pub mod Links
-pub mod Walks

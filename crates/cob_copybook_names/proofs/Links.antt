@@ -1,12 +1,10 @@
 -- From one bearer of a name to the one before it.
-use Rattle.std.proofs.Common.{◌≡◌, ℕ, zero, suc, ◌+◌, ◌<◌, ◌≤◌, List, [], ◌∷◌, ◌++◌, length, get_or, map, Option, Some, None, Bool, true, false, refl, sym, ap, subst, ◌∙◌, inl, inr, ◌⊎◌, arith, below_more}
+use Rattle.std.proofs.Common.{◌≡◌, ℕ, ◌+◌, ◌<◌, ◌≤◌, List, [], ◌∷◌, ◌++◌, length, get_or, Option, Some, None, Bool, true, false, refl, sym, ap, subst, ◌∙◌, inl, inr, ◌⊎◌, arith, below_more}
 use Rattle.std.specs.Cmp.Lexicographic.{pointwise, bytes_decides}
 use Rattle.std.specs.Bool.{nat_eq}
 use Rattle.std.proofs.Math.ListN.{get_or-append}
 use Rattle.std.proofs.Math.Seq.{get_or-append_seam}
-use Rattle.cob_copybook_names.specs.declared.bearer.Bearer.{Bearer as Listed}
-use Rattle.cob_copybook_names.specs.Listed.{bearer_of, entry_of}
-use Rattle.cob_copybook_names.specs.Links.{names_of, BearsAt, entries_up_to, IsLast, AreLinked}
+use Rattle.cob_copybook_names.specs.Links.{BearsAt, entries_up_to, IsLast, AreLinked}
 
 -- an entry bears the name or doesn't
 pub is_or_not : (own : Option (List ℕ)) (name : List ℕ) → (own ≡ Some name) ⊎ (own ≡ Some name → ⊥)
@@ -43,12 +41,6 @@ differs own name ne = by (pointwise nat_eq own name) refl
     by : (b : Bool) → pointwise nat_eq own name ≡ b → b ≡ false
     by true e = absurd (ne ((bytes_decides own name).0 e))
     by false e = refl
-
--- the name at a place is that of the entry there
-pub name_at : (bs : List Listed) (i : ℕ) (b : Listed) → i < length bs → b ≡ get_or bs i b → get_or (names_of (map bearer_of bs)) i None ≡ (entry_of b).name
-name_at [] i b lt is = absurd (omega (arith, lt))
-name_at (x ∷ bs) zero b lt is = ap (λ (y : Listed). (entry_of y).name) (sym is)
-name_at (x ∷ bs) (suc i) b lt is = name_at bs i b (omega (arith, lt)) is
 
 -- what is noted for each name once a further entry is noted
 pub latest_more : (names : List (Option (List ℕ))) (k : ℕ) (own : Option (List ℕ)) → get_or names k None ≡ own → (old new : List ℕ → Option ℕ)

@@ -7,7 +7,8 @@ use Rattle.cob_copybook_tree.specs.BookRule.{BookRule}
 use Rattle.cob_copybook_tree.specs.BookRule.TheVariants as rule
 use Rattle.cob_copybook_tree.specs.Forests.{Forest, flat}
 use Rattle.cob_copybook_tree.specs.Resolving.{is_numeric}
-use Rattle.cob_copybook_names.specs.Bearers.{Bearer, bearers, NamesEntry, IsOnlyOne}
+use Rattle.cob_copybook_names.specs.Naming.{Bearer, named}
+use Rattle.cob_copybook_names.specs.Entries.{NumberedEntry, bearers}
 
 -- a number without a fraction, and without P, which would move the point
 pub record IsWholeNumber (p : PlainPicture) : Type 0 where
@@ -15,40 +16,41 @@ pub record IsWholeNumber (p : PlainPicture) : Type 0 where
   pub whole : scale p.positions ≡ pos 0
 
 -- what may be a count: a whole number that is no table and in none, and isn't edited by BLANK WHEN ZERO
-pub record MayCount (b : Bearer) : Type 0 where
+pub record MayCount (e : NumberedEntry) : Type 0 where
   pub picture : PlainPicture
-  pub has : b.picture ≡ Some picture
+  pub has : e.picture ≡ Some picture
   pub whole : IsWholeNumber picture
-  pub single : b.in_table ≡ false
-  pub plain : b.blank ≡ false
+  pub single : e.in_table ≡ false
+  pub plain : e.blank ≡ false
 
 -- the count of table n: the one entry of the record that the name names may be one, and stands before the table
-pub record IsCountOfTable (all : List Bearer) (n : ℕ) (name : List ℕ) (qualifiers : List (List ℕ)) (count : ℕ) : Type 0 where
-  pub bearer : Bearer
-  pub only : IsOnlyOne (NamesEntry name qualifiers) all bearer
-  pub may : MayCount bearer
-  pub number : bearer.number ≡ count
+pub record IsCountOfTable (all : List (Bearer NumberedEntry)) (n : ℕ) (name : List ℕ) (qualifiers : List (List ℕ)) (count : ℕ) : Type 0 where
+  pub bearer : Bearer NumberedEntry
+  pub only : named name qualifiers all ≡ bearer ∷ []
+  pub may : MayCount bearer.entry
+  pub number : bearer.entry.number ≡ count
   pub before : count < n
 
--- a table that varies has its count; for another entry 0 stands
-abbrev pub IsCountOf : List Bearer → ℕ → Option PlainOccurs → ℕ → Type 0
-IsCountOf all n (Some (Varying least most name qualifiers)) count = IsCountOfTable all n name qualifiers count
-IsCountOf all n (Some (Fixed times)) count = count ≡ 0
-IsCountOf all n None count = count ≡ 0
+-- a table that varies has its count, and another entry has none
+abbrev pub IsCountOf : List (Bearer NumberedEntry) → ℕ → Option PlainOccurs → Option ℕ → Type 0
+IsCountOf all n (Some (Varying least most name qualifiers)) (Some count) = IsCountOfTable all n name qualifiers count
+IsCountOf all n (Some (Varying least most name qualifiers)) None = ⊥
+IsCountOf all n (Some (Fixed times)) count = count ≡ None
+IsCountOf all n None count = count ≡ None
 
 -- the counts of entries from number n on
-abbrev pub AreCounts : List Bearer → ℕ → List PlainEntry → List ℕ → Type 0
+abbrev pub AreCounts : List (Bearer NumberedEntry) → ℕ → List PlainEntry → List (Option ℕ) → Type 0
 AreCounts all n [] counts = counts ≡ []
-AreCounts all n (e ∷ es) counts = (count : ℕ) × (more : List ℕ) × (counts ≡ count ∷ more) × IsCountOf all n e.occurs count × AreCounts all (n + 1) es more
+AreCounts all n (e ∷ es) counts = (count : Option ℕ) × (more : List (Option ℕ)) × (counts ≡ count ∷ more) × IsCountOf all n e.occurs count × AreCounts all (n + 1) es more
 
 -- the counts of all entries of a record
-abbrev pub AreCountsOfTables : Forest PlainEntry → List ℕ → Type 0
+abbrev pub AreCountsOfTables : Forest PlainEntry → List (Option ℕ) → Type 0
 AreCountsOfTables t counts = AreCounts (bearers [] false 0 t) 0 (flat t) counts
 
 -- why the counts of entries from number 0 on aren't told: memory was refused, or there are none
-abbrev pub IsRefusedAmong : List Bearer → BookRule → List PlainEntry → Type 0
+abbrev pub IsRefusedAmong : List (Bearer NumberedEntry) → BookRule → List PlainEntry → Type 0
 IsRefusedAmong all rule.Memory es = Unit {0}
-IsRefusedAmong all rule.Count es = (counts : List ℕ) → AreCounts all 0 es counts → ⊥
+IsRefusedAmong all rule.Count es = (counts : List (Option ℕ)) → AreCounts all 0 es counts → ⊥
 IsRefusedAmong all r es = ⊥
 
 -- why the counts of a record aren't told: memory was refused, or it has none

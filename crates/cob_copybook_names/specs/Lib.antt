@@ -1,4 +1,6 @@
-pub mod Bearers
+pub mod Naming
 pub mod Listed
 pub mod Links
+pub mod Entries
 pub mod Counts
+pub mod Laws

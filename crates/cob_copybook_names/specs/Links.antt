@@ -1,14 +1,9 @@
 -- Names linked: from the last entry that bears a name to the one before it, and so on.
-use Rattle.std.specs.Prelude.{◌≡◌, ℕ, ◌+◌, ◌<◌, ◌≤◌, List, map, slice_index_or, Option, Some, None}
+use Rattle.std.specs.Prelude.{◌≡◌, ℕ, ◌+◌, ◌<◌, ◌≤◌, List, slice_index_or, Option, Some, None}
 use Rattle.std.specs.Borrow.{Bor}
 use Rattle.std.specs.Cmp.Lexicographic.{pointwise}
 use Rattle.std.specs.Bool.{nat_eq}
 use Rattle.indexmap.specs.IndexMap.{IndexMap, get_by}
-use Rattle.cob_copybook_names.specs.Bearers.{Bearer}
-
--- the names that entries bear
-abbrev pub names_of : List Bearer → List (Option (List ℕ))
-names_of bs = map (λ b. b.name) bs
 
 -- the entry at this place bears the name
 abbrev pub BearsAt : List (Option (List ℕ)) → List ℕ → ℕ → Type 0

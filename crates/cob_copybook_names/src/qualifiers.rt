@@ -1,42 +1,64 @@
-ghost use Rattle.std.specs.Prelude.{◌≡◌, ℕ, List, ◌∷◌, map, IsTrue, IfSome, IsSomeAnd};
-ghost use Rattle.cob_copybook_names.specs.Bearers.{Qualify};
+ghost use Rattle.std.specs.Prelude.{◌≡◌, ℕ, List, [], ◌∷◌, IfNone, IfSome, bytes_eq};
+ghost use Rattle.cob_copybook_names.specs.Laws.{QualifyingIsOne};
 ghost use Rattle.cob_copybook_names.specs.Listed.{texts};
+ghost use Rattle.cob_copybook_names.specs.Naming.{qualifies};
 
 use cob_copybook_tree::Name;
 
-/// Whether the name is this text.
-fn is_text(name: &Name, text: &[u8]) -> bool
-    ensures yes { IsTrue result → name.now ≡ text.now }
-    ensures must { name.now ≡ text.now → IsTrue result }
+/// Qualifiers in the form in which they are written.
+pub trait Qualifiers: Copy {
+    // Their names, the nearest group's first.
+    ghost names: { Self → List (List ℕ) };
+
+    /// The name in the first qualifier, and the qualifiers behind it.
+    fn nearest(&self) -> Option<(&[u8], Self)>
+        ensures some { IfSome result (λ r. names self.now ≡ r.0.now ∷ names r.1) }
+        ensures none { IfNone result (names self.now ≡ []) };
+}
+
+impl Qualifiers for &[Name] {
+    ghost names = { λ qualifiers. qualifiers.now };
+
+    fn nearest(&self) -> Option<(&[u8], Self)> {
+        let (name, others) = (**self).split_first()?;
+        Some((name.as_bytes(), others))
+    }
+}
+
+/// Whether two texts are one.
+fn is_same(one: &[u8], other: &[u8]) -> bool
+    ensures { result ≡ bytes_eq one.now other.now }
 {
-    name.as_bytes() == text
+    one == other
 }
 
 /// The qualifiers that are left for the groups above one of this name.
-fn left_above<'a>(qualifiers: &'a [Name], name: &[u8]) -> &'a [Name]
-    ensures enough { (above : List (List ℕ))
-        → Qualify result.now above → Qualify qualifiers.now (name.now ∷ above) }
-    ensures must { (above : List (List ℕ))
-        → Qualify qualifiers.now (name.now ∷ above) → Qualify result.now above }
+fn left_above<Q: Qualifiers>(qualifiers: Q, name: &[u8]) -> Q
+    ensures { (above : List (List ℕ)) → qualifies (Q.names result) above
+        ≡ qualifies (Q.names qualifiers) (name.now ∷ above) }
 {
-    let Some((first, others)) = qualifiers.split_first() else {
+    let Some((first, others)) = qualifiers.nearest() else {
         return qualifiers;
     };
-    if is_text(first, name) {
+    if is_same(first, name) {
         others
     } else {
         qualifiers
     }
 }
 
-/// Whether the qualifiers name groups above an entry, in order.
-pub fn qualify(qualifiers: &[Name], above: &[&[u8]]) -> bool
-    ensures yes { IsTrue result → Qualify qualifiers.now (texts above.now) }
-    ensures must { Qualify qualifiers.now (texts above.now) → IsTrue result }
+/// Whether qualifiers name groups above an entry, in order.
+pub(crate) fn qualify<Q: Qualifiers>(qualifiers: Q, above: &[&[u8]]) -> bool
+    ensures { result ≡ qualifies (Q.names qualifiers) (texts above.now) }
 {
     let mut left = qualifiers;
     for name in above {
         left = left_above(left, name);
     }
-    left.is_empty()
+    left.nearest().is_none()
 }
+
+/// A law: qualifiers qualify where they name groups above an entry in order, with gaps.
+pub fn qualifying_is_one()
+    ensures { QualifyingIsOne }
+{}

@@ -7,7 +7,7 @@ use cob_rows::{Row, RowFault};
 use std::alloc::Global;
 use std::fmt::Write;
 
-/// Writes the answer to a row's question about entries: the number of each one's count, and 0 for one that doesn't vary.
+/// Writes the answer to a row's question about entries: the number of each one's count, and a hyphen for one that doesn't vary.
 pub(crate) fn answer(alloc: Global, row: &Row, out: &mut String) -> Result<(), Refusal> {
     if row.field(0)? != "counts" {
         return Err(Refusal::Row(RowFault::BadRow));
@@ -15,7 +15,10 @@ pub(crate) fn answer(alloc: Global, row: &Row, out: &mut String) -> Result<(), R
     let tree = tree_of(alloc, row)?;
     for count in &counts(alloc, &tree)? {
         out.push_str(if out.is_empty() { "" } else { " " })?;
-        write!(out, "{count}")?;
+        match count {
+            Some(number) => write!(out, "{number}")?,
+            None => out.push_str("-")?,
+        }
     }
     Ok(())
 }

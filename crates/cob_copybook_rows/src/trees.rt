@@ -16,7 +16,7 @@ use cob_rows::{Row, RowFault};
 use std::alloc::{AllocError, Global};
 use std::fmt::Write;
 
-/// Writes the answer to a row's question about entries. A third field has the number of each entry's count.
+/// Writes the answer to a row's question about entries. A third field has the number of each entry's count, and a hyphen for one without.
 pub(crate) fn answer(alloc: Global, row: &Row, out: &mut String) -> Result<(), Refusal> {
     let counts = numbers_of(alloc, row.field(2).unwrap_or(""))?;
     let root = record_of(alloc, row, counts.as_slice())?;
@@ -30,12 +30,17 @@ pub(crate) fn answer(alloc: Global, row: &Row, out: &mut String) -> Result<(), R
     Ok(())
 }
 
-/// The numbers of a field, parted by spaces.
-fn numbers_of(alloc: Global, field: &str) -> Result<Vec<usize>, RowFault> {
+/// The numbers of a field, parted by spaces; a hyphen stands where there is none.
+fn numbers_of(alloc: Global, field: &str) -> Result<Vec<Option<usize>>, RowFault> {
     let mut numbers = Vec::new(alloc);
     for word in field.split_whitespace() {
-        let Ok(number) = word.parse::<usize>() else {
-            return Err(RowFault::BadRow);
+        let number = if word == "-" {
+            None
+        } else {
+            let Ok(number) = word.parse::<usize>() else {
+                return Err(RowFault::BadRow);
+            };
+            Some(number)
         };
         numbers.push(number)?;
     }
@@ -74,7 +79,11 @@ pub(crate) fn tree_of(alloc: Global, row: &Row) -> Result<Branch, Refusal>
 }
 
 /// The record of a row's entries, with what they inherit.
-pub(crate) fn record_of(alloc: Global, row: &Row, counts: &[usize]) -> Result<Node, Refusal> {
+pub(crate) fn record_of(
+    alloc: Global,
+    row: &Row,
+    counts: &[Option<usize>],
+) -> Result<Node, Refusal> {
     let tree = tree_of(alloc, row)?;
     Ok(resolve(alloc, &tree, counts)?)
 }

@@ -66,7 +66,7 @@ fn resolved(alloc: Global, entries: Vec<Entry>) -> Result<Node, AllocError>
 }
 
 /// The counts of the record that the entries are.
-fn counted(alloc: Global, entries: Vec<Entry>) -> Result<Vec<usize>, BookFault>
+fn counted(alloc: Global, entries: Vec<Entry>) -> Result<Vec<Option<usize>>, BookFault>
     requires levels { AreLevels (map plain_entry entries.items) }
     requires few { length entries.items ≤ 65535 }
 {
@@ -109,7 +109,7 @@ fn counts_of_trees(rt: HostRuntime) -> Result<(), Fail> {
     assert!(rt; list.len() <= 65_535);
     match counted(rt.alloc(), list) {
         Ok(counts) => {
-            let want: [usize; 5] = [0, 0, 0, 2, 0];
+            let want: [Option<usize>; 5] = [None, None, None, Some(2), None];
             assert_eq!(rt; counts.as_slice(), want.as_slice());
         }
         Err(fault) => assert_eq!(rt; fault, REFUSED),

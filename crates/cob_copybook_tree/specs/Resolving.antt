@@ -1,5 +1,5 @@
 -- What entries inherit, and what their counts' names refer to.
-use Rattle.std.specs.Prelude.{ℕ, ◌+◌, Bool, true, false, ◌&&◌, not, List, slice_index, Option, Some, None, unwrap_or}
+use Rattle.std.specs.Prelude.{ℕ, ◌+◌, Bool, true, false, ◌&&◌, not, List, slice_index_or, Option, Some, None, unwrap_or}
 use Rattle.cob_picture.specs.Positions.{PlainPicture}
 use Rattle.cob_picture.specs.Counts.{signed}
 use Rattle.cob_picture.specs.declared.category.Category.{Category}
@@ -54,14 +54,19 @@ abbrev pub kind_by_picture : Option PlainPicture → Usage → Option Sign → B
 kind_by_picture None usage sign justified blank = Group
 kind_by_picture (Some p) usage sign justified blank = ItemKind (record { picture = p; usage = usage; sign = acting (keeps_sign usage p) sign; justified = justified; blank = blank })
 
--- how often an entry occurs, where its count's number is this one
-abbrev pub times_of : Option described.PlainOccurs → ℕ → ResolvedOccurs
+-- how often an entry occurs, where its count has this number; a table that varies but has no count occurs as often as it may at most
+abbrev pub times_of : Option described.PlainOccurs → Option ℕ → ResolvedOccurs
 times_of None count = Once
 times_of (Some (described.Fixed n)) count = Fixed n
-times_of (Some (described.Varying least most name qualifiers)) count = Varying least most count
+times_of (Some (described.Varying least most name qualifiers)) (Some count) = Varying least most count
+times_of (Some (described.Varying least most name qualifiers)) None = Fixed most
 
--- an entry with what it inherits, its number, and the number of its count
-abbrev pub resolved_by : ℕ → ℕ → Option Usage → Option Sign → PlainEntry → Resolved
+-- the count of the entry with this number; none where none is told
+abbrev pub count_at : List (Option ℕ) → ℕ → Option ℕ
+count_at counts number = slice_index_or counts number None
+
+-- an entry with what it inherits, its number, and the number of its count, if it has one
+abbrev pub resolved_by : ℕ → Option ℕ → Option Usage → Option Sign → PlainEntry → Resolved
 resolved_by number count usage sign e = record {
   number = number;
   level = e.level;
@@ -72,10 +77,10 @@ resolved_by number count usage sign e = record {
   value = e.value;
 }
 
--- the entries from this number on, beneath groups with this usage and sign; the counts of tables stand by the tables' numbers
-abbrev pub resolved : List ℕ → ℕ → Option Usage → Option Sign → Forest PlainEntry → Forest Resolved
+-- the entries from this number on, beneath groups with this usage and sign; the numbers of counts stand by the numbers of their tables
+abbrev pub resolved : List (Option ℕ) → ℕ → Option Usage → Option Sign → Forest PlainEntry → Forest Resolved
 resolved counts n usage sign NoEntries = NoEntries
 resolved counts n usage sign (AnEntry e children more) =
-    AnEntry (resolved_by n (slice_index counts n) (inherited usage e.usage) (inherited sign e.sign) e)
+    AnEntry (resolved_by n (count_at counts n) (inherited usage e.usage) (inherited sign e.sign) e)
     (resolved counts (n + 1) (inherited usage e.usage) (inherited sign e.sign) children)
     (resolved counts (n + 1 + entries_in children) usage sign more)

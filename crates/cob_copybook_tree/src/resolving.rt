@@ -1,10 +1,10 @@
-ghost use Rattle.std.specs.Prelude.{◌≡◌, ◌+◌, ◌≤◌, [], ◌∷◌, slice_index, None, unwrap_or, option_map, IfOk, OnOk};
+ghost use Rattle.std.specs.Prelude.{◌≡◌, ◌+◌, ◌≤◌, [], ◌∷◌, None, unwrap_or, option_map, IfOk, OnOk};
 ghost use Rattle.cob_entry.specs.declared.kinds.Usage.TheVariants.{Display};
 ghost use Rattle.cob_entry.specs.Described.{plain_entry, plain_occurs};
 ghost use Rattle.cob_copybook_tree.specs.Forests.{entries_in};
 ghost use Rattle.cob_copybook_tree.specs.Branches.{forest_of};
 ghost use Rattle.cob_copybook_tree.specs.Nodes.{node, forest};
-ghost use Rattle.cob_copybook_tree.specs.Resolving.{inherited, is_number, keeps_sign, kind_by_picture, resolved, resolved_by, times_of};
+ghost use Rattle.cob_copybook_tree.specs.Resolving.{count_at, inherited, is_number, keeps_sign, kind_by_picture, resolved, resolved_by, times_of};
 
 use crate::branch::Branch;
 use crate::node::{Item, Kind, Node, ResolvedOccurs};
@@ -71,30 +71,42 @@ fn kind_of(entry: &Entry, own: Inherited) -> Kind
     }
 }
 
-/// How often an entry occurs, where its count has this number.
-fn times_of(entry: &Entry, count: usize) -> ResolvedOccurs
+/// How often an entry occurs, where its count has this number. A table that varies but has no count occurs as often as it may at most.
+fn times_of(entry: &Entry, count: Option<usize>) -> ResolvedOccurs
     ensures { result ≡ times_of (option_map plain_occurs entry.now.occurs) count }
 {
     match &entry.occurs {
         None => ResolvedOccurs::Once,
         Some(Occurs::Fixed(times)) => ResolvedOccurs::Fixed(*times),
-        Some(Occurs::Varying { least, most, .. }) => ResolvedOccurs::Varying {
-            least: *least,
-            most: *most,
-            count,
+        Some(Occurs::Varying { least, most, .. }) => match count {
+            Some(count) => ResolvedOccurs::Varying {
+                least: *least,
+                most: *most,
+                count,
+            },
+            None => ResolvedOccurs::Fixed(*most),
         },
     }
 }
 
-/// The number of the count of the entry with this number; 0 where none is given.
-fn count_at(counts: &[usize], number: usize) -> usize
-    ensures { result ≡ slice_index counts.now number }
+/// The number of the count of the entry with this number; none where none is told.
+fn count_at(counts: &[Option<usize>], number: usize) -> Option<usize>
+    ensures { result ≡ count_at counts.now number }
 {
-    counts.get(number).copied().unwrap_or(0)
+    match counts.get(number) {
+        Some(count) => *count,
+        None => None,
+    }
 }
 
 /// A node of these parts.
-fn node_of(entry: &Entry, number: usize, count: usize, own: Inherited, children: Vec<Node>) -> Node
+fn node_of(
+    entry: &Entry,
+    number: usize,
+    count: Option<usize>,
+    own: Inherited,
+    children: Vec<Node>,
+) -> Node
     ensures { node result ≡ record {
       top = resolved_by number count own.usage own.sign (plain_entry entry.now);
       beneath = forest children.items;
@@ -121,7 +133,7 @@ fn node_of(entry: &Entry, number: usize, count: usize, own: Inherited, children:
 fn numbered(
     alloc: Global,
     branch: &Branch,
-    counts: &[usize],
+    counts: &[Option<usize>],
     above: Inherited,
     next: &mut usize,
 ) -> Result<Node, AllocError>
@@ -143,12 +155,12 @@ fn numbered(
 }
 
 /// The tree with what its entries inherit. `counts` has, for each table that varies, the number of its count's entry, at the table's
-/// own number.
+/// own number, and none for the other entries.
 ///
 /// # Errors
 ///
 /// Memory for a list was refused.
-pub fn resolve(alloc: Global, root: &Branch, counts: &[usize]) -> Result<Node, AllocError>
+pub fn resolve(alloc: Global, root: &Branch, counts: &[Option<usize>]) -> Result<Node, AllocError>
     requires few { entries_in (forest_of (root.now ∷ [])) ≤ 65535 }
     ensures { IfOk result
         (λ n. forest (n ∷ []) ≡ resolved counts.now 0 None None (forest_of (root.now ∷ []))) }

@@ -1,6 +1,6 @@
 -- The count of each table of a record is an item of it that is a whole number.
 use Rattle.std.proofs.Common.{◌≡◌, sym, subst, ap, ◌∙◌, ℕ, ◌+◌, ◌<◌, ◌≤◌, List, [], ◌∷◌, ◌++◌, drop, append_assoc, append-nil, refl, arith, Option, Some, None, Bool, true, false, inl, inr}
-use Rattle.std.specs.Prelude.{slice_index, unwrap_or, pos, is_some, ◌||◌, ◌&&◌, not}
+use Rattle.std.specs.Prelude.{unwrap_or, pos, is_some, ◌||◌, ◌&&◌, not}
 use Rattle.std.specs.List.{AllByRecursion}
 use Rattle.std.proofs.lemmas.Bool.{MatchBool-at_true}
 use Rattle.cob_picture.specs.Positions.{PlainPicture}
@@ -16,8 +16,9 @@ use Rattle.cob_copybook.specs.Kind.TheVariants.{Item as ItemKind}
 use Rattle.cob_copybook.specs.Forests.{Forest, NoEntries, AnEntry, Tree, flat, entries_in}
 use Rattle.cob_copybook.specs.Nodes.{Resolved, alone}
 use Rattle.cob_copybook.specs.TreeLengths.{item_size}
-use Rattle.cob_copybook.specs.Resolving.{inherited, is_numeric, kind_by_picture, times_of, resolved_by, resolved, is_number}
-use Rattle.cob_copybook.specs.Bearers.{Bearer, bearers, bearer_at, with_name, NamesEntry, IsOnlyOne}
+use Rattle.cob_copybook.specs.Resolving.{count_at, inherited, is_numeric, kind_by_picture, times_of, resolved_by, resolved, is_number}
+use Rattle.cob_copybook.specs.Naming.{Bearer, is_named, named, with_name}
+use Rattle.cob_copybook.specs.Entries.{NumberedEntry, bearers, bearer_at}
 use Rattle.cob_copybook.specs.Counts.{IsCountOfTable, IsCountOf, AreCounts}
 use Rattle.cob_layout_places.specs.Items.{IsNumberItem, IsStorable}
 use Rattle.cob_layout_places.specs.declared.varying.Table.{Table}
@@ -26,24 +27,24 @@ use Rattle.cob_layout_places.specs.Needs.{Has}
 use Rattle.cob_layout_places.proofs.NeedLaw.{low, high}
 use Rattle.cob_layout_places.specs.Counts.{table_of, tables_of, kind_in, kind_one, IsCountable}
 use Rattle.cob_layout.specs.Sound.{IsStorableKind, AreStorable, InTable, IsAhead}
-use Rattle.cob_layout.proofs.Lists.{all_append, all_map, first_left, others_left, same, differs}
+use Rattle.cob_layout.proofs.Lists.{all_append, all_kept, all_map, first_left, others_left, same, differs}
 use Rattle.cob_layout.proofs.Numbers.{numbered, same_entries}
 
 -- ---- each entry has its own count
 
 -- the count that stands by each entry's number is its own
-abbrev pub HaveCounts : List Bearer → List ℕ → ℕ → Forest PlainEntry → Type 0
+abbrev pub HaveCounts : List (Bearer NumberedEntry) → List (Option ℕ) → ℕ → Forest PlainEntry → Type 0
 HaveCounts all counts n NoEntries = Unit {0}
 HaveCounts all counts n (AnEntry e children more) =
-    IsCountOf all n e.occurs (slice_index counts n) × HaveCounts all counts (n + 1) children × HaveCounts all counts (n + 1 + entries_in children) more
+    IsCountOf all n e.occurs (count_at counts n) × HaveCounts all counts (n + 1) children × HaveCounts all counts (n + 1 + entries_in children) more
 
 -- the counts of these entries stand by their numbers, and those of the entries behind them are left
-have_counts : (all : List Bearer) (counts : List ℕ) (n : ℕ) (f : Forest PlainEntry) (rest : List PlainEntry) → AreCounts all n (flat f ++ rest) (drop n counts)
+have_counts : (all : List (Bearer NumberedEntry)) (counts : List (Option ℕ)) (n : ℕ) (f : Forest PlainEntry) (rest : List PlainEntry) → AreCounts all n (flat f ++ rest) (drop n counts)
     → HaveCounts all counts n f × AreCounts all (n + entries_in f) rest (drop (n + entries_in f) counts)
 have_counts all counts n NoEntries rest h = (tt, subst (λ (k : ℕ). AreCounts all k rest (drop k counts)) (omega arith) h)
 have_counts all counts n (AnEntry e children more) rest h =
     let (count, others, cut, here, behind) = h in
-    let own : IsCountOf all n e.occurs (slice_index counts n) = subst (λ (c : ℕ). IsCountOf all n e.occurs c) (sym (first_left counts others n count cut)) here in
+    let own : IsCountOf all n e.occurs (count_at counts n) = subst (λ (c : Option ℕ). IsCountOf all n e.occurs c) (sym (first_left counts others n count cut)) here in
     let next : AreCounts all (n + 1) ((flat children ++ flat more) ++ rest) (drop (n + 1) counts) = subst (AreCounts all (n + 1) ((flat children ++ flat more) ++ rest)) (sym (others_left counts others n count cut)) behind in
     let apart : AreCounts all (n + 1) (flat children ++ (flat more ++ rest)) (drop (n + 1) counts) = subst (λ (es : List PlainEntry). AreCounts all (n + 1) es (drop (n + 1) counts)) (append_assoc (flat children) (flat more) rest) next in
     let below = have_counts all counts (n + 1) children (flat more ++ rest) apart in
@@ -61,8 +62,8 @@ pub record IsPlainItem (o : Option Kind) (p : PlainPicture) : Type 0 where
   pub storable : IsStorable item
 
 -- the entry describes such an item, if it has a picture and isn't edited so
-abbrev pub IsDescribed : Forest Resolved → Bearer → Type 0
-IsDescribed g b = (p : PlainPicture) → b.picture ≡ Some p → b.blank ≡ false → IsPlainItem (kind_in b.number g) p
+abbrev pub IsDescribed : Forest Resolved → Bearer NumberedEntry → Type 0
+IsDescribed g b = (p : PlainPicture) → b.entry.picture ≡ Some p → b.entry.blank ≡ false → IsPlainItem (kind_in b.entry.number g) p
 
 -- what stands under the numbers from this one on in these entries stands there in those too
 abbrev Shows : ℕ → Forest Resolved → Forest Resolved → Type 0
@@ -79,7 +80,7 @@ passed : (e : Resolved) (children more : Forest Resolved) (number : ℕ) → e.n
 passed e children more number h = ap (λ (b : Bool). or_else (choose b e.kind (kind_in number children)) (kind_in number more)) (differs e.number number h)
 
 -- none of the entries has a number past theirs
-none_past : (counts : List ℕ) (n : ℕ) (usage : Option Usage) (sign : Option Sign) (f : Forest PlainEntry) (number : ℕ) → n + entries_in f ≤ number
+none_past : (counts : List (Option ℕ)) (n : ℕ) (usage : Option Usage) (sign : Option Sign) (f : Forest PlainEntry) (number : ℕ) → n + entries_in f ≤ number
     → kind_in number (resolved counts n usage sign f) ≡ None
 none_past counts n usage sign NoEntries number h = refl
 none_past counts n usage sign (AnEntry e children more) number h =
@@ -87,13 +88,13 @@ none_past counts n usage sign (AnEntry e children more) number h =
     let v = inherited sign e.sign in
     let below = resolved counts (n + 1) u v children in
     let beside = resolved counts (n + 1 + entries_in children) usage sign more in
-    passed (resolved_by n (slice_index counts n) u v e) below beside number (omega (arith, h))
+    passed (resolved_by n (count_at counts n) u v e) below beside number (omega (arith, h))
     ∙ ap (λ (o : Option Kind). or_else o (kind_in number beside)) (none_past counts (n + 1) u v children number (omega (arith, h)))
     ∙ none_past counts (n + 1 + entries_in children) usage sign more number (omega (arith, h))
 
 -- what the first entry describes is shown under its number
-first_shown : (counts : List ℕ) (above : List (List ℕ)) (in_table : Bool) (n : ℕ) (usage : Option Usage) (sign : Option Sign) (e : PlainEntry) (children more g : Forest Resolved)
-    → IsStorableKind (resolved_by n (slice_index counts n) usage sign e).kind → Shows n (AnEntry (resolved_by n (slice_index counts n) usage sign e) children more) g
+first_shown : (counts : List (Option ℕ)) (above : List (List ℕ)) (in_table : Bool) (n : ℕ) (usage : Option Usage) (sign : Option Sign) (e : PlainEntry) (children more g : Forest Resolved)
+    → IsStorableKind (resolved_by n (count_at counts n) usage sign e).kind → Shows n (AnEntry (resolved_by n (count_at counts n) usage sign e) children more) g
     → IsDescribed g (bearer_at above in_table n e)
 first_shown counts above in_table n usage sign e children more g s h p is plain =
     let kind = kind_by_picture e.picture (unwrap_or usage Display) sign e.justified e.blank in
@@ -102,14 +103,14 @@ first_shown counts above in_table n usage sign e children more g s h p is plain 
     record { item = i.item; is = there ∙ i.is; picture = i.picture; plain = i.plain; storable = i.storable }
 
 -- each entry is shown under its number
-shown : (counts : List ℕ) (above : List (List ℕ)) (in_table : Bool) (n : ℕ) (usage : Option Usage) (sign : Option Sign) (f : Forest PlainEntry) (g : Forest Resolved)
+shown : (counts : List (Option ℕ)) (above : List (List ℕ)) (in_table : Bool) (n : ℕ) (usage : Option Usage) (sign : Option Sign) (f : Forest PlainEntry) (g : Forest Resolved)
     → AreStorable (resolved counts n usage sign f) → Shows n (resolved counts n usage sign f) g → AllByRecursion (IsDescribed g) (bearers above in_table n f)
 shown counts above in_table n usage sign NoEntries g s h = tt
 shown counts above in_table n usage sign (AnEntry e children more) g s h =
     let u = inherited usage e.usage in
     let v = inherited sign e.sign in
     let table = in_table || is_some e.occurs in
-    let entry = resolved_by n (slice_index counts n) u v e in
+    let entry = resolved_by n (count_at counts n) u v e in
     let below = resolved counts (n + 1) u v children in
     let beside = resolved counts (n + 1 + entries_in children) usage sign more in
     let here = first_shown counts above table n u v e below beside g s.0 h in
@@ -119,17 +120,16 @@ shown counts above in_table n usage sign (AnEntry e children more) g s h =
     h number k (omega (arith, past)) (passed entry below beside number (omega (arith, past)) ∙ ap (λ (o : Option Kind). or_else o (kind_in number beside)) (none_past counts (n + 1) u v children number past) ∙ is)) in
     (here, all_append (IsDescribed g) _ _ under behind)
 
--- the one entry that is named is one of them
-the_one : (is : Bearer → Type 0) (P : Bearer → Type 0) (bs : List Bearer) (b : Bearer) → IsOnlyOne is bs b → AllByRecursion P bs → P b
-the_one is P [] b h all = absurd h
-the_one is P (c ∷ cs) b (inl h) all = subst P h.0 all.0
-the_one is P (c ∷ cs) b (inr h) all = the_one is P cs b h.1 all.1
+-- what is so of all entries is so of the one that is named
+the_one : (name : List ℕ) (qualifiers : List (List ℕ)) (P : Bearer NumberedEntry → Type 0) (all : List (Bearer NumberedEntry)) (b : Bearer NumberedEntry) → named name qualifiers all ≡ b ∷ []
+    → AllByRecursion P all → P b
+the_one name qualifiers P all b only h = (subst (AllByRecursion P) only (all_kept P (λ c. is_named name qualifiers c) all h)).0
 
 -- ---- an entry that is told to be in no table stands beneath none
 
 -- such an entry stands beneath none of these
-abbrev pub IsOutside : Forest Resolved → Bearer → Type 0
-IsOutside g b = b.in_table ≡ false → InTable b.number g → ⊥
+abbrev pub IsOutside : Forest Resolved → Bearer NumberedEntry → Type 0
+IsOutside g b = b.entry.in_table ≡ false → InTable b.entry.number g → ⊥
 
 in_has : (a : ℕ) (f : Forest Resolved) → InTable a f → Has a f
 in_has a NoEntries h = h
@@ -137,7 +137,7 @@ in_has a (AnEntry e children more) (inl h) = inr (inl h.1)
 in_has a (AnEntry e children more) (inr (inl h)) = inr (inl (in_has a children h))
 in_has a (AnEntry e children more) (inr (inr h)) = inr (inr (in_has a more h))
 
-no_table : (o : Option described.PlainOccurs) (count : ℕ) → is_some o ≡ false → is_table (times_of o count) ≡ true → ⊥
+no_table : (o : Option described.PlainOccurs) (count : Option ℕ) → is_some o ≡ false → is_table (times_of o count) ≡ true → ⊥
 no_table None count e t = cc
 no_table (Some x) count e t = cc
 
@@ -151,7 +151,7 @@ all_in above n (AnEntry e children more) g =
 abbrev Keeps : ℕ → ℕ → Forest Resolved → Forest Resolved → Type 0
 Keeps n m f g = (b : ℕ) → n ≤ b → b < m → InTable b g → InTable b f
 
-outside : (counts : List ℕ) (above : List (List ℕ)) (n : ℕ) (usage : Option Usage) (sign : Option Sign) (f : Forest PlainEntry) (g : Forest Resolved)
+outside : (counts : List (Option ℕ)) (above : List (List ℕ)) (n : ℕ) (usage : Option Usage) (sign : Option Sign) (f : Forest PlainEntry) (g : Forest Resolved)
     → Keeps n (n + entries_in f) (resolved counts n usage sign f) g → AllByRecursion (IsOutside g) (bearers above false n f)
 outside counts above n usage sign NoEntries g h = tt
 outside counts above n usage sign (AnEntry e children more) g h =
@@ -170,7 +170,7 @@ outside counts above n usage sign (AnEntry e children more) g h =
       ]
     ] in
     let inner : is_some e.occurs ≡ false → Keeps (n + 1) (n + 1 + entries_in children) below g = λ single b l m is. elim (h b (omega (arith, l)) (omega (arith, m)) is) [
-      | inl t ↦ absurd (no_table e.occurs (slice_index counts n) single t.0)
+      | inl t ↦ absurd (no_table e.occurs (count_at counts n) single t.0)
       | inr rest ↦ elim rest [
         | inl t ↦ t
         | inr t ↦ absurd (omega (arith, m, low (n + 1 + entries_in children) b beside ordered_beside (in_has b beside t)))
@@ -208,39 +208,40 @@ number_item i numeric plain h =
     let number : is_number i ≡ true = ap (λ (b : Bool). b && not i.blank) numeric ∙ ap not plain in
     MatchBool-at_true (IsNumberItem i) (item_size i ≡ size i.picture.positions) number h
 
-counted : (all : List Bearer) (g : Forest Resolved) (name : List ℕ) (qualifiers : List (List ℕ)) (x : Table) → AllByRecursion (IsDescribed g) all → AllByRecursion (IsOutside g) all
+counted : (all : List (Bearer NumberedEntry)) (g : Forest Resolved) (name : List ℕ) (qualifiers : List (List ℕ)) (x : Table) → AllByRecursion (IsDescribed g) all → AllByRecursion (IsOutside g) all
     → IsCountOfTable all x.number name qualifiers x.count → IsCountedIn g x
 counted all g name qualifiers x shows out h =
-    let b = h.bearer in
-    let i : IsPlainItem (kind_in b.number g) h.may.picture = the_one (NamesEntry name qualifiers) (IsDescribed g) all b h.only shows h.may.picture h.may.has h.may.plain in
+    let b = h.bearer.entry in
+    let i : IsPlainItem (kind_in b.number g) h.may.picture = the_one name qualifiers (IsDescribed g) all h.bearer h.only shows h.may.picture h.may.has h.may.plain in
     record {
       item = i.item;
       is = ap (λ (m : ℕ). kind_in m g) (sym h.number) ∙ i.is;
       number = number_item i.item (ap (λ (p : PlainPicture). is_numeric p.category) i.picture ∙ h.may.whole.number) i.plain i.storable;
       whole = ap (λ (p : PlainPicture). scale p.positions) i.picture ∙ h.may.whole.whole;
       before = h.before;
-      single = subst (λ (m : ℕ). InTable m g → ⊥) h.number (the_one (NamesEntry name qualifiers) (IsOutside g) all b h.only out h.may.single);
+      single = subst (λ (m : ℕ). InTable m g → ⊥) h.number (the_one name qualifiers (IsOutside g) all h.bearer h.only out h.may.single);
     }
 
-table_counted : (all : List Bearer) (g : Forest Resolved) (n : ℕ) (o : Option described.PlainOccurs) (count : ℕ) → AllByRecursion (IsDescribed g) all → AllByRecursion (IsOutside g) all
+table_counted : (all : List (Bearer NumberedEntry)) (g : Forest Resolved) (n : ℕ) (o : Option described.PlainOccurs) (count : Option ℕ) → AllByRecursion (IsDescribed g) all → AllByRecursion (IsOutside g) all
     → IsCountOf all n o count → AllByRecursion (IsCountedIn g) (table_of (times_of o count) n)
 table_counted all g n None count shows out h = tt
 table_counted all g n (Some (described.Fixed times)) count shows out h = tt
-table_counted all g n (Some (described.Varying least most name qualifiers)) count shows out h =
+table_counted all g n (Some (described.Varying least most name qualifiers)) None shows out h = absurd h
+table_counted all g n (Some (described.Varying least most name qualifiers)) (Some count) shows out h =
     (counted all g name qualifiers (record { number = n; least = least; most = most; count = count }) shows out h, tt)
 
-tables_counted : (all : List Bearer) (g : Forest Resolved) (counts : List ℕ) (n : ℕ) (usage : Option Usage) (sign : Option Sign) (f : Forest PlainEntry) → AllByRecursion (IsDescribed g) all
+tables_counted : (all : List (Bearer NumberedEntry)) (g : Forest Resolved) (counts : List (Option ℕ)) (n : ℕ) (usage : Option Usage) (sign : Option Sign) (f : Forest PlainEntry) → AllByRecursion (IsDescribed g) all
     → AllByRecursion (IsOutside g) all → HaveCounts all counts n f → AllByRecursion (IsCountedIn g) (tables_of (resolved counts n usage sign f))
 tables_counted all g counts n usage sign NoEntries shows out h = tt
 tables_counted all g counts n usage sign (AnEntry e children more) shows out h =
     all_append (IsCountedIn g) _ _
-    (table_counted all g n e.occurs (slice_index counts n) shows out h.0)
+    (table_counted all g n e.occurs (count_at counts n) shows out h.0)
     (all_append (IsCountedIn g) _ _
     (tables_counted all g counts (n + 1) (inherited usage e.usage) (inherited sign e.sign) children shows out h.1)
     (tables_counted all g counts (n + 1 + entries_in children) usage sign more shows out h.2))
 
 -- the tables of a record whose items can be stored are counted
-pub all_counted : (counts : List ℕ) (f : Forest PlainEntry) → AreCounts (bearers [] false 0 f) 0 (flat f) counts → AreStorable (resolved counts 0 None None f)
+pub all_counted : (counts : List (Option ℕ)) (f : Forest PlainEntry) → AreCounts (bearers [] false 0 f) 0 (flat f) counts → AreStorable (resolved counts 0 None None f)
     → AllByRecursion (IsCountedIn (resolved counts 0 None None f)) (tables_of (resolved counts 0 None None f))
 all_counted counts f h s =
     let all = bearers [] false 0 f in

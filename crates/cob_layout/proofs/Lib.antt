@@ -26,11 +26,9 @@ pub mod Fits
 pub mod Storables
 pub mod Counted
 pub mod SoundLaw
-pub use Rattle.cob_copybook.proofs.Links
 pub use Rattle.cob_copybook.proofs.EntryNoRule
 pub use Rattle.cob_copybook.proofs.EntryNumbers
 pub use Rattle.cob_copybook.proofs.EntryOneList
-pub use Rattle.cob_copybook.proofs.Qualifying
 pub use Rattle.cob_layout_places.proofs.CountLemmas
 pub use Rattle.cob_layout_places.proofs.CoverLaw
 pub use Rattle.cob_layout_places.proofs.ForestLemmas

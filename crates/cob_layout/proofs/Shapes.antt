@@ -1,6 +1,6 @@
 -- Groups hold entries, and tables are nested no deeper than they may be.
 use Rattle.std.proofs.Common.{◌≡◌, subst, ℕ, ◌+◌, ◌≤◌, List, refl, Option, Some, None, Bool}
-use Rattle.std.specs.Prelude.{slice_index, unwrap_or}
+use Rattle.std.specs.Prelude.{unwrap_or}
 use Rattle.cob_picture.specs.Positions.{PlainPicture}
 use Rattle.cob_copybook.specs.Usage.{Usage}
 use Rattle.cob_copybook.specs.Usage.TheVariants.{Display}
@@ -8,20 +8,20 @@ use Rattle.cob_copybook.specs.Sign.{Sign}
 use Rattle.cob_copybook.specs.Described as described
 use Rattle.cob_copybook.specs.Described.{PlainEntry}
 use Rattle.cob_copybook.specs.Forests.{Forest, NoEntries, AnEntry, entries_in}
-use Rattle.cob_copybook.specs.Resolving.{inherited, times_of, kind_by_picture, resolved}
+use Rattle.cob_copybook.specs.Resolving.{count_at, inherited, times_of, kind_by_picture, resolved}
 use Rattle.cob_copybook.specs.Filled as rules
 use Rattle.cob_copybook.specs.Tables as tables
 use Rattle.cob_limits.specs.Limits.{most_dimensions}
 use Rattle.cob_layout.specs.Sound.{HoldsSome, HoldSome, own_dimension, AreNested}
 
-one_filled : (picture : Option PlainPicture) (own : Usage) (place : Option Sign) (justified blank : Bool) (counts : List ℕ) (n : ℕ) (usage : Option Usage) (sign : Option Sign) (children : Forest PlainEntry)
+one_filled : (picture : Option PlainPicture) (own : Usage) (place : Option Sign) (justified blank : Bool) (counts : List (Option ℕ)) (n : ℕ) (usage : Option Usage) (sign : Option Sign) (children : Forest PlainEntry)
     → rules.IsFilled picture children → HoldsSome (kind_by_picture picture own place justified blank) (resolved counts n usage sign children)
 one_filled None own place justified blank counts n usage sign NoEntries h = absurd h
 one_filled None own place justified blank counts n usage sign (AnEntry e children more) h = tt
 one_filled (Some p) own place justified blank counts n usage sign children h = tt
 
 -- where each entry is an item or a group, each group has an entry
-pub filled : (counts : List ℕ) (n : ℕ) (usage : Option Usage) (sign : Option Sign) (f : Forest PlainEntry) → rules.AreFilled f → HoldSome (resolved counts n usage sign f)
+pub filled : (counts : List (Option ℕ)) (n : ℕ) (usage : Option Usage) (sign : Option Sign) (f : Forest PlainEntry) → rules.AreFilled f → HoldSome (resolved counts n usage sign f)
 filled counts n usage sign NoEntries h = tt
 filled counts n usage sign (AnEntry e children more) h =
     let u = inherited usage e.usage in
@@ -29,18 +29,19 @@ filled counts n usage sign (AnEntry e children more) h =
     let here = one_filled e.picture (unwrap_or u Display) v e.justified e.blank counts (n + 1) u v children h.0 in
     (here, filled counts (n + 1) u v children h.1, filled counts (n + 1 + entries_in children) usage sign more h.2)
 
-same_dimension : (o : Option described.PlainOccurs) (count : ℕ) → tables.dimension o ≡ own_dimension (times_of o count)
+same_dimension : (o : Option described.PlainOccurs) (count : Option ℕ) → tables.dimension o ≡ own_dimension (times_of o count)
 same_dimension None count = refl
 same_dimension (Some (described.Fixed n)) count = refl
-same_dimension (Some (described.Varying least most name qualifiers)) count = refl
+same_dimension (Some (described.Varying least most name qualifiers)) (Some count) = refl
+same_dimension (Some (described.Varying least most name qualifiers)) None = refl
 
 -- tables have the dimensions that they are written with
-pub nested : (counts : List ℕ) (n m : ℕ) (usage : Option Usage) (sign : Option Sign) (f : Forest PlainEntry) → tables.AreTables m f → AreNested m (resolved counts n usage sign f)
+pub nested : (counts : List (Option ℕ)) (n m : ℕ) (usage : Option Usage) (sign : Option Sign) (f : Forest PlainEntry) → tables.AreTables m f → AreNested m (resolved counts n usage sign f)
 nested counts n m usage sign NoEntries h = tt
 nested counts n m usage sign (AnEntry e children more) h =
     let u = inherited usage e.usage in
     let v = inherited sign e.sign in
-    let same = same_dimension e.occurs (slice_index counts n) in
+    let same = same_dimension e.occurs (count_at counts n) in
     let here = subst (λ (d : ℕ). m + d ≤ most_dimensions) same h.2 in
     let below = nested counts (n + 1) (m + tables.dimension e.occurs) u v children h.3 in
     let beside = nested counts (n + 1 + entries_in children) m usage sign more h.4 in

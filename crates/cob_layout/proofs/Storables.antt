@@ -91,7 +91,7 @@ kind_storable None usage sign justified blank h k = tt
 kind_storable (Some p) usage sign justified blank h k = item_storable (is_numeric p.category) blank (unwrap_or usage Display) sign justified p refl (takes usage p h) k
 
 -- where usages and BLANK WHEN ZERO stand where they may, each item can be stored
-pub storable : (counts : List ℕ) (n : ℕ) (usage : Option Usage) (sign : Option Sign) (f : Forest PlainEntry) → AreUsages usage f → ArePlaced usage f → AreStorable (resolved counts n usage sign f)
+pub storable : (counts : List (Option ℕ)) (n : ℕ) (usage : Option Usage) (sign : Option Sign) (f : Forest PlainEntry) → AreUsages usage f → ArePlaced usage f → AreStorable (resolved counts n usage sign f)
 storable counts n usage sign NoEntries u p = tt
 storable counts n usage sign (AnEntry e children more) u p =
     let here = kind_storable e.picture (inherited usage e.usage) (inherited sign e.sign) e.justified e.blank u.1 p.1 in

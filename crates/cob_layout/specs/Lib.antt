@@ -7,7 +7,6 @@ pub mod Standing
 pub mod Fields
 pub mod Sound
 -- words of the crates below that the contracts of this one speak of
-pub use Rattle.cob_copybook.specs.Bearers
 pub use Rattle.cob_copybook.specs.BookFault
 pub use Rattle.cob_copybook.specs.BookRule
 pub use Rattle.cob_copybook.specs.Books
@@ -23,8 +22,6 @@ pub use Rattle.cob_layout_places.specs.declared.places.Found
 pub use Rattle.cob_copybook.specs.Item
 pub use Rattle.cob_layout_places.specs.Items
 pub use Rattle.cob_copybook.specs.Kind
-pub use Rattle.cob_copybook.specs.Links
-pub use Rattle.cob_copybook.specs.Listed
 pub use Rattle.cob_copybook.specs.Meaning
 pub use Rattle.cob_copybook.specs.Node
 pub use Rattle.cob_copybook.specs.Nodes

@@ -5,7 +5,7 @@ use Rattle.cob_layout.specs.ResolvedOccurs.TheVariants.{Once, Fixed, Varying}
 use Rattle.cob_layout.specs.Forests.{Forest, NoEntries, AnEntry, Tree}
 use Rattle.cob_layout.specs.TreeLengths.{greatest_number}
 use Rattle.cob_layout.specs.Nodes.{Resolved, alone}
-use Rattle.cob_layout.specs.Bearers.{with_name}
+use Rattle.cob_copybook_names.specs.Naming.{with_name}
 use Rattle.cob_layout.specs.Places.{is_table}
 use Rattle.cob_layout.specs.Sound.{AreNested, own_dimension}
 use Rattle.cob_move_operands.specs.declared.Side.{Side}

@@ -6,7 +6,7 @@ use Rattle.cob_limits.specs.Limits.{most_dimensions}
 use Rattle.cob_layout.specs.Forests.{Forest, NoEntries, AnEntry, Tree, entries_in}
 use Rattle.cob_layout.specs.TreeLengths.{greatest_number}
 use Rattle.cob_layout.specs.Nodes.{Resolved, alone}
-use Rattle.cob_layout.specs.Bearers.{with_name}
+use Rattle.cob_copybook_names.specs.Naming.{is_named, named, with_name}
 use Rattle.cob_layout.specs.Counts.{kind_in, kind_one}
 use Rattle.cob_layout.specs.Cover.{AreNumbered}
 use Rattle.cob_layout.specs.Places.{choose, is_table, later, or_else}
@@ -19,7 +19,7 @@ use Rattle.cob_move_operands.specs.Moves.{IsOperand, Records, record_of}
 use Rattle.cob_move_statements.specs.declared.fault.MoveRule.{MoveRule}
 use Rattle.cob_move_statements.specs.declared.fault.MoveRule.TheVariants as rule
 use Rattle.cob_move_statements.specs.Written.{WrittenReference}
-use Rattle.cob_move_references.specs.Candidates.{Candidate, all_entries, candidate, candidates, is_named, named, with_table}
+use Rattle.cob_move_references.specs.Candidates.{Candidate, all_entries, candidate, candidates, with_table}
 use Rattle.cob_move_references.specs.Laws.{NamedAreOperands}
 use Rattle.cob_move_references.specs.Listed.{AreShallow}
 use Rattle.cob_move_references.specs.References.{AreSubscriptsOf, BreaksName, BreaksReceiver, BreaksReference, operand, subscript_numbers}
@@ -47,12 +47,12 @@ member : (name : List ℕ) (qs : List (List ℕ)) (all : List Candidate) (c : Ca
 member name qs all c is = among (λ x. is_named name qs x) all c (subst (IsOneOf c) (sym is) (inl refl))
 
 -- it stands in no more tables than others
-shallow_one : (c : Candidate) (xs : List Candidate) → AreShallow xs → IsOneOf c xs → length c.tables ≤ most_dimensions
+shallow_one : (c : Candidate) (xs : List Candidate) → AreShallow xs → IsOneOf c xs → length c.entry.tables ≤ most_dimensions
 shallow_one c [] h o = absurd o
-shallow_one c (x ∷ xs) h (inl is) = subst (λ (y : Candidate). length y.tables ≤ most_dimensions) is h.0
+shallow_one c (x ∷ xs) h (inl is) = subst (λ (y : Candidate). length y.entry.tables ≤ most_dimensions) is h.0
 shallow_one c (x ∷ xs) h (inr o) = shallow_one c xs h.1 o
 
-pub shallow : (name : List ℕ) (qs : List (List ℕ)) (all : List Candidate) (c : Candidate) → AreShallow all → named name qs all ≡ c ∷ [] → length c.tables ≤ most_dimensions
+pub shallow : (name : List ℕ) (qs : List (List ℕ)) (all : List Candidate) (c : Candidate) → AreShallow all → named name qs all ≡ c ∷ [] → length c.entry.tables ≤ most_dimensions
 shallow name qs all c h is = shallow_one c all h (member name qs all c is)
 
 -- ---- subscripts as numbers
@@ -115,12 +115,12 @@ none_before n k (AnEntry e children more) h le =
 -- ---- an entry of a forest: its side, its number, its kind, and the references to it
 
 record Stands (side : Side) (n : ℕ) (before : List ℕ) (f : Forest Resolved) (c : Candidate) : Type 0 where
-  side_is : side ≡ c.side
-  from : n ≤ c.number
-  kind : kind_in c.number f ≡ Some c.kind
+  side_is : side ≡ c.entry.side
+  from : n ≤ c.entry.number
+  kind : kind_in c.entry.number f ≡ Some c.entry.kind
   more : List ℕ
-  tables : c.tables ≡ before ++ more
-  refers : (subscripts : List ℕ) → AreWithin more subscripts → Refers c.number subscripts f
+  tables : c.entry.tables ≡ before ++ more
+  refers : (subscripts : List ℕ) → AreWithin more subscripts → Refers c.entry.number subscripts f
 
 here : (side : Side) (above : List (List ℕ)) (n : ℕ) (before : List ℕ) (e : Resolved) (children more : Forest Resolved) (c : Candidate) → e.number ≡ n → candidate side above before e ≡ c
     → Stands side n before (AnEntry e children more) c
@@ -128,15 +128,15 @@ here side above n before e children more c at is =
     let table = is_table e.occurs in
     let mine = own table (greatest_number e) in
     record {
-      side_is = ap (λ (x : Candidate). x.side) is;
-      from = omega (arith, at, ap (λ (x : Candidate). x.number) is);
-      kind = hit (e.number == c.number) e.kind (kind_in c.number children) (kind_in c.number more) (equal e.number c.number (ap (λ (x : Candidate). x.number) is)) ∙ ap (λ (x : Candidate). Some x.kind) is;
+      side_is = ap (λ (x : Candidate). x.entry.side) is;
+      from = omega (arith, at, ap (λ (x : Candidate). x.entry.number) is);
+      kind = hit (e.number == c.entry.number) e.kind (kind_in c.entry.number children) (kind_in c.entry.number more) (equal e.number c.entry.number (ap (λ (x : Candidate). x.entry.number) is)) ∙ ap (λ (x : Candidate). Some x.entry.kind) is;
       more = mine;
-      tables = ap (λ (x : Candidate). x.tables) (sym is) ∙ sym (append-nil (with_table table (greatest_number e) before)) ∙ tables_are table (greatest_number e) before []
+      tables = ap (λ (x : Candidate). x.entry.tables) (sym is) ∙ sym (append-nil (with_table table (greatest_number e) before)) ∙ tables_are table (greatest_number e) before []
           ∙ ap (λ (t : List ℕ). before ++ t) (append-nil mine);
       refers = λ subscripts h.
           let (s, rest) = first table (greatest_number e) [] subscripts (subst (λ (t : List ℕ). AreWithin t subscripts) (sym (append-nil mine)) h) in
-          inl (s, inl (ap (λ (x : Candidate). x.number) is, none (later table subscripts) rest));
+          inl (s, inl (ap (λ (x : Candidate). x.entry.number) is, none (later table subscripts) rest));
     }
 
 beneath : (side : Side) (n : ℕ) (before : List ℕ) (e : Resolved) (children more : Forest Resolved) (c : Candidate) → e.number ≡ n → Stands side (n + 1) (with_table (is_table e.occurs) (greatest_number e) before) children c
@@ -144,7 +144,7 @@ beneath : (side : Side) (n : ℕ) (before : List ℕ) (e : Resolved) (children m
 beneath side n before e children more c at s = record {
   side_is = s.side_is;
   from = omega (arith, s.from);
-  kind = inside (e.number == c.number) e.kind c.kind (kind_in c.number children) (kind_in c.number more) (differ e.number c.number (omega (arith, at, s.from))) s.kind;
+  kind = inside (e.number == c.entry.number) e.kind c.entry.kind (kind_in c.entry.number children) (kind_in c.entry.number more) (differ e.number c.entry.number (omega (arith, at, s.from))) s.kind;
   more = own (is_table e.occurs) (greatest_number e) ++ s.more;
   tables = s.tables ∙ tables_are (is_table e.occurs) (greatest_number e) before s.more;
   refers = λ subscripts h. let (f, rest) = first (is_table e.occurs) (greatest_number e) s.more subscripts h in inl (f, inr (s.refers (later (is_table e.occurs) subscripts) rest));
@@ -155,7 +155,7 @@ beside : (side : Side) (n : ℕ) (before : List ℕ) (e : Resolved) (children mo
 beside side n before e children more c h s = record {
   side_is = s.side_is;
   from = omega (arith, s.from);
-  kind = skip (e.number == c.number) e.kind (kind_in c.number children) (kind_in c.number more) (differ e.number c.number (omega (arith, h.0, s.from))) (none_before (n + 1) c.number children h.1 (omega (arith, s.from))) ∙ s.kind;
+  kind = skip (e.number == c.entry.number) e.kind (kind_in c.entry.number children) (kind_in c.entry.number more) (differ e.number c.entry.number (omega (arith, h.0, s.from))) (none_before (n + 1) c.entry.number children h.1 (omega (arith, s.from))) ∙ s.kind;
   more = s.more;
   tables = s.tables;
   refers = λ subscripts w. inr (s.refers subscripts w);
@@ -176,10 +176,10 @@ whole : {A : Type 0} (x : Option A) → x ≡ or_else x None
 whole None = refl
 whole (Some a) = refl
 
-operand_in : (side : Side) (t : Tree Resolved) (c : Candidate) (texts : List (List ℕ)) → Stands side 0 [] (alone t) c → AreSubscriptsOf c.tables texts → IsOperand t (operand c (subscript_numbers texts))
+operand_in : (side : Side) (t : Tree Resolved) (c : Candidate) (texts : List (List ℕ)) → Stands side 0 [] (alone t) c → AreSubscriptsOf c.entry.tables texts → IsOperand t (operand c (subscript_numbers texts))
 operand_in side t c texts s h = record {
-  refers = s.refers (subscript_numbers texts) (subst (λ (tables : List ℕ). AreWithin tables (subscript_numbers texts)) s.tables (within c.tables texts h));
-  is = whole (kind_one c.number t) ∙ s.kind;
+  refers = s.refers (subscript_numbers texts) (subst (λ (tables : List ℕ). AreWithin tables (subscript_numbers texts)) s.tables (within c.entry.tables texts h));
+  is = whole (kind_one c.entry.number t) ∙ s.kind;
 }
 
 of_side : (records : Records) (side mine : Side) (o p : Operand) → side ≡ mine → o ≡ p → IsOperand (record_of records mine) p → IsOperand (record_of records side) o
@@ -187,11 +187,11 @@ of_side records side mine o p e f h = subst (λ (s : Side). IsOperand (record_of
 
 pub are_operands : RecordsAreSound → NamedAreOperands
 are_operands sound records r side o input output h =
-    elim (one_of h.entry (candidates In [] [] (alone records.input)) (candidates Out [] [] (alone records.output)) (member r.name r.qualifiers (all_entries (alone records.input) (alone records.output)) h.entry h.only)) [
-      | inl x ↦ (let s = stands In [] 0 [] (alone records.input) h.entry (sound records.input input).numbered x in
-          of_side records side In o (operand h.entry (subscript_numbers r.subscripts)) (h.stands ∙ sym s.side_is) h.is (operand_in In records.input h.entry r.subscripts s h.subscripts))
-      | inr x ↦ (let s = stands Out [] 0 [] (alone records.output) h.entry (sound records.output output).numbered x in
-          of_side records side Out o (operand h.entry (subscript_numbers r.subscripts)) (h.stands ∙ sym s.side_is) h.is (operand_in Out records.output h.entry r.subscripts s h.subscripts))
+    elim (one_of h.bearer (candidates In [] [] (alone records.input)) (candidates Out [] [] (alone records.output)) (member r.name r.qualifiers (all_entries (alone records.input) (alone records.output)) h.bearer h.only)) [
+      | inl x ↦ (let s = stands In [] 0 [] (alone records.input) h.bearer (sound records.input input).numbered x in
+          of_side records side In o (operand h.bearer (subscript_numbers r.subscripts)) (h.stands ∙ sym s.side_is) h.is (operand_in In records.input h.bearer r.subscripts s h.subscripts))
+      | inr x ↦ (let s = stands Out [] 0 [] (alone records.output) h.bearer (sound records.output output).numbered x in
+          of_side records side Out o (operand h.bearer (subscript_numbers r.subscripts)) (h.stands ∙ sym s.side_is) h.is (operand_in Out records.output h.bearer r.subscripts s h.subscripts))
     ]
 
 -- ---- rules

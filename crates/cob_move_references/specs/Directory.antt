@@ -6,4 +6,4 @@ use Rattle.cob_move_references.specs.Listed.{candidate_of}
 
 -- The entries that may be named.
 abbrev pub entries_named : Names → List Candidate
-entries_named names = map candidate_of names.entries.items
+entries_named names = map candidate_of names.directory.bearers.items

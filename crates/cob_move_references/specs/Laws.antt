@@ -1,14 +1,13 @@
 -- What follows from the definitions, said as laws.
-use Rattle.std.specs.Prelude.{◌≡◌, ◌↔◌, ℕ, List, IsTrue}
+use Rattle.std.specs.Prelude.{◌≡◌, List}
 use Rattle.cob_layout.specs.Nodes.{alone}
-use Rattle.cob_layout.specs.Bearers.{Qualify}
 use Rattle.cob_layout.specs.Books.{IsRecordDescription}
 use Rattle.cob_move_operands.specs.declared.Side.{Side}
 use Rattle.cob_move_operands.specs.declared.Operand.{Operand}
 use Rattle.cob_move_operands.specs.Moves.{IsOperand, Records, record_of}
 use Rattle.cob_move_statements.specs.declared.fault.MoveRule.{MoveRule}
 use Rattle.cob_move_statements.specs.Written.{WrittenReference}
-use Rattle.cob_move_references.specs.Candidates.{Candidate, all_entries, qualifies}
+use Rattle.cob_move_references.specs.Candidates.{Candidate, all_entries}
 use Rattle.cob_move_references.specs.References.{NamesOperand, BreaksReference}
 
 -- Law: what a reference names is an operand of its record, so that it can be placed and is of the kind that the record says.
@@ -24,7 +23,3 @@ OneNamed = (all : List Candidate) (r : WrittenReference) (side other_side : Side
 -- Law: a reference that names an operand breaks no rule.
 abbrev pub NamedBreakNoRule : Type 0
 NamedBreakNoRule = (all : List Candidate) (r : WrittenReference) (side : Side) (o : Operand) (rule : MoveRule) → NamesOperand all r side o → BreaksReference rule all r → ⊥
-
--- Law: qualifiers are counted here as they qualify the name of a table's count.
-abbrev pub QualifyingIsOne : Type 0
-QualifyingIsOne = (qualifiers above : List (List ℕ)) → IsTrue (qualifies qualifiers above) ↔ Qualify qualifiers above

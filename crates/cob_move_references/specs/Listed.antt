@@ -1,33 +1,21 @@
 -- The listed entries without where they lie in memory.
-use Rattle.std.specs.Prelude.{ℕ, ◌≤◌, List, [], ◌∷◌, length, map, Option, Some, None}
-use Rattle.std.specs.Borrow.{Bor}
+use Rattle.std.specs.Prelude.{◌≤◌, List, length}
 use Rattle.std.specs.List.{AllByRecursion}
 use Rattle.cob_limits.specs.Limits.{most_dimensions}
 use Rattle.cob_layout.specs.Node.TheViews.{out-Node}
-use Rattle.cob_layout.specs.Listed.{texts}
-use Rattle.cob_move_references.specs.declared.candidate.Candidate.{Candidate as Listed}
-use Rattle.cob_move_references.specs.Candidates.{Candidate}
+use Rattle.cob_copybook_names.specs.declared.bearer.Bearer.{Bearer as Listed}
+use Rattle.cob_copybook_names.specs.Listed.{bearer_by}
+use Rattle.cob_move_references.specs.declared.candidate.RecordEntry.{RecordEntry as ListedEntry}
+use Rattle.cob_move_references.specs.Candidates.{Candidate, RecordEntry}
 
--- A listed entry.
-abbrev pub candidate_of : Listed → Candidate
-candidate_of c = record {
-  side = c.side;
-  number = (out-Node c.entry.now).number;
-  name = (out-Node c.entry.now).name;
-  above = texts c.above.items;
-  tables = c.tables.items;
-  kind = (out-Node c.entry.now).kind;
-}
+-- What is known of a listed entry.
+abbrev pub known_entry : ListedEntry → RecordEntry
+known_entry e = record { side = e.side; number = (out-Node e.entry.now).number; tables = e.tables.items; kind = (out-Node e.entry.now).kind }
 
--- The names that entries bear.
-abbrev pub own_names : List Candidate → List (Option (List ℕ))
-own_names cs = map (λ c. c.name) cs
+-- A listed entry, with its names.
+abbrev pub candidate_of : Listed ListedEntry → Candidate
+candidate_of b = bearer_by known_entry b
 
 -- No entry stands in more tables than may stand within one another.
 abbrev pub AreShallow : List Candidate → Type 0
-AreShallow cs = AllByRecursion (λ (c : Candidate). length c.tables ≤ most_dimensions) cs
-
--- What was found, as a list.
-abbrev pub found_list : Option (Bor Listed) → List Candidate
-found_list None = []
-found_list (Some c) = candidate_of c.now ∷ []
+AreShallow cs = AllByRecursion (λ (c : Candidate). length c.entry.tables ≤ most_dimensions) cs

@@ -8,7 +8,8 @@ use Rattle.cob_move_operands.specs.declared.Operand.{Operand}
 use Rattle.cob_move_statements.specs.declared.fault.MoveRule.{MoveRule}
 use Rattle.cob_move_statements.specs.declared.fault.MoveRule.TheVariants as rule
 use Rattle.cob_move_statements.specs.Written.{WrittenReference}
-use Rattle.cob_move_references.specs.Candidates.{Candidate, named}
+use Rattle.cob_copybook_names.specs.Naming.{named}
+use Rattle.cob_move_references.specs.Candidates.{Candidate}
 
 -- The number that a subscript's digits spell.
 abbrev pub subscript_number : List ℕ → ℕ
@@ -33,16 +34,16 @@ AreSubscriptsOf (most ∷ tables) (text ∷ texts) = IsSubscriptOf most text × 
 
 -- An entry with subscripts.
 abbrev pub operand : Candidate → List ℕ → Operand
-operand c subscripts = record { entry = record { node = c.number; subscripts = record { items = subscripts } }; kind = c.kind }
+operand c subscripts = record { entry = record { node = c.entry.number; subscripts = record { items = subscripts } }; kind = c.entry.kind }
 
 -- A reference names an operand of this side's record: of all entries of the two records exactly one has its name and qualifiers, and its
 -- subscripts are those of that entry's tables.
 pub record NamesOperand (all : List Candidate) (r : WrittenReference) (side : Side) (o : Operand) : Type 0 where
-  pub entry : Candidate
-  pub only : named r.name r.qualifiers all ≡ entry ∷ []
-  pub subscripts : AreSubscriptsOf entry.tables r.subscripts
-  pub stands : side ≡ entry.side
-  pub is : o ≡ operand entry (subscript_numbers r.subscripts)
+  pub bearer : Candidate
+  pub only : named r.name r.qualifiers all ≡ bearer ∷ []
+  pub subscripts : AreSubscriptsOf bearer.entry.tables r.subscripts
+  pub stands : side ≡ bearer.entry.side
+  pub is : o ≡ operand bearer (subscript_numbers r.subscripts)
 
 -- The entries that a name with its qualifiers names break a rule: there is none, or there are several.
 abbrev pub BreaksName : MoveRule → List Candidate → Type 0
@@ -52,7 +53,7 @@ BreaksName other cs = ⊥
 
 -- A reference breaks a rule: its name and qualifiers name no entry, or several, or one whose tables haven't these subscripts.
 abbrev pub BreaksReference : MoveRule → List Candidate → WrittenReference → Type 0
-BreaksReference rule.Subscripts all r = (c : Candidate) × (named r.name r.qualifiers all ≡ c ∷ []) × (AreSubscriptsOf c.tables r.subscripts → ⊥)
+BreaksReference rule.Subscripts all r = (c : Candidate) × (named r.name r.qualifiers all ≡ c ∷ []) × (AreSubscriptsOf c.entry.tables r.subscripts → ⊥)
 BreaksReference other all r = BreaksName other (named r.name r.qualifiers all)
 
 -- A receiver breaks a rule as any reference does, or by standing in the input record.

@@ -4,42 +4,23 @@ ghost use Rattle.std.specs.Prelude.{◌≡◌, List, [], ◌∷◌, ◌++◌, ma
 ghost use Rattle.cob_layout.specs.TreeLengths.{greatest_number};
 ghost use Rattle.cob_layout.specs.Nodes.{node, resolved_entry, alone};
 ghost use Rattle.cob_layout.specs.Node.TheViews.{out-Node};
-ghost use Rattle.cob_layout.specs.Bearers.{with_name};
-ghost use Rattle.cob_layout.specs.Listed.{texts};
+ghost use Rattle.cob_copybook_names.specs.Listed.{texts};
 ghost use Rattle.cob_layout.specs.Places.{is_table};
 ghost use Rattle.cob_move_references.specs.Candidates.{candidate, candidates, with_table};
 ghost use Rattle.cob_move_references.specs.Listed.{candidate_of};
 
+use cob_copybook_names::{Bearer, name_of, names_beneath};
 use cob_layout::{Node, is_table};
 use cob_move_operands::Side;
 use std::alloc::{AllocError, Global};
 
-/// An entry of one of the two records, with what stands above it.
+/// An entry of one of the two records.
 #[derive(Debug, Drop)]
-pub(crate) struct Candidate<'a> {
+pub(crate) struct RecordEntry<'a> {
     pub side: Side,
     pub entry: &'a Node,
-    /// The names of the groups above it, the nearest first.
-    pub above: Vec<&'a [u8]>,
     /// The greatest number of each table that holds it or that it is, the outermost first.
     pub tables: Vec<u32>,
-}
-
-/// The names above the children of an entry, the nearest first.
-fn names_beneath<'a>(
-    alloc: Global,
-    entry: &'a Node,
-    above: &[&'a [u8]],
-) -> Result<Vec<&'a [u8]>, AllocError>
-    ensures { IfOk result
-        (λ v. texts v.items ≡ with_name (out-Node entry.now).name (texts above.now)) }
-{
-    let mut names = Vec::new(alloc);
-    if let Some(name) = &entry.name {
-        names.push(name.as_bytes())?;
-    }
-    names.extend_from_slice(above)?;
-    Ok(names)
 }
 
 /// The tables that hold an entry, and itself if it is one.
@@ -62,7 +43,7 @@ fn list_entry<'a>(
     above: &[&'a [u8]],
     holding: &[u32],
     entry: &'a Node,
-    listed: &mut Vec<Candidate<'a>>,
+    listed: &mut Vec<Bearer<'a, RecordEntry<'a>>>,
 ) -> Result<(), AllocError>
     ensures { OnOk result (map candidate_of listed.new.items ≡ map candidate_of listed.old.items
         ++ candidate side (texts above.now) holding.now (resolved_entry (out-Node entry.now)) ∷ []) }
@@ -70,11 +51,14 @@ fn list_entry<'a>(
     let mut names = Vec::new(alloc);
     names.extend_from_slice(above)?;
     let tables = tables_of(alloc, entry, holding)?;
-    listed.push(Candidate {
-        side,
-        entry,
+    listed.push(Bearer {
+        name: name_of(&entry.name),
         above: names,
-        tables,
+        entry: RecordEntry {
+            side,
+            entry,
+            tables,
+        },
     })?;
     Ok(())
 }
@@ -91,13 +75,13 @@ pub(crate) fn list_tree<'a>(
     above: &[&'a [u8]],
     holding: &[u32],
     entry: &'a Node,
-    listed: &mut Vec<Candidate<'a>>,
+    listed: &mut Vec<Bearer<'a, RecordEntry<'a>>>,
 ) -> Result<(), AllocError>
     ensures { OnOk result (map candidate_of listed.new.items ≡ map candidate_of listed.old.items
         ++ candidates side (texts above.now) holding.now (alone (node entry.now))) }
 {
     list_entry(alloc, side, above, holding, entry, listed)?;
-    let beneath = names_beneath(alloc, entry, above)?;
+    let beneath = names_beneath(alloc, &entry.name, above)?;
     let inner = tables_of(alloc, entry, holding)?;
     for child in entry.children.iter() {
         list_tree(

@@ -12,10 +12,11 @@ ghost use Rattle.cob_move_references.specs.Directory.{entries_named};
 ghost use Rattle.cob_move_references.specs.Listed.{candidate_of};
 ghost use Rattle.cob_move_references.specs.References.{AreSubscriptsOf, BreaksReceiver, BreaksReference, NamesOperand, operand, subscript_numbers};
 
-use crate::candidate::{Candidate, list_tree};
+use crate::candidate::{RecordEntry, list_tree};
 use crate::directory::Names;
 use crate::subscripts::read_subscripts;
 use arrayvec::ArrayVec;
+use cob_copybook_names::Bearer;
 use cob_layout::{Book, Ref, records_are_sound};
 use cob_move_operands::{Operand, Side};
 use cob_move_statements::{MoveRule, Reference};
@@ -30,25 +31,26 @@ pub struct Named {
 }
 
 /// An entry with its subscripts, if they are those of its tables.
-fn operand_of(entry: &Candidate<'_>, written: &[Token]) -> Option<Operand>
-    requires room { length entry.now.tables.items ≤ most_dimensions }
+fn operand_of(candidate: &Bearer<'_, RecordEntry<'_>>, written: &[Token]) -> Option<Operand>
+    requires room { length candidate.now.entry.tables.items ≤ most_dimensions }
     ensures found { IfSome result (λ o. o
-        ≡ operand (candidate_of entry.now) (subscript_numbers (word_texts (lexemes written.now)))) }
-    ensures yes { IfSome result
-        (λ o. AreSubscriptsOf (candidate_of entry.now).tables (word_texts (lexemes written.now))) }
-    ensures no { IfNone result
-        (AreSubscriptsOf (candidate_of entry.now).tables (word_texts (lexemes written.now)) → ⊥) }
+        ≡ operand (candidate_of candidate.now) (subscript_numbers (word_texts (lexemes written.now)))) }
+    ensures yes { IfSome result (λ o. AreSubscriptsOf
+        (candidate_of candidate.now).entry.tables (word_texts (lexemes written.now))) }
+    ensures no { IfNone result (AreSubscriptsOf
+        (candidate_of candidate.now).entry.tables (word_texts (lexemes written.now)) → ⊥) }
 {
+    let named = &candidate.entry;
     let mut subscripts = ArrayVec::new();
-    if !read_subscripts(entry.tables.as_slice(), written, &mut subscripts) {
+    if !read_subscripts(named.tables.as_slice(), written, &mut subscripts) {
         return None;
     }
     Some(Operand {
         entry: Ref {
-            node: entry.entry.number,
+            node: named.entry.number,
             subscripts,
         },
-        kind: entry.entry.kind.clone(),
+        kind: named.entry.kind.clone(),
     })
 }
 
@@ -65,7 +67,7 @@ impl<'a> Names<'a> {
         let mut entries = Vec::new(alloc);
         list_tree(alloc, Side::In, &[], &[], input.root(), &mut entries)?;
         list_tree(alloc, Side::Out, &[], &[], output.root(), &mut entries)?;
-        Names::linked(alloc, entries)
+        Names::listed(alloc, entries)
     }
 
     /// What a written reference names.
@@ -89,7 +91,7 @@ impl<'a> Names<'a> {
         let candidate = self.only_named(reference.name, reference.qualifiers)?;
         match operand_of(candidate, reference.subscripts) {
             Some(operand) => Ok(Named {
-                side: candidate.side,
+                side: candidate.entry.side,
                 operand,
             }),
             None => Err(MoveRule::Subscripts),

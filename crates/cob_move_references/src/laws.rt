@@ -1,6 +1,6 @@
 //! What follows from the definitions.
 
-ghost use Rattle.cob_move_references.specs.Laws.{NamedAreOperands, NamedBreakNoRule, OneNamed, QualifyingIsOne};
+ghost use Rattle.cob_move_references.specs.Laws.{NamedAreOperands, NamedBreakNoRule, OneNamed};
 
 use cob_layout::records_are_sound;
 
@@ -19,9 +19,4 @@ pub fn one_named()
 /// A law: a reference that names an operand breaks no rule.
 pub fn named_break_no_rule()
     ensures { NamedBreakNoRule }
-{}
-
-/// A law: qualifiers qualify a reference as they qualify the name of a table's count.
-pub fn qualifying_is_one()
-    ensures { QualifyingIsOne }
 {}

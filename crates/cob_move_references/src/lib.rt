@@ -12,13 +12,13 @@
 //!   found (`only`), and a refusal names a rule that is broken (`fault`, `BreaksReference`). Neither takes memory.
 //! - [`Names::find_receiver`] does the same in the output record: a receiver that stands in the input record is refused (`BreaksReceiver`).
 //! - Laws: what is named is an operand of its record ([`named_are_operands`]), a reference names one operand at most ([`one_named`]) and then
-//!   breaks no rule ([`named_break_no_rule`]), and qualifiers mean here what they mean for the count of a table ([`qualifying_is_one`]).
+//!   breaks no rule ([`named_break_no_rule`]).
 //!
-//! A reference is found by a table of names and a chain from one bearer of a name to the one before it, so that the time is that of the
-//! entries that bear its name, and not of all entries.
+//! Which entry a name with its qualifiers names, `cob_copybook_names` says, as of the count of a table (`named`); here stand what else a
+//! reference asks of that entry, and the listing of both records.
 //!
 //! It stands on `cob_move_statements` for references as they are written and for the rules, on `cob_move_operands` for operands, on
-//! `cob_copybook` for records and on `cob_layout` for what holds of them, on `cob_copybook_names` for chains of names, and on `indexmap`.
+//! `cob_copybook` for records and on `cob_layout` for what holds of them, and on `cob_copybook_names` for names.
 #![tactic(auto)]
 
 mod candidate;
@@ -30,4 +30,4 @@ mod subscripts;
 
 pub use directory::Names;
 pub use find::Named;
-pub use laws::{named_are_operands, named_break_no_rule, one_named, qualifying_is_one};
+pub use laws::{named_are_operands, named_break_no_rule, one_named};

@@ -1,7 +1,7 @@
 use Rattle.std.proofs.Common.{rules, [], ◌∷◌, false}
 use Rattle.cob_copybook_tree.specs.Forests.{flat}
 use Rattle.cob_copybook_tree.specs.Branches.{forest_of}
-use Rattle.cob_copybook_names.specs.Bearers.{bearers}
+use Rattle.cob_copybook_names.specs.Entries.{bearers}
 use Rattle.cob_copybook_names.proofs.Counting.{only_counts}
 use Rattle.cob_copybook_names.proofs.count.counts.Goals as goal
 

@@ -1,6 +1,6 @@
 use Rattle.std.proofs.Common.{◌≡◌, ◌++◌, map}
 use Rattle.cob_layout.specs.Nodes.{node, alone}
-use Rattle.cob_layout.specs.Listed.{texts}
+use Rattle.cob_copybook_names.specs.Listed.{texts}
 use Rattle.cob_layout.proofs.ForestLemmas.{left}
 use Rattle.cob_move_references.specs.Candidates.{candidates}
 use Rattle.cob_move_references.specs.Listed.{candidate_of}

@@ -1,19 +1,16 @@
-use Rattle.std.proofs.Common.{◌≡◌, ◌≤◌, ℕ, map, take, length, Some, IfSome}
-use Rattle.std.specs.Option.{option_map}
-use Rattle.cob_copybook_names.specs.Bearers.{Bearer, NamesEntry, IsOnlyOne}
-use Rattle.cob_copybook_names.specs.Listed.{bearer_of}
-use Rattle.cob_copybook_names.specs.Links.{names_of, BearsAt, entries_up_to}
-use Rattle.cob_copybook_names.proofs.OnlyOnes.{OnlyWith}
+use Rattle.std.proofs.Common.{◌≡◌, ◌≤◌, ◌++◌, ℕ, map, take, length, Some}
+use Rattle.cob_copybook_names.specs.Links.{BearsAt, entries_up_to}
+use Rattle.cob_copybook_names.specs.Naming.{named, own_names}
+use Rattle.cob_copybook_names.specs.Listed.{found_list, seen}
 use Rattle.cob_copybook_names.proofs.directory.Directory.only_named.Given as goal
 
 abbrev pub decreases-loop-place : goal.decreases-loop-place
-decreases-loop-place l = entries_up_to l.place
+decreases-loop-place g l = entries_up_to l.place
 
 abbrev pub invariant-loop-place : goal.invariant-loop-place
-invariant-loop-place l = record {
-  inside : entries_up_to l.place ≤ length l.self.bearers.now;
-  borne : (p : ℕ) → l.place ≡ Some p → BearsAt (names_of (map bearer_of l.self.bearers.now)) l.name p;
-  known : IfSome l.found (λ r. NamesEntry l.name l.qualifiers (bearer_of r.now));
-  left : (b : Bearer) → OnlyWith (NamesEntry l.name l.qualifiers) (option_map (λ r. bearer_of r.now) l.found) (take (entries_up_to l.place) (map bearer_of l.self.bearers.now)) b → IsOnlyOne (NamesEntry l.name l.qualifiers) (map bearer_of l.self.bearers.now) b;
-  whole : (b : Bearer) → IsOnlyOne (NamesEntry l.name l.qualifiers) (map bearer_of l.self.bearers.now) b → OnlyWith (NamesEntry l.name l.qualifiers) (option_map (λ r. bearer_of r.now) l.found) (take (entries_up_to l.place) (map bearer_of l.self.bearers.now)) b;
+invariant-loop-place g l = record {
+  inside : entries_up_to l.place ≤ length l.self.bearers.items;
+  borne : (p : ℕ) → l.place ≡ Some p → BearsAt (own_names (map seen l.self.bearers.items)) l.name p;
+  whole : named l.name (g.Q.Qualifiers.names l.qualifiers) (map seen l.self.bearers.items)
+      ≡ named l.name (g.Q.Qualifiers.names l.qualifiers) (take (entries_up_to l.place) (map seen l.self.bearers.items)) ++ found_list l.found;
 }

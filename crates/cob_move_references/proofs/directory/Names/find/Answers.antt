@@ -13,7 +13,7 @@ operand_of-requires c = record {
 
 pub returns-in-Some-clause-found : goal.returns-in-Some-clause-found
 returns-in-Some-clause-found c = record {
-  entry = candidate_of c.in_ok-candidate.candidate.now;
+  bearer = candidate_of c.in_ok-candidate.candidate.now;
   only = c.in_ok-candidate.ensures.found;
   subscripts = c.in-Some.ensures.yes;
   stands = refl;

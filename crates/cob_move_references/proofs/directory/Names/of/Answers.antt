@@ -2,18 +2,19 @@ use Rattle.std.proofs.Common.{◌≡◌, List, [], ◌++◌, map, sym, subst, ap
 use Rattle.cob_layout.specs.Nodes.{node, alone}
 use Rattle.cob_layout.specs.Books.{IsRecordDescription}
 use Rattle.cob_move_operands.specs.declared.Side.TheVariants.{In, Out}
-use Rattle.cob_move_references.specs.declared.candidate.Candidate.{Candidate as Listed}
+use Rattle.cob_copybook_names.specs.declared.bearer.Bearer.{Bearer as Listed}
+use Rattle.cob_move_references.specs.declared.candidate.RecordEntry.{RecordEntry as ListedEntry}
 use Rattle.cob_move_references.specs.Candidates.{Candidate, all_entries, candidates}
 use Rattle.cob_move_references.specs.Listed.{AreShallow, candidate_of}
 use Rattle.cob_move_references.proofs.CandidateLemmas.{all_shallow}
 use Rattle.cob_move_references.proofs.directory.Names.of.Goals as goal
 
-pub linked-requires : goal.linked-requires
-linked-requires c =
+pub listed-requires : goal.listed-requires
+listed-requires c =
     let input = node c.root.result.now in
     let output = node c.root-2.result.now in
     let first : map candidate_of c.list_tree.new.listed.items ≡ candidates In [] [] (alone input) =
-    c.in_ok-list_tree.ensures ∙ ap (λ (xs : List Listed). map candidate_of xs ++ candidates In [] [] (alone input)) c.new-entries.ensures.items in
+    c.in_ok-list_tree.ensures ∙ ap (λ (xs : List (Listed ListedEntry)). map candidate_of xs ++ candidates In [] [] (alone input)) c.new-entries.ensures.items in
     let both : map candidate_of c.list_tree-2.new.listed.items ≡ all_entries (alone input) (alone output) =
     c.in_ok-list_tree-2.ensures ∙ ap (λ (xs : List Candidate). xs ++ candidates Out [] [] (alone output)) first in
     subst AreShallow (sym both)

@@ -1,72 +1,25 @@
-use Rattle.std.proofs.Common.{◌≡◌, ◌++◌, ◌+◌, ◌<◌, ℕ, List, Option, Bor, false, map, length, take, true, sym, subst, ap, ◌∙◌, arith}
-use Rattle.std.proofs.lemmas.List.{length-map}
+use Rattle.std.proofs.Common.{map, subst}
 use Rattle.cob_layout.specs.Written.{names_behind}
-use Rattle.cob_layout.specs.Links.{entries_up_to, IsLast}
-use Rattle.cob_layout.specs.Listed.{texts}
 use Rattle.cob_source.specs.Tokens.{lexemes}
-use Rattle.cob_move_references.specs.declared.candidate.Candidate.{Candidate as Listed}
-use Rattle.cob_move_references.specs.Candidates.{named, qualifies}
-use Rattle.cob_move_references.specs.Listed.{candidate_of, found_list, own_names}
-use Rattle.cob_move_references.proofs.NameLemmas.{front_at, inside_at, link_at, name_at, walk_at, walk_meet, walk_start, walk_step, walk_twice}
+use Rattle.cob_copybook_names.specs.declared.fault.NameFault.{NameFault}
+use Rattle.cob_copybook_names.specs.Naming.{IsNameFault, named}
+use Rattle.cob_copybook_names.proofs.Namings.{known_fault, known_one}
+use Rattle.cob_move_references.specs.Listed.{candidate_of, known_entry}
 use Rattle.cob_move_references.proofs.directory.Names.only_named.Goals as goal
-use Rattle.cob_move_references.proofs.directory.Names.only_named.Goals.{After-index-place, then-qualifies+else-is_some, else-qualifies}
 
-pub loop-place-init : goal.loop-place-init
-loop-place-init c =
-    let cs = c.args.self.now.entries.items in
-    let all = map candidate_of cs in
-    let same = c.copied-place.ensures ∙ c.get.ensures.value in
-    let last : IsLast (own_names all) c.args.name.now (length cs) c.copied-place.result = subst (IsLast (own_names all) c.args.name.now (length cs)) (sym same) (c.args.self.now.latest c.args.name.now) in
-    record { inside = last.before; borne = last.bears; whole = walk_start c.args.name.now (names_behind (lexemes c.args.qualifiers.now)) all (length cs) c.copied-place.result (length-map cs candidate_of) last }
+pub returns-in-Ok-clause-found : goal.returns-in-Ok-clause-found
+returns-in-Ok-clause-found c = known_one known_entry c.args.name.now (names_behind (lexemes c.args.qualifiers.now)) c.args.self.now.directory.bearers.items c.in-Ok.bearer.now c.in-Ok.ensures.found
 
-pub returns-then-is_some-clause-fault : goal.returns-then-is_some-clause-fault
-returns-then-is_some-clause-fault c =
-    let cs = c.args.self.now.entries.items in
-    let name = c.args.name.now in
-    let p = c.in-Some.here in
-    let item = c.index-candidate.result in
-    let lt = inside_at c.loop-place.place p (length cs) c.in-Some.is c.loop-place.invariant.inside in
-    let bears = sym (name_at cs p item.now lt c.index-candidate.ensures) ∙ c.loop-place.invariant.borne p c.in-Some.is in
-    let all = map candidate_of cs in
-    let qs = names_behind (lexemes c.args.qualifiers.now) in
-    let front = front_at cs c.loop-place.place p item.now c.in-Some.is lt c.index-candidate.ensures in
-    let above : qualifies qs (texts c.as_slice.result.now) ≡ qualifies qs (candidate_of item.now).above = ap (λ (t : List (Bor (List ℕ))). qualifies qs (texts t)) c.as_slice.ensures.value in
-    walk_twice (named name qs all) (named name qs (take p all)) (candidate_of item.now) c.loop-place.found (sym c.is_some.ensures ∙ c.if-is_some.true)
-    (walk_at name qs all c.loop-place.place p (candidate_of item.now) true (found_list c.loop-place.found) front bears (sym above ∙ sym c.qualifies.ensures ∙ c.if-qualifies.true) c.loop-place.invariant.whole)
+pub returns-in-Err-Unknown-clause-fault : goal.returns-in-Err-Unknown-clause-fault
+returns-in-Err-Unknown-clause-fault c =
+    let bs = c.args.self.now.directory.bearers.items in
+    let qualifiers = names_behind (lexemes c.args.qualifiers.now) in
+    subst (λ (fault : NameFault). IsNameFault fault (named c.args.name.now qualifiers (map candidate_of bs))) c.in-Err-Unknown.field-0-is
+    (known_fault known_entry c.args.name.now qualifiers bs c.in-Err-Unknown.field-0 c.in-Err-Unknown.ensures.fault)
 
--- the place before this one
-earlier_at : (c : After-index-place) → IsLast (own_names (map candidate_of c.args.self.now.entries.items)) c.args.name.now c.in-Some.here c.index-place.result.now
-earlier_at c =
-    let cs = c.args.self.now.entries.items in
-    let lt = inside_at c.loop-place.place c.in-Some.here (length cs) c.in-Some.is c.loop-place.invariant.inside in
-    link_at cs c.args.self.now.earlier.items c.args.name.now c.loop-place.place c.in-Some.here c.index-place.result.now c.args.self.now.sized c.args.self.now.linked c.in-Some.is lt
-    (c.loop-place.invariant.borne c.in-Some.here c.in-Some.is) c.index-place.ensures
-
-pub loop-place-smaller : goal.loop-place-smaller
-loop-place-smaller c =
-    let l = earlier_at (goal.at.loop-place-smaller c).After-index-place in
-    let less : entries_up_to c.index-place.result.now < c.in-Some.here + 1 = omega (arith, l.before) in
-    subst (λ (o : Option ℕ). entries_up_to c.index-place.result.now < entries_up_to o) (sym c.in-Some.is) less
-
-pub loop-place-preserved : goal.loop-place-preserved
-loop-place-preserved c =
-    let cs = c.args.self.now.entries.items in
-    let all = map candidate_of cs in
-    let name = c.args.name.now in
-    let qs = names_behind (lexemes c.args.qualifiers.now) in
-    let p = c.in-Some.here in
-    let item = c.index-candidate.result in
-    let next = c.index-place.result.now in
-    let lt = inside_at c.loop-place.place p (length cs) c.in-Some.is c.loop-place.invariant.inside in
-    let l = earlier_at (goal.at.loop-place-preserved c).After-index-place in
-    let bears = sym (name_at cs p item.now lt c.index-candidate.ensures) ∙ c.loop-place.invariant.borne p c.in-Some.is in
-    let front = front_at cs c.loop-place.place p item.now c.in-Some.is lt c.index-candidate.ensures in
-    let above : qualifies qs (texts c.as_slice.result.now) ≡ qualifies qs (candidate_of item.now).above = ap (λ (t : List (Bor (List ℕ))). qualifies qs (texts t)) c.as_slice.ensures.value in
-    let whole : named name qs all ≡ named name qs (take (entries_up_to next) all) ++ found_list c.if-qualifies.found = elim c.if-qualifies.branch [
-      | then-qualifies+else-is_some w ↦ subst (λ (f : Option (Bor Listed)). named name qs all ≡ named name qs (take (entries_up_to next) all) ++ found_list f) (sym w.found-is)
-          (walk_meet name qs all next item c.loop-place.found (sym (w.is_some.ensures) ∙ w.if-is_some.false)
-          (walk_step name qs all c.loop-place.place next p (candidate_of item.now) true (found_list c.loop-place.found) front l bears (sym above ∙ sym c.qualifies.ensures ∙ w.if-qualifies.true) c.loop-place.invariant.whole))
-      | else-qualifies w ↦ subst (λ (f : Option (Bor Listed)). named name qs all ≡ named name qs (take (entries_up_to next) all) ++ found_list f) (sym w.found-is)
-          (walk_step name qs all c.loop-place.place next p (candidate_of item.now) false (found_list c.loop-place.found) front l bears (sym above ∙ sym c.qualifies.ensures ∙ w.if-qualifies.false) c.loop-place.invariant.whole)
-    ] in
-    record { inside = omega (arith, l.before, lt); borne = l.bears; whole = whole }
+pub returns-in-Err-Ambiguous-clause-fault : goal.returns-in-Err-Ambiguous-clause-fault
+returns-in-Err-Ambiguous-clause-fault c =
+    let bs = c.args.self.now.directory.bearers.items in
+    let qualifiers = names_behind (lexemes c.args.qualifiers.now) in
+    subst (λ (fault : NameFault). IsNameFault fault (named c.args.name.now qualifiers (map candidate_of bs))) c.in-Err-Ambiguous.field-0-is
+    (known_fault known_entry c.args.name.now qualifiers bs c.in-Err-Ambiguous.field-0 c.in-Err-Ambiguous.ensures.fault)

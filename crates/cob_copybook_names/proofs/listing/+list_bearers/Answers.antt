@@ -1,13 +1,13 @@
-use Rattle.std.proofs.Common.{◌≡◌, List, ◌+◌, ◌<◌, sym, subst, ap, ◌∙◌, map, ◌++◌, arith, drop, length}
+use Rattle.std.proofs.Common.{◌≡◌, List, ◌+◌, sym, ap, ◌∙◌, map, ◌++◌, arith, drop, length}
 use Rattle.cob_copybook_tree.specs.Forests.{Forest, AnEntry, flat, entries_in}
 use Rattle.cob_copybook_tree.specs.Branches.{forest_of}
 use Rattle.cob_copybook_tree.specs.declared.branch.Branch.{Branch}
 use Rattle.cob_copybook_tree.specs.Described.{PlainEntry, plain_entry}
 use Rattle.cob_copybook_tree.specs.declared.branch.Branch.TheViews.{out-Branch}
-use Rattle.cob_copybook_names.specs.Bearers.{bearers}
-use Rattle.cob_copybook_names.specs.Listed.{bearer_of, entry_of, texts}
-use Rattle.cob_copybook_names.proofs.Branches.{forest_at, regroup, step_kids}
-use Rattle.cob_copybook_names.proofs.bearer.+list_bearers.Goals as goal
+use Rattle.cob_copybook_names.specs.Entries.{bearer_of, bearers, entry_of}
+use Rattle.cob_copybook_names.specs.Listed.{texts}
+use Rattle.cob_copybook_names.proofs.Branches.{forest_at, regroup, step_names}
+use Rattle.cob_copybook_names.proofs.listing.+list_bearers.Goals as goal
 
 pub loop-branch-preserved : goal.loop-branch-preserved
 loop-branch-preserved t c =
@@ -23,9 +23,9 @@ loop-branch-preserved t c =
     let n = length c.loop-branch.listed.items in
     record {
       room = c.loop-branch.invariant.room ∙ ap (λ (f : Forest PlainEntry). n + entries_in f) here ∙ omega (arith, one, some);
-      names = step_kids _ _ _ _ above _ c.args.in_table _ n _ _ d children more
+      names = step_names _ _ _ _ above _ c.args.in_table _ n _ _ d (forest_of children) more
           (c.loop-branch.invariant.names ∙ ap (λ (f : Forest PlainEntry). map bearer_of c.loop-branch.listed.items ++ bearers above c.args.in_table n f) here)
-          (λ some. ap texts c.as_slice.ensures.value ∙ c.in_ok-beneath.ensures (subst (λ (bs : List Branch). 0 < length bs) c.as_slice-in-loop-branch.ensures.value some)) c.is_in_table-inside.ensures one some c.in_ok-list_entry.ensures.bearers c.in_ok-list_bearers.ensures.bearers;
+          (ap texts c.as_slice.ensures.value ∙ c.in_ok-beneath.ensures) c.is_in_table-inside.ensures one some c.in_ok-list_entry.ensures.bearers c.in_ok-list_bearers.ensures.bearers;
       written = regroup _ _ _ _ (flat (forest_of children)) (flat more) d
           (c.loop-branch.invariant.written ∙ ap (λ (f : Forest PlainEntry). map entry_of c.loop-branch.listed.items ++ flat f) here)
           c.in_ok-list_entry.ensures.entries c.in_ok-list_bearers.ensures.entries;

@@ -1,9 +1,9 @@
 use Rattle.std.proofs.Common.{◌≡◌, ◌+◌, ◌++◌, map, length, drop}
 use Rattle.cob_copybook_tree.specs.Forests.{flat, entries_in}
 use Rattle.cob_copybook_tree.specs.Branches.{forest_of}
-use Rattle.cob_copybook_names.specs.Bearers.{bearers}
-use Rattle.cob_copybook_names.specs.Listed.{bearer_of, entry_of, texts}
-use Rattle.cob_copybook_names.proofs.bearer.+list_bearers.Given as goal
+use Rattle.cob_copybook_names.specs.Entries.{bearer_of, bearers, entry_of}
+use Rattle.cob_copybook_names.specs.Listed.{texts}
+use Rattle.cob_copybook_names.proofs.listing.+list_bearers.Given as goal
 
 abbrev pub decreases-list_bearers : goal.decreases-list_bearers
 decreases-list_bearers l = goal.size-list_bearers l
