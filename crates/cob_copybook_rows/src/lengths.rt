@@ -17,7 +17,7 @@ pub(crate) fn answer(alloc: Global, row: &Row, out: &mut String) -> Result<(), R
     if row.field(0)? != "fit" {
         return Err(Refusal::Row(RowFault::BadRow));
     }
-    let root = record_of(alloc, row, &[])?;
+    let root = record_of(alloc, row)?;
     if !are_possible(slice::from_ref(&root)) {
         return Err(Refusal::Row(RowFault::BadRow));
     }

@@ -16,10 +16,9 @@ use cob_rows::{Row, RowFault};
 use std::alloc::{AllocError, Global};
 use std::fmt::Write;
 
-/// Writes the answer to a row's question about entries. A third field has the number of each entry's count, and a hyphen for one without.
+/// Writes the answer to a row's question about entries.
 pub(crate) fn answer(alloc: Global, row: &Row, out: &mut String) -> Result<(), Refusal> {
-    let counts = numbers_of(alloc, row.field(2).unwrap_or(""))?;
-    let root = record_of(alloc, row, counts.as_slice())?;
+    let root = record_of(alloc, row)?;
     match row.field(0)?.as_bytes() {
         b"tree" => push_tree(out, &root)?,
         b"each" => push_each(out, &root)?,
@@ -78,14 +77,12 @@ pub(crate) fn tree_of(alloc: Global, row: &Row) -> Result<Branch, Refusal>
     Ok(build_tree(alloc, entries)?)
 }
 
-/// The record of a row's entries, with what they inherit.
-pub(crate) fn record_of(
-    alloc: Global,
-    row: &Row,
-    counts: &[Option<usize>],
-) -> Result<Node, Refusal> {
+/// The record of a row's entries, with what they inherit. A third field has the number of each entry's count, and a hyphen for one
+/// without.
+pub(crate) fn record_of(alloc: Global, row: &Row) -> Result<Node, Refusal> {
+    let counts = numbers_of(alloc, row.field(2).unwrap_or(""))?;
     let tree = tree_of(alloc, row)?;
-    Ok(resolve(alloc, &tree, counts)?)
+    Ok(resolve(alloc, &tree, counts.as_slice())?)
 }
 
 /// Writes the bytes of a record that is an item.
