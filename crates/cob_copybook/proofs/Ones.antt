@@ -1,6 +1,6 @@
 -- A record description has one entry that holds all others.
-use Rattle.std.proofs.Common.{◌≡◌, ℕ, List, [], ◌∷◌, ◌++◌, sym, subst, arith}
-use Rattle.std.specs.Prelude.{Option, Some, None}
+use Rattle.std.proofs.Common.{ℕ, List, [], ◌∷◌, ◌++◌, sym, subst, arith}
+use Rattle.std.specs.Prelude.{Option}
 use Rattle.std.specs.List.{AllByRecursion}
 use Rattle.cob_copybook_tree.specs.Usage.{Usage}
 use Rattle.cob_copybook_tree.specs.Sign.{Sign}

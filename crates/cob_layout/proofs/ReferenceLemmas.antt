@@ -1,5 +1,5 @@
 -- What a reference to an entry of a record gives.
-use Rattle.std.proofs.Common.{◌≡◌, ℕ, ◌+◌, ◌<◌, ◌==◌, List, [], Bool, true, false, refl, ap, ◌∙◌, arith, Option, Some, None, inl, inr, ◌⊎◌}
+use Rattle.std.proofs.Common.{◌≡◌, ℕ, ◌+◌, ◌<◌, ◌==◌, List, [], Bool, true, false, refl, arith, Option, Some, None, inl, inr, ◌⊎◌}
 use Rattle.std.proofs.lemmas.Bool.Decides.{nat_tests}
 use Rattle.cob_copybook.specs.Forests.{Forest, NoEntries, AnEntry, entries_in}
 use Rattle.cob_copybook.specs.Nodes.{Resolved}

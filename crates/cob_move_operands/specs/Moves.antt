@@ -1,5 +1,5 @@
 -- Moves between two records.
-use Rattle.std.specs.Prelude.{◌≡◌, ℕ, List, map, Some}
+use Rattle.std.specs.Prelude.{◌≡◌, List, map, Some}
 use Rattle.std.specs.List.{AllByRecursion}
 use Rattle.cob_copybook_tree.specs.Described.{PlainValue, plain_value}
 use Rattle.cob_copybook_tree.specs.Forests.{Forest}
