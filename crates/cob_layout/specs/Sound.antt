@@ -62,7 +62,7 @@ pub record IsAhead (f : Forest Resolved) (x : Table) : Type 0 where
   pub before : x.count < x.number
   pub single : InTable x.count f → ⊥
 
--- there is one entry, with those beneath it, and it redefines nothing
+-- one entry holds all others, and redefines nothing
 abbrev pub RedefinesNothing : Forest Resolved → Type 0
 RedefinesNothing NoEntries = ⊥
 RedefinesNothing (AnEntry e children NoEntries) = e.redefines ≡ None
@@ -71,7 +71,7 @@ RedefinesNothing (AnEntry e children (AnEntry d kids more)) = ⊥
 -- The entries may occur, items hold none, redefinitions stay in their areas and the record isn't too long; groups hold some, and redefinitions
 -- stand where they may, so that neither side of one varies; the entries are numbered from 0; no more than 7 tables stand within one another;
 -- each table that varies is counted by a whole number, which stands before it and in no table; each item can be stored; the values fit; and
--- there is one record, which redefines nothing.
+-- one entry, the record, holds all others and redefines nothing.
 pub record IsSound (tree : Forest Resolved) : Type 0 where
   pub fit : FitsInRecord 0 tree
   pub filled : HoldSome tree

@@ -197,8 +197,7 @@ impl Layout {
         // An element that is there ends within the record's length under the same counts.
         ensures current { IfOk result
             (λ p. p.offset + p.length ≤ sum_of (times counts.now) self.now) }
-        ensures fits { IfOk result (λ p. p.offset + p.length ≤
-            sum_of greatest_number self.now) }
+        ensures fits { IfOk result (λ p. p.offset + p.length ≤ sum_of greatest_number self.now) }
     {
         places_end_in_length();
         match seek(
@@ -247,7 +246,8 @@ impl Layout {
         requires room { length counts.old ≡ entries_in self.now }
         ensures ok { OnOk result
             (NeededOf self.now reference.now.node receiving bytes.now (Ok counts.new)) }
-        ensures err { IfErr result (λ e. NeededOf self.now reference.now.node receiving bytes.now (Err e)) }
+        ensures err { IfErr result
+            (λ e. NeededOf self.now reference.now.node receiving bytes.now (Err e)) }
         ensures same { OnErr result (counts.new ≡ counts.old) }
         ensures room { length counts.new ≡ length counts.old }
     {

@@ -131,8 +131,7 @@ impl Layout {
         // An element that is there ends within the record's length under the same counts.
         ensures current { IfOk result (λ p. (counts : List ℕ) → ArePlaces self.now counts places.now
             → p.offset + p.length ≤ sum_of (times counts) self.now) }
-        ensures fits { IfOk result (λ p. p.offset + p.length ≤
-            sum_of greatest_number self.now) }
+        ensures fits { IfOk result (λ p. p.offset + p.length ≤ sum_of greatest_number self.now) }
     {
         places_end_in_length();
         let _ = self.greatest();
@@ -158,9 +157,10 @@ impl Layout {
         requires refers { Refers reference.now.node reference.now.subscripts.items self.now }
         ensures fixed { IfSome result (λ p. ReadsNone self.now reference.now.node receiving) }
         ensures value { IfSome result (λ p. option_map placed (place_of (times (greatest_counts
-            self.now)) reference.now.node self.now 0 0 reference.now.subscripts.items) ≡ Some (Ok p)) }
-        ensures fits { IfSome result (λ p. p.offset + p.length ≤
-            sum_of greatest_number self.now) }
+            self.now)) reference.now.node self.now 0 0 reference.now.subscripts.items)
+            ≡ Some (Ok p)) }
+        ensures fits { IfSome result
+            (λ p. p.offset + p.length ≤ sum_of greatest_number self.now) }
         ensures none { IfNone result (ReadsNone self.now reference.now.node receiving → ⊥) }
     {
         places_end_in_length();

@@ -31,7 +31,8 @@ fn count_in(
         → place_of (times counts.now) table.count (tree_of root.now) 0 0 []
         ≡ Some (first_element spots.now table.count) }
     ensures ok { IfOk result (λ v. IsCounted (tree_of root.now) bytes.now table counts.now (Ok v)) }
-    ensures err { IfErr result (λ e. IsCounted (tree_of root.now) bytes.now table counts.now (Err e)) }
+    ensures err { IfErr result
+        (λ e. IsCounted (tree_of root.now) bytes.now table counts.now (Err e)) }
 {
     if table.count >= first {
         return count_of(root, table, bytes, counts);

@@ -131,7 +131,8 @@ pub fn count_of(root: &Node, table: Table, bytes: &[u8], counts: &[u32]) -> Resu
     requires fit { FitsInRecord 0 (tree_of root.now) }
     requires countable { IsCountable (tree_of root.now) table }
     ensures ok { IfOk result (λ v. IsCounted (tree_of root.now) bytes.now table counts.now (Ok v)) }
-    ensures err { IfErr result (λ e. IsCounted (tree_of root.now) bytes.now table counts.now (Err e)) }
+    ensures err { IfErr result
+        (λ e. IsCounted (tree_of root.now) bytes.now table counts.now (Err e)) }
 {
     match seek(root, table.count, counts, 0, &[]) {
         Some(found) => count_there(root, table, found, bytes),

@@ -104,11 +104,9 @@ fn seek_or_measure(
 ) -> Result<Found, u32>
     requires { EntryFits start (node entry.now).top (node entry.now).beneath }
     ensures found { IfOk result (λ found. place_of (times counts.now) number
-        (tree_of entry.now) start start
-        subscripts.now ≡ Some found) }
+        (tree_of entry.now) start start subscripts.now ≡ Some found) }
     ensures none { IfErr result (λ _. place_of (times counts.now) number
-        (tree_of entry.now) start start
-        subscripts.now ≡ None) }
+        (tree_of entry.now) start start subscripts.now ≡ None) }
     ensures length { IfErr result (λ length. length ≡ element_length (times counts.now)
         (node entry.now).top (node entry.now).beneath) }
 {

@@ -2,7 +2,7 @@
 
 ghost use Rattle.std.specs.Prelude.{◌≡◌, IfNone, IfSome, IsFalse, IsTrue};
 ghost use Rattle.cob_copybook_tree.specs.Lengths.{greatest_number_by};
-ghost use Rattle.cob_copybook_tree.specs.Nodes.{node, tree_of};
+ghost use Rattle.cob_copybook_tree.specs.Nodes.{tree_of};
 ghost use Rattle.cob_layout_places.specs.Places.{is_table, later};
 ghost use Rattle.cob_layout_places.specs.References.{IsSubscripted, Refers};
 
