@@ -2,8 +2,8 @@
 use Rattle.std.proofs.Common.{◌≡◌, ℕ, List, take, refl, sym, ◌∙◌, ap, subst, Option, Some, None, Ok, Err, Result, inl, inr, true, false}
 use Rattle.cob_records.specs.declared.records.Form.{Form}
 use Rattle.cob_records.specs.declared.records.Form.TheVariants.{Fixed, Variable}
-use Rattle.cob_move_apply.specs.Forests.{Tree}
-use Rattle.cob_move_apply.specs.Nodes.{Resolved, alone}
+use Rattle.cob_move_apply.specs.Forests.{Forest}
+use Rattle.cob_move_apply.specs.Nodes.{Resolved}
 use Rattle.cob_move_apply.specs.CountFault.{CountFault}
 use Rattle.cob_move_apply.specs.Counting.{CountsOf}
 use Rattle.cob_move_apply.specs.Laws.{OneOfAll}
@@ -23,23 +23,23 @@ use Rattle.cob_convert_record.specs.Becoming.{Becomes, StopsAt, IsOutputOf}
 use Rattle.cob_convert_record.specs.Laws.{ConversionsAreDecided}
 
 -- counts that are valid are no fault
-valid_or_not : OneOfAll → (t : Tree Resolved) (bytes counts : List ℕ) (fault : CountFault)
+valid_or_not : OneOfAll → (t : Forest Resolved) (bytes counts : List ℕ) (fault : CountFault)
     → CountsOf t bytes (Ok counts) → CountsOf t bytes (Err fault) → ⊥
 valid_or_not law t bytes counts fault valid faulty =
     let same : ◌≡◌ {A = Result (List ℕ) CountFault} (Ok counts) (Err fault) = law t bytes (Ok counts) (Err fault) valid faulty in
     cc
 
-one_list : OneOfAll → (t : Tree Resolved) (bytes a b : List ℕ) → CountsOf t bytes (Ok a) → CountsOf t bytes (Ok b) → a ≡ b
+one_list : OneOfAll → (t : Forest Resolved) (bytes a b : List ℕ) → CountsOf t bytes (Ok a) → CountsOf t bytes (Ok b) → a ≡ b
 one_list law t bytes a b p q =
     let same : ◌≡◌ {A = Result (List ℕ) CountFault} (Ok a) (Ok b) = law t bytes (Ok a) (Ok b) p q in
     cc
 
-one_fault : OneOfAll → (t : Tree Resolved) (bytes : List ℕ) (a b : CountFault) → CountsOf t bytes (Err a) → CountsOf t bytes (Err b) → a ≡ b
+one_fault : OneOfAll → (t : Forest Resolved) (bytes : List ℕ) (a b : CountFault) → CountsOf t bytes (Err a) → CountsOf t bytes (Err b) → a ≡ b
 one_fault law t bytes a b p q =
     let same : ◌≡◌ {A = Result (List ℕ) CountFault} (Err a) (Err b) = law t bytes (Err a) (Err b) p q in
     cc
 
-sized_or_misfit : OneOfAll → (t : Tree Resolved) (form : Form) (input : List ℕ) (why : MeasureFault) → IsSized form t input → IsMeasureFault form t input why → ⊥
+sized_or_misfit : OneOfAll → (t : Forest Resolved) (form : Form) (input : List ℕ) (why : MeasureFault) → IsSized form t input → IsMeasureFault form t input why → ⊥
 sized_or_misfit law t Fixed input why sized misfit = misfit
 sized_or_misfit law t Variable input (Count offset) (counts, valid, size) (fault, faulty, long, at) = valid_or_not law t input counts fault valid faulty
 sized_or_misfit law t Variable input Length (counts, valid, size) misfit = elim misfit [
@@ -51,7 +51,7 @@ sized_or_misfit law t Variable input Length (counts, valid, size) misfit = elim 
 within_or_not : (a b : CountFault) → a ≡ b → a.short ≡ false → b.short ≡ true → ⊥
 within_or_not a b same long short = cc
 
-one_misfit : OneOfAll → (t : Tree Resolved) (form : Form) (input : List ℕ) (a b : MeasureFault) → IsMeasureFault form t input a → IsMeasureFault form t input b → a ≡ b
+one_misfit : OneOfAll → (t : Forest Resolved) (form : Form) (input : List ℕ) (a b : MeasureFault) → IsMeasureFault form t input a → IsMeasureFault form t input b → a ≡ b
 one_misfit law t Fixed input a b p q = absurd p
 one_misfit law t Variable input (Count m) (Count n) (f, p, long, at) (g, q, also, there) =
     ap Count (at ∙ ap (λ (x : CountFault). x.offset) (one_fault law t input f g p q) ∙ sym there)
@@ -66,11 +66,11 @@ one_misfit law t Variable input Length (Count n) p (g, q, long, at) = elim p [
 one_misfit law t Variable input Length Length p q = refl
 
 -- what is written has counts that are valid
-written_counts : (form : Form) (t : Tree Resolved) (storage written : List ℕ) → IsOutputOf form t storage written → (counts : List ℕ) × CountsOf t storage (Ok counts)
+written_counts : (form : Form) (t : Forest Resolved) (storage written : List ℕ) → IsOutputOf form t storage written → (counts : List ℕ) × CountsOf t storage (Ok counts)
 written_counts Fixed t storage written p = p.0
 written_counts Variable t storage written (counts, valid, part) = (counts, valid)
 
-one_written : OneOfAll → (form : Form) (t : Tree Resolved) (storage a b : List ℕ) → IsOutputOf form t storage a → IsOutputOf form t storage b → a ≡ b
+one_written : OneOfAll → (form : Form) (t : Forest Resolved) (storage a b : List ℕ) → IsOutputOf form t storage a → IsOutputOf form t storage b → a ≡ b
 one_written law Fixed t storage a b p q = p.1 ∙ sym q.1
 one_written law Variable t storage a b (c, valid, part) (d, also, same) =
     part ∙ ap (λ x. take (current_length x t) storage) (one_list law t storage c d valid also) ∙ sym same
@@ -89,10 +89,10 @@ same_stop a b x y same =
 
 -- the moves of a conversion end in one way, whichever initial storage is named
 endings_agree : OneInitial → OneEnding → (c : Conversion) (input i j : List ℕ) (a b : Ending)
-    → IsInitial (alone c.records.output) i → IsInitial (alone c.records.output) j
+    → IsInitial c.records.output i → IsInitial c.records.output j
     → Applied c.records c.moves input i a → Applied c.records c.moves input j b → a ≡ b
 endings_agree initial ending c input i j a b begins starts p q =
-    let same : i ≡ j = initial (alone c.records.output) i j begins starts in
+    let same : i ≡ j = initial c.records.output i j begins starts in
     ending c.records c.moves input j a b (subst (λ (x : List ℕ). Applied c.records c.moves input x a) same p) q
 
 one_output : OneOfAll → OneInitial → OneEnding → (c : Conversion) (input a b : List ℕ) → Becomes c input a → Becomes c input b → a ≡ b

@@ -1,6 +1,5 @@
 -- What becomes of a record, and where its conversion stops.
 use Rattle.std.proofs.Common.{ℕ, List, inl, inr, IfErr, IfOk, Ok, Err, Result}
-use Rattle.cob_move_apply.specs.Nodes.{alone}
 use Rattle.cob_move_initial.specs.Initial.{IsInitial}
 use Rattle.cob_convert_record.specs.Conversion.{Conversion}
 use Rattle.cob_move_apply.specs.declared.stop.Stop.{Stop}
@@ -8,18 +7,18 @@ use Rattle.cob_move_apply.specs.Applied.{Applied, done, stopped}
 use Rattle.cob_convert_record.specs.Becoming.{Becomes, IsCountStop, IsOutputOf, StopsAt}
 
 -- the last storage is written
-pub becomes : (c : Conversion) (input initial last written : List ℕ) → IsInitial (alone c.records.output) initial
+pub becomes : (c : Conversion) (input initial last written : List ℕ) → IsInitial c.records.output initial
     → Applied c.records c.moves input initial (done last) → IsOutputOf c.out_form c.records.output last written → Becomes c input written
 becomes c input initial last written begins applied writes =
     record { initial = initial; begins = begins; last = last; applied = applied; writes = writes }
 
 -- it stops at a move
-pub at_move : (c : Conversion) (input initial last : List ℕ) (stop : Stop) → IsInitial (alone c.records.output) initial
+pub at_move : (c : Conversion) (input initial last : List ℕ) (stop : Stop) → IsInitial c.records.output initial
     → Applied c.records c.moves input initial (stopped stop last) → StopsAt c input stop
 at_move c input initial last stop begins stops = record { initial = initial; begins = begins; last = last; stops = inl stops }
 
 -- it stops at a count of the output
-pub at_count : (c : Conversion) (input initial last : List ℕ) (stop : Stop) → IsInitial (alone c.records.output) initial
+pub at_count : (c : Conversion) (input initial last : List ℕ) (stop : Stop) → IsInitial c.records.output initial
     → Applied c.records c.moves input initial (done last) → IsCountStop c.records.output last stop → StopsAt c input stop
 at_count c input initial last stop begins applied faulty =
     record { initial = initial; begins = begins; last = last; stops = inr (applied, faulty) }

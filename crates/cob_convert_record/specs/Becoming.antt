@@ -2,8 +2,8 @@
 use Rattle.std.specs.Prelude.{◌≡◌, ◌⊎◌, ℕ, List, Ok, Err}
 use Rattle.cob_records.specs.declared.records.Form.{Form}
 use Rattle.cob_records.specs.declared.records.Form.TheVariants.{Fixed, Variable}
-use Rattle.cob_move_apply.specs.Forests.{Tree}
-use Rattle.cob_move_apply.specs.Nodes.{Resolved, alone}
+use Rattle.cob_move_apply.specs.Forests.{Forest}
+use Rattle.cob_move_apply.specs.Nodes.{Resolved}
 use Rattle.cob_move_apply.specs.CountFault.{CountFault}
 use Rattle.cob_move_apply.specs.Counting.{CountsOf}
 use Rattle.cob_move_apply.specs.Storage.{IsCurrentPart}
@@ -16,26 +16,26 @@ use Rattle.cob_move_apply.specs.Located.{stop_at}
 use Rattle.cob_move_apply.specs.Applied.{Applied, done, stopped}
 
 -- What is written of an output storage, whose counts are all valid: in form f the whole of it, in form v its current part.
-abbrev pub IsOutputOf : Form → Tree Resolved → List ℕ → List ℕ → Type 0
-IsOutputOf Fixed t storage written = ((counts : List ℕ) × CountsOf t storage (Ok counts)) × (written ≡ storage)
-IsOutputOf Variable t storage written = IsCurrentPart t storage written
+abbrev pub IsOutputOf : Form → Forest Resolved → List ℕ → List ℕ → Type 0
+IsOutputOf Fixed tree storage written = ((counts : List ℕ) × CountsOf tree storage (Ok counts)) × (written ≡ storage)
+IsOutputOf Variable tree storage written = IsCurrentPart tree storage written
 
 -- An input record becomes what is written: the output record's storage goes from its initial values through all moves, and is written.
 pub record Becomes (conversion : Conversion) (input written : List ℕ) : Type 0 where
   pub initial : List ℕ
-  pub begins : IsInitial (alone conversion.records.output) initial
+  pub begins : IsInitial conversion.records.output initial
   pub last : List ℕ
   pub applied : Applied conversion.records conversion.moves input initial (done last)
   pub writes : IsOutputOf conversion.out_form conversion.records.output last written
 
 -- the first count of an output storage that isn't valid stops the conversion, at its item
-abbrev pub IsCountStop : Tree Resolved → List ℕ → Stop → Type 0
-IsCountStop t storage stop = (fault : CountFault) × CountsOf t storage (Err fault) × (stop ≡ stop_at Out fault.offset Count)
+abbrev pub IsCountStop : Forest Resolved → List ℕ → Stop → Type 0
+IsCountStop tree storage stop = (fault : CountFault) × CountsOf tree storage (Err fault) × (stop ≡ stop_at Out fault.offset Count)
 
 -- The conversion of an input record stops: from the initial values, at a move, or behind all moves at the first count of the output that isn't valid.
 pub record StopsAt (conversion : Conversion) (input : List ℕ) (stop : Stop) : Type 0 where
   pub initial : List ℕ
-  pub begins : IsInitial (alone conversion.records.output) initial
+  pub begins : IsInitial conversion.records.output initial
   pub last : List ℕ
   pub stops : Applied conversion.records conversion.moves input initial (stopped stop last)
       ⊎ (Applied conversion.records conversion.moves input initial (done last) × IsCountStop conversion.records.output last stop)

@@ -1,6 +1,5 @@
 -- Room for conversions.
 use Rattle.std.specs.Prelude.{ℕ}
-use Rattle.cob_move_apply.specs.Nodes.{alone}
 use Rattle.cob_move_apply.specs.Forests.{entries_in}
 use Rattle.cob_move_apply.specs.Moves.{Records}
 use Rattle.cob_move_apply.specs.Room.{RoomForMoves, room_of}
@@ -15,6 +14,6 @@ pub record Capacity : Type 0 where
 abbrev pub capacity_for : Records → Capacity
 capacity_for records = record {
   moves = room_of records;
-  inputs = entries_in (alone records.input);
-  outputs = entries_in (alone records.output);
+  inputs = entries_in records.input;
+  outputs = entries_in records.output;
 }

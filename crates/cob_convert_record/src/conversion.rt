@@ -3,8 +3,8 @@
 ghost use Rattle.std.specs.Prelude.{◌≡◌, ◌<◌, ◌≤◌, ℕ, List, length, min, take, Err, IfOk, IfErr, OnOk};
 ghost use Rattle.cob_limits.specs.Limits.{longest_record};
 ghost use Rattle.cob_move_apply.specs.Storage.{greatest_length};
-ghost use Rattle.cob_move_apply.specs.Forests.{Tree, entries_in};
-ghost use Rattle.cob_move_apply.specs.Nodes.{Resolved, alone};
+ghost use Rattle.cob_move_apply.specs.Forests.{Forest, entries_in};
+ghost use Rattle.cob_move_apply.specs.Nodes.{Resolved};
 ghost use Rattle.cob_move_apply.specs.Counting.{CountsOf};
 ghost use Rattle.cob_convert_record.specs.Becoming.{IsCountStop, IsOutputOf};
 ghost use Rattle.cob_convert_record.specs.Sizes.{IsMeasureFault, IsSized};
@@ -32,7 +32,6 @@ pub struct Conversion {
 
 impl Model for Conversion {
     ghost use Rattle.std.specs.Prelude.{◌≡◌, length};
-    ghost use Rattle.cob_move_apply.specs.Nodes.{alone};
     ghost use Rattle.cob_move_apply.specs.Storage.{greatest_length};
     ghost use Rattle.cob_move_initial.specs.Initial.{IsInitial};
     ghost use Rattle.cob_convert_record.specs.Conversion.{Conversion};
@@ -46,13 +45,13 @@ impl Model for Conversion {
 
     ghost view = { λ c. record { in_form = c.in_form; out_form = c.out_form; records = record { input = c.input; output = c.output }; moves = moves_of c.moves } };
 
-    ghost invariant = { λ c. ArePrepared (record { input = c.input; output = c.output }) c.moves × IsInitial (alone c.output) c.image.items × (length c.image.items ≡ greatest_length c.output) };
+    ghost invariant = { λ c. ArePrepared (record { input = c.input; output = c.output }) c.moves × IsInitial c.output c.image.items × (length c.image.items ≡ greatest_length c.output) };
 }
 
 /// The fault of a record of form v whose counts give none.
 fn measure_fault_of(fault: CountFault) -> MeasureFault
-    ensures { (t : Tree Resolved) (input : List ℕ)
-        → CountsOf t input (Err fault) → IsMeasureFault Variable t input result }
+    ensures { (tree : Forest Resolved) (input : List ℕ)
+        → CountsOf tree input (Err fault) → IsMeasureFault Variable tree input result }
 {
     if fault.short {
         MeasureFault::Length
@@ -65,7 +64,7 @@ fn measure_fault_of(fault: CountFault) -> MeasureFault
 
 /// Whether a record has the length that its own counts give.
 fn measure_current(layout: &Layout, input: &[u8], counts: &mut Counts) -> Result<(), MeasureFault>
-    requires room { length counts.old ≡ entries_in (alone layout.now) }
+    requires room { length counts.old ≡ entries_in layout.now }
     ensures sized { OnOk result (IsSized Variable layout.now input.now) }
     ensures misfit { IfErr result (λ why. IsMeasureFault Variable layout.now input.now why) }
     ensures room { length counts.new ≡ length counts.old }
@@ -92,7 +91,7 @@ fn written_length(
     counts: &mut Counts,
 ) -> Result<usize, Stop>
     requires storage { length storage.now ≡ greatest_length layout.now }
-    requires room { length counts.old ≡ entries_in (alone layout.now) }
+    requires room { length counts.old ≡ entries_in layout.now }
     ensures size { IfOk result
         (λ made. (0 < made) × (made ≤ length storage.now) × (made ≤ longest_record)) }
     ensures written { IfOk result
@@ -140,7 +139,7 @@ impl Conversion {
         moves: Moves,
     ) -> Result<Conversion, AllocError>
         requires moves { ArePrepared (record { input = input; output = output }) moves }
-        requires book { out_book.now ≡ alone output }
+        requires book { out_book.now ≡ output }
         ensures { IfOk result (λ made. made ≡ record {
           in_form = in_form;
           out_form = out_form;
@@ -228,7 +227,7 @@ impl Conversion {
     /// Begins an output record: its storage holds its initial values, and nothing of a record before.
     fn begin(&self, output: &mut [u8])
         requires { length output.old ≡ out_length self.now }
-        ensures begins { IsInitial (alone self.now.records.output) output.new }
+        ensures begins { IsInitial self.now.records.output output.new }
         ensures length { length output.new ≡ length output.old }
     {
         output.copy_from_slice(self.image.as_slice());

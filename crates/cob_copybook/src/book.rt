@@ -1,8 +1,8 @@
 //! Books.
 
-ghost use Rattle.std.specs.Prelude.{◌≡◌, ℕ, ◌≤◌, [], ◌∷◌, IfOk, IfErr};
+ghost use Rattle.std.specs.Prelude.{◌≡◌, ℕ, ◌≤◌, IfOk, IfErr};
 ghost use Rattle.cob_copybook_tree.specs.Forests.{Forest};
-ghost use Rattle.cob_copybook_tree.specs.Nodes.{Resolved, forest};
+ghost use Rattle.cob_copybook_tree.specs.Nodes.{Resolved, tree_of};
 ghost use Rattle.cob_copybook_tree.specs.Lengths.{greatest_number, sum_of};
 ghost use Rattle.cob_limits.specs.Limits.{longest_record};
 ghost use Rattle.cob_copybook.specs.Books.{IsBookOf, IsRecordDescription, IsBookRefusal, IsMemory};
@@ -26,9 +26,9 @@ pub struct Book {
 }
 
 impl Model for Book {
-    ghost use Rattle.std.specs.Prelude.{◌≡◌, [], ◌∷◌};
+    ghost use Rattle.std.specs.Prelude.{◌≡◌};
     ghost use Rattle.cob_copybook_tree.specs.Forests.{Forest};
-    ghost use Rattle.cob_copybook_tree.specs.Nodes.{Resolved, forest};
+    ghost use Rattle.cob_copybook_tree.specs.Nodes.{Resolved, tree_of};
     ghost use Rattle.cob_copybook_tree.specs.Lengths.{greatest_number, sum_of};
     ghost use Rattle.cob_copybook.specs.Books.{IsRecordDescription};
     ghost use Rattle.std.specs.Coded.{codes};
@@ -38,9 +38,9 @@ impl Model for Book {
 
     ghost coded = { Prim.hlevel (codes, coded_forest) };
 
-    ghost view = { λ b. forest (b.root ∷ []) };
+    ghost view = { λ b. tree_of b.root };
 
-    ghost invariant = { λ b. IsRecordDescription (forest (b.root ∷ [])) × (b.greatest ≡ sum_of greatest_number (forest (b.root ∷ []))) };
+    ghost invariant = { λ b. IsRecordDescription (tree_of b.root) × (b.greatest ≡ sum_of greatest_number (tree_of b.root)) };
 }
 
 impl Book {
@@ -68,7 +68,7 @@ impl Book {
 
     /// The record, with the entries beneath it.
     pub fn root(&self) -> &Node
-        ensures tree { forest (result.now ∷ []) ≡ self.now }
+        ensures tree { tree_of result.now ≡ self.now }
         ensures record { IsRecordDescription self.now }
     {
         &self.root

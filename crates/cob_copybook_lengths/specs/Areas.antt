@@ -5,7 +5,7 @@ use Rattle.cob_copybook_tree.specs.declared.node.ResolvedOccurs.TheVariants.{Onc
 use Rattle.cob_copybook_tree.specs.declared.node.Kind.{Kind}
 use Rattle.cob_copybook_tree.specs.declared.node.Kind.TheVariants.{Group, Item as ItemKind}
 use Rattle.cob_copybook_tree.specs.Forests.{Forest, NoEntries, AnEntry, Tree}
-use Rattle.cob_copybook_tree.specs.Nodes.{Resolved, alone}
+use Rattle.cob_copybook_tree.specs.Nodes.{Resolved}
 use Rattle.cob_copybook_tree.specs.Lengths.{greatest_number, whole_length}
 
 -- a table with DEPENDING ON
@@ -21,7 +21,7 @@ hold_varying (AnEntry e children more) = is_varying e.occurs || (hold_varying ch
 
 -- the entry isn't a table that varies, and holds none
 abbrev pub HasFixedLength : Tree Resolved → Type 0
-HasFixedLength t = hold_varying (alone t) ≡ false
+HasFixedLength t = hold_varying (AnEntry t.top t.beneath NoEntries) ≡ false
 
 -- one of the entries of an area has this name and level
 abbrev pub Bears : List ℕ → ℕ → List (Tree Resolved) → Type 0

@@ -1,12 +1,12 @@
 -- Entries with what they inherit and what their names refer to, as a tree.
-use Rattle.std.specs.Prelude.{ℕ, List, map, Option, option_map}
+use Rattle.std.specs.Prelude.{ℕ, List, [], ◌∷◌, map, Option, option_map}
 use Rattle.cob_entry.specs.Described.{PlainValue, plain_value}
 use Rattle.cob_copybook_tree.specs.declared.node.Node.{Node}
 use Rattle.cob_copybook_tree.specs.declared.node.Node.TheOpen.{Node-F}
 use Rattle.cob_copybook_tree.specs.declared.node.Node.TheFolds.{fold-Node}
 use Rattle.cob_copybook_tree.specs.declared.node.ResolvedOccurs.{ResolvedOccurs}
 use Rattle.cob_copybook_tree.specs.declared.node.Kind.{Kind}
-use Rattle.cob_copybook_tree.specs.Forests.{Forest, Tree, grown, NoEntries, AnEntry}
+use Rattle.cob_copybook_tree.specs.Forests.{Forest, Tree, grown}
 
 -- an entry by itself
 pub record Resolved : Type 0 where
@@ -34,6 +34,6 @@ node = fold-Node (Tree Resolved) node_step
 abbrev pub forest : List Node → Forest Resolved
 forest ns = grown (map node ns)
 
--- an entry by itself, with those beneath it
-abbrev pub alone : Tree Resolved → Forest Resolved
-alone t = AnEntry t.top t.beneath NoEntries
+-- one node by itself, with those beneath it
+abbrev pub tree_of : Node → Forest Resolved
+tree_of n = forest (n ∷ [])

@@ -4,7 +4,7 @@ use Rattle.std.proofs.lemmas.Bool.Decides.{nat_tests}
 use Rattle.cob_copybook.specs.ResolvedOccurs.TheVariants.{Once}
 use Rattle.cob_copybook.specs.ResolvedOccurs.{ResolvedOccurs}
 use Rattle.cob_copybook.specs.Forests.{Forest, NoEntries, AnEntry, Tree, entries_in}
-use Rattle.cob_copybook.specs.Nodes.{Resolved, alone}
+use Rattle.cob_copybook.specs.Nodes.{Resolved}
 use Rattle.cob_copybook.specs.TreeLengths.{greatest_number, own_length, element_length, whole_length}
 use Rattle.cob_copybook.specs.Areas.{AreAreas, MayFollow, area_with}
 use Rattle.cob_layout_places.specs.declared.places.Found.{Found}
@@ -174,4 +174,4 @@ begin_there c r a n (AnEntry e children more) area at from subscripts num areas 
 pub begin_with_area : RecordsAreSound → BeginWithArea
 begin_with_area sound t counts r a subscripts is redefines refers =
     let s = sound t is in
-    begin_there (times counts) r a 0 (alone t) [] 0 0 subscripts s.numbered s.areas redefines refers
+    begin_there (times counts) r a 0 t [] 0 0 subscripts s.numbered s.areas redefines refers

@@ -10,27 +10,27 @@ use Rattle.cob_copybook.specs.Kind.TheVariants.{Group, Item as ItemKind}
 use Rattle.cob_copybook.specs.ResolvedOccurs.{ResolvedOccurs}
 use Rattle.cob_copybook.specs.ResolvedOccurs.TheVariants.{Once, Fixed, Varying}
 use Rattle.cob_copybook.specs.Forests.{Forest, NoEntries, AnEntry, Tree}
-use Rattle.cob_copybook.specs.Nodes.{Resolved, resolved_entry, node, forest, alone}
+use Rattle.cob_copybook.specs.Nodes.{Resolved, resolved_entry, node, forest, tree_of}
 use Rattle.cob_copybook.specs.TreeLengths.{greatest_number, length_by_kind, own_length, sum_of, whole_length}
 use Rattle.cob_copybook.specs.Areas.{AreAreas, MayFollow, is_varying}
 use Rattle.cob_layout_places.specs.declared.varying.Table.{Table}
 use Rattle.cob_layout_places.specs.Lengths.{times, MayOccur}
 use Rattle.cob_layout_places.specs.Places.{choose, or_else}
 use Rattle.cob_layout_places.specs.Cover.{AreNumbered}
-use Rattle.cob_layout_places.specs.Counts.{kind_in, kind_one, table_of, tables_of, IsCountable}
-use Rattle.cob_layout.specs.Sound.{HoldSome, IsAhead, HoldsSome, IsSound}
+use Rattle.cob_layout_places.specs.Counts.{kind_in, table_of, tables_of, IsCountable}
+use Rattle.cob_layout.specs.Sound.{HoldSome, IsAhead, HoldsSome, IsSound, RedefinesNothing}
 use Rattle.cob_copybook.specs.Bytes.{TakesByte, TakeBytes}
 use Rattle.cob_layout.proofs.SteadyLemmas.{steady_times}
 use Rattle.cob_layout.proofs.ThoseLemmas.{IsIn, of_all}
 
 -- ---- each item of a copy does
 
-pub have_push : (ns : List Node) (n : Node) → TakeBytes (forest ns) → TakeBytes (alone (node n)) → TakeBytes (forest (ns ++ n ∷ []))
+pub have_push : (ns : List Node) (n : Node) → TakeBytes (forest ns) → TakeBytes (tree_of n) → TakeBytes (forest (ns ++ n ∷ []))
 have_push [] n h k = k
 have_push (m ∷ ns) n h k = (h.0, h.1, have_push ns n h.2 k)
 
-pub copy_has : (m n : Node) (copies : List Node) → node m ≡ record { top = resolved_entry (out-Node n); beneath = forest copies } → TakesByte (out-Node n).kind → TakeBytes (forest copies) → TakeBytes (alone (node m))
-copy_has m n copies is byte have = subst (λ (t : Tree Resolved). TakeBytes (alone t)) (sym is) (byte, have, tt)
+pub copy_has : (m n : Node) (copies : List Node) → node m ≡ record { top = resolved_entry (out-Node n); beneath = forest copies } → TakesByte (out-Node n).kind → TakeBytes (forest copies) → TakeBytes (tree_of m)
+copy_has m n copies is byte have = subst (λ (t : Tree Resolved). TakeBytes (AnEntry t.top t.beneath NoEntries)) (sym is) (byte, have, tt)
 
 -- ---- and so does the record
 
@@ -126,24 +126,24 @@ begun_some all c n (AnEntry e children more) steady some num occur filled bytes 
     let first = room_none e.redefines (whole_length c e children) (none_before e.redefines t areas.0) (positive (c e) (length_by_kind e.kind (sum_of c children)) often here) in
     omega (arith, first)
 
-or_none : (o : Option Kind) → or_else o None ≡ o
-or_none None = refl
-or_none (Some k) = refl
+some_of : (f : Forest Resolved) → RedefinesNothing f → IsSome f
+some_of NoEntries h = h
+some_of (AnEntry e children more) h = tt
 
-record_some : (c : Resolved → ℕ) (t : Tree Resolved) → ((d : Resolved) → is_varying d.occurs ≡ false → c d ≡ greatest_number d) → IsSound t → TakeBytes (alone t) → 0 < sum_of c (alone t)
+record_some : (c : Resolved → ℕ) (t : Forest Resolved) → ((d : Resolved) → is_varying d.occurs ≡ false → c d ≡ greatest_number d) → IsSound t → TakeBytes t → 0 < sum_of c t
 record_some c t steady s bytes =
-    begun_some (alone t) c 0 (alone t) steady tt s.numbered s.fit.possible s.filled bytes s.areas (record {
+    begun_some t c 0 t steady (some_of t s.first) s.numbered s.fit.possible s.filled bytes s.areas (record {
       groups = λ k i lt is. absurd (omega (arith, lt));
       shown = λ k kind le is. is;
       counted = λ x i.
-          let countable = of_all (IsCountable t) (tables_of (alone t)) x s.countable i in
-          let ahead = of_all (IsAhead (alone t)) (tables_of (alone t)) x s.ahead i in
-          (countable.item, or_none (kind_one x.count t) ∙ countable.is, ahead.before);
+          let countable = of_all (IsCountable t) (tables_of t) x s.countable i in
+          let ahead = of_all (IsAhead t) (tables_of t) x s.ahead i in
+          (countable.item, countable.is, ahead.before);
     })
 
 -- a record has a byte under whatever counts, and so under the greatest ones
-pub length_some : (counts : List ℕ) (t u : Tree Resolved) → IsSound t → TakeBytes (alone t) → t ≡ u → 0 < sum_of (times counts) (alone u)
-length_some counts t u s bytes same = subst (λ (v : Tree Resolved). 0 < sum_of (times counts) (alone v)) same (record_some (times counts) t (λ d v. steady_times _ d.occurs v) s bytes)
+pub length_some : (counts : List ℕ) (t u : Forest Resolved) → IsSound t → TakeBytes t → t ≡ u → 0 < sum_of (times counts) u
+length_some counts t u s bytes same = subst (λ (v : Forest Resolved). 0 < sum_of (times counts) v) same (record_some (times counts) t (λ d v. steady_times _ d.occurs v) s bytes)
 
-pub greatest_some : (t u : Tree Resolved) → IsSound t → TakeBytes (alone t) → t ≡ u → 0 < sum_of greatest_number (alone u)
-greatest_some t u s bytes same = subst (λ (v : Tree Resolved). 0 < sum_of greatest_number (alone v)) same (record_some greatest_number t (λ d v. refl) s bytes)
+pub greatest_some : (t u : Forest Resolved) → IsSound t → TakeBytes t → t ≡ u → 0 < sum_of greatest_number u
+greatest_some t u s bytes same = subst (λ (v : Forest Resolved). 0 < sum_of greatest_number v) same (record_some greatest_number t (λ d v. refl) s bytes)

@@ -13,8 +13,8 @@ use Rattle.cob_copybook.specs.Described.{PlainEntry}
 use Rattle.cob_copybook.specs.Item.{Item}
 use Rattle.cob_copybook.specs.Kind.{Kind}
 use Rattle.cob_copybook.specs.Kind.TheVariants.{Item as ItemKind}
-use Rattle.cob_copybook.specs.Forests.{Forest, NoEntries, AnEntry, Tree, flat, entries_in}
-use Rattle.cob_copybook.specs.Nodes.{Resolved, alone}
+use Rattle.cob_copybook.specs.Forests.{Forest, NoEntries, AnEntry, flat, entries_in}
+use Rattle.cob_copybook.specs.Nodes.{Resolved}
 use Rattle.cob_copybook.specs.TreeLengths.{item_size}
 use Rattle.cob_copybook.specs.Resolving.{count_at, inherited, is_numeric, kind_by_picture, times_of, resolved_by, resolved, is_number}
 use Rattle.cob_copybook.specs.Naming.{Bearer, is_named, named, with_name}
@@ -25,7 +25,7 @@ use Rattle.cob_layout_places.specs.declared.varying.Table.{Table}
 use Rattle.cob_layout_places.specs.Places.{is_table, or_else, choose}
 use Rattle.cob_layout_places.specs.Needs.{Has}
 use Rattle.cob_layout_places.proofs.NeedLaw.{low, high}
-use Rattle.cob_layout_places.specs.Counts.{table_of, tables_of, kind_in, kind_one, IsCountable}
+use Rattle.cob_layout_places.specs.Counts.{table_of, tables_of, kind_in, IsCountable}
 use Rattle.cob_layout.specs.Sound.{IsStorableKind, AreStorable, InTable, IsAhead}
 use Rattle.cob_layout.proofs.Lists.{all_append, all_kept, all_map, first_left, others_left, same, differs}
 use Rattle.cob_layout.proofs.Numbers.{numbered, same_entries}
@@ -251,14 +251,10 @@ all_counted counts f h s =
     let out = outside counts [] 0 None None f g (λ b l m is. is) in
     tables_counted all g counts 0 None None f shows out own.0
 
-or_none : (o : Option Kind) → or_else o None ≡ o
-or_none None = refl
-or_none (Some k) = refl
-
--- what stands in a record by itself stands in its tree
-pub countable : (t : Tree Resolved) (xs : List Table) → AllByRecursion (IsCountedIn (alone t)) xs → AllByRecursion (IsCountable t) xs
-countable t xs h = all_map (IsCountedIn (alone t)) (IsCountable t) xs (λ x c. record { item = c.item; is = sym (or_none (kind_one x.count t)) ∙ c.is; number = c.number; whole = c.whole }) h
+-- the count of each table of a record is an item without a fraction
+pub countable : (t : Forest Resolved) (xs : List Table) → AllByRecursion (IsCountedIn t) xs → AllByRecursion (IsCountable t) xs
+countable t xs h = all_map (IsCountedIn t) (IsCountable t) xs (λ x c. record { item = c.item; is = c.is; number = c.number; whole = c.whole }) h
 
 -- and its count stands ahead of it
-pub ahead : (t : Tree Resolved) (xs : List Table) → AllByRecursion (IsCountedIn (alone t)) xs → AllByRecursion (IsAhead (alone t)) xs
-ahead t xs h = all_map (IsCountedIn (alone t)) (IsAhead (alone t)) xs (λ x c. record { before = c.before; single = c.single }) h
+pub ahead : (t : Forest Resolved) (xs : List Table) → AllByRecursion (IsCountedIn t) xs → AllByRecursion (IsAhead t) xs
+ahead t xs h = all_map (IsCountedIn t) (IsAhead t) xs (λ x c. record { before = c.before; single = c.single }) h

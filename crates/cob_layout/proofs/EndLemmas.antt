@@ -4,8 +4,8 @@ use Rattle.std.specs.Prelude.{IfOk}
 use Rattle.std.proofs.lemmas.Bool.Decides.{nat_tests}
 use Rattle.cob_copybook.specs.Kind.{Kind}
 use Rattle.cob_copybook.specs.Kind.TheVariants.{Group, Item as ItemKind}
-use Rattle.cob_copybook.specs.Forests.{Forest, NoEntries, AnEntry, Tree, entries_in}
-use Rattle.cob_copybook.specs.Nodes.{Resolved, alone}
+use Rattle.cob_copybook.specs.Forests.{Forest, NoEntries, AnEntry, entries_in}
+use Rattle.cob_copybook.specs.Nodes.{Resolved}
 use Rattle.cob_copybook.specs.TreeLengths.{greatest_number, length_by_kind, own_length, element_length, whole_length, sum_of}
 use Rattle.cob_layout_places.specs.declared.places.Found.{Found}
 use Rattle.cob_layout_places.specs.Lengths.{area_by, times, AreLeaves, IsLeaf}
@@ -152,8 +152,8 @@ ends c r (AnEntry e children more) n at area space m subscripts p times num leav
 pub end_in_length : RecordsAreSound → EndInLength
 end_in_length sound t counts r subscripts found is refers at there =
     let s = sound t is in
-    let areas : AreInAreasBy (times counts) 0 (alone t) = areas_by counts (alone t) [] 0 s.areas tt in
-    ends (times counts) r (alone t) 0 0 0 0 (sum_of (times counts) (alone t)) subscripts found (counted counts) s.numbered s.fit.leaves areas refers (omega arith) (omega arith) at there
+    let areas : AreInAreasBy (times counts) 0 t = areas_by counts t [] 0 s.areas tt in
+    ends (times counts) r t 0 0 0 0 (sum_of (times counts) t) subscripts found (counted counts) s.numbered s.fit.leaves areas refers (omega arith) (omega arith) at there
 
 -- ---- the answer
 
@@ -162,12 +162,12 @@ answered true f m e h = rw e (h e)
 answered false f m e h = rw e tt
 
 -- a place that is answered ends within the length
-pub current : EndInLength → (t u : Tree Resolved) (counts cs : List ℕ) (r : ℕ) (subscripts ss : List ℕ) (found : Found) (result : Result Place PlaceFault) → IsRecordDescription (alone t) → t ≡ u
-    → Refers r subscripts (alone u) → cs ≡ counts → ss ≡ subscripts → place_of (times cs) r (alone t) 0 0 ss ≡ Some found → result ≡ placed found
-    → IfOk result (λ p. p.offset + p.length ≤ sum_of (times counts) (alone u))
+pub current : EndInLength → (t u : Forest Resolved) (counts cs : List ℕ) (r : ℕ) (subscripts ss : List ℕ) (found : Found) (result : Result Place PlaceFault) → IsRecordDescription t → t ≡ u
+    → Refers r subscripts u → cs ≡ counts → ss ≡ subscripts → place_of (times cs) r t 0 0 ss ≡ Some found → result ≡ placed found
+    → IfOk result (λ p. p.offset + p.length ≤ sum_of (times counts) u)
 current law t u counts cs r subscripts ss found result is same refers same_counts same_subscripts at answer =
-    let first = subst (λ (k : List ℕ). place_of (times k) r (alone t) 0 0 ss ≡ Some found) same_counts at in
-    let second = subst (λ (k : List ℕ). place_of (times counts) r (alone t) 0 0 k ≡ Some found) same_subscripts first in
-    let third = subst (λ (v : Tree Resolved). place_of (times counts) r (alone v) 0 0 subscripts ≡ Some found) same second in
-    let ends = law u counts r subscripts found (subst (λ (v : Tree Resolved). IsRecordDescription (alone v)) same is) refers third in
-    subst (λ (q : Result Place PlaceFault). IfOk q (λ p. p.offset + p.length ≤ sum_of (times counts) (alone u))) (sym answer) (answered found.within found (sum_of (times counts) (alone u)) refl ends)
+    let first = subst (λ (k : List ℕ). place_of (times k) r t 0 0 ss ≡ Some found) same_counts at in
+    let second = subst (λ (k : List ℕ). place_of (times counts) r t 0 0 k ≡ Some found) same_subscripts first in
+    let third = subst (λ (v : Forest Resolved). place_of (times counts) r v 0 0 subscripts ≡ Some found) same second in
+    let ends = law u counts r subscripts found (subst (λ (v : Forest Resolved). IsRecordDescription v) same is) refers third in
+    subst (λ (q : Result Place PlaceFault). IfOk q (λ p. p.offset + p.length ≤ sum_of (times counts) u)) (sym answer) (answered found.within found (sum_of (times counts) u) refl ends)

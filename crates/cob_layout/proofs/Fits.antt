@@ -1,15 +1,16 @@
 -- The lengths and areas of a record are as its places need them.
-use Rattle.std.proofs.Common.{◌≡◌, subst, ap, ℕ, ◌+◌, ◌≤◌, List, [], ◌∷◌, refl, arith}
+use Rattle.std.proofs.Common.{◌≡◌, subst, ℕ, ◌≤◌, List, [], ◌∷◌, refl, arith}
 use Rattle.std.specs.Prelude.{Option, Some, None}
 use Rattle.cob_copybook.specs.Kind.{Kind}
 use Rattle.cob_copybook.specs.Kind.TheVariants.{Group, Item as ItemKind}
 use Rattle.cob_copybook.specs.Forests.{Forest, NoEntries, AnEntry, Tree}
-use Rattle.cob_copybook.specs.Nodes.{Resolved, alone}
-use Rattle.cob_copybook.specs.TreeLengths.{greatest_number, own_length, sum_of, whole_length}
-use Rattle.cob_limits.specs.Limits.{longest_record}
+use Rattle.cob_copybook.specs.Nodes.{Resolved}
+use Rattle.cob_copybook.specs.TreeLengths.{greatest_number, whole_length}
 use Rattle.cob_copybook.specs.Areas as areas
 use Rattle.cob_copybook.specs.Areas.{AreAreas, MayFollow, MayHold, area_with}
 use Rattle.cob_layout_places.specs.Lengths.{area_by, MayOccur, AreInAreas, IsLeaf, AreLeaves}
+use Rattle.cob_layout.specs.Sound.{RedefinesNothing}
+use Rattle.cob_copybook.proofs.Ones.{IsOne}
 
 -- each entry occurs once at least under greatest counts
 pub may_occur : (f : Forest Resolved) → areas.ArePossible f → MayOccur f
@@ -54,12 +55,12 @@ in_areas area (AnEntry e children more) h =
     (here, below, subst (λ (n : ℕ). AreInAreas n more) (same_area e.redefines area t h.0) beside)
 
 -- nothing stands before a record that it could redefine
-pub redefines_none : (r : Option (List ℕ)) (t : Tree Resolved) → MayFollow r [] t → r ≡ None
+redefines_none : (r : Option (List ℕ)) (t : Tree Resolved) → MayFollow r [] t → r ≡ None
 redefines_none None t h = refl
 redefines_none (Some name) t h = absurd h.0
 
--- a record that redefines nothing is as long as it takes room
-pub record_small : (t : Tree Resolved) → t.top.redefines ≡ None → sum_of greatest_number (alone t) ≤ longest_record → 0 + whole_length greatest_number t.top t.beneath ≤ 32752
-record_small t first short =
-    let e : own_length t.top.redefines (whole_length greatest_number t.top t.beneath) ≡ whole_length greatest_number t.top t.beneath = ap (λ (r : Option (List ℕ)). own_length r (whole_length greatest_number t.top t.beneath)) first in
-    omega (arith, e, short)
+-- so the one entry that there is redefines nothing
+pub redefines_nothing : (f : Forest Resolved) → IsOne f → AreAreas [] f → RedefinesNothing f
+redefines_nothing NoEntries one h = absurd one
+redefines_nothing (AnEntry e children NoEntries) one h = redefines_none e.redefines (record { top = e; beneath = children }) h.0
+redefines_nothing (AnEntry e children (AnEntry d kids more)) one h = absurd one

@@ -5,8 +5,8 @@ use Rattle.std.proofs.Math.Seq.{set-append_seam, get_or-append_seam}
 use Rattle.std.proofs.lemmas.List.{append-nil, append_assoc, length-append, replicate-append-replicate}
 use Rattle.cob_copybook.specs.ResolvedOccurs.{ResolvedOccurs}
 use Rattle.cob_copybook.specs.ResolvedOccurs.TheVariants.{Once, Fixed, Varying}
-use Rattle.cob_copybook.specs.Forests.{Forest, NoEntries, AnEntry, Tree, entries_in}
-use Rattle.cob_copybook.specs.Nodes.{Resolved, alone}
+use Rattle.cob_copybook.specs.Forests.{Forest, NoEntries, AnEntry, entries_in}
+use Rattle.cob_copybook.specs.Nodes.{Resolved}
 use Rattle.cob_copybook.specs.TreeLengths.{greatest_number, greatest_number_by, own_length, length_by_kind, sum_of}
 use Rattle.cob_layout_places.specs.declared.varying.Table.{Table}
 use Rattle.cob_layout_places.specs.Lengths.{times, times_by}
@@ -67,15 +67,15 @@ filled (AnEntry e children more) front back n l h =
     ∙ ap (λ (c : List ℕ). front ++ v ∷ c) (sym (append_assoc (in_order children) (in_order more) back))
 
 -- the greatest counts of a record are those of its entries in their order
-pub greatest_is : (t : Tree Resolved) → AreNumbered 0 (alone t) → greatest_counts t ≡ in_order (alone t)
+pub greatest_is : (t : Forest Resolved) → AreNumbered 0 t → greatest_counts t ≡ in_order t
 greatest_is t h =
-    ap (greatest (tables_of (alone t))) (sym (append-nil (replicate (entries_in (alone t)) 0)))
-    ∙ filled (alone t) [] [] 0 refl h
-    ∙ append-nil (in_order (alone t))
+    ap (greatest (tables_of t)) (sym (append-nil (replicate (entries_in t) 0)))
+    ∙ filled t [] [] 0 refl h
+    ∙ append-nil (in_order t)
 
 -- there is one for each entry
-pub greatest_length : (t : Tree Resolved) → AreNumbered 0 (alone t) → length (greatest_counts t) ≡ entries_in (alone t)
-greatest_length t h = ap length (greatest_is t h) ∙ length_in_order (alone t)
+pub greatest_length : (t : Forest Resolved) → AreNumbered 0 t → length (greatest_counts t) ≡ entries_in t
+greatest_length t h = ap length (greatest_is t h) ∙ length_in_order t
 
 -- ---- each table has a place among them
 
@@ -154,11 +154,11 @@ find_most c number (AnEntry e children more) at area subscripts h =
     (also (is_there table (k j) subscripts) (find_most c number children (start + skip * length_by_kind e.kind (b j)) (start + skip * length_by_kind e.kind (b j)) (later table subscripts) h.1 j)))
     (find_most c number more (at + own_length e.redefines (k j * length_by_kind e.kind (b j))) start subscripts h.2 j)
 
-pub are_greatest : (t : Tree Resolved) (counts : List ℕ) → AreNumbered 0 (alone t) → counts ≡ greatest_counts t → AreGreatest t counts
+pub are_greatest : (t : Forest Resolved) (counts : List ℕ) → AreNumbered 0 t → counts ≡ greatest_counts t → AreGreatest t counts
 are_greatest t counts h e =
-    let is : in_order (alone t) ++ [] ≡ counts = append-nil (in_order (alone t)) ∙ sym (greatest_is t h) ∙ sym e in
-    let all = subst (λ (c : List ℕ). AreMost (times c) (alone t)) is (all_most (alone t) [] [] 0 refl h) in
+    let is : in_order t ++ [] ≡ counts = append-nil (in_order t) ∙ sym (greatest_is t h) ∙ sym e in
+    let all = subst (λ (c : List ℕ). AreMost (times c) t) is (all_most t [] [] 0 refl h) in
     record {
-      length = sum_most (times counts) (alone t) all;
-      places = λ number subscripts. find_most (times counts) number (alone t) 0 0 subscripts all;
+      length = sum_most (times counts) t all;
+      places = λ number subscripts. find_most (times counts) number t 0 0 subscripts all;
     }

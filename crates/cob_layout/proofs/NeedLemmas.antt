@@ -7,15 +7,15 @@ use Rattle.std.proofs.lemmas.Bool.Decides.{nat_tests}
 use Rattle.cob_copybook.specs.Item.{Item}
 use Rattle.cob_copybook.specs.Kind.{Kind}
 use Rattle.cob_copybook.specs.Kind.TheVariants.{Item as ItemKind}
-use Rattle.cob_copybook.specs.Forests.{Forest, NoEntries, AnEntry, Tree, entries_in}
-use Rattle.cob_copybook.specs.Nodes.{Resolved, alone}
+use Rattle.cob_copybook.specs.Forests.{Forest, NoEntries, AnEntry, entries_in}
+use Rattle.cob_copybook.specs.Nodes.{Resolved}
 use Rattle.cob_layout.specs.Sound.{InTable, IsAhead, IsSound, RecordsAreSound}
 use Rattle.cob_layout_places.specs.declared.counts.CountFault.{CountFault}
 use Rattle.cob_layout_places.specs.declared.varying.Table.{Table}
 use Rattle.cob_layout_places.specs.Lengths.{times, AreLeaves, IsLeaf}
 use Rattle.cob_layout_places.specs.Places.{place_of, choose, or_else}
 use Rattle.cob_layout_places.specs.Cover.{AreNumbered}
-use Rattle.cob_layout_places.specs.Counts.{kind_in, kind_one, tables_of, IsCountable, IsCounted, Taken}
+use Rattle.cob_layout_places.specs.Counts.{kind_in, tables_of, IsCountable, IsCounted, Taken}
 use Rattle.cob_layout_places.specs.Needs.{greatest, Has, Holds, ShareTable, Needs, number_behind, is_read, needed_tables, NeedsAreRead}
 use Rattle.cob_layout_places.specs.Agree.{SameCounts, OnePlace}
 use Rattle.cob_layout_places.proofs.NeedLaw.{low, high, has_number, below_needed}
@@ -23,7 +23,7 @@ use Rattle.cob_layout.specs.Counting.{greatest_counts, AreThose, IsRead, IsSpare
 use Rattle.cob_layout_places.specs.References.{Refers}
 use Rattle.cob_layout.specs.Laws.{AllGiveNeeded, OneOfNeeded, OnePlaceByNeeds}
 use Rattle.cob_layout.proofs.GreatestLemmas.{greatest_length}
-use Rattle.cob_layout.proofs.ReferenceLemmas.{find_alone, refers_has}
+use Rattle.cob_layout.proofs.ReferenceLemmas.{refers_has}
 use Rattle.cob_layout.proofs.ThoseLemmas.{IsIn, of_all, same_those, those_in, in_those, decided, kept_those, Rise, rise_all, rise_those, rise_low, rise_high, one_number}
 
 -- ---- lists of counts
@@ -63,7 +63,7 @@ both_index c d i k v lt long agree = elim (same_or_not k i) [
 ]
 
 -- counts that are taken into others leave those of other tables
-pub untouched : (t : Tree Resolved) (bytes : List ℕ) (xs : List Table) (c d : List ℕ) (k : ℕ) → ((x : Table) → IsIn x xs → x.number ≡ k → ⊥) → Taken t bytes xs c (Ok d) → slice_index d k ≡ slice_index c k
+pub untouched : (t : Forest Resolved) (bytes : List ℕ) (xs : List Table) (c d : List ℕ) (k : ℕ) → ((x : Table) → IsIn x xs → x.number ≡ k → ⊥) → Taken t bytes xs c (Ok d) → slice_index d k ≡ slice_index c k
 untouched t bytes [] c d k other taken = ap (λ (e : List ℕ). slice_index e k) (same_ok d c taken)
 untouched t bytes (x ∷ xs) c d k other (inl taken) =
     untouched t bytes xs (slice_set c x.number taken.0) d k (λ y i. other y (inr i)) taken.2
@@ -71,7 +71,7 @@ untouched t bytes (x ∷ xs) c d k other (inl taken) =
 untouched t bytes (x ∷ xs) c d k other (inr taken) = absurd (no_fault d taken.0 taken.2)
 
 -- there are as many
-pub as_long : (t : Tree Resolved) (bytes : List ℕ) (xs : List Table) (c d : List ℕ) → Taken t bytes xs c (Ok d) → length d ≡ length c
+pub as_long : (t : Forest Resolved) (bytes : List ℕ) (xs : List Table) (c d : List ℕ) → Taken t bytes xs c (Ok d) → length d ≡ length c
 as_long t bytes [] c d taken = ap length (same_ok d c taken)
 as_long t bytes (x ∷ xs) c d (inl taken) = as_long t bytes xs (slice_set c x.number taken.0) d taken.2 ∙ length-set c x.number taken.0
 as_long t bytes (x ∷ xs) c d (inr taken) = absurd (no_fault d taken.0 taken.2)
@@ -93,10 +93,6 @@ greatest_own n m (x ∷ xs) c z rise long (inr i) =
     greatest_own (x.number + 1) m xs (slice_set c x.number x.most) z rise.1 (omega (arith, long, length-set c x.number x.most)) i
 
 -- ---- the count of a table
-
-or_none : (o : Option Kind) → or_else o None ≡ o
-or_none None = refl
-or_none (Some k) = refl
 
 some_is : (a b : Kind) → Some a ≡ Some b → a ≡ b
 some_is a b e = cc
@@ -219,35 +215,35 @@ item_bare n a b i (AnEntry e children more) num l is (inr (inr h)) =
     ]
 
 -- what is known of the count of a table of a record
-pub record Known (t : Tree Resolved) (x : Table) : Type 0 where
-  pub has : Has x.count (alone t)
+pub record Known (t : Forest Resolved) (x : Table) : Type 0 where
+  pub has : Has x.count t
   pub before : x.count < x.number
-  pub earlier : (y : ℕ) → Needs x.count y (alone t) → y ≤ x.count
+  pub earlier : (y : ℕ) → Needs x.count y t → y ≤ x.count
 
-pub known : (t : Tree Resolved) (x : Table) → IsSound t → IsIn x (tables_of (alone t)) → Known t x
+pub known : (t : Forest Resolved) (x : Table) → IsSound t → IsIn x (tables_of t) → Known t x
 known t x s i =
-    let countable = of_all (IsCountable t) (tables_of (alone t)) x s.countable i in
-    let ahead = of_all (IsAhead (alone t)) (tables_of (alone t)) x s.ahead i in
-    let is : kind_in x.count (alone t) ≡ Some (ItemKind countable.item) = or_none (kind_one x.count t) ∙ countable.is in
-    record { has = kind_has x.count (ItemKind countable.item) (alone t) is; before = ahead.before; earlier = λ y needs. by y (countable.item) is ahead.single needs }
+    let countable = of_all (IsCountable t) (tables_of t) x s.countable i in
+    let ahead = of_all (IsAhead t) (tables_of t) x s.ahead i in
+    let is : kind_in x.count t ≡ Some (ItemKind countable.item) = countable.is in
+    record { has = kind_has x.count (ItemKind countable.item) t is; before = ahead.before; earlier = λ y needs. by y (countable.item) is ahead.single needs }
   where
-    by : (y : ℕ) (item : Item) → kind_in x.count (alone t) ≡ Some (ItemKind item) → (InTable x.count (alone t) → ⊥) → Needs x.count y (alone t) → y ≤ x.count
+    by : (y : ℕ) (item : Item) → kind_in x.count t ≡ Some (ItemKind item) → (InTable x.count t → ⊥) → Needs x.count y t → y ≤ x.count
     by y item is single (inl n) = omega (arith, n)
     by y item is single (inr (inl n)) = omega (arith, n)
-    by y item is single (inr (inr (inl n))) = omega (arith, holds_behind 0 y x.count (alone t) s.numbered n)
-    by y item is single (inr (inr (inr (inl n)))) = absurd (item_bare 0 x.count y item (alone t) s.numbered s.fit.leaves is n)
-    by y item is single (inr (inr (inr (inr n)))) = absurd (single (share_in x.count y (alone t) n))
+    by y item is single (inr (inr (inl n))) = omega (arith, holds_behind 0 y x.count t s.numbered n)
+    by y item is single (inr (inr (inr (inl n)))) = absurd (item_bare 0 x.count y item t s.numbered s.fit.leaves is n)
+    by y item is single (inr (inr (inr (inr n)))) = absurd (single (share_in x.count y t n))
 
 -- counts that agree on what the place of a table's count needs give the table one count
-same_count : OnePlace → (t : Tree Resolved) (bytes : List ℕ) (x : Table) (c d : List ℕ) (r : Result ℕ CountFault) → AreNumbered 0 (alone t) → Has x.count (alone t)
-    → ((y : ℕ) → Has y (alone t) → Needs x.count y (alone t) → slice_index c y ≡ slice_index d y) → IsCounted t bytes x c r → IsCounted t bytes x d r
+same_count : OnePlace → (t : Forest Resolved) (bytes : List ℕ) (x : Table) (c d : List ℕ) (r : Result ℕ CountFault) → AreNumbered 0 t → Has x.count t
+    → ((y : ℕ) → Has y t → Needs x.count y t → slice_index c y ≡ slice_index d y) → IsCounted t bytes x c r → IsCounted t bytes x d r
 same_count place t bytes x c d r numbered has agree h =
-    let one = place c d (alone t) x.count [] numbered has agree in
+    let one = place c d t x.count [] numbered has agree in
     record {
       item = h.item;
       is = h.is;
       found = h.found;
-      stands = sym (find_alone (times d) x.count t []) ∙ sym one ∙ find_alone (times c) x.count t [] ∙ h.stands;
+      stands = sym one ∙ h.stands;
       says = h.says;
     }
 
@@ -255,18 +251,18 @@ same_count place t bytes x c d r numbered has agree h =
 
 -- What is known of a table, where the tables that are so are read, and the counts of entries below m that are kept are to agree: the place of
 -- its count needs only such entries, where it is read, and where it isn't, it is no such entry.
-record Settled (t : Tree Resolved) (P : Table → Type 0) (kept : ℕ → Type 0) (m : ℕ) (x : Table) : Type 0 where
-  has : Has x.count (alone t)
-  reads : P x → (y : ℕ) → Needs x.count y (alone t) → (y < m) × kept y
+record Settled (t : Forest Resolved) (P : Table → Type 0) (kept : ℕ → Type 0) (m : ℕ) (x : Table) : Type 0 where
+  has : Has x.count t
+  reads : P x → (y : ℕ) → Needs x.count y t → (y < m) × kept y
   skips : (P x → ⊥) → x.number < m → kept x.number → ⊥
 
 -- those counts, and that they agree with all
-record Chosen (t : Tree Resolved) (bytes : List ℕ) (ys : List Table) (g c : List ℕ) (kept : ℕ → Type 0) (m : ℕ) : Type 0 where
+record Chosen (t : Forest Resolved) (bytes : List ℕ) (ys : List Table) (g c : List ℕ) (kept : ℕ → Type 0) (m : ℕ) : Type 0 where
   counts : List ℕ
   taken : Taken t bytes ys g (Ok counts)
   agree : (k : ℕ) → k < m → kept k → slice_index c k ≡ slice_index counts k
 
-chosen : OnePlace → (t : Tree Resolved) (bytes : List ℕ) (P : Table → Type 0) (kept : ℕ → Type 0) (m : ℕ) (xs ys : List Table) (f g c : List ℕ) → AreNumbered 0 (alone t)
+chosen : OnePlace → (t : Forest Resolved) (bytes : List ℕ) (P : Table → Type 0) (kept : ℕ → Type 0) (m : ℕ) (xs ys : List Table) (f g c : List ℕ) → AreNumbered 0 t
     → ((x : Table) → IsIn x xs → Settled t P kept m x) → ((x : Table) → IsIn x xs → x.number < length f) → length f ≡ length g
     → ((k : ℕ) → k < m → kept k → slice_index f k ≡ slice_index g k) → AreThose P xs ys → Taken t bytes xs f (Ok c) → Chosen t bytes ys g c kept m
 chosen place t bytes P kept m [] ys f g c numbered known room long agree those taken = record {
@@ -307,29 +303,29 @@ and_true false = refl
 not_receiving : false ≡ true → ⊥
 not_receiving e = cc
 
-needs_below : NeedsAreRead → (t : Tree Resolved) (r x : ℕ) → AreNumbered 0 (alone t) → Has r (alone t) → Has x (alone t) → Needs r x (alone t) → x < number_behind true r (alone t)
+needs_below : NeedsAreRead → (t : Forest Resolved) (r x : ℕ) → AreNumbered 0 t → Has r t → Has x t → Needs r x t → x < number_behind true r t
 needs_below read t r x numbered has there needs =
     let y : Table = record { number = x; least = 0; most = 0; count = x } in
     let is = (read t r false y numbered has there there).1 (needs, λ e spared. not_receiving e) in
-    less_must x (number_behind true r (alone t)) (sym (and_true (nat_lt x (number_behind true r (alone t)))) ∙ is)
+    less_must x (number_behind true r t) (sym (and_true (nat_lt x (number_behind true r t))) ∙ is)
 
-pub table_has : (t : Tree Resolved) (x : Table) → AreNumbered 0 (alone t) → IsIn x (tables_of (alone t)) → Has x.number (alone t)
+pub table_has : (t : Forest Resolved) (x : Table) → AreNumbered 0 t → IsIn x (tables_of t) → Has x.number t
 table_has t x numbered i =
-    let rise = rise_all (alone t) 0 (0 + entries_in (alone t)) numbered refl in
-    has_number 0 x.number (alone t) numbered (omega arith) (rise_high 0 (0 + entries_in (alone t)) (tables_of (alone t)) x rise i)
+    let rise = rise_all t 0 (0 + entries_in t) numbered refl in
+    has_number 0 x.number t numbered (omega arith) (rise_high 0 (0 + entries_in t) (tables_of t) x rise i)
 
 -- the tables that the call reads are those whose counts a reference reads
-pub those_needed : NeedsAreRead → (t : Tree Resolved) (r : ℕ) (receiving : Bool) → IsSound t → Has r (alone t) → AreThose (IsRead t r receiving) (tables_of (alone t)) (needed_tables t r receiving (tables_of (alone t)))
+pub those_needed : NeedsAreRead → (t : Forest Resolved) (r : ℕ) (receiving : Bool) → IsSound t → Has r t → AreThose (IsRead t r receiving) (tables_of t) (needed_tables t r receiving (tables_of t))
 those_needed read t r receiving s has =
-    kept_those (IsRead t r receiving) (is_read t r receiving) (tables_of (alone t)) (λ x i.
+    kept_those (IsRead t r receiving) (is_read t r receiving) (tables_of t) (λ x i.
     let both = read t r receiving x s.numbered has (table_has t x s.numbered i) (known t x s i).has in
     ((λ e. let n = both.0 e in (n.0, λ spared. n.1 spared.0 spared.1)), (λ n. both.1 (n.0, λ v spared. n.1 (v, spared)))))
 
-needed_of : NeedsAreRead → (t u : Tree Resolved) (r : ℕ) (receiving : Bool) (bytes subscripts : List ℕ) (result : Result (List ℕ) CountFault) → IsSound t → t ≡ u → Refers r subscripts (alone u)
-    → Taken u bytes (needed_tables u r receiving (tables_of (alone u))) (greatest_counts u) result → NeededOf u r receiving bytes result
+needed_of : NeedsAreRead → (t u : Forest Resolved) (r : ℕ) (receiving : Bool) (bytes subscripts : List ℕ) (result : Result (List ℕ) CountFault) → IsSound t → t ≡ u → Refers r subscripts u
+    → Taken u bytes (needed_tables u r receiving (tables_of u)) (greatest_counts u) result → NeededOf u r receiving bytes result
 needed_of read t u r receiving bytes subscripts result s same refers taken =
     let sound : IsSound u = subst IsSound same s in
-    (needed_tables u r receiving (tables_of (alone u)), those_needed read u r receiving sound (refers_has r subscripts (alone u) refers), taken)
+    (needed_tables u r receiving (tables_of u), those_needed read u r receiving sound (refers_has r subscripts u refers), taken)
 
 front : (xs ys : List ℕ) → take (length xs) (xs ++ ys) ≡ xs
 front [] ys = refl
@@ -345,18 +341,18 @@ zeros_are xs k n is long =
     is ∙ ap (λ (m : ℕ). replicate m 0) same
 
 -- what the call takes of its own tables, from zeros on
-pub needed_at : NeedsAreRead → (t u : Tree Resolved) (r : ℕ) (receiving : Bool) (bytes subscripts : List ℕ) (xs : List Table) (zeros counts made : List ℕ) → IsSound t → t ≡ u → Refers r subscripts (alone u)
-    → xs ≡ tables_of (alone t) → zeros ≡ replicate (entries_in (alone t)) 0 → made ≡ counts
+pub needed_at : NeedsAreRead → (t u : Forest Resolved) (r : ℕ) (receiving : Bool) (bytes subscripts : List ℕ) (xs : List Table) (zeros counts made : List ℕ) → IsSound t → t ≡ u → Refers r subscripts u
+    → xs ≡ tables_of t → zeros ≡ replicate (entries_in t) 0 → made ≡ counts
     → Taken t bytes (needed_tables t r receiving xs) (greatest xs zeros) (Ok counts) → NeededOf u r receiving bytes (Ok made)
 needed_at read t u r receiving bytes subscripts xs zeros counts made s same refers all none is taken =
     let first = subst (λ (ys : List Table). Taken t bytes (needed_tables t r receiving ys) (greatest ys zeros) (Ok counts)) all taken in
-    let second = subst (λ (zs : List ℕ). Taken t bytes (needed_tables t r receiving (tables_of (alone t))) (greatest (tables_of (alone t)) zs) (Ok counts)) none first in
-    let third = subst (λ (ds : List ℕ). Taken t bytes (needed_tables t r receiving (tables_of (alone t))) (greatest_counts t) (Ok ds)) (sym is) second in
-    let last = subst (λ (v : Tree Resolved). Taken v bytes (needed_tables v r receiving (tables_of (alone v))) (greatest_counts v) (Ok made)) same third in
+    let second = subst (λ (zs : List ℕ). Taken t bytes (needed_tables t r receiving (tables_of t)) (greatest (tables_of t) zs) (Ok counts)) none first in
+    let third = subst (λ (ds : List ℕ). Taken t bytes (needed_tables t r receiving (tables_of t)) (greatest_counts t) (Ok ds)) (sym is) second in
+    let last = subst (λ (v : Forest Resolved). Taken v bytes (needed_tables v r receiving (tables_of v)) (greatest_counts v) (Ok made)) same third in
     needed_of read t u r receiving bytes subscripts (Ok made) s same refers last
 
-pub needed_err : {A : Type 0} → NeedsAreRead → (t u : Tree Resolved) (r : ℕ) (receiving : Bool) (bytes subscripts : List ℕ) (result : Result A CountFault) → IsSound t → t ≡ u → Refers r subscripts (alone u)
-    → IfErr result (λ e. Taken u bytes (needed_tables u r receiving (tables_of (alone u))) (greatest_counts u) (Err e)) → IfErr result (λ e. NeededOf u r receiving bytes (Err e))
+pub needed_err : {A : Type 0} → NeedsAreRead → (t u : Forest Resolved) (r : ℕ) (receiving : Bool) (bytes subscripts : List ℕ) (result : Result A CountFault) → IsSound t → t ≡ u → Refers r subscripts u
+    → IfErr result (λ e. Taken u bytes (needed_tables u r receiving (tables_of u)) (greatest_counts u) (Err e)) → IfErr result (λ e. NeededOf u r receiving bytes (Err e))
 needed_err read t u r receiving bytes subscripts (Ok a) s same refers taken = tt
 needed_err read t u r receiving bytes subscripts (Err e) s same refers taken = needed_of read t u r receiving bytes subscripts (Err e) s same refers taken
 
@@ -380,8 +376,8 @@ sought k (x ∷ xs) = elim (same_or_not x.number k) [
     by z (inl same) e free other = other (ap (λ (y : Table). y.number) (sym same) ∙ e)
     by z (inr i) e free other = free z i e
 
-settled : NeedsAreRead → (t : Tree Resolved) (r : ℕ) (receiving : Bool) (spared : List Table) (x : Table) → IsSound t → Has r (alone t)
-    → AreThose (IsSparedOf t r receiving) (tables_of (alone t)) spared → IsIn x (tables_of (alone t)) → Settled t (IsRead t r receiving) (IsFree spared) (number_behind true r (alone t)) x
+settled : NeedsAreRead → (t : Forest Resolved) (r : ℕ) (receiving : Bool) (spared : List Table) (x : Table) → IsSound t → Has r t
+    → AreThose (IsSparedOf t r receiving) (tables_of t) spared → IsIn x (tables_of t) → Settled t (IsRead t r receiving) (IsFree spared) (number_behind true r t) x
 settled read t r receiving spared x s has those i =
     let k = known t x s i in
     let there = table_has t x s.numbered i in
@@ -392,8 +388,8 @@ settled read t r receiving spared x s has those i =
           let below = needs_below read t r x.number s.numbered has there is.0 in (
             omega (arith, le, k.before, below),
             λ z in_spared same.
-                let z_is = those_in (IsSparedOf t r receiving) (tables_of (alone t)) spared z those in_spared in
-                let behind = holds_behind 0 r z.number (alone t) s.numbered z_is.1.1.table in
+                let z_is = those_in (IsSparedOf t r receiving) (tables_of t) spared z those in_spared in
+                let behind = holds_behind 0 r z.number t s.numbered z_is.1.1.table in
                 is.1 (
                   z_is.1.0,
                   record {
@@ -403,16 +399,16 @@ settled read t r receiving spared x s has those i =
                   },
                 ),
           );
-      skips = λ not_read lt free. elim (decided (IsSparedOf t r receiving) (tables_of (alone t)) spared x those i) [
-        | inl is ↦ free x (in_those (IsSparedOf t r receiving) (tables_of (alone t)) spared x those i is) refl
-        | inr unspared ↦ not_read (below_needed r x.number (alone t) s.numbered has there lt, unspared)
+      skips = λ not_read lt free. elim (decided (IsSparedOf t r receiving) (tables_of t) spared x those i) [
+        | inl is ↦ free x (in_those (IsSparedOf t r receiving) (tables_of t) spared x those i is) refl
+        | inr unspared ↦ not_read (below_needed r x.number t s.numbered has there lt, unspared)
       ];
     }
 
 pub all_give_needed : RecordsAreSound → NeedsAreRead → OnePlace → AllGiveNeeded
 all_give_needed sound read place t bytes c r receiving subscripts spared is refers all those =
     let s = sound t is in
-    let f = alone t in
+    let f = t in
     let xs = tables_of f in
     let g = greatest_counts t in
     let has = refers_has r subscripts f refers in
@@ -444,8 +440,8 @@ pub one_place_by_needs : AllGiveNeeded → OneOfNeeded → SameCounts → OnePla
 one_place_by_needs give one same t a b c d r receiving subscripts read spared is refers as_long those_read those_spared agree all some =
     let (counts, (ys, those_ys, taken), place) = give t a c r receiving subscripts spared is refers all those_spared in
     let g = greatest_counts t in
-    let lists : ys ≡ read = same_those (IsRead t r receiving) (tables_of (alone t)) ys read those_ys those_read in
+    let lists : ys ≡ read = same_those (IsRead t r receiving) (tables_of t) ys read those_ys those_read in
     let here : Taken t a read g (Ok counts) = subst (λ (zs : List Table). Taken t a zs g (Ok counts)) lists taken in
     let there : Taken t b read g (Ok counts) = same t a b read g (Ok counts) as_long agree here in
     let e : counts ≡ d = same_ok counts d (one t r receiving b (Ok counts) (Ok d) (read, those_read, there) some) in
-    sym place ∙ ap (λ (k : List ℕ). place_of (times k) r (alone t) 0 0 subscripts) e
+    sym place ∙ ap (λ (k : List ℕ). place_of (times k) r t 0 0 subscripts) e

@@ -4,8 +4,8 @@ use Rattle.std.specs.Prelude.{not}
 use Rattle.std.specs.List.{slice_get}
 use Rattle.std.proofs.lemmas.List.{length-map}
 use Rattle.std.proofs.lemmas.Bool.Decides.{nat_tests}
-use Rattle.cob_copybook.specs.Forests.{Tree, entries_in}
-use Rattle.cob_copybook.specs.Nodes.{Resolved, alone}
+use Rattle.cob_copybook.specs.Forests.{Forest, entries_in}
+use Rattle.cob_copybook.specs.Nodes.{Resolved}
 use Rattle.cob_layout.specs.Sound.{IsSound}
 use Rattle.cob_layout_places.specs.declared.varying.Table.{Table}
 use Rattle.cob_layout_places.specs.Counts.{tables_of}
@@ -50,67 +50,67 @@ keep_none (x ∷ xs) n m behind r last rise le =
     keep_no (is_needed behind last r) x xs fails ∙ keep_none xs (x.number + 1) m behind r last rise.1 (omega (arith, le, rise.0))
 
 -- what is known of a record's ways
-pub record Known (t : Tree Resolved) (ways : List Way) (tables : List Table) (r : ℕ) : Type 0 where
+pub record Known (t : Forest Resolved) (ways : List Way) (tables : List Table) (r : ℕ) : Type 0 where
   pub sound : IsSound t
-  pub ways_are : map held ways ≡ held_in [] (alone t)
-  pub tables_are : tables ≡ tables_of (alone t)
-  pub has : Has r (alone t)
+  pub ways_are : map held ways ≡ held_in [] t
+  pub tables_are : tables ≡ tables_of t
+  pub has : Has r t
 
 -- the reach of the entry ends with the record's
-last_is : (t : Tree Resolved) (ways : List Way) (tables : List Table) (r : ℕ) (receiving : Bool) → Known t ways tables r
-    → (receiving && ((held_at (map held ways) r).end == length ways)) ≡ (receiving && (number_behind false r (alone t) == 1 + entries_in t.beneath))
+last_is : (t : Forest Resolved) (ways : List Way) (tables : List Table) (r : ℕ) (receiving : Bool) → Known t ways tables r
+    → (receiving && ((held_at (map held ways) r).end == length ways)) ≡ (receiving && (number_behind false r t == entries_in t))
 last_is t ways tables r receiving k =
-    let long : length ways ≡ 1 + entries_in t.beneath = sym (length-map ways held) ∙ ap length k.ways_are ∙ length_held [] (alone t) ∙ omega arith in
+    let long : length ways ≡ entries_in t = sym (length-map ways held) ∙ ap length k.ways_are ∙ length_held [] t in
     ap (λ (n : ℕ). receiving && (n == length ways)) (sym (reach_end t (map held ways) r k.sound.numbered k.ways_are k.has))
-    ∙ ap (λ (n : ℕ). receiving && (number_behind false r (alone t) == n)) long
+    ∙ ap (λ (n : ℕ). receiving && (number_behind false r t == n)) long
 
 -- those that the test keeps are those that the reference reads
-pub those_read : NeedsAreRead → (t : Tree Resolved) (ways : List Way) (tables : List Table) (r behind : ℕ) (receiving last : Bool) → Known t ways tables r → behind ≡ end_of_table (map held ways) r
+pub those_read : NeedsAreRead → (t : Forest Resolved) (ways : List Way) (tables : List Table) (r behind : ℕ) (receiving last : Bool) → Known t ways tables r → behind ≡ end_of_table (map held ways) r
     → last ≡ (receiving && ((held_at (map held ways) r).end == length ways))
-    → AreThose (IsRead t r receiving) (tables_of (alone t)) (keep (is_needed behind last r) tables)
+    → AreThose (IsRead t r receiving) (tables_of t) (keep (is_needed behind last r) tables)
 those_read read t ways tables r behind receiving last k b l =
-    let reached : behind ≡ number_behind true r (alone t) = b ∙ sym (reach_table_end t (map held ways) r k.sound.numbered k.ways_are k.has) in
-    let same : keep (is_needed behind last r) tables ≡ needed_tables t r receiving (tables_of (alone t)) =
+    let reached : behind ≡ number_behind true r t = b ∙ sym (reach_table_end t (map held ways) r k.sound.numbered k.ways_are k.has) in
+    let same : keep (is_needed behind last r) tables ≡ needed_tables t r receiving (tables_of t) =
     ap (λ (xs : List Table). keep (is_needed behind last r) xs) k.tables_are
-    ∙ needed_is t r receiving (tables_of (alone t)) behind (1 + entries_in t.beneath) last reached (l ∙ last_is t ways tables r receiving k) refl in
-    subst (AreThose (IsRead t r receiving) (tables_of (alone t))) (sym same) (those_needed read t r receiving k.sound k.has)
+    ∙ needed_is t r receiving (tables_of t) behind (entries_in t) last reached (l ∙ last_is t ways tables r receiving k) refl in
+    subst (AreThose (IsRead t r receiving) (tables_of t)) (sym same) (those_needed read t r receiving k.sound k.has)
 
 -- where the first table isn't below the reach, it reads none
-pub reads_below : NeedsAreRead → (t : Tree Resolved) (ways : List Way) (tables : List Table) (r behind : ℕ) (receiving : Bool) → Known t ways tables r → behind ≡ end_of_table (map held ways) r
+pub reads_below : NeedsAreRead → (t : Forest Resolved) (ways : List Way) (tables : List Table) (r behind : ℕ) (receiving : Bool) → Known t ways tables r → behind ≡ end_of_table (map held ways) r
     → ((x : Table) (xs : List Table) → tables ≡ x ∷ xs → behind ≤ x.number) → ReadsNone t r receiving
 reads_below read t ways tables r behind receiving k b below =
     let last = receiving && ((held_at (map held ways) r).end == length ways) in
-    let rise = rise_all (alone t) 0 (0 + entries_in (alone t)) k.sound.numbered refl in
-    let none : keep (is_needed behind last r) tables ≡ [] = by tables (subst (Rise 0 (0 + entries_in (alone t))) (sym k.tables_are) rise) below in
-    subst (AreThose (IsRead t r receiving) (tables_of (alone t))) none (those_read read t ways tables r behind receiving last k b refl)
+    let rise = rise_all t 0 (0 + entries_in t) k.sound.numbered refl in
+    let none : keep (is_needed behind last r) tables ≡ [] = by tables (subst (Rise 0 (0 + entries_in t)) (sym k.tables_are) rise) below in
+    subst (AreThose (IsRead t r receiving) (tables_of t)) none (those_read read t ways tables r behind receiving last k b refl)
   where
-    by : (xs : List Table) → Rise 0 (0 + entries_in (alone t)) xs → ((x : Table) (ys : List Table) → xs ≡ x ∷ ys → behind ≤ x.number)
+    by : (xs : List Table) → Rise 0 (0 + entries_in t) xs → ((x : Table) (ys : List Table) → xs ≡ x ∷ ys → behind ≤ x.number)
         → keep (is_needed behind (receiving && ((held_at (map held ways) r).end == length ways)) r) xs ≡ []
     by [] rise below = refl
-    by (x ∷ xs) rise below = keep_none (x ∷ xs) x.number (0 + entries_in (alone t)) behind r (receiving && ((held_at (map held ways) r).end == length ways)) (omega arith, rise.1) (below x xs refl)
+    by (x ∷ xs) rise below = keep_none (x ∷ xs) x.number (0 + entries_in t) behind r (receiving && ((held_at (map held ways) r).end == length ways)) (omega arith, rise.1) (below x xs refl)
 
 -- ---- counts that are spared
 
 -- those that the test keeps are those that the reference is spared
-pub those_spared : (t : Tree Resolved) (ways : List Way) (tables : List Table) (r : ℕ) (receiving last : Bool) → Known t ways tables r
+pub those_spared : (t : Forest Resolved) (ways : List Way) (tables : List Table) (r : ℕ) (receiving last : Bool) → Known t ways tables r
     → last ≡ (receiving && ((held_at (map held ways) r).end == length ways))
-    → AreThose (IsSparedOf t r receiving) (tables_of (alone t)) (keep (is_spared last r) tables)
+    → AreThose (IsSparedOf t r receiving) (tables_of t) (keep (is_spared last r) tables)
 those_spared t ways tables r receiving last k l =
-    let same : keep (is_spared last r) tables ≡ keep (Passes t r receiving) (tables_of (alone t)) =
+    let same : keep (is_spared last r) tables ≡ keep (Passes t r receiving) (tables_of t) =
     ap (λ (xs : List Table). keep (is_spared last r) xs) k.tables_are
-    ∙ ap (λ (b : Bool). keep (is_spared b r) (tables_of (alone t))) (l ∙ last_is t ways tables r receiving k) in
-    subst (AreThose (IsSparedOf t r receiving) (tables_of (alone t))) (sym same)
-    (kept_those (IsSparedOf t r receiving) (Passes t r receiving) (tables_of (alone t)) (λ x i.
+    ∙ ap (λ (b : Bool). keep (is_spared b r) (tables_of t)) (l ∙ last_is t ways tables r receiving k) in
+    subst (AreThose (IsSparedOf t r receiving) (tables_of t)) (sym same)
+    (kept_those (IsSparedOf t r receiving) (Passes t r receiving) (tables_of t) (λ x i.
     (let here = table_has t x k.sound.numbered i in
     let count = (known t x k.sound i).has in
     (λ e. passes_spared t r receiving x k.sound.numbered k.has here count e, λ s. spared_passes t r receiving x k.sound.numbered k.has s.0 s.1))))
 
 -- what a layout knows of its record
-pub known_in : (t u : Tree Resolved) (ways : List Way) (tables : List Table) (r : ℕ) → IsSound t → t ≡ u → map held ways ≡ held_in [] (alone t) → tables ≡ tables_of (alone t) → Has r (alone u) → Known u ways tables r
+pub known_in : (t u : Forest Resolved) (ways : List Way) (tables : List Table) (r : ℕ) → IsSound t → t ≡ u → map held ways ≡ held_in [] t → tables ≡ tables_of t → Has r u → Known u ways tables r
 known_in t u ways tables r s same ways_are tables_are has = record {
   sound = subst IsSound same s;
-  ways_are = ways_are ∙ ap (λ (v : Tree Resolved). held_in [] (alone v)) same;
-  tables_are = tables_are ∙ ap (λ (v : Tree Resolved). tables_of (alone v)) same;
+  ways_are = ways_are ∙ ap (λ (v : Forest Resolved). held_in [] v) same;
+  tables_are = tables_are ∙ ap (λ (v : Forest Resolved). tables_of v) same;
   has = has;
 }
 

@@ -3,7 +3,7 @@ use Rattle.std.proofs.Common.{◌≡◌, ℕ, ◌+◌, ◌≤◌, List, [], ◌�
 use Rattle.cob_copybook.specs.ResolvedOccurs.{ResolvedOccurs}
 use Rattle.cob_copybook.specs.ResolvedOccurs.TheVariants.{Once, Fixed, Varying}
 use Rattle.cob_copybook.specs.Forests.{Forest, NoEntries, AnEntry}
-use Rattle.cob_copybook.specs.Nodes.{Resolved, alone}
+use Rattle.cob_copybook.specs.Nodes.{Resolved}
 use Rattle.cob_layout_places.specs.Places.{is_table, later}
 use Rattle.cob_layout.specs.Sound.{own_dimension, AreNested, RecordsAreSound}
 use Rattle.cob_layout_places.specs.References.{IsSubscripted, Refers}
@@ -25,4 +25,4 @@ few n r subscripts (AnEntry e children more) h (inl (own, inr k)) =
 few n r subscripts (AnEntry e children more) h (inr k) = few n r subscripts more h.2 k
 
 pub fits_ref : RecordsAreSound → FitsRef
-fits_ref sound t r subscripts is h = omega (arith, few 0 r subscripts (alone t) (sound t is).nested h)
+fits_ref sound t r subscripts is h = omega (arith, few 0 r subscripts t (sound t is).nested h)

@@ -1,27 +1,13 @@
 -- What a reference to an entry of a record gives.
-use Rattle.std.proofs.Common.{◌≡◌, ℕ, ◌+◌, ◌<◌, ◌==◌, List, [], Bool, true, false, refl, ap, ◌∙◌, arith, Option, Some, None, inl, inr, ◌⊎◌}
+use Rattle.std.proofs.Common.{◌≡◌, ℕ, ◌+◌, ◌<◌, ◌==◌, List, [], Bool, true, false, refl, arith, Option, Some, None, inl, inr, ◌⊎◌}
 use Rattle.std.proofs.lemmas.Bool.Decides.{nat_tests}
-use Rattle.cob_copybook.specs.Forests.{Forest, NoEntries, AnEntry, Tree, entries_in}
-use Rattle.cob_copybook.specs.Nodes.{Resolved, alone}
+use Rattle.cob_copybook.specs.Forests.{Forest, NoEntries, AnEntry, entries_in}
+use Rattle.cob_copybook.specs.Nodes.{Resolved}
 use Rattle.cob_layout_places.specs.declared.places.Found.{Found}
-use Rattle.cob_layout_places.specs.Places.{place_of, place_in_entry, or_else, choose, also, begins, is_table, later}
+use Rattle.cob_layout_places.specs.Places.{place_of, or_else, choose, also, is_table, later}
 use Rattle.cob_layout_places.specs.Cover.{AreNumbered}
 use Rattle.cob_layout_places.specs.Needs.{Has}
 use Rattle.cob_layout_places.specs.References.{Refers}
-
-or_none : (o : Option Found) → or_else o None ≡ o
-or_none None = refl
-or_none (Some f) = refl
-
-begins_first : (o : Option (List ℕ)) → begins o 0 0 ≡ 0
-begins_first None = refl
-begins_first (Some name) = refl
-
--- a record by itself begins at its start
-pub find_alone : (c : Resolved → ℕ) (number : ℕ) (t : Tree Resolved) (subscripts : List ℕ) → place_of c number (alone t) 0 0 subscripts ≡ place_in_entry c number t 0 subscripts
-find_alone c number t subscripts =
-    or_none (place_in_entry c number t (begins t.top.redefines 0 0) subscripts)
-    ∙ ap (λ (start : ℕ). place_in_entry c number t start subscripts) (begins_first t.top.redefines)
 
 abbrev Ends : ℕ → Resolved → List ℕ → Type 0
 Ends r e rest = (e.number ≡ r) × (rest ≡ [])

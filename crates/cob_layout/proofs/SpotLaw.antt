@@ -4,8 +4,8 @@ use Rattle.std.proofs.Math.Seq.{get_or-append_seam}
 use Rattle.std.proofs.lemmas.List.{length-append}
 use Rattle.cob_copybook.specs.ResolvedOccurs.{ResolvedOccurs}
 use Rattle.cob_copybook.specs.ResolvedOccurs.TheVariants.{Once, Fixed, Varying}
-use Rattle.cob_copybook.specs.Forests.{Forest, NoEntries, AnEntry, Tree, entries_in}
-use Rattle.cob_copybook.specs.Nodes.{Resolved, alone}
+use Rattle.cob_copybook.specs.Forests.{Forest, NoEntries, AnEntry, entries_in}
+use Rattle.cob_copybook.specs.Nodes.{Resolved}
 use Rattle.cob_copybook.specs.TreeLengths.{greatest_number, element_length, whole_length, own_length}
 use Rattle.cob_layout_places.specs.declared.places.Found.{Found}
 use Rattle.cob_layout_places.specs.declared.spots.Spot.{Spot}
@@ -235,12 +235,12 @@ stood c spots all (AnEntry e children more) n at area d over subscripts r num sp
     }
 
 -- a reference to an entry of a record stands at its first element, moved by its subscripts
-pub stands_moved : (c : Resolved → ℕ) (t : Tree Resolved) (spots : List Spot) (all : List Held) (r : ℕ) (subscripts : List ℕ) (x : Held) → AreNumbered 0 (alone t) → spots ≡ spots_of c (alone t) 0 0 → all ≡ held_in [] (alone t)
-    → Refers r subscripts (alone t) → place_of c r (alone t) 0 0 subscripts ≡ Some (moved spots (get_or all r x).tables subscripts (first_element spots r))
+pub stands_moved : (c : Resolved → ℕ) (t : Forest Resolved) (spots : List Spot) (all : List Held) (r : ℕ) (subscripts : List ℕ) (x : Held) → AreNumbered 0 t → spots ≡ spots_of c t 0 0 → all ≡ held_in [] t
+    → Refers r subscripts t → place_of c r t 0 0 subscripts ≡ Some (moved spots (get_or all r x).tables subscripts (first_element spots r))
 stands_moved c t spots all r subscripts x num sp hs refers =
-    let s = stood c spots all (alone t) 0 0 0 0 [] subscripts r num
-    (are_spots c (alone t) 0 0 0 [] [] spots refl num (sp ∙ sym (append-nil (spots_of c (alone t) 0 0))))
-    (are_held (alone t) 0 [] [] [] all refl num (hs ∙ sym (append-nil (held_in [] (alone t))))) refers in
+    let s = stood c spots all t 0 0 0 0 [] subscripts r num
+    (are_spots c t 0 0 0 [] [] spots refl num (sp ∙ sym (append-nil (spots_of c t 0 0))))
+    (are_held t 0 [] [] [] all refl num (hs ∙ sym (append-nil (held_in [] t)))) refers in
     let offset_is : (spot_at spots r).offset + 0 ≡ (spot_at spots r).offset = omega arith in
     s.stands
     ∙ ap (λ (ts : List ℕ). Some (moved spots ts subscripts (further spots r 0))) (sym (s.held x))

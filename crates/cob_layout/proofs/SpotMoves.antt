@@ -1,25 +1,9 @@
--- Elements that subscripts move, and the spots of a record by itself.
-use Rattle.std.proofs.Common.{◌≡◌, ℕ, ◌+◌, ◌-◌, ◌*◌, ◌<◌, ◌≤◌, ◌&&◌, nat_le, List, [], ◌∷◌, length, get_or, drop, Option, Some, None, refl, ap, ◌∙◌, arith, append-nil}
+-- Elements that subscripts move.
+use Rattle.std.proofs.Common.{◌≡◌, ℕ, ◌+◌, ◌-◌, ◌*◌, ◌<◌, ◌≤◌, ◌&&◌, nat_le, List, [], ◌∷◌, length, get_or, drop, refl, ap, ◌∙◌, arith}
 use Rattle.std.proofs.lemmas.List.{drop_more, drop_all}
-use Rattle.cob_copybook.specs.Forests.{Tree}
-use Rattle.cob_copybook.specs.Nodes.{Resolved, alone}
-use Rattle.cob_copybook.specs.TreeLengths.{element_length}
 use Rattle.cob_layout_places.specs.declared.places.Found.{Found}
 use Rattle.cob_layout_places.specs.declared.spots.Spot.{Spot}
-use Rattle.cob_layout_places.specs.Places.{begins}
-use Rattle.cob_layout_places.specs.Spots.{spots_of, spots_one}
 use Rattle.cob_layout.specs.Ways.{moved, spot_at}
-
-begins_first : (o : Option (List ℕ)) → begins o 0 0 ≡ 0
-begins_first None = refl
-begins_first (Some name) = refl
-
--- the spots of a record are those of the entry that it is
-pub spots_alone : (c : Resolved → ℕ) (t : Tree Resolved) → spots_of c (alone t) 0 0 ≡ spots_one c t 0
-spots_alone c t =
-    ap (λ (zs : List Spot). record { offset = begins t.top.redefines 0 0; length = element_length c t.top t.beneath; times = c t.top } ∷ zs)
-    (append-nil (spots_of c t.beneath (begins t.top.redefines 0 0) (begins t.top.redefines 0 0)))
-    ∙ ap (λ (n : ℕ). spots_one c t n) (begins_first t.top.redefines)
 
 -- subscripts move no element back
 pub no_less : (spots : List Spot) (ts subscripts : List ℕ) (f : Found) → f.offset ≤ (moved spots ts subscripts f).offset

@@ -2,8 +2,8 @@
 use Rattle.std.proofs.Common.{◌≡◌, ℕ, ◌+◌, ◌*◌, ◌<◌, ◌≤◌, ◌==◌, ◌&&◌, nat_le, Bool, true, false, List, [], ◌∷◌, map, Option, Some, refl, sym, ap, subst, ◌∙◌, arith, inl, inr, Ok, Err, Result}
 use Rattle.std.specs.Prelude.{option_map, if◌then◌else◌, IfOk}
 use Rattle.std.proofs.lemmas.Bool.Decides.{nat_tests}
-use Rattle.cob_copybook.specs.Forests.{Forest, NoEntries, AnEntry, Tree, entries_in}
-use Rattle.cob_copybook.specs.Nodes.{Resolved, alone}
+use Rattle.cob_copybook.specs.Forests.{Forest, NoEntries, AnEntry, entries_in}
+use Rattle.cob_copybook.specs.Nodes.{Resolved}
 use Rattle.cob_copybook.specs.TreeLengths.{greatest_number, element_length, whole_length, own_length, sum_of}
 use Rattle.cob_copybook.specs.Books.{IsRecordDescription}
 use Rattle.cob_layout.specs.Sound.{IsSound}
@@ -12,7 +12,7 @@ use Rattle.cob_layout.specs.declared.layout.PlaceFault.{PlaceFault}
 use Rattle.cob_layout_places.specs.declared.places.Found.{Found}
 use Rattle.cob_layout_places.specs.declared.spots.Spot.{Spot}
 use Rattle.cob_layout_places.specs.Lengths.{times}
-use Rattle.cob_layout_places.specs.Places.{place_of, place_in_entry, begins, is_table, is_there, later, skipped, EndInRecord, EndsBy}
+use Rattle.cob_layout_places.specs.Places.{place_of, begins, is_table, is_there, later, skipped, EndInRecord, EndsBy}
 use Rattle.cob_layout_places.specs.Cover.{AreNumbered}
 use Rattle.cob_layout_places.specs.References.{IsSubscripted, Refers}
 use Rattle.cob_layout_places.specs.Spots.{spots_of}
@@ -23,7 +23,7 @@ use Rattle.cob_layout.specs.Laws.{EndInLength}
 use Rattle.cob_layout.specs.Placed.{placed}
 use Rattle.cob_layout.specs.Standing.{Standing, ArePlaces}
 use Rattle.cob_layout.specs.Ways.{held, held_in, held_at, moved, first_element, spot_at}
-use Rattle.cob_layout.proofs.ReferenceLemmas.{find_alone, found_there, refers_has}
+use Rattle.cob_layout.proofs.ReferenceLemmas.{found_there, refers_has}
 use Rattle.cob_layout.proofs.EndLemmas.{numbered, found_has, pick, some_is, differs, same, current}
 use Rattle.cob_layout.proofs.GreatestLemmas.{are_greatest}
 use Rattle.cob_copybook.specs.Bytes.{TakeBytes}
@@ -34,11 +34,11 @@ use Rattle.cob_layout.proofs.SpotLaw.{stands_moved}
 -- ---- where an element stands
 
 -- under these counts the reference stands where its element is moved to
-pub element_is : (t u : Tree Resolved) (counts : List ℕ) (spots : List Spot) (ways : List Way) (r : ℕ) (subscripts : List ℕ) → IsSound t → t ≡ u → map held ways ≡ held_in [] (alone t) → Refers r subscripts (alone u)
-    → spots ≡ spots_of (times counts) (alone u) 0 0 → place_of (times counts) r (alone u) 0 0 subscripts ≡ Some (moved spots (held_at (map held ways) r).tables subscripts (first_element spots r))
+pub element_is : (t u : Forest Resolved) (counts : List ℕ) (spots : List Spot) (ways : List Way) (r : ℕ) (subscripts : List ℕ) → IsSound t → t ≡ u → map held ways ≡ held_in [] t → Refers r subscripts u
+    → spots ≡ spots_of (times counts) u 0 0 → place_of (times counts) r u 0 0 subscripts ≡ Some (moved spots (held_at (map held ways) r).tables subscripts (first_element spots r))
 element_is t u counts spots ways r subscripts s eq held_are refers are =
-    stands_moved (times counts) u spots (map held ways) r subscripts (record { tables = []; end = 0 }) (subst (λ (v : Tree Resolved). AreNumbered 0 (alone v)) eq s.numbered) are
-    (held_are ∙ ap (λ (v : Tree Resolved). held_in [] (alone v)) eq) refers
+    stands_moved (times counts) u spots (map held ways) r subscripts (record { tables = []; end = 0 }) (subst (λ (v : Forest Resolved). AreNumbered 0 v) eq s.numbered) are
+    (held_are ∙ ap (λ (v : Forest Resolved). held_in [] v) eq) refers
 
 abbrev Ends : ℕ → Option Found → Type 0
 Ends m o = EndsBy m o
@@ -47,10 +47,10 @@ ends_by : (m : ℕ) (o : Option Found) (f : Found) → o ≡ Some f → Ends m o
 ends_by m o f e h = subst (Ends m) e h
 
 -- and this lies within the longest record
-pub element_fits : EndInRecord → (t u : Tree Resolved) (counts : List ℕ) (r : ℕ) (subscripts : List ℕ) (f : Found) → IsSound t → t ≡ u → place_of (times counts) r (alone u) 0 0 subscripts ≡ Some f → f.offset + f.length ≤ 32752
+pub element_fits : EndInRecord → (t u : Forest Resolved) (counts : List ℕ) (r : ℕ) (subscripts : List ℕ) (f : Found) → IsSound t → t ≡ u → place_of (times counts) r u 0 0 subscripts ≡ Some f → f.offset + f.length ≤ 32752
 element_fits law t u counts r subscripts f s eq is =
     let sound : IsSound u = subst IsSound eq s in
-    let h = ends_by (0 + whole_length greatest_number u.top u.beneath) (place_in_entry (times counts) r u 0 subscripts) f (sym (find_alone (times counts) r u subscripts) ∙ is) (law counts r u 0 subscripts sound.fit) in
+    let h = ends_by (0 + sum_of greatest_number u) (place_of (times counts) r u 0 0 subscripts) f is (law counts r u 0 subscripts sound.fit) in
     omega (arith, h, sound.fit.small)
 
 -- ---- under greatest counts each element that a reference names is there
@@ -104,20 +104,20 @@ all_within r (AnEntry e children more) n at area subscripts p num refers is =
       ]
     ]
 
-pub greatest_within : (t u : Tree Resolved) (r : ℕ) (subscripts : List ℕ) (p : Found) → IsSound t → t ≡ u → Refers r subscripts (alone u) → place_of (times (greatest_counts u)) r (alone u) 0 0 subscripts ≡ Some p → p.within ≡ true
+pub greatest_within : (t u : Forest Resolved) (r : ℕ) (subscripts : List ℕ) (p : Found) → IsSound t → t ≡ u → Refers r subscripts u → place_of (times (greatest_counts u)) r u 0 0 subscripts ≡ Some p → p.within ≡ true
 greatest_within t u r subscripts p s eq refers is =
-    let num : AreNumbered 0 (alone u) = subst (λ (v : Tree Resolved). AreNumbered 0 (alone v)) eq s.numbered in
-    all_within r (alone u) 0 0 0 subscripts p num refers (sym ((are_greatest u (greatest_counts u) num refl).places r subscripts) ∙ is)
+    let num : AreNumbered 0 u = subst (λ (v : Forest Resolved). AreNumbered 0 v) eq s.numbered in
+    all_within r u 0 0 0 subscripts p num refers (sym ((are_greatest u (greatest_counts u) num refl).places r subscripts) ∙ is)
 
 -- ---- the answer
 
 pub answer : (o : Option Found) (f : Found) (r : Result Place PlaceFault) → o ≡ Some f → r ≡ placed f → option_map placed o ≡ Some r
 answer o f r is e = ap (option_map placed) is ∙ ap (λ (x : Result Place PlaceFault). Some x) (sym e)
 
-pub answer_current : EndInLength → (t u : Tree Resolved) (counts : List ℕ) (r : ℕ) (subscripts : List ℕ) (f : Found) (result : Result Place PlaceFault) → IsRecordDescription (alone t) → t ≡ u → Refers r subscripts (alone u)
-    → place_of (times counts) r (alone u) 0 0 subscripts ≡ Some f → result ≡ placed f → IfOk result (λ p. p.offset + p.length ≤ sum_of (times counts) (alone u))
+pub answer_current : EndInLength → (t u : Forest Resolved) (counts : List ℕ) (r : ℕ) (subscripts : List ℕ) (f : Found) (result : Result Place PlaceFault) → IsRecordDescription t → t ≡ u → Refers r subscripts u
+    → place_of (times counts) r u 0 0 subscripts ≡ Some f → result ≡ placed f → IfOk result (λ p. p.offset + p.length ≤ sum_of (times counts) u)
 answer_current law t u counts r subscripts f result is eq refers at e =
-    current law t u counts counts r subscripts subscripts f result is eq refers refl refl (subst (λ (v : Tree Resolved). place_of (times counts) r (alone v) 0 0 subscripts ≡ Some f) (sym eq) at) e
+    current law t u counts counts r subscripts subscripts f result is eq refers refl refl (subst (λ (v : Forest Resolved). place_of (times counts) r v 0 0 subscripts ≡ Some f) (sym eq) at) e
 
 abbrev FitsIn : ℕ → Result Place PlaceFault → Type 0
 FitsIn m result = IfOk result (λ p. p.offset + p.length ≤ m)
@@ -126,15 +126,18 @@ still : (a b : ℕ) (result : Result Place PlaceFault) → a ≤ b → FitsIn a 
 still a b (Ok p) le h = omega (arith, le, h)
 still a b (Err e) le h = tt
 
-pub answer_fits : EndInLength → (t u : Tree Resolved) (counts : List ℕ) (r : ℕ) (subscripts : List ℕ) (f : Found) (result : Result Place PlaceFault) → IsRecordDescription (alone t) → t ≡ u → Refers r subscripts (alone u)
-    → place_of (times counts) r (alone u) 0 0 subscripts ≡ Some f → result ≡ placed f → IfOk result (λ p. p.offset + p.length ≤ sum_of greatest_number (alone u))
+pub most_fits : (u : Forest Resolved) (counts : List ℕ) (result : Result Place PlaceFault) → IfOk result (λ p. p.offset + p.length ≤ sum_of (times counts) u) → IfOk result (λ p. p.offset + p.length ≤ sum_of greatest_number u)
+most_fits u counts result h = still (sum_of (times counts) u) (sum_of greatest_number u) result (sum_le (times counts) u (within_always counts u)) h
+
+pub answer_fits : EndInLength → (t u : Forest Resolved) (counts : List ℕ) (r : ℕ) (subscripts : List ℕ) (f : Found) (result : Result Place PlaceFault) → IsRecordDescription t → t ≡ u → Refers r subscripts u
+    → place_of (times counts) r u 0 0 subscripts ≡ Some f → result ≡ placed f → IfOk result (λ p. p.offset + p.length ≤ sum_of greatest_number u)
 answer_fits law t u counts r subscripts f result is eq refers at e =
-    still (sum_of (times counts) (alone u)) (sum_of greatest_number (alone u)) result (sum_le (times counts) (alone u) (within_always counts (alone u))) (answer_current law t u counts r subscripts f result is eq refers at e)
+    most_fits u counts result (answer_current law t u counts r subscripts f result is eq refers at e)
 
 -- so it is whatever the counts
-pub answer_all : EndInLength → (u : Tree Resolved) (standing : Standing) (r : ℕ) (subscripts : List ℕ) (f : Found) (result : Result Place PlaceFault) → IsRecordDescription (alone u) → Refers r subscripts (alone u)
-    → ((counts : List ℕ) → ArePlaces u counts standing → place_of (times counts) r (alone u) 0 0 subscripts ≡ Some f) → result ≡ placed f
-    → IfOk result (λ p. (counts : List ℕ) → ArePlaces u counts standing → p.offset + p.length ≤ sum_of (times counts) (alone u))
+pub answer_all : EndInLength → (u : Forest Resolved) (standing : Standing) (r : ℕ) (subscripts : List ℕ) (f : Found) (result : Result Place PlaceFault) → IsRecordDescription u → Refers r subscripts u
+    → ((counts : List ℕ) → ArePlaces u counts standing → place_of (times counts) r u 0 0 subscripts ≡ Some f) → result ≡ placed f
+    → IfOk result (λ p. (counts : List ℕ) → ArePlaces u counts standing → p.offset + p.length ≤ sum_of (times counts) u)
 answer_all law u standing r subscripts f (Ok p) is refers at e = λ counts are. answer_current law u u counts r subscripts f (Ok p) is refl refers (at counts are) e
 answer_all law u standing r subscripts f (Err fault) is refers at e = tt
 
@@ -149,21 +152,24 @@ no_fault f fault there is = by f.within there is
 -- ---- the length
 
 -- what the spot of the record says of its length
-pub record Lengthy (t : Tree Resolved) (counts : List ℕ) (n : ℕ) : Type 0 where
-  pub is : n ≡ sum_of (times counts) (alone t)
+pub record Lengthy (t : Forest Resolved) (counts : List ℕ) (n : ℕ) : Type 0 where
+  pub is : n ≡ sum_of (times counts) t
   pub least : 0 < n
-  pub most : n ≤ sum_of greatest_number (alone t)
+  pub most : n ≤ sum_of greatest_number t
   pub small : n ≤ 32752
 
-pub length_by : (u : Tree Resolved) (counts : List ℕ) (standing : Standing) (spots : List Spot) (own : Spot) → IsSound u → TakeBytes (alone u) → ArePlaces u counts standing → spots ≡ standing.spots → own ≡ spot_at spots 0
+pub length_by : (u : Forest Resolved) (counts : List ℕ) (standing : Standing) (spots : List Spot) (own : Spot) → IsSound u → TakeBytes u → ArePlaces u counts standing → spots ≡ standing.spots → own ≡ spot_at spots 0
     → Lengthy u counts (own.times * own.length)
-length_by u counts standing spots own s bytes are same is =
-    let first : own ≡ record { offset = begins u.top.redefines 0 0; length = element_length (times counts) u.top u.beneath; times = times counts u.top } = is ∙ ap (λ (zs : List Spot). spot_at zs 0) (same ∙ are.1) in
-    let all : own.times * own.length ≡ sum_of (times counts) (alone u) =
-    ap (λ (x : Spot). x.times * x.length) first ∙ length_is counts u (times counts u.top) (element_length (times counts) u.top u.beneath) s refl refl in
+length_by NoEntries counts standing spots own s bytes are same is = absurd s.first
+length_by (AnEntry e b (AnEntry d kids more)) counts standing spots own s bytes are same is = absurd s.first
+length_by (AnEntry e b NoEntries) counts standing spots own s bytes are same is =
+    let u = AnEntry e b NoEntries in
+    let first : own ≡ record { offset = begins e.redefines 0 0; length = element_length (times counts) e b; times = times counts e } = is ∙ ap (λ (zs : List Spot). spot_at zs 0) (same ∙ are.1) in
+    let all : own.times * own.length ≡ sum_of (times counts) u =
+    ap (λ (x : Spot). x.times * x.length) first ∙ length_is counts e b (times counts e) (element_length (times counts) e b) s refl refl in
     record {
       is = all;
       least = omega (arith, all, length_some counts u u s bytes refl);
-      most = omega (arith, all, sum_le (times counts) (alone u) (within_always counts (alone u)));
-      small = omega (arith, ap (λ (x : Spot). x.times * x.length) first, length_small counts u (times counts u.top) (element_length (times counts) u.top u.beneath) s refl refl);
+      most = omega (arith, all, sum_le (times counts) u (within_always counts u));
+      small = omega (arith, ap (λ (x : Spot). x.times * x.length) first, length_small counts e b (times counts e) (element_length (times counts) e b) s refl refl);
     }

@@ -1,8 +1,8 @@
 -- Places of senders lie within a record's bytes.
 use Rattle.std.proofs.Common.{◌≡◌, ℕ, ◌+◌, ◌≤◌, Bool, true, false, List, [], ◌∷◌, Option, Some, None, refl, sym, ap, ◌∙◌, arith, inl, inr, Ok, Err, Result}
 use Rattle.std.specs.Prelude.{option_map, if◌then◌else◌}
-use Rattle.cob_copybook.specs.Forests.{Tree}
-use Rattle.cob_copybook.specs.Nodes.{Resolved, alone}
+use Rattle.cob_copybook.specs.Forests.{Forest}
+use Rattle.cob_copybook.specs.Nodes.{Resolved}
 use Rattle.cob_copybook.specs.TreeLengths.{sum_of}
 use Rattle.cob_copybook.specs.Books.{IsRecordDescription}
 use Rattle.cob_layout.specs.declared.fields.Place.{Place}
@@ -45,14 +45,14 @@ found_by (Some f) p e =
     (f, refl, there, offset, size)
 
 -- under any counts it lies within as many bytes as these give
-lies : EndInLength → (t : Tree Resolved) (counts : List ℕ) (r : ℕ) (subscripts : List ℕ) (p : Place) → IsRecordDescription (alone t) → Refers r subscripts (alone t)
-    → option_map placed (place_of (times counts) r (alone t) 0 0 subscripts) ≡ Some (Ok p) → p.offset + p.length ≤ sum_of (times counts) (alone t)
+lies : EndInLength → (t : Forest Resolved) (counts : List ℕ) (r : ℕ) (subscripts : List ℕ) (p : Place) → IsRecordDescription t → Refers r subscripts t
+    → option_map placed (place_of (times counts) r t 0 0 subscripts) ≡ Some (Ok p) → p.offset + p.length ≤ sum_of (times counts) t
 lies law t counts r subscripts p is refers at =
-    let (f, found, there, offset, size) = found_by (place_of (times counts) r (alone t) 0 0 subscripts) p at in
+    let (f, found, there, offset, size) = found_by (place_of (times counts) r t 0 0 subscripts) p at in
     omega (arith, law t counts r subscripts f is refers found there, offset, size)
 
 -- a sender is spared no count
-none_spared : (t : Tree Resolved) (r : ℕ) (xs : List Table) → AreThose (IsSparedOf t r false) xs []
+none_spared : (t : Forest Resolved) (r : ℕ) (xs : List Table) → AreThose (IsSparedOf t r false) xs []
 none_spared t r [] = refl
 none_spared t r (x ∷ xs) = inr ((λ (s : IsSparedOf t r false x). let never : false ≡ true = s.0 in cc), none_spared t r xs)
 
@@ -61,11 +61,11 @@ ok_is a b e = cc
 
 pub lie_in_storage : EndInLength → AllGiveNeeded → OneOfNeeded → LieInStorage
 lie_in_storage law all one t bytes counts r subscripts p is (inl long) refers needs at =
-    omega (arith, long, lies law t counts r subscripts p is refers at, sum_le (times counts) (alone t) (within_always counts (alone t)))
+    omega (arith, long, lies law t counts r subscripts p is refers at, sum_le (times counts) t (within_always counts t))
 lie_in_storage law all one t bytes counts r subscripts p is (inr (c, own, long)) refers needs at =
-    let (d, given, same) = all t bytes c r false subscripts [] is refers own (none_spared t r (tables_of (alone t))) in
+    let (d, given, same) = all t bytes c r false subscripts [] is refers own (none_spared t r (tables_of t)) in
     let equal : counts ≡ d = ok_is counts d (one t r false bytes (Ok counts) (Ok d) needs given) in
-    let there : option_map placed (place_of (times c) r (alone t) 0 0 subscripts) ≡ Some (Ok p) =
+    let there : option_map placed (place_of (times c) r t 0 0 subscripts) ≡ Some (Ok p) =
     ap (λ (o : Option Found). option_map placed o) (sym same)
-    ∙ ap (λ (k : List ℕ). option_map placed (place_of (times k) r (alone t) 0 0 subscripts)) (sym equal) ∙ at in
+    ∙ ap (λ (k : List ℕ). option_map placed (place_of (times k) r t 0 0 subscripts)) (sym equal) ∙ at in
     omega (arith, long, lies law t c r subscripts p is refers there)

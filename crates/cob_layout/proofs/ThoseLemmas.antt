@@ -4,7 +4,7 @@ use Rattle.std.specs.List.{AllByRecursion}
 use Rattle.cob_copybook.specs.ResolvedOccurs.{ResolvedOccurs}
 use Rattle.cob_copybook.specs.ResolvedOccurs.TheVariants.{Once, Fixed, Varying}
 use Rattle.cob_copybook.specs.Forests.{Forest, NoEntries, AnEntry, entries_in}
-use Rattle.cob_copybook.specs.Nodes.{Resolved, alone}
+use Rattle.cob_copybook.specs.Nodes.{Resolved}
 use Rattle.cob_layout_places.specs.declared.varying.Table.{Table}
 use Rattle.cob_layout_places.specs.Cover.{AreNumbered}
 use Rattle.cob_layout_places.specs.Counts.{table_of, tables_of, Taken, OneOutcome}
@@ -147,9 +147,9 @@ one_number n m (z ∷ zs) x y h (inr i) (inr j) e = one_number (z.number + 1) m 
 -- ---- one outcome
 
 pub one_of_all : OneOutcome → OneOfAll
-one_of_all one t bytes a b h k = one t bytes (tables_of (alone t)) (greatest_counts t) a b h k
+one_of_all one t bytes a b h k = one t bytes (tables_of t) (greatest_counts t) a b h k
 
 pub one_of_needed : OneOutcome → OneOfNeeded
 one_of_needed one t r receiving bytes a b (xs, those, h) (ys, others, k) =
-    let same : ys ≡ xs = same_those (IsRead t r receiving) (tables_of (alone t)) ys xs others those in
+    let same : ys ≡ xs = same_those (IsRead t r receiving) (tables_of t) ys xs others those in
     one t bytes xs (greatest_counts t) a b h (subst (λ (zs : List Table). Taken t bytes zs (greatest_counts t) b) same k)

@@ -3,8 +3,8 @@ use Rattle.std.proofs.Common.{◌≡◌, ℕ, ◌+◌, ◌&&◌, Bool, true, fal
 use Rattle.std.specs.Prelude.{◌||◌}
 use Rattle.cob_copybook.specs.ResolvedOccurs.{ResolvedOccurs}
 use Rattle.cob_copybook.specs.ResolvedOccurs.TheVariants.{Once, Fixed, Varying}
-use Rattle.cob_copybook.specs.Forests.{Forest, NoEntries, AnEntry, Tree, entries_in}
-use Rattle.cob_copybook.specs.Nodes.{Resolved, alone}
+use Rattle.cob_copybook.specs.Forests.{Forest, NoEntries, AnEntry, entries_in}
+use Rattle.cob_copybook.specs.Nodes.{Resolved}
 use Rattle.cob_layout_places.specs.Places.{is_table}
 use Rattle.cob_layout_places.specs.Cover.{AreNumbered}
 use Rattle.cob_layout_places.specs.Needs.{Has, number_behind}
@@ -88,12 +88,12 @@ table_end_is all (AnEntry e children more) n r num hs (inr (inr beside)) =
     let low = numbered r (n + 1 + entries_in children) more num.2 beside in
     reach_behind true r e children more (omega (arith, low.0, num.0)) ∙ table_end_is all more (n + 1 + entries_in children) r num.2 hs.2 beside
 
-pub held_alone : (t : Tree Resolved) (all : List Held) → AreNumbered 0 (alone t) → all ≡ held_in [] (alone t) → AreHeld all [] (alone t)
-held_alone t all num is = are_held (alone t) 0 [] [] [] all refl num (is ∙ sym (append-nil (held_in [] (alone t))))
+pub held_alone : (t : Forest Resolved) (all : List Held) → AreNumbered 0 t → all ≡ held_in [] t → AreHeld all [] t
+held_alone t all num is = are_held t 0 [] [] [] all refl num (is ∙ sym (append-nil (held_in [] t)))
 
 -- so it is in a record
-pub reach_end : (t : Tree Resolved) (all : List Held) (r : ℕ) → AreNumbered 0 (alone t) → all ≡ held_in [] (alone t) → Has r (alone t) → number_behind false r (alone t) ≡ (held_at all r).end
-reach_end t all r num is has = end_is all [] (alone t) 0 r num (held_alone t all num is) has
+pub reach_end : (t : Forest Resolved) (all : List Held) (r : ℕ) → AreNumbered 0 t → all ≡ held_in [] t → Has r t → number_behind false r t ≡ (held_at all r).end
+reach_end t all r num is has = end_is all [] t 0 r num (held_alone t all num is) has
 
-pub reach_table_end : (t : Tree Resolved) (all : List Held) (r : ℕ) → AreNumbered 0 (alone t) → all ≡ held_in [] (alone t) → Has r (alone t) → number_behind true r (alone t) ≡ end_of_table all r
-reach_table_end t all r num is has = table_end_is all (alone t) 0 r num (held_alone t all num is) has
+pub reach_table_end : (t : Forest Resolved) (all : List Held) (r : ℕ) → AreNumbered 0 t → all ≡ held_in [] t → Has r t → number_behind true r t ≡ end_of_table all r
+reach_table_end t all r num is has = table_end_is all t 0 r num (held_alone t all num is) has

@@ -1,7 +1,7 @@
 -- What follows from the definitions for every record.
 use Rattle.std.specs.Prelude.{◌≡◌, ◌⊎◌, ℕ, ◌+◌, ◌≤◌, Bool, true, false, List, length, Option, Some, None, Ok, Result, option_map}
-use Rattle.cob_copybook.specs.Forests.{Forest, NoEntries, AnEntry, Tree}
-use Rattle.cob_copybook.specs.Nodes.{Resolved, alone}
+use Rattle.cob_copybook.specs.Forests.{Forest, NoEntries, AnEntry}
+use Rattle.cob_copybook.specs.Nodes.{Resolved}
 use Rattle.cob_copybook.specs.TreeLengths.{sum_of}
 use Rattle.cob_copybook.specs.Books.{IsRecordDescription}
 use Rattle.cob_layout_places.specs.declared.counts.CountFault.{CountFault}
@@ -21,22 +21,22 @@ use Rattle.cob_layout.specs.Storage.{IsStorage}
 
 -- a legal reference has no more subscripts than a `Ref` has room for
 abbrev pub FitsRef : Type 0
-FitsRef = (t : Tree Resolved) (r : ℕ) (subscripts : List ℕ)
-    → IsRecordDescription (alone t) → Refers r subscripts (alone t) → length subscripts ≤ most_dimensions
+FitsRef = (tree : Forest Resolved) (r : ℕ) (subscripts : List ℕ)
+    → IsRecordDescription tree → Refers r subscripts tree → length subscripts ≤ most_dimensions
 
 -- an element that is there ends within the record's length under the same counts
 abbrev pub EndInLength : Type 0
-EndInLength = (t : Tree Resolved) (counts : List ℕ) (r : ℕ) (subscripts : List ℕ) (found : Found)
-    → IsRecordDescription (alone t) → Refers r subscripts (alone t)
-    → place_of (times counts) r (alone t) 0 0 subscripts ≡ Some found → found.within ≡ true
-    → found.offset + found.length ≤ sum_of (times counts) (alone t)
+EndInLength = (tree : Forest Resolved) (counts : List ℕ) (r : ℕ) (subscripts : List ℕ) (found : Found)
+    → IsRecordDescription tree → Refers r subscripts tree
+    → place_of (times counts) r tree 0 0 subscripts ≡ Some found → found.within ≡ true
+    → found.offset + found.length ≤ sum_of (times counts) tree
 
 -- a place that a sender finds in a record's bytes, under the counts that it needs there, lies within these bytes
 abbrev pub LieInStorage : Type 0
-LieInStorage = (t : Tree Resolved) (bytes counts : List ℕ) (r : ℕ) (subscripts : List ℕ) (p : Place)
-    → IsRecordDescription (alone t) → IsStorage t bytes → Refers r subscripts (alone t)
-    → NeededOf t r false bytes (Ok counts)
-    → option_map placed (place_of (times counts) r (alone t) 0 0 subscripts) ≡ Some (Ok p)
+LieInStorage = (tree : Forest Resolved) (bytes counts : List ℕ) (r : ℕ) (subscripts : List ℕ) (p : Place)
+    → IsRecordDescription tree → IsStorage tree bytes → Refers r subscripts tree
+    → NeededOf tree r false bytes (Ok counts)
+    → option_map placed (place_of (times counts) r tree 0 0 subscripts) ≡ Some (Ok p)
     → p.offset + p.length ≤ length bytes
 
 -- the entry r is one of these, and all of them before it redefine an area, as it does
@@ -58,39 +58,39 @@ offset_of found = option_map (λ f. f.offset) found
 
 -- a redefining entry begins where the entry that began the area begins: its first element, where it is a table
 abbrev pub BeginWithArea : Type 0
-BeginWithArea = (t : Tree Resolved) (counts : List ℕ) (r a : ℕ) (subscripts : List ℕ)
-    → IsRecordDescription (alone t) → IsRedefinitionOf r a (alone t) → Refers a subscripts (alone t)
-    → offset_of (place_of (times counts) r (alone t) 0 0 subscripts)
-    ≡ offset_of (place_of (times counts) a (alone t) 0 0 subscripts)
+BeginWithArea = (tree : Forest Resolved) (counts : List ℕ) (r a : ℕ) (subscripts : List ℕ)
+    → IsRecordDescription tree → IsRedefinitionOf r a tree → Refers a subscripts tree
+    → offset_of (place_of (times counts) r tree 0 0 subscripts)
+    ≡ offset_of (place_of (times counts) a tree 0 0 subscripts)
 
 -- the bytes of a storage say one thing of all counts
 abbrev pub OneOfAll : Type 0
-OneOfAll = (t : Tree Resolved) (bytes : List ℕ) (a b : Result (List ℕ) CountFault)
-    → CountsOf t bytes a → CountsOf t bytes b → a ≡ b
+OneOfAll = (tree : Forest Resolved) (bytes : List ℕ) (a b : Result (List ℕ) CountFault)
+    → CountsOf tree bytes a → CountsOf tree bytes b → a ≡ b
 
 -- and one of those that a reference needs
 abbrev pub OneOfNeeded : Type 0
-OneOfNeeded = (t : Tree Resolved) (r : ℕ) (receiving : Bool) (bytes : List ℕ) (a b : Result (List ℕ) CountFault)
-    → NeededOf t r receiving bytes a → NeededOf t r receiving bytes b → a ≡ b
+OneOfNeeded = (tree : Forest Resolved) (r : ℕ) (receiving : Bool) (bytes : List ℕ) (a b : Result (List ℕ) CountFault)
+    → NeededOf tree r receiving bytes a → NeededOf tree r receiving bytes b → a ≡ b
 
 -- Where all counts of a storage are valid, those that a reference needs are, and the reference stands where it does under all counts, but for the
 -- tables that it is spared, which have their greatest number.
 abbrev pub AllGiveNeeded : Type 0
-AllGiveNeeded = (t : Tree Resolved) (bytes c : List ℕ) (r : ℕ) (receiving : Bool) (subscripts : List ℕ)
-    (spared : List Table) → IsRecordDescription (alone t) → Refers r subscripts (alone t) → CountsOf t bytes (Ok c)
-    → AreThose (IsSparedOf t r receiving) (tables_of (alone t)) spared
-    → (d : List ℕ) × NeededOf t r receiving bytes (Ok d)
-    × (place_of (times d) r (alone t) 0 0 subscripts
-    ≡ place_of (times (greatest spared c)) r (alone t) 0 0 subscripts)
+AllGiveNeeded = (tree : Forest Resolved) (bytes c : List ℕ) (r : ℕ) (receiving : Bool) (subscripts : List ℕ)
+    (spared : List Table) → IsRecordDescription tree → Refers r subscripts tree → CountsOf tree bytes (Ok c)
+    → AreThose (IsSparedOf tree r receiving) (tables_of tree) spared
+    → (d : List ℕ) × NeededOf tree r receiving bytes (Ok d)
+    × (place_of (times d) r tree 0 0 subscripts
+    ≡ place_of (times (greatest spared c)) r tree 0 0 subscripts)
 
 -- Storages of one length that have the same bytes where the counts stand that a reference reads give it one place: whether all counts of a storage
 -- are taken, but for those that it is spared, or only those that are needed.
 abbrev pub OnePlaceByNeeds : Type 0
-OnePlaceByNeeds = (t : Tree Resolved) (a b c d : List ℕ) (r : ℕ) (receiving : Bool) (subscripts : List ℕ)
-    (read spared : List Table) → IsRecordDescription (alone t) → Refers r subscripts (alone t) → length a ≡ length b
-    → AreThose (IsRead t r receiving) (tables_of (alone t)) read
-    → AreThose (IsSparedOf t r receiving) (tables_of (alone t)) spared
-    → AgreeOnCounts t a b read (greatest_counts t)
-    → CountsOf t a (Ok c) → NeededOf t r receiving b (Ok d)
-    → place_of (times (greatest spared c)) r (alone t) 0 0 subscripts
-    ≡ place_of (times d) r (alone t) 0 0 subscripts
+OnePlaceByNeeds = (tree : Forest Resolved) (a b c d : List ℕ) (r : ℕ) (receiving : Bool) (subscripts : List ℕ)
+    (read spared : List Table) → IsRecordDescription tree → Refers r subscripts tree → length a ≡ length b
+    → AreThose (IsRead tree r receiving) (tables_of tree) read
+    → AreThose (IsSparedOf tree r receiving) (tables_of tree) spared
+    → AgreeOnCounts tree a b read (greatest_counts tree)
+    → CountsOf tree a (Ok c) → NeededOf tree r receiving b (Ok d)
+    → place_of (times (greatest spared c)) r tree 0 0 subscripts
+    ≡ place_of (times d) r tree 0 0 subscripts

@@ -5,8 +5,8 @@ use Rattle.cob_copybook.specs.Kind.{Kind}
 use Rattle.cob_copybook.specs.Kind.TheVariants.{Group, Item as ItemKind}
 use Rattle.cob_copybook.specs.ResolvedOccurs.{ResolvedOccurs}
 use Rattle.cob_copybook.specs.ResolvedOccurs.TheVariants.{Once, Fixed, Varying}
-use Rattle.cob_copybook.specs.Forests.{Forest, NoEntries, AnEntry, Tree}
-use Rattle.cob_copybook.specs.Nodes.{Resolved, alone}
+use Rattle.cob_copybook.specs.Forests.{Forest, NoEntries, AnEntry}
+use Rattle.cob_copybook.specs.Nodes.{Resolved}
 use Rattle.cob_limits.specs.Limits.{most_dimensions}
 use Rattle.cob_copybook.specs.Areas.{AreAreas}
 use Rattle.cob_copybook.specs.Values.{AreValues}
@@ -62,22 +62,28 @@ pub record IsAhead (f : Forest Resolved) (x : Table) : Type 0 where
   pub before : x.count < x.number
   pub single : InTable x.count f → ⊥
 
+-- one entry holds all others, and redefines nothing
+abbrev pub RedefinesNothing : Forest Resolved → Type 0
+RedefinesNothing NoEntries = ⊥
+RedefinesNothing (AnEntry e children NoEntries) = e.redefines ≡ None
+RedefinesNothing (AnEntry e children (AnEntry d kids more)) = ⊥
+
 -- The entries may occur, items hold none, redefinitions stay in their areas and the record isn't too long; groups hold some, and redefinitions
 -- stand where they may, so that neither side of one varies; the entries are numbered from 0; no more than 7 tables stand within one another;
 -- each table that varies is counted by a whole number, which stands before it and in no table; each item can be stored; the values fit; and
--- the record itself redefines nothing.
-pub record IsSound (t : Tree Resolved) : Type 0 where
-  pub fit : FitsInRecord 0 t
-  pub filled : HoldSome (alone t)
-  pub areas : AreAreas [] (alone t)
-  pub numbered : AreNumbered 0 (alone t)
-  pub nested : AreNested 0 (alone t)
-  pub countable : AreCountable t (tables_of (alone t))
-  pub ahead : AllByRecursion (IsAhead (alone t)) (tables_of (alone t))
-  pub storable : AreStorable (alone t)
-  pub values : AreValues false false (alone t)
-  pub first : t.top.redefines ≡ None
+-- one entry, the record, holds all others and redefines nothing.
+pub record IsSound (tree : Forest Resolved) : Type 0 where
+  pub fit : FitsInRecord 0 tree
+  pub filled : HoldSome tree
+  pub areas : AreAreas [] tree
+  pub numbered : AreNumbered 0 tree
+  pub nested : AreNested 0 tree
+  pub countable : AreCountable tree (tables_of tree)
+  pub ahead : AllByRecursion (IsAhead tree) (tables_of tree)
+  pub storable : AreStorable tree
+  pub values : AreValues false false tree
+  pub first : RedefinesNothing tree
 
 -- so it is of every record description
 abbrev pub RecordsAreSound : Type 0
-RecordsAreSound = (t : Tree Resolved) → IsRecordDescription (alone t) → IsSound t
+RecordsAreSound = (tree : Forest Resolved) → IsRecordDescription tree → IsSound tree

@@ -1,7 +1,7 @@
 -- The counts of a record's tables, and where its entries stand under them.
 use Rattle.std.specs.Prelude.{◌≡◌, ◌⊎◌, ◌&&◌, nat_lt, ℕ, ◌+◌, ◌≤◌, Bool, true, false, List, [], ◌∷◌, length, Ok}
-use Rattle.cob_copybook.specs.Forests.{Tree, entries_in}
-use Rattle.cob_copybook.specs.Nodes.{Resolved, alone}
+use Rattle.cob_copybook.specs.Forests.{Forest, entries_in}
+use Rattle.cob_copybook.specs.Nodes.{Resolved}
 use Rattle.cob_layout.specs.declared.fields.Place.{Place}
 use Rattle.cob_layout.specs.Fields.{with_field}
 use Rattle.cob_layout_places.specs.declared.spots.Spot.{Spot}
@@ -21,29 +21,29 @@ abbrev pub room_in : Standing → ℕ
 room_in s = length s.counts
 
 -- there is room for this record
-abbrev pub IsRoomFor : Tree Resolved → Standing → Type 0
-IsRoomFor t s = room_in s ≡ entries_in (alone t)
+abbrev pub IsRoomFor : Forest Resolved → Standing → Type 0
+IsRoomFor tree s = room_in s ≡ entries_in tree
 
 -- the record has these counts, and its entries stand where they do under them
-abbrev pub ArePlaces : Tree Resolved → List ℕ → Standing → Type 0
-ArePlaces t counts s = (s.counts ≡ counts) × (s.spots ≡ spots_of (times counts) (alone t) 0 0)
+abbrev pub ArePlaces : Forest Resolved → List ℕ → Standing → Type 0
+ArePlaces tree counts s = (s.counts ≡ counts) × (s.spots ≡ spots_of (times counts) tree 0 0)
 
 -- so it is under some counts
-abbrev pub AreSomePlaces : Tree Resolved → Standing → Type 0
-AreSomePlaces t s = (counts : List ℕ) × ArePlaces t counts s
+abbrev pub AreSomePlaces : Forest Resolved → Standing → Type 0
+AreSomePlaces tree s = (counts : List ℕ) × ArePlaces tree counts s
 
 -- so it is under the counts that the bytes of a storage give
-abbrev pub StandsIn : Tree Resolved → List ℕ → Standing → Type 0
-StandsIn t bytes s = (counts : List ℕ) × CountsOf t bytes (Ok counts) × ArePlaces t counts s
+abbrev pub StandsIn : Forest Resolved → List ℕ → Standing → Type 0
+StandsIn tree bytes s = (counts : List ℕ) × CountsOf tree bytes (Ok counts) × ArePlaces tree counts s
 
 -- Where the bytes of this place alone change in a storage whose counts these are, the counts stay as they are.
-abbrev pub KeepsCounts : Tree Resolved → Place → Standing → Type 0
-KeepsCounts t p s = (counts before field : List ℕ) → ArePlaces t counts s → p.offset + p.length ≤ length before → length field ≡ p.length
-    → CountsOf t before (Ok counts) → CountsOf t (with_field before p field) (Ok counts)
+abbrev pub KeepsCounts : Forest Resolved → Place → Standing → Type 0
+KeepsCounts tree p s = (counts before field : List ℕ) → ArePlaces tree counts s → p.offset + p.length ≤ length before → length field ≡ p.length
+    → CountsOf tree before (Ok counts) → CountsOf tree (with_field before p field) (Ok counts)
 
 -- a reference to an entry, which receives or not, is spared no count
-abbrev pub SparesNone : Tree Resolved → ℕ → Bool → Type 0
-SparesNone t r receiving = AreThose (IsSparedOf t r receiving) (tables_of (alone t)) []
+abbrev pub SparesNone : Forest Resolved → ℕ → Bool → Type 0
+SparesNone tree r receiving = AreThose (IsSparedOf tree r receiving) (tables_of tree) []
 
 -- none of these tables
 abbrev pub are_none : List Table → Bool

@@ -1,7 +1,7 @@
 //! Copies of trees.
 
 ghost use Rattle.std.specs.Prelude.{◌≡◌, IfOk};
-ghost use Rattle.cob_copybook.specs.Nodes.{forest, node, resolved_entry, alone};
+ghost use Rattle.cob_copybook.specs.Nodes.{forest, node, resolved_entry, tree_of};
 ghost use Rattle.cob_copybook.specs.Node.TheViews.{out-Node};
 ghost use Rattle.cob_copybook.specs.Bytes.{TakesByte, TakeBytes};
 
@@ -56,7 +56,7 @@ fn same_entry(entry: &Node, children: Vec<Node>) -> Node
 /// Where no memory is left.
 pub(crate) fn copied(alloc: Global, entry: &Node) -> Result<Node, AllocError>
     ensures same { IfOk result (λ copy. node copy ≡ node entry.now) }
-    ensures bytes { IfOk result (λ copy. TakeBytes (alone (node copy))) }
+    ensures bytes { IfOk result (λ copy. TakeBytes (tree_of copy)) }
 {
     let mut children: Vec<Node> = Vec::new(alloc);
     for child in entry.children.iter() {

@@ -1,7 +1,7 @@
 //! The counts of the tables of a record.
 
 ghost use Rattle.std.specs.Prelude.{◌≡◌, ◌++◌, [], ◌∷◌, IfOk};
-ghost use Rattle.cob_copybook.specs.Nodes.{node, alone};
+ghost use Rattle.cob_copybook.specs.Nodes.{tree_of};
 ghost use Rattle.cob_layout.specs.Counting.{in_order, varying};
 
 use cob_copybook::{Node, ResolvedOccurs};
@@ -65,7 +65,7 @@ fn greatest_count(occurs: ResolvedOccurs) -> u32
 /// Adds the greatest counts of an entry and of those beneath it, in the order of the entries.
 fn push_greatest(entry: &Node, counts: &mut Vec<u32>) -> Result<(), AllocError>
     ensures { IfOk result
-        (λ _. counts.new.items ≡ counts.old.items ++ in_order (alone (node entry.now))) }
+        (λ _. counts.new.items ≡ counts.old.items ++ in_order (tree_of entry.now)) }
 {
     counts.push(greatest_count(entry.occurs))?;
     for child in entry.children.iter() {
@@ -80,7 +80,7 @@ fn push_greatest(entry: &Node, counts: &mut Vec<u32>) -> Result<(), AllocError>
 ///
 /// Where no memory is left.
 pub(crate) fn greatest_in_order(alloc: Global, root: &Node) -> Result<Vec<u32>, AllocError>
-    ensures { IfOk result (λ counts. counts.items ≡ in_order (alone (node root.now))) }
+    ensures { IfOk result (λ counts. counts.items ≡ in_order (tree_of root.now)) }
 {
     let mut counts = Vec::new(alloc);
     push_greatest(root, &mut counts)?;

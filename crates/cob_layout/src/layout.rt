@@ -1,7 +1,6 @@
 //! Layouts.
 
 ghost use Rattle.std.specs.Prelude.{◌≡◌, ◌<◌, ◌≤◌, ◌+◌, length, Ok, Err, Some, OnOk, IfNone, IfOk, IfErr, IfSome, IsFalse, IsTrue, OnErr, option_map};
-ghost use Rattle.cob_copybook.specs.Nodes.{alone};
 ghost use Rattle.cob_copybook.specs.Forests.{entries_in};
 ghost use Rattle.cob_copybook.specs.TreeLengths.{greatest_number, sum_of};
 ghost use Rattle.cob_limits.specs.Limits.{longest_record};
@@ -24,8 +23,8 @@ use crate::ways::{Way, ways};
 use arrayvec::ArrayVec;
 use cob_copybook::{Book, Node};
 use cob_layout_places::{
-    CountFault, Found, Ref, Spot, Table, covering, element_of, needs_are_read,
-    places_end_in_record, refers, seek, tables, take_counts, take_needed, times_of,
+    CountFault, Found, Ref, Spot, Table, covering, element_of, needs_are_read, refers, seek,
+    tables, take_counts, take_needed, times_of,
 };
 use std::alloc::{AllocError, Global};
 use std::marker::Model;
@@ -53,8 +52,8 @@ pub struct Layout {
 
 impl Model for Layout {
     ghost use Rattle.std.specs.Prelude.{◌≡◌, [], map};
-    ghost use Rattle.cob_copybook.specs.Forests.{Tree};
-    ghost use Rattle.cob_copybook.specs.Nodes.{Resolved, node, alone};
+    ghost use Rattle.cob_copybook.specs.Forests.{Forest};
+    ghost use Rattle.cob_copybook.specs.Nodes.{Resolved, tree_of};
     ghost use Rattle.cob_copybook.specs.TreeLengths.{greatest_number, sum_of};
     ghost use Rattle.cob_copybook.specs.Books.{IsRecordDescription};
     ghost use Rattle.cob_layout_places.specs.Lengths.{times};
@@ -67,13 +66,13 @@ impl Model for Layout {
     ghost use Rattle.std.specs.Coded.{codes};
     ghost use Rattle.cob_copybook.specs.Codes.{coded_forest};
 
-    ghost Value = { Tree Resolved };
+    ghost Value = { Forest Resolved };
 
     ghost coded = { Prim.hlevel (codes, coded_forest) };
 
-    ghost view = { λ l. node l.root };
+    ghost view = { λ l. tree_of l.root };
 
-    ghost invariant = { λ l. IsRecordDescription (alone (node l.root)) × IsSound (node l.root) × (l.tables.items ≡ tables_of (alone (node l.root))) × (l.counts ≡ greatest_counts (node l.root)) × (l.greatest ≡ sum_of greatest_number (alone (node l.root))) × TakeBytes (alone (node l.root)) × (map held l.ways.items ≡ held_in [] (alone (node l.root))) × (l.spots.items ≡ spots_of (times (greatest_counts (node l.root))) (alone (node l.root)) 0 0) };
+    ghost invariant = { λ l. IsRecordDescription (tree_of l.root) × IsSound (tree_of l.root) × (l.tables.items ≡ tables_of (tree_of l.root)) × (l.counts ≡ greatest_counts (tree_of l.root)) × (l.greatest ≡ sum_of greatest_number (tree_of l.root)) × TakeBytes (tree_of l.root) × (map held l.ways.items ≡ held_in [] (tree_of l.root)) × (l.spots.items ≡ spots_of (times (greatest_counts (tree_of l.root))) (tree_of l.root) 0 0) };
 }
 
 /// The place of an element, or the fault where it isn't one of those that there are.
@@ -99,7 +98,7 @@ impl Layout {
     ///
     /// Where no memory is left.
     pub fn of(alloc: Global, book: &Book) -> Result<Layout, AllocError>
-        ensures { IfOk result (λ l. alone l ≡ book.now) }
+        ensures { IfOk result (λ l. l ≡ book.now) }
     {
         records_are_sound();
         let root = copied(alloc, book.root())?;
@@ -122,12 +121,12 @@ impl Layout {
 
     /// The record's greatest length in bytes: 1 to 32,752.
     pub fn greatest(&self) -> u16
-        ensures value { result ≡ sum_of greatest_number (alone self.now) }
+        ensures value { result ≡ sum_of greatest_number self.now }
         ensures least { 0 < result }
         ensures most { result ≤ longest_record }
-        ensures record { IsRecordDescription (alone self.now) }
+        ensures record { IsRecordDescription self.now }
         // Each item takes a byte at least.
-        ensures bytes { TakeBytes (alone self.now) }
+        ensures bytes { TakeBytes self.now }
     {
         self.greatest
     }
@@ -136,7 +135,7 @@ impl Layout {
     pub fn greatest_counts(&self) -> &Counts
         ensures value { result.now ≡ greatest_counts self.now }
         ensures greatest { AreGreatest self.now result.now }
-        ensures room { length result.now ≡ entries_in (alone self.now) }
+        ensures room { length result.now ≡ entries_in self.now }
     {
         &self.counts
     }
@@ -148,18 +147,18 @@ impl Layout {
     /// Where no memory is left.
     pub fn new_counts(&self, alloc: Global) -> Result<Counts, AllocError>
         ensures value { IfOk result (λ counts. counts ≡ greatest_counts self.now) }
-        ensures room { IfOk result (λ counts. length counts ≡ entries_in (alone self.now)) }
+        ensures room { IfOk result (λ counts. length counts ≡ entries_in self.now) }
     {
         Counts::of(alloc, self.counts.as_slice())
     }
 
     /// The record's length in bytes under these counts: at least 1, since an item comes before the first table that varies.
     pub fn length(&self, counts: &Counts) -> u16
-        ensures value { result ≡ sum_of (times counts.now) (alone self.now) }
+        ensures value { result ≡ sum_of (times counts.now) self.now }
         ensures least { 0 < result }
-        ensures most { result ≤ sum_of greatest_number (alone self.now) }
+        ensures most { result ≤ sum_of greatest_number self.now }
         // Each byte of the record is in the place of exactly one occurrence of an item that stands in no redefinition.
-        ensures covered { IsCovered (times counts.now) (alone self.now) }
+        ensures covered { IsCovered (times counts.now) self.now }
     {
         covering();
         let counts = counts.as_slice();
@@ -171,8 +170,8 @@ impl Layout {
     pub fn reference(&self, node: usize, subscripts: &[u32]) -> Option<Ref>
         ensures found { IfSome result
             (λ r. (r.node ≡ node) × (r.subscripts.items ≡ subscripts.now)) }
-        ensures legal { IfSome result (λ r. Refers r.node r.subscripts.items (alone self.now)) }
-        ensures none { IfNone result (Refers node subscripts.now (alone self.now) → ⊥) }
+        ensures legal { IfSome result (λ r. Refers r.node r.subscripts.items self.now) }
+        ensures none { IfNone result (Refers node subscripts.now self.now → ⊥) }
     {
         fits_ref();
         if !refers(&self.root, node, subscripts) {
@@ -191,24 +190,22 @@ impl Layout {
     /// # Errors
     ///
     /// A subscript is past the number of elements that its table has under these counts.
-    pub fn place(&self, r: &Ref, counts: &Counts) -> Result<Place, PlaceFault>
-        requires refers { Refers r.now.node r.now.subscripts.items (alone self.now) }
-        ensures value { option_map placed (place_of (times counts.now) r.now.node
-            (alone self.now) 0 0 r.now.subscripts.items) ≡ Some result }
+    pub fn place(&self, reference: &Ref, counts: &Counts) -> Result<Place, PlaceFault>
+        requires refers { Refers reference.now.node reference.now.subscripts.items self.now }
+        ensures value { option_map placed (place_of (times counts.now) reference.now.node
+            self.now 0 0 reference.now.subscripts.items) ≡ Some result }
         // An element that is there ends within the record's length under the same counts.
         ensures current { IfOk result
-            (λ p. p.offset + p.length ≤ sum_of (times counts.now) (alone self.now)) }
-        ensures fits { IfOk result (λ p. p.offset + p.length ≤
-            sum_of greatest_number (alone self.now)) }
+            (λ p. p.offset + p.length ≤ sum_of (times counts.now) self.now) }
+        ensures fits { IfOk result (λ p. p.offset + p.length ≤ sum_of greatest_number self.now) }
     {
-        places_end_in_record();
         places_end_in_length();
         match seek(
             &self.root,
-            r.node,
+            reference.node,
             counts.as_slice(),
             0,
-            r.subscripts.as_slice(),
+            reference.subscripts.as_slice(),
         ) {
             Some(found) => placed(found),
             None => Err(PlaceFault { offset: 0 }),
@@ -221,7 +218,7 @@ impl Layout {
     ///
     /// The first count that gives no number within its table's bounds, or that ends past the bytes. The counts are as they were then.
     pub fn counts_of(&self, bytes: &[u8], counts: &mut Counts) -> Result<(), CountFault>
-        requires room { length counts.old ≡ entries_in (alone self.now) }
+        requires room { length counts.old ≡ entries_in self.now }
         ensures ok { OnOk result (CountsOf self.now bytes.now (Ok counts.new)) }
         ensures err { IfErr result (λ e. CountsOf self.now bytes.now (Err e)) }
         ensures same { OnErr result (counts.new ≡ counts.old) }
@@ -240,16 +237,17 @@ impl Layout {
     /// The first of these counts that gives no number within its table's bounds, or that ends past the bytes. The counts are as they were then.
     pub fn needed(
         &self,
-        r: &Ref,
+        reference: &Ref,
         receiving: bool,
         bytes: &[u8],
         counts: &mut Counts,
     ) -> Result<(), CountFault>
-        requires refers { Refers r.now.node r.now.subscripts.items (alone self.now) }
-        requires room { length counts.old ≡ entries_in (alone self.now) }
+        requires refers { Refers reference.now.node reference.now.subscripts.items self.now }
+        requires room { length counts.old ≡ entries_in self.now }
         ensures ok { OnOk result
-            (NeededOf self.now r.now.node receiving bytes.now (Ok counts.new)) }
-        ensures err { IfErr result (λ e. NeededOf self.now r.now.node receiving bytes.now (Err e)) }
+            (NeededOf self.now reference.now.node receiving bytes.now (Ok counts.new)) }
+        ensures err { IfErr result
+            (λ e. NeededOf self.now reference.now.node receiving bytes.now (Err e)) }
         ensures same { OnErr result (counts.new ≡ counts.old) }
         ensures room { length counts.new ≡ length counts.old }
     {
@@ -258,7 +256,7 @@ impl Layout {
         take_needed(
             &self.root,
             &self.tables,
-            r.node,
+            reference.node,
             receiving,
             bytes,
             &mut counts.next,
@@ -270,16 +268,16 @@ impl Layout {
     /// Whether the place of a reference needs no count, so that it is the same in every storage.
     ///
     /// The counts are room to ask in; what they hold afterwards isn't said.
-    pub fn needs_no_count(&self, r: &Ref, receiving: bool, counts: &mut Counts) -> bool
-        requires refers { Refers r.now.node r.now.subscripts.items (alone self.now) }
-        requires room { length counts.old ≡ entries_in (alone self.now) }
-        ensures must { IsTrue result → ReadsNone self.now r.now.node receiving }
-        ensures only { IsFalse result → ReadsNone self.now r.now.node receiving → ⊥ }
+    pub fn needs_no_count(&self, reference: &Ref, receiving: bool, counts: &mut Counts) -> bool
+        requires refers { Refers reference.now.node reference.now.subscripts.items self.now }
+        requires room { length counts.old ≡ entries_in self.now }
+        ensures must { IsTrue result → ReadsNone self.now reference.now.node receiving }
+        ensures only { IsFalse result → ReadsNone self.now reference.now.node receiving → ⊥ }
         ensures room { length counts.new ≡ length counts.old }
     {
         let _ = self.greatest();
         // Each count is an item, which takes a byte, and so ends past the end of no bytes.
-        match self.needed(r, receiving, &[], counts) {
+        match self.needed(reference, receiving, &[], counts) {
             Ok(()) => true,
             Err(_) => false,
         }

@@ -1,7 +1,6 @@
 //! The places of a record: the counts of its tables, and where its entries stand under them.
 
 ghost use Rattle.std.specs.Prelude.{◌≡◌, ◌<◌, ◌≤◌, ◌+◌, ℕ, List, Ok, Err, Some, OnOk, IfOk, IfErr, IfNone, IfSome, IsFalse, IsTrue, option_map};
-ghost use Rattle.cob_copybook.specs.Nodes.{alone};
 ghost use Rattle.cob_copybook.specs.TreeLengths.{greatest_number, sum_of};
 ghost use Rattle.cob_layout_places.specs.Lengths.{times};
 ghost use Rattle.cob_layout_places.specs.Places.{place_of};
@@ -46,22 +45,27 @@ impl Model for Places {
 
 impl Layout {
     /// The element of a reference under the counts whose spots these are.
-    fn element(&self, r: &Ref, spots: &[Spot]) -> Found
-        requires refers { Refers r.now.node r.now.subscripts.items (alone self.now) }
+    fn element(&self, reference: &Ref, spots: &[Spot]) -> Found
+        requires refers { Refers reference.now.node reference.now.subscripts.items self.now }
         requires spots { (counts : List ℕ)
-            × (spots.now ≡ spots_of (times counts) (alone self.now) 0 0) }
-        ensures { (counts : List ℕ) → spots.now ≡ spots_of (times counts) (alone self.now) 0 0
-            → place_of (times counts) r.now.node (alone self.now) 0 0 r.now.subscripts.items
+            × (spots.now ≡ spots_of (times counts) self.now 0 0) }
+        ensures { (counts : List ℕ) → spots.now ≡ spots_of (times counts) self.now 0 0
+            → place_of (times counts) reference.now.node self.now 0 0 reference.now.subscripts.items
             ≡ Some result }
     {
         places_end_in_record();
-        let tables = tables_at(&self.ways, r.node);
-        element_at(spots, r.node, tables, r.subscripts.as_slice())
+        let tables = tables_at(&self.ways, reference.node);
+        element_at(
+            spots,
+            reference.node,
+            tables,
+            reference.subscripts.as_slice(),
+        )
     }
 
     /// Whether a reference to an entry, which receives or not, reads no count.
     fn reads_none(&self, number: usize, receiving: bool) -> bool
-        requires there { Has number (alone self.now) }
+        requires there { Has number self.now }
         ensures must { IsTrue result → ReadsNone self.now number receiving }
         ensures only { IsFalse result → ReadsNone self.now number receiving → ⊥ }
     {
@@ -118,30 +122,29 @@ impl Layout {
     /// # Errors
     ///
     /// A subscript is past the number of elements that its table has under these counts.
-    pub fn place_in(&self, r: &Ref, places: &Places) -> Result<Place, PlaceFault>
-        requires refers { Refers r.now.node r.now.subscripts.items (alone self.now) }
+    pub fn place_in(&self, reference: &Ref, places: &Places) -> Result<Place, PlaceFault>
+        requires refers { Refers reference.now.node reference.now.subscripts.items self.now }
         requires stands { AreSomePlaces self.now places.now }
         ensures value { (counts : List ℕ) → ArePlaces self.now counts places.now
-            → option_map placed (place_of (times counts) r.now.node (alone self.now) 0 0
-            r.now.subscripts.items) ≡ Some result }
+            → option_map placed (place_of (times counts) reference.now.node self.now 0 0
+            reference.now.subscripts.items) ≡ Some result }
         // An element that is there ends within the record's length under the same counts.
         ensures current { IfOk result (λ p. (counts : List ℕ) → ArePlaces self.now counts places.now
-            → p.offset + p.length ≤ sum_of (times counts) (alone self.now)) }
-        ensures fits { IfOk result (λ p. p.offset + p.length ≤
-            sum_of greatest_number (alone self.now)) }
+            → p.offset + p.length ≤ sum_of (times counts) self.now) }
+        ensures fits { IfOk result (λ p. p.offset + p.length ≤ sum_of greatest_number self.now) }
     {
         places_end_in_length();
         let _ = self.greatest();
-        placed(self.element(r, &places.spots))
+        placed(self.element(reference, &places.spots))
     }
 
     /// The record's length in bytes under the counts of these places.
     pub fn length_in(&self, places: &Places) -> u16
         requires stands { AreSomePlaces self.now places.now }
         ensures value { (counts : List ℕ) → ArePlaces self.now counts places.now
-            → result ≡ sum_of (times counts) (alone self.now) }
+            → result ≡ sum_of (times counts) self.now }
         ensures least { 0 < result }
-        ensures most { result ≤ sum_of greatest_number (alone self.now) }
+        ensures most { result ≤ sum_of greatest_number self.now }
     {
         records_are_sound();
         let _ = self.greatest();
@@ -150,33 +153,34 @@ impl Layout {
     }
 
     /// The place of a reference that needs no count, so that it is the same in every storage; None where it needs one.
-    pub fn fixed_place(&self, r: &Ref, receiving: bool) -> Option<Place>
-        requires refers { Refers r.now.node r.now.subscripts.items (alone self.now) }
-        ensures fixed { IfSome result (λ p. ReadsNone self.now r.now.node receiving) }
+    pub fn fixed_place(&self, reference: &Ref, receiving: bool) -> Option<Place>
+        requires refers { Refers reference.now.node reference.now.subscripts.items self.now }
+        ensures fixed { IfSome result (λ p. ReadsNone self.now reference.now.node receiving) }
         ensures value { IfSome result (λ p. option_map placed (place_of (times (greatest_counts
-            self.now)) r.now.node (alone self.now) 0 0 r.now.subscripts.items) ≡ Some (Ok p)) }
-        ensures fits { IfSome result (λ p. p.offset + p.length ≤
-            sum_of greatest_number (alone self.now)) }
-        ensures none { IfNone result (ReadsNone self.now r.now.node receiving → ⊥) }
+            self.now)) reference.now.node self.now 0 0 reference.now.subscripts.items)
+            ≡ Some (Ok p)) }
+        ensures fits { IfSome result
+            (λ p. p.offset + p.length ≤ sum_of greatest_number self.now) }
+        ensures none { IfNone result (ReadsNone self.now reference.now.node receiving → ⊥) }
     {
         places_end_in_length();
-        if !self.reads_none(r.node, receiving) {
+        if !self.reads_none(reference.node, receiving) {
             return None;
         }
-        match placed(self.element(r, &self.spots)) {
+        match placed(self.element(reference, &self.spots)) {
             Ok(place) => Some(place),
             Err(_) => None,
         }
     }
 
     /// Whether a reference is spared no count: then it stands where it does under all counts of a storage.
-    pub fn spares_none(&self, r: &Ref, receiving: bool) -> bool
-        requires refers { Refers r.now.node r.now.subscripts.items (alone self.now) }
-        ensures must { IsTrue result → SparesNone self.now r.now.node receiving }
-        ensures only { IsFalse result → SparesNone self.now r.now.node receiving → ⊥ }
+    pub fn spares_none(&self, reference: &Ref, receiving: bool) -> bool
+        requires refers { Refers reference.now.node reference.now.subscripts.items self.now }
+        ensures must { IsTrue result → SparesNone self.now reference.now.node receiving }
+        ensures only { IsFalse result → SparesNone self.now reference.now.node receiving → ⊥ }
     {
-        let last = is_last_receiver(&self.ways, r.node, receiving);
-        none_spared(&self.tables, last, r.node)
+        let last = is_last_receiver(&self.ways, reference.node, receiving);
+        none_spared(&self.tables, last, reference.node)
     }
 
     /// Whether the counts of a storage stay as they are where the bytes of this place alone change: the place meets the item of no count.

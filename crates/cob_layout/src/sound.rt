@@ -15,7 +15,7 @@
 //! - each item can be stored: a number has a picture that its USAGE and SIGN take, and another item one byte for each position of its
 //!   picture that has one;
 //! - each VALUE suits its entry, and stands where a value may;
-//! - and the record itself redefines nothing.
+//! - and one entry, the record, holds all others and redefines nothing.
 
 ghost use Rattle.cob_layout.specs.Sound.{RecordsAreSound};
 

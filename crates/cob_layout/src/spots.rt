@@ -2,7 +2,7 @@
 
 ghost use Rattle.std.specs.Prelude.{◌≡◌, ◌+◌, ◌-◌, ◌*◌, ◌≤◌, ◌&&◌, nat_le, length, drop, IfOk};
 ghost use Rattle.cob_copybook.specs.Forests.{entries_in};
-ghost use Rattle.cob_copybook.specs.Nodes.{node, alone};
+ghost use Rattle.cob_copybook.specs.Nodes.{tree_of};
 ghost use Rattle.cob_limits.specs.Limits.{longest_record};
 ghost use Rattle.cob_layout_places.specs.Lengths.{times, FitsInRecord};
 ghost use Rattle.cob_layout_places.specs.Spots.{spots_of};
@@ -31,9 +31,9 @@ pub(crate) fn spot_at(spots: &[Spot], number: usize) -> Spot
 
 /// Writes the spots of a record under these counts.
 pub(crate) fn put_all_spots(root: &Node, counts: &[u32], spots: &mut [Spot])
-    requires fit { FitsInRecord 0 (node root.now) }
-    requires room { length spots.old ≡ entries_in (alone (node root.now)) }
-    ensures { spots.new ≡ spots_of (times counts.now) (alone (node root.now)) 0 0 }
+    requires fit { FitsInRecord 0 (tree_of root.now) }
+    requires room { length spots.old ≡ entries_in (tree_of root.now) }
+    ensures { spots.new ≡ spots_of (times counts.now) (tree_of root.now) 0 0 }
 {
     put_spots(root, counts, 0, spots);
 }
@@ -44,10 +44,10 @@ pub(crate) fn put_all_spots(root: &Node, counts: &[u32], spots: &mut [Spot])
 ///
 /// Where no memory is left.
 pub(crate) fn new_spots(alloc: Global, root: &Node, counts: &[u32]) -> Result<Vec<Spot>, AllocError>
-    requires fit { FitsInRecord 0 (node root.now) }
-    requires room { length counts.now ≡ entries_in (alone (node root.now)) }
+    requires fit { FitsInRecord 0 (tree_of root.now) }
+    requires room { length counts.now ≡ entries_in (tree_of root.now) }
     ensures { IfOk result
-        (λ spots. spots.items ≡ spots_of (times counts.now) (alone (node root.now)) 0 0) }
+        (λ spots. spots.items ≡ spots_of (times counts.now) (tree_of root.now) 0 0) }
 {
     let mut spots = vec![in alloc; NOWHERE; counts.len()]?;
     put_all_spots(root, counts, &mut spots);

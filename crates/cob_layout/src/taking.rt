@@ -1,11 +1,11 @@
 //! The counts of a record, taken where they stand.
 
 ghost use Rattle.std.specs.Prelude.{◌≡◌, ◌<◌, [], length, Ok, Err, Some, OnOk, IfOk, IfErr};
-ghost use Rattle.cob_copybook.specs.Nodes.{node, alone};
+ghost use Rattle.cob_copybook.specs.Nodes.{tree_of};
 ghost use Rattle.cob_layout.specs.Sound.{IsSound};
 ghost use Rattle.cob_layout_places.specs.Counts.{tables_of, AreNumberedBelow, IsCountable, IsCounted};
 ghost use Rattle.cob_layout_places.specs.Lengths.{times, FitsInRecord};
-ghost use Rattle.cob_layout_places.specs.Places.{place_in_entry};
+ghost use Rattle.cob_layout_places.specs.Places.{place_of};
 ghost use Rattle.cob_layout_places.specs.Spots.{spots_of};
 ghost use Rattle.cob_layout.specs.Counting.{greatest_counts, CountsOf};
 ghost use Rattle.cob_layout.specs.Standing.{first_of};
@@ -25,13 +25,14 @@ fn count_in(
     bytes: &[u8],
     counts: &[u32],
 ) -> Result<u32, CountFault>
-    requires fit { FitsInRecord 0 (node root.now) }
-    requires countable { IsCountable (node root.now) table }
+    requires fit { FitsInRecord 0 (tree_of root.now) }
+    requires countable { IsCountable (tree_of root.now) table }
     requires early { table.count < first
-        → place_in_entry (times counts.now) table.count (node root.now) 0 []
+        → place_of (times counts.now) table.count (tree_of root.now) 0 0 []
         ≡ Some (first_element spots.now table.count) }
-    ensures ok { IfOk result (λ v. IsCounted (node root.now) bytes.now table counts.now (Ok v)) }
-    ensures err { IfErr result (λ e. IsCounted (node root.now) bytes.now table counts.now (Err e)) }
+    ensures ok { IfOk result (λ v. IsCounted (tree_of root.now) bytes.now table counts.now (Ok v)) }
+    ensures err { IfErr result
+        (λ e. IsCounted (tree_of root.now) bytes.now table counts.now (Err e)) }
 {
     if table.count >= first {
         return count_of(root, table, bytes, counts);
@@ -67,14 +68,14 @@ pub(crate) fn take_all_counts(
     bytes: &[u8],
     counts: &mut [u32],
 ) -> Result<(), CountFault>
-    requires sound { IsSound (node root.now) }
-    requires tables { tables.now ≡ tables_of (alone (node root.now)) }
+    requires sound { IsSound (tree_of root.now) }
+    requires tables { tables.now ≡ tables_of (tree_of root.now) }
     requires spots { spots.now
-        ≡ spots_of (times (greatest_counts (node root.now))) (alone (node root.now)) 0 0 }
-    requires counts { counts.old ≡ greatest_counts (node root.now) }
+        ≡ spots_of (times (greatest_counts (tree_of root.now))) (tree_of root.now) 0 0 }
+    requires counts { counts.old ≡ greatest_counts (tree_of root.now) }
     requires slots { AreNumberedBelow (length counts.old) tables.now }
-    ensures ok { OnOk result (CountsOf (node root.now) bytes.now (Ok counts.new)) }
-    ensures err { IfErr result (λ e. CountsOf (node root.now) bytes.now (Err e)) }
+    ensures ok { OnOk result (CountsOf (tree_of root.now) bytes.now (Ok counts.new)) }
+    ensures err { IfErr result (λ e. CountsOf (tree_of root.now) bytes.now (Err e)) }
     ensures room { length counts.new ≡ length counts.old }
 {
     one_place();

@@ -2,7 +2,7 @@
 
 ghost use Rattle.std.specs.Prelude.{◌≡◌, ◌==◌, ◌&&◌, ◌+◌, ◌++◌, ◌≤◌, [], length, map, IfOk};
 ghost use Rattle.cob_copybook.specs.Forests.{entries_in};
-ghost use Rattle.cob_copybook.specs.Nodes.{node, alone};
+ghost use Rattle.cob_copybook.specs.Nodes.{node, tree_of};
 ghost use Rattle.cob_layout_places.specs.Cover.{AreNumbered};
 ghost use Rattle.cob_layout.specs.Sound.{own_dimension, AreNested};
 ghost use Rattle.cob_limits.specs.Limits.{most_dimensions};
@@ -50,11 +50,11 @@ fn push_ways(
     over: &[usize],
     ways: &mut Vec<Way>,
 ) -> Result<(), AllocError>
-    requires numbered { AreNumbered (node entry.now).top.number (alone (node entry.now)) }
+    requires numbered { AreNumbered (node entry.now).top.number (tree_of entry.now) }
     requires end { end ≡ (node entry.now).top.number + 1 + entries_in (node entry.now).beneath }
-    requires nested { AreNested (length over.now) (alone (node entry.now)) }
+    requires nested { AreNested (length over.now) (tree_of entry.now) }
     ensures { IfOk result (λ _. map held ways.new.items
-        ≡ map held ways.old.items ++ held_in over.now (alone (node entry.now))) }
+        ≡ map held ways.old.items ++ held_in over.now (tree_of entry.now)) }
 {
     let tables = with_own(over, entry);
     let within = with_own(over, entry);
@@ -77,10 +77,10 @@ fn push_ways(
 ///
 /// Where no memory is left.
 pub(crate) fn ways(alloc: Global, root: &Node, end: usize) -> Result<Vec<Way>, AllocError>
-    requires numbered { AreNumbered 0 (alone (node root.now)) }
-    requires end { end ≡ entries_in (alone (node root.now)) }
-    requires nested { AreNested 0 (alone (node root.now)) }
-    ensures { IfOk result (λ ways. map held ways.items ≡ held_in [] (alone (node root.now))) }
+    requires numbered { AreNumbered 0 (tree_of root.now) }
+    requires end { end ≡ entries_in (tree_of root.now) }
+    requires nested { AreNested 0 (tree_of root.now) }
+    ensures { IfOk result (λ ways. map held ways.items ≡ held_in [] (tree_of root.now)) }
 {
     let mut ways = Vec::new(alloc);
     push_ways(root, end, &[], &mut ways)?;

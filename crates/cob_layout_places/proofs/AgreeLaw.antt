@@ -2,7 +2,7 @@
 use Rattle.std.proofs.Common.{◌≡◌, ℕ, ◌+◌, ◌<◌, ◌≤◌, List, [], ◌∷◌, length, refl, sym, subst, arith, Bool, true, false, inl, inr, Ok, Err, Result, ◌*◌}
 use Rattle.std.specs.Prelude.{slice_set, slice_index}
 use Rattle.cob_copybook_tree.specs.declared.node.Item.{Item}
-use Rattle.cob_copybook_tree.specs.Forests.{Forest, NoEntries, AnEntry, Tree, entries_in}
+use Rattle.cob_copybook_tree.specs.Forests.{Forest, NoEntries, AnEntry, entries_in}
 use Rattle.cob_copybook_tree.specs.Nodes.{Resolved}
 use Rattle.cob_copybook_tree.specs.Lengths.{own_length, length_by_kind, sum_of}
 use Rattle.cob_layout_places.specs.declared.counts.CountFault.{CountFault}
@@ -21,7 +21,7 @@ same_says : (i : Item) (x : Table) (f : Found) (a b : List ℕ) (r : Result ℕ 
 same_says i x f a b (Ok v) n p h = (omega (arith, n, h.0), subst (λ (q : List ℕ). IsCountValue i x q v) p h.1)
 same_says i x f a b (Err e) n p h = (h.0, same_faulty e.short i x f a b n p h.1)
 
-same_counted : (t : Tree Resolved) (a b : List ℕ) (x : Table) (xs : List Table) (c : List ℕ) (r : Result ℕ CountFault) → length a ≡ length b → AgreeOnCounts t a b (x ∷ xs) c
+same_counted : (t : Forest Resolved) (a b : List ℕ) (x : Table) (xs : List Table) (c : List ℕ) (r : Result ℕ CountFault) → length a ≡ length b → AgreeOnCounts t a b (x ∷ xs) c
     → IsCounted t a x c r → IsCounted t b x c r
 same_counted t a b x xs c r n h k = record { item = k.item; is = k.is; found = k.found; stands = k.stands; says = same_says k.item x k.found a b r n (h.0 k.found k.stands) k.says }
 

@@ -1,11 +1,11 @@
 -- A place that is found lies within the record.
 use Rattle.std.proofs.Common.{ℕ, ◌+◌, ◌*◌, ◌≤◌, List, arith, Option, Some, None, Bool, true, false}
-use Rattle.cob_copybook_tree.specs.Forests.{Forest, NoEntries, AnEntry, Tree}
-use Rattle.cob_copybook_tree.specs.Nodes.{Resolved, alone}
-use Rattle.cob_copybook_tree.specs.Lengths.{greatest_number, element_length, whole_length}
+use Rattle.cob_copybook_tree.specs.Forests.{Forest, NoEntries, AnEntry}
+use Rattle.cob_copybook_tree.specs.Nodes.{Resolved}
+use Rattle.cob_copybook_tree.specs.Lengths.{greatest_number, element_length, sum_of}
 use Rattle.cob_layout_places.specs.declared.places.Found.{Found}
 use Rattle.cob_layout_places.specs.Lengths.{times}
-use Rattle.cob_layout_places.specs.Places.{place_of, place_in_entry, begins, or_else, also, choose, is_table, skipped, EndsBy, EndInRecord}
+use Rattle.cob_layout_places.specs.Places.{place_of, begins, or_else, also, choose, is_table, skipped, EndsBy, EndInRecord}
 use Rattle.cob_layout_places.proofs.ForestLemmas.{element_le, within_always}
 use Rattle.cob_layout_places.proofs.PlaceLemmas.{Left, Fits, first_of, rest_of, element_fits, beneath_fits}
 
@@ -42,12 +42,7 @@ find_fits c number (AnEntry e b rest) at area m subscripts l =
     (also_fits m _ _ (find_fits c number b _ _ m _ (inner_left c e b (begins e.redefines at area) m subscripts f))))
     (find_fits c number rest _ _ m subscripts (rest_of c e b rest at area m l))
 
-pub one_fits : (c : Resolved → ℕ) (number : ℕ) (t : Tree Resolved) (start m : ℕ) (subscripts : List ℕ) → Fits c t start m → EndsBy m (place_in_entry c number t start subscripts)
-one_fits c number t start m subscripts f =
-    choose_fits m _ _ _ (own_fits c t.top t.beneath start m subscripts f)
-    (also_fits m _ _ (find_fits c number t.beneath _ _ m _ (inner_left c t.top t.beneath start m subscripts f)))
-
 pub end_in_record : EndInRecord
-end_in_record counts number t start subscripts f =
-    one_fits (times counts) number t start (start + whole_length greatest_number t.top t.beneath) subscripts
-    (record { possible = f.possible; leaves = f.leaves; areas = f.areas; within = within_always counts (alone t); small = omega arith })
+end_in_record counts number tree start subscripts f =
+    find_fits (times counts) number tree start start (start + sum_of greatest_number tree) subscripts
+    (record { possible = f.possible; leaves = f.leaves; within = within_always counts tree; space = 0; room_left = omega arith; areas = f.areas; greatest = omega arith })

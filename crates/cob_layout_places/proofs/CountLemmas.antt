@@ -7,7 +7,7 @@ use Rattle.cob_decimal.proofs.DecimalLemmas.{number_of-push}
 use Rattle.cob_copybook_tree.specs.declared.node.Item.{Item}
 use Rattle.cob_copybook_tree.specs.declared.node.Kind.{Kind}
 use Rattle.cob_copybook_tree.specs.declared.node.Kind.TheVariants.{Item as ItemKind}
-use Rattle.cob_copybook_tree.specs.Forests.{Forest, NoEntries, AnEntry, Tree}
+use Rattle.cob_copybook_tree.specs.Forests.{Forest, NoEntries, AnEntry}
 use Rattle.cob_copybook_tree.specs.Nodes.{Resolved}
 use Rattle.cob_copybook_tree.specs.Lengths.{length_by_kind, sum_of, item_size}
 use Rattle.cob_item.proofs.ItemLemmas.{one_number}
@@ -15,8 +15,8 @@ use Rattle.cob_layout_places.specs.declared.counts.CountFault.{CountFault}
 use Rattle.cob_layout_places.specs.declared.places.Found.{Found}
 use Rattle.cob_layout_places.specs.declared.varying.Table.{Table}
 use Rattle.cob_layout_places.specs.Lengths.{times}
-use Rattle.cob_layout_places.specs.Places.{place_of, place_in_entry, or_else, choose, also}
-use Rattle.cob_layout_places.specs.Counts.{kind_in, kind_one, part_of, IsCountValue, IsFaulty, SaysOfTable, IsCounted, Taken, OneOutcome}
+use Rattle.cob_layout_places.specs.Places.{place_of, or_else, choose, also}
+use Rattle.cob_layout_places.specs.Counts.{kind_in, part_of, IsCountValue, IsFaulty, SaysOfTable, IsCounted, Taken, OneOutcome}
 
 -- ---- digits
 
@@ -60,18 +60,13 @@ pairs_choose false k f ks fs h j = j
 size_of : (k : Kind) (sum : ℕ) (i : Item) → k ≡ ItemKind i → length_by_kind k sum ≡ item_size i
 size_of k sum i e = ap (λ (q : Kind). length_by_kind q sum) e
 
-pairs_in : (c : Resolved → ℕ) (number : ℕ) (f : Forest Resolved) (at area : ℕ) (subscripts : List ℕ) → Pairs (kind_in number f) (place_of c number f at area subscripts)
+pub pairs_in : (c : Resolved → ℕ) (number : ℕ) (f : Forest Resolved) (at area : ℕ) (subscripts : List ℕ) → Pairs (kind_in number f) (place_of c number f at area subscripts)
 pairs_in c number NoEntries at area subscripts = tt
 pairs_in c number (AnEntry e children more) at area subscripts =
     pairs_or _ _ _ _
     (pairs_choose (e.number == number) e.kind _ _ _ (λ i is. size_of e.kind (sum_of c children) i is)
     (pairs_also _ _ _ (pairs_in c number children _ _ _)))
     (pairs_in c number more _ _ _)
-
-pub pairs_one : (c : Resolved → ℕ) (number : ℕ) (t : Tree Resolved) (start : ℕ) (subscripts : List ℕ) → Pairs (kind_one number t) (place_in_entry c number t start subscripts)
-pairs_one c number t start subscripts =
-    pairs_choose (t.top.number == number) t.top.kind _ _ _ (λ i is. size_of t.top.kind (sum_of c t.beneath) i is)
-    (pairs_also _ _ _ (pairs_in c number t.beneath _ _ _))
 
 -- an item that is found has its length
 pub found_size : (o : Option Kind) (p : Option Found) (i : Item) (f : Found) → Pairs o p → o ≡ Some (ItemKind i) → p ≡ Some f → f.length ≡ item_size i
@@ -120,10 +115,10 @@ same_some a b o e f = let g : Some a ≡ Some b = sym e ∙ f in cc
 same_item : (a b : Item) (o : Option Kind) → o ≡ Some (ItemKind a) → o ≡ Some (ItemKind b) → a ≡ b
 same_item a b o e f = let g : Some (ItemKind a) ≡ Some (ItemKind b) = sym e ∙ f in cc
 
-pub one_counted : (t : Tree Resolved) (bytes : List ℕ) (x : Table) (c : List ℕ) (r s : Result ℕ CountFault) → IsCounted t bytes x c r → IsCounted t bytes x c s → r ≡ s
+pub one_counted : (t : Forest Resolved) (bytes : List ℕ) (x : Table) (c : List ℕ) (r s : Result ℕ CountFault) → IsCounted t bytes x c r → IsCounted t bytes x c s → r ≡ s
 one_counted t bytes x c r s a b =
-    let i : a.item ≡ b.item = same_item a.item b.item (kind_one x.count t) a.is b.is in
-    let f : a.found ≡ b.found = same_some a.found b.found (place_in_entry (times c) x.count t 0 []) a.stands b.stands in
+    let i : a.item ≡ b.item = same_item a.item b.item (kind_in x.count t) a.is b.is in
+    let f : a.found ≡ b.found = same_some a.found b.found (place_of (times c) x.count t 0 0 []) a.stands b.stands in
     let k : SaysOfTable b.item x b.found bytes r = subst (λ (g : Found). SaysOfTable b.item x g bytes r) f (subst (λ (j : Item). SaysOfTable j x a.found bytes r) i a.says) in
     one_saying b.item x b.found bytes r s k b.says
 
@@ -152,38 +147,38 @@ one_outcome t bytes (x ∷ xs) c r s (inr a) (inl b) = absurd (let e : the_err a
 
 -- ---- one table further
 
-pub next_taken : (t : Tree Resolved) (bytes : List ℕ) (xs : List Table) (k : ℕ) (d : Table) (c : List ℕ) (r : Result (List ℕ) CountFault) (v : ℕ) → k < length xs
+pub next_taken : (t : Forest Resolved) (bytes : List ℕ) (xs : List Table) (k : ℕ) (d : Table) (c : List ℕ) (r : Result (List ℕ) CountFault) (v : ℕ) → k < length xs
     → IsCounted t bytes (get_or xs k d) c (Ok v) → Taken t bytes (drop (k + 1) xs) (slice_set c (get_or xs k d).number v) r
     → Taken t bytes (drop k xs) c r
 next_taken t bytes xs k d c r v lt i more = subst (λ (ys : List Table). Taken t bytes ys c r) (sym (drop_more xs k d lt)) (inl (v, i, more))
 
-pub stops_here : (t : Tree Resolved) (bytes : List ℕ) (xs : List Table) (k : ℕ) (d : Table) (c : List ℕ) (e : CountFault) → k < length xs
+pub stops_here : (t : Forest Resolved) (bytes : List ℕ) (xs : List Table) (k : ℕ) (d : Table) (c : List ℕ) (e : CountFault) → k < length xs
     → IsCounted t bytes (get_or xs k d) c (Err e) → Taken t bytes (drop k xs) c (Err e)
 stops_here t bytes xs k d c e lt i = subst (λ (ys : List Table). Taken t bytes ys c (Err e)) (sym (drop_more xs k d lt)) (inr (e, i, refl))
 
-pub all_taken : (t : Tree Resolved) (bytes : List ℕ) (xs : List Table) (k : ℕ) (c : List ℕ) → length xs ≤ k → Taken t bytes (drop k xs) c (Ok c)
+pub all_taken : (t : Forest Resolved) (bytes : List ℕ) (xs : List Table) (k : ℕ) (c : List ℕ) → length xs ≤ k → Taken t bytes (drop k xs) c (Ok c)
 all_taken t bytes xs k c h = subst (λ (ys : List Table). Taken t bytes ys c (Ok c)) (sym (drop_all k xs h)) refl
 
 pub part_same : (bytes : List ℕ) (start size : ℕ) → take (start + size - start) (drop start bytes) ≡ take size (drop start bytes)
 part_same bytes start size = ap (λ (n : ℕ). take n (drop start bytes)) (omega arith)
 
 -- what the bytes say where a count stands, they say of its table under whatever counts it stands there
-pub counted_ok : (t : Tree Resolved) (bytes : List ℕ) (x : Table) (i : Item) (f : Found) (r : Result ℕ CountFault) → kind_one x.count t ≡ Some (ItemKind i) → IfOk r (λ v. SaysOfTable i x f bytes (Ok v))
-    → IfOk r (λ v. (c : List ℕ) → place_in_entry (times c) x.count t 0 [] ≡ Some f → IsCounted t bytes x c (Ok v))
+pub counted_ok : (t : Forest Resolved) (bytes : List ℕ) (x : Table) (i : Item) (f : Found) (r : Result ℕ CountFault) → kind_in x.count t ≡ Some (ItemKind i) → IfOk r (λ v. SaysOfTable i x f bytes (Ok v))
+    → IfOk r (λ v. (c : List ℕ) → place_of (times c) x.count t 0 0 [] ≡ Some f → IsCounted t bytes x c (Ok v))
 counted_ok t bytes x i f (Ok v) is says = λ c stands. record { item = i; is = is; found = f; stands = stands; says = says }
 counted_ok t bytes x i f (Err e) is says = tt
 
-pub counted_err : (t : Tree Resolved) (bytes : List ℕ) (x : Table) (i : Item) (f : Found) (r : Result ℕ CountFault) → kind_one x.count t ≡ Some (ItemKind i) → IfErr r (λ e. SaysOfTable i x f bytes (Err e))
-    → IfErr r (λ e. (c : List ℕ) → place_in_entry (times c) x.count t 0 [] ≡ Some f → IsCounted t bytes x c (Err e))
+pub counted_err : (t : Forest Resolved) (bytes : List ℕ) (x : Table) (i : Item) (f : Found) (r : Result ℕ CountFault) → kind_in x.count t ≡ Some (ItemKind i) → IfErr r (λ e. SaysOfTable i x f bytes (Err e))
+    → IfErr r (λ e. (c : List ℕ) → place_of (times c) x.count t 0 0 [] ≡ Some f → IsCounted t bytes x c (Err e))
 counted_err t bytes x i f (Ok v) is says = tt
 counted_err t bytes x i f (Err e) is says = λ c stands. record { item = i; is = is; found = f; stands = stands; says = says }
 
-pub at_counts : (t : Tree Resolved) (bytes : List ℕ) (x : Table) (f : Found) (c : List ℕ) (r : Result ℕ CountFault) → place_in_entry (times c) x.count t 0 [] ≡ Some f
-    → IfOk r (λ v. (d : List ℕ) → place_in_entry (times d) x.count t 0 [] ≡ Some f → IsCounted t bytes x d (Ok v)) → IfOk r (λ v. IsCounted t bytes x c (Ok v))
+pub at_counts : (t : Forest Resolved) (bytes : List ℕ) (x : Table) (f : Found) (c : List ℕ) (r : Result ℕ CountFault) → place_of (times c) x.count t 0 0 [] ≡ Some f
+    → IfOk r (λ v. (d : List ℕ) → place_of (times d) x.count t 0 0 [] ≡ Some f → IsCounted t bytes x d (Ok v)) → IfOk r (λ v. IsCounted t bytes x c (Ok v))
 at_counts t bytes x f c (Ok v) stands h = h c stands
 at_counts t bytes x f c (Err e) stands h = tt
 
-pub fault_at_counts : (t : Tree Resolved) (bytes : List ℕ) (x : Table) (f : Found) (c : List ℕ) (r : Result ℕ CountFault) → place_in_entry (times c) x.count t 0 [] ≡ Some f
-    → IfErr r (λ e. (d : List ℕ) → place_in_entry (times d) x.count t 0 [] ≡ Some f → IsCounted t bytes x d (Err e)) → IfErr r (λ e. IsCounted t bytes x c (Err e))
+pub fault_at_counts : (t : Forest Resolved) (bytes : List ℕ) (x : Table) (f : Found) (c : List ℕ) (r : Result ℕ CountFault) → place_of (times c) x.count t 0 0 [] ≡ Some f
+    → IfErr r (λ e. (d : List ℕ) → place_of (times d) x.count t 0 0 [] ≡ Some f → IsCounted t bytes x d (Err e)) → IfErr r (λ e. IsCounted t bytes x c (Err e))
 fault_at_counts t bytes x f c (Ok v) stands h = tt
 fault_at_counts t bytes x f c (Err e) stands h = h c stands

@@ -13,7 +13,7 @@ use Rattle.cob_copybook_tree.specs.declared.node.ResolvedOccurs.{ResolvedOccurs}
 use Rattle.cob_copybook_tree.specs.declared.node.ResolvedOccurs.TheVariants.{Once, Fixed, Varying}
 use Rattle.cob_copybook_tree.specs.Forests.{Forest, NoEntries, AnEntry, entries_in}
 use Rattle.cob_copybook_tree.specs.Nodes.{Resolved}
-use Rattle.cob_copybook_tree.specs.Lengths.{greatest_number, greatest_number_by, own_length, length_by_kind, sum_of, element_length, whole_length}
+use Rattle.cob_copybook_tree.specs.Lengths.{greatest_number, greatest_number_by, own_length, sum_of, element_length, whole_length}
 use Rattle.cob_layout_places.specs.Lengths.{times, times_by}
 use Rattle.cob_layout_places.specs.Places.{is_table, place_of, or_else, also, choose, begins, skipped, is_there, later}
 use Rattle.cob_layout_places.specs.Cover.{Occurrence, several, under, each, unless, item_or, occurrences, holds, holds_in, AreNumbered, CountsOccurrences, Covering}

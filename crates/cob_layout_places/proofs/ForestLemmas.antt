@@ -10,7 +10,7 @@ use Rattle.cob_copybook_tree.specs.declared.node.Item.{Item}
 use Rattle.cob_copybook_tree.specs.declared.node.ResolvedOccurs.{ResolvedOccurs}
 use Rattle.cob_copybook_tree.specs.declared.node.ResolvedOccurs.TheVariants.{Once, Fixed, Varying}
 use Rattle.cob_copybook_tree.specs.Forests.{Forest, NoEntries, AnEntry, Tree}
-use Rattle.cob_copybook_tree.specs.Nodes.{Resolved, resolved_entry, node_step, node, forest, alone}
+use Rattle.cob_copybook_tree.specs.Nodes.{Resolved, resolved_entry, node_step, node, forest, tree_of}
 use Rattle.cob_copybook_tree.specs.Lengths.{greatest_number, greatest_number_by, own_length, length_by_kind, sum_of, element_length, whole_length, item_size}
 use Rattle.cob_layout_places.specs.Lengths.{times, times_by, MayOccur, AreWithin}
 
@@ -67,7 +67,7 @@ below n = forest (out-Node n).children.items
 pub below_is : (n : Node) → (node n).beneath ≡ below n
 below_is n = ap (λ (t : Tree Resolved). t.beneath) (node_out n)
 
-pub below_possible : (n : Node) → MayOccur (alone (node n)) → MayOccur (below n)
+pub below_possible : (n : Node) → MayOccur (tree_of n) → MayOccur (below n)
 below_possible n h = subst MayOccur (below_is n) h.1
 
 pub element_out : (c : Resolved → ℕ) (n : Node) → element_length c (node n).top (node n).beneath ≡ length_by_kind (out-Node n).kind (sum_of c (below n))
@@ -102,7 +102,7 @@ left_sum c children k n lt is =
 
 -- what is known of the next entry and of those behind it
 pub record Next (n : Node) (now after : Forest Resolved) : Type 0 where
-  pub possible : MayOccur (alone (node n))
+  pub possible : MayOccur (tree_of n)
   pub possibles : MayOccur after
   pub skips : (k : Resolved → ℕ) → is_some (out-Node n).redefines ≡ true → sum_of k now ≡ sum_of k after
   pub adds : (k : Resolved → ℕ) → is_some (out-Node n).redefines ≡ false → sum_of k now ≡ whole_length k (node n).top (node n).beneath + sum_of k after

@@ -3,8 +3,8 @@ use Rattle.std.proofs.Common.{◌≡◌, ℕ, ◌+◌, ◌<◌, ◌≤◌, ◌==
 use Rattle.std.specs.Prelude.{◌||◌, not}
 use Rattle.std.proofs.lemmas.Bool.Decides.{nat_tests}
 use Rattle.std.proofs.lemmas.Bool.{cases_lt}
-use Rattle.cob_copybook_tree.specs.Forests.{Forest, NoEntries, AnEntry, Tree, entries_in}
-use Rattle.cob_copybook_tree.specs.Nodes.{Resolved, alone}
+use Rattle.cob_copybook_tree.specs.Forests.{Forest, NoEntries, AnEntry, entries_in}
+use Rattle.cob_copybook_tree.specs.Nodes.{Resolved}
 use Rattle.cob_layout_places.specs.declared.varying.Table.{Table}
 use Rattle.cob_layout_places.specs.Places.{is_table}
 use Rattle.cob_layout_places.specs.Cover.{AreNumbered}
@@ -263,45 +263,45 @@ not_must false e = refl
 not_must true e = absurd (cc)
 
 -- the test of what is spared
-abbrev pub Passes : Tree Resolved → ℕ → Bool → Table → Bool
-Passes t r receiving x = (receiving && (number_behind false r (alone t) == 1 + entries_in t.beneath)) && (nat_lt r x.number && nat_lt r x.count)
+abbrev pub Passes : Forest Resolved → ℕ → Bool → Table → Bool
+Passes t r receiving x = (receiving && (number_behind false r t == entries_in t)) && (nat_lt r x.number && nat_lt r x.count)
 
-pub spared_passes : (t : Tree Resolved) (r : ℕ) (receiving : Bool) (x : Table) → AreNumbered 0 (alone t) → Has r (alone t) → receiving ≡ true → IsSpared r x (alone t) → Passes t r receiving x ≡ true
+pub spared_passes : (t : Forest Resolved) (r : ℕ) (receiving : Bool) (x : Table) → AreNumbered 0 t → Has r t → receiving ≡ true → IsSpared r x t → Passes t r receiving x ≡ true
 spared_passes t r receiving x h a v s =
-    let e = holds_last r (alone t) h a s.last in
+    let e = holds_last r t h a s.last in
     and_both _ _ (and_both _ _ v (is_same _ _ (omega (arith, e))))
-    (and_both _ _ (lt_yes r x.number (holds_behind 0 r x.number (alone t) h s.table)) (lt_yes r x.count (holds_behind 0 r x.count (alone t) h s.count)))
+    (and_both _ _ (lt_yes r x.number (holds_behind 0 r x.number t h s.table)) (lt_yes r x.count (holds_behind 0 r x.count t h s.count)))
 
-pub passes_spared : (t : Tree Resolved) (r : ℕ) (receiving : Bool) (x : Table) → AreNumbered 0 (alone t) → Has r (alone t) → Has x.number (alone t) → Has x.count (alone t)
-    → Passes t r receiving x ≡ true → (receiving ≡ true) × IsSpared r x (alone t)
+pub passes_spared : (t : Forest Resolved) (r : ℕ) (receiving : Bool) (x : Table) → AreNumbered 0 t → Has r t → Has x.number t → Has x.count t
+    → Passes t r receiving x ≡ true → (receiving ≡ true) × IsSpared r x t
 passes_spared t r receiving x h a b d p =
     let front = and_first _ _ p in
     let back = and_second _ _ p in
-    let e : number_behind false r (alone t) ≡ entries_in (alone t) = omega (arith, same_must _ _ (and_second receiving _ front)) in
+    let e : number_behind false r t ≡ entries_in t = omega (arith, same_must _ _ (and_second receiving _ front)) in
     let table = lt_must r x.number (and_first _ _ back) in
     let count = lt_must r x.count (and_second (nat_lt r x.number) _ back) in (
       and_first receiving _ front,
       record {
-        last = λ y there l. last_holds r y (alone t) h a e there l;
-        table = last_holds r x.number (alone t) h a e b table;
-        count = last_holds r x.count (alone t) h a e d count;
+        last = λ y there l. last_holds r y t h a e there l;
+        table = last_holds r x.number t h a e b table;
+        count = last_holds r x.count t h a e d count;
       },
     )
 
-read_needed : (t : Tree Resolved) (r : ℕ) (receiving : Bool) (x : Table) → AreNumbered 0 (alone t) → Has r (alone t) → Has x.number (alone t)
-    → is_read t r receiving x ≡ true → Needs r x.number (alone t) × (receiving ≡ true → IsSpared r x (alone t) → ⊥)
+read_needed : (t : Forest Resolved) (r : ℕ) (receiving : Bool) (x : Table) → AreNumbered 0 t → Has r t → Has x.number t
+    → is_read t r receiving x ≡ true → Needs r x.number t × (receiving ≡ true → IsSpared r x t → ⊥)
 read_needed t r receiving x h a b k =
-    let below = lt_must x.number (number_behind true r (alone t)) (and_first _ _ k) in
-    let fails : Passes t r receiving x ≡ false = not_must _ (and_second (nat_lt x.number (number_behind true r (alone t))) _ k) in (
-      below_needed r x.number (alone t) h a b below,
+    let below = lt_must x.number (number_behind true r t) (and_first _ _ k) in
+    let fails : Passes t r receiving x ≡ false = not_must _ (and_second (nat_lt x.number (number_behind true r t)) _ k) in (
+      below_needed r x.number t h a b below,
       λ v s. let e : true ≡ false = sym (spared_passes t r receiving x h a v s) ∙ fails in cc,
     )
 
-needed_read : (t : Tree Resolved) (r : ℕ) (receiving : Bool) (x : Table) → AreNumbered 0 (alone t) → Has r (alone t) → Has x.number (alone t) → Has x.count (alone t)
-    → Needs r x.number (alone t) × (receiving ≡ true → IsSpared r x (alone t) → ⊥) → is_read t r receiving x ≡ true
+needed_read : (t : Forest Resolved) (r : ℕ) (receiving : Bool) (x : Table) → AreNumbered 0 t → Has r t → Has x.number t → Has x.count t
+    → Needs r x.number t × (receiving ≡ true → IsSpared r x t → ⊥) → is_read t r receiving x ≡ true
 needed_read t r receiving x h a b d n = elim (two_ways (Passes t r receiving x)) [
   | inl p ↦ (let s = passes_spared t r receiving x h a b d p in absurd (n.1 s.0 s.1))
-  | inr p ↦ and_both _ _ (lt_yes x.number (number_behind true r (alone t)) (needed_below r x.number (alone t) h a n.0)) (not_true _ p)
+  | inr p ↦ and_both _ _ (lt_yes x.number (number_behind true r t) (needed_below r x.number t h a n.0)) (not_true _ p)
 ]
 
 pub needs_are_read : NeedsAreRead

@@ -5,12 +5,36 @@ use Rattle.cob_copybook_tree.specs.declared.node.Node.TheViews.{out-Node}
 use Rattle.cob_copybook_tree.specs.declared.node.Kind.{Kind}
 use Rattle.cob_copybook_tree.specs.declared.node.Kind.TheVariants.{Group, Item as ItemKind}
 use Rattle.cob_copybook_tree.specs.Forests.{Forest, NoEntries, AnEntry, Tree}
-use Rattle.cob_copybook_tree.specs.Nodes.{Resolved, resolved_entry, node, alone}
+use Rattle.cob_copybook_tree.specs.Nodes.{Resolved, resolved_entry, node, tree_of}
 use Rattle.cob_copybook_tree.specs.Lengths.{greatest_number, greatest_number_by, own_length, length_by_kind, sum_of, element_length, whole_length}
 use Rattle.cob_layout_places.specs.declared.places.Found.{Found}
-use Rattle.cob_layout_places.specs.Lengths.{times, area_by, MayOccur, AreInAreas, AreWithin, AreLeaves, IsLeaf, FitsInRecord}
-use Rattle.cob_layout_places.specs.Places.{place_of, place_in_entry, begins, or_else, also, choose, is_table, skipped, later, is_there}
+use Rattle.cob_layout_places.specs.Lengths.{times, area_by, MayOccur, AreInAreas, AreWithin, AreLeaves, IsLeaf, EntryFits, FitsInRecord}
+use Rattle.cob_layout_places.specs.Places.{place_of, begins, or_else, also, choose, is_table, skipped, later, is_there}
 use Rattle.cob_layout_places.proofs.ForestLemmas.{left, below, below_is, left_is, redefines_of, node_out, mul-le, element_le, within_always}
+
+-- where the entry with this number stands in one entry with those beneath it, which begins at `start`
+abbrev pub place_in_entry : (Resolved → ℕ) → ℕ → Tree Resolved → ℕ → List ℕ → Option Found
+place_in_entry c number t start subscripts =
+    let table = is_table t.top.occurs in
+    let size = element_length c t.top t.beneath in
+    let offset = start + skipped table (greatest_number t.top) subscripts * size in
+    let there = is_there table (c t.top) subscripts in
+    choose (t.top.number == number) (record { offset = offset; length = size; within = there })
+    (also there (place_of c number t.beneath offset offset (later table subscripts)))
+
+or_none : (o : Option Found) → or_else o None ≡ o
+or_none None = refl
+or_none (Some f) = refl
+
+pub begins_same : (o : Option (List ℕ)) (n : ℕ) → begins o n n ≡ n
+begins_same None n = refl
+begins_same (Some name) n = refl
+
+-- so it stands in the tree of the entry
+pub place_alone : (c : Resolved → ℕ) (number : ℕ) (n : Node) (start : ℕ) (subscripts : List ℕ) → place_of c number (tree_of n) start start subscripts ≡ place_in_entry c number (node n) start subscripts
+place_alone c number n start subscripts =
+    or_none (place_in_entry c number (node n) (begins (node n).top.redefines start start) subscripts)
+    ∙ ap (λ (m : ℕ). place_in_entry c number (node n) m subscripts) (begins_same (node n).top.redefines start)
 
 -- the elements that are skipped, and one more, are there at most
 pub skipped_less : (b : Bool) (n : ℕ) (subscripts : List ℕ) → 0 < n → skipped b n subscripts + 1 ≤ n
@@ -44,10 +68,10 @@ pub record Left (c : Resolved → ℕ) (rest : Forest Resolved) (at area m : ℕ
 
 -- what is known of one entry
 pub record Fits (c : Resolved → ℕ) (t : Tree Resolved) (start m : ℕ) : Type 0 where
-  pub possible : MayOccur (alone t)
-  pub leaves : AreLeaves (alone t)
+  pub possible : MayOccur (AnEntry t.top t.beneath NoEntries)
+  pub leaves : AreLeaves (AnEntry t.top t.beneath NoEntries)
   pub areas : AreInAreas 0 t.beneath
-  pub within : AreWithin c (alone t)
+  pub within : AreWithin c (AnEntry t.top t.beneath NoEntries)
   pub small : start + whole_length greatest_number t.top t.beneath ≤ m
 
 first_fits : (o : Option (List ℕ)) (at area space w sum m : ℕ) → area + space ≤ m → w ≤ area_by o space w → at + (own_length o w + sum) ≤ m → begins o at area + w ≤ m
@@ -124,9 +148,23 @@ entries c n offset start m f h =
       greatest = subst (λ (t : Forest Resolved). offset + sum_of greatest_number t ≤ m) b g;
     }
 
+-- the elements of an entry that stays in its area end by then, even where it takes no room
+whole_ends : (o : Option (List ℕ)) (start w m : ℕ) → w ≤ area_by o 0 w → start + (own_length o w + 0) ≤ m → start + w ≤ m
+whole_ends None start w m h k = omega (arith, k)
+whole_ends (Some name) start w m h k = omega (arith, h, k)
+
+-- an entry by itself fits
+pub entry_fits : (start : ℕ) (e : Resolved) (b : Forest Resolved) → FitsInRecord start (AnEntry e b NoEntries) → EntryFits start e b
+entry_fits start e b f = record {
+  possible = f.possible;
+  leaves = f.leaves;
+  areas = f.areas.1;
+  small = whole_ends e.redefines start (whole_length greatest_number e b) 32752 f.areas.0 f.small;
+}
+
 -- under counts an entry that fits has what the lemmas ask for
-pub fits : (counts : List ℕ) (t : Tree Resolved) (start : ℕ) → FitsInRecord start t → Fits (times counts) t start 32752
-fits counts t start f = record { possible = f.possible; leaves = f.leaves; areas = f.areas; within = within_always counts (alone t); small = f.small }
+pub fits : (counts : List ℕ) (t : Tree Resolved) (start : ℕ) → EntryFits start t.top t.beneath → Fits (times counts) t start 32752
+fits counts t start f = record { possible = f.possible; leaves = f.leaves; areas = f.areas; within = within_always counts (AnEntry t.top t.beneath NoEntries); small = f.small }
 
 pub whole_small : (c : Resolved → ℕ) (t : Tree Resolved) (start m : ℕ) → Fits c t start m → whole_length c t.top t.beneath ≤ m
 whole_small c t start m f = omega (arith, whole_le c t.top t.beneath f.within.0 f.within.1, f.small)

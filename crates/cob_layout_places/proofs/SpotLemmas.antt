@@ -6,13 +6,25 @@ use Rattle.std.specs.Prelude.{slice_set}
 use borrow.Rule.Slice.PartMut.{put_mid, mid_of}
 use Rattle.cob_copybook_tree.specs.declared.node.Node.{Node}
 use Rattle.cob_copybook_tree.specs.declared.node.Node.TheViews.{out-Node}
-use Rattle.cob_copybook_tree.specs.Forests.{Forest, NoEntries, AnEntry, entries_in}
-use Rattle.cob_copybook_tree.specs.Nodes.{Resolved, node}
+use Rattle.cob_copybook_tree.specs.Forests.{Forest, NoEntries, AnEntry, Tree, entries_in}
+use Rattle.cob_copybook_tree.specs.Nodes.{Resolved, node, tree_of}
 use Rattle.cob_copybook_tree.specs.Lengths.{element_length, whole_length, own_length}
 use Rattle.cob_layout_places.specs.declared.spots.Spot.{Spot}
 use Rattle.cob_layout_places.specs.Places.{begins}
-use Rattle.cob_layout_places.specs.Spots.{spots_of, spots_one}
+use Rattle.cob_layout_places.specs.Spots.{spots_of}
 use Rattle.cob_layout_places.proofs.ForestLemmas.{left, left_is, redefines_of}
+use Rattle.cob_layout_places.proofs.PlaceLemmas.{begins_same}
+
+-- the spots of one entry and of those beneath it, which begins at `start`
+abbrev pub spots_one : (Resolved → ℕ) → Tree Resolved → ℕ → List Spot
+spots_one c t start = record { offset = start; length = element_length c t.top t.beneath; times = c t.top } ∷ spots_of c t.beneath start start
+
+-- so are those of its tree
+pub spots_alone : (c : Resolved → ℕ) (n : Node) (start : ℕ) → spots_of c (tree_of n) start start ≡ spots_one c (node n) start
+spots_alone c n start =
+    ap (λ (zs : List Spot). record { offset = begins (node n).top.redefines start start; length = element_length c (node n).top (node n).beneath; times = c (node n).top } ∷ zs)
+    (append-nil (spots_of c (node n).beneath (begins (node n).top.redefines start start) (begins (node n).top.redefines start start)))
+    ∙ ap (λ (m : ℕ). spots_one c (node n) m) (begins_same (node n).top.redefines start)
 
 -- there is one for each entry
 pub length_spots : (c : Resolved → ℕ) (f : Forest Resolved) (at area : ℕ) → length (spots_of c f at area) ≡ entries_in f
@@ -90,10 +102,10 @@ pub record Put (c : Resolved → ℕ) (n : Node) (next count begin : ℕ) (old n
   pub size : (d : Spot) → (get_or new next d).times * (get_or new next d).length ≡ whole_length c (node n).top (node n).beneath
 
 pub put : (c : Resolved → ℕ) (n : Node) (next k count begin : ℕ) (old part : List Spot) → 1 ≤ next → next + k ≡ length old → count ≤ k → count ≡ 1 + entries_in (node n).beneath
-    → part ≡ spots_one c (node n) begin ++ drop count (mid_of next k old) → Put c n next count begin old (put_mid next k old part)
+    → part ≡ spots_of c (tree_of n) begin begin ++ drop count (mid_of next k old) → Put c n next count begin old (put_mid next k old part)
 put c n next k count begin old part some all fits many is =
     let long : length (spots_one c (node n) begin) ≡ count = omega (arith, many, length_spots c (node n).beneath begin begin) in
-    let g = grown next k count old part (spots_one c (node n) begin) some all long fits is in
+    let g = grown next k count old part (spots_one c (node n) begin) some all long fits (is ∙ ap (λ (zs : List Spot). zs ++ drop count (mid_of next k old)) (spots_alone c n begin)) in
     record {
       grown = g;
       size = λ d.

@@ -1,26 +1,26 @@
 -- Storages that agree on counts, and counts that agree on what a place needs.
 use Rattle.std.specs.Prelude.{◌≡◌, ℕ, List, [], ◌∷◌, length, Some, Ok, Result, slice_set, slice_index}
-use Rattle.cob_copybook_tree.specs.Forests.{Forest, Tree}
+use Rattle.cob_copybook_tree.specs.Forests.{Forest}
 use Rattle.cob_copybook_tree.specs.Nodes.{Resolved}
 use Rattle.cob_layout_places.specs.declared.counts.CountFault.{CountFault}
 use Rattle.cob_layout_places.specs.declared.places.Found.{Found}
 use Rattle.cob_layout_places.specs.declared.varying.Table.{Table}
 use Rattle.cob_layout_places.specs.Lengths.{times}
-use Rattle.cob_layout_places.specs.Places.{place_of, place_in_entry}
+use Rattle.cob_layout_places.specs.Places.{place_of}
 use Rattle.cob_layout_places.specs.Cover.{AreNumbered}
 use Rattle.cob_layout_places.specs.Needs.{Has, Needs}
 use Rattle.cob_layout_places.specs.Counts.{part_of, IsCounted, Taken}
 
 -- the storages have the same bytes where the counts of these tables stand, as far as they are read
-abbrev pub AgreeOnCounts : Tree Resolved → List ℕ → List ℕ → List Table → List ℕ → Type 0
-AgreeOnCounts t a b [] c = Unit {0}
-AgreeOnCounts t a b (x ∷ xs) c =
-    ((found : Found) → place_in_entry (times c) x.count t 0 [] ≡ Some found → part_of found a ≡ part_of found b)
-    × ((v : ℕ) → IsCounted t a x c (Ok v) → AgreeOnCounts t a b xs (slice_set c x.number v))
+abbrev pub AgreeOnCounts : Forest Resolved → List ℕ → List ℕ → List Table → List ℕ → Type 0
+AgreeOnCounts tree a b [] c = Unit {0}
+AgreeOnCounts tree a b (x ∷ xs) c =
+    ((found : Found) → place_of (times c) x.count tree 0 0 [] ≡ Some found → part_of found a ≡ part_of found b)
+    × ((v : ℕ) → IsCounted tree a x c (Ok v) → AgreeOnCounts tree a b xs (slice_set c x.number v))
 
 -- storages of one length that agree so have the same counts, or the same fault
 abbrev pub SameCounts : Type 0
-SameCounts = (t : Tree Resolved) (a b : List ℕ) (xs : List Table) (c : List ℕ) (r : Result (List ℕ) CountFault) → length a ≡ length b → AgreeOnCounts t a b xs c → Taken t a xs c r → Taken t b xs c r
+SameCounts = (tree : Forest Resolved) (a b : List ℕ) (xs : List Table) (c : List ℕ) (r : Result (List ℕ) CountFault) → length a ≡ length b → AgreeOnCounts tree a b xs c → Taken tree a xs c r → Taken tree b xs c r
 
 -- counts of a record that agree on the tables that the place of an entry needs give it one place
 abbrev pub OnePlace : Type 0

@@ -8,14 +8,14 @@ use Rattle.cob_copybook_tree.specs.declared.node.Kind.{Kind}
 use Rattle.cob_copybook_tree.specs.declared.node.Kind.TheVariants.{Item as ItemKind}
 use Rattle.cob_copybook_tree.specs.declared.node.ResolvedOccurs.{ResolvedOccurs}
 use Rattle.cob_copybook_tree.specs.declared.node.ResolvedOccurs.TheVariants.{Once, Fixed, Varying}
-use Rattle.cob_copybook_tree.specs.Forests.{Forest, NoEntries, AnEntry, Tree}
+use Rattle.cob_copybook_tree.specs.Forests.{Forest, NoEntries, AnEntry}
 use Rattle.cob_copybook_tree.specs.Nodes.{Resolved}
 use Rattle.cob_item.specs.Items.{IsNumberItem, Represents}
 use Rattle.cob_layout_places.specs.declared.counts.CountFault.{CountFault}
 use Rattle.cob_layout_places.specs.declared.places.Found.{Found}
 use Rattle.cob_layout_places.specs.declared.varying.Table.{Table}
 use Rattle.cob_layout_places.specs.Lengths.{times}
-use Rattle.cob_layout_places.specs.Places.{place_in_entry, or_else, choose}
+use Rattle.cob_layout_places.specs.Places.{place_of, or_else, choose}
 
 -- an entry that varies is a table with a count
 abbrev pub table_of : ResolvedOccurs → ℕ → List Table
@@ -33,20 +33,16 @@ abbrev pub kind_in : ℕ → Forest Resolved → Option Kind
 kind_in number NoEntries = None
 kind_in number (AnEntry e children more) = or_else (choose (e.number == number) e.kind (kind_in number children)) (kind_in number more)
 
--- the same of an entry and those beneath it
-abbrev pub kind_one : ℕ → Tree Resolved → Option Kind
-kind_one number t = choose (t.top.number == number) t.top.kind (kind_in number t.beneath)
-
 -- The count of a table is an item of the record that is a number without a fraction.
-pub record IsCountable (t : Tree Resolved) (x : Table) : Type 0 where
+pub record IsCountable (tree : Forest Resolved) (x : Table) : Type 0 where
   pub item : Item
-  pub is : kind_one x.count t ≡ Some (ItemKind item)
+  pub is : kind_in x.count tree ≡ Some (ItemKind item)
   pub number : IsNumberItem item
   pub whole : scale item.picture.positions ≡ pos 0
 
 -- each table's count is so
-abbrev pub AreCountable : Tree Resolved → List Table → Type 0
-AreCountable t xs = AllByRecursion (IsCountable t) xs
+abbrev pub AreCountable : Forest Resolved → List Table → Type 0
+AreCountable tree xs = AllByRecursion (IsCountable tree) xs
 
 -- the counts have a place for each table
 abbrev pub AreNumberedBelow : ℕ → List Table → Type 0
@@ -76,21 +72,21 @@ SaysOfTable i x f bytes (Ok v) = (f.offset + f.length ≤ length bytes) × IsCou
 SaysOfTable i x f bytes (Err e) = (e.offset ≡ f.offset) × IsFaulty e.short i x f bytes
 
 -- what the bytes say of a table whose count's place follows from the counts so far
-pub record IsCounted (t : Tree Resolved) (bytes : List ℕ) (x : Table) (c : List ℕ) (r : Result ℕ CountFault) : Type 0 where
+pub record IsCounted (tree : Forest Resolved) (bytes : List ℕ) (x : Table) (c : List ℕ) (r : Result ℕ CountFault) : Type 0 where
   pub item : Item
-  pub is : kind_one x.count t ≡ Some (ItemKind item)
+  pub is : kind_in x.count tree ≡ Some (ItemKind item)
   pub found : Found
-  pub stands : place_in_entry (times c) x.count t 0 [] ≡ Some found
+  pub stands : place_of (times c) x.count tree 0 0 [] ≡ Some found
   pub says : SaysOfTable item x found bytes r
 
 -- What the bytes say of these tables, one behind another, from these counts on: the counts with each table's number in its place, or the fault of
 -- the first table that has one. The place of a count follows from the counts of the tables before.
-abbrev pub Taken : Tree Resolved → List ℕ → List Table → List ℕ → Result (List ℕ) CountFault → Type 0
-Taken t bytes [] c r = r ≡ Ok c
-Taken t bytes (x ∷ xs) c r =
-    ((v : ℕ) × IsCounted t bytes x c (Ok v) × Taken t bytes xs (slice_set c x.number v) r)
-    ⊎ ((e : CountFault) × IsCounted t bytes x c (Err e) × (r ≡ Err e))
+abbrev pub Taken : Forest Resolved → List ℕ → List Table → List ℕ → Result (List ℕ) CountFault → Type 0
+Taken tree bytes [] c r = r ≡ Ok c
+Taken tree bytes (x ∷ xs) c r =
+    ((v : ℕ) × IsCounted tree bytes x c (Ok v) × Taken tree bytes xs (slice_set c x.number v) r)
+    ⊎ ((e : CountFault) × IsCounted tree bytes x c (Err e) × (r ≡ Err e))
 
 -- bytes say one thing of tables
 abbrev pub OneOutcome : Type 0
-OneOutcome = (t : Tree Resolved) (bytes : List ℕ) (xs : List Table) (c : List ℕ) (r s : Result (List ℕ) CountFault) → Taken t bytes xs c r → Taken t bytes xs c s → r ≡ s
+OneOutcome = (tree : Forest Resolved) (bytes : List ℕ) (xs : List Table) (c : List ℕ) (r s : Result (List ℕ) CountFault) → Taken tree bytes xs c r → Taken tree bytes xs c s → r ≡ s

@@ -5,9 +5,9 @@ use Rattle.cob_copybook_tree.specs.declared.node.ResolvedOccurs.{ResolvedOccurs}
 use Rattle.cob_copybook_tree.specs.declared.node.ResolvedOccurs.TheVariants.{Once, Fixed, Varying}
 use Rattle.cob_copybook_tree.specs.declared.node.Kind.{Kind}
 use Rattle.cob_copybook_tree.specs.declared.node.Kind.TheVariants.{Group, Item as ItemKind}
-use Rattle.cob_copybook_tree.specs.Forests.{Forest, NoEntries, AnEntry, Tree}
-use Rattle.cob_copybook_tree.specs.Nodes.{Resolved, alone}
-use Rattle.cob_copybook_tree.specs.Lengths.{greatest_number, whole_length}
+use Rattle.cob_copybook_tree.specs.Forests.{Forest, NoEntries, AnEntry}
+use Rattle.cob_copybook_tree.specs.Nodes.{Resolved}
+use Rattle.cob_copybook_tree.specs.Lengths.{greatest_number, sum_of, whole_length}
 
 -- an entry occurs once, a number of times, or as often as its count says, and no more often than its greatest number
 abbrev pub times_by : ℕ → ResolvedOccurs → ℕ
@@ -48,12 +48,19 @@ AreLeaves NoEntries = Unit {0}
 AreLeaves (AnEntry e children more) = IsLeaf e.kind children × AreLeaves children × AreLeaves more
 
 -- What holds of the entries of every record: each may occur, groups alone have entries beneath them, no redefinition is longer than its
--- area, and an entry that begins there ends with all its elements within 32,752 bytes.
-pub record FitsInRecord (start : ℕ) (t : Tree Resolved) : Type 0 where
-  pub possible : MayOccur (alone t)
-  pub leaves : AreLeaves (alone t)
-  pub areas : AreInAreas 0 t.beneath
-  pub small : start + whole_length greatest_number t.top t.beneath ≤ longest_record
+-- area, and the entries that begin there end with all their elements within 32,752 bytes.
+pub record FitsInRecord (start : ℕ) (tree : Forest Resolved) : Type 0 where
+  pub possible : MayOccur tree
+  pub leaves : AreLeaves tree
+  pub areas : AreInAreas 0 tree
+  pub small : start + sum_of greatest_number tree ≤ longest_record
+
+-- so it is of one of them with those beneath it, whether or not it redefines: it ends with all its elements within 32,752 bytes
+pub record EntryFits (start : ℕ) (entry : Resolved) (children : Forest Resolved) : Type 0 where
+  pub possible : MayOccur (AnEntry entry children NoEntries)
+  pub leaves : AreLeaves (AnEntry entry children NoEntries)
+  pub areas : AreInAreas 0 children
+  pub small : start + whole_length greatest_number entry children ≤ longest_record
 
 -- no entry occurs more often than its greatest number
 abbrev pub AreWithin : (Resolved → ℕ) → Forest Resolved → Type 0

@@ -1,7 +1,7 @@
 -- Which counts the place of an entry needs.
 use Rattle.std.specs.Prelude.{◌≡◌, ◌⊎◌, ℕ, ◌+◌, ◌<◌, Bool, true, false, ◌==◌, ◌||◌, ◌&&◌, not, nat_le, nat_lt, if◌then◌else◌, List, [], ◌∷◌, slice_set, ◌↔◌}
-use Rattle.cob_copybook_tree.specs.Forests.{Forest, NoEntries, AnEntry, Tree, entries_in}
-use Rattle.cob_copybook_tree.specs.Nodes.{Resolved, alone}
+use Rattle.cob_copybook_tree.specs.Forests.{Forest, NoEntries, AnEntry, entries_in}
+use Rattle.cob_copybook_tree.specs.Nodes.{Resolved}
 use Rattle.cob_layout_places.specs.declared.varying.Table.{Table}
 use Rattle.cob_layout_places.specs.Places.{is_table}
 use Rattle.cob_layout_places.specs.Cover.{AreNumbered}
@@ -50,12 +50,12 @@ keep test [] = []
 keep test (x ∷ xs) = if test x then x ∷ keep test xs else keep test xs
 
 -- the count of x is read for the place of r, where r receives or not
-abbrev pub is_read : Tree Resolved → ℕ → Bool → Table → Bool
-is_read t r receiving x = is_needed (number_behind true r (alone t)) (receiving && (number_behind false r (alone t) == 1 + entries_in t.beneath)) r x
+abbrev pub is_read : Forest Resolved → ℕ → Bool → Table → Bool
+is_read tree r receiving x = is_needed (number_behind true r tree) (receiving && (number_behind false r tree == entries_in tree)) r x
 
 -- the tables whose counts are read for the place of r, where r receives or not
-abbrev pub needed_tables : Tree Resolved → ℕ → Bool → List Table → List Table
-needed_tables t r receiving xs = keep (is_read t r receiving) xs
+abbrev pub needed_tables : Forest Resolved → ℕ → Bool → List Table → List Table
+needed_tables tree r receiving xs = keep (is_read tree r receiving) xs
 
 -- the counts with each table's greatest number in its place
 abbrev pub greatest : List Table → List ℕ → List ℕ
@@ -65,5 +65,5 @@ greatest (x ∷ xs) c = greatest xs (slice_set c x.number x.most)
 -- In a record the counts that are read for the place of an entry are those of the tables that it needs, but for those that it is spared where it
 -- receives.
 abbrev pub NeedsAreRead : Type 0
-NeedsAreRead = (t : Tree Resolved) (r : ℕ) (receiving : Bool) (x : Table) → AreNumbered 0 (alone t) → Has r (alone t) → Has x.number (alone t) → Has x.count (alone t)
-    → (is_read t r receiving x ≡ true) ↔ (Needs r x.number (alone t) × (receiving ≡ true → IsSpared r x (alone t) → ⊥))
+NeedsAreRead = (tree : Forest Resolved) (r : ℕ) (receiving : Bool) (x : Table) → AreNumbered 0 tree → Has r tree → Has x.number tree → Has x.count tree
+    → (is_read tree r receiving x ≡ true) ↔ (Needs r x.number tree × (receiving ≡ true → IsSpared r x tree → ⊥))

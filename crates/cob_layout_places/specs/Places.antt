@@ -2,9 +2,9 @@
 use Rattle.std.specs.Prelude.{ℕ, ◌+◌, ◌-◌, ◌*◌, ◌≤◌, Bool, true, false, ◌==◌, ◌&&◌, nat_le, min, List, [], ◌∷◌, Option, Some, None, IfSome}
 use Rattle.cob_copybook_tree.specs.declared.node.ResolvedOccurs.{ResolvedOccurs}
 use Rattle.cob_copybook_tree.specs.declared.node.ResolvedOccurs.TheVariants.{Once, Fixed, Varying}
-use Rattle.cob_copybook_tree.specs.Forests.{Forest, NoEntries, AnEntry, Tree}
+use Rattle.cob_copybook_tree.specs.Forests.{Forest, NoEntries, AnEntry}
 use Rattle.cob_copybook_tree.specs.Nodes.{Resolved}
-use Rattle.cob_copybook_tree.specs.Lengths.{element_length, whole_length, own_length, greatest_number}
+use Rattle.cob_copybook_tree.specs.Lengths.{element_length, whole_length, own_length, greatest_number, sum_of}
 use Rattle.cob_layout_places.specs.declared.places.Found.{Found}
 use Rattle.cob_layout_places.specs.Lengths.{times, FitsInRecord}
 
@@ -68,21 +68,11 @@ place_of c number (AnEntry e children more) at area subscripts =
     (also there (place_of c number children offset offset (later table subscripts))))
     (place_of c number more (at + own_length e.redefines (whole_length c e children)) start subscripts)
 
--- the same of one entry, which begins at `start`
-abbrev pub place_in_entry : (Resolved → ℕ) → ℕ → Tree Resolved → ℕ → List ℕ → Option Found
-place_in_entry c number t start subscripts =
-    let table = is_table t.top.occurs in
-    let size = element_length c t.top t.beneath in
-    let offset = start + skipped table (greatest_number t.top) subscripts * size in
-    let there = is_there table (c t.top) subscripts in
-    choose (t.top.number == number) (record { offset = offset; length = size; within = there })
-    (also there (place_of c number t.beneath offset offset (later table subscripts)))
-
 -- a place that is found ends by then
 abbrev pub EndsBy : ℕ → Option Found → Type 0
 EndsBy m o = IfSome o (λ f. f.offset + f.length ≤ m)
 
--- what is found in an entry ends within its greatest length, whatever the counts and subscripts
+-- what is found of entries that begin at `start` ends within their greatest length, whatever the counts and subscripts
 abbrev pub EndInRecord : Type 0
-EndInRecord = (counts : List ℕ) (number : ℕ) (t : Tree Resolved) (start : ℕ) (subscripts : List ℕ) → FitsInRecord start t
-    → EndsBy (start + whole_length greatest_number t.top t.beneath) (place_in_entry (times counts) number t start subscripts)
+EndInRecord = (counts : List ℕ) (number : ℕ) (tree : Forest Resolved) (start : ℕ) (subscripts : List ℕ) → FitsInRecord start tree
+    → EndsBy (start + sum_of greatest_number tree) (place_of (times counts) number tree start start subscripts)

@@ -1,6 +1,6 @@
 -- Where the first elements of entries stand, by the numbers of the entries.
 use Rattle.std.specs.Prelude.{ℕ, ◌+◌, List, [], ◌∷◌, ◌++◌}
-use Rattle.cob_copybook_tree.specs.Forests.{Forest, NoEntries, AnEntry, Tree}
+use Rattle.cob_copybook_tree.specs.Forests.{Forest, NoEntries, AnEntry}
 use Rattle.cob_copybook_tree.specs.Nodes.{Resolved}
 use Rattle.cob_copybook_tree.specs.Lengths.{element_length, whole_length, own_length}
 use Rattle.cob_layout_places.specs.declared.spots.Spot.{Spot}
@@ -14,7 +14,3 @@ spots_of c (AnEntry e children more) at area =
     let start = begins e.redefines at area in
     record { offset = start; length = element_length c e children; times = c e }
     ∷ (spots_of c children start start ++ spots_of c more (at + own_length e.redefines (whole_length c e children)) start)
-
--- the same of one entry, which begins at `start`
-abbrev pub spots_one : (Resolved → ℕ) → Tree Resolved → ℕ → List Spot
-spots_one c t start = record { offset = start; length = element_length c t.top t.beneath; times = c t.top } ∷ spots_of c t.beneath start start

@@ -2,12 +2,12 @@ ghost use Rattle.std.specs.Prelude.{◌≡◌, ◌≢◌, ℕ, ◌+◌, ◌<◌,
 ghost use Rattle.cob_decimal.specs.Decimal.{IsDigits, number_of};
 ghost use Rattle.cob_copybook_tree.specs.declared.node.Item.{Item};
 ghost use Rattle.cob_copybook_tree.specs.declared.node.Kind.TheVariants.{Item as ItemKind};
-ghost use Rattle.cob_copybook_tree.specs.Nodes.{node};
+ghost use Rattle.cob_copybook_tree.specs.Nodes.{tree_of};
 ghost use Rattle.cob_copybook_tree.specs.Lengths.{item_size};
 ghost use Rattle.cob_item.specs.Items.{IsNumberItem};
 ghost use Rattle.cob_layout_places.specs.Lengths.{times, FitsInRecord};
-ghost use Rattle.cob_layout_places.specs.Places.{place_in_entry};
-ghost use Rattle.cob_layout_places.specs.Counts.{AreCountable, AreNumberedBelow, IsCountValue, IsCountable, IsCounted, kind_one, SaysOfTable, Taken};
+ghost use Rattle.cob_layout_places.specs.Places.{place_of};
+ghost use Rattle.cob_layout_places.specs.Counts.{AreCountable, AreNumberedBelow, IsCountValue, IsCountable, IsCounted, kind_in, SaysOfTable, Taken};
 
 use crate::places::{Found, seek};
 use crate::varying::{Table, kind_with};
@@ -90,9 +90,9 @@ fn count_at(item: &Item, table: Table, found: Found, bytes: &[u8]) -> Result<u32
 /// The item with this number among those of a record.
 fn item_with(root: &Node, number: usize) -> Option<&Item>
     ensures found { IfSome result
-        (λ item. kind_one number (node root.now) ≡ Some (ItemKind item.now)) }
+        (λ item. kind_in number (tree_of root.now) ≡ Some (ItemKind item.now)) }
     ensures none { IfNone result
-        ((item : Item) → kind_one number (node root.now) ≢ Some (ItemKind item)) }
+        ((item : Item) → kind_in number (tree_of root.now) ≢ Some (ItemKind item)) }
 {
     match kind_with(root, number)? {
         Kind::Item(item) => Some(item),
@@ -106,15 +106,15 @@ fn item_with(root: &Node, number: usize) -> Option<&Item>
 ///
 /// The count gives no number from its table's least to its greatest one, or ends past the bytes.
 pub fn count_there(root: &Node, table: Table, found: Found, bytes: &[u8]) -> Result<u32, CountFault>
-    requires countable { IsCountable (node root.now) table }
+    requires countable { IsCountable (tree_of root.now) table }
     requires stands { (counts : List ℕ)
-        × (place_in_entry (times counts) table.count (node root.now) 0 [] ≡ Some found) }
+        × (place_of (times counts) table.count (tree_of root.now) 0 0 [] ≡ Some found) }
     ensures ok { IfOk result (λ v. (counts : List ℕ)
-        → place_in_entry (times counts) table.count (node root.now) 0 [] ≡ Some found
-        → IsCounted (node root.now) bytes.now table counts (Ok v)) }
+        → place_of (times counts) table.count (tree_of root.now) 0 0 [] ≡ Some found
+        → IsCounted (tree_of root.now) bytes.now table counts (Ok v)) }
     ensures err { IfErr result (λ e. (counts : List ℕ)
-        → place_in_entry (times counts) table.count (node root.now) 0 [] ≡ Some found
-        → IsCounted (node root.now) bytes.now table counts (Err e)) }
+        → place_of (times counts) table.count (tree_of root.now) 0 0 [] ≡ Some found
+        → IsCounted (tree_of root.now) bytes.now table counts (Err e)) }
 {
     match item_with(root, table.count) {
         Some(item) => count_at(item, table, found, bytes),
@@ -128,10 +128,11 @@ pub fn count_there(root: &Node, table: Table, found: Found, bytes: &[u8]) -> Res
 ///
 /// The count gives no number from its table's least to its greatest one, or ends past the bytes.
 pub fn count_of(root: &Node, table: Table, bytes: &[u8], counts: &[u32]) -> Result<u32, CountFault>
-    requires fit { FitsInRecord 0 (node root.now) }
-    requires countable { IsCountable (node root.now) table }
-    ensures ok { IfOk result (λ v. IsCounted (node root.now) bytes.now table counts.now (Ok v)) }
-    ensures err { IfErr result (λ e. IsCounted (node root.now) bytes.now table counts.now (Err e)) }
+    requires fit { FitsInRecord 0 (tree_of root.now) }
+    requires countable { IsCountable (tree_of root.now) table }
+    ensures ok { IfOk result (λ v. IsCounted (tree_of root.now) bytes.now table counts.now (Ok v)) }
+    ensures err { IfErr result
+        (λ e. IsCounted (tree_of root.now) bytes.now table counts.now (Err e)) }
 {
     match seek(root, table.count, counts, 0, &[]) {
         Some(found) => count_there(root, table, found, bytes),
@@ -150,13 +151,13 @@ pub fn take_counts(
     bytes: &[u8],
     counts: &mut [u32],
 ) -> Result<(), CountFault>
-    requires fit { FitsInRecord 0 (node root.now) }
-    requires countable { AreCountable (node root.now) tables.now }
+    requires fit { FitsInRecord 0 (tree_of root.now) }
+    requires countable { AreCountable (tree_of root.now) tables.now }
     requires slots { AreNumberedBelow (length counts.old) tables.now }
     ensures ok { OnOk result
-        (Taken (node root.now) bytes.now tables.now counts.old (Ok counts.new)) }
+        (Taken (tree_of root.now) bytes.now tables.now counts.old (Ok counts.new)) }
     ensures err { IfErr result
-        (λ e. Taken (node root.now) bytes.now tables.now counts.old (Err e)) }
+        (λ e. Taken (tree_of root.now) bytes.now tables.now counts.old (Err e)) }
     ensures room { length counts.new ≡ length counts.old }
 {
     for table in tables {

@@ -1,5 +1,5 @@
 ghost use Rattle.std.specs.Prelude.{◌≡◌, ◌<◌, ◌≤◌, length};
-ghost use Rattle.cob_copybook_tree.specs.Nodes.{node, alone};
+ghost use Rattle.cob_copybook_tree.specs.Nodes.{node, tree_of};
 ghost use Rattle.cob_copybook_tree.specs.Lengths.{element_length, greatest_number, whole_length};
 ghost use Rattle.cob_layout_places.specs.Lengths.{times, MayOccur};
 ghost use Rattle.cob_limits.specs.Limits.{longest_record};
@@ -24,7 +24,7 @@ pub fn times_of(entry: &Node, counts: &[u32]) -> u32
 
 /// The length of one element of an entry under these counts, in bytes: at most 32,752.
 pub fn element_of(entry: &Node, counts: &[u32]) -> u32
-    requires possible { MayOccur (alone (node entry.now)) }
+    requires possible { MayOccur (tree_of entry.now) }
     requires small { whole_length greatest_number (node entry.now).top (node entry.now).beneath ≤
         longest_record }
     ensures { result ≡ element_length (times counts.now) (node entry.now).top

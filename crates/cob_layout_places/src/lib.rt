@@ -5,12 +5,12 @@
 //!
 //! - [`times_of`] and [`element_of`] say how often an entry occurs under counts, and how long one of its elements is: `times` of
 //!   specs/Lengths.antt, and `element_length` of cob_copybook_tree. A count that is more than its table's greatest number counts as that number.
-//! - [`seek`] answers the place of an entry under counts and subscripts exactly (`place_in_entry` of specs/Places.antt): it stands behind those before
+//! - [`seek`] answers the place of an entry under counts and subscripts exactly (`place_of` of specs/Places.antt): it stands behind those before
 //!   it with all their occurrences, and a redefinition where its area begins. The law [`places_end_in_record`] says that a place ends within
 //!   the record's greatest length, and [`covering`] that each byte of a record is in exactly one occurrence of an item that stands in no
 //!   redefinition (specs/Cover.antt).
 //! - [`put_spots`] writes where the first element of each entry stands, how long it is, and how often the entry occurs, in one walk over the
-//!   record (`spots_one` of specs/Spots.antt).
+//!   record (`spots_of` of specs/Spots.antt).
 //! - [`refers`] says whether a number with subscripts is a legal reference to an entry: `Refers` of specs/References.antt. A [`Ref`] holds one.
 //! - [`tables`] lists the tables that vary, and [`take_counts`] takes their counts from a storage, one behind another, or answers the first count
 //!   that ends past the bytes or gives no number within its table's bounds (`Taken` of specs/Counts.antt). There is one such outcome

@@ -1,6 +1,6 @@
 ghost use Rattle.std.specs.Prelude.{◌≡◌, ◌==◌, ◌&&◌, false, ℕ, ◌+◌, ◌<◌, ◌≤◌, Bool, List, length, Ok, Err, OnOk, IfErr};
 ghost use Rattle.cob_copybook_tree.specs.Forests.{entries_in};
-ghost use Rattle.cob_copybook_tree.specs.Nodes.{forest, node, alone};
+ghost use Rattle.cob_copybook_tree.specs.Nodes.{forest, node, tree_of};
 ghost use Rattle.cob_layout_places.specs.Lengths.{FitsInRecord};
 ghost use Rattle.cob_layout_places.specs.Places.{is_table};
 ghost use Rattle.cob_layout_places.specs.Cover.{AreNumbered};
@@ -22,10 +22,10 @@ pub fn is_table(occurs: ResolvedOccurs) -> bool
 ///
 /// The number is that of this entry or of one beneath it, and `end` is the number behind the last one beneath it.
 fn number_behind(entry: &Node, end: usize, number: usize, tables: bool) -> usize
-    requires numbered { AreNumbered (node entry.now).top.number (alone (node entry.now)) }
+    requires numbered { AreNumbered (node entry.now).top.number (tree_of entry.now) }
     requires end { end ≡ (node entry.now).top.number + 1 + entries_in (node entry.now).beneath }
     requires inside { number < end }
-    ensures { result ≡ number_behind tables number (alone (node entry.now)) }
+    ensures { result ≡ number_behind tables number (tree_of entry.now) }
 {
     if (tables && is_table(entry.occurs)) || entry.number == number {
         return end;
@@ -46,10 +46,10 @@ fn number_behind(entry: &Node, end: usize, number: usize, tables: bool) -> usize
 
 /// Whether the entry with this number receives, and no later entry outside it follows.
 fn is_last_receiver(root: &Node, end: usize, number: usize, receiving: bool) -> bool
-    requires numbered { AreNumbered (node root.now).top.number (alone (node root.now)) }
+    requires numbered { AreNumbered (node root.now).top.number (tree_of root.now) }
     requires end { end ≡ (node root.now).top.number + 1 + entries_in (node root.now).beneath }
     requires inside { number < end }
-    ensures { result ≡ (receiving && (number_behind false number (alone (node root.now)) == end)) }
+    ensures { result ≡ (receiving && (number_behind false number (tree_of root.now) == end)) }
 {
     receiving && number_behind(root, end, number, false) == end
 }
@@ -89,16 +89,16 @@ pub fn take_needed(
     bytes: &[u8],
     counts: &mut [u32],
 ) -> Result<(), CountFault>
-    requires fit { FitsInRecord 0 (node root.now) }
-    requires numbered { AreNumbered 0 (alone (node root.now)) }
-    requires countable { AreCountable (node root.now) tables.now }
+    requires fit { FitsInRecord 0 (tree_of root.now) }
+    requires numbered { AreNumbered 0 (tree_of root.now) }
+    requires countable { AreCountable (tree_of root.now) tables.now }
     requires slots { AreNumberedBelow (length counts.old) tables.now }
-    requires all { length counts.old ≡ 1 + entries_in (node root.now).beneath }
+    requires all { length counts.old ≡ entries_in (tree_of root.now) }
     requires there { number < length counts.old }
-    ensures ok { OnOk result (Taken (node root.now) bytes.now (needed_tables (node root.now)
+    ensures ok { OnOk result (Taken (tree_of root.now) bytes.now (needed_tables (tree_of root.now)
         number receiving tables.now) (greatest tables.now counts.old) (Ok counts.new)) }
-    ensures err { IfErr result (λ e. Taken (node root.now) bytes.now (needed_tables
-        (node root.now) number receiving tables.now) (greatest tables.now counts.old) (Err e)) }
+    ensures err { IfErr result (λ e. Taken (tree_of root.now) bytes.now (needed_tables
+        (tree_of root.now) number receiving tables.now) (greatest tables.now counts.old) (Err e)) }
     ensures room { length counts.new ≡ length counts.old }
 {
     let end = counts.len();

@@ -1,9 +1,9 @@
 ghost use Rattle.std.specs.Prelude.{◌≡◌, ℕ, ◌+◌, ◌*◌, ◌<◌, ◌≤◌, Bool, List, length, Option, Some, None, IfOk, IfErr};
-ghost use Rattle.cob_copybook_tree.specs.Nodes.{node, alone};
+ghost use Rattle.cob_copybook_tree.specs.Nodes.{node, tree_of};
 ghost use Rattle.cob_copybook_tree.specs.Lengths.{element_length, greatest_number, greatest_number_by, length_by_kind, own_length, whole_length};
-ghost use Rattle.cob_layout_places.specs.Lengths.{times, FitsInRecord, MayOccur};
+ghost use Rattle.cob_layout_places.specs.Lengths.{times, EntryFits, FitsInRecord, MayOccur};
 ghost use Rattle.cob_limits.specs.Limits.{longest_record};
-ghost use Rattle.cob_layout_places.specs.Places.{also, begins, place_in_entry, is_table, is_there, later, skipped};
+ghost use Rattle.cob_layout_places.specs.Places.{also, begins, place_of, is_table, is_there, later, skipped};
 
 use crate::lengths::{element_of, times_of};
 use cob_copybook_tree::{Kind, Name, Node, ResolvedOccurs};
@@ -69,7 +69,7 @@ pub(crate) fn room_of(redefines: &Option<Name>, length: u32) -> u32
 
 /// Where the elements of an entry that starts there go on behind those that are skipped.
 fn behind_skipped(entry: &Node, counts: &[u32], start: u32, skipped: u32) -> u32
-    requires possible { MayOccur (alone (node entry.now)) }
+    requires possible { MayOccur (tree_of entry.now) }
     requires small { whole_length greatest_number (node entry.now).top (node entry.now).beneath ≤
         longest_record }
     requires room { start + skipped * element_length (times counts.now) (node entry.now).top
@@ -102,13 +102,11 @@ fn seek_or_measure(
     start: u32,
     subscripts: &[u32],
 ) -> Result<Found, u32>
-    requires { FitsInRecord start (node entry.now) }
-    ensures found { IfOk result (λ found. place_in_entry (times counts.now) number
-        (node entry.now) start
-        subscripts.now ≡ Some found) }
-    ensures none { IfErr result (λ _. place_in_entry (times counts.now) number
-        (node entry.now) start
-        subscripts.now ≡ None) }
+    requires { EntryFits start (node entry.now).top (node entry.now).beneath }
+    ensures found { IfOk result (λ found. place_of (times counts.now) number
+        (tree_of entry.now) start start subscripts.now ≡ Some found) }
+    ensures none { IfErr result (λ _. place_of (times counts.now) number
+        (tree_of entry.now) start start subscripts.now ≡ None) }
     ensures length { IfErr result (λ length. length ≡ element_length (times counts.now)
         (node entry.now).top (node entry.now).beneath) }
 {
@@ -147,9 +145,9 @@ pub fn seek(
     start: u32,
     subscripts: &[u32],
 ) -> Option<Found>
-    requires { FitsInRecord start (node entry.now) }
-    ensures { result ≡ place_in_entry (times counts.now) number
-        (node entry.now) start subscripts.now }
+    requires { FitsInRecord start (tree_of entry.now) }
+    ensures { result ≡ place_of (times counts.now) number
+        (tree_of entry.now) start start subscripts.now }
 {
     seek_or_measure(entry, number, counts, start, subscripts).ok()
 }

@@ -2,7 +2,7 @@
 
 ghost use Rattle.std.specs.Prelude.{◌≡◌, IfNone, IfSome, IsFalse, IsTrue};
 ghost use Rattle.cob_copybook_tree.specs.Lengths.{greatest_number_by};
-ghost use Rattle.cob_copybook_tree.specs.Nodes.{node, alone};
+ghost use Rattle.cob_copybook_tree.specs.Nodes.{tree_of};
 ghost use Rattle.cob_layout_places.specs.Places.{is_table, later};
 ghost use Rattle.cob_layout_places.specs.References.{IsSubscripted, Refers};
 
@@ -40,8 +40,8 @@ fn after_own(occurs: ResolvedOccurs, subscripts: &[u32]) -> Option<&[u32]>
 
 /// Whether the entry with this number is this one or one beneath it, and the subscripts are legal ones for it.
 pub fn refers(entry: &Node, number: usize, subscripts: &[u32]) -> bool
-    ensures must { IsTrue result → Refers number subscripts.now (alone (node entry.now)) }
-    ensures only { IsFalse result → Refers number subscripts.now (alone (node entry.now)) → ⊥ }
+    ensures must { IsTrue result → Refers number subscripts.now (tree_of entry.now) }
+    ensures only { IsFalse result → Refers number subscripts.now (tree_of entry.now) → ⊥ }
 {
     let Some(rest) = after_own(entry.occurs, subscripts) else {
         return false;

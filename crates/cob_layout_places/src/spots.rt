@@ -3,9 +3,9 @@
 ghost use Rattle.std.specs.Prelude.{◌≡◌, ◌++◌, ◌+◌, ◌≤◌, drop, length};
 ghost use Rattle.cob_copybook_tree.specs.Forests.{entries_in};
 ghost use Rattle.cob_copybook_tree.specs.Lengths.{sum_of};
-ghost use Rattle.cob_copybook_tree.specs.Nodes.{forest, node, alone};
-ghost use Rattle.cob_layout_places.specs.Lengths.{times, FitsInRecord};
-ghost use Rattle.cob_layout_places.specs.Spots.{spots_of, spots_one};
+ghost use Rattle.cob_copybook_tree.specs.Nodes.{forest, node, tree_of};
+ghost use Rattle.cob_layout_places.specs.Lengths.{times, EntryFits, FitsInRecord};
+ghost use Rattle.cob_layout_places.specs.Spots.{spots_of};
 
 use crate::lengths::times_of;
 use crate::places::{begins_at, element_by, room_of};
@@ -22,12 +22,13 @@ pub struct Spot {
     pub times: u32,
 }
 
-/// Writes the spots of an entry that begins at `start` and of those beneath it, in their order; the answer is how many these are.
-pub fn put_spots(entry: &Node, counts: &[u32], start: u32, spots: &mut [Spot]) -> usize
-    requires fit { FitsInRecord start (node entry.now) }
+/// Writes the spots of an entry that begins at `start`, be it a redefinition or not, and of those beneath it, in their order; the answer is how
+/// many these are.
+fn put_entry(entry: &Node, counts: &[u32], start: u32, spots: &mut [Spot]) -> usize
+    requires fit { EntryFits start (node entry.now).top (node entry.now).beneath }
     requires room { 1 + entries_in (node entry.now).beneath ≤ length spots.old }
     ensures count { result ≡ 1 + entries_in (node entry.now).beneath }
-    ensures spots { spots.new ≡ spots_one (times counts.now) (node entry.now) start
+    ensures spots { spots.new ≡ spots_of (times counts.now) (tree_of entry.now) start start
         ++ drop result spots.old }
 {
     let mut next = 1;
@@ -35,7 +36,7 @@ pub fn put_spots(entry: &Node, counts: &[u32], start: u32, spots: &mut [Spot]) -
     let mut area = start;
     for child in entry.children.iter() {
         let begin = begins_at(&child.redefines, at, area);
-        let count = put_spots(child, counts, begin, &mut spots[next..]);
+        let count = put_entry(child, counts, begin, &mut spots[next..]);
         at += room_of(&child.redefines, spots[next].times * spots[next].length);
         area = begin;
         next += count;
@@ -46,4 +47,15 @@ pub fn put_spots(entry: &Node, counts: &[u32], start: u32, spots: &mut [Spot]) -
         times: times_of(entry, counts),
     };
     next
+}
+
+/// Writes the spots of an entry that begins at `start` and of those beneath it, in their order; the answer is how many these are.
+pub fn put_spots(entry: &Node, counts: &[u32], start: u32, spots: &mut [Spot]) -> usize
+    requires fit { FitsInRecord start (tree_of entry.now) }
+    requires room { entries_in (tree_of entry.now) ≤ length spots.old }
+    ensures count { result ≡ entries_in (tree_of entry.now) }
+    ensures spots { spots.new ≡ spots_of (times counts.now) (tree_of entry.now) start start
+        ++ drop result spots.old }
+{
+    put_entry(entry, counts, start, spots)
 }

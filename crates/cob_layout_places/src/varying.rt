@@ -1,6 +1,6 @@
 ghost use Rattle.std.specs.Prelude.{◌≡◌, ◌++◌, List, length, IfOk, IfSome, IfNone, Some, None};
-ghost use Rattle.cob_copybook_tree.specs.Nodes.{node, alone};
-ghost use Rattle.cob_layout_places.specs.Counts.{kind_one, table_of, tables_of};
+ghost use Rattle.cob_copybook_tree.specs.Nodes.{node, tree_of};
+ghost use Rattle.cob_layout_places.specs.Counts.{kind_in, table_of, tables_of};
 
 use cob_copybook_tree::{Kind, Node, ResolvedOccurs};
 use std::alloc::{AllocError, Global};
@@ -36,7 +36,7 @@ fn push_table(entry: &Node, tables: &mut Vec<Table>) -> Result<(), AllocError>
 /// Adds the tables that vary among an entry and those beneath it.
 fn push_tables(entry: &Node, tables: &mut Vec<Table>) -> Result<(), AllocError>
     ensures { IfOk result
-        (λ _. tables.new.items ≡ tables.old.items ++ tables_of (alone (node entry.now))) }
+        (λ _. tables.new.items ≡ tables.old.items ++ tables_of (tree_of entry.now)) }
 {
     push_table(entry, tables)?;
     for child in entry.children.iter() {
@@ -51,7 +51,7 @@ fn push_tables(entry: &Node, tables: &mut Vec<Table>) -> Result<(), AllocError>
 ///
 /// Where no memory is left.
 pub fn tables(alloc: Global, root: &Node) -> Result<Vec<Table>, AllocError>
-    ensures { IfOk result (λ tables. tables.items ≡ tables_of (alone (node root.now))) }
+    ensures { IfOk result (λ tables. tables.items ≡ tables_of (tree_of root.now)) }
 {
     let mut tables = Vec::new(alloc);
     push_tables(root, &mut tables)?;
@@ -60,8 +60,8 @@ pub fn tables(alloc: Global, root: &Node) -> Result<Vec<Table>, AllocError>
 
 /// What the entry with this number describes, if it is one of those beneath this entry, or this one.
 pub(crate) fn kind_with<'a>(entry: &'a Node, number: usize) -> Option<&'a Kind>
-    ensures found { IfSome result (λ kind. kind_one number (node entry.now) ≡ Some kind.now) }
-    ensures none { IfNone result (kind_one number (node entry.now) ≡ None) }
+    ensures found { IfSome result (λ kind. kind_in number (tree_of entry.now) ≡ Some kind.now) }
+    ensures none { IfNone result (kind_in number (tree_of entry.now) ≡ None) }
 {
     if entry.number == number {
         return Some(&entry.kind);

@@ -4,7 +4,7 @@ use Rattle.std.specs.Prelude.{filter}
 use Rattle.std.specs.List.{AllByRecursion}
 use Rattle.cob_move_apply.specs.Books.{IsRecordDescription}
 use Rattle.cob_move_apply.specs.Forests.{Forest}
-use Rattle.cob_move_apply.specs.Nodes.{Resolved, alone}
+use Rattle.cob_move_apply.specs.Nodes.{Resolved}
 use Rattle.cob_move_apply.specs.Side.{Side}
 use Rattle.cob_move_apply.specs.Side.TheVariants.{In, Out}
 use Rattle.cob_move_apply.specs.Operand.{Operand}
@@ -57,14 +57,14 @@ among (x ∷ xs) ys =
 
 -- the records are such, and what a reference names is an operand
 record AreGiven (records : Records) : Type 0 where
-  input : IsRecordDescription (alone records.input)
-  output : IsRecordDescription (alone records.output)
+  input : IsRecordDescription records.input
+  output : IsRecordDescription records.output
   named : NamedAreOperands
   below : SubordinatesAreOperands
   sound : RecordsAreSound
 
 abbrev all_of : Records → List Candidate
-all_of records = all_entries (alone records.input) (alone records.output)
+all_of records = all_entries records.input records.output
 
 is_sender : (records : Records) → AreGiven records → (s : WrittenSender) (m : Sender) → IsSenderOf (all_of records) s m → IsSender records m
 is_sender records given (SentReference r) m (side, o, h, e) = subst (λ (x : Sender). IsSender records x) (sym e) (given.named records r side o given.input given.output h)
@@ -75,42 +75,42 @@ are_receivers records given [] os h = subst (λ (xs : List Operand). AllByRecurs
 are_receivers records given (w ∷ ws) os (o, more, h, hs, e) =
     subst (λ (xs : List Operand). AllByRecursion (IsOperand records.output) xs) (sym e) (given.named records w Out o given.input given.output h, are_receivers records given ws more hs)
 
-record_is : (records : Records) → AreGiven records → (side : Side) → IsRecordDescription (alone (record_of records side))
+record_is : (records : Records) → AreGiven records → (side : Side) → IsRecordDescription (record_of records side)
 record_is records given In = given.input
 record_is records given Out = given.output
 
-same_entries : (records : Records) (side : Side) → entries_of (alone records.input) (alone records.output) side ≡ alone (record_of records side)
+same_entries : (records : Records) (side : Side) → entries_of records.input records.output side ≡ record_of records side
 same_entries records In = refl
 same_entries records Out = refl
 
 is_pair : (records : Records) → AreGiven records → (g : TwoGroups) (p : Pair) → IsOperand (record_of records g.side) g.from → IsOperand records.output g.to
-    → IsAmong (subordinates [] (entries_below g.from.entry.node (alone (record_of records g.side)))) (subordinates [] (entries_below g.to.entry.node (alone records.output))) p
+    → IsAmong (subordinates [] (entries_below g.from.entry.node (record_of records g.side))) (subordinates [] (entries_below g.to.entry.node records.output)) p
     → IsMove records (pair_move g p)
 is_pair records given g p a b x = record {
   sender = given.below (record_of records g.side) g.from p.from (given.sound (record_of records g.side) (record_is records given g.side)).numbered a x.0;
   receivers = (given.below records.output g.to p.to (given.sound records.output given.output).numbered b x.1, tt);
 }
 
-are_pairs : (records : Records) → AreGiven records → (from to : WrittenReference) (ms : List Move) → AreMovesOf (all_of records) (alone records.input) (alone records.output) from to ms → AreMoves records ms
+are_pairs : (records : Records) → AreGiven records → (from to : WrittenReference) (ms : List Move) → AreMovesOf (all_of records) records.input records.output from to ms → AreMoves records ms
 are_pairs records given from to ms h =
     let g : TwoGroups = h.groups in
-    let froms : List Subordinate = subordinates [] (entries_below g.from.entry.node (alone (record_of records g.side))) in
-    let tos : List Subordinate = subordinates [] (entries_below g.to.entry.node (alone records.output)) in
+    let froms : List Subordinate = subordinates [] (entries_below g.from.entry.node (record_of records g.side)) in
+    let tos : List Subordinate = subordinates [] (entries_below g.to.entry.node records.output) in
     let each : AllByRecursion (IsMove records) (map (pair_move g) (pairs_among froms tos)) =
     all_map (IsAmong froms tos) (IsMove records) (pair_move g)
     (λ p x. is_pair records given g p (given.named records from g.side g.from given.input given.output h.named.sending) (given.named records to Out g.to given.input given.output h.named.receiving) x)
     (pairs_among froms tos) (among froms tos) in
-    let same : map (pair_move g) (pairs_of (alone records.input) (alone records.output) g) ≡ map (pair_move g) (pairs_among froms tos) =
+    let same : map (pair_move g) (pairs_of records.input records.output g) ≡ map (pair_move g) (pairs_among froms tos) =
     ap (λ (f : Forest Resolved). map (pair_move g) (pairs_among (subordinates [] (entries_below g.from.entry.node f)) tos)) (same_entries records g.side) in
     subst (λ (xs : List Move). AreMoves records xs) (sym (h.moves ∙ same)) each
 
-are_moves : (records : Records) → AreGiven records → (a : WrittenAction) (ms : List Move) → IsMeaning (all_of records) (alone records.input) (alone records.output) a ms → AreMoves records ms
+are_moves : (records : Records) → AreGiven records → (a : WrittenAction) (ms : List Move) → IsMeaning (all_of records) records.input records.output a ms → AreMoves records ms
 are_moves records given (MoveTo s ws) ms (m, h, e) =
     let one : IsMove records m = record { sender = is_sender records given s m.sender h.sender; receivers = are_receivers records given ws m.receivers h.receivers } in
     subst (λ (xs : List Move). AreMoves records xs) (sym e) (one, tt)
 are_moves records given (MoveCorresponding from to) ms h = are_pairs records given from to ms h
 
-all_moves : (records : Records) → AreGiven records → (ss : List WrittenStatement) (ms : List Move) → AreMeant (alone records.input) (alone records.output) ss ms → AreMoves records ms
+all_moves : (records : Records) → AreGiven records → (ss : List WrittenStatement) (ms : List Move) → AreMeant records.input records.output ss ms → AreMoves records ms
 all_moves records given [] ms h = subst (λ (xs : List Move). AreMoves records xs) (sym h) tt
 all_moves records given (s ∷ ss) ms (own, more, h, hs, e) =
     subst (λ (xs : List Move). AreMoves records xs) (sym e)

@@ -6,7 +6,7 @@ use Rattle.cob_source.specs.declared.fault.SourceRule.TheVariants as source
 use Rattle.cob_source.specs.Words.{AreParagraphWordsOf, IsSourceRefusal, ParagraphWordsAreOne}
 use Rattle.cob_move_apply.specs.Books.{IsRecordDescription}
 use Rattle.cob_move_apply.specs.Forests.{Forest}
-use Rattle.cob_move_apply.specs.Nodes.{Resolved, alone}
+use Rattle.cob_move_apply.specs.Nodes.{Resolved}
 use Rattle.cob_move_statements.specs.declared.fault.MoveFault.{MoveFault}
 use Rattle.cob_move_statements.specs.declared.fault.MoveRule.{MoveRule}
 use Rattle.cob_move_statements.specs.declared.fault.MoveRule.TheVariants as rule
@@ -14,7 +14,7 @@ use Rattle.cob_move_statements.specs.Faults.{paragraph_fault_by}
 use Rattle.cob_move_statements.specs.Written.{WrittenStatement}
 use Rattle.cob_move_statements.specs.Statements.{IsLineOf, IsParagraph}
 use Rattle.cob_move_statements.specs.Laws.{OneListOfStatements}
-use Rattle.cob_move_apply.specs.Moves.{AreMoves, Move, Records}
+use Rattle.cob_move_apply.specs.Moves.{AreMoves, Move}
 use Rattle.cob_move.specs.Meaning.{AreMeant}
 use Rattle.cob_move.specs.MeaningLaws.{MeantAreMoves, MeantBreakNoRule, OneMeant}
 use Rattle.cob_move_references.specs.Candidates.{all_entries}
@@ -85,8 +85,6 @@ paragraph_breaks_no_rule words_one statements_one unbroken text input output ms 
 
 -- ---- moves between the records
 
-pub are_moves : MeantAreMoves → (r : Records) (text : List ℕ) (input output : Forest Resolved) (ms : List Move) → alone r.input ≡ input → alone r.output ≡ output
-    → IsRecordDescription input → IsRecordDescription output → IsParagraphOf text input output ms → AreMoves r ms
-are_moves law r text input output ms a b in_record out_record p =
-    law r p.statements ms (subst IsRecordDescription (sym a) in_record) (subst IsRecordDescription (sym b) out_record)
-    (subst (λ (f : Forest Resolved). AreMeant (alone r.input) f p.statements ms) (sym b) (subst (λ (f : Forest Resolved). AreMeant f output p.statements ms) (sym a) p.meant))
+pub are_moves : MeantAreMoves → (text : List ℕ) (input output : Forest Resolved) (ms : List Move) → IsRecordDescription input → IsRecordDescription output → IsParagraphOf text input output ms
+    → AreMoves (record { input = input; output = output }) ms
+are_moves law text input output ms in_record out_record p = law (record { input = input; output = output }) p.statements ms in_record out_record p.meant

@@ -2,7 +2,7 @@
 use Rattle.std.specs.Prelude.{◌≡◌, List}
 use Rattle.cob_move_apply.specs.Books.{IsRecordDescription}
 use Rattle.cob_move_apply.specs.Forests.{Forest}
-use Rattle.cob_move_apply.specs.Nodes.{Resolved, alone}
+use Rattle.cob_move_apply.specs.Nodes.{Resolved}
 use Rattle.cob_move_apply.specs.Moves.{Move, Records, AreMoves}
 use Rattle.cob_move_statements.specs.declared.fault.MoveFault.{MoveFault}
 use Rattle.cob_move_statements.specs.declared.fault.MoveRule.{MoveRule}
@@ -34,5 +34,5 @@ MeantBreakNoRule = (all : List Candidate) (input output : Forest Resolved) (ss :
 
 -- Law: the moves that statements mean are moves between the two records.
 abbrev pub MeantAreMoves : Type 0
-MeantAreMoves = (records : Records) (ss : List WrittenStatement) (ms : List Move) → IsRecordDescription (alone records.input) → IsRecordDescription (alone records.output)
-    → AreMeant (alone records.input) (alone records.output) ss ms → AreMoves records ms
+MeantAreMoves = (records : Records) (ss : List WrittenStatement) (ms : List Move) → IsRecordDescription records.input → IsRecordDescription records.output
+    → AreMeant records.input records.output ss ms → AreMoves records ms

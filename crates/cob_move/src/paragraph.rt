@@ -1,13 +1,12 @@
 //! Paragraphs.
 
 ghost use Rattle.std.specs.Prelude.{◌≡◌, length, map, min, IfErr, IfOk, List};
-ghost use Rattle.cob_move_apply.specs.Nodes.{alone};
 ghost use Rattle.cob_move_apply.specs.Books.{IsRecordDescription};
 ghost use Rattle.cob_move_apply.specs.Storage.{IsStorage, greatest_length};
 ghost use Rattle.cob_move_apply.specs.Applied.{Applied, ending};
 ghost use Rattle.cob_move_apply.specs.Prepared.{ArePrepared, moves_of, single_moves};
 ghost use Rattle.cob_move_apply.specs.Room.{room_of};
-ghost use Rattle.cob_move_apply.specs.Moves.{AreMoves, Move as Meant, Records, moves};
+ghost use Rattle.cob_move_apply.specs.Moves.{AreMoves, Move as Meant, moves};
 ghost use Rattle.cob_move_statements.specs.declared.fault.MoveRule.TheVariants.{Memory};
 ghost use Rattle.cob_move.specs.Paragraphs.{IsParagraphOf, IsReadyFor, IsRefusalOf, moves_in};
 
@@ -57,11 +56,11 @@ fn prepared(
     input: &Book,
     output: &Book,
 ) -> Result<Moves, AllocError>
-    requires moves { (r : Records) → alone r.input ≡ input.now → alone r.output ≡ output.now
-        → AreMoves r (moves meant.items) }
+    requires moves { AreMoves (record { input = input.now; output = output.now })
+        (moves meant.items) }
     ensures made { IfOk result (λ m. moves_of m ≡ moves meant.items) }
-    ensures prepared { IfOk result (λ m. (r : Records)
-        → alone r.input ≡ input.now → alone r.output ≡ output.now → ArePrepared r m) }
+    ensures prepared { IfOk result
+        (λ m. ArePrepared (record { input = input.now; output = output.now }) m) }
 {
     let in_layout = Layout::of(alloc, input)?;
     let out_layout = Layout::of(alloc, output)?;
@@ -86,8 +85,8 @@ impl Paragraph {
         ensures found { IfOk result
             (λ p. IsParagraphOf text.now input.now output.now (moves_in p)) }
         // They are ready for the records of these books.
-        ensures ready { IfOk result (λ p. (r : Records)
-            → alone r.input ≡ input.now → alone r.output ≡ output.now → IsReadyFor r p) }
+        ensures ready { IfOk result
+            (λ p. IsReadyFor (record { input = input.now; output = output.now }) p) }
         // A text that is a paragraph is read, memory aside.
         ensures only { (ms : List Meant) → IsParagraphOf text.now input.now output.now ms
             → IfOk result (λ p. moves_in p ≡ ms) × IfErr result (λ f. f.rule ≡ Memory) }

@@ -1,8 +1,8 @@
 -- Moves end in one way.
 use Rattle.std.proofs.Common.{◌≡◌, ℕ, Bool, true, false, List, [], ◌∷◌, sym, ap, subst, ◌∙◌, inl, inr, Ok, Err, Some, None, Result}
 use Rattle.std.specs.Prelude.{option_map}
-use Rattle.cob_layout.specs.Forests.{Tree}
-use Rattle.cob_layout.specs.Nodes.{Resolved, alone}
+use Rattle.cob_layout.specs.Forests.{Forest}
+use Rattle.cob_layout.specs.Nodes.{Resolved}
 use Rattle.cob_layout.specs.declared.fields.Place.{Place}
 use Rattle.cob_layout.specs.Fields.{with_field}
 use Rattle.cob_layout.specs.CountFault.{CountFault}
@@ -36,30 +36,30 @@ ok_not a b e = cc
 
 -- ---- a place
 
-one_standing : (t : Tree Resolved) (o : Operand) (c d : List ℕ) (a b : Result Place PlaceFault) → c ≡ d → StandsUnder t o c a → StandsUnder t o d b → a ≡ b
+one_standing : (t : Forest Resolved) (o : Operand) (c d : List ℕ) (a b : Result Place PlaceFault) → c ≡ d → StandsUnder t o c a → StandsUnder t o d b → a ≡ b
 one_standing t o c d a b same x y =
-    some_is a b (sym x ∙ ap (λ (k : List ℕ). option_map placed (place_of (times k) o.entry.node (alone t) 0 0 o.entry.subscripts.items)) same ∙ y)
+    some_is a b (sym x ∙ ap (λ (k : List ℕ). option_map placed (place_of (times k) o.entry.node t 0 0 o.entry.subscripts.items)) same ∙ y)
 
-same_counts : OneOfNeeded → (t : Tree Resolved) (receiving : Bool) (o : Operand) (bytes c d : List ℕ)
+same_counts : OneOfNeeded → (t : Forest Resolved) (receiving : Bool) (o : Operand) (bytes c d : List ℕ)
     → NeededOf t o.entry.node receiving bytes (Ok c) → NeededOf t o.entry.node receiving bytes (Ok d) → c ≡ d
 same_counts law t receiving o bytes c d n m = ok_is c d (law t o.entry.node receiving bytes (Ok c) (Ok d) n m)
 
-no_counts : OneOfNeeded → (t : Tree Resolved) (receiving : Bool) (o : Operand) (bytes c : List ℕ) (f : CountFault)
+no_counts : OneOfNeeded → (t : Forest Resolved) (receiving : Bool) (o : Operand) (bytes c : List ℕ) (f : CountFault)
     → NeededOf t o.entry.node receiving bytes (Ok c) → NeededOf t o.entry.node receiving bytes (Err f) → ⊥
 no_counts law t receiving o bytes c f n m = ok_not c f (law t o.entry.node receiving bytes (Ok c) (Err f) n m)
 
-pub one_place : OneOfNeeded → (side : Side) (t : Tree Resolved) (receiving : Bool) (o : Operand) (bytes : List ℕ) (p q : Place)
+pub one_place : OneOfNeeded → (side : Side) (t : Forest Resolved) (receiving : Bool) (o : Operand) (bytes : List ℕ) (p q : Place)
     → Located side t receiving o bytes (Ok p) → Located side t receiving o bytes (Ok q) → p ≡ q
 one_place law side t receiving o bytes p q (c, n, e) (d, m, f) =
     ok_is p q (one_standing t o c d (Ok p) (Ok q) (same_counts law t receiving o bytes c d n m) e f)
 
-not_both : OneOfNeeded → (side : Side) (t : Tree Resolved) (receiving : Bool) (o : Operand) (bytes : List ℕ) (p : Place) (q : Stop)
+not_both : OneOfNeeded → (side : Side) (t : Forest Resolved) (receiving : Bool) (o : Operand) (bytes : List ℕ) (p : Place) (q : Stop)
     → Located side t receiving o bytes (Ok p) → Located side t receiving o bytes (Err q) → ⊥
 not_both law side t receiving o bytes p q (c, n, e) (inl (f, m, is)) = no_counts law t receiving o bytes c f n m
 not_both law side t receiving o bytes p q (c, n, e) (inr (d, f, m, at, is)) =
     ok_not p f (one_standing t o c d (Ok p) (Err f) (same_counts law t receiving o bytes c d n m) e at)
 
-one_stop : OneOfNeeded → (side : Side) (t : Tree Resolved) (receiving : Bool) (o : Operand) (bytes : List ℕ) (p q : Stop)
+one_stop : OneOfNeeded → (side : Side) (t : Forest Resolved) (receiving : Bool) (o : Operand) (bytes : List ℕ) (p q : Stop)
     → Located side t receiving o bytes (Err p) → Located side t receiving o bytes (Err q) → p ≡ q
 one_stop law side t receiving o bytes p q (inl (f, n, x)) (inl (g, m, y)) =
     let same : f ≡ g = err_is f g (law t o.entry.node receiving bytes (Err f) (Err g) n m) in
@@ -72,7 +72,7 @@ one_stop law side t receiving o bytes p q (inr (c, f, n, at, x)) (inr (d, g, m, 
 
 -- ---- the sender
 
-one_taken : OneOfNeeded → (side : Side) (t : Tree Resolved) (o : Operand) (bytes : List ℕ) (a b : Result Content Stop) → EntryGives side t o bytes a → EntryGives side t o bytes b → a ≡ b
+one_taken : OneOfNeeded → (side : Side) (t : Forest Resolved) (o : Operand) (bytes : List ℕ) (a b : Result Content Stop) → EntryGives side t o bytes a → EntryGives side t o bytes b → a ≡ b
 one_taken law side t o bytes (Ok a) (Ok b) (p, x, e) (q, y, f) =
     let same : p ≡ q = one_place law side t false o bytes p q x y in
     ap (λ k. Ok k) (e ∙ ap (content_at side o bytes) same ∙ sym f)
@@ -100,7 +100,7 @@ value_or_not law content o p q a same x y =
     let came : Received content.sent o.kind q.length (Some a) = subst (λ (k : Place). Received content.sent o.kind k.length (Some a)) same x in
     some_not a (law content.sent o.kind q.length (Some a) None came y)
 
-one_got : OneOfNeeded → OneReceived → (t : Tree Resolved) (content : Content) (o : Operand) (before : List ℕ) (a b : Result (List ℕ) Stop) → Gets t content o before a → Gets t content o before b → a ≡ b
+one_got : OneOfNeeded → OneReceived → (t : Forest Resolved) (content : Content) (o : Operand) (before : List ℕ) (a b : Result (List ℕ) Stop) → Gets t content o before a → Gets t content o before b → a ≡ b
 one_got law one t content o before (Ok a) (Ok b) (p, u, x, h, e) (q, v, y, k, f) =
     ap (λ z. Ok z) (e ∙ one_bytes one content o p q before u v (one_place law Out t true o before p q x y) h k ∙ sym f)
 one_got law one t content o before (Ok a) (Err b) (p, u, x, h, e) (inl y) = absurd (not_both law Out t true o before p b x y)
@@ -112,7 +112,7 @@ one_got law one t content o before (Err a) (Err b) (inl x) (inr (q, y, none, f))
 one_got law one t content o before (Err a) (Err b) (inr (p, x, none, e)) (inl y) = absurd (not_both law Out t true o before p b x y)
 one_got law one t content o before (Err a) (Err b) (inr (p, x, none, e)) (inr (q, y, same, f)) = ap (λ z. Err z) (e ∙ sym f)
 
-one_end : OneOfNeeded → OneReceived → (t : Tree Resolved) (content : Content) (os : List Operand) (before : List ℕ) (a b : Ending) → AllGet t content os before a → AllGet t content os before b → a ≡ b
+one_end : OneOfNeeded → OneReceived → (t : Forest Resolved) (content : Content) (os : List Operand) (before : List ℕ) (a b : Ending) → AllGet t content os before a → AllGet t content os before b → a ≡ b
 one_end law one t content [] before a b x y = x ∙ sym y
 one_end law one t content (o ∷ os) before a b (inl (after, g, x)) (inl (other, h, y)) =
     let same : after ≡ other = ok_is after other (one_got law one t content o before (Ok after) (Ok other) g h) in

@@ -1,19 +1,18 @@
 -- Where operands stand.
-use Rattle.std.proofs.Common.{◌≡◌, ℕ, ◌+◌, ◌≤◌, [], ◌==◌, Bool, true, false, List, refl, sym, ap, subst, ◌∙◌, Option, Some, None, inr, Ok, Err, Result}
+use Rattle.std.proofs.Common.{◌≡◌, ℕ, ◌+◌, ◌≤◌, [], ◌==◌, Bool, true, false, List, refl, ap, subst, ◌∙◌, Option, Some, None, inr, Ok, Err, Result}
 use Rattle.std.specs.Prelude.{option_map}
 use Rattle.cob_layout.specs.Item.{Item}
 use Rattle.cob_layout.specs.Kind.{Kind}
 use Rattle.cob_layout.specs.Kind.TheVariants.{Group, Item as ItemKind}
-use Rattle.cob_layout.specs.Forests.{Forest, NoEntries, AnEntry, Tree}
-use Rattle.cob_layout.specs.Nodes.{Resolved, alone}
+use Rattle.cob_layout.specs.Forests.{Forest, NoEntries, AnEntry}
+use Rattle.cob_layout.specs.Nodes.{Resolved}
 use Rattle.cob_layout.specs.TreeLengths.{item_size}
 use Rattle.cob_layout.specs.declared.fields.Place.{Place}
 use Rattle.cob_layout.specs.PlaceLengths.{times}
-use Rattle.cob_layout.specs.Places.{place_of, place_in_entry, or_else, choose}
-use Rattle.cob_layout.specs.Counts.{kind_in, kind_one}
-use Rattle.cob_layout.proofs.CountLemmas.{found_size, pairs_one}
+use Rattle.cob_layout.specs.Places.{place_of, or_else, choose}
+use Rattle.cob_layout.specs.Counts.{kind_in}
+use Rattle.cob_layout.proofs.CountLemmas.{found_size, pairs_in}
 use Rattle.cob_layout.specs.Placed.{placed}
-use Rattle.cob_layout.proofs.ReferenceLemmas.{find_alone}
 use Rattle.cob_layout.proofs.StorageLemmas.{found_by}
 use Rattle.cob_layout.specs.Books.{IsRecordDescription}
 use Rattle.cob_layout.specs.declared.layout.PlaceFault.{PlaceFault}
@@ -49,50 +48,47 @@ storable_in number (AnEntry e children more) s k is =
     (λ q. storable_choose (e.number == number) e.kind (kind_in number children) q s.0 (storable_in number children s.1))
     (storable_in number more s.2) is
 
-storable : (number : ℕ) (t : Tree Resolved) → AreStorable (alone t) → (k : Kind) → kind_one number t ≡ Some k → IsStorableKind k
-storable number t s k is = storable_choose (t.top.number == number) t.top.kind (kind_in number t.beneath) k s.0 (storable_in number t.beneath s.1) is
-
 -- ---- what is found has the item's length
 
 filled_by : (k : Kind) (n : ℕ) → IsStorableKind k → ((i : Item) → k ≡ ItemKind i → n ≡ item_size i) → Occupies k n
 filled_by Group n s h = tt
 filled_by (ItemKind i) n s h = (h i refl, s)
 
-pub filled : (t : Tree Resolved) (number : ℕ) (counts subscripts : List ℕ) (k : Kind) (p : Place) → IsSound t → kind_one number t ≡ Some k
-    → option_map placed (place_of (times counts) number (alone t) 0 0 subscripts) ≡ Some (Ok p) → Occupies k p.length
+pub filled : (t : Forest Resolved) (number : ℕ) (counts subscripts : List ℕ) (k : Kind) (p : Place) → IsSound t → kind_in number t ≡ Some k
+    → option_map placed (place_of (times counts) number t 0 0 subscripts) ≡ Some (Ok p) → Occupies k p.length
 filled t number counts subscripts k p sound is stands =
-    let (f, found, there, offset, size) = found_by (place_of (times counts) number (alone t) 0 0 subscripts) p stands in
-    filled_by k p.length (storable number t sound.storable k is)
-    (λ i item. size ∙ found_size (kind_one number t) (place_in_entry (times counts) number t 0 subscripts) i f (pairs_one (times counts) number t 0 subscripts)
-    (is ∙ ap (λ (q : Kind). Some q) item) (sym (find_alone (times counts) number t subscripts) ∙ found))
+    let (f, found, there, offset, size) = found_by (place_of (times counts) number t 0 0 subscripts) p stands in
+    filled_by k p.length (storable_in number t sound.storable k is)
+    (λ i item. size ∙ found_size (kind_in number t) (place_of (times counts) number t 0 0 subscripts) i f (pairs_in (times counts) number t 0 0 subscripts)
+    (is ∙ ap (λ (q : Kind). Some q) item) found)
 
-pub filled_at : (side : Side) (t : Tree Resolved) (receiving : Bool) (o : Operand) (bytes : List ℕ) (p : Place) → IsSound t → IsOperand t o
+pub filled_at : (side : Side) (t : Forest Resolved) (receiving : Bool) (o : Operand) (bytes : List ℕ) (p : Place) → IsSound t → IsOperand t o
     → Located side t receiving o bytes (Ok p) → Occupies o.kind p.length
 filled_at side t receiving o bytes p sound is (counts, needs, stands) =
     filled t o.entry.node counts o.entry.subscripts.items o.kind p sound is.is stands
 
 -- ---- what a place rests on
 
-pub fixed_in : (t : Tree Resolved) (receiving : Bool) (o : PlacedOperand) (p : Place) → IsPlaced t receiving o → o.basis ≡ basis.Fixed p → IsFixed t receiving o.operand p
+pub fixed_in : (t : Forest Resolved) (receiving : Bool) (o : PlacedOperand) (p : Place) → IsPlaced t receiving o → o.basis ≡ basis.Fixed p → IsFixed t receiving o.operand p
 fixed_in t receiving o p is e = subst (IsBasis t receiving o.operand) e is.basis
 
 -- where all counts of a storage are valid, and the operand is spared none
-pub under_all : AllGiveNeeded → (t : Tree Resolved) (receiving : Bool) (o : Operand) (bytes : List ℕ) (places : Standing) (there : Result Place PlaceFault)
-    → IsRecordDescription (alone t) → IsOperand t o → SparesNone t o.entry.node receiving → StandsIn t bytes places
+pub under_all : AllGiveNeeded → (t : Forest Resolved) (receiving : Bool) (o : Operand) (bytes : List ℕ) (places : Standing) (there : Result Place PlaceFault)
+    → IsRecordDescription t → IsOperand t o → SparesNone t o.entry.node receiving → StandsIn t bytes places
     → ((counts : List ℕ) → ArePlaces t counts places → StandsUnder t o counts there)
     → (d : List ℕ) × NeededOf t o.entry.node receiving bytes (Ok d) × StandsUnder t o d there
 under_all law t receiving o bytes places there is_record is spared (counts, taken, are) stands =
     let (d, needed, same) = law t bytes counts o.entry.node receiving o.entry.subscripts.items [] is_record is.refers taken spared in
     (d, needed, ap (option_map placed) same ∙ stands counts are)
 
-pub at_counts : AllGiveNeeded → (side : Side) (t : Tree Resolved) (receiving : Bool) (o : Operand) (bytes : List ℕ) (places : Standing) (p : Place)
-    → IsRecordDescription (alone t) → IsOperand t o → SparesNone t o.entry.node receiving → StandsIn t bytes places
+pub at_counts : AllGiveNeeded → (side : Side) (t : Forest Resolved) (receiving : Bool) (o : Operand) (bytes : List ℕ) (places : Standing) (p : Place)
+    → IsRecordDescription t → IsOperand t o → SparesNone t o.entry.node receiving → StandsIn t bytes places
     → ((counts : List ℕ) → ArePlaces t counts places → StandsUnder t o counts (Ok p))
     → Located side t receiving o bytes (Ok p)
 at_counts law side t receiving o bytes places p is_record is spared stands under = under_all law t receiving o bytes places (Ok p) is_record is spared stands under
 
-pub past_counts : AllGiveNeeded → (side : Side) (t : Tree Resolved) (receiving : Bool) (o : Operand) (bytes : List ℕ) (places : Standing) (f : PlaceFault)
-    → IsRecordDescription (alone t) → IsOperand t o → SparesNone t o.entry.node receiving → StandsIn t bytes places
+pub past_counts : AllGiveNeeded → (side : Side) (t : Forest Resolved) (receiving : Bool) (o : Operand) (bytes : List ℕ) (places : Standing) (f : PlaceFault)
+    → IsRecordDescription t → IsOperand t o → SparesNone t o.entry.node receiving → StandsIn t bytes places
     → ((counts : List ℕ) → ArePlaces t counts places → StandsUnder t o counts (Err f))
     → Located side t receiving o bytes (Err (stop_at side f.offset Subscript))
 past_counts law side t receiving o bytes places f is_record is spared stands under =
@@ -100,7 +96,7 @@ past_counts law side t receiving o bytes places f is_record is spared stands und
     inr (d, f, needed, there, refl)
 
 -- where no count is read
-pub fixed : (t : Tree Resolved) (receiving : Bool) (o : Operand) (p : Place) → ReadsNone t o.entry.node receiving → StandsUnder t o (greatest_counts t) (Ok p)
+pub fixed : (t : Forest Resolved) (receiving : Bool) (o : Operand) (p : Place) → ReadsNone t o.entry.node receiving → StandsUnder t o (greatest_counts t) (Ok p)
     → p.offset + p.length ≤ greatest_length t → IsFixed t receiving o p
 fixed t receiving o p none stands within = record {
   place = λ side bytes. (greatest_counts t, ([], none, refl), stands);

@@ -4,7 +4,7 @@ use Rattle.std.proofs.lemmas.List.{drop_all, length-take, length-drop}
 use Rattle.std.proofs.Math.Seq.{take-append_seam}
 use borrow.Rule.Slice.PartMut.{put_mid}
 use Rattle.cob_layout.specs.Kind.{Kind}
-use Rattle.cob_layout.specs.Forests.{Tree}
+use Rattle.cob_layout.specs.Forests.{Forest}
 use Rattle.cob_layout.specs.Nodes.{Resolved}
 use Rattle.cob_layout.specs.declared.fields.Place.{Place}
 use Rattle.cob_layout.specs.Fields.{with_field, field_of}
@@ -30,14 +30,14 @@ put_is place received storage =
     back m n = omega arith
 
 -- a receiver got it
-pub got : (t : Tree Resolved) (content : Content) (o : Operand) (before bytes : List ℕ) (p : Place) (n : ℕ) (b : Bool) → Located Out t true o before (Ok p) → n ≡ p.length → b ≡ true
+pub got : (t : Forest Resolved) (content : Content) (o : Operand) (before bytes : List ℕ) (p : Place) (n : ℕ) (b : Bool) → Located Out t true o before (Ok p) → n ≡ p.length → b ≡ true
     → Received content.sent o.kind n (outcome b bytes) → Gets t content o before (Ok (put_mid p.offset (p.offset + p.length - p.offset) before bytes))
 got t content o before bytes p n b at size there h =
     let Receives : ℕ → Bool → Type 0 = λ m x. Received content.sent o.kind m (outcome x bytes) in
     (p, bytes, at, subst (λ (m : ℕ). Receives m true) size (subst (λ (x : Bool). Receives n x) there h), put_is p bytes before)
 
 -- a value is missing
-pub lacks : (t : Tree Resolved) (content : Content) (o : Operand) (before bytes : List ℕ) (p : Place) (n : ℕ) (b : Bool) → Located Out t true o before (Ok p) → n ≡ p.length → b ≡ false
+pub lacks : (t : Forest Resolved) (content : Content) (o : Operand) (before bytes : List ℕ) (p : Place) (n : ℕ) (b : Bool) → Located Out t true o before (Ok p) → n ≡ p.length → b ≡ false
     → Received content.sent o.kind n (outcome b bytes) → Gets t content o before (Err (stop_at content.side content.offset NoValue))
 lacks t content o before bytes p n b at size no_value h =
     let Receives : ℕ → Bool → Type 0 = λ m x. Received content.sent o.kind m (outcome x bytes) in
@@ -46,20 +46,20 @@ lacks t content o before bytes p n b at size no_value h =
 -- ---- one after another
 
 -- whatever the receivers from place i on make of the storage now, all make of the storage before
-abbrev pub GetsFrom : Tree Resolved → Content → List Operand → ℕ → List ℕ → List ℕ → Type 0
+abbrev pub GetsFrom : Forest Resolved → Content → List Operand → ℕ → List ℕ → List ℕ → Type 0
 GetsFrom t content os i before now = (end : Ending) → AllGet t content (drop i os) now end → AllGet t content os before end
 
-pub get_more : (t : Tree Resolved) (content : Content) (os : List Operand) (i : ℕ) (o : Operand) (before now after : List ℕ) → i < length os → o ≡ get_or os i o
+pub get_more : (t : Forest Resolved) (content : Content) (os : List Operand) (i : ℕ) (o : Operand) (before now after : List ℕ) → i < length os → o ≡ get_or os i o
     → GetsFrom t content os i before now → Gets t content o now (Ok after) → GetsFrom t content os (i + 1) before after
 get_more t content os i o before now after lt is so h end rest =
     so end (subst (λ (xs : List Operand). AllGet t content xs now end) (sym (next os i o lt is)) (inl (after, h, rest)))
 
-pub get_stops : (t : Tree Resolved) (content : Content) (os : List Operand) (i : ℕ) (o : Operand) (before now : List ℕ) (stop : Stop) → i < length os → o ≡ get_or os i o
+pub get_stops : (t : Forest Resolved) (content : Content) (os : List Operand) (i : ℕ) (o : Operand) (before now : List ℕ) (stop : Stop) → i < length os → o ≡ get_or os i o
     → GetsFrom t content os i before now → Gets t content o now (Err stop) → AllGet t content os before (stopped stop now)
 get_stops t content os i o before now stop lt is so h =
     so (stopped stop now) (subst (λ (xs : List Operand). AllGet t content xs now (stopped stop now)) (sym (next os i o lt is)) (inr (stop, h, refl)))
 
-pub get_all : (t : Tree Resolved) (content : Content) (os : List Operand) (i : ℕ) (before now : List ℕ) → length os ≤ i → GetsFrom t content os i before now → AllGet t content os before (done now)
+pub get_all : (t : Forest Resolved) (content : Content) (os : List Operand) (i : ℕ) (before now : List ℕ) → length os ≤ i → GetsFrom t content os i before now → AllGet t content os before (done now)
 get_all t content os i before now past so = so (done now) (subst (λ (xs : List Operand). AllGet t content xs now (done now)) (sym (drop_all i os past)) refl)
 
 -- ---- one move

@@ -1,6 +1,6 @@
 -- What moves make of the output record's storage, one after another, and where they stop.
 use Rattle.std.specs.Prelude.{◌≡◌, ◌⊎◌, ℕ, List, [], ◌∷◌, Option, Some, None, true, false, Ok, Err, Result}
-use Rattle.cob_layout.specs.Forests.{Tree}
+use Rattle.cob_layout.specs.Forests.{Forest}
 use Rattle.cob_layout.specs.Nodes.{Resolved}
 use Rattle.cob_layout.specs.declared.fields.Place.{Place}
 use Rattle.cob_layout.specs.Fields.{field_of, with_field}
@@ -26,9 +26,9 @@ abbrev pub content_at : Side → Operand → List ℕ → Place → Content
 content_at side o bytes p = record { sent = sent.Entry o.kind (field_of p bytes); side = side; offset = p.offset }
 
 -- an entry gives the bytes of its place, or stops where it has none
-abbrev pub EntryGives : Side → Tree Resolved → Operand → List ℕ → Result Content Stop → Type 0
-EntryGives side t o bytes (Ok content) = (p : Place) × Located side t false o bytes (Ok p) × (content ≡ content_at side o bytes p)
-EntryGives side t o bytes (Err stop) = Located side t false o bytes (Err stop)
+abbrev pub EntryGives : Side → Forest Resolved → Operand → List ℕ → Result Content Stop → Type 0
+EntryGives side tree o bytes (Ok content) = (p : Place) × Located side tree false o bytes (Ok p) × (content ≡ content_at side o bytes p)
+EntryGives side tree o bytes (Err stop) = Located side tree false o bytes (Err stop)
 
 -- the storage of a side
 abbrev pub storage_of : Side → List ℕ → List ℕ → List ℕ
@@ -42,13 +42,13 @@ Gives r (Literal c) input output g = g ≡ Ok (record { sent = sent.Literal c; s
 
 -- A receiver gets it: at its place in the output record's storage as it then is, the bytes become what it receives, and all others stay. First
 -- its counts may be missing, then its element, then a value of the sender, which stops at the sender.
-abbrev pub Gets : Tree Resolved → Content → Operand → List ℕ → Result (List ℕ) Stop → Type 0
-Gets t content o before (Ok after) =
-    (p : Place) × (bytes : List ℕ) × Located Out t true o before (Ok p)
+abbrev pub Gets : Forest Resolved → Content → Operand → List ℕ → Result (List ℕ) Stop → Type 0
+Gets tree content o before (Ok after) =
+    (p : Place) × (bytes : List ℕ) × Located Out tree true o before (Ok p)
     × Received content.sent o.kind p.length (Some bytes) × (after ≡ with_field before p bytes)
-Gets t content o before (Err stop) =
-    Located Out t true o before (Err stop)
-    ⊎ ((p : Place) × Located Out t true o before (Ok p)
+Gets tree content o before (Err stop) =
+    Located Out tree true o before (Err stop)
+    ⊎ ((p : Place) × Located Out tree true o before (Ok p)
     × Received content.sent o.kind p.length None × (stop ≡ stop_at content.side content.offset NoValue))
 
 -- how moves end: with a stop or none, and with the storage that they leave
@@ -65,11 +65,11 @@ abbrev pub stopped : Stop → List ℕ → Ending
 stopped stop storage = record { stop = Some stop; storage = storage }
 
 -- each receiver gets it in turn, up to the first that stops
-abbrev pub AllGet : Tree Resolved → Content → List Operand → List ℕ → Ending → Type 0
-AllGet t content [] before end = end ≡ done before
-AllGet t content (o ∷ os) before end =
-    ((after : List ℕ) × Gets t content o before (Ok after) × AllGet t content os after end)
-    ⊎ ((stop : Stop) × Gets t content o before (Err stop) × (end ≡ stopped stop before))
+abbrev pub AllGet : Forest Resolved → Content → List Operand → List ℕ → Ending → Type 0
+AllGet tree content [] before end = end ≡ done before
+AllGet tree content (o ∷ os) before end =
+    ((after : List ℕ) × Gets tree content o before (Ok after) × AllGet tree content os after end)
+    ⊎ ((stop : Stop) × Gets tree content o before (Err stop) × (end ≡ stopped stop before))
 
 -- one move: what the sender gives is taken once, before the first receiver, and then each receiver gets it
 abbrev pub IsMoved : Records → Move → List ℕ → List ℕ → Ending → Type 0

@@ -1,7 +1,7 @@
 -- Where an operand stands in a storage, or why it doesn't.
 use Rattle.std.specs.Prelude.{◌≡◌, ◌⊎◌, ℕ, Bool, List, Some, Ok, Err, Result, option_map}
-use Rattle.cob_layout.specs.Forests.{Tree}
-use Rattle.cob_layout.specs.Nodes.{Resolved, alone}
+use Rattle.cob_layout.specs.Forests.{Forest}
+use Rattle.cob_layout.specs.Nodes.{Resolved}
 use Rattle.cob_layout.specs.declared.fields.Place.{Place}
 use Rattle.cob_layout.specs.CountFault.{CountFault}
 use Rattle.cob_layout.specs.PlaceLengths.{times}
@@ -20,16 +20,16 @@ abbrev pub stop_at : Side → ℕ → StopCause → Stop
 stop_at side offset cause = record { side = side; offset = offset; cause = cause }
 
 -- under these counts the operand stands there, or would begin there where its element is past its table's count
-abbrev pub StandsUnder : Tree Resolved → Operand → List ℕ → Result Place PlaceFault → Type 0
-StandsUnder t o counts there =
-    option_map placed (place_of (times counts) o.entry.node (alone t) 0 0 o.entry.subscripts.items) ≡ Some there
+abbrev pub StandsUnder : Forest Resolved → Operand → List ℕ → Result Place PlaceFault → Type 0
+StandsUnder tree o counts there =
+    option_map placed (place_of (times counts) o.entry.node tree 0 0 o.entry.subscripts.items) ≡ Some there
 
 -- An operand's place in a storage, sending or receiving: where it stands under the counts that it needs there. The first of these counts that
 -- isn't valid stops at the count's item; and then a subscript past its table's count stops at the place where the element would begin.
-abbrev pub Located : Side → Tree Resolved → Bool → Operand → List ℕ → Result Place Stop → Type 0
-Located side t receiving o bytes (Ok p) =
-    (counts : List ℕ) × NeededOf t o.entry.node receiving bytes (Ok counts) × StandsUnder t o counts (Ok p)
-Located side t receiving o bytes (Err stop) =
-    ((f : CountFault) × NeededOf t o.entry.node receiving bytes (Err f) × (stop ≡ stop_at side f.offset Count))
-    ⊎ ((counts : List ℕ) × (f : PlaceFault) × NeededOf t o.entry.node receiving bytes (Ok counts)
-    × StandsUnder t o counts (Err f) × (stop ≡ stop_at side f.offset Subscript))
+abbrev pub Located : Side → Forest Resolved → Bool → Operand → List ℕ → Result Place Stop → Type 0
+Located side tree receiving o bytes (Ok p) =
+    (counts : List ℕ) × NeededOf tree o.entry.node receiving bytes (Ok counts) × StandsUnder tree o counts (Ok p)
+Located side tree receiving o bytes (Err stop) =
+    ((f : CountFault) × NeededOf tree o.entry.node receiving bytes (Err f) × (stop ≡ stop_at side f.offset Count))
+    ⊎ ((counts : List ℕ) × (f : PlaceFault) × NeededOf tree o.entry.node receiving bytes (Ok counts)
+    × StandsUnder tree o counts (Err f) × (stop ≡ stop_at side f.offset Subscript))

@@ -2,7 +2,7 @@
 use Rattle.std.specs.Prelude.{ℕ, ◌+◌, ◌≤◌, Bool, true, false, List, map, Ok}
 use Rattle.std.specs.List.{AllByRecursion}
 use Rattle.cob_layout.specs.Described.{plain_value}
-use Rattle.cob_layout.specs.Forests.{Tree}
+use Rattle.cob_layout.specs.Forests.{Forest}
 use Rattle.cob_layout.specs.Nodes.{Resolved}
 use Rattle.cob_layout.specs.declared.fields.Place.{Place}
 use Rattle.cob_layout.specs.Standing.{SparesNone}
@@ -39,21 +39,21 @@ abbrev pub content_of : Given → Content
 content_of g = record { sent = sent g.sent; side = g.side; offset = g.offset }
 
 -- this is the operand's place in every storage, sending or receiving, and it lies within the record
-pub record IsFixed (t : Tree Resolved) (receiving : Bool) (o : Operand) (p : Place) : Type 0 where
-  pub place : (side : Side) (bytes : List ℕ) → Located side t receiving o bytes (Ok p)
-  pub within : p.offset + p.length ≤ greatest_length t
+pub record IsFixed (tree : Forest Resolved) (receiving : Bool) (o : Operand) (p : Place) : Type 0 where
+  pub place : (side : Side) (bytes : List ℕ) → Located side tree receiving o bytes (Ok p)
+  pub within : p.offset + p.length ≤ greatest_length tree
 
 -- An operand's place, sending or receiving, may rest on this: on no count where it is noted and the same in every storage; on all counts where the
 -- operand is spared none; and on those that it needs.
-abbrev pub IsBasis : Tree Resolved → Bool → Operand → Basis → Type 0
-IsBasis t receiving o (basis.Fixed p) = IsFixed t receiving o p
-IsBasis t receiving o basis.AllCounts = SparesNone t o.entry.node receiving
-IsBasis t receiving o basis.NeededCounts = Unit {0}
+abbrev pub IsBasis : Forest Resolved → Bool → Operand → Basis → Type 0
+IsBasis tree receiving o (basis.Fixed p) = IsFixed tree receiving o p
+IsBasis tree receiving o basis.AllCounts = SparesNone tree o.entry.node receiving
+IsBasis tree receiving o basis.NeededCounts = Unit {0}
 
 -- an operand of the record, with what its place rests on
-pub record IsPlaced (t : Tree Resolved) (receiving : Bool) (p : PlacedOperand) : Type 0 where
-  pub operand : IsOperand t p.operand
-  pub basis : IsBasis t receiving p.operand p.basis
+pub record IsPlaced (tree : Forest Resolved) (receiving : Bool) (p : PlacedOperand) : Type 0 where
+  pub operand : IsOperand tree p.operand
+  pub basis : IsBasis tree receiving p.operand p.basis
 
 -- so is a sender
 abbrev pub IsPlacedSender : Records → PlacedSender → Type 0

@@ -1,6 +1,5 @@
 -- The room that moves are carried out in.
 use Rattle.std.specs.Prelude.{ℕ}
-use Rattle.cob_layout.specs.Nodes.{alone}
 use Rattle.cob_layout.specs.Forests.{entries_in}
 use Rattle.cob_layout.specs.Storage.{greatest_length}
 use Rattle.cob_move_operands.specs.Moves.{Records}
@@ -15,10 +14,10 @@ pub record RoomForMoves : Type 0 where
 
 -- The room for moves between two records: a count for each entry of either, the places of either, and the bytes of the output record.
 abbrev pub room_of : Records → RoomForMoves
-room_of r = record {
-  inputs = entries_in (alone r.input);
-  input_places = entries_in (alone r.input);
-  outputs = entries_in (alone r.output);
-  output_places = entries_in (alone r.output);
-  content = greatest_length r.output;
+room_of records = record {
+  inputs = entries_in records.input;
+  input_places = entries_in records.input;
+  outputs = entries_in records.output;
+  output_places = entries_in records.output;
+  content = greatest_length records.output;
 }

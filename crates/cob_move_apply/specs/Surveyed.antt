@@ -1,7 +1,7 @@
 -- What is known of both records' storages while moves go on.
 use Rattle.std.specs.Prelude.{◌≡◌, ℕ, List, length}
-use Rattle.cob_layout.specs.Forests.{Tree, entries_in}
-use Rattle.cob_layout.specs.Nodes.{Resolved, alone}
+use Rattle.cob_layout.specs.Forests.{Forest, entries_in}
+use Rattle.cob_layout.specs.Nodes.{Resolved}
 use Rattle.cob_layout.specs.Standing.{IsRoomFor, Standing, StandsIn, room_in}
 use Rattle.cob_layout.specs.Storage.{greatest_length}
 use Rattle.cob_move_operands.specs.Moves.{Records}
@@ -17,20 +17,20 @@ abbrev pub records : Layouts → Records
 records l = record { input = l.input.now; output = l.output.now }
 
 -- what is known of a storage holds: its entries stand there under its own counts
-abbrev pub IsKnown : Tree Resolved → List ℕ → Known → Standing → Type 0
-IsKnown t bytes known.Nothing places = Unit {0}
-IsKnown t bytes known.Places places = StandsIn t bytes places
-IsKnown t bytes known.Fault places = Unit {0}
+abbrev pub IsKnown : Forest Resolved → List ℕ → Known → Standing → Type 0
+IsKnown tree bytes known.Nothing places = Unit {0}
+IsKnown tree bytes known.Places places = StandsIn tree bytes places
+IsKnown tree bytes known.Fault places = Unit {0}
 
 -- room for the counts and the places of a record
-pub record HasRoom (t : Tree Resolved) (s : Survey) : Type 0 where
-  pub places : IsRoomFor t s.places
-  pub needed : length s.needed ≡ entries_in (alone t)
+pub record HasRoom (tree : Forest Resolved) (s : Survey) : Type 0 where
+  pub places : IsRoomFor tree s.places
+  pub needed : length s.needed ≡ entries_in tree
 
 -- what is known holds of this storage
-pub record IsSurvey (t : Tree Resolved) (bytes : List ℕ) (s : Survey) : Type 0 where
-  pub known : IsKnown t bytes s.known s.places
-  pub room : HasRoom t s
+pub record IsSurvey (tree : Forest Resolved) (bytes : List ℕ) (s : Survey) : Type 0 where
+  pub known : IsKnown tree bytes s.known s.places
+  pub room : HasRoom tree s
 
 -- room for moves between two records: for the counts and places of both, and for the bytes of a sender in the output record
 pub record HasSpace (r : Records) (w : Workspace) : Type 0 where

@@ -1,7 +1,6 @@
 //! Where operands stand.
 
 ghost use Rattle.std.specs.Prelude.{◌≡◌, ◌+◌, ◌≤◌, length, IfOk, IfErr, OnOk, Ok, Err};
-ghost use Rattle.cob_layout.specs.Nodes.{alone};
 ghost use Rattle.cob_layout.specs.Forests.{entries_in};
 ghost use Rattle.cob_layout.specs.Sound.{IsSound};
 ghost use Rattle.cob_layout.specs.Storage.{greatest_length};
@@ -51,7 +50,7 @@ fn place_by_needs(
 ) -> Result<Place, Stop>
     requires sound { IsSound stored.now.layout.now }
     requires operand { IsOperand stored.now.layout.now operand.now }
-    requires room { length counts.old ≡ entries_in (alone stored.now.layout.now) }
+    requires room { length counts.old ≡ entries_in stored.now.layout.now }
     ensures located { Located stored.now.side stored.now.layout.now receiving operand.now
         stored.now.bytes.now result }
     ensures fits { IfOk result

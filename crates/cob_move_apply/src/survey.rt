@@ -1,7 +1,7 @@
 //! What is known of the counts of a storage while moves go on.
 
 ghost use Rattle.std.specs.Prelude.{◌≡◌, ◌+◌, ◌≤◌, ℕ, List, length, IfOk, IsTrue};
-ghost use Rattle.cob_layout.specs.Forests.{Tree};
+ghost use Rattle.cob_layout.specs.Forests.{Forest};
 ghost use Rattle.cob_layout.specs.Nodes.{Resolved};
 ghost use Rattle.cob_layout.specs.Fields.{with_field};
 ghost use Rattle.cob_layout.specs.Standing.{StandsIn};
@@ -51,8 +51,8 @@ impl Survey {
 
     /// Forgets what is known of a storage, since another one comes.
     pub(crate) fn forget(&mut self)
-        ensures { (t : Tree Resolved) (bytes : List ℕ)
-            → HasRoom t self.old → IsSurvey t bytes self.new }
+        ensures { (tree : Forest Resolved) (bytes : List ℕ)
+            → HasRoom tree self.old → IsSurvey tree bytes self.new }
     {
         self.known = Known::Nothing;
     }

@@ -5,8 +5,8 @@ use Rattle.std.proofs.lemmas.List.{length-append, length-take, length-drop, take
 use Rattle.cob_layout.specs.Described.{PlainValue}
 use Rattle.cob_layout.specs.Kind.{Kind}
 use Rattle.cob_layout.specs.Kind.TheVariants.{Group}
-use Rattle.cob_layout.specs.Forests.{Forest, NoEntries, AnEntry, Tree, entries_in}
-use Rattle.cob_layout.specs.Nodes.{Resolved, alone}
+use Rattle.cob_layout.specs.Forests.{Forest, NoEntries, AnEntry, entries_in}
+use Rattle.cob_layout.specs.Nodes.{Resolved}
 use Rattle.cob_layout.specs.TreeLengths.{greatest_number, own_length, sum_of, element_length, whole_length}
 use Rattle.cob_layout.specs.Found.{Found}
 use Rattle.cob_layout.specs.PlaceLengths.{MayOccur}
@@ -83,11 +83,11 @@ equals : (a b : ℕ) → a ≡ b → (a == b) ≡ true
 equals a b is = grind (arith, nat_tests)
 
 -- an entry's number is none of those before the entries
-from_number : (t : Tree Resolved) (f : Forest Resolved) (n : ℕ) → AreNumbered n f → HaveEntry f t → n ≤ t.top.number
-from_number t NoEntries n numbered have = absurd have
-from_number t (AnEntry e children more) n numbered (inl (own, inl is)) = omega (arith, numbered.0, ap (λ (u : Tree Resolved). u.top.number) is)
-from_number t (AnEntry e children more) n numbered (inl (own, inr (kind, none, have))) = omega (arith, from_number t children (n + 1) numbered.1 have)
-from_number t (AnEntry e children more) n numbered (inr have) = omega (arith, from_number t more (n + 1 + entries_in children) numbered.2 have)
+from_number : (d : Resolved) (under : Forest Resolved) (f : Forest Resolved) (n : ℕ) → AreNumbered n f → HaveEntry f d under → n ≤ d.number
+from_number d under NoEntries n numbered have = absurd have
+from_number d under (AnEntry e children more) n numbered (inl (own, inl is)) = omega (arith, numbered.0, ap (λ (u : Resolved). u.number) is.0)
+from_number d under (AnEntry e children more) n numbered (inl (own, inr (kind, none, have))) = omega (arith, from_number d under children (n + 1) numbered.1 have)
+from_number d under (AnEntry e children more) n numbered (inr have) = omega (arith, from_number d under more (n + 1 + entries_in children) numbered.2 have)
 
 -- the entry itself is found
 found_here : (e : Resolved) (children more : Forest Resolved) (number at area : ℕ) (subscripts : List ℕ) → e.redefines ≡ None → e.number ≡ number
@@ -100,51 +100,53 @@ group_held kind value size AreBeneath part is none held =
     subst (λ (v : Option PlainValue). HoldsElement Group v size AreBeneath part) none (subst (λ (k : Kind). HoldsElement k value size AreBeneath part) is held)
 
 -- what one element of an entry holds
-abbrev HoldsOne : Tree Resolved → List ℕ → Type 0
-HoldsOne t bytes = HoldsElement t.top.kind t.top.value (sum_of greatest_number t.beneath) (IsInitial t.beneath) bytes
+abbrev HoldsOne : Resolved → Forest Resolved → List ℕ → Type 0
+HoldsOne d under bytes = HoldsElement d.kind d.value (sum_of greatest_number under) (IsInitial under) bytes
 
-one_held : (e : Resolved) (children : Forest Resolved) (t : Tree Resolved) (part : List ℕ) → (record { top = e; beneath = children }) ≡ t → HoldsElement e.kind e.value (sum_of greatest_number children) (IsBegun children) part → HoldsOne t part
-one_held e children t part is held = subst (λ u. HoldsOne u part) is (element_by e.kind e.value (sum_of greatest_number children) (IsBegun children) (IsInitial children) (begun_initial children) part held)
+one_held : (e : Resolved) (children : Forest Resolved) (d : Resolved) (under : Forest Resolved) (part : List ℕ) → e ≡ d → children ≡ under → HoldsElement e.kind e.value (sum_of greatest_number children) (IsBegun children) part → HoldsOne d under part
+one_held e children d under part same kids held =
+    subst (λ (g : Forest Resolved). HoldsOne d g part) kids
+    (subst (λ (u : Resolved). HoldsOne u children part) same (element_by e.kind e.value (sum_of greatest_number children) (IsBegun children) (IsInitial children) (begun_initial children) part held))
 
-module _ (t : Tree Resolved) where
-  at_place : (f : Forest Resolved) (n at area : ℕ) (subscripts bytes : List ℕ) → MayOccur f → AreNumbered n f → IsBegun f bytes → HaveEntry f t
-      → IsPlaced (place_of greatest_number t.top.number f at area subscripts) at bytes (HoldsOne t)
+module _ (d : Resolved) (under : Forest Resolved) where
+  at_place : (f : Forest Resolved) (n at area : ℕ) (subscripts bytes : List ℕ) → MayOccur f → AreNumbered n f → IsBegun f bytes → HaveEntry f d under
+      → IsPlaced (place_of greatest_number d.number f at area subscripts) at bytes (HoldsOne d under)
   at_place NoEntries n at area subscripts bytes possible numbered begun have = absurd have
   at_place (AnEntry e children more) n at area subscripts bytes possible numbered begun (inl (own, inl is)) =
       let size = element_length greatest_number e children in
       let k = skipped (is_table e.occurs) (greatest_number e) subscripts in
       let here = element_at e children more k bytes own (skipped_small (is_table e.occurs) (greatest_number e) subscripts possible.0) begun in
       let long : length (take size (drop (k * size) bytes)) ≡ size = simp (length-take, length-drop) (omega (arith, here.fits)) in
-      let found = found_here e children more t.top.number at area subscripts own (ap (λ (u : Tree Resolved). u.top.number) is) in
-      within _ at (k * size) size bytes (HoldsOne t) here.fits
-      (whole_element _ (at + k * size) (is_there (is_table e.occurs) (greatest_number e) subscripts) size (take size (drop (k * size) bytes)) (HoldsOne t) found long (one_held e children t _ is here.holds))
+      let found = found_here e children more d.number at area subscripts own (ap (λ (u : Resolved). u.number) is.0) in
+      within _ at (k * size) size bytes (HoldsOne d under) here.fits
+      (whole_element _ (at + k * size) (is_there (is_table e.occurs) (greatest_number e) subscripts) size (take size (drop (k * size) bytes)) (HoldsOne d under) found long (one_held e children d under _ is.0 is.1 here.holds))
   at_place (AnEntry e children more) n at area subscripts bytes possible numbered begun (inl (own, inr (kind, none, have))) =
       let size = element_length greatest_number e children in
       let k = skipped (is_table e.occurs) (greatest_number e) subscripts in
       let here = element_at e children more k bytes own (skipped_small (is_table e.occurs) (greatest_number e) subscripts possible.0) begun in
       let inner = later (is_table e.occurs) subscripts in
       let deep = at_place children (n + 1) (at + k * size) (at + k * size) inner (take size (drop (k * size) bytes)) possible.1 numbered.1 (group_held e.kind e.value _ _ _ kind none here.holds) have in
-      let other : (e.number == t.top.number) ≡ false = differs e.number t.top.number (omega (arith, numbered.0, from_number t children (n + 1) numbered.1 have)) in
+      let other : (e.number == d.number) ≡ false = differs e.number d.number (omega (arith, numbered.0, from_number d under children (n + 1) numbered.1 have)) in
       let start : begins e.redefines at area ≡ at = ap (λ (o : Option (List ℕ)). begins o at area) own in
-      let there : IsPlaced (place_of greatest_number t.top.number children (begins e.redefines at area + k * size) (begins e.redefines at area + k * size) inner) (at + k * size) (take size (drop (k * size) bytes)) (HoldsOne t) = rw start deep in
-      within _ at (k * size) size bytes (HoldsOne t) here.fits (beneath _ _ _ _ _ _ _ _ other there)
+      let there : IsPlaced (place_of greatest_number d.number children (begins e.redefines at area + k * size) (begins e.redefines at area + k * size) inner) (at + k * size) (take size (drop (k * size) bytes)) (HoldsOne d under) = rw start deep in
+      within _ at (k * size) size bytes (HoldsOne d under) here.fits (beneath _ _ _ _ _ _ _ _ other there)
   at_place (AnEntry e children more) n at area subscripts bytes possible numbered begun (inr have) =
-      let far = from_number t more (n + 1 + entries_in children) numbered.2 have in
+      let far = from_number d under more (n + 1 + entries_in children) numbered.2 have in
       let taken = own_length e.redefines (whole_length greatest_number e children) in
       let long : length begun.0 ≡ taken = first_length e.redefines _ (element_length greatest_number e children) (greatest_number e) begun.0 begun.3 in
       let all : length bytes ≡ length begun.0 + length begun.1 = ap length begun.2 ∙ length-append begun.0 begun.1 in
       let behind : take (length begun.1) (drop taken bytes) ≡ begun.1 = ap (λ (xs : List ℕ). take (length begun.1) (drop taken xs)) begun.2 ∙ ap (take (length begun.1)) (drop_at begun.0 begun.1 taken long) ∙ take_all (length begun.1) begun.1 (omega arith) in
       let rest = at_place more (n + 1 + entries_in children) (at + taken) (begins e.redefines at area) subscripts begun.1 possible.2 numbered.2 begun.4 have in
-      let skip : place_of greatest_number t.top.number (AnEntry e children more) at area subscripts ≡ place_of greatest_number t.top.number more (at + taken) (begins e.redefines at area) subscripts =
-      not_or _ _ _ _ _ (differs e.number t.top.number (omega (arith, numbered.0, far))) (absent greatest_number t.top.number (n + 1) children _ _ _ numbered.1 (omega (arith, far))) in
-      within _ at taken (length begun.1) bytes (HoldsOne t) (omega (arith, all, long)) (rw (skip, behind) rest)
+      let skip : place_of greatest_number d.number (AnEntry e children more) at area subscripts ≡ place_of greatest_number d.number more (at + taken) (begins e.redefines at area) subscripts =
+      not_or _ _ _ _ _ (differs e.number d.number (omega (arith, numbered.0, far))) (absent greatest_number d.number (n + 1) children _ _ _ numbered.1 (omega (arith, far))) in
+      within _ at taken (length begun.1) bytes (HoldsOne d under) (omega (arith, all, long)) (rw (skip, behind) rest)
 
 -- each entry holds at its places what it holds before the first move
 hold_at_places : (f : Forest Resolved) (bytes : List ℕ) → MayOccur f → AreNumbered 0 f → IsBegun f bytes → HoldAtPlaces f bytes
-hold_at_places f bytes possible numbered begun t subscripts have =
-    let is = at_place t f 0 0 0 subscripts bytes possible numbered begun have in
+hold_at_places f bytes possible numbered begun d under subscripts have =
+    let is = at_place d under f 0 0 0 subscripts bytes possible numbered begun have in
     let from_start : is.place.offset - 0 ≡ is.place.offset = omega arith in
-    let held : HoldsOne t (take is.place.length (drop is.place.offset bytes)) = rw from_start at is.held in
+    let held : HoldsOne d under (take is.place.length (drop is.place.offset bytes)) = rw from_start at is.held in
     rw is.found held
 
 -- the storage of a record
@@ -153,10 +155,12 @@ pub record IsBegunRecord (f : Forest Resolved) (bytes : List ℕ) : Type 0 where
   pub places : HoldAtPlaces f bytes
 
 -- all elements of the record itself, of which there is one, are its storage
-pub record_begun : (t : Tree Resolved) (f : Forest Resolved) (front rest : List ℕ) → IsSound t → alone t ≡ f → AreElements t.top t.beneath front → rest ≡ [] → IsBegunRecord f (front ++ rest)
-record_begun t f front rest sound is elements end =
-    let begun : IsBegun (alone t) (front ++ rest) = rw end (own_first t.top t.beneath NoEntries front [] (ap is_some sound.first) elements refl) in
+pub record_begun : (e : Resolved) (children : Forest Resolved) (f : Forest Resolved) (front rest : List ℕ) → IsSound (AnEntry e children NoEntries) → AnEntry e children NoEntries ≡ f → AreElements e children front → rest ≡ []
+    → IsBegunRecord f (front ++ rest)
+record_begun e children f front rest sound is elements end =
+    let t = AnEntry e children NoEntries in
+    let begun : IsBegun t (front ++ rest) = rw end (own_first e children NoEntries front [] (ap is_some sound.first) elements refl) in
     subst (λ g. IsBegunRecord g (front ++ rest)) is record {
-      initial = begun_initial (alone t) (front ++ rest) begun;
-      places = hold_at_places (alone t) (front ++ rest) sound.fit.possible sound.numbered begun;
+      initial = begun_initial t (front ++ rest) begun;
+      places = hold_at_places t (front ++ rest) sound.fit.possible sound.numbered begun;
     }

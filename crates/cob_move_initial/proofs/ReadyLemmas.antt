@@ -1,7 +1,7 @@
 -- Entries that have a storage before the first move.
 use Rattle.std.proofs.Common.{◌≡◌, ℕ, ◌*◌, ◌≤◌, List, Option, None, Some, is_some, true, false, refl, arith}
 use Rattle.cob_layout.specs.Kind.TheVariants.{Group}
-use Rattle.cob_layout.specs.Forests.{Forest, AnEntry, Tree}
+use Rattle.cob_layout.specs.Forests.{Forest, AnEntry}
 use Rattle.cob_layout.specs.Nodes.{Resolved}
 use Rattle.cob_layout.specs.TreeLengths.{greatest_number, own_length, sum_of, whole_length}
 use Rattle.cob_layout.proofs.ForestLemmas.{factor_le}
@@ -17,7 +17,7 @@ room_shared None n shared = absurd cc
 room_shared (Some name) n shared = refl
 
 -- an entry that redefines nothing
-pub ready_first : (e : Resolved) (children more : Forest Resolved) → is_some e.redefines ≡ false → HaveInitialStorage (AnEntry e children more) → HasInitialStorage (record { top = e; beneath = children })
+pub ready_first : (e : Resolved) (children more : Forest Resolved) → is_some e.redefines ≡ false → HaveInitialStorage (AnEntry e children more) → HasInitialStorage e children
 ready_first e children more own ready =
     let whole_is : own_length e.redefines (whole_length greatest_number e children) ≡ whole_length greatest_number e children = room_own e.redefines (whole_length greatest_number e children) own in
     record {
@@ -35,7 +35,7 @@ pub ready_more : (e : Resolved) (children more : Forest Resolved) → HaveInitia
 ready_more e children more ready = record { possible = ready.possible.2; storable = ready.storable.2; values = ready.values.2; short = omega (arith, ready.short) }
 
 -- those beneath a group without a value
-pub ready_beneath : (t : Tree Resolved) → t.top.kind ≡ Group → t.top.value ≡ None → HasInitialStorage t → HaveInitialStorage t.beneath
-ready_beneath t group none ready =
-    let all : greatest_number t.top * sum_of greatest_number t.beneath ≤ 32752 = rw group at ready.short in
+pub ready_beneath : (e : Resolved) (children : Forest Resolved) → e.kind ≡ Group → e.value ≡ None → HasInitialStorage e children → HaveInitialStorage children
+ready_beneath e children group none ready =
+    let all : greatest_number e * sum_of greatest_number children ≤ 32752 = rw group at ready.short in
     record { possible = ready.possible; storable = ready.beneath; values = rw none at ready.values; short = factor_le _ _ _ ready.occurs all }

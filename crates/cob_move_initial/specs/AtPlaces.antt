@@ -1,21 +1,21 @@
 -- What entries hold at their places, before the first move.
 use Rattle.std.specs.Prelude.{◌≡◌, ◌⊎◌, ℕ, List, take, drop, None, IsSomeAnd}
 use Rattle.cob_layout.specs.Kind.TheVariants.{Group}
-use Rattle.cob_layout.specs.Forests.{Forest, NoEntries, AnEntry, Tree}
+use Rattle.cob_layout.specs.Forests.{Forest, NoEntries, AnEntry}
 use Rattle.cob_layout.specs.Nodes.{Resolved}
 use Rattle.cob_layout.specs.TreeLengths.{greatest_number, sum_of}
 use Rattle.cob_layout.specs.Places.{place_of}
 use Rattle.cob_move_initial.specs.Initial.{HoldsElement, IsInitial}
 
--- the entry with those beneath it is one of these or stands beneath one, in no redefinition and beneath no group with a value
-abbrev pub HaveEntry : Forest Resolved → Tree Resolved → Type 0
-HaveEntry NoEntries t = ⊥
-HaveEntry (AnEntry e children more) t =
-    ((e.redefines ≡ None) × (((record { top = e; beneath = children }) ≡ t) ⊎ ((e.kind ≡ Group) × (e.value ≡ None) × HaveEntry children t)))
-    ⊎ HaveEntry more t
+-- the entry, with just these beneath it, is one of these or stands beneath one, in no redefinition and beneath no group with a value
+abbrev pub HaveEntry : Forest Resolved → Resolved → Forest Resolved → Type 0
+HaveEntry NoEntries entry beneath = ⊥
+HaveEntry (AnEntry e children more) entry beneath =
+    ((e.redefines ≡ None) × (((e ≡ entry) × (children ≡ beneath)) ⊎ ((e.kind ≡ Group) × (e.value ≡ None) × HaveEntry children entry beneath)))
+    ⊎ HaveEntry more entry beneath
 
 -- Each such entry has places, whatever the subscripts, where tables have their greatest number of elements; and the bytes at each of them hold
 -- what one element of it does: what its item does, or, of a group, its VALUE or the entries beneath it.
 abbrev pub HoldAtPlaces : Forest Resolved → List ℕ → Type 0
-HoldAtPlaces f bytes = (t : Tree Resolved) (subscripts : List ℕ) → HaveEntry f t
-    → IsSomeAnd (place_of greatest_number t.top.number f 0 0 subscripts) (λ p. HoldsElement t.top.kind t.top.value (sum_of greatest_number t.beneath) (IsInitial t.beneath) (take p.length (drop p.offset bytes)))
+HoldAtPlaces f bytes = (entry : Resolved) (beneath : Forest Resolved) (subscripts : List ℕ) → HaveEntry f entry beneath
+    → IsSomeAnd (place_of greatest_number entry.number f 0 0 subscripts) (λ p. HoldsElement entry.kind entry.value (sum_of greatest_number beneath) (IsInitial beneath) (take p.length (drop p.offset bytes)))

@@ -1,7 +1,7 @@
 -- What the storage before the first move asks of entries: that they have one.
 use Rattle.std.specs.Prelude.{◌<◌, ◌≤◌, false, is_some}
 use Rattle.cob_limits.specs.Limits.{longest_record}
-use Rattle.cob_layout.specs.Forests.{Forest, Tree}
+use Rattle.cob_layout.specs.Forests.{Forest}
 use Rattle.cob_layout.specs.Nodes.{Resolved}
 use Rattle.cob_layout.specs.TreeLengths.{greatest_number, sum_of, whole_length}
 use Rattle.cob_layout.specs.Values.{MayHaveValue, AreValues}
@@ -17,11 +17,11 @@ pub record HaveInitialStorage (f : Forest Resolved) : Type 0 where
   pub short : sum_of greatest_number f ≤ longest_record
 
 -- so is one of them, which redefines nothing, with those beneath it
-pub record HasInitialStorage (t : Tree Resolved) : Type 0 where
-  pub occurs : 0 < greatest_number t.top
-  pub possible : MayOccur t.beneath
-  pub storable : IsStorableKind t.top.kind
-  pub beneath : AreStorable t.beneath
-  pub value : MayHaveValue false false t.top t.beneath t.top.value
-  pub values : AreValues false (is_some t.top.value) t.beneath
-  pub short : whole_length greatest_number t.top t.beneath ≤ longest_record
+pub record HasInitialStorage (entry : Resolved) (children : Forest Resolved) : Type 0 where
+  pub occurs : 0 < greatest_number entry
+  pub possible : MayOccur children
+  pub storable : IsStorableKind entry.kind
+  pub beneath : AreStorable children
+  pub value : MayHaveValue false false entry children entry.value
+  pub values : AreValues false (is_some entry.value) children
+  pub short : whole_length greatest_number entry children ≤ longest_record

@@ -1,7 +1,7 @@
 //! The storage of a record before the first move.
 
 ghost use Rattle.std.specs.Prelude.{◌≡◌, ℕ, ◌*◌, ◌<◌, length, take, None};
-ghost use Rattle.cob_layout.specs.Nodes.{node, forest, alone};
+ghost use Rattle.cob_layout.specs.Nodes.{node, forest};
 ghost use Rattle.cob_layout.specs.TreeLengths.{greatest_number, sum_of, element_length, whole_length};
 ghost use Rattle.cob_move_receive.specs.Characters.{repeated};
 ghost use Rattle.cob_move_initial.specs.Initial.{HoldsElement, IsInitial};
@@ -27,7 +27,7 @@ fn repeat(bytes: &mut [u8], size: usize, times: usize)
 /// Writes one element of an entry.
 #[cycle(entries)]
 fn write_element(entry: &Node, bytes: &mut [u8])
-    requires ready { HasInitialStorage (node entry.now) }
+    requires ready { HasInitialStorage (node entry.now).top (node entry.now).beneath }
     requires room { length bytes.old ≡ element_length greatest_number (node entry.now).top
         (node entry.now).beneath }
     ensures holds { HoldsElement (node entry.now).top.kind (node entry.now).top.value
@@ -46,7 +46,7 @@ fn write_element(entry: &Node, bytes: &mut [u8])
 /// Writes all elements of an entry, as many as there are at most.
 #[cycle(entries)]
 fn write_elements(entry: &Node, bytes: &mut [u8])
-    requires ready { HasInitialStorage (node entry.now) }
+    requires ready { HasInitialStorage (node entry.now).top (node entry.now).beneath }
     requires room { length bytes.old ≡ whole_length greatest_number (node entry.now).top
         (node entry.now).beneath }
     ensures holds { AreElements (node entry.now).top (node entry.now).beneath bytes.new }
@@ -81,7 +81,7 @@ fn write_entries(entries: &[Node], bytes: &mut [u8])
 ///
 /// The layout is that of the book, and the bytes are as many as its greatest length.
 pub fn initial(layout: &Layout, book: &Book, bytes: &mut [u8])
-    requires same { book.now ≡ alone layout.now }
+    requires same { book.now ≡ layout.now }
     requires room { length bytes.old ≡ sum_of greatest_number book.now }
     ensures initial { IsInitial book.now bytes.new }
     // Each entry that stands in no redefinition and beneath no group with a VALUE has places, and the bytes there hold what the entry does.

@@ -1,10 +1,10 @@
 -- Moves between two records.
-use Rattle.std.specs.Prelude.{◌≡◌, ℕ, List, map, Some}
+use Rattle.std.specs.Prelude.{◌≡◌, List, map, Some}
 use Rattle.std.specs.List.{AllByRecursion}
 use Rattle.cob_copybook_tree.specs.Described.{PlainValue, plain_value}
-use Rattle.cob_copybook_tree.specs.Forests.{Tree}
-use Rattle.cob_copybook_tree.specs.Nodes.{Resolved, alone}
-use Rattle.cob_layout_places.specs.Counts.{kind_one}
+use Rattle.cob_copybook_tree.specs.Forests.{Forest}
+use Rattle.cob_copybook_tree.specs.Nodes.{Resolved}
+use Rattle.cob_layout_places.specs.Counts.{kind_in}
 use Rattle.cob_layout_places.specs.References.{Refers}
 use Rattle.cob_move_operands.specs.declared.Side.{Side}
 use Rattle.cob_move_operands.specs.declared.Side.TheVariants.{In, Out}
@@ -38,29 +38,29 @@ moves ms = map move ms
 
 -- the entries of two records, the input record and the output record
 pub record Records : Type 0 where
-  pub input : Tree Resolved
-  pub output : Tree Resolved
+  pub input : Forest Resolved
+  pub output : Forest Resolved
 
 -- the record of a side
-abbrev pub record_of : Records → Side → Tree Resolved
-record_of r In = r.input
-record_of r Out = r.output
+abbrev pub record_of : Records → Side → Forest Resolved
+record_of records In = records.input
+record_of records Out = records.output
 
 -- an operand refers to an entry of the record, with a subscript for each of its tables, and is of the kind that the record says
-pub record IsOperand (t : Tree Resolved) (o : Operand) : Type 0 where
-  pub refers : Refers o.entry.node o.entry.subscripts.items (alone t)
-  pub is : kind_one o.entry.node t ≡ Some o.kind
+pub record IsOperand (tree : Forest Resolved) (o : Operand) : Type 0 where
+  pub refers : Refers o.entry.node o.entry.subscripts.items tree
+  pub is : kind_in o.entry.node tree ≡ Some o.kind
 
 -- a sender is an operand of its side's record, or a constant
 abbrev pub IsSender : Records → Sender → Type 0
-IsSender r (Entry side o) = IsOperand (record_of r side) o
-IsSender r (Literal c) = Unit {0}
+IsSender records (Entry side o) = IsOperand (record_of records side) o
+IsSender records (Literal c) = Unit {0}
 
 -- sender and receivers of a move are operands of their records
-pub record IsMove (r : Records) (m : Move) : Type 0 where
-  pub sender : IsSender r m.sender
-  pub receivers : AllByRecursion (IsOperand r.output) m.receivers
+pub record IsMove (records : Records) (m : Move) : Type 0 where
+  pub sender : IsSender records m.sender
+  pub receivers : AllByRecursion (IsOperand records.output) m.receivers
 
 -- each of these is a move between the records
 abbrev pub AreMoves : Records → List Move → Type 0
-AreMoves r ms = AllByRecursion (IsMove r) ms
+AreMoves records ms = AllByRecursion (IsMove records) ms

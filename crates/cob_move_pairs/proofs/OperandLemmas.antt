@@ -3,11 +3,11 @@ use Rattle.std.proofs.Common.{◌≡◌, ℕ, ◌+◌, ◌<◌, ◌≤◌, ◌==
 use Rattle.std.specs.Prelude.{◌||◌, is_some, if◌then◌else◌}
 use Rattle.std.proofs.lemmas.Bool.Decides.{nat_tests}
 use Rattle.cob_move_operands.specs.Kind.{Kind}
-use Rattle.cob_move_operands.specs.Forests.{Forest, NoEntries, AnEntry, Tree, entries_in}
-use Rattle.cob_move_operands.specs.Nodes.{Resolved, alone}
+use Rattle.cob_move_operands.specs.Forests.{Forest, NoEntries, AnEntry, entries_in}
+use Rattle.cob_move_operands.specs.Nodes.{Resolved}
 use Rattle.cob_move_operands.specs.TreeLengths.{greatest_number}
 use Rattle.cob_move_operands.specs.Places.{choose, is_table, later, or_else}
-use Rattle.cob_move_operands.specs.Counts.{kind_in, kind_one}
+use Rattle.cob_move_operands.specs.Counts.{kind_in}
 use Rattle.cob_move_operands.specs.Cover.{AreNumbered}
 use Rattle.cob_move_operands.specs.References.{IsSubscripted, Refers}
 use Rattle.cob_move_operands.specs.declared.Operand.{Operand}
@@ -183,16 +183,12 @@ group_at n r subscripts (AnEntry e children more) h (inl (s, inl (number, none))
 group_at n r subscripts (AnEntry e children more) h (inl (s, inr is)) = group_inside n r subscripts e children more h s (group_at (n + 1) r (later (is_table e.occurs) subscripts) children h.1 is)
 group_at n r subscripts (AnEntry e children more) h (inr is) = group_later n r subscripts e children more h (group_at (n + 1 + entries_in children) r subscripts more h.2 is)
 
-whole : {A : Type 0} (x : Option A) → x ≡ or_else x None
-whole None = refl
-whole (Some a) = refl
-
-are_operands : (t : Tree Resolved) (group : Operand) (s : Subordinate) → HasGroup 0 group.entry.node group.entry.subscripts.items (alone t)
-    → IsListed s (subordinates [] (entries_below group.entry.node (alone t))) → IsOperand t (operand_below group s)
+are_operands : (t : Forest Resolved) (group : Operand) (s : Subordinate) → HasGroup 0 group.entry.node group.entry.subscripts.items t
+    → IsListed s (subordinates [] (entries_below group.entry.node t)) → IsOperand t (operand_below group s)
 are_operands t group s (g, i) listed =
     let below : IsListed s (subordinates [] g) = subst (λ (x : Forest Resolved). IsListed s (subordinates [] x)) (ap or_bare i.found) listed in
-    let w : Stands 0 s.number group.entry.subscripts.items s.kind (alone t) = i.all s.number s.kind (stands_below [] i.first g s i.numbered below) in
-    record { refers = w.refers; is = whole (kind_one s.number t) ∙ w.kind }
+    let w : Stands 0 s.number group.entry.subscripts.items s.kind t = i.all s.number s.kind (stands_below [] i.first g s i.numbered below) in
+    record { refers = w.refers; is = w.kind }
 
 pub subordinates_are_operands : SubordinatesAreOperands
-subordinates_are_operands t group s h is listed = are_operands t group s (group_at 0 group.entry.node group.entry.subscripts.items (alone t) h is.refers) listed
+subordinates_are_operands t group s h is listed = are_operands t group s (group_at 0 group.entry.node group.entry.subscripts.items t h is.refers) listed

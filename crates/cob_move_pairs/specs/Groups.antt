@@ -1,7 +1,7 @@
 -- What is below a group of a record, and where that refers.
 use Rattle.std.specs.Prelude.{◌≡◌, ◌⊎◌, ℕ, ◌==◌, List, [], ◌∷◌, Option, Some, None}
-use Rattle.cob_move_operands.specs.Forests.{Forest, NoEntries, AnEntry, Tree}
-use Rattle.cob_move_operands.specs.Nodes.{Resolved, alone}
+use Rattle.cob_move_operands.specs.Forests.{Forest, NoEntries, AnEntry}
+use Rattle.cob_move_operands.specs.Nodes.{Resolved}
 use Rattle.cob_move_operands.specs.Cover.{AreNumbered}
 use Rattle.cob_move_operands.specs.Places.{choose, or_else}
 use Rattle.cob_move_operands.specs.declared.Operand.{Operand}
@@ -33,5 +33,5 @@ IsListed s (x ∷ xs) = (x ≡ s) ⊎ IsListed s xs
 
 -- Law: what may be in a pair below a group is an operand of the record, with the group's subscripts.
 abbrev pub SubordinatesAreOperands : Type 0
-SubordinatesAreOperands = (t : Tree Resolved) (group : Operand) (s : Subordinate) → AreNumbered 0 (alone t) → IsOperand t group
-    → IsListed s (subordinates [] (entries_below group.entry.node (alone t))) → IsOperand t (operand_below group s)
+SubordinatesAreOperands = (tree : Forest Resolved) (group : Operand) (s : Subordinate) → AreNumbered 0 tree → IsOperand tree group
+    → IsListed s (subordinates [] (entries_below group.entry.node tree)) → IsOperand tree (operand_below group s)

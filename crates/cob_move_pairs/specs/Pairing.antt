@@ -1,6 +1,6 @@
 -- The pairs of two groups as numbers, and why there are none.
-use Rattle.std.specs.Prelude.{◌≡◌, ℕ, true, false, ◌||◌, List, map}
-use Rattle.cob_move_operands.specs.Forests.{Tree}
+use Rattle.std.specs.Prelude.{◌≡◌, ℕ, Bool, true, false, ◌||◌, List, map}
+use Rattle.cob_move_operands.specs.Forests.{Forest, NoEntries, AnEntry}
 use Rattle.cob_move_operands.specs.Nodes.{Resolved}
 use Rattle.cob_move_statements.specs.declared.fault.MoveRule.{MoveRule}
 use Rattle.cob_move_statements.specs.declared.fault.MoveRule.TheVariants as rule
@@ -20,13 +20,23 @@ IsTwice rule.Twice ps = AreOnce ps → ⊥
 IsTwice rule.Memory ps = Unit {0}
 IsTwice r ps = ⊥
 
+-- an entry with those beneath it is no group
+abbrev pub is_elementary_entry : Forest Resolved → Bool
+is_elementary_entry NoEntries = true
+is_elementary_entry (AnEntry e children more) = is_elementary e.kind
+
+-- the entries beneath it
+abbrev pub those_beneath : Forest Resolved → Forest Resolved
+those_beneath NoEntries = NoEntries
+those_beneath (AnEntry e children more) = children
+
 -- Both are groups, no entry is in two of their pairs, and these are the numbers of the pairs.
-pub record IsPairing (from to : Tree Resolved) (numbers : List (ℕ × ℕ)) : Type 0 where
-  pub groups : (is_elementary from.top.kind || is_elementary to.top.kind) ≡ false
-  pub once : AreOnce (corresponding_pairs from.beneath to.beneath)
-  pub pairs : numbers ≡ map pair_numbers (corresponding_pairs from.beneath to.beneath)
+pub record IsPairing (from to : Forest Resolved) (numbers : List (ℕ × ℕ)) : Type 0 where
+  pub groups : (is_elementary_entry from || is_elementary_entry to) ≡ false
+  pub once : AreOnce (corresponding_pairs (those_beneath from) (those_beneath to))
+  pub pairs : numbers ≡ map pair_numbers (corresponding_pairs (those_beneath from) (those_beneath to))
 
 -- One of the two is no group (M8), an entry is in two of their pairs (M9), or memory was refused (M19).
-abbrev pub IsPairingFault : MoveRule → Tree Resolved → Tree Resolved → Type 0
-IsPairingFault rule.Groups from to = (is_elementary from.top.kind || is_elementary to.top.kind) ≡ true
-IsPairingFault r from to = IsTwice r (corresponding_pairs from.beneath to.beneath)
+abbrev pub IsPairingFault : MoveRule → Forest Resolved → Forest Resolved → Type 0
+IsPairingFault rule.Groups from to = (is_elementary_entry from || is_elementary_entry to) ≡ true
+IsPairingFault r from to = IsTwice r (corresponding_pairs (those_beneath from) (those_beneath to))

@@ -16,17 +16,18 @@ ghost use Rattle.std.specs.Prelude.{
   IfErr,
   OnOk,
 };
-ghost use Rattle.cob_move_operands.specs.Nodes.{forest, node};
+ghost use Rattle.cob_move_operands.specs.Nodes.{forest, tree_of};
 ghost use Rattle.cob_move_pairs.specs.Listed.{subordinates_listed, pair, pairs, subordinate};
 ghost use Rattle.cob_move_pairs.specs.Pairing.{
   IsPairing,
   IsPairingFault,
   IsTwice,
+  is_elementary_entry,
   pair_numbers,
+  those_beneath,
 };
 ghost use Rattle.cob_move_pairs.specs.Pairs.{
   AreOnce,
-  is_elementary,
   pairs_among,
   pairs_from,
   receives,
@@ -194,7 +195,7 @@ pub fn subordinates<'a>(
 /// The entries below a group that may be in a pair, in their order.
 fn below<'a>(alloc: Global, group: &'a Node) -> Result<Vec<Subordinate<'a>>, MoveRule>
     ensures found { IfOk result
-        (λ v. subordinates_listed v.items ≡ subordinates [] (node group.now).beneath) }
+        (λ v. subordinates_listed v.items ≡ subordinates [] (those_beneath (tree_of group.now))) }
     ensures fault { IfErr result (λ r. r ≡ MoveRule.Memory) }
 {
     subordinates(alloc, group.children.as_slice())
@@ -203,15 +204,15 @@ fn below<'a>(alloc: Global, group: &'a Node) -> Result<Vec<Subordinate<'a>>, Mov
 /// Whether one of two entries is no group.
 fn is_no_group(from: &Node, to: &Node) -> bool
     ensures { result
-        ≡ (is_elementary (node from.now).top.kind || is_elementary (node to.now).top.kind) }
+        ≡ (is_elementary_entry (tree_of from.now) || is_elementary_entry (tree_of to.now)) }
 {
     is_elementary(&from.kind) || is_elementary(&to.kind)
 }
 
 /// The numbers of the pairs of two groups.
 fn paired(alloc: Global, from: &Node, to: &Node) -> Result<Vec<(usize, usize)>, MoveRule>
-    ensures found { IfOk result (λ v. IsPairing (node from.now) (node to.now) v.items) }
-    ensures fault { IfErr result (λ r. IsPairingFault r (node from.now) (node to.now)) }
+    ensures found { IfOk result (λ v. IsPairing (tree_of from.now) (tree_of to.now) v.items) }
+    ensures fault { IfErr result (λ r. IsPairingFault r (tree_of from.now) (tree_of to.now)) }
 {
     if is_no_group(from, to) {
         return Err(MoveRule::Groups);
@@ -229,8 +230,8 @@ fn paired(alloc: Global, from: &Node, to: &Node) -> Result<Vec<(usize, usize)>, 
 ///
 /// `Groups` where one of the two is no group, `Twice` where an entry is in two pairs, `Memory`; all with line 0.
 pub fn pairs(alloc: Global, from: &Node, to: &Node) -> Result<Vec<(usize, usize)>, MoveFault>
-    ensures found { IfOk result (λ v. IsPairing (node from.now) (node to.now) v.items) }
-    ensures fault { IfErr result (λ f. IsPairingFault f.rule (node from.now) (node to.now)) }
+    ensures found { IfOk result (λ v. IsPairing (tree_of from.now) (tree_of to.now) v.items) }
+    ensures fault { IfErr result (λ f. IsPairingFault f.rule (tree_of from.now) (tree_of to.now)) }
     ensures line { IfErr result (λ f. f.line ≡ 0) }
 {
     match paired(alloc, from, to) {

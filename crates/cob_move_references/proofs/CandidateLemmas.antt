@@ -2,9 +2,9 @@
 use Rattle.std.proofs.Common.{◌≡◌, ℕ, ◌+◌, List, [], ◌∷◌, ◌++◌, length, length-append, arith, refl}
 use Rattle.cob_layout.specs.ResolvedOccurs.{ResolvedOccurs}
 use Rattle.cob_layout.specs.ResolvedOccurs.TheVariants.{Once, Fixed, Varying}
-use Rattle.cob_layout.specs.Forests.{Forest, NoEntries, AnEntry, Tree}
+use Rattle.cob_layout.specs.Forests.{Forest, NoEntries, AnEntry}
 use Rattle.cob_layout.specs.TreeLengths.{greatest_number}
-use Rattle.cob_layout.specs.Nodes.{Resolved, alone}
+use Rattle.cob_layout.specs.Nodes.{Resolved}
 use Rattle.cob_copybook_names.specs.Naming.{with_name}
 use Rattle.cob_layout.specs.Places.{is_table}
 use Rattle.cob_layout.specs.Sound.{AreNested, own_dimension}
@@ -33,5 +33,5 @@ shallow_side side above tables n (AnEntry e children more) is h =
           (shallow_side side above tables n more is h.2),
     )
 
-pub all_shallow : (input output : Tree Resolved) → AreNested 0 (alone input) → AreNested 0 (alone output) → AreShallow (all_entries (alone input) (alone output))
-all_shallow input output h k = both (candidates In [] [] (alone input)) (candidates Out [] [] (alone output)) (shallow_side In [] [] 0 (alone input) refl h) (shallow_side Out [] [] 0 (alone output) refl k)
+pub all_shallow : (input output : Forest Resolved) → AreNested 0 input → AreNested 0 output → AreShallow (all_entries input output)
+all_shallow input output h k = both (candidates In [] [] input) (candidates Out [] [] output) (shallow_side In [] [] 0 input refl h) (shallow_side Out [] [] 0 output refl k)

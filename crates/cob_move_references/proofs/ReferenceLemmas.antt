@@ -3,11 +3,11 @@ use Rattle.std.proofs.Common.{◌≡◌, ℕ, ◌+◌, ◌<◌, ◌≤◌, ◌==
 use Rattle.std.specs.Prelude.{filter}
 use Rattle.std.proofs.lemmas.Bool.Decides.{nat_tests}
 use Rattle.cob_limits.specs.Limits.{most_dimensions}
-use Rattle.cob_layout.specs.Forests.{Forest, NoEntries, AnEntry, Tree, entries_in}
+use Rattle.cob_layout.specs.Forests.{Forest, NoEntries, AnEntry, entries_in}
 use Rattle.cob_layout.specs.TreeLengths.{greatest_number}
-use Rattle.cob_layout.specs.Nodes.{Resolved, alone}
+use Rattle.cob_layout.specs.Nodes.{Resolved}
 use Rattle.cob_copybook_names.specs.Naming.{is_named, named, with_name}
-use Rattle.cob_layout.specs.Counts.{kind_in, kind_one}
+use Rattle.cob_layout.specs.Counts.{kind_in}
 use Rattle.cob_layout.specs.Cover.{AreNumbered}
 use Rattle.cob_layout.specs.Places.{choose, is_table, later, or_else}
 use Rattle.cob_layout.specs.References.{IsSubscripted, Refers}
@@ -172,14 +172,10 @@ stands side above n before (AnEntry e children more) c h (inr o) =
     either p q (inl x) = beneath side n before e children more c h.0 (p x)
     either p q (inr x) = beside side n before e children more c h (q x)
 
-whole : {A : Type 0} (x : Option A) → x ≡ or_else x None
-whole None = refl
-whole (Some a) = refl
-
-operand_in : (side : Side) (t : Tree Resolved) (c : Candidate) (texts : List (List ℕ)) → Stands side 0 [] (alone t) c → AreSubscriptsOf c.entry.tables texts → IsOperand t (operand c (subscript_numbers texts))
+operand_in : (side : Side) (t : Forest Resolved) (c : Candidate) (texts : List (List ℕ)) → Stands side 0 [] t c → AreSubscriptsOf c.entry.tables texts → IsOperand t (operand c (subscript_numbers texts))
 operand_in side t c texts s h = record {
   refers = s.refers (subscript_numbers texts) (subst (λ (tables : List ℕ). AreWithin tables (subscript_numbers texts)) s.tables (within c.entry.tables texts h));
-  is = whole (kind_one c.entry.number t) ∙ s.kind;
+  is = s.kind;
 }
 
 of_side : (records : Records) (side mine : Side) (o p : Operand) → side ≡ mine → o ≡ p → IsOperand (record_of records mine) p → IsOperand (record_of records side) o
@@ -187,10 +183,10 @@ of_side records side mine o p e f h = subst (λ (s : Side). IsOperand (record_of
 
 pub are_operands : RecordsAreSound → NamedAreOperands
 are_operands sound records r side o input output h =
-    elim (one_of h.bearer (candidates In [] [] (alone records.input)) (candidates Out [] [] (alone records.output)) (member r.name r.qualifiers (all_entries (alone records.input) (alone records.output)) h.bearer h.only)) [
-      | inl x ↦ (let s = stands In [] 0 [] (alone records.input) h.bearer (sound records.input input).numbered x in
+    elim (one_of h.bearer (candidates In [] [] records.input) (candidates Out [] [] records.output) (member r.name r.qualifiers (all_entries records.input records.output) h.bearer h.only)) [
+      | inl x ↦ (let s = stands In [] 0 [] records.input h.bearer (sound records.input input).numbered x in
           of_side records side In o (operand h.bearer (subscript_numbers r.subscripts)) (h.stands ∙ sym s.side_is) h.is (operand_in In records.input h.bearer r.subscripts s h.subscripts))
-      | inr x ↦ (let s = stands Out [] 0 [] (alone records.output) h.bearer (sound records.output output).numbered x in
+      | inr x ↦ (let s = stands Out [] 0 [] records.output h.bearer (sound records.output output).numbered x in
           of_side records side Out o (operand h.bearer (subscript_numbers r.subscripts)) (h.stands ∙ sym s.side_is) h.is (operand_in Out records.output h.bearer r.subscripts s h.subscripts))
     ]
 

@@ -1,6 +1,5 @@
 -- What follows from the definitions, said as laws.
 use Rattle.std.specs.Prelude.{◌≡◌, List}
-use Rattle.cob_layout.specs.Nodes.{alone}
 use Rattle.cob_layout.specs.Books.{IsRecordDescription}
 use Rattle.cob_move_operands.specs.declared.Side.{Side}
 use Rattle.cob_move_operands.specs.declared.Operand.{Operand}
@@ -12,8 +11,8 @@ use Rattle.cob_move_references.specs.References.{NamesOperand, BreaksReference}
 
 -- Law: what a reference names is an operand of its record, so that it can be placed and is of the kind that the record says.
 abbrev pub NamedAreOperands : Type 0
-NamedAreOperands = (records : Records) (r : WrittenReference) (side : Side) (o : Operand) → IsRecordDescription (alone records.input) → IsRecordDescription (alone records.output)
-    → NamesOperand (all_entries (alone records.input) (alone records.output)) r side o → IsOperand (record_of records side) o
+NamedAreOperands = (records : Records) (r : WrittenReference) (side : Side) (o : Operand) → IsRecordDescription records.input → IsRecordDescription records.output
+    → NamesOperand (all_entries records.input records.output) r side o → IsOperand (record_of records side) o
 
 -- Law: a reference names one operand at most.
 abbrev pub OneNamed : Type 0

@@ -2,7 +2,7 @@
 
 ghost use Rattle.std.specs.Prelude.{◌≡◌, List, [], ◌∷◌, ◌++◌, map, IfOk, OnOk};
 ghost use Rattle.cob_layout.specs.TreeLengths.{greatest_number};
-ghost use Rattle.cob_layout.specs.Nodes.{node, resolved_entry, alone};
+ghost use Rattle.cob_layout.specs.Nodes.{resolved_entry, tree_of};
 ghost use Rattle.cob_layout.specs.Node.TheViews.{out-Node};
 ghost use Rattle.cob_copybook_names.specs.Listed.{texts};
 ghost use Rattle.cob_layout.specs.Places.{is_table};
@@ -78,7 +78,7 @@ pub(crate) fn list_tree<'a>(
     listed: &mut Vec<Bearer<'a, RecordEntry<'a>>>,
 ) -> Result<(), AllocError>
     ensures { OnOk result (map candidate_of listed.new.items ≡ map candidate_of listed.old.items
-        ++ candidates side (texts above.now) holding.now (alone (node entry.now))) }
+        ++ candidates side (texts above.now) holding.now (tree_of entry.now)) }
 {
     list_entry(alloc, side, above, holding, entry, listed)?;
     let beneath = names_beneath(alloc, &entry.name, above)?;

@@ -2,7 +2,7 @@ use Rattle.std.proofs.Common.{◌≡◌, ◌≤◌, ℕ, List, sym, ap, subst, �
 use Rattle.std.specs.Prelude.{IfErr, slice_index_or}
 use Rattle.std.proofs.lemmas.Grind.{common_steps}
 use Rattle.std.proofs.lemmas.List.{length-set}
-use Rattle.cob_copybook.specs.Nodes.{node, alone}
+use Rattle.cob_copybook.specs.Nodes.{tree_of}
 use Rattle.cob_layout_places.specs.declared.varying.Table.{Table}
 use Rattle.cob_layout_places.specs.Lengths.{times}
 use Rattle.cob_layout_places.specs.Spots.{spots_of}
@@ -13,14 +13,14 @@ use Rattle.cob_layout.proofs.taking.take_all_counts.Goals as goal
 
 pub count_in-requires-clause-early : goal.count_in-requires-clause-early
 count_in-requires-clause-early c =
-    let t = node c.args.root.now in
+    let t = tree_of c.args.root.now in
     let d : Table = record { number = 0; least = 0; most = 0; count = 0 } in
     early_found c.one_place.ensures t c.args.tables.now c.loop-table.table-index d c.loop-table.counts c.args.counts.now c.args.spots.now c.first_of-first.result c.requires.sound c.requires.tables c.loop-table-test.true
-    (c.requires.spots ∙ ap (λ (cs : List ℕ). spots_of (times cs) (alone t) 0 0) (sym c.requires.counts)) c.loop-table.invariant.early
+    (c.requires.spots ∙ ap (λ (cs : List ℕ). spots_of (times cs) t 0 0) (sym c.requires.counts)) c.loop-table.invariant.early
 
 pub returns-in_err-counts-clause-err : goal.returns-in_err-counts-clause-err
 returns-in_err-counts-clause-err c =
-    let t = node c.args.root.now in
+    let t = tree_of c.args.root.now in
     let d : Table = record { number = 0; least = 0; most = 0; count = 0 } in
     let fault = c.in_err-counts.field-0.0 in
     let e : c.from_residual.result ≡ Err fault = grind (arith, common_steps) in
@@ -31,7 +31,7 @@ returns-in_err-counts-clause-err c =
 
 pub loop-table-preserved : goal.loop-table-preserved
 loop-table-preserved c =
-    let t = node c.args.root.now in
+    let t = tree_of c.args.root.now in
     let d : Table = record { number = 0; least = 0; most = 0; count = 0 } in
     let at = (slice_index_or c.args.tables.now c.loop-table.table-index d).number in
     let least : c.first_of-first.result ≤ (slice_index_or c.args.tables.now c.loop-table.table-index d).number =

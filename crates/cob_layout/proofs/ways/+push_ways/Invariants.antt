@@ -1,5 +1,5 @@
 use Rattle.std.proofs.Common.{◌≡◌, ◌++◌, length, map}
-use Rattle.cob_copybook.specs.Nodes.{node, alone}
+use Rattle.cob_copybook.specs.Nodes.{tree_of}
 use Rattle.cob_layout_places.proofs.ForestLemmas.{left}
 use Rattle.cob_layout_places.proofs.NeedLemmas.{AreUpTo}
 use Rattle.cob_layout.specs.Sound.{AreNested}
@@ -16,5 +16,5 @@ invariant-loop-child l =
       at : l.at ≡ l.child-index;
       numbered : AreUpTo l.end rest;
       nested : AreNested (length l.within.items) rest;
-      same : map held l.ways.items ++ held_in l.within.items rest ≡ map held l.fn.ways.items ++ held_in l.fn.over (alone (node l.fn.entry));
+      same : map held l.ways.items ++ held_in l.within.items rest ≡ map held l.fn.ways.items ++ held_in l.fn.over (tree_of l.fn.entry);
     }

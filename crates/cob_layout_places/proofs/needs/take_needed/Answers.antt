@@ -1,7 +1,7 @@
 use Rattle.std.proofs.Common.{◌≡◌, sym, subst, ◌∙◌, Err, arith}
 use Rattle.std.specs.Prelude.{IfErr}
 use Rattle.std.proofs.lemmas.Grind.{common_steps}
-use Rattle.cob_copybook_tree.specs.Nodes.{node}
+use Rattle.cob_copybook_tree.specs.Nodes.{tree_of}
 use Rattle.cob_layout_places.specs.declared.varying.Table.{Table}
 use Rattle.cob_layout_places.specs.Counts.{Taken}
 use Rattle.cob_layout_places.specs.Needs.{greatest, is_needed, needed_tables}
@@ -11,7 +11,7 @@ use Rattle.cob_layout_places.proofs.needs.take_needed.Goals as goal
 pub returns-in_err-counts-clause-err : goal.returns-in_err-counts-clause-err
 returns-in_err-counts-clause-err c =
     let d : Table = record { number = 0; least = 0; most = 0; count = 0 } in
-    let t = node c.args.root.now in
+    let t = tree_of c.args.root.now in
     let fault = c.in_err-counts.field-0.0 in
     let e : c.from_residual.result ≡ Err fault = grind (arith, common_steps) in
     let behind = c.number_behind-behind.result in

@@ -1,6 +1,6 @@
 use Rattle.std.proofs.Common.{◌≡◌, ℕ, List, drop, length}
 use Rattle.std.specs.Prelude.{Result}
-use Rattle.cob_copybook_tree.specs.Nodes.{node}
+use Rattle.cob_copybook_tree.specs.Nodes.{tree_of}
 use Rattle.cob_layout_places.specs.declared.counts.CountFault.{CountFault}
 use Rattle.cob_layout_places.specs.Counts.{Taken}
 use Rattle.cob_layout_places.specs.Needs.{is_needed, keep, greatest}
@@ -9,7 +9,7 @@ use Rattle.cob_layout_places.proofs.needs.take_needed.Given as goal
 abbrev pub invariant-loop-table : goal.invariant-loop-table
 invariant-loop-table l = record {
   so_far : (r : Result (List ℕ) CountFault)
-      → Taken (node l.root) l.bytes (keep (is_needed l.behind l.last l.number) (drop l.table-index l.tables)) l.counts r
-      → Taken (node l.root) l.bytes (keep (is_needed l.behind l.last l.number) l.tables) (greatest l.tables l.fn.counts) r;
+      → Taken (tree_of l.root) l.bytes (keep (is_needed l.behind l.last l.number) (drop l.table-index l.tables)) l.counts r
+      → Taken (tree_of l.root) l.bytes (keep (is_needed l.behind l.last l.number) l.tables) (greatest l.tables l.fn.counts) r;
   room : length l.counts ≡ length l.fn.counts;
 }

@@ -6,7 +6,7 @@ use Rattle.cob_copybook_tree.specs.Lengths.{length_by_kind, own_length, sum_of, 
 use Rattle.cob_layout_places.specs.Lengths.{times}
 use Rattle.cob_layout_places.specs.Places.{place_of, also}
 use Rattle.cob_layout_places.proofs.ForestLemmas.{left, left_end, left_sum, below, element_out}
-use Rattle.cob_layout_places.proofs.PlaceLemmas.{fits, entered, entries, one_is, left_first, left_rest, whole_small, further, in_first}
+use Rattle.cob_layout_places.proofs.PlaceLemmas.{fits, entered, place_alone, entries, one_is, left_first, left_rest, whole_small, further, in_first}
 use Rattle.cob_layout_places.proofs.places.+seek_or_measure.Goals as goal
 
 pub behind_skipped-offset-requires-clause-room : goal.behind_skipped-offset-requires-clause-room
@@ -50,17 +50,17 @@ loop-child-preserved t c =
     let b = c.begins_at-begin.ensures in
     let s = left_sum (times c.args.counts.now) c.deref-child-items.result.now c.loop-child.child-index c.child-item.result c.loop-child-test.true c.child-item.is in
     record {
-      same = c.loop-child.invariant.same ∙ further (times c.args.counts.now) c.args.number c.deref-child-items.result.now c.loop-child.child-index c.child-item.result c.loop-child.at c.loop-child.area c.step-skipped.result.2.now c.begins_at-begin.result c.room_of-at.result c.loop-child-test.true c.child-item.is c.in-Err.ensures.none b q;
+      same = c.loop-child.invariant.same ∙ further (times c.args.counts.now) c.args.number c.deref-child-items.result.now c.loop-child.child-index c.child-item.result c.loop-child.at c.loop-child.area c.step-skipped.result.2.now c.begins_at-begin.result c.room_of-at.result c.loop-child-test.true c.child-item.is (sym (place_alone (times c.args.counts.now) c.args.number c.child-item.result c.begins_at-begin.result c.step-skipped.result.2.now) ∙ c.in-Err.ensures.none) b q;
       left = rw (q, b) r;
       sum = omega (arith, c.loop-child.invariant.sum, s, q);
     }
 
 pub returns-in-Ok-clause-found : goal.returns-in-Ok-clause-found
 returns-in-Ok-clause-found t c =
-    let h = in_first (times c.args.counts.now) c.args.number c.deref-child-items.result.now c.loop-child.child-index c.child-item.result c.loop-child.at c.loop-child.area c.step-skipped.result.2.now c.begins_at-begin.result c.in-Ok.found c.loop-child-test.true c.child-item.is c.in-Ok.ensures.found c.begins_at-begin.ensures in
+    let h = in_first (times c.args.counts.now) c.args.number c.deref-child-items.result.now c.loop-child.child-index c.child-item.result c.loop-child.at c.loop-child.area c.step-skipped.result.2.now c.begins_at-begin.result c.in-Ok.found c.loop-child-test.true c.child-item.is (sym (place_alone (times c.args.counts.now) c.args.number c.child-item.result c.begins_at-begin.result c.step-skipped.result.2.now) ∙ c.in-Ok.ensures.found) c.begins_at-begin.ensures in
     let o = one_is (times c.args.counts.now) c.args.number c.args.entry.now c.args.start _ _ _ _ _ _ c.step-skipped.ensures.skipped refl c.times_of.ensures c.step-skipped.ensures.there c.step-skipped.ensures.later (grind (arith, common_steps)) in
     let a = ap (λ m. also c.step-skipped.result.1 (place_of (times c.args.counts.now) c.args.number (below c.args.entry.now) m m c.step-skipped.result.2.now)) (sym c.behind_skipped-offset.ensures) in
-    o ∙ a ∙ ap (also c.step-skipped.result.1) (c.loop-child.invariant.same ∙ h) ∙ sym c.also_there.ensures
+    place_alone (times c.args.counts.now) c.args.number c.args.entry.now c.args.start c.args.subscripts.now ∙ o ∙ a ∙ ap (also c.step-skipped.result.1) (c.loop-child.invariant.same ∙ h) ∙ sym c.also_there.ensures
 
 pub returns-clause-none : goal.returns-clause-none
 returns-clause-none t c =
@@ -69,7 +69,7 @@ returns-clause-none t c =
     = ap (λ f. place_of (times c.args.counts.now) c.args.number f c.loop-child.at c.loop-child.area c.step-skipped.result.2.now) e in
     let o = one_is (times c.args.counts.now) c.args.number c.args.entry.now c.args.start _ _ _ _ _ _ c.step-skipped.ensures.skipped refl c.times_of.ensures c.step-skipped.ensures.there c.step-skipped.ensures.later (grind (arith, common_steps)) in
     let a = ap (λ m. also c.step-skipped.result.1 (place_of (times c.args.counts.now) c.args.number (below c.args.entry.now) m m c.step-skipped.result.2.now)) (sym c.behind_skipped-offset.ensures) in
-    o ∙ a ∙ ap (also c.step-skipped.result.1) (c.loop-child.invariant.same ∙ n)
+    place_alone (times c.args.counts.now) c.args.number c.args.entry.now c.args.start c.args.subscripts.now ∙ o ∙ a ∙ ap (also c.step-skipped.result.1) (c.loop-child.invariant.same ∙ n)
 
 pub returns-clause-length : goal.returns-clause-length
 returns-clause-length t c =

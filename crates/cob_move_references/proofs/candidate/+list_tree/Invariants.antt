@@ -1,5 +1,5 @@
 use Rattle.std.proofs.Common.{◌≡◌, ◌++◌, map}
-use Rattle.cob_layout.specs.Nodes.{node, alone}
+use Rattle.cob_layout.specs.Nodes.{tree_of}
 use Rattle.cob_copybook_names.specs.Listed.{texts}
 use Rattle.cob_layout.proofs.ForestLemmas.{left}
 use Rattle.cob_move_references.specs.Candidates.{candidates}
@@ -12,4 +12,4 @@ decreases-list_tree l = goal.size-list_tree l
 abbrev pub invariant-loop-child : goal.invariant-loop-child
 invariant-loop-child l =
     map candidate_of l.listed.items ++ candidates l.side (texts l.beneath.items) l.inner.items (left l.child-items l.child-index)
-    ≡ map candidate_of l.fn.listed.items ++ candidates l.side (texts l.above) l.holding (alone (node l.entry))
+    ≡ map candidate_of l.fn.listed.items ++ candidates l.side (texts l.above) l.holding (tree_of l.entry)

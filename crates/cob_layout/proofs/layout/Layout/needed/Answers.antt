@@ -2,7 +2,7 @@ use Rattle.std.proofs.Common.{rules, ◌≡◌, ap, ◌∙◌, length, arith, Er
 use Rattle.std.specs.Prelude.{IfErr}
 use Rattle.std.proofs.lemmas.List.{length-replicate}
 use Rattle.cob_copybook.specs.Forests.{entries_in}
-use Rattle.cob_copybook.specs.Nodes.{node, alone}
+use Rattle.cob_copybook.specs.Nodes.{tree_of}
 use Rattle.cob_layout.proofs.RecordLemmas.{number_below, slots_for}
 use Rattle.cob_layout_places.specs.Counts.{tables_of, Taken}
 use Rattle.cob_layout_places.specs.Needs.{needed_tables}
@@ -12,36 +12,36 @@ use Rattle.cob_layout.proofs.layout.Layout.needed.Goals as goal
 
 pub take_needed-requires-clause-slots : goal.take_needed-requires-clause-slots
 take_needed-requires-clause-slots c =
-    let t = node c.self.inside.root in
-    let e = ap (λ u. entries_in (alone u)) c.self.view_is in
-    let n : length c.deref_mut.result.now ≡ entries_in (alone t)
+    let t = tree_of c.self.inside.root in
+    let e = ap (λ u. entries_in u) c.self.view_is in
+    let n : length c.deref_mut.result.now ≡ entries_in t
     = omega (arith, e, ap length c.deref_mut.ensures.value, ap length (c.fill.ensures.items (λ y e. e)) ∙ length-replicate _ 0, c.counts.inside.next.ok.0, c.counts.invariant, ap length c.counts.view_is, c.requires.room) in
     slots_for t c.deref.result.now (length c.deref_mut.result.now) c.self.invariant.1 (c.deref.ensures.value ∙ c.self.invariant.2) n
 
 pub take_needed-requires-clause-there : goal.take_needed-requires-clause-there
 take_needed-requires-clause-there c =
-    let t = node c.self.inside.root in
-    let e = ap (λ u. entries_in (alone u)) c.self.view_is in
-    let n : length c.deref_mut.result.now ≡ entries_in (alone t)
+    let t = tree_of c.self.inside.root in
+    let e = ap (λ u. entries_in u) c.self.view_is in
+    let n : length c.deref_mut.result.now ≡ entries_in t
     = omega (arith, e, ap length c.deref_mut.ensures.value, ap length (c.fill.ensures.items (λ y e. e)) ∙ length-replicate _ 0, c.counts.inside.next.ok.0, c.counts.invariant, ap length c.counts.view_is, c.requires.room) in
-    number_below t c.args.self.now c.args.r.now.node (length c.deref_mut.result.now) c.args.r.now.subscripts.items c.self.invariant.1 c.self.view_is c.requires.refers n
+    number_below t c.args.self.now c.args.reference.now.node (length c.deref_mut.result.now) c.args.reference.now.subscripts.items c.self.invariant.1 c.self.view_is c.requires.refers n
 
 pub returns-in_err-take_needed-clause-err : goal.returns-in_err-take_needed-clause-err
 returns-in_err-take_needed-clause-err c =
     let u = c.args.self.now in
-    let r = c.args.r.now.node in
-    let taken : IfErr c.from_residual.result (λ e. Taken c.args.self.now c.args.bytes.now (needed_tables c.args.self.now c.args.r.now.node c.args.receiving (tables_of (alone c.args.self.now))) (greatest_counts c.args.self.now) (Err e)) = search rules in
-    needed_err c.needs_are_read.ensures (node c.self.inside.root) u r c.args.receiving c.args.bytes.now c.args.r.now.subscripts.items c.from_residual.result c.self.invariant.1 c.self.view_is c.requires.refers taken
+    let r = c.args.reference.now.node in
+    let taken : IfErr c.from_residual.result (λ e. Taken c.args.self.now c.args.bytes.now (needed_tables c.args.self.now c.args.reference.now.node c.args.receiving (tables_of c.args.self.now)) (greatest_counts c.args.self.now) (Err e)) = search rules in
+    needed_err c.needs_are_read.ensures (tree_of c.self.inside.root) u r c.args.receiving c.args.bytes.now c.args.reference.now.subscripts.items c.from_residual.result c.self.invariant.1 c.self.view_is c.requires.refers taken
 
 pub returns-clause-ok : goal.returns-clause-ok
 returns-clause-ok c =
-    let t = node c.self.inside.root in
+    let t = tree_of c.self.inside.root in
     let u = c.args.self.now in
-    let e = ap (λ u. entries_in (alone u)) c.self.view_is in
-    let n : length c.deref_mut.result.now ≡ entries_in (alone t)
+    let e = ap (λ u. entries_in u) c.self.view_is in
+    let n : length c.deref_mut.result.now ≡ entries_in t
     = omega (arith, e, ap length c.deref_mut.ensures.value, ap length (c.fill.ensures.items (λ y e. e)) ∙ length-replicate _ 0, c.counts.inside.next.ok.0, c.counts.invariant, ap length c.counts.view_is, c.requires.room) in
-    let zeros = zeros_are _ _ (entries_in (alone t)) (c.deref_mut.ensures.value ∙ c.fill.ensures.items (λ y e. e)) n in
+    let zeros = zeros_are _ _ (entries_in t) (c.deref_mut.ensures.value ∙ c.fill.ensures.items (λ y e. e)) n in
     let long : length c.take_needed.new.counts ≡ c.fill.new.self.len = search rules in
     let made : c.copy_from_slice.new.self.items ≡ c.take_needed.new.counts = c.copy_from_slice.ensures.items ∙ c.deref-2.ensures.value ∙ front_is _ c.take_needed.new.counts _ long in
-    needed_at c.needs_are_read.ensures t u c.args.r.now.node c.args.receiving c.args.bytes.now c.args.r.now.subscripts.items c.deref.result.now c.deref_mut.result.now c.take_needed.new.counts c.copy_from_slice.new.self.items
+    needed_at c.needs_are_read.ensures t u c.args.reference.now.node c.args.receiving c.args.bytes.now c.args.reference.now.subscripts.items c.deref.result.now c.deref_mut.result.now c.take_needed.new.counts c.copy_from_slice.new.self.items
     c.self.invariant.1 c.self.view_is c.requires.refers (c.deref.ensures.value ∙ c.self.invariant.2) zeros made c.in_ok-take_needed.ensures.ok

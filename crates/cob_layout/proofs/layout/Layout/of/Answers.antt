@@ -1,5 +1,6 @@
 use Rattle.std.proofs.Common.{◌≡◌, ℕ, List, length, sym, ap, subst, ◌∙◌, arith}
-use Rattle.cob_copybook.specs.Nodes.{node, alone}
+use Rattle.cob_copybook.specs.Forests.{Tree, NoEntries, AnEntry}
+use Rattle.cob_copybook.specs.Nodes.{Resolved, tree_of}
 use Rattle.cob_copybook.specs.TreeLengths.{greatest_number, sum_of}
 use Rattle.cob_copybook.specs.Books.{IsRecordDescription}
 use Rattle.cob_layout_places.specs.Lengths.{times}
@@ -9,19 +10,19 @@ use Rattle.cob_layout.proofs.layout.Layout.of.Goals as goal
 
 pub invariant_of-result : goal.invariant_of-result
 invariant_of-result c =
-    let t = node c.in_ok-root.root in
-    let same : alone t ≡ c.args.book.now = ap alone c.in_ok-root.ensures.same ∙ c.root.ensures.tree in
-    let is : IsRecordDescription (alone t) = subst IsRecordDescription (sym same) c.root.ensures.record in
+    let t = tree_of c.in_ok-root.root in
+    let same : t ≡ c.args.book.now = ap (λ (n : Tree Resolved). AnEntry n.top n.beneath NoEntries) c.in_ok-root.ensures.same ∙ c.root.ensures.tree in
+    let is : IsRecordDescription t = subst IsRecordDescription (sym same) c.root.ensures.record in
     let sound = c.records_are_sound.ensures t is in
     let counts = c.in_ok-counts.ensures ∙ c.deref.ensures.value ∙ c.in_ok-in_order.ensures ∙ sym (greatest_is t sound.numbered) in
-    (is, sound, c.in_ok-tables.ensures, counts, c.greatest-greatest.ensures.value ∙ ap (sum_of greatest_number) (sym same), c.in_ok-root.ensures.bytes, c.in_ok-ways.ensures, c.in_ok-spots.ensures ∙ ap (λ (cs : List ℕ). spots_of (times cs) (alone t) 0 0) (c.deref-2.ensures.value ∙ c.in_ok-in_order.ensures ∙ sym (greatest_is t sound.numbered)))
+    (is, sound, c.in_ok-tables.ensures, counts, c.greatest-greatest.ensures.value ∙ ap (sum_of greatest_number) (sym same), c.in_ok-root.ensures.bytes, c.in_ok-ways.ensures, c.in_ok-spots.ensures ∙ ap (λ (cs : List ℕ). spots_of (times cs) t 0 0) (c.deref-2.ensures.value ∙ c.in_ok-in_order.ensures ∙ sym (greatest_is t sound.numbered)))
 
 pub ways-requires-clause-end : goal.ways-requires-clause-end
 ways-requires-clause-end c =
-    let t = node c.in_ok-root.root in
-    omega (arith, c.len-entries.ensures, c.deref.ensures.len, ap length (c.deref.ensures.value ∙ c.in_ok-in_order.ensures), length_in_order (alone t))
+    let t = tree_of c.in_ok-root.root in
+    omega (arith, c.len-entries.ensures, c.deref.ensures.len, ap length (c.deref.ensures.value ∙ c.in_ok-in_order.ensures), length_in_order t)
 
 pub new_spots-requires-clause-room : goal.new_spots-requires-clause-room
 new_spots-requires-clause-room c =
-    let t = node c.in_ok-root.root in
-    ap length (c.deref-2.ensures.value ∙ c.in_ok-in_order.ensures) ∙ length_in_order (alone t)
+    let t = tree_of c.in_ok-root.root in
+    ap length (c.deref-2.ensures.value ∙ c.in_ok-in_order.ensures) ∙ length_in_order t

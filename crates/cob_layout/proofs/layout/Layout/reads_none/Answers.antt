@@ -1,5 +1,5 @@
 use Rattle.std.proofs.Common.{◌≡◌, ◌==◌, ◌&&◌, length, map, ap, arith}
-use Rattle.cob_copybook.specs.Nodes.{node}
+use Rattle.cob_copybook.specs.Nodes.{tree_of}
 use Rattle.cob_layout_places.specs.declared.varying.Table.{Table}
 use Rattle.cob_layout_places.specs.Needs.{keep, is_needed}
 use Rattle.cob_layout.specs.Standing.{are_none}
@@ -9,7 +9,7 @@ use Rattle.cob_layout.proofs.layout.Layout.reads_none.Goals as goal
 
 pub returns-in-Some-clause-must : goal.returns-in-Some-clause-must
 returns-in-Some-clause-must c =
-    let t = node c.self.inside.root in
+    let t = tree_of c.self.inside.root in
     let u = c.args.self.now in
     let ways = c.self.inside.ways.items in
     let tables = c.self.inside.tables.items in
@@ -22,7 +22,7 @@ returns-in-Some-clause-must c =
 
 pub returns-in-Some-clause-only : goal.returns-in-Some-clause-only
 returns-in-Some-clause-only c =
-    let t = node c.self.inside.root in
+    let t = tree_of c.self.inside.root in
     let u = c.args.self.now in
     let ways = c.self.inside.ways.items in
     let tables = c.self.inside.tables.items in
@@ -35,7 +35,7 @@ returns-in-Some-clause-only c =
 
 pub returns-in_default-clause-must : goal.returns-in_default-clause-must
 returns-in_default-clause-must c =
-    let t = node c.self.inside.root in
+    let t = tree_of c.self.inside.root in
     let u = c.args.self.now in
     let ways = c.self.inside.ways.items in
     let tables = c.self.inside.tables.items in

@@ -1,5 +1,5 @@
 use Rattle.std.proofs.Common.{◌≡◌, ◌==◌, ◌&&◌, length, map}
-use Rattle.cob_copybook.specs.Nodes.{node, alone}
+use Rattle.cob_copybook.specs.Nodes.{tree_of}
 use Rattle.cob_layout_places.specs.Needs.{keep}
 use Rattle.cob_layout.specs.Standing.{are_none, is_spared}
 use Rattle.cob_layout.specs.Ways.{held, held_at}
@@ -9,12 +9,12 @@ use Rattle.cob_layout.proofs.layout.Layout.spares_none.Goals as goal
 
 pub returns-clause-must : goal.returns-clause-must
 returns-clause-must c =
-    let t = node c.self.inside.root in
+    let t = tree_of c.self.inside.root in
     let u = c.args.self.now in
-    let r = c.args.r.now.node in
+    let r = c.args.reference.now.node in
     let ways = c.self.inside.ways.items in
     let tables = c.self.inside.tables.items in
-    let has = refers_has r c.args.r.now.subscripts.items (alone u) c.requires.refers in
+    let has = refers_has r c.args.reference.now.subscripts.items u c.requires.refers in
     let k = known_in t u ways tables r c.self.invariant.1 c.self.view_is c.self.invariant.6 c.self.invariant.2 has in
     let l : c.is_last_receiver-last.result ≡ (c.args.receiving && ((held_at (map held ways) r).end == length ways)) = rw c.deref.ensures.value at c.is_last_receiver-last.ensures in
     let n : c.none_spared.result ≡ are_none (keep (is_spared c.is_last_receiver-last.result r) tables) = rw c.deref-2.ensures.value at c.none_spared.ensures in
@@ -23,12 +23,12 @@ returns-clause-must c =
 
 pub returns-clause-only : goal.returns-clause-only
 returns-clause-only c =
-    let t = node c.self.inside.root in
+    let t = tree_of c.self.inside.root in
     let u = c.args.self.now in
-    let r = c.args.r.now.node in
+    let r = c.args.reference.now.node in
     let ways = c.self.inside.ways.items in
     let tables = c.self.inside.tables.items in
-    let has = refers_has r c.args.r.now.subscripts.items (alone u) c.requires.refers in
+    let has = refers_has r c.args.reference.now.subscripts.items u c.requires.refers in
     let k = known_in t u ways tables r c.self.invariant.1 c.self.view_is c.self.invariant.6 c.self.invariant.2 has in
     let l : c.is_last_receiver-last.result ≡ (c.args.receiving && ((held_at (map held ways) r).end == length ways)) = rw c.deref.ensures.value at c.is_last_receiver-last.ensures in
     let n : c.none_spared.result ≡ are_none (keep (is_spared c.is_last_receiver-last.result r) tables) = rw c.deref-2.ensures.value at c.none_spared.ensures in

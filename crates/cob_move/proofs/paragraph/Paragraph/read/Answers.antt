@@ -11,9 +11,7 @@ returns-in_err-meant-clause-only c = λ ms is.
 
 pub prepared-requires : goal.prepared-requires
 prepared-requires c = record {
-  moves = λ r a b.
-      are_moves c.meant_are_moves.ensures r c.args.text.now c.args.input.now c.args.output.now (moves c.in_ok-meant.meant.items) a b c.root.ensures.record c.root-2.ensures.record
-      c.in_ok-meant.ensures.found;
+  moves = are_moves c.meant_are_moves.ensures c.args.text.now c.args.input.now c.args.output.now (moves c.in_ok-meant.meant.items) c.root.ensures.record c.root-2.ensures.record c.in_ok-meant.ensures.found;
 }
 
 pub returns-clause-only : goal.returns-clause-only

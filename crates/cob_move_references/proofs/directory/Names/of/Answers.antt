@@ -1,5 +1,5 @@
 use Rattle.std.proofs.Common.{◌≡◌, List, [], ◌++◌, map, sym, subst, ap, ◌∙◌}
-use Rattle.cob_layout.specs.Nodes.{node, alone}
+use Rattle.cob_layout.specs.Nodes.{tree_of}
 use Rattle.cob_layout.specs.Books.{IsRecordDescription}
 use Rattle.cob_move_operands.specs.declared.Side.TheVariants.{In, Out}
 use Rattle.cob_copybook_names.specs.declared.bearer.Bearer.{Bearer as Listed}
@@ -11,12 +11,12 @@ use Rattle.cob_move_references.proofs.directory.Names.of.Goals as goal
 
 pub listed-requires : goal.listed-requires
 listed-requires c =
-    let input = node c.root.result.now in
-    let output = node c.root-2.result.now in
-    let first : map candidate_of c.list_tree.new.listed.items ≡ candidates In [] [] (alone input) =
-    c.in_ok-list_tree.ensures ∙ ap (λ (xs : List (Listed ListedEntry)). map candidate_of xs ++ candidates In [] [] (alone input)) c.new-entries.ensures.items in
-    let both : map candidate_of c.list_tree-2.new.listed.items ≡ all_entries (alone input) (alone output) =
-    c.in_ok-list_tree-2.ensures ∙ ap (λ (xs : List Candidate). xs ++ candidates Out [] [] (alone output)) first in
+    let input = tree_of c.root.result.now in
+    let output = tree_of c.root-2.result.now in
+    let first : map candidate_of c.list_tree.new.listed.items ≡ candidates In [] [] input =
+    c.in_ok-list_tree.ensures ∙ ap (λ (xs : List (Listed ListedEntry)). map candidate_of xs ++ candidates In [] [] input) c.new-entries.ensures.items in
+    let both : map candidate_of c.list_tree-2.new.listed.items ≡ all_entries input output =
+    c.in_ok-list_tree-2.ensures ∙ ap (λ (xs : List Candidate). xs ++ candidates Out [] [] output) first in
     subst AreShallow (sym both)
     (all_shallow input output (c.records_are_sound.ensures input (subst IsRecordDescription (sym c.root.ensures.tree) c.root.ensures.record)).nested
     (c.records_are_sound.ensures output (subst IsRecordDescription (sym c.root-2.ensures.tree) c.root-2.ensures.record)).nested)

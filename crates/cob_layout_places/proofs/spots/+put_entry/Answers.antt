@@ -1,4 +1,4 @@
-use Rattle.std.proofs.Common.{◌≡◌, ◌++◌, ◌+◌, ◌-◌, drop, take, length, refl, sym, ap, ◌∙◌, arith, [], ◌∷◌, ℕ}
+use Rattle.std.proofs.Common.{◌≡◌, ◌++◌, ◌+◌, ◌-◌, drop, take, length, refl, sym, ap, ◌∙◌, arith, [], ◌∷◌, ℕ, List}
 use Rattle.std.proofs.lemmas.List.{drop_all, drop-drop, length-take}
 use Rattle.cob_copybook_tree.specs.Forests.{entries_in}
 use Rattle.cob_copybook_tree.specs.declared.node.Node.TheViews.{out-Node}
@@ -9,8 +9,8 @@ use Rattle.cob_layout_places.specs.Lengths.{times}
 use Rattle.cob_layout_places.specs.Spots.{spots_of}
 use Rattle.cob_layout_places.proofs.ForestLemmas.{left, left_is, left_end, left_sum, below, below_is, element_small, element_out}
 use Rattle.cob_layout_places.proofs.PlaceLemmas.{fits, entries, left_first, left_rest, whole_small}
-use Rattle.cob_layout_places.proofs.SpotLemmas.{put, spots_left, spots_written, first_set}
-use Rattle.cob_layout_places.proofs.spots.+put_spots.Goals as goal
+use Rattle.cob_layout_places.proofs.SpotLemmas.{put, spots_alone, spots_left, spots_written, first_set}
+use Rattle.cob_layout_places.proofs.spots.+put_entry.Goals as goal
 
 pub loop-child-init : goal.loop-child-init
 loop-child-init t c =
@@ -35,8 +35,8 @@ overflow_mul-spots t c =
     let cut = left_is c.deref-child-items.result.now c.loop-child.child-index n c.loop-child-test.true c.child-item.is in
     let many : entries_in (left c.deref-child-items.result.now c.loop-child.child-index) ≡ 1 + entries_in (node n).beneath + entries_in (left c.deref-child-items.result.now (c.loop-child.child-index + 1)) = ap entries_in cut in
     let all = ap entries_in (below_is c.args.entry.now) in
-    let p = put (times c.args.counts.now) n c.loop-child.next (length c.loop-child.spots - c.loop-child.next) c.put_spots-count.result c.begins_at-begin.result c.loop-child.spots c.put_spots-count.new.spots
-    inv.first (omega (arith, many, all, inv.count, inv.long, c.requires.room)) (omega (arith, many, all, inv.count, inv.long, c.requires.room, c.put_spots-count.ensures.count)) c.put_spots-count.ensures.count c.put_spots-count.ensures.spots in
+    let p = put (times c.args.counts.now) n c.loop-child.next (length c.loop-child.spots - c.loop-child.next) c.put_entry-count.result c.begins_at-begin.result c.loop-child.spots c.put_entry-count.new.spots
+    inv.first (omega (arith, many, all, inv.count, inv.long, c.requires.room)) (omega (arith, many, all, inv.count, inv.long, c.requires.room, c.put_entry-count.ensures.count)) c.put_entry-count.ensures.count c.put_entry-count.ensures.spots in
     let size = p.size (record { offset = 0; length = 0; times = 0 }) in
     let f = left_first _ c.deref-child-items.result.now c.loop-child.child-index n c.loop-child.at c.loop-child.area 32752 c.loop-child-test.true c.child-item.is inv.left in
     omega (arith, size, whole_small _ _ _ _ f)
@@ -48,8 +48,8 @@ overflow_add-at t c =
     let cut = left_is c.deref-child-items.result.now c.loop-child.child-index n c.loop-child-test.true c.child-item.is in
     let many : entries_in (left c.deref-child-items.result.now c.loop-child.child-index) ≡ 1 + entries_in (node n).beneath + entries_in (left c.deref-child-items.result.now (c.loop-child.child-index + 1)) = ap entries_in cut in
     let all = ap entries_in (below_is c.args.entry.now) in
-    let p = put (times c.args.counts.now) n c.loop-child.next (length c.loop-child.spots - c.loop-child.next) c.put_spots-count.result c.begins_at-begin.result c.loop-child.spots c.put_spots-count.new.spots
-    inv.first (omega (arith, many, all, inv.count, inv.long, c.requires.room)) (omega (arith, many, all, inv.count, inv.long, c.requires.room, c.put_spots-count.ensures.count)) c.put_spots-count.ensures.count c.put_spots-count.ensures.spots in
+    let p = put (times c.args.counts.now) n c.loop-child.next (length c.loop-child.spots - c.loop-child.next) c.put_entry-count.result c.begins_at-begin.result c.loop-child.spots c.put_entry-count.new.spots
+    inv.first (omega (arith, many, all, inv.count, inv.long, c.requires.room)) (omega (arith, many, all, inv.count, inv.long, c.requires.room, c.put_entry-count.ensures.count)) c.put_entry-count.ensures.count c.put_entry-count.ensures.spots in
     let size = p.size (record { offset = 0; length = 0; times = 0 }) in
     let r = left_rest _ c.deref-child-items.result.now c.loop-child.child-index n c.loop-child.at c.loop-child.area 32752 c.loop-child-test.true c.child-item.is inv.left in
     let q = c.room_of-at.ensures ∙ ap (own_length (out-Node n).redefines) size in
@@ -61,7 +61,7 @@ overflow_add-next t c =
     let n = c.child-item.result in
     let many : entries_in (left c.deref-child-items.result.now c.loop-child.child-index) ≡ 1 + entries_in (node n).beneath + entries_in (left c.deref-child-items.result.now (c.loop-child.child-index + 1))
     = ap entries_in (left_is c.deref-child-items.result.now c.loop-child.child-index n c.loop-child-test.true c.child-item.is) in
-    omega (arith, many, ap entries_in (below_is c.args.entry.now), inv.count, inv.long, c.requires.room, c.put_spots-count.ensures.count, c.loop-child.auto.spots)
+    omega (arith, many, ap entries_in (below_is c.args.entry.now), inv.count, inv.long, c.requires.room, c.put_entry-count.ensures.count, c.loop-child.auto.spots)
 
 pub loop-child-preserved : goal.loop-child-preserved
 loop-child-preserved t c =
@@ -70,8 +70,8 @@ loop-child-preserved t c =
     let cut = left_is c.deref-child-items.result.now c.loop-child.child-index n c.loop-child-test.true c.child-item.is in
     let many : entries_in (left c.deref-child-items.result.now c.loop-child.child-index) ≡ 1 + entries_in (node n).beneath + entries_in (left c.deref-child-items.result.now (c.loop-child.child-index + 1)) = ap entries_in cut in
     let all = ap entries_in (below_is c.args.entry.now) in
-    let p = put (times c.args.counts.now) n c.loop-child.next (length c.loop-child.spots - c.loop-child.next) c.put_spots-count.result c.begins_at-begin.result c.loop-child.spots c.put_spots-count.new.spots
-    inv.first (omega (arith, many, all, inv.count, inv.long, c.requires.room)) (omega (arith, many, all, inv.count, inv.long, c.requires.room, c.put_spots-count.ensures.count)) c.put_spots-count.ensures.count c.put_spots-count.ensures.spots in
+    let p = put (times c.args.counts.now) n c.loop-child.next (length c.loop-child.spots - c.loop-child.next) c.put_entry-count.result c.begins_at-begin.result c.loop-child.spots c.put_entry-count.new.spots
+    inv.first (omega (arith, many, all, inv.count, inv.long, c.requires.room)) (omega (arith, many, all, inv.count, inv.long, c.requires.room, c.put_entry-count.ensures.count)) c.put_entry-count.ensures.count c.put_entry-count.ensures.spots in
     let size = p.size (record { offset = 0; length = 0; times = 0 }) in
     let r = left_rest _ c.deref-child-items.result.now c.loop-child.child-index n c.loop-child.at c.loop-child.area 32752 c.loop-child-test.true c.child-item.is inv.left in
     let q = c.room_of-at.ensures ∙ ap (own_length (out-Node n).redefines) size in
@@ -82,9 +82,9 @@ loop-child-preserved t c =
       left = rw (q, b) r;
       sum = omega (arith, inv.sum, s, q);
       first = omega (arith, inv.first);
-      count = omega (arith, inv.count, many, c.put_spots-count.ensures.count);
+      count = omega (arith, inv.count, many, c.put_entry-count.ensures.count);
       long = p.grown.long ∙ inv.long;
-      kept = p.grown.kept ∙ sym (drop-drop c.put_spots-count.result c.loop-child.next c.loop-child.spots) ∙ ap (drop c.put_spots-count.result) inv.kept ∙ drop-drop c.put_spots-count.result c.loop-child.next c.args.spots.now;
+      kept = p.grown.kept ∙ sym (drop-drop c.put_entry-count.result c.loop-child.next c.loop-child.spots) ∙ ap (drop c.put_entry-count.result) inv.kept ∙ drop-drop c.put_entry-count.result c.loop-child.next c.args.spots.now;
       same = spots_written _ _ _ _ _ _ p.grown.same inv.same spots;
     }
 
@@ -109,3 +109,4 @@ returns-clause-spots t c =
     (omega (arith, inv.count, inv.long, c.requires.room, ap entries_in e, ap entries_in (below_is n))) inv.kept same
     ∙ ap (λ (l : ℕ). record { offset = c.args.start; length = l; times = c.times_of.result } ∷ (spots_of (times c.args.counts.now) (node n).beneath c.args.start c.args.start ++ drop c.loop-child.next c.args.spots.now)) size
     ∙ ap (λ (k : ℕ). record { offset = c.args.start; length = element_length (times c.args.counts.now) (node n).top (node n).beneath; times = k } ∷ (spots_of (times c.args.counts.now) (node n).beneath c.args.start c.args.start ++ drop c.loop-child.next c.args.spots.now)) c.times_of.ensures
+    ∙ ap (λ (zs : List Spot). zs ++ drop c.loop-child.next c.args.spots.now) (sym (spots_alone (times c.args.counts.now) n c.args.start))

@@ -5,10 +5,10 @@ use Rattle.cob_layout_places.specs.Lengths.{times}
 use Rattle.cob_layout_places.specs.Spots.{spots_of}
 use Rattle.cob_layout_places.proofs.ForestLemmas.{left, below}
 use Rattle.cob_layout_places.proofs.PlaceLemmas.{Left}
-use Rattle.cob_layout_places.proofs.spots.+put_spots.Given as goal
+use Rattle.cob_layout_places.proofs.spots.+put_entry.Given as goal
 
-abbrev pub decreases-put_spots : goal.decreases-put_spots
-decreases-put_spots l = goal.size-put_spots l
+abbrev pub decreases-put_entry : goal.decreases-put_entry
+decreases-put_entry l = goal.size-put_entry l
 
 abbrev pub invariant-loop-child : goal.invariant-loop-child
 invariant-loop-child l =
