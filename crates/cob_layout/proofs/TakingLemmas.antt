@@ -14,7 +14,7 @@ use Rattle.cob_layout_places.specs.Lengths.{times}
 use Rattle.cob_layout_places.specs.Places.{place_of}
 use Rattle.cob_layout_places.specs.Spots.{spots_of}
 use Rattle.cob_layout.specs.Counting.{greatest_counts, CountsOf}
-use Rattle.cob_layout.specs.Standing.{first_of}
+use Rattle.cob_layout.specs.Standing.{first_number}
 use Rattle.cob_layout.specs.Ways.{first_element}
 use Rattle.cob_layout.proofs.KeepLaw.{first_found}
 use Rattle.cob_layout.proofs.NeedLemmas.{known}
@@ -30,12 +30,12 @@ in_get (x ∷ xs) (suc k) d lt = inr (in_get xs k d (omega (arith, lt)))
 pub countable_at : (t : Forest Resolved) (xs : List Table) (k : ℕ) (d : Table) → IsSound t → xs ≡ tables_of t → k < length xs → IsCountable t (get_or xs k d)
 countable_at t xs k d s all lt = of_all (IsCountable t) (tables_of t) (get_or xs k d) s.countable (subst (IsIn (get_or xs k d)) all (in_get xs k d lt))
 
-first_low : (n m : ℕ) (xs : List Table) (x : Table) → Rise n m xs → IsIn x xs → first_of xs ≤ x.number
+first_low : (n m : ℕ) (xs : List Table) (x : Table) → Rise n m xs → IsIn x xs → first_number xs ≤ x.number
 first_low n m [] x rise i = absurd i
 first_low n m (y ∷ ys) x rise i = rise_low y.number m (y ∷ ys) x (omega arith, rise.1) i
 
 -- no table has a number before the first one
-pub first_least : (t : Forest Resolved) (xs : List Table) (k : ℕ) (d : Table) → IsSound t → xs ≡ tables_of t → k < length xs → first_of xs ≤ (get_or xs k d).number
+pub first_least : (t : Forest Resolved) (xs : List Table) (k : ℕ) (d : Table) → IsSound t → xs ≡ tables_of t → k < length xs → first_number xs ≤ (get_or xs k d).number
 first_least t xs k d s all lt =
     first_low 0 (0 + entries_in t) xs (get_or xs k d) (subst (Rise 0 (0 + entries_in t)) (sym all) (rise_all t 0 (0 + entries_in t) s.numbered refl)) (in_get xs k d lt)
 

@@ -51,9 +51,9 @@ are_none [] = true
 are_none (x ∷ xs) = false
 
 -- the number of the first of these tables
-abbrev pub first_of : List Table → ℕ
-first_of [] = 0
-first_of (x ∷ xs) = x.number
+abbrev pub first_number : List Table → ℕ
+first_number [] = 0
+first_number (x ∷ xs) = x.number
 
 -- a reference to entry r is spared the count of the table, where r receives and is the last one or not
 abbrev pub is_spared : (last : Bool) → (r : ℕ) → Table → Bool

@@ -8,7 +8,7 @@ ghost use Rattle.cob_layout_places.specs.Lengths.{times, FitsInRecord};
 ghost use Rattle.cob_layout_places.specs.Places.{place_of};
 ghost use Rattle.cob_layout_places.specs.Spots.{spots_of};
 ghost use Rattle.cob_layout.specs.Counting.{greatest_counts, CountsOf};
-ghost use Rattle.cob_layout.specs.Standing.{first_of};
+ghost use Rattle.cob_layout.specs.Standing.{first_number};
 ghost use Rattle.cob_layout.specs.Ways.{first_element};
 
 use crate::spots::spot_at;
@@ -47,8 +47,8 @@ fn count_in(
 }
 
 /// The number of the first of the tables.
-fn first_of(tables: &[Table]) -> usize
-    ensures { result ≡ first_of tables.now }
+fn first_number(tables: &[Table]) -> usize
+    ensures { result ≡ first_number tables.now }
 {
     match tables.first() {
         Some(table) => table.number,
@@ -79,7 +79,7 @@ pub(crate) fn take_all_counts(
     ensures room { length counts.new ≡ length counts.old }
 {
     one_place();
-    let first = first_of(tables);
+    let first = first_number(tables);
     for table in tables {
         counts[table.number] = count_in(root, *table, first, spots, bytes, counts)?;
     }

@@ -15,7 +15,7 @@ pub count_in-requires-clause-early : goal.count_in-requires-clause-early
 count_in-requires-clause-early c =
     let t = tree_of c.args.root.now in
     let d : Table = record { number = 0; least = 0; most = 0; count = 0 } in
-    early_found c.one_place.ensures t c.args.tables.now c.loop-table.table-index d c.loop-table.counts c.args.counts.now c.args.spots.now c.first_of-first.result c.requires.sound c.requires.tables c.loop-table-test.true
+    early_found c.one_place.ensures t c.args.tables.now c.loop-table.table-index d c.loop-table.counts c.args.counts.now c.args.spots.now c.first_number-first.result c.requires.sound c.requires.tables c.loop-table-test.true
     (c.requires.spots ∙ ap (λ (cs : List ℕ). spots_of (times cs) t 0 0) (sym c.requires.counts)) c.loop-table.invariant.early
 
 pub returns-in_err-counts-clause-err : goal.returns-in_err-counts-clause-err
@@ -34,10 +34,10 @@ loop-table-preserved c =
     let t = tree_of c.args.root.now in
     let d : Table = record { number = 0; least = 0; most = 0; count = 0 } in
     let at = (slice_index_or c.args.tables.now c.loop-table.table-index d).number in
-    let least : c.first_of-first.result ≤ (slice_index_or c.args.tables.now c.loop-table.table-index d).number =
-    omega (arith, c.first_of-first.ensures, first_least t c.args.tables.now c.loop-table.table-index d c.requires.sound c.requires.tables c.loop-table-test.true) in
+    let least : c.first_number-first.result ≤ (slice_index_or c.args.tables.now c.loop-table.table-index d).number =
+    omega (arith, c.first_number-first.ensures, first_least t c.args.tables.now c.loop-table.table-index d c.requires.sound c.requires.tables c.loop-table-test.true) in
     record {
       so_far = λ r taken. c.loop-table.invariant.so_far r (next_taken t c.args.bytes.now c.args.tables.now c.loop-table.table-index d c.loop-table.counts r c.in_ok-counts.field-0 c.loop-table-test.true c.in_ok-counts.ensures.ok taken);
       room = length-set c.loop-table.counts at c.in_ok-counts.field-0 ∙ c.loop-table.invariant.room;
-      early = still_early c.loop-table.counts c.args.counts.now c.first_of-first.result at c.in_ok-counts.field-0 least c.loop-table.invariant.early;
+      early = still_early c.loop-table.counts c.args.counts.now c.first_number-first.result at c.in_ok-counts.field-0 least c.loop-table.invariant.early;
     }
