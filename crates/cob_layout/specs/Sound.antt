@@ -66,7 +66,7 @@ pub record IsAhead (f : Forest Resolved) (x : Table) : Type 0 where
 abbrev pub RedefinesNothing : Forest Resolved → Type 0
 RedefinesNothing NoEntries = ⊥
 RedefinesNothing (AnEntry e children NoEntries) = e.redefines ≡ None
-RedefinesNothing (AnEntry e children (AnEntry d kids more)) = ⊥
+RedefinesNothing (AnEntry e children (AnEntry next beneath more)) = ⊥
 
 -- The entries may occur, items hold none, redefinitions stay in their areas and the record isn't too long; groups hold some, and redefinitions
 -- stand where they may, so that neither side of one varies; the entries are numbered from 0; no more than 7 tables stand within one another;
