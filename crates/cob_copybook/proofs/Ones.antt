@@ -13,7 +13,7 @@ use Rattle.cob_copybook_tree.specs.Resolving.{resolved}
 abbrev pub IsOne : {A : Type 0} → Forest A → Type 0
 IsOne NoEntries = ⊥
 IsOne (AnEntry e children NoEntries) = Unit {0}
-IsOne (AnEntry e children (AnEntry d kids more)) = ⊥
+IsOne (AnEntry e children (AnEntry next beneath more)) = ⊥
 
 all_behind : (xs ys : List PlainEntry) → AllByRecursion IsBelow (xs ++ ys) → AllByRecursion IsBelow ys
 all_behind [] ys h = h
@@ -23,13 +23,13 @@ all_behind (x ∷ xs) ys h = all_behind xs ys h.1
 pub one_entry : (ds : List PlainEntry) (f : Forest PlainEntry) → StandsFor ds f → IsOne f
 one_entry ds NoEntries s = let none : AreLevels [] = subst AreLevels (sym s.entries) s.levels in none
 one_entry ds (AnEntry e children NoEntries) s = tt
-one_entry ds (AnEntry e children (AnEntry d kids more)) s =
-    let levels : AreLevels (flat (AnEntry e children (AnEntry d kids more))) = subst AreLevels (sym s.entries) s.levels in
-    let below = all_behind (flat children) (flat (AnEntry d kids more)) levels.1 in
+one_entry ds (AnEntry e children (AnEntry next beneath more)) s =
+    let levels : AreLevels (flat (AnEntry e children (AnEntry next beneath more))) = subst AreLevels (sym s.entries) s.levels in
+    let below = all_behind (flat children) (flat (AnEntry next beneath more)) levels.1 in
     absurd (omega (arith, levels.0, below.0.0, s.tree.2))
 
 -- and so it is with what the entries inherit
-pub one_resolved : (counts : List ℕ) (n : ℕ) (usage : Option Usage) (sign : Option Sign) (f : Forest PlainEntry) → IsOne f → IsOne (resolved counts n usage sign f)
+pub one_resolved : (counts : List (Option ℕ)) (n : ℕ) (usage : Option Usage) (sign : Option Sign) (f : Forest PlainEntry) → IsOne f → IsOne (resolved counts n usage sign f)
 one_resolved counts n usage sign NoEntries h = h
 one_resolved counts n usage sign (AnEntry e children NoEntries) h = tt
-one_resolved counts n usage sign (AnEntry e children (AnEntry d kids more)) h = h
+one_resolved counts n usage sign (AnEntry e children (AnEntry next beneath more)) h = h
