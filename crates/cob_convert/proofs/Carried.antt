@@ -21,7 +21,7 @@ use Rattle.cob_records.specs.declared.records.RecordFault.TheVariants.{Truncated
 use Rattle.cob_convert_record.specs.declared.misfit.MeasureFault.{MeasureFault}
 use Rattle.cob_convert_record.specs.Sizes.{IsSized, IsMeasureFault}
 use Rattle.cob_convert_record.specs.Becoming.{Becomes, StopsAt}
-use Rattle.cob_move.specs.Forests.{Tree}
+use Rattle.cob_move.specs.Forests.{Forest}
 use Rattle.cob_move.specs.Nodes.{Resolved}
 use Rattle.cob_move.specs.Storage.{IsStorage}
 use Rattle.cob_convert.specs.Run.{Ran, Ends, Remains, Reason, InRead, InLayout, InConversion, InWrite, offset_from, refusal_from, IsConverted, cause_from, frames_in, frames_out, most_records}
@@ -149,7 +149,7 @@ sized_of form size made room e h =
     rw (length-framed form (take made room), same) e
 
 -- a record of its layout is a storage of it
-pub storage_of_sized : (form : Form) (t : Tree Resolved) (input : List ℕ) → IsSized form t input → IsStorage t input
+pub storage_of_sized : (form : Form) (t : Forest Resolved) (input : List ℕ) → IsSized form t input → IsStorage t input
 storage_of_sized Fixed t input sized = inl sized
 storage_of_sized Variable t input sized = inr sized
 

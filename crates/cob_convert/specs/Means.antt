@@ -1,7 +1,7 @@
 -- What three texts mean, and why they are refused.
 use Rattle.std.specs.Prelude.{ℕ, List}
 use Rattle.cob_move.specs.Forests.{Forest}
-use Rattle.cob_move.specs.Nodes.{Resolved, alone}
+use Rattle.cob_move.specs.Nodes.{Resolved}
 use Rattle.cob_move.specs.Role.{Role}
 use Rattle.cob_move.specs.Role.TheVariants.{In, Out}
 use Rattle.cob_move.specs.Books.{IsBookOf, IsBookRefusal, IsMemory}
@@ -16,9 +16,9 @@ use Rattle.cob_convert.specs.declared.fault.PrepareFault.TheVariants.{InBook, Ou
 
 -- The texts say this conversion: the books describe its records, and the paragraph says its moves.
 pub record Means (in_book out_book moves : List ℕ) (conversion : Conversion) : Type 0 where
-  pub input : IsBookOf In in_book (alone conversion.records.input)
-  pub output : IsBookOf Out out_book (alone conversion.records.output)
-  pub paragraph : IsParagraphOf moves (alone conversion.records.input) (alone conversion.records.output) conversion.moves
+  pub input : IsBookOf In in_book conversion.records.input
+  pub output : IsBookOf Out out_book conversion.records.output
+  pub paragraph : IsParagraphOf moves conversion.records.input conversion.records.output conversion.moves
 
 -- the text is a book
 abbrev pub IsBook : Role → List ℕ → Type 0

@@ -1,7 +1,7 @@
 -- Bytes have one conversion: what is written, what is answered and where it stops are determined.
 use Rattle.std.specs.Prelude.{◌≡◌, ℕ, ◌<◌, ◌≤◌, List, Result}
 use Rattle.cob_limits.specs.Limits.{longest_record}
-use Rattle.cob_move.specs.Forests.{Tree}
+use Rattle.cob_move.specs.Forests.{Forest}
 use Rattle.cob_move.specs.Nodes.{Resolved}
 use Rattle.cob_move.specs.Storage.{greatest_length}
 use Rattle.cob_convert_record.specs.Conversion.{Conversion}
@@ -9,9 +9,9 @@ use Rattle.cob_convert_record.specs.declared.fault.RunFault.{RunFault}
 use Rattle.cob_convert.specs.Converted.{Converted}
 
 -- a record has from 1 to 32,752 bytes
-pub record HasBytes (t : Tree Resolved) : Type 0 where
-  pub some : 0 < greatest_length t
-  pub most : greatest_length t ≤ longest_record
+pub record HasBytes (tree : Forest Resolved) : Type 0 where
+  pub some : 0 < greatest_length tree
+  pub most : greatest_length tree ≤ longest_record
 
 -- two conversions of the same bytes have written the same bytes, have one answer and leave the same rest
 abbrev pub ConversionIsOne : Type 0

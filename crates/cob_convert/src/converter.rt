@@ -1,5 +1,4 @@
 ghost use Rattle.std.specs.Prelude.{◌≡◌, ◌≤◌, List, IfOk, IfErr, min, vec_len};
-ghost use Rattle.cob_move.specs.Nodes.{alone};
 ghost use Rattle.cob_move.specs.Prepared.{single_moves};
 ghost use Rattle.cob_records.specs.Device.{counted, Told};
 ghost use Rattle.cob_move.specs.Paragraphs.{IsParagraphOf};
@@ -59,8 +58,8 @@ fn conversion_of(
     moves: &[u8],
 ) -> Result<Conversion, PrepareFault>
     ensures forms { IfOk result (λ made. (made.in_form ≡ in_form) × (made.out_form ≡ out_form)) }
-    ensures input { IfOk result (λ made. alone made.records.input ≡ input.now) }
-    ensures output { IfOk result (λ made. alone made.records.output ≡ output.now) }
+    ensures input { IfOk result (λ made. made.records.input ≡ input.now) }
+    ensures output { IfOk result (λ made. made.records.output ≡ output.now) }
     ensures paragraph { IfOk result
         (λ made. IsParagraphOf moves.now input.now output.now made.moves) }
     ensures only { (ms : List Move) → IsParagraphOf moves.now input.now output.now ms

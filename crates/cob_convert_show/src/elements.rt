@@ -1,7 +1,6 @@
 //! The elements of a record that items have, and their places.
 
 ghost use Rattle.std.specs.Prelude.{◌≡◌, ◌≤◌, ◌+◌, length, IfErr, IfSome, is_err, true};
-ghost use Rattle.cob_convert_record.specs.Nodes.{alone};
 ghost use Rattle.cob_convert_record.specs.TreeLengths.{greatest_number, sum_of};
 ghost use Rattle.cob_records.specs.Device.{counted};
 ghost use Rattle.cob_records.specs.Frame.{is_write_error, is_write_fault};
@@ -35,7 +34,7 @@ pub(crate) fn place_of(
     number: usize,
     subscripts: &[u32],
 ) -> Option<Place>
-    ensures { IfSome result (λ p. p.offset + p.length ≤ sum_of greatest_number (alone layout.now)) }
+    ensures { IfSome result (λ p. p.offset + p.length ≤ sum_of greatest_number layout.now) }
 {
     let reference = layout.reference(number, subscripts)?;
     layout.place(&reference, counts).ok()
@@ -84,7 +83,7 @@ fn put_element<W: Sink>(
     named: Named,
     subscripts: &[u32],
 ) -> Result<(), RecordFault>
-    requires { length contents.bytes.now ≡ sum_of greatest_number (alone contents.layout.now) }
+    requires { length contents.bytes.now ≡ sum_of greatest_number contents.layout.now }
     ensures kind { IfErr result (λ fault. is_write_fault fault ≡ true) }
     ensures cause { W.failures w.new ≡ counted (is_err result) (W.failures w.old) }
     ensures errors { W.errors w.new ≡ counted (is_write_error result) (W.errors w.old) }
@@ -110,7 +109,7 @@ fn put_elements<W: Sink>(
     tables: &[Table],
     subscripts: &mut Subscripts,
 ) -> Result<(), RecordFault>
-    requires { length contents.bytes.now ≡ sum_of greatest_number (alone contents.layout.now) }
+    requires { length contents.bytes.now ≡ sum_of greatest_number contents.layout.now }
     ensures kind { IfErr result (λ fault. is_write_fault fault ≡ true) }
     ensures cause { W.failures w.new ≡ counted (is_err result) (W.failures w.old) }
     ensures errors { W.errors w.new ≡ counted (is_write_error result) (W.errors w.old) }
@@ -147,7 +146,7 @@ pub(crate) fn put_items<W: Sink>(
     entry: &Node,
     tables: &mut Tables,
 ) -> Result<(), RecordFault>
-    requires { length contents.bytes.now ≡ sum_of greatest_number (alone contents.layout.now) }
+    requires { length contents.bytes.now ≡ sum_of greatest_number contents.layout.now }
     ensures kind { IfErr result (λ fault. is_write_fault fault ≡ true) }
     ensures cause { W.failures w.new ≡ counted (is_err result) (W.failures w.old) }
     ensures errors { W.errors w.new ≡ counted (is_write_error result) (W.errors w.old) }

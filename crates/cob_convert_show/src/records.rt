@@ -1,7 +1,6 @@
 //! The records of a file.
 
 ghost use Rattle.std.specs.Prelude.{◌≡◌, length, IfErr, Err, is_err, true, false};
-ghost use Rattle.cob_convert_record.specs.Nodes.{alone};
 ghost use Rattle.cob_convert_record.specs.TreeLengths.{greatest_number, sum_of};
 ghost use Rattle.cob_convert_record.specs.Forests.{entries_in};
 ghost use Rattle.cob_records.specs.Device.{counted};
@@ -87,8 +86,8 @@ fn read_record<R: Source>(
     bytes: &mut [u8],
     counts: &mut Counts,
 ) -> Result<bool, Stop>
-    requires bytes { length bytes.old ≡ sum_of greatest_number (alone layout.now) }
-    requires counts { length counts.old ≡ entries_in (alone layout.now) }
+    requires bytes { length bytes.old ≡ sum_of greatest_number layout.now }
+    requires counts { length counts.old ≡ entries_in layout.now }
     ensures counts { length counts.new ≡ length counts.old }
     ensures stop { IfErr result (λ stop. IsStop stop.offset stop.cause) }
     ensures wrote { IfErr result (λ stop. is_write_cause stop.cause ≡ false) }
@@ -118,7 +117,7 @@ fn put_lines<W: Sink>(
     contents: Contents,
     root: &Node,
 ) -> Result<(), RecordFault>
-    requires { length contents.bytes.now ≡ sum_of greatest_number (alone contents.layout.now) }
+    requires { length contents.bytes.now ≡ sum_of greatest_number contents.layout.now }
     ensures kind { IfErr result (λ fault. is_write_fault fault ≡ true) }
     ensures cause { W.failures w.new ≡ counted (is_err result) (W.failures w.old) }
     ensures errors { W.errors w.new ≡ counted (is_write_error result) (W.errors w.old) }
@@ -156,8 +155,8 @@ fn show_records<R: Source, W: Sink>(
     r: &mut R,
     w: &mut W,
 ) -> Result<u64, ShowFault>
-    requires bytes { length bytes.old ≡ sum_of greatest_number (alone shown.layout.now) }
-    requires counts { length counts.old ≡ entries_in (alone shown.layout.now) }
+    requires bytes { length bytes.old ≡ sum_of greatest_number shown.layout.now }
+    requires counts { length counts.old ≡ entries_in shown.layout.now }
     ensures fault { IfErr result IsShowFault }
     ensures record { result ≡ Err Memory → ⊥ }
     ensures reads { R.failures r.new ≡ counted

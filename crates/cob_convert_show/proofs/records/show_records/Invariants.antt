@@ -1,14 +1,13 @@
 -- No call of either end has failed so far, and there is room for a record and its counts.
 use Rattle.std.proofs.Common.{◌≡◌, length}
-use Rattle.cob_convert_record.specs.Nodes.{alone}
 use Rattle.cob_convert_record.specs.Forests.{entries_in}
 use Rattle.cob_convert_record.specs.TreeLengths.{greatest_number, sum_of}
 use Rattle.cob_convert_show.proofs.records.show_records.Given as goal
 
 abbrev pub invariant-loop-done : goal.invariant-loop-done
 invariant-loop-done g l = record {
-  bytes : length l.bytes ≡ sum_of greatest_number (alone l.shown.layout.now);
-  counts : length l.counts ≡ entries_in (alone l.shown.layout.now);
+  bytes : length l.bytes ≡ sum_of greatest_number l.shown.layout.now;
+  counts : length l.counts ≡ entries_in l.shown.layout.now;
   reads : g.R.Source.failures l.r ≡ g.R.Source.failures l.fn.r;
   writes : g.W.Sink.failures l.w ≡ g.W.Sink.failures l.fn.w;
   errors : g.W.Sink.errors l.w ≡ g.W.Sink.errors l.fn.w;
