@@ -160,19 +160,19 @@ impl Converter {
 
     /// Converts the records of a source, one after another, up to its end or the first stop, and answers how
     /// many it converted. It takes no memory. After a stop the converter is as `prepare` left it.
-    pub fn run<R: Source, W: Sink>(&mut self, r: &mut R, w: &mut W) -> Result<u64, RunFault>
+    pub fn run<R: Source, W: Sink>(&mut self, source: &mut R, sink: &mut W) -> Result<u64, RunFault>
         // Where no call of an end failed and the source tells its bytes: what is written is the conversion of what came.
-        ensures headline { R.failures r.new ≡ R.failures r.old
-            → W.failures w.new ≡ W.failures w.old → Told (R.coming r.old) (R.coming r.new)
-            (λ bytes rest. Writes self.old result bytes rest (W.taken w.old) (W.taken w.new)) }
+        ensures headline { R.failures source.new ≡ R.failures source.old
+            → W.failures sink.new ≡ W.failures sink.old → Told (R.coming source.old) (R.coming source.new)
+            (λ bytes rest. Writes self.old result bytes rest (W.taken sink.old) (W.taken sink.new)) }
         // Also where a call failed: the records before the stop were converted, and nothing past its frame was read.
-        ensures ran { Told (R.coming r.old) (R.coming r.new) (λ bytes rest.
-            Ran self.old result bytes rest (W.taken w.old) (W.taken w.new)) }
+        ensures ran { Told (R.coming source.old) (R.coming source.new) (λ bytes rest.
+            Ran self.old result bytes rest (W.taken sink.old) (W.taken sink.new)) }
         // A read failed exactly where that is the answer (F5). A write failed or took nothing exactly where one of these is
         // (F6, F7), and it failed exactly where that is (F6).
-        ensures reads { R.failures r.new ≡ counted (is_read_stop result) (R.failures r.old) }
-        ensures writes { W.failures w.new ≡ counted (is_write_stop result) (W.failures w.old) }
-        ensures errors { W.errors w.new ≡ counted (is_write_error_stop result) (W.errors w.old) }
+        ensures reads { R.failures source.new ≡ counted (is_read_stop result) (R.failures source.old) }
+        ensures writes { W.failures sink.new ≡ counted (is_write_stop result) (W.failures sink.old) }
+        ensures errors { W.errors sink.new ≡ counted (is_write_error_stop result) (W.errors sink.old) }
         ensures same { self.new ≡ self.old }
     {
         run_over(
@@ -180,8 +180,8 @@ impl Converter {
             &mut self.input,
             &mut self.output,
             &mut self.room,
-            r,
-            w,
+            source,
+            sink,
         )
     }
 }

@@ -57,18 +57,18 @@ fn write_text(bytes: &[u8], text: &mut [u8])
 
 /// Writes digits, two for each byte, and says for how many bytes both went out. Where it is for none, one
 /// digit may have gone out alone.
-fn put_pairs<W: Sink>(w: &mut W, text: &[u8]) -> Result<usize, DeviceFault>
+fn put_pairs<W: Sink>(sink: &mut W, text: &[u8]) -> Result<usize, DeviceFault>
     requires { length text.now % 2 ≡ 0 }
     ensures count { IfOk result (λ n. 2 * n ≤ length text.now) }
-    ensures text { Took (W.taken w.old) (W.taken w.new) (PutsPairs text.now result) }
-    ensures cause { W.failures w.new ≡ counted (took_nothing result text.now) (W.failures w.old) }
-    ensures errors { W.errors w.new ≡ counted (is_err result) (W.errors w.old) }
+    ensures text { Took (W.taken sink.old) (W.taken sink.new) (PutsPairs text.now result) }
+    ensures cause { W.failures sink.new ≡ counted (took_nothing result text.now) (W.failures sink.old) }
+    ensures errors { W.errors sink.new ≡ counted (is_err result) (W.errors sink.old) }
 {
-    let went = w.write(text)?;
+    let went = sink.write(text)?;
     if went % 2 == 0 {
         return Ok(went / 2);
     }
-    match w.write(&text[went..went + 1])? {
+    match sink.write(&text[went..went + 1])? {
         0 => Ok(0),
         _ => Ok(went / 2 + 1),
     }

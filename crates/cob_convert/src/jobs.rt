@@ -135,7 +135,7 @@ impl JobFault {
 const PIECE: usize = 65_536;
 
 /// Reads a job, to just past its greatest length.
-fn read_job<R: Source>(alloc: Global, r: &mut R) -> Result<Vec<u8>, JobFault> {
+fn read_job<R: Source>(alloc: Global, source: &mut R) -> Result<Vec<u8>, JobFault> {
     let mut text = Vec::new(alloc);
     for _ in 0..=MAX_JOB_BYTES {
         let before = text.len();
@@ -143,7 +143,7 @@ fn read_job<R: Source>(alloc: Global, r: &mut R) -> Result<Vec<u8>, JobFault> {
             break;
         }
         text.resize(before + PIECE, 0u8)?;
-        let count = r.read(&mut text[before..])?;
+        let count = source.read(&mut text[before..])?;
         text.truncate(before + count);
         if count == 0 {
             break;
@@ -153,7 +153,7 @@ fn read_job<R: Source>(alloc: Global, r: &mut R) -> Result<Vec<u8>, JobFault> {
 }
 
 /// Converts the data of a job, and answers how many records there were.
-fn convert<W: Sink>(alloc: Global, text: &[u8], w: &mut HexSink<W>) -> Result<u64, JobFault> {
+fn convert<W: Sink>(alloc: Global, text: &[u8], sink: &mut HexSink<W>) -> Result<u64, JobFault> {
     if text.len() > MAX_JOB_BYTES {
         return Err(JobFault::Malformed { line: 0 });
     }
@@ -170,7 +170,7 @@ fn convert<W: Sink>(alloc: Global, text: &[u8], w: &mut HexSink<W>) -> Result<u6
         job.in_form,
         job.out_form,
     )?;
-    match converter.run(&mut MemSource::new(&data), w) {
+    match converter.run(&mut MemSource::new(&data), sink) {
         Ok(number) => Ok(number),
         Err(fault) => Err(JobFault::Stopped(fault)),
     }
@@ -180,23 +180,23 @@ fn convert<W: Sink>(alloc: Global, text: &[u8], w: &mut HexSink<W>) -> Result<u6
 const LINE: usize = 128;
 
 /// Writes a line of text.
-fn write_line<W: Sink>(w: &mut W, line: &ArrayString<LINE>) -> Result<(), RecordFault> {
+fn write_line<W: Sink>(sink: &mut W, line: &ArrayString<LINE>) -> Result<(), RecordFault> {
     if line.is_empty() {
         return Ok(());
     }
-    put_record(w, Form::Fixed, line.as_bytes())
+    put_record(sink, Form::Fixed, line.as_bytes())
 }
 
 /// Does a job: reads its text from the source, and writes to the sink the output's bytes as one line of capital
 /// hexadecimal digits, where there are some, and then `done` with the number of records, or what went wrong.
 /// The answer is the program's status.
-pub fn job<R: Source, W: Sink>(alloc: Global, r: &mut R, w: &mut W) -> u8 {
-    perform(alloc, r, w).code()
+pub fn job<R: Source, W: Sink>(alloc: Global, source: &mut R, sink: &mut W) -> u8 {
+    perform(alloc, source, sink).code()
 }
 
-fn perform<R: Source, W: Sink>(alloc: Global, r: &mut R, w: &mut W) -> Status {
-    let mut digits = HexSink::new(w);
-    let answer = match read_job(alloc, r) {
+fn perform<R: Source, W: Sink>(alloc: Global, source: &mut R, sink: &mut W) -> Status {
+    let mut digits = HexSink::new(sink);
+    let answer = match read_job(alloc, source) {
         Ok(text) => convert(alloc, &text, &mut digits),
         Err(fault) => Err(fault),
     };
@@ -208,7 +208,7 @@ fn perform<R: Source, W: Sink>(alloc: Global, r: &mut R, w: &mut W) -> Status {
         Err(fault) if fault.is_of_output() => return Status::Device,
         Err(fault) => (fault.status(), writeln!(line, "{end}{fault}")),
     };
-    if written.is_err() || write_line(w, &line).is_err() {
+    if written.is_err() || write_line(sink, &line).is_err() {
         return Status::Device;
     }
     status

@@ -75,18 +75,18 @@ fn stop_behind(done: u64, side: Side, offset: u32, cause: Cause, written: u64) -
 /// Reads the next input record.
 fn next_input<R: Source>(
     conversion: &Conversion,
-    r: &mut R,
+    source: &mut R,
     slot: &mut [u8],
 ) -> Result<Option<usize>, RecordFault>
     requires { length slot.old ≡ in_length conversion.now }
-    ensures frame { Told (R.coming r.old)
-        (R.coming r.new) (Reads conversion.now.in_form (in_length conversion.now) slot.new result) }
+    ensures frame { Told (R.coming source.old)
+        (R.coming source.new) (Reads conversion.now.in_form (in_length conversion.now) slot.new result) }
     ensures size { IfOk result
         (λ found. IfSome found (IsLength conversion.now.in_form (in_length conversion.now))) }
     ensures kind { IfErr result (λ fault. is_write_fault fault ≡ false) }
-    ensures cause { R.failures r.new ≡ counted (is_read_failure result) (R.failures r.old) }
+    ensures cause { R.failures source.new ≡ counted (is_read_failure result) (R.failures source.old) }
 {
-    next_record(r, conversion.in_form(), conversion.in_length(), slot)
+    next_record(source, conversion.in_form(), conversion.in_length(), slot)
 }
 
 /// Converts the records of a source, one after another, up to its end or the first stop.
@@ -96,24 +96,24 @@ pub fn run_over<R: Source, W: Sink>(
     input: &mut [u8],
     output: &mut [u8],
     room: &mut Room,
-    r: &mut R,
-    w: &mut W,
+    source: &mut R,
+    sink: &mut W,
 ) -> Result<u64, RunFault>
     requires input { length input.old ≡ in_length conversion.now }
     requires output { length output.old ≡ out_length conversion.now }
     requires room { room.old ≡ capacity_for conversion.now.records }
-    ensures ran { Told (R.coming r.old) (R.coming r.new) (λ bytes rest.
-        Ran conversion.now result bytes rest (W.taken w.old) (W.taken w.new)) }
-    ensures reads { R.failures r.new ≡ counted (is_read_stop result) (R.failures r.old) }
-    ensures writes { W.failures w.new ≡ counted (is_write_stop result) (W.failures w.old) }
-    ensures errors { W.errors w.new ≡ counted (is_write_error_stop result) (W.errors w.old) }
+    ensures ran { Told (R.coming source.old) (R.coming source.new) (λ bytes rest.
+        Ran conversion.now result bytes rest (W.taken sink.old) (W.taken sink.new)) }
+    ensures reads { R.failures source.new ≡ counted (is_read_stop result) (R.failures source.old) }
+    ensures writes { W.failures sink.new ≡ counted (is_write_stop result) (W.failures sink.old) }
+    ensures errors { W.errors sink.new ≡ counted (is_write_error_stop result) (W.errors sink.old) }
     ensures size { (length input.new ≡ length input.old) × (length output.new ≡ length output.old) }
     ensures room { room.new ≡ room.old }
 {
     let out_form = conversion.out_form();
     let mut written: u64 = 0;
     for done in 0..LIMIT {
-        let count = match next_input(conversion, r, input) {
+        let count = match next_input(conversion, source, input) {
             Ok(None) => return Ok(done),
             Ok(Some(count)) => count,
             Err(fault) => return Err(stop_behind(done, Side::In, 0, Cause::Record(fault), written)),
@@ -128,7 +128,7 @@ pub fn run_over<R: Source, W: Sink>(
                 return Err(stop_behind(done, stop.side, stop.offset, cause, written));
             }
         };
-        if let Err(fault) = put_record(w, out_form, &output[..made]) {
+        if let Err(fault) = put_record(sink, out_form, &output[..made]) {
             let sent = written.saturating_add(fault.taken() as u64);
             return Err(stop_behind(done, Side::Out, 0, Cause::Record(fault), sent));
         }
