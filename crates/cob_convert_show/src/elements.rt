@@ -57,27 +57,31 @@ struct Named<'a> {
 }
 
 /// Writes subscripts in brackets, parted by commas, where there are some.
-fn put_subscripts<W: Sink>(w: &mut W, sent: &mut u64, subscripts: &[u32]) -> Result<(), RecordFault>
+fn put_subscripts<W: Sink>(
+    sink: &mut W,
+    sent: &mut u64,
+    subscripts: &[u32],
+) -> Result<(), RecordFault>
     ensures kind { IfErr result (λ fault. is_write_fault fault ≡ true) }
-    ensures cause { W.failures w.new ≡ counted (is_err result) (W.failures w.old) }
-    ensures errors { W.errors w.new ≡ counted (is_write_error result) (W.errors w.old) }
+    ensures cause { W.failures sink.new ≡ counted (is_err result) (W.failures sink.old) }
+    ensures errors { W.errors sink.new ≡ counted (is_write_error result) (W.errors sink.old) }
 {
     let Some((first, others)) = subscripts.split_first() else {
         return Ok(());
     };
-    put(w, sent, b"(")?;
-    put_number(w, sent, u64::from(*first))?;
+    put(sink, sent, b"(")?;
+    put_number(sink, sent, u64::from(*first))?;
     for subscript in others {
-        put(w, sent, b",")?;
-        put_number(w, sent, u64::from(*subscript))?;
+        put(sink, sent, b",")?;
+        put_number(sink, sent, u64::from(*subscript))?;
     }
-    put(w, sent, b")")
+    put(sink, sent, b")")
 }
 
 /// Writes the line of one element of an item, where there is such an element: its name with its subscripts, its offset and its
 /// value.
 fn put_element<W: Sink>(
-    w: &mut W,
+    sink: &mut W,
     sent: &mut u64,
     contents: Contents,
     named: Named,
@@ -85,24 +89,24 @@ fn put_element<W: Sink>(
 ) -> Result<(), RecordFault>
     requires { length contents.bytes.now ≡ sum_of greatest_number contents.layout.now }
     ensures kind { IfErr result (λ fault. is_write_fault fault ≡ true) }
-    ensures cause { W.failures w.new ≡ counted (is_err result) (W.failures w.old) }
-    ensures errors { W.errors w.new ≡ counted (is_write_error result) (W.errors w.old) }
+    ensures cause { W.failures sink.new ≡ counted (is_err result) (W.failures sink.old) }
+    ensures errors { W.errors sink.new ≡ counted (is_write_error result) (W.errors sink.old) }
 {
     let Some(place) = place_of(contents.layout, contents.counts, named.number, subscripts) else {
         return Ok(());
     };
-    put(w, sent, named.name.as_bytes())?;
-    put_subscripts(w, sent, subscripts)?;
-    put_behind_space(w, sent, place.offset)?;
-    put(w, sent, b" ")?;
-    put_value(w, sent, named.item, field(contents.bytes, place))?;
-    put(w, sent, b"\n")
+    put(sink, sent, named.name.as_bytes())?;
+    put_subscripts(sink, sent, subscripts)?;
+    put_behind_space(sink, sent, place.offset)?;
+    put(sink, sent, b" ")?;
+    put_value(sink, sent, named.item, field(contents.bytes, place))?;
+    put(sink, sent, b"\n")
 }
 
 /// Writes the lines of the elements of an item, the last subscript the fastest: those with the subscripts that are handed in for the
 /// tables outside, and each one of the tables that are left.
 fn put_elements<W: Sink>(
-    w: &mut W,
+    sink: &mut W,
     sent: &mut u64,
     contents: Contents,
     named: Named,
@@ -111,11 +115,11 @@ fn put_elements<W: Sink>(
 ) -> Result<(), RecordFault>
     requires { length contents.bytes.now ≡ sum_of greatest_number contents.layout.now }
     ensures kind { IfErr result (λ fault. is_write_fault fault ≡ true) }
-    ensures cause { W.failures w.new ≡ counted (is_err result) (W.failures w.old) }
-    ensures errors { W.errors w.new ≡ counted (is_write_error result) (W.errors w.old) }
+    ensures cause { W.failures sink.new ≡ counted (is_err result) (W.failures sink.old) }
+    ensures errors { W.errors sink.new ≡ counted (is_write_error result) (W.errors sink.old) }
 {
     let Some((table, inner)) = tables.split_first() else {
-        return put_element(w, sent, contents, named, subscripts.as_slice());
+        return put_element(sink, sent, contents, named, subscripts.as_slice());
     };
     for subscript in 1..=table.most {
         if subscripts.try_push(subscript).is_err() {
@@ -132,7 +136,7 @@ fn put_elements<W: Sink>(
             subscripts.pop();
             return Ok(());
         }
-        put_elements(w, sent, contents, named, inner, subscripts)?;
+        put_elements(sink, sent, contents, named, inner, subscripts)?;
         subscripts.pop();
     }
     Ok(())
@@ -140,7 +144,7 @@ fn put_elements<W: Sink>(
 
 /// Writes the lines of the named elementary items among an entry and those beneath it. The tables are those that hold it.
 pub(crate) fn put_items<W: Sink>(
-    w: &mut W,
+    sink: &mut W,
     sent: &mut u64,
     contents: Contents,
     entry: &Node,
@@ -148,8 +152,8 @@ pub(crate) fn put_items<W: Sink>(
 ) -> Result<(), RecordFault>
     requires { length contents.bytes.now ≡ sum_of greatest_number contents.layout.now }
     ensures kind { IfErr result (λ fault. is_write_fault fault ≡ true) }
-    ensures cause { W.failures w.new ≡ counted (is_err result) (W.failures w.old) }
-    ensures errors { W.errors w.new ≡ counted (is_write_error result) (W.errors w.old) }
+    ensures cause { W.failures sink.new ≡ counted (is_err result) (W.failures sink.old) }
+    ensures errors { W.errors sink.new ≡ counted (is_write_error result) (W.errors sink.old) }
 {
     let table = is_table(entry.occurs);
     let own = Table {
@@ -166,10 +170,17 @@ pub(crate) fn put_items<W: Sink>(
             item,
         };
         let mut subscripts = Subscripts::new();
-        put_elements(w, sent, contents, named, tables.as_slice(), &mut subscripts)?;
+        put_elements(
+            sink,
+            sent,
+            contents,
+            named,
+            tables.as_slice(),
+            &mut subscripts,
+        )?;
     }
     for child in entry.children.iter() {
-        put_items(w, sent, contents, child, tables)?;
+        put_items(sink, sent, contents, child, tables)?;
     }
     if table {
         tables.pop();

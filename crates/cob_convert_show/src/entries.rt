@@ -65,57 +65,57 @@ fn entry_with(entry: &Node, number: usize) -> Option<&Node> {
 }
 
 /// Writes level and name of an entry.
-fn put_name<W: Sink>(w: &mut W, sent: &mut u64, entry: &Node) -> Result<(), RecordFault>
+fn put_name<W: Sink>(sink: &mut W, sent: &mut u64, entry: &Node) -> Result<(), RecordFault>
     ensures kind { IfErr result (λ fault. is_write_fault fault ≡ true) }
-    ensures cause { W.failures w.new ≡ counted (is_err result) (W.failures w.old) }
-    ensures errors { W.errors w.new ≡ counted (is_write_error result) (W.errors w.old) }
+    ensures cause { W.failures sink.new ≡ counted (is_err result) (W.failures sink.old) }
+    ensures errors { W.errors sink.new ≡ counted (is_write_error result) (W.errors sink.old) }
 {
     let level = [b'0' + entry.level / 10 % 10, b'0' + entry.level % 10, b' '];
-    put(w, sent, &level)?;
-    put(w, sent, name_text(&entry.name))
+    put(sink, sent, &level)?;
+    put(sink, sent, name_text(&entry.name))
 }
 
 /// Writes which entry it redefines, where it does.
 fn put_redefined<W: Sink>(
-    w: &mut W,
+    sink: &mut W,
     sent: &mut u64,
     redefines: &Option<Name>,
 ) -> Result<(), RecordFault>
     ensures kind { IfErr result (λ fault. is_write_fault fault ≡ true) }
-    ensures cause { W.failures w.new ≡ counted (is_err result) (W.failures w.old) }
-    ensures errors { W.errors w.new ≡ counted (is_write_error result) (W.errors w.old) }
+    ensures cause { W.failures sink.new ≡ counted (is_err result) (W.failures sink.old) }
+    ensures errors { W.errors sink.new ≡ counted (is_write_error result) (W.errors sink.old) }
 {
     if let Some(name) = redefines {
-        put(w, sent, b" redefines ")?;
-        put(w, sent, name.as_bytes())?;
+        put(sink, sent, b" redefines ")?;
+        put(sink, sent, name.as_bytes())?;
     }
     Ok(())
 }
 
 /// Writes how often it occurs, where it is a table: so many times, or from a least to a greatest number by the item that counts.
 fn put_occurs<W: Sink>(
-    w: &mut W,
+    sink: &mut W,
     sent: &mut u64,
     root: &Node,
     occurs: ResolvedOccurs,
 ) -> Result<(), RecordFault>
     ensures kind { IfErr result (λ fault. is_write_fault fault ≡ true) }
-    ensures cause { W.failures w.new ≡ counted (is_err result) (W.failures w.old) }
-    ensures errors { W.errors w.new ≡ counted (is_write_error result) (W.errors w.old) }
+    ensures cause { W.failures sink.new ≡ counted (is_err result) (W.failures sink.old) }
+    ensures errors { W.errors sink.new ≡ counted (is_write_error result) (W.errors sink.old) }
 {
     match occurs {
         ResolvedOccurs::Once => Ok(()),
         ResolvedOccurs::Fixed(times) => {
-            put(w, sent, b" occurs")?;
-            put_behind_space(w, sent, times)
+            put(sink, sent, b" occurs")?;
+            put_behind_space(sink, sent, times)
         }
         ResolvedOccurs::Varying { least, most, count } => {
-            put(w, sent, b" occurs")?;
-            put_behind_space(w, sent, least)?;
-            put_behind_space(w, sent, most)?;
-            put(w, sent, b" on ")?;
+            put(sink, sent, b" occurs")?;
+            put_behind_space(sink, sent, least)?;
+            put_behind_space(sink, sent, most)?;
+            put(sink, sent, b" on ")?;
             match entry_with(root, count) {
-                Some(counting) => put(w, sent, name_text(&counting.name)),
+                Some(counting) => put(sink, sent, name_text(&counting.name)),
                 None => Ok(()),
             }
         }
@@ -124,29 +124,29 @@ fn put_occurs<W: Sink>(
 
 /// Writes the line of an entry whose first element has this place.
 fn put_entry<W: Sink>(
-    w: &mut W,
+    sink: &mut W,
     sent: &mut u64,
     root: &Node,
     entry: &Node,
     place: Place,
 ) -> Result<(), RecordFault>
     ensures kind { IfErr result (λ fault. is_write_fault fault ≡ true) }
-    ensures cause { W.failures w.new ≡ counted (is_err result) (W.failures w.old) }
-    ensures errors { W.errors w.new ≡ counted (is_write_error result) (W.errors w.old) }
+    ensures cause { W.failures sink.new ≡ counted (is_err result) (W.failures sink.old) }
+    ensures errors { W.errors sink.new ≡ counted (is_write_error result) (W.errors sink.old) }
 {
-    put_name(w, sent, entry)?;
-    put_behind_space(w, sent, place.offset)?;
-    put_behind_space(w, sent, place.length)?;
-    put(w, sent, b" ")?;
-    put(w, sent, kind_word(&entry.kind).as_bytes())?;
-    put_redefined(w, sent, &entry.redefines)?;
-    put_occurs(w, sent, root, entry.occurs)?;
-    put(w, sent, b"\n")
+    put_name(sink, sent, entry)?;
+    put_behind_space(sink, sent, place.offset)?;
+    put_behind_space(sink, sent, place.length)?;
+    put(sink, sent, b" ")?;
+    put(sink, sent, kind_word(&entry.kind).as_bytes())?;
+    put_redefined(sink, sent, &entry.redefines)?;
+    put_occurs(sink, sent, root, entry.occurs)?;
+    put(sink, sent, b"\n")
 }
 
 /// Writes the lines of an entry and of those beneath it. The tables that hold it have the subscripts that are handed in.
 fn put_entries<W: Sink>(
-    w: &mut W,
+    sink: &mut W,
     sent: &mut u64,
     layout: &Layout,
     root: &Node,
@@ -154,8 +154,8 @@ fn put_entries<W: Sink>(
     first: &mut Subscripts,
 ) -> Result<(), RecordFault>
     ensures kind { IfErr result (λ fault. is_write_fault fault ≡ true) }
-    ensures cause { W.failures w.new ≡ counted (is_err result) (W.failures w.old) }
-    ensures errors { W.errors w.new ≡ counted (is_write_error result) (W.errors w.old) }
+    ensures cause { W.failures sink.new ≡ counted (is_err result) (W.failures sink.old) }
+    ensures errors { W.errors sink.new ≡ counted (is_write_error result) (W.errors sink.old) }
 {
     let table = is_table(entry.occurs);
     if table && first.try_push(1).is_err() {
@@ -163,10 +163,10 @@ fn put_entries<W: Sink>(
     }
     let counts = layout.greatest_counts();
     if let Some(place) = place_of(layout, counts, entry.number, first.as_slice()) {
-        put_entry(w, sent, root, entry, place)?;
+        put_entry(sink, sent, root, entry, place)?;
     }
     for child in entry.children.iter() {
-        put_entries(w, sent, layout, root, child, first)?;
+        put_entries(sink, sent, layout, root, child, first)?;
     }
     if table {
         first.pop();
@@ -199,14 +199,14 @@ fn fault_after(fault: RecordFault, sent: u64) -> RecordFault
 /// # Errors
 ///
 /// The fault of the sink, with the number of bytes that it took in this call.
-pub fn layout_text<W: Sink>(book: &Book, layout: &Layout, w: &mut W) -> Result<(), RecordFault>
+pub fn layout_text<W: Sink>(book: &Book, layout: &Layout, sink: &mut W) -> Result<(), RecordFault>
     ensures kind { IfErr result (λ fault. is_write_fault fault ≡ true) }
-    ensures cause { W.failures w.new ≡ counted (is_err result) (W.failures w.old) }
-    ensures errors { W.errors w.new ≡ counted (is_write_error result) (W.errors w.old) }
+    ensures cause { W.failures sink.new ≡ counted (is_err result) (W.failures sink.old) }
+    ensures errors { W.errors sink.new ≡ counted (is_write_error result) (W.errors sink.old) }
 {
     let root = book.root();
     let mut sent = 0;
-    match put_entries(w, &mut sent, layout, root, root, &mut Subscripts::new()) {
+    match put_entries(sink, &mut sent, layout, root, root, &mut Subscripts::new()) {
         Ok(()) => Ok(()),
         Err(fault) => Err(fault_after(fault, sent)),
     }

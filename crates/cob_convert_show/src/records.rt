@@ -82,7 +82,7 @@ fn count_stop(fault: CountFault) -> Stop
 fn read_record<R: Source>(
     layout: &Layout,
     form: Form,
-    r: &mut R,
+    source: &mut R,
     bytes: &mut [u8],
     counts: &mut Counts,
 ) -> Result<bool, Stop>
@@ -92,10 +92,10 @@ fn read_record<R: Source>(
     ensures stop { IfErr result (λ stop. IsStop stop.offset stop.cause) }
     ensures wrote { IfErr result (λ stop. is_write_cause stop.cause ≡ false) }
     ensures errors { IfErr result (λ stop. is_error_cause stop.cause ≡ false) }
-    ensures reads { R.failures r.new ≡ counted
-        (refused_by is_read_cause result) (R.failures r.old) }
+    ensures reads { R.failures source.new ≡ counted
+        (refused_by is_read_cause result) (R.failures source.old) }
 {
-    let count = match next_record(r, form, layout.greatest(), bytes) {
+    let count = match next_record(source, form, layout.greatest(), bytes) {
         Ok(None) => return Ok(false),
         Ok(Some(count)) => count,
         Err(fault) => return Err(frame_stop(fault)),
@@ -111,7 +111,7 @@ fn read_record<R: Source>(
 
 /// Writes the lines of a record, the one with its number first.
 fn put_lines<W: Sink>(
-    w: &mut W,
+    sink: &mut W,
     sent: &mut u64,
     number: u64,
     contents: Contents,
@@ -119,13 +119,13 @@ fn put_lines<W: Sink>(
 ) -> Result<(), RecordFault>
     requires { length contents.bytes.now ≡ sum_of greatest_number contents.layout.now }
     ensures kind { IfErr result (λ fault. is_write_fault fault ≡ true) }
-    ensures cause { W.failures w.new ≡ counted (is_err result) (W.failures w.old) }
-    ensures errors { W.errors w.new ≡ counted (is_write_error result) (W.errors w.old) }
+    ensures cause { W.failures sink.new ≡ counted (is_err result) (W.failures sink.old) }
+    ensures errors { W.errors sink.new ≡ counted (is_write_error result) (W.errors sink.old) }
 {
-    put(w, sent, b"record ")?;
-    put_number(w, sent, number)?;
-    put(w, sent, b"\n")?;
-    put_items(w, sent, contents, root, &mut Tables::new())
+    put(sink, sent, b"record ")?;
+    put_number(sink, sent, number)?;
+    put(sink, sent, b"\n")?;
+    put_items(sink, sent, contents, root, &mut Tables::new())
 }
 
 /// The fault of a record that stopped it.
@@ -152,23 +152,23 @@ fn show_records<R: Source, W: Sink>(
     shown: Shown,
     bytes: &mut [u8],
     counts: &mut Counts,
-    r: &mut R,
-    w: &mut W,
+    source: &mut R,
+    sink: &mut W,
 ) -> Result<u64, ShowFault>
     requires bytes { length bytes.old ≡ sum_of greatest_number shown.layout.now }
     requires counts { length counts.old ≡ entries_in shown.layout.now }
     ensures fault { IfErr result IsShowFault }
     ensures record { result ≡ Err Memory → ⊥ }
-    ensures reads { R.failures r.new ≡ counted
-        (stopped_by is_read_cause result) (R.failures r.old) }
-    ensures writes { W.failures w.new ≡ counted
-        (stopped_by is_write_cause result) (W.failures w.old) }
-    ensures errors { W.errors w.new ≡ counted
-        (stopped_by is_error_cause result) (W.errors w.old) }
+    ensures reads { R.failures source.new ≡ counted
+        (stopped_by is_read_cause result) (R.failures source.old) }
+    ensures writes { W.failures sink.new ≡ counted
+        (stopped_by is_write_cause result) (W.failures sink.old) }
+    ensures errors { W.errors sink.new ≡ counted
+        (stopped_by is_error_cause result) (W.errors sink.old) }
 {
     let mut written: u64 = 0;
     for done in 0..LIMIT {
-        match read_record(shown.layout, shown.form, r, bytes, counts) {
+        match read_record(shown.layout, shown.form, source, bytes, counts) {
             Ok(false) => return Ok(done),
             Ok(true) => {}
             Err(Stop { offset, cause }) => {
@@ -180,7 +180,7 @@ fn show_records<R: Source, W: Sink>(
             counts,
             bytes,
         };
-        if let Err(fault) = put_lines(w, &mut written, done + 1, contents, shown.root) {
+        if let Err(fault) = put_lines(sink, &mut written, done + 1, contents, shown.root) {
             return Err(stop_at(done + 1, Side::Out, 0, Cause::Record(fault), written));
         }
     }
@@ -203,21 +203,21 @@ pub fn show<R: Source, W: Sink>(
     book: &Book,
     layout: &Layout,
     form: Form,
-    r: &mut R,
-    w: &mut W,
+    source: &mut R,
+    sink: &mut W,
 ) -> Result<u64, ShowFault>
     // A stop names a record, and is one of a count, of a frame, or of the number of records.
     ensures fault { IfErr result IsShowFault }
     // Where memory is refused nothing was read or written.
     ensures memory { result ≡ Err Memory
-        → (R.coming r.new ≡ R.coming r.old) × (W.taken w.new ≡ W.taken w.old) }
+        → (R.coming source.new ≡ R.coming source.old) × (W.taken sink.new ≡ W.taken sink.old) }
     // A read failed, a write failed or took nothing, and a write failed, exactly where the answer says so.
-    ensures reads { R.failures r.new ≡ counted
-        (stopped_by is_read_cause result) (R.failures r.old) }
-    ensures writes { W.failures w.new ≡ counted
-        (stopped_by is_write_cause result) (W.failures w.old) }
-    ensures errors { W.errors w.new ≡ counted
-        (stopped_by is_error_cause result) (W.errors w.old) }
+    ensures reads { R.failures source.new ≡ counted
+        (stopped_by is_read_cause result) (R.failures source.old) }
+    ensures writes { W.failures sink.new ≡ counted
+        (stopped_by is_write_cause result) (W.failures sink.old) }
+    ensures errors { W.errors sink.new ≡ counted
+        (stopped_by is_error_cause result) (W.errors sink.old) }
 {
     let mut bytes = vec![in alloc; 0u8; usize::from(layout.greatest())]?;
     let mut counts = layout.new_counts(alloc)?;
@@ -226,5 +226,5 @@ pub fn show<R: Source, W: Sink>(
         layout,
         form,
     };
-    show_records(shown, &mut bytes, &mut counts, r, w)
+    show_records(shown, &mut bytes, &mut counts, source, sink)
 }

@@ -9,16 +9,16 @@ use cob_records::{Form, RecordFault, Sink, put_record};
 use itoa::Buffer;
 
 /// Writes a text, all of it. To what was sent so far it adds how many bytes the sink took, up to the greatest number.
-pub(crate) fn put<W: Sink>(w: &mut W, sent: &mut u64, text: &[u8]) -> Result<(), RecordFault>
+pub(crate) fn put<W: Sink>(sink: &mut W, sent: &mut u64, text: &[u8]) -> Result<(), RecordFault>
     requires { length text.now ≤ longest_record }
     ensures kind { IfErr result (λ fault. is_write_fault fault ≡ true) }
-    ensures cause { W.failures w.new ≡ counted (is_err result) (W.failures w.old) }
-    ensures errors { W.errors w.new ≡ counted (is_write_error result) (W.errors w.old) }
+    ensures cause { W.failures sink.new ≡ counted (is_err result) (W.failures sink.old) }
+    ensures errors { W.errors sink.new ≡ counted (is_write_error result) (W.errors sink.old) }
 {
     if text.is_empty() {
         return Ok(());
     }
-    let answer = put_record(w, Form::Fixed, text);
+    let answer = put_record(sink, Form::Fixed, text);
     let taken = match answer {
         Ok(()) => text.len(),
         Err(fault) => fault.taken(),
@@ -28,25 +28,29 @@ pub(crate) fn put<W: Sink>(w: &mut W, sent: &mut u64, text: &[u8]) -> Result<(),
 }
 
 /// Writes a number in decimal digits.
-pub(crate) fn put_number<W: Sink>(w: &mut W, sent: &mut u64, number: u64) -> Result<(), RecordFault>
+pub(crate) fn put_number<W: Sink>(
+    sink: &mut W,
+    sent: &mut u64,
+    number: u64,
+) -> Result<(), RecordFault>
     ensures kind { IfErr result (λ fault. is_write_fault fault ≡ true) }
-    ensures cause { W.failures w.new ≡ counted (is_err result) (W.failures w.old) }
-    ensures errors { W.errors w.new ≡ counted (is_write_error result) (W.errors w.old) }
+    ensures cause { W.failures sink.new ≡ counted (is_err result) (W.failures sink.old) }
+    ensures errors { W.errors sink.new ≡ counted (is_write_error result) (W.errors sink.old) }
 {
     let mut buffer = Buffer::new();
-    put(w, sent, buffer.format(number).as_bytes())
+    put(sink, sent, buffer.format(number).as_bytes())
 }
 
 /// Writes a space and a number.
 pub(crate) fn put_behind_space<W: Sink>(
-    w: &mut W,
+    sink: &mut W,
     sent: &mut u64,
     number: u32,
 ) -> Result<(), RecordFault>
     ensures kind { IfErr result (λ fault. is_write_fault fault ≡ true) }
-    ensures cause { W.failures w.new ≡ counted (is_err result) (W.failures w.old) }
-    ensures errors { W.errors w.new ≡ counted (is_write_error result) (W.errors w.old) }
+    ensures cause { W.failures sink.new ≡ counted (is_err result) (W.failures sink.old) }
+    ensures errors { W.errors sink.new ≡ counted (is_write_error result) (W.errors sink.old) }
 {
-    put(w, sent, b" ")?;
-    put_number(w, sent, u64::from(number))
+    put(sink, sent, b" ")?;
+    put_number(sink, sent, u64::from(number))
 }

@@ -90,47 +90,47 @@ fn number_text(item: &Item, bytes: &[u8]) -> Option<ArrayVec<u8, 64>>
 }
 
 /// Writes bytes as characters, in quotation marks.
-fn put_characters<W: Sink>(w: &mut W, sent: &mut u64, bytes: &[u8]) -> Result<(), RecordFault>
+fn put_characters<W: Sink>(sink: &mut W, sent: &mut u64, bytes: &[u8]) -> Result<(), RecordFault>
     ensures kind { IfErr result (λ fault. is_write_fault fault ≡ true) }
-    ensures cause { W.failures w.new ≡ counted (is_err result) (W.failures w.old) }
-    ensures errors { W.errors w.new ≡ counted (is_write_error result) (W.errors w.old) }
+    ensures cause { W.failures sink.new ≡ counted (is_err result) (W.failures sink.old) }
+    ensures errors { W.errors sink.new ≡ counted (is_write_error result) (W.errors sink.old) }
 {
-    put(w, sent, b"\"")?;
+    put(sink, sent, b"\"")?;
     for byte in bytes {
-        put(w, sent, shown_byte(*byte).as_slice())?;
+        put(sink, sent, shown_byte(*byte).as_slice())?;
     }
-    put(w, sent, b"\"")
+    put(sink, sent, b"\"")
 }
 
 /// Writes bytes that represent no number: a question mark and their hexadecimal digits.
-fn put_unknown<W: Sink>(w: &mut W, sent: &mut u64, bytes: &[u8]) -> Result<(), RecordFault>
+fn put_unknown<W: Sink>(sink: &mut W, sent: &mut u64, bytes: &[u8]) -> Result<(), RecordFault>
     ensures kind { IfErr result (λ fault. is_write_fault fault ≡ true) }
-    ensures cause { W.failures w.new ≡ counted (is_err result) (W.failures w.old) }
-    ensures errors { W.errors w.new ≡ counted (is_write_error result) (W.errors w.old) }
+    ensures cause { W.failures sink.new ≡ counted (is_err result) (W.failures sink.old) }
+    ensures errors { W.errors sink.new ≡ counted (is_write_error result) (W.errors sink.old) }
 {
-    put(w, sent, b"?")?;
+    put(sink, sent, b"?")?;
     for byte in bytes {
-        put(w, sent, &[digit(*byte / 16), digit(*byte % 16)])?;
+        put(sink, sent, &[digit(*byte / 16), digit(*byte % 16)])?;
     }
     Ok(())
 }
 
 /// Writes the value of an item with these bytes: a number, `?` and the bytes of a number item that represent none, or characters.
 pub(crate) fn put_value<W: Sink>(
-    w: &mut W,
+    sink: &mut W,
     sent: &mut u64,
     item: &Item,
     bytes: &[u8],
 ) -> Result<(), RecordFault>
     ensures kind { IfErr result (λ fault. is_write_fault fault ≡ true) }
-    ensures cause { W.failures w.new ≡ counted (is_err result) (W.failures w.old) }
-    ensures errors { W.errors w.new ≡ counted (is_write_error result) (W.errors w.old) }
+    ensures cause { W.failures sink.new ≡ counted (is_err result) (W.failures sink.old) }
+    ensures errors { W.errors sink.new ≡ counted (is_write_error result) (W.errors sink.old) }
 {
     if !is_number_item(item) || bytes.len() != usize::from(item.size()) {
-        return put_characters(w, sent, bytes);
+        return put_characters(sink, sent, bytes);
     }
     match number_text(item, bytes) {
-        Some(text) => put(w, sent, text.as_slice()),
-        None => put_unknown(w, sent, bytes),
+        Some(text) => put(sink, sent, text.as_slice()),
+        None => put_unknown(sink, sent, bytes),
     }
 }

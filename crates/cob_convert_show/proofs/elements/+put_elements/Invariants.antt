@@ -7,6 +7,6 @@ decreases-put_elements g l = length l.tables.now
 
 abbrev pub invariant-loop-subscript : goal.invariant-loop-subscript
 invariant-loop-subscript g l = record {
-  writes : g.W.Sink.failures l.w ≡ g.W.Sink.failures l.fn.w;
-  errors : g.W.Sink.errors l.w ≡ g.W.Sink.errors l.fn.w;
+  writes : g.W.Sink.failures l.sink ≡ g.W.Sink.failures l.fn.sink;
+  errors : g.W.Sink.errors l.sink ≡ g.W.Sink.errors l.fn.sink;
 }

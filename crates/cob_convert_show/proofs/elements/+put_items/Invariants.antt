@@ -4,6 +4,6 @@ use Rattle.cob_convert_show.proofs.elements.+put_items.Given as goal
 
 abbrev pub invariant-loop-child : goal.invariant-loop-child
 invariant-loop-child g l = record {
-  writes : g.W.Sink.failures l.w ≡ g.W.Sink.failures l.fn.w;
-  errors : g.W.Sink.errors l.w ≡ g.W.Sink.errors l.fn.w;
+  writes : g.W.Sink.failures l.sink ≡ g.W.Sink.failures l.fn.sink;
+  errors : g.W.Sink.errors l.sink ≡ g.W.Sink.errors l.fn.sink;
 }

@@ -8,7 +8,7 @@ abbrev pub invariant-loop-done : goal.invariant-loop-done
 invariant-loop-done g l = record {
   bytes : length l.bytes ≡ sum_of greatest_number l.shown.layout.now;
   counts : length l.counts ≡ entries_in l.shown.layout.now;
-  reads : g.R.Source.failures l.r ≡ g.R.Source.failures l.fn.r;
-  writes : g.W.Sink.failures l.w ≡ g.W.Sink.failures l.fn.w;
-  errors : g.W.Sink.errors l.w ≡ g.W.Sink.errors l.fn.w;
+  reads : g.R.Source.failures l.source ≡ g.R.Source.failures l.fn.source;
+  writes : g.W.Sink.failures l.sink ≡ g.W.Sink.failures l.fn.sink;
+  errors : g.W.Sink.errors l.sink ≡ g.W.Sink.errors l.fn.sink;
 }

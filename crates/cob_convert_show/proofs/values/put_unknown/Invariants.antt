@@ -4,6 +4,6 @@ use Rattle.cob_convert_show.proofs.values.put_unknown.Given as goal
 
 abbrev pub invariant-loop-byte : goal.invariant-loop-byte
 invariant-loop-byte g l = record {
-  writes : g.W.Sink.failures l.w ≡ g.W.Sink.failures l.fn.w;
-  errors : g.W.Sink.errors l.w ≡ g.W.Sink.errors l.fn.w;
+  writes : g.W.Sink.failures l.sink ≡ g.W.Sink.failures l.fn.sink;
+  errors : g.W.Sink.errors l.sink ≡ g.W.Sink.errors l.fn.sink;
 }
