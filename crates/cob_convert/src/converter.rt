@@ -170,9 +170,12 @@ impl Converter {
             Ran self.old result bytes rest (W.taken sink.old) (W.taken sink.new)) }
         // A read failed exactly where that is the answer (F5). A write failed or took nothing exactly where one of these is
         // (F6, F7), and it failed exactly where that is (F6).
-        ensures reads { R.failures source.new ≡ counted (is_read_stop result) (R.failures source.old) }
-        ensures writes { W.failures sink.new ≡ counted (is_write_stop result) (W.failures sink.old) }
-        ensures errors { W.errors sink.new ≡ counted (is_write_error_stop result) (W.errors sink.old) }
+        ensures reads { R.failures source.new
+            ≡ counted (is_read_stop result) (R.failures source.old) }
+        ensures writes { W.failures sink.new
+            ≡ counted (is_write_stop result) (W.failures sink.old) }
+        ensures errors { W.errors sink.new
+            ≡ counted (is_write_error_stop result) (W.errors sink.old) }
         ensures same { self.new ≡ self.old }
     {
         run_over(

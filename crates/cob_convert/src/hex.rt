@@ -61,7 +61,8 @@ fn put_pairs<W: Sink>(sink: &mut W, text: &[u8]) -> Result<usize, DeviceFault>
     requires { length text.now % 2 ≡ 0 }
     ensures count { IfOk result (λ n. 2 * n ≤ length text.now) }
     ensures text { Took (W.taken sink.old) (W.taken sink.new) (PutsPairs text.now result) }
-    ensures cause { W.failures sink.new ≡ counted (took_nothing result text.now) (W.failures sink.old) }
+    ensures cause { W.failures sink.new
+        ≡ counted (took_nothing result text.now) (W.failures sink.old) }
     ensures errors { W.errors sink.new ≡ counted (is_err result) (W.errors sink.old) }
 {
     let went = sink.write(text)?;

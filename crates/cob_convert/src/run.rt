@@ -84,7 +84,8 @@ fn next_input<R: Source>(
     ensures size { IfOk result
         (λ found. IfSome found (IsLength conversion.now.in_form (in_length conversion.now))) }
     ensures kind { IfErr result (λ fault. is_write_fault fault ≡ false) }
-    ensures cause { R.failures source.new ≡ counted (is_read_failure result) (R.failures source.old) }
+    ensures cause { R.failures source.new
+        ≡ counted (is_read_failure result) (R.failures source.old) }
 {
     next_record(source, conversion.in_form(), conversion.in_length(), slot)
 }

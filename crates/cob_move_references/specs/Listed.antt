@@ -9,12 +9,12 @@ use Rattle.cob_move_references.specs.declared.candidate.RecordEntry.{RecordEntry
 use Rattle.cob_move_references.specs.Candidates.{Candidate, RecordEntry}
 
 -- What is known of a listed entry.
-abbrev pub known_entry : ListedEntry → RecordEntry
-known_entry e = record { side = e.side; number = (out-Node e.entry.now).number; tables = e.tables.items; kind = (out-Node e.entry.now).kind }
+abbrev pub listed_record_entry : ListedEntry → RecordEntry
+listed_record_entry e = record { side = e.side; number = (out-Node e.entry.now).number; tables = e.tables.items; kind = (out-Node e.entry.now).kind }
 
 -- A listed entry, with its names.
 abbrev pub candidate_of : Listed ListedEntry → Candidate
-candidate_of b = bearer_by known_entry b
+candidate_of b = bearer_by listed_record_entry b
 
 -- No entry stands in more tables than may stand within one another.
 abbrev pub AreShallow : List Candidate → Type 0
