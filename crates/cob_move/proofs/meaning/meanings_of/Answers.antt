@@ -9,7 +9,7 @@ use Rattle.cob_move.proofs.meaning.meanings_of.Goals as goal
 
 pub returns-in_err-own-clause-fault : goal.returns-in_err-own-clause-fault
 returns-in_err-own-clause-fault c =
-    let p = err_from_is_err_and c.from_residual.result c.from_residual.ensures.1 in
+    let p = err_from_is_err_and c.from_residual-in_err-own.result c.from_residual-in_err-own.ensures.1 in
     rw (p.1, p.2)
     (inr (c.loop-statement.invariant.broken c.in_err-own.field-0.0
     (some_here written_statement (BreaksOn c.in_err-own.field-0.0 (entries_named c.args.names.now) c.args.input.now c.args.output.now) c.args.statements.now c.loop-statement.statement-index

@@ -13,7 +13,7 @@ use Rattle.cob_move.proofs.single.receivers_of.Goals as goal
 
 pub returns-in_err-receiver-clause-fault : goal.returns-in_err-receiver-clause-fault
 returns-in_err-receiver-clause-fault c =
-    let p = err_from_is_err_and c.from_residual.result c.from_residual.ensures.1 in
+    let p = err_from_is_err_and c.from_residual-in_err-receiver.result c.from_residual-in_err-receiver.ensures.1 in
     rw (p.1, p.2)
     (inr (c.loop-reference.invariant.broken c.in_err-receiver.field-0.0
     (some_here written_reference (BreaksReceipt c.in_err-receiver.field-0.0 (entries_named c.args.names.now) (sender c.args.from.now)) c.args.references.now c.loop-reference.reference-index
