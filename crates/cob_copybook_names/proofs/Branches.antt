@@ -1,5 +1,5 @@
 -- The forest of a list of branches.
-use Rattle.std.proofs.Common.{◌≡◌, ℕ, ◌+◌, ◌<◌, Bool, ◌||◌, is_some, List, [], ◌∷◌, ◌++◌, length, drop, get_or, sym, ap, ◌∙◌, append_assoc}
+use Rattle.std.proofs.Common.{◌≡◌, ℕ, zero, suc, ◌+◌, ◌<◌, ◌≤◌, Bool, ◌||◌, is_some, List, [], ◌∷◌, ◌++◌, length, drop, get_or, sym, ap, ◌∙◌, append_assoc, arith}
 use Rattle.std.proofs.lemmas.List.{at_drop_more}
 use Rattle.cob_copybook_tree.specs.Described.{PlainEntry, plain_entry}
 use Rattle.cob_copybook_tree.specs.declared.branch.Branch.{Branch}
@@ -17,6 +17,12 @@ branch_out b = fold_out-Branch (Tree PlainEntry) branch_step b
 pub forest_at : (bs : List Branch) (i : ℕ) (b : Branch) → i < length bs → b ≡ get_or bs i b
     → forest_of (drop i bs) ≡ AnEntry (plain_entry (out-Branch b).entry) (forest_of (out-Branch b).children.items) (forest_of (drop (i + 1) bs))
 forest_at bs i b lt is = at_drop_more forest_of bs i b lt ∙ ap (λ (t : Tree PlainEntry). AnEntry t.top t.beneath (forest_of (drop (i + 1) bs))) (ap branch (sym is) ∙ branch_out b)
+
+-- the branches from a place on have no more entries than all
+pub fewer_left : (bs : List Branch) (i : ℕ) → entries_in (forest_of (drop i bs)) ≤ entries_in (forest_of bs)
+fewer_left bs zero = omega arith
+fewer_left [] (suc i) = omega arith
+fewer_left (b ∷ bs) (suc i) = let left = fewer_left bs i in omega (arith, left)
 
 -- an item and those beneath it go from what is left to what is done
 pub regroup : {A : Type 0} (all m m1 m2 k r : List A) (b : A) → all ≡ m ++ (b ∷ (k ++ r)) → m1 ≡ m ++ b ∷ [] → m2 ≡ m1 ++ k → all ≡ m2 ++ r

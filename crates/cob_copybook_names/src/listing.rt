@@ -1,8 +1,9 @@
-ghost use Rattle.std.specs.Prelude.{◌≡◌, ℕ, ◌+◌, ◌≤◌, List, [], ◌∷◌, ◌++◌, map, length, OnOk, Bool, ◌||◌, is_some};
+ghost use Rattle.std.specs.Prelude.{◌≡◌, ℕ, ◌+◌, ◌≤◌, List, [], ◌∷◌, ◌++◌, map, length, IfOk, OnOk, Bool, ◌||◌, is_some};
 ghost use Rattle.cob_copybook_tree.specs.Described.{plain_entry};
 ghost use Rattle.cob_copybook_tree.specs.Forests.{flat, entries_in};
 ghost use Rattle.cob_copybook_tree.specs.Branches.{forest_of};
 ghost use Rattle.cob_copybook_names.specs.Listed.{texts};
+ghost use Rattle.cob_copybook_names.specs.Naming.{with_name};
 ghost use Rattle.cob_copybook_names.specs.Entries.{bearer_at, bearer_of, bearers, entry_of};
 
 use crate::bearer::{Bearer, name_of, names_beneath};
@@ -26,14 +27,16 @@ fn is_in_table(above: bool, entry: &Entry) -> bool
     above || entry.occurs.is_some()
 }
 
-/// Puts an entry behind those that are listed.
+/// Puts an entry behind those that are listed, and answers the names above the entries beneath it.
 fn list_entry<'a>(
     alloc: Global,
     above: &[&'a [u8]],
     in_table: bool,
     entry: &'a Entry,
     listed: &mut Vec<Bearer<'a, NumberedEntry<'a>>>,
-) -> Result<(), AllocError>
+) -> Result<Vec<&'a [u8]>, AllocError>
+    ensures beneath { IfOk result
+        (λ v. texts v.items ≡ with_name (plain_entry entry.now).name (texts above.now)) }
     ensures length { OnOk result (length listed.new.items ≡ length listed.old.items + 1) }
     ensures bearers { OnOk result
         (map bearer_of listed.new.items ≡ map bearer_of listed.old.items ++ bearer_at
@@ -43,6 +46,7 @@ fn list_entry<'a>(
 {
     let mut names = Vec::new(alloc);
     names.extend_from_slice(above)?;
+    let beneath = names_beneath(alloc, &entry.name, above)?;
     let number = listed.len();
     listed.push(Bearer {
         name: name_of(&entry.name),
@@ -53,7 +57,7 @@ fn list_entry<'a>(
             in_table,
         },
     })?;
-    Ok(())
+    Ok(beneath)
 }
 
 /// Puts the entries of the branches behind those that are listed, in order. The names `above` are those of the groups that the branches
@@ -80,8 +84,7 @@ pub fn list_bearers<'a>(
     for branch in branches {
         let entry = &branch.entry;
         let inside = is_in_table(in_table, entry);
-        let beneath = names_beneath(alloc, &entry.name, above)?;
-        list_entry(alloc, above, inside, entry, listed)?;
+        let beneath = list_entry(alloc, above, inside, entry, listed)?;
         list_bearers(
             alloc,
             beneath.as_slice(),

@@ -6,7 +6,7 @@ use Rattle.cob_copybook_names.specs.Listed.{texts}
 use Rattle.cob_copybook_names.proofs.listing.+list_bearers.Given as goal
 
 abbrev pub decreases-list_bearers : goal.decreases-list_bearers
-decreases-list_bearers l = goal.size-list_bearers l
+decreases-list_bearers l = entries_in (forest_of l.branches.now)
 
 abbrev pub invariant-loop-branch : goal.invariant-loop-branch
 invariant-loop-branch l = record {
