@@ -4,10 +4,10 @@ use crate::fault::CommandFault;
 use crate::listing::{list_entries, list_records};
 use cob_convert::{Status, job};
 use cob_convert_line::{CheckLine, ConvertLine, LayoutLine, Line, LineFault, ShowLine, line_of};
-use cob_records::{create_sink, open_source};
+use cob_records::{FileSink, FileSource, create_sink, open_source};
 use std::convert::AsStr;
 use std::io;
-use std::io::{Eprint, Input, Print};
+use std::io::{Eprint, Input, Print, Printer};
 use std::rt::{Clock, Files};
 
 /// The status of a command whose last line was printed, or was not.
@@ -26,16 +26,35 @@ fn fail<R: Eprint>(rt: &R, fault: CommandFault) -> u8 {
     }
 }
 
-/// Does the job that stands on standard input; its faults are printed where its output is.
-fn do_job<R: AllocGlobal + Files + Input + Print>(rt: &R) -> u8 {
-    let (Ok(mut source), Ok(mut sink)) = (open_source(rt, "-"), create_sink(rt, "-")) else {
-        return printed(println!(rt; "memory"), Status::Memory);
-    };
-    let status = job(rt.alloc(), &mut source, &mut sink);
+/// Prints that no memory is left, where a job's output is, and answers the program's status.
+fn without_memory<R: Print>(rt: &R) -> u8 {
+    printed(println!(rt; "memory"), Status::Memory)
+}
+
+/// Does the job that a source holds, and answers the program's status once all is handed to the device.
+fn do_job_on<R: AllocGlobal + Files + Input + Print>(
+    rt: &R,
+    source: &mut FileSource<R::File, R::Reader>,
+    sink: &mut FileSink<R::File, Printer<'_, R>>,
+) -> u8 {
+    let status = job(rt.alloc(), source, sink);
     match sink.flush() {
         Ok(()) => status,
         Err(_) => Status::Device.code(),
     }
+}
+
+/// Does the job that stands on standard input; its faults are printed where its output is.
+fn do_job<R: AllocGlobal + Files + Input + Print>(rt: &R) -> u8 {
+    let mut source = match open_source(rt, "-") {
+        Ok(source) => source,
+        Err(_) => return without_memory(rt),
+    };
+    let mut sink = match create_sink(rt, "-") {
+        Ok(sink) => sink,
+        Err(_) => return without_memory(rt),
+    };
+    do_job_on(rt, &mut source, &mut sink)
 }
 
 /// Converts, and prints how many records there were: on standard error where the records themselves go to standard output.
