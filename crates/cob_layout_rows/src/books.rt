@@ -1,7 +1,6 @@
 //! The records of rows, and references to their entries.
 
 ghost use Rattle.std.specs.Prelude.{IfOk};
-ghost use Rattle.cob_move.specs.Nodes.{alone};
 ghost use Rattle.cob_move.specs.References.{Refers};
 
 use arrayvec::ArrayVec;
@@ -65,7 +64,7 @@ fn parts_of(written: &str) -> Result<(&str, Subscripts), RowFault> {
 
 /// The reference to an entry of a record, as it is written.
 pub(crate) fn reference_of(book: &Book, layout: &Layout, written: &str) -> Result<Ref, RowFault>
-    ensures { IfOk result (λ r. Refers r.node r.subscripts.items (alone layout.now)) }
+    ensures { IfOk result (λ r. Refers r.node r.subscripts.items layout.now) }
 {
     let (name, subscripts) = parts_of(written)?;
     let Some(entry) = entry_named(book.root(), name) else {

@@ -1,7 +1,6 @@
 //! How the counts are taken under which a row asks.
 
 ghost use Rattle.std.specs.Prelude.{◌≡◌, length};
-ghost use Rattle.cob_move.specs.Nodes.{alone};
 ghost use Rattle.cob_move.specs.Forests.{entries_in};
 ghost use Rattle.cob_move.specs.References.{Refers};
 
@@ -49,8 +48,8 @@ pub(crate) fn take(
     bytes: &[u8],
     counts: &mut Counts,
 ) -> Result<(), CountFault>
-    requires refers { Refers reference.now.node reference.now.subscripts.items (alone layout.now) }
-    requires room { length counts.old ≡ entries_in (alone layout.now) }
+    requires refers { Refers reference.now.node reference.now.subscripts.items layout.now }
+    requires room { length counts.old ≡ entries_in layout.now }
     ensures room { length counts.new ≡ length counts.old }
 {
     match counted {

@@ -1,7 +1,6 @@
 //! Lengths and places under counts.
 
 ghost use Rattle.cob_move.specs.References.{Refers};
-ghost use Rattle.cob_move.specs.Nodes.{alone};
 
 use crate::books::{book_of, reference_of};
 use crate::counted::{Counted, counted_of, take};
@@ -23,7 +22,7 @@ fn push_place(
     reference: &Ref,
     counts: &Counts,
 ) -> Result<(), AllocError>
-    requires refers { Refers reference.now.node reference.now.subscripts.items (alone layout.now) }
+    requires refers { Refers reference.now.node reference.now.subscripts.items layout.now }
 {
     match layout.place(reference, counts) {
         Ok(place) => Ok(write!(out, "{} {}", place.offset, place.length)?),
