@@ -1,10 +1,12 @@
 -- A text is cut in one way.
 use Rattle.std.proofs.Common.{◌≡◌, ℕ, true, false, List, [], ◌∷◌, ◌++◌, refl, sym, ap, subst, ◌∙◌, append_assoc, arith}
 use Rattle.std.specs.List.{AllByRecursion}
+use Rattle.std.proofs.lemmas.List.{append-nil}
 use Rattle.cob_source.specs.declared.token.Cell.{Cell}
 use Rattle.cob_source.specs.declared.token.Cutting.{Cutting}
 use Rattle.cob_source.specs.Tokens.{Lexeme}
 use Rattle.cob_source.specs.Cuts.{Piece, Gap, Chunk, Quoted, Body, Close, One, Two, NotFirstQuote, is_quote, is_gap, is_plain, cells_of_piece, IsPiece, Follows, IsPlain, plain_first, quote_first, lexemes_of, Cuts, End, Then}
+use Rattle.cob_source.specs.Reading.{IsSpace}
 use Rattle.cob_source.proofs.CutLemmas.{plain_no_quote, gap_no_quote}
 
 pub record SamePiece (p q : Piece) (x y : List Cell) : Type 0 where
@@ -140,44 +142,53 @@ cut_once {m} (Then {rest = y} {more = more} p ip fp e t c) other =
     let b = behind p y ip fp e other in
     t ∙ ap (λ (l : List Lexeme). lexemes_of m p y ++ l) (cut_once c b.1) ∙ sym b.2
 
--- a line's end or nothing comes first
-abbrev pub EndFirst : List Cell → Type 0
-EndFirst [] = Unit {0}
-EndFirst (c ∷ rest) = c.byte ≡ 10
+-- a gap or nothing comes first
+abbrev pub GapFirst : List Cell → Type 0
+GapFirst [] = Unit {0}
+GapFirst (c ∷ rest) = is_gap c.byte ≡ true
 
-plain_before : (x y : List Cell) → EndFirst y → plain_first x ≡ false → plain_first (x ++ y) ≡ false
+plain_before : (x y : List Cell) → GapFirst y → plain_first x ≡ false → plain_first (x ++ y) ≡ false
 plain_before [] [] f h = refl
-plain_before [] (c ∷ y) f h = ap is_plain f
+plain_before [] (c ∷ y) f h = rw f refl
 plain_before (c ∷ x) y f h = h
 
-quote_before : (x y : List Cell) → EndFirst y → quote_first (x ++ y) ≡ quote_first x
+quote_before : (x y : List Cell) → GapFirst y → quote_first (x ++ y) ≡ quote_first x
 quote_before [] [] f = refl
-quote_before [] (c ∷ y) f = ap is_quote f
+quote_before [] (c ∷ y) f = gap_no_quote c.byte f
 quote_before (c ∷ x) y f = refl
 
-other_quote : (q : ℕ) → is_quote q ≡ true → 10 ≡ q → ⊥
-other_quote q e h = let k : is_quote 10 ≡ true = ap is_quote h ∙ e in cc
-
-free_before : (q : ℕ) (x y : List Cell) → is_quote q ≡ true → EndFirst y → NotFirstQuote q x → NotFirstQuote q (x ++ y)
+free_before : (q : ℕ) (x y : List Cell) → is_quote q ≡ true → GapFirst y → NotFirstQuote q x → NotFirstQuote q (x ++ y)
 free_before q [] [] iq f n = tt
-free_before q [] (c ∷ y) iq f n = λ e. other_quote q iq (sym f ∙ e)
+free_before q [] (c ∷ y) iq f n = λ e. quote_not_gap q iq (ap is_gap (sym e) ∙ f)
 free_before q (c ∷ x) y iq f n = n
 
-follows_before : (p : Piece) (x y : List Cell) → IsPiece p → EndFirst y → Follows p x → Follows p (x ++ y)
+follows_before : (p : Piece) (x y : List Cell) → IsPiece p → GapFirst y → Follows p x → Follows p (x ++ y)
 follows_before (Gap c) x y ip f fp = tt
 follows_before (Chunk cs) x y ip f fp = plain_before x y f fp
 follows_before (Quoted o inside text) x y ip f fp = free_before o.byte x y ip.0 f fp
 
-lexemes_before : (m : Cutting) (p : Piece) (x y : List Cell) → EndFirst y → lexemes_of m p (x ++ y) ≡ lexemes_of m p x
+lexemes_before : (m : Cutting) (p : Piece) (x y : List Cell) → GapFirst y → lexemes_of m p (x ++ y) ≡ lexemes_of m p x
 lexemes_before m (Gap c) x y f = refl
 lexemes_before m (Chunk cs) x y f = rw (quote_before x y f) refl
 lexemes_before m (Quoted o inside text) x y f = refl
 
--- two texts one behind the other are cut one behind the other, where a line's end stands between them
-pub cut_both : {m : Cutting} {x y : List Cell} {a b : List Lexeme} → EndFirst y → Cuts m x a → Cuts m y b → Cuts m (x ++ y) (a ++ b)
+-- two texts one behind the other are cut one behind the other, where the second one begins with a gap
+pub cut_both : {m : Cutting} {x y : List Cell} {a b : List Lexeme} → GapFirst y → Cuts m x a → Cuts m y b → Cuts m (x ++ y) (a ++ b)
 cut_both {m} {x} {y} {a} {b} f (End nothing none_left) other =
     subst (λ (l : List Cell). Cuts m (l ++ y) (a ++ b)) (sym nothing) (subst (λ (l : List Lexeme). Cuts m y (l ++ b)) (sym none_left) other)
 cut_both {m} {x} {y} {a} {b} f (Then {rest = r} {more = more} p ip fp e t c) other =
     Then p ip (follows_before p r y ip f fp) (ap (λ (l : List Cell). l ++ y) e ∙ append_assoc (cells_of_piece p) r y)
     (ap (λ (l : List Lexeme). l ++ b) t ∙ append_assoc (lexemes_of m p r) more b ∙ ap (λ (l : List Lexeme). l ++ (more ++ b)) (sym (lexemes_before m p r y f)))
     (cut_both f c other)
+
+gap_first : (spaces : List Cell) → AllByRecursion IsSpace spaces → GapFirst spaces
+gap_first [] all = tt
+gap_first (c ∷ spaces) all = ap is_gap all.0
+
+spaces_cut : {m : Cutting} (spaces : List Cell) → AllByRecursion IsSpace spaces → Cuts m spaces []
+spaces_cut [] all = End refl refl
+spaces_cut (c ∷ spaces) all = Then (Gap c) (ap is_gap all.0) tt refl refl (spaces_cut spaces all.1)
+
+-- spaces at the end are cut to no words
+pub cut_left : {m : Cutting} {cells : List Cell} {ts : List Lexeme} (spaces : List Cell) → AllByRecursion IsSpace spaces → Cuts m cells ts → Cuts m (cells ++ spaces) ts
+cut_left {m} {cells} {ts} spaces all c = subst (Cuts m (cells ++ spaces)) (append-nil ts) (cut_both (gap_first spaces all) c (spaces_cut spaces all))

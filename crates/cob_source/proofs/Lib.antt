@@ -5,6 +5,8 @@ pub mod CutOnce
 pub mod Closed
 pub mod Trims
 pub mod Opens
+pub mod Stands
+pub mod Columns
 pub mod ReadingLemmas
 pub mod FitLemmas
 pub mod PieceLemmas

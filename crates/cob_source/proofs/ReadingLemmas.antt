@@ -1,7 +1,7 @@
 -- What is read of a text, line by line.
-use Rattle.std.proofs.Common.{◌≡◌, ℕ, suc, ◌+◌, ◌-◌, ◌≤◌, Bool, true, false, List, [], ◌∷◌, ◌++◌, length, refl, sym, ap, subst, ◌∙◌, append_assoc, arith}
-use Rattle.std.specs.Prelude.{Option, Some, None, is_some, ◌==◌, ◌&&◌, not, slice_index_or}
-use Rattle.std.proofs.lemmas.List.{append-nil, length-append, get_or-append-add}
+use Rattle.std.proofs.Common.{◌≡◌, ℕ, suc, ◌+◌, ◌≤◌, Bool, true, false, List, [], ◌∷◌, ◌++◌, length, refl, sym, ap, subst, ◌∙◌, append_assoc, arith}
+use Rattle.std.specs.Prelude.{Option, Some, None, is_some, ◌==◌, ◌&&◌}
+use Rattle.std.proofs.lemmas.List.{append-nil}
 use Rattle.cob_source.specs.declared.token.Cell.{Cell}
 use Rattle.cob_source.specs.declared.token.Cutting.{Cutting}
 use Rattle.cob_source.specs.declared.lines.LineKind.{LineKind}
@@ -10,12 +10,13 @@ use Rattle.cob_source.specs.declared.fault.SourceRule.{SourceRule}
 use Rattle.cob_source.specs.declared.fault.SourceRule.TheVariants.{NotAscii, Tab, OpenLiteral, BadContinuation, TooLong, UnknownIndicator, Memory}
 use Rattle.cob_limits.specs.Limits.{longest_text}
 use Rattle.cob_source.specs.Tokens.{Lexeme}
-use Rattle.cob_source.specs.Cuts.{is_quote, open_from, open_quote, nowhere, Cuts, End}
-use Rattle.cob_source.specs.Lines.{lines, program_text, behind_spaces, is_nil, is_blank, kind_of_line, line_end, cells_behind, trim_end, continued_text, left_out, continued, join, join_by, joined_from, joined_of, last_by, last_from, last_joined}
+use Rattle.cob_source.specs.Cuts.{is_quote, is_gap, open_from, open_quote, Cuts, End}
+use Rattle.cob_source.specs.Lines.{lines, program_text, behind_spaces, is_nil, kind_of_line, line_end, cells_behind, trim_end, continued_text, left_out, continued, join, join_by, joined_from, joined_of, last_by, last_from, last_joined}
 use Rattle.cob_source.specs.Words.{breaks, BreaksAlone, KeepsCharacters, BreaksAt, NoContinuation, IsLeftOpen, BreaksSourceRule, IsSourceRefusal, AreCutsOf, FitsLine, AllFit, is_bad_continuation, is_misfit, ends_quoted, first_character}
-use Rattle.cob_source.specs.Reading.{Begins, HasRead, EndRefused, ContinuationRefused, IsContinued, LineRefused}
+use Rattle.cob_source.specs.Reading.{Begins, StandsFor, HasRead, EndRefused, ContinuationRefused, IsContinued, LineRefused}
 use Rattle.cob_source.proofs.Opens.{open_from-append}
-use Rattle.cob_source.proofs.CutOnce.{EndFirst, cut_both, cut_once}
+use Rattle.cob_source.proofs.CutOnce.{GapFirst, cut_both, cut_once}
+use Rattle.cob_source.proofs.Stands.{last_append, open_same, cut_same, continued_same, fits_same}
 
 joined_from-append : (n : ℕ) (j : List Cell) (a b : List (List ℕ)) → joined_from n j (a ++ b) ≡ joined_from (n + length a) (joined_from n j a) b
 joined_from-append n j [] b = let e : n + 0 ≡ n = omega arith in rw e refl
@@ -65,15 +66,19 @@ continuation_fits : (joined : List Cell) (line : List ℕ) → KeepsCharacters l
 continuation_fits joined line k e bad = fits_by joined line k (rw e bad) (rw e refl)
 
 -- what is open at the end of all is what is open at the end of the last joined line
+open_last : {m : Cutting} {before : List (List ℕ)} {cells : List Cell} {q : Option ℕ} {last : ℕ} {words : List Lexeme} (r : HasRead m before cells q last words) → open_quote (r.done ++ r.whole) ≡ open_quote r.whole
+open_last r = open_from-append None r.done r.whole ∙ ap (λ (s : Option ℕ). open_from s r.whole) r.closed
+
 pub open_of : {m : Cutting} {before : List (List ℕ)} {cells : List Cell} {q : Option ℕ} {last : ℕ} {words : List Lexeme} → HasRead m before cells q last words → open_quote (joined_of before) ≡ q
-open_of {cells = cells} r =
-    ap open_quote r.joined_is ∙ open_from-append None r.done cells ∙ ap (λ (s : Option ℕ). open_from s cells) r.closed ∙ sym r.open_is
+open_of r = ap open_quote r.joined_is ∙ open_last r ∙ open_same r.stands ∙ sym r.open_is
 
 pub skips : {m : Cutting} {before : List (List ℕ)} {cells : List Cell} {q : Option ℕ} {last : ℕ} {words : List Lexeme} (line : List ℕ) → HasRead m before cells q last words → KeepsCharacters line → kind_of_line line ≡ Skipped → HasRead m (before ++ line ∷ []) cells q last words
 skips {m} {before} {cells} {q} {last} line r k e = record {
   done = r.done;
+  whole = r.whole;
   joined_is = joined_of-push before line ∙ ap (λ (x : LineKind). join_by x (length before + 1) (joined_of before) line) e ∙ r.joined_is;
   begins = r.begins;
+  stands = r.stands;
   open_is = r.open_is;
   closed = r.closed;
   cut = r.cut;
@@ -81,21 +86,28 @@ skips {m} {before} {cells} {q} {last} line r k e = record {
   fit = AllFit-push 1 [] before line r.fit (skipped_fits (joined_of before) line k e);
 }
 
-end_first : (done cells : List Cell) → Begins done cells → EndFirst cells
-end_first done [] b = tt
-end_first done (c ∷ cells) b = b
+gap_first : (done cells : List Cell) → Begins done cells → GapFirst cells
+gap_first done [] b = tt
+gap_first done (c ∷ cells) b = ap is_gap b
+
+-- the last joined line is cut behind those before it
+cut_on : {m : Cutting} {before : List (List ℕ)} {cells : List Cell} {q : Option ℕ} {last : ℕ} {words ts : List Lexeme} (words' : List Lexeme) (r : HasRead m before cells q last words) → Cuts m cells ts → words ++ ts ≡ words' → Cuts m (joined_of before) words'
+cut_on {m} words' r c w =
+    subst (λ (l : List Cell). Cuts m l words') (sym r.joined_is) (subst (λ (l : List Lexeme). Cuts m (r.done ++ r.whole) l) w (cut_both (gap_first r.done r.whole r.begins) r.cut (cut_same r.stands c)))
 
 pub starts : {m : Cutting} {before : List (List ℕ)} {cells : List Cell} {q : Option ℕ} {last : ℕ} {words : List Lexeme} (line : List ℕ) (n : ℕ) (ts : List Lexeme) (new : List Cell) (open_now : Option ℕ) (words' : List Lexeme)
     → HasRead m before cells q last words → KeepsCharacters line → kind_of_line line ≡ Plain → q ≡ None → Cuts m cells ts → words ++ ts ≡ words' → n ≡ length before + 1
-    → new ≡ line_end n ∷ cells_behind n 0 line → open_now ≡ open_quote new → HasRead m (before ++ line ∷ []) new open_now n words'
-starts {m} {before} {cells} {q} {last} {words} line n ts new open_now words' r k e none c w num cells_are open_is = record {
+    → StandsFor new (line_end n ∷ cells_behind n 0 line) → open_now ≡ open_quote new → HasRead m (before ++ line ∷ []) new open_now n words'
+starts {m} {before} {cells} {q} {last} {words} line n ts new open_now words' r k e none c w num stands open_is = record {
   done = joined_of before;
+  whole = line_end n ∷ cells_behind n 0 line;
   joined_is = joined_of-push before line ∙ ap (λ (x : LineKind). join_by x (length before + 1) (joined_of before) line) e
-      ∙ ap (λ (m : ℕ). joined_of before ++ line_end m ∷ cells_behind m 0 line) (sym num) ∙ ap (λ (l : List Cell). joined_of before ++ l) (sym cells_are);
-  begins = subst (Begins (joined_of before)) (sym cells_are) refl;
+      ∙ ap (λ (m : ℕ). joined_of before ++ line_end m ∷ cells_behind m 0 line) (sym num);
+  begins = refl;
+  stands = stands;
   open_is = open_is;
   closed = open_of r ∙ none;
-  cut = subst (λ (l : List Cell). Cuts m l words') (sym r.joined_is) (subst (λ (l : List Lexeme). Cuts m (r.done ++ cells) l) w (cut_both (end_first r.done cells r.begins) r.cut c));
+  cut = cut_on words' r c w;
   last_is = num ∙ sym (last_joined-push before line ∙ ap (λ (x : LineKind). last_by x (length before + 1) (last_joined before)) e);
   fit = AllFit-push 1 [] before line r.fit (plain_fits (joined_of before) line k e (open_of r ∙ none));
 }
@@ -130,27 +142,24 @@ nil_behind (d ∷ done) (c ∷ cells) b = refl
 
 last_behind : (done cells : List Cell) → Begins done cells → ends_quoted (done ++ cells) ≡ ends_quoted cells
 last_behind done [] b = ap ends_quoted (append-nil done ∙ b)
-last_behind done (c ∷ cells) b =
-    let n : length (done ++ c ∷ cells) - 1 ≡ length done + length cells = omega (arith, length-append done (c ∷ cells)) in
-    let m : length (c ∷ cells) - 1 ≡ length cells = omega arith in
-    ap (λ (k : ℕ). is_quote (slice_index_or (done ++ c ∷ cells) k nowhere).byte) n
-    ∙ ap (λ (x : Cell). is_quote x.byte) (get_or-append-add done (c ∷ cells) (length cells) nowhere)
-    ∙ ap (λ (k : ℕ). is_quote (slice_index_or (c ∷ cells) k nowhere).byte) (sym m)
+last_behind done (c ∷ cells) b = last_append done c cells
 
 misfit_behind : (q : Option ℕ) (done cells : List Cell) (b : ℕ) → Begins done cells → is_misfit q (done ++ cells) b ≡ is_misfit q cells b
 misfit_behind None done cells b h = ap (λ (t : Bool). t && is_quote b) (last_behind done cells h)
 misfit_behind (Some q) done cells b h = refl
 
+bad_behind : (done cells : List Cell) (line : List ℕ) → Begins done cells → open_quote (done ++ cells) ≡ open_quote cells → is_bad_continuation (done ++ cells) line ≡ is_bad_continuation cells line
+bad_behind done cells line b opens =
+    let first = first_character (behind_spaces (program_text line)) in
+    let nils : is_nil (done ++ cells) ≡ is_nil cells = nil_behind done cells b in
+    let fits : is_misfit (open_quote (done ++ cells)) (done ++ cells) first ≡ is_misfit (open_quote cells) cells first =
+    ap (λ (x : Option ℕ). is_misfit x (done ++ cells) first) opens ∙ misfit_behind (open_quote cells) done cells first b in
+    rw (nils, fits) refl
+
 -- whether a continuation fits is seen at the last joined line
 pub bad_same : {m : Cutting} {before : List (List ℕ)} {cells : List Cell} {q : Option ℕ} {last : ℕ} {words : List Lexeme} (line : List ℕ) → HasRead m before cells q last words → is_bad_continuation (joined_of before) line ≡ is_bad_continuation cells line
-bad_same {m} {before} {cells} {q} line r =
-    let b = first_character (behind_spaces (program_text line)) in
-    let blank = not (is_blank (program_text line)) in
-    let nils : is_nil (joined_of before) ≡ is_nil cells = ap is_nil r.joined_is ∙ nil_behind r.done cells r.begins in
-    let opens : open_quote (joined_of before) ≡ open_quote cells = open_of r ∙ r.open_is in
-    let fits : is_misfit (open_quote (joined_of before)) (joined_of before) b ≡ is_misfit (open_quote cells) cells b =
-    ap (λ (x : Option ℕ). is_misfit x (joined_of before) b) opens ∙ ap (λ (l : List Cell). is_misfit (open_quote cells) l b) r.joined_is ∙ misfit_behind (open_quote cells) r.done cells b r.begins in
-    rw (nils, fits) refl
+bad_same line r =
+    ap (λ (l : List Cell). is_bad_continuation l line) r.joined_is ∙ bad_behind r.done r.whole line r.begins (open_last r) ∙ fits_same r.done line r.begins r.stands
 
 -- the last joined line goes on with the line's end in front
 begins_on : (q : Option ℕ) (done cells more : List Cell) → Begins done cells → is_nil cells ≡ false → Begins done (continued_text q cells ++ more)
@@ -167,16 +176,20 @@ pub continues : {m : Cutting} {before : List (List ℕ)} {cells : List Cell} {q 
 continues {m} {before} {cells} {q} {last} {words} line n new open_now last' r k e num j =
     let more = cells_behind n (left_out (open_quote cells) (program_text line)) line in
     let opens : open_quote (joined_of before) ≡ open_quote cells = open_of r ∙ r.open_is in
+    let same : continued_text (open_quote cells) r.whole ≡ continued_text (open_quote cells) cells = continued_same (open_quote cells) r.stands refl in
+    let fits : is_bad_continuation r.whole line ≡ false = fits_same r.done line r.begins r.stands ∙ j.fits in
     record {
       done = r.done;
+      whole = continued (open_quote cells) n cells line;
       joined_is = joined_of-push before line ∙ ap (λ (x : LineKind). join_by x (length before + 1) (joined_of before) line) e
           ∙ ap (λ (m : ℕ). continued (open_quote (joined_of before)) m (joined_of before) line) (sym num)
           ∙ ap (λ (x : Option ℕ). continued x n (joined_of before) line) opens
           ∙ ap (λ (l : List Cell). continued (open_quote cells) n l line) r.joined_is
-          ∙ ap (λ (l : List Cell). l ++ more) (continued_behind (open_quote cells) r.done cells r.begins)
-          ∙ append_assoc r.done (continued_text (open_quote cells) cells) more
-          ∙ ap (λ (l : List Cell). r.done ++ l) (sym j.cells_are);
-      begins = subst (Begins r.done) (sym j.cells_are) (begins_on (open_quote cells) r.done cells more r.begins (not_nil cells line j.fits));
+          ∙ ap (λ (l : List Cell). l ++ more) (continued_behind (open_quote cells) r.done r.whole r.begins)
+          ∙ append_assoc r.done (continued_text (open_quote cells) r.whole) more
+          ∙ ap (λ (l : List Cell). r.done ++ (l ++ more)) same;
+      begins = subst (λ (l : List Cell). Begins r.done (l ++ more)) same (begins_on (open_quote cells) r.done r.whole more r.begins (not_nil r.whole line fits));
+      stands = j.stands;
       open_is = j.open_is;
       closed = r.closed;
       cut = r.cut;
@@ -187,7 +200,7 @@ continues {m} {before} {cells} {q} {last} {words} line n new open_now last' r k 
 -- ---- the whole text
 
 pub nothing_read : {m : Cutting} → HasRead m [] [] None 0 []
-nothing_read = record { done = []; joined_is = refl; begins = refl; open_is = refl; closed = refl; cut = End refl refl; last_is = refl; fit = tt }
+nothing_read = record { done = []; whole = []; joined_is = refl; begins = refl; stands = record { left_out = []; whole_is = refl; are_spaces = tt; open_whole = λ h. refl; ends_same = refl }; open_is = refl; closed = refl; cut = End refl refl; last_is = refl; fit = tt }
 
 none_at : (rule : SourceRule) (n : ℕ) (ls : List (List ℕ)) → AllFit 1 [] ls → BreaksAt rule n ls → ⊥
 none_at rule n ls all b =
@@ -209,12 +222,11 @@ none_left n ls all closed b = go b.after b.lines_are b.none_follows
 pub finishes : (text : List ℕ) {m : Cutting} {before : List (List ℕ)} {cells : List Cell} {q : Option ℕ} {last : ℕ} {words : List Lexeme} (ts words' : List Lexeme)
     → HasRead m before cells q last words → lines text ≡ before → length text ≤ longest_text → q ≡ None → Cuts m cells ts → words ++ ts ≡ words' → AreCutsOf m text words'
 finishes text {m} {before} {cells} {q} {last} {words} ts words' r e short none c w =
-    let whole : joined_of (lines text) ≡ r.done ++ cells = ap joined_of e ∙ r.joined_is in
     let all : AllFit 1 [] (lines text) = subst (AllFit 1 []) (sym e) r.fit in
     let closed : open_quote (joined_of (lines text)) ≡ None = ap (λ (l : List (List ℕ)). open_quote (joined_of l)) e ∙ open_of r ∙ none in
     record {
       breaks_none = breaks_none all closed;
-      cut = subst (λ (l : List Cell). Cuts m l words') (sym whole) (subst (λ (l : List Lexeme). Cuts m (r.done ++ cells) l) w (cut_both (end_first r.done cells r.begins) r.cut c));
+      cut = subst (λ (l : List Cell). Cuts m l words') (ap joined_of (sym e)) (cut_on words' r c w);
     }
   where
     breaks_none : AllFit 1 [] (lines text) → open_quote (joined_of (lines text)) ≡ None → (rule : SourceRule) (n : ℕ) → BreaksSourceRule rule n text → ⊥

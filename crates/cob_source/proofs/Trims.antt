@@ -1,7 +1,7 @@
 -- Spaces at the ends, and cells with their columns.
 use Rattle.std.proofs.Common.{◌≡◌, ◌≢◌, ℕ, suc, ◌+◌, ◌-◌, ◌<◌, ◌≤◌, Bool, true, false, eqb, List, [], ◌∷◌, ◌++◌, length, get_or, take, drop, replicate, refl, sym, ap, ◌∙◌, arith}
 use Rattle.std.specs.Prelude.{◌&&◌, ◌==◌}
-use Rattle.std.proofs.lemmas.List.{take_more, take_all, get_or_append_left, get_or-append_right, get_or-replicate, get_or-drop, length-append, length-replicate, length-drop}
+use Rattle.std.proofs.lemmas.List.{take_more, get_or_append_left, get_or-append_right, get_or-replicate, get_or-drop, length-append, length-replicate, length-drop}
 use Rattle.std.proofs.lemmas.Grind.{common_steps}
 use Rattle.std.proofs.lemmas.Bool.{ne_eqb, eq-eqb}
 use Rattle.cob_source.specs.declared.token.Cell.{Cell}
@@ -67,10 +67,6 @@ columns_more n skipped i area column le lt e =
     ap (λ (j : ℕ). cells_from n (8 + skipped) (take j (drop skipped all))) k
     ∙ cells_more n (8 + skipped) (drop skipped all) (i - skipped) column room (omega arith)
     ∙ ap (λ (b : ℕ). cells_from n (8 + skipped) (take (i - skipped) (drop skipped all)) ++ record { byte = b; line = n; column = column } ∷ []) here
-
--- all of them
-pub columns_all : (skipped : ℕ) (area : List ℕ) → length area ≤ 65 → take (65 - skipped) (drop skipped (filled area)) ≡ drop skipped (filled area)
-columns_all skipped area short = take_all (65 - skipped) (drop skipped (filled area)) (omega (arith, length-drop skipped (filled area), length-append area (replicate (65 - length area) 32), length-replicate {A = ℕ} (65 - length area) 32))
 
 -- a text that isn't blank has a character behind its spaces
 pub spaces_before : (bs : List ℕ) → is_blank bs ≡ false → spaces bs < length bs

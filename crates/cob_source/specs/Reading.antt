@@ -1,26 +1,51 @@
 -- What has been read of a text at the end of a line.
-use Rattle.std.specs.Prelude.{◌≡◌, ℕ, ◌+◌, true, false, List, [], ◌∷◌, ◌++◌, length, Option, None, is_some}
+use Rattle.std.specs.Prelude.{◌≡◌, ℕ, ◌+◌, ◌-◌, ◌<◌, ◌⊎◌, true, false, List, [], ◌∷◌, ◌++◌, length, drop, Option, None, is_some}
+use Rattle.std.specs.List.{AllByRecursion}
 use Rattle.cob_source.specs.declared.token.Cell.{Cell}
 use Rattle.cob_source.specs.declared.token.Cutting.{Cutting}
 use Rattle.cob_source.specs.declared.lines.LineKind.TheVariants.{Plain}
 use Rattle.cob_source.specs.declared.fault.SourceRule.{SourceRule}
 use Rattle.cob_source.specs.declared.fault.SourceRule.TheVariants.{OpenLiteral, BadContinuation, TooLong, Memory}
 use Rattle.cob_source.specs.Tokens.{Lexeme}
-use Rattle.cob_source.specs.Cuts.{open_quote, Cuts}
-use Rattle.cob_source.specs.Lines.{kind_of_line, joined_of, last_joined, continued}
-use Rattle.cob_source.specs.Words.{breaks, AreFit, is_bad_continuation}
+use Rattle.cob_source.specs.Cuts.{open_with, open_quote, Cuts}
+use Rattle.cob_source.specs.Lines.{filled, kind_of_line, joined_of, last_joined, continued}
+use Rattle.cob_source.specs.Words.{ends_quoted, breaks, AreFit, is_bad_continuation}
 
 -- the last joined line begins with the line's end before it, or there is none yet
 abbrev pub Begins : List Cell → List Cell → Type 0
 Begins done [] = done ≡ []
 Begins done (c ∷ cells) = c.byte ≡ 10
 
--- these lines are read: what they are joined to is cut into these words as far as it is done, and the cells of the last joined
--- line, which may go on, come behind
+-- the quote of the literal that is open behind these bytes, where this one was open before them
+abbrev pub open_in : Option ℕ → List ℕ → Option ℕ
+open_in q [] = q
+open_in q (b ∷ bs) = open_in (open_with q b) bs
+
+-- a space
+abbrev pub IsSpace : Cell → Type 0
+IsSpace c = c.byte ≡ 32
+
+-- these cells stand for a text: what they leave out is spaces at its end, and nothing where a literal is open there; they end in a
+-- quote exactly where the text does
+pub record StandsFor (cells whole : List Cell) : Type 0 where
+  pub left_out : List Cell
+  pub whole_is : whole ≡ cells ++ left_out
+  pub are_spaces : AllByRecursion IsSpace left_out
+  pub open_whole : is_some (open_quote cells) ≡ true → left_out ≡ []
+  pub ends_same : ends_quoted whole ≡ ends_quoted cells
+
+-- so many columns from 8 on, the first ones left out: all 65, or one at least, and the last of them and all behind it are spaces
+abbrev pub EndsInSpaces : List ℕ → ℕ → ℕ → Type 0
+EndsInSpaces text skipped end = (end ≡ 65) ⊎ ((skipped < end) × AllByRecursion (λ b. b ≡ 32) (drop (end - 1) (filled text)))
+
+-- these lines are read: what they are joined to is cut into these words as far as it is done, and the last joined line, which may
+-- go on, comes behind; these cells stand for it
 pub record HasRead (m : Cutting) (before : List (List ℕ)) (cells : List Cell) (open_now : Option ℕ) (last : ℕ) (words : List Lexeme) : Type 0 where
   pub done : List Cell
-  pub joined_is : joined_of before ≡ done ++ cells
-  pub begins : Begins done cells
+  pub whole : List Cell
+  pub joined_is : joined_of before ≡ done ++ whole
+  pub begins : Begins done whole
+  pub stands : StandsFor cells whole
   pub open_is : open_now ≡ open_quote cells
   pub closed : open_quote done ≡ None
   pub cut : Cuts m done words
@@ -42,7 +67,7 @@ ContinuationRefused rule n number cells line = ⊥
 -- a continuation line was joined
 pub record IsContinued (number : ℕ) (line : List ℕ) (old new : List Cell) (open_now : Option ℕ) (last : ℕ) : Type 0 where
   pub fits : is_bad_continuation old line ≡ false
-  pub cells_are : new ≡ continued (open_quote old) number old line
+  pub stands : StandsFor new (continued (open_quote old) number old line)
   pub open_is : open_now ≡ open_quote new
   pub last_is : last ≡ number
 

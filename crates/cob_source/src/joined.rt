@@ -1,21 +1,24 @@
-ghost use Rattle.std.specs.Prelude.{◌≡◌, ℕ, ◌+◌, ◌<◌, ◌≤◌, List, [], ◌∷◌, ◌++◌, length, drop, slice_index_or, true, OnOk, IfErr, IfSome, Some, None};
+ghost use Rattle.std.specs.Prelude.{◌≡◌, ℕ, ◌+◌, ◌<◌, ◌≤◌, List, [], ◌∷◌, ◌++◌, ◌-◌, length, take, drop, slice_index_or, true, is_some, OnOk, IfErr, IfSome, Some, None};
 ghost use Rattle.cob_source.specs.Tokens.{Lexeme, lexemes};
-ghost use Rattle.cob_source.specs.Cuts.{open_with, open_from, open_quote, is_quote, Cuts};
+ghost use Rattle.cob_source.specs.Cuts.{open_with, open_quote, is_quote, Cuts};
 ghost use Rattle.cob_source.specs.Lines.{filled, program_text, kind_of_line, trim_end, continued_text, left_out, cells_from, cells_behind, line_end};
 ghost use Rattle.cob_source.specs.Words.{ends_quoted, first_character, is_misfit, is_bad_continuation};
-ghost use Rattle.cob_source.specs.Reading.{EndRefused, ContinuationRefused, IsContinued};
+ghost use Rattle.cob_source.specs.Reading.{StandsFor, EndsInSpaces, open_in, EndRefused, ContinuationRefused, IsContinued};
 ghost use Rattle.cob_source.specs.declared.lines.LineKind.TheVariants.{Continuation};
 
 use crate::cut::cut;
 use crate::fault::{SourceFault, SourceRule};
-use crate::lines::{front, is_blank_text, leading_spaces, without_spaces, written_in};
+use crate::lines::{
+    behind, front, is_blank_text, leading_spaces, without_spaces, written_in, written_len,
+};
 use crate::token::{Cell, Cutting, Token};
 use std::alloc::{AllocError, Global};
 
 /// A line with the continuations that are joined to it so far.
 #[derive(Drop)]
 pub struct Joined {
-    /// Its characters, with the line's end before it in front.
+    /// Its characters, with the line's end before it in front. Where no literal is open at its end, only the first one of the
+    /// spaces behind what is written.
     pub cells: Vec<Cell>,
     /// The quote of the literal that is open at its end.
     pub quote: Option<u8>,
@@ -37,13 +40,13 @@ fn open_behind_byte(quote: Option<u8>, byte: u8) -> Option<u8>
     }
 }
 
-/// The literal that is open behind these characters.
-fn open_behind(quote: Option<u8>, cells: &[Cell]) -> Option<u8>
-    ensures { result ≡ open_from quote cells.now }
+/// The literal that is open behind these bytes.
+fn open_behind(quote: Option<u8>, bytes: &[u8]) -> Option<u8>
+    ensures { result ≡ open_in quote bytes.now }
 {
     let mut now = quote;
-    for cell in cells {
-        now = open_behind_byte(now, cell.byte);
+    for byte in bytes {
+        now = open_behind_byte(now, *byte);
     }
     now
 }
@@ -56,25 +59,65 @@ fn column_at(area: &[u8], i: usize) -> u8
     if i < area.len() { area[i] } else { b' ' }
 }
 
-/// Adds the columns from 8 to 72 without the first ones, filled with spaces.
+/// Adds the first `end` columns from 8 on without the first `skipped`, a space for each that the line doesn't reach.
 fn push_columns(
     area: &[u8],
     skipped: usize,
+    end: usize,
     line: u32,
     cells: &mut Vec<Cell>,
 ) -> Result<(), AllocError>
-    requires few { skipped ≤ 65 }
-    requires short { length area.now ≤ 65 }
+    requires from { skipped ≤ end }
+    requires few { end ≤ 65 }
     ensures { OnOk result (cells.new.items ≡ cells.old.items ++ cells_from line
-        (8 + skipped) (drop skipped (filled area.now))) }
+        (8 + skipped) (take (end - skipped) (drop skipped (filled area.now)))) }
 {
-    for i in skipped..65 {
+    for i in skipped..end {
         cells.push(Cell {
-            byte: column_at(area, i),
             line,
             column: i as u8 + 8,
+            byte: column_at(area, i),
         })?;
     }
+    Ok(())
+}
+
+/// Up to how many columns a line is kept: all 65 where a literal is open at its end, else one space behind what is written.
+fn kept_columns(quote: Option<u8>, text: &[u8], skipped: usize) -> usize
+    requires few { skipped ≤ 65 }
+    requires short { length text.now ≤ 65 }
+    ensures from { skipped ≤ result }
+    ensures within { result ≤ 65 }
+    ensures whole { is_some quote ≡ true → result ≡ 65 }
+    ensures spaces { EndsInSpaces text.now skipped result }
+{
+    if quote.is_some() {
+        65
+    } else {
+        (written_len(text).max(skipped) + 1).min(65)
+    }
+}
+
+/// Adds the columns from 8 to 72 of a line without the first ones, and of the spaces at their end only what is kept.
+fn add_columns(
+    text: &[u8],
+    skipped: usize,
+    number: u32,
+    joined: &mut Joined,
+) -> Result<(), AllocError>
+    requires few { skipped ≤ 65 }
+    requires short { length text.now ≤ 65 }
+    requires quote { joined.old.quote ≡ open_quote joined.old.cells.items }
+    ensures cells { OnOk result (StandsFor joined.new.cells.items (joined.old.cells.items
+        ++ cells_from number (8 + skipped) (drop skipped (filled text.now)))) }
+    ensures quote { OnOk result (joined.new.quote ≡ open_quote joined.new.cells.items) }
+    ensures last { OnOk result (joined.new.last ≡ number) }
+{
+    let quote = open_behind(joined.quote, behind(text, skipped));
+    let end = kept_columns(quote, text, skipped);
+    push_columns(text, skipped, end, number, &mut joined.cells)?;
+    joined.quote = quote;
+    joined.last = number;
     Ok(())
 }
 
@@ -95,20 +138,18 @@ fn drop_end(cells: &mut Vec<Cell>)
 /// Begins a new line.
 pub fn begin_line(number: u32, line: &[u8], joined: &mut Joined) -> Result<(), AllocError>
     ensures cells { OnOk result
-        (joined.new.cells.items ≡ line_end number ∷ cells_behind number 0 line.now) }
+        (StandsFor joined.new.cells.items (line_end number ∷ cells_behind number 0 line.now)) }
     ensures quote { OnOk result (joined.new.quote ≡ open_quote joined.new.cells.items) }
     ensures last { OnOk result (joined.new.last ≡ number) }
 {
     joined.cells.clear();
     joined.cells.push(Cell {
-        byte: b'\n',
         line: number,
         column: 7,
+        byte: b'\n',
     })?;
-    push_columns(written_in(line), 0, number, &mut joined.cells)?;
-    joined.quote = open_behind(None, joined.cells.as_slice());
-    joined.last = number;
-    Ok(())
+    joined.quote = None;
+    add_columns(written_in(line), 0, number, joined)
 }
 
 /// Whether the last character is a quote.
@@ -178,10 +219,7 @@ pub fn continue_line(number: u32, line: &[u8], joined: &mut Joined) -> Result<()
         });
     }
     let skipped = make_ready(text, joined);
-    let before = joined.cells.len();
-    push_columns(text, skipped, number, &mut joined.cells)?;
-    joined.quote = open_behind(joined.quote, &joined.cells.as_slice()[before..]);
-    joined.last = number;
+    add_columns(text, skipped, number, joined)?;
     Ok(())
 }
 

@@ -65,7 +65,7 @@ pub fn front(line: &[u8], columns: usize) -> &[u8]
 }
 
 /// What is written behind the first columns.
-fn behind(line: &[u8], columns: usize) -> &[u8]
+pub fn behind(line: &[u8], columns: usize) -> &[u8]
     ensures { result.now ≡ drop columns line.now }
 {
     if line.len() > columns {
@@ -122,6 +122,21 @@ pub fn without_spaces(bytes: &[u8]) -> &[u8]
     ensures { result.now ≡ behind_spaces bytes.now }
 {
     behind(bytes, leading_spaces(bytes))
+}
+
+/// How many bytes stand before the spaces at the end.
+pub fn written_len(bytes: &[u8]) -> usize
+    ensures within { result ≤ length bytes.now }
+    ensures blank { AllByRecursion (λ b. b ≡ 32) (drop result bytes.now) }
+{
+    let mut end = bytes.len();
+    while end > 0 {
+        if bytes[end - 1] != b' ' {
+            break;
+        }
+        end -= 1;
+    }
+    end
 }
 
 /// Whether the word is written with these letters, in either case.

@@ -1,9 +1,9 @@
 /// One character of a joined text, and where it stands.
 #[derive(Clone, Copy, Debug, PartialEq, Eq, Default)]
 pub struct Cell {
-    pub byte: u8,
     pub line: u32,
     pub column: u8,
+    pub byte: u8,
 }
 
 /// How far a text is cut.

@@ -1,52 +1,46 @@
-use Rattle.std.proofs.Common.{◌≡◌, ℕ, ◌+◌, ◌-◌, ◌<◌, ◌≤◌, List, ◌++◌, length, take, drop, refl, sym, ap, ◌∙◌, arith}
+use Rattle.std.proofs.Common.{◌≡◌, ℕ, ◌+◌, ◌<◌, ◌≤◌, List, ◌++◌, length, drop, refl, sym, ap, subst, ◌∙◌, arith}
 use Rattle.std.specs.Prelude.{Option, Some, None}
-use Rattle.std.proofs.Math.Seq.{drop-append_seam}
-use Rattle.std.proofs.lemmas.List.{take_rest}
 use Rattle.cob_source.specs.declared.token.Cell.{Cell}
-use Rattle.cob_source.specs.Cuts.{open_from, open_quote}
+use Rattle.cob_source.specs.Cuts.{open_quote}
 use Rattle.cob_source.specs.Lines.{spaces, program_text, indicator, left_out, continued_text, continued, filled, cells_from}
 use Rattle.cob_source.specs.Words.{is_bad_continuation}
 use Rattle.cob_source.proofs.Trims.{spaces_before, not_blank}
-use Rattle.cob_source.proofs.Opens.{open_from-append, open_trim_end}
+use Rattle.cob_source.specs.Reading.{StandsFor}
+use Rattle.cob_source.proofs.Opens.{open_trim_end}
 use Rattle.cob_source.proofs.joined.continue_line.Goals as goal
 
 pub returns-then-is_bad-clause-fault : goal.returns-then-is_bad-clause-fault
 returns-then-is_bad-clause-fault c =
     (sym (c.is_bad.ensures _ c.written_in-text.ensures.columns ∙ ap (λ (l : List Cell). is_bad_continuation l c.args.line.now) c.as_slice.ensures.value) ∙ c.if-is_bad.true, refl)
 
-few : (q : Option ℕ) (text : List ℕ) → spaces text < length text → length text ≤ 65 → left_out q text ≤ 65
-few None text some short = omega arith
-few (Some q) text some short = omega arith
-
-pub push_columns-requires : goal.push_columns-requires
-push_columns-requires c =
-    let line = c.args.line.now in
-    let short : length (program_text line) ≤ 65 = rw (← c.written_in-text.ensures.columns) c.written_in-text.ensures.short in
-    record {
-      few = rw (c.make_ready-skipped.ensures.skipped, c.written_in-text.ensures.columns) (few c.args.joined.now.quote (program_text line) (spaces_before _ (not_blank (indicator line) (program_text line) c.requires.kind)) short);
-      short = c.written_in-text.ensures.short;
-    }
-
-continued_is : (q : Option ℕ) (text line : List ℕ) (n skipped : ℕ) (old base new : List Cell) → base ≡ continued_text q old → skipped ≡ left_out q text → new ≡ base ++ cells_from n (8 + skipped) (drop skipped (filled text))
-    → text ≡ program_text line → q ≡ open_quote old → new ≡ continued (open_quote old) n old line
-continued_is q text line n skipped old base new b s p t r =
-    p ∙ ap (λ (l : List Cell). l ++ cells_from n (8 + skipped) (drop skipped (filled text))) b
-    ∙ ap (λ (k : ℕ). continued_text q old ++ cells_from n (8 + k) (drop k (filled text))) s
-    ∙ ap (λ (x : List ℕ). continued_text q old ++ cells_from n (8 + left_out q x) (drop (left_out q x) (filled x))) t
-    ∙ ap (λ (x : Option ℕ). continued x n old line) r
-
 -- what is open where the continuation is joined
 open_before : (q : Option ℕ) (cells : List Cell) → open_quote (continued_text q cells) ≡ open_quote cells
 open_before None cells = open_trim_end cells
 open_before (Some q) cells = refl
 
-open_new : (q q' : Option ℕ) (m : ℕ) (old base new slice more : List Cell) (now : Option ℕ) → base ≡ continued_text q old → q ≡ open_quote old → q' ≡ q → new ≡ base ++ more → slice ≡ new → m ≡ length base
-    → now ≡ open_from q' (take (length slice - m) (drop m slice)) → now ≡ open_quote new
-open_new q q' m old base new slice more now b r s p v l o =
-    let behind : take (length slice - m) (drop m slice) ≡ more =
-    take_rest slice m ∙ ap (drop m) (v ∙ p) ∙ ap (λ (k : ℕ). drop k (base ++ more)) l ∙ drop-append_seam base more in
-    let opened : open_quote base ≡ q' = ap open_quote b ∙ open_before q old ∙ sym r ∙ sym s in
-    o ∙ ap (open_from q') behind ∙ ap (λ (x : Option ℕ). open_from x more) (sym opened) ∙ sym (open_from-append None base more) ∙ ap open_quote (sym p)
+few : (q : Option ℕ) (text : List ℕ) → spaces text < length text → length text ≤ 65 → left_out q text ≤ 65
+few None text some short = omega arith
+few (Some q) text some short = omega arith
+
+pub add_columns-requires : goal.add_columns-requires
+add_columns-requires c =
+    let line = c.args.line.now in
+    let short : length (program_text line) ≤ 65 = rw (← c.written_in-text.ensures.columns) c.written_in-text.ensures.short in
+    record {
+      few = rw (c.make_ready-skipped.ensures.skipped, c.written_in-text.ensures.columns) (few c.args.joined.now.quote (program_text line) (spaces_before _ (not_blank (indicator line) (program_text line) c.requires.kind)) short);
+      short = c.written_in-text.ensures.short;
+      quote = c.make_ready-skipped.ensures.quote ∙ c.requires.quote ∙ sym (ap open_quote c.make_ready-skipped.ensures.cells ∙ open_before c.args.joined.now.quote c.args.joined.now.cells.items);
+    }
+
+continued_is : (q : Option ℕ) (text line : List ℕ) (n skipped : ℕ) (old base new : List Cell) → base ≡ continued_text q old → skipped ≡ left_out q text → StandsFor new (base ++ cells_from n (8 + skipped) (drop skipped (filled text)))
+    → text ≡ program_text line → q ≡ open_quote old → StandsFor new (continued (open_quote old) n old line)
+continued_is q text line n skipped old base new b s stands t r =
+    subst (StandsFor new)
+    (ap (λ (l : List Cell). l ++ cells_from n (8 + skipped) (drop skipped (filled text))) b
+    ∙ ap (λ (k : ℕ). continued_text q old ++ cells_from n (8 + k) (drop k (filled text))) s
+    ∙ ap (λ (x : List ℕ). continued_text q old ++ cells_from n (8 + left_out q x) (drop (left_out q x) (filled x))) t
+    ∙ ap (λ (x : Option ℕ). continued x n old line) r)
+    stands
 
 pub returns-clause-ok : goal.returns-clause-ok
 returns-clause-ok c =
@@ -55,7 +49,7 @@ returns-clause-ok c =
     let base = c.make_ready-skipped.new.joined.cells.items in
     record {
       fits = sym (c.is_bad.ensures c.args.line.now c.written_in-text.ensures.columns ∙ ap (λ (l : List Cell). is_bad_continuation l c.args.line.now) c.as_slice.ensures.value) ∙ c.if-is_bad.false;
-      cells_are = continued_is q _ _ _ _ old base _ c.make_ready-skipped.ensures.cells c.make_ready-skipped.ensures.skipped c.in_ok-push_columns.ensures c.written_in-text.ensures.columns c.requires.quote;
-      open_is = open_new q _ _ old base _ _ _ _ c.make_ready-skipped.ensures.cells c.requires.quote c.make_ready-skipped.ensures.quote c.in_ok-push_columns.ensures c.as_slice-2.ensures.value (omega (arith, c.len-before.ensures, c.make_ready-skipped.new.joined.cells.ok.0)) c.open_behind-joined.ensures;
-      last_is = refl;
+      stands = continued_is q _ _ _ _ old base _ c.make_ready-skipped.ensures.cells c.make_ready-skipped.ensures.skipped c.in_ok-add_columns.ensures.cells c.written_in-text.ensures.columns c.requires.quote;
+      open_is = c.in_ok-add_columns.ensures.quote;
+      last_is = c.in_ok-add_columns.ensures.last;
     }

@@ -1,6 +1,6 @@
 use Rattle.std.proofs.Common.{◌≡◌, drop}
-use Rattle.cob_source.specs.Cuts.{open_from}
+use Rattle.cob_source.specs.Reading.{open_in}
 use Rattle.cob_source.proofs.joined.open_behind.Given as goal
 
-abbrev pub invariant-loop-cell : goal.invariant-loop-cell
-invariant-loop-cell l = open_from l.initial.now l.cells ≡ open_from l.now (drop l.cell-index l.cells)
+abbrev pub invariant-loop-byte : goal.invariant-loop-byte
+invariant-loop-byte l = open_in l.initial.now l.bytes ≡ open_in l.now (drop l.byte-index l.bytes)

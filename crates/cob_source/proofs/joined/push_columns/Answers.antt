@@ -1,7 +1,7 @@
 use Rattle.std.proofs.Common.{◌≡◌, ℕ, ◌+◌, ◌-◌, List, [], ◌∷◌, ◌++◌, ◌≤◌, take, drop, refl, ap, sym, ◌∙◌, append_assoc, arith}
 use Rattle.cob_source.specs.declared.token.Cell.{Cell}
 use Rattle.cob_source.specs.Lines.{cells_from, filled}
-use Rattle.cob_source.proofs.Trims.{columns_more, columns_all}
+use Rattle.cob_source.proofs.Trims.{columns_more}
 use Rattle.cob_source.proofs.joined.push_columns.Goals as goal
 
 -- one more cell behind those that were added
@@ -15,13 +15,12 @@ cell_is b c n k e = ap (λ (b : ℕ). record { byte = b; line = n; column = k })
 pub loop-i-preserved : goal.loop-i-preserved
 loop-i-preserved c =
     pushed _ _ _ _ _ _ _ c.in_ok-push.ensures.items c.loop-i.invariant (cell_is _ _ _ _ c.column_at.ensures)
-    (columns_more c.args.line c.args.skipped c.loop-i.i c.args.area.now (c.loop-i.i + 8) c.loop-i.auto.i c.loop-i-test.true refl)
+    (columns_more c.args.line c.args.skipped c.loop-i.i c.args.area.now (c.loop-i.i + 8) c.loop-i.auto.i (omega (arith, c.loop-i-test.true, c.requires.few)) refl)
 
-at_end : (i k : ℕ) → k ≤ 65 → 65 ≤ i → (k ≤ 65 → i ≤ 65) → i ≡ 65
-at_end i k few le end = let h = end few in omega arith
+at_end : (i skipped end : ℕ) → skipped ≤ end → end ≤ i → (skipped ≤ end → i ≤ end) → i ≡ end
+at_end i skipped end from le within = let h = within from in omega arith
 
 pub returns : goal.returns
 returns c =
-    let end : c.loop-i.i ≡ 65 = at_end _ _ c.requires.few c.loop-i-test.false c.loop-i.auto.i-end in
-    c.loop-i.invariant ∙ ap (λ (t : List ℕ). c.args.cells.now.items ++ cells_from c.args.line (8 + c.args.skipped) t)
-    (ap (λ (k : ℕ). take (k - c.args.skipped) (drop c.args.skipped (filled c.args.area.now))) end ∙ columns_all c.args.skipped c.args.area.now c.requires.short)
+    let end : c.loop-i.i ≡ c.args.end = at_end _ _ _ c.requires.from c.loop-i-test.false c.loop-i.auto.i-end in
+    c.loop-i.invariant ∙ ap (λ (k : ℕ). c.args.cells.now.items ++ cells_from c.args.line (8 + c.args.skipped) (take (k - c.args.skipped) (drop c.args.skipped (filled c.args.area.now)))) end
