@@ -8,7 +8,7 @@ use Rattle.cob_source.specs.declared.token.Cell.{Cell}
 use Rattle.cob_source.specs.Cuts.{open_from, open_quote}
 use Rattle.cob_source.specs.Lines.{filled, cells_from}
 use Rattle.cob_source.specs.Words.{ends_quoted}
-use Rattle.cob_source.specs.Reading.{IsSpace, StandsFor, EndsInSpaces, open_in}
+use Rattle.cob_source.specs.Reading.{IsSpace, LeavesOutSpaces, EndsInSpaces, open_in}
 use Rattle.cob_source.proofs.Opens.{IsState, open_state, open_left, open_cells, open_filled, open_from-append}
 use Rattle.cob_source.proofs.Trims.{columns_more, length-filled}
 use Rattle.cob_source.proofs.Stands.{ends_space}
@@ -103,7 +103,7 @@ ends_kept n skipped end k text base new left short le (inr h) is l =
 
 -- a line whose columns are added so far as they are kept
 pub record Kept (n skipped : ℕ) (text : List ℕ) (base new : List Cell) (now : Option ℕ) : Type 0 where
-  pub stands : StandsFor new (base ++ cells_from n (8 + skipped) (drop skipped (filled text)))
+  pub stands : LeavesOutSpaces new (base ++ cells_from n (8 + skipped) (drop skipped (filled text)))
   pub open_is : now ≡ open_quote new
 
 pub kept : (n skipped end : ℕ) (text : List ℕ) (base new : List Cell) (q now : Option ℕ) → length text ≤ 65 → end ≤ 65 → EndsInSpaces text skipped end → (is_some now ≡ true → end ≡ 65)

@@ -13,7 +13,7 @@ use Rattle.cob_source.specs.Tokens.{Lexeme}
 use Rattle.cob_source.specs.Cuts.{is_quote, is_gap, open_from, open_quote, Cuts, End}
 use Rattle.cob_source.specs.Lines.{lines, program_text, behind_spaces, is_nil, kind_of_line, line_end, cells_behind, trim_end, continued_text, left_out, continued, join, join_by, joined_from, joined_of, last_by, last_from, last_joined}
 use Rattle.cob_source.specs.Words.{breaks, BreaksAlone, KeepsCharacters, BreaksAt, NoContinuation, IsLeftOpen, BreaksSourceRule, IsSourceRefusal, AreCutsOf, FitsLine, AllFit, is_bad_continuation, is_misfit, ends_quoted, first_character}
-use Rattle.cob_source.specs.Reading.{Begins, StandsFor, HasRead, EndRefused, ContinuationRefused, IsContinued, LineRefused}
+use Rattle.cob_source.specs.Reading.{Begins, LeavesOutSpaces, HasRead, EndRefused, ContinuationRefused, IsContinued, LineRefused}
 use Rattle.cob_source.proofs.Opens.{open_from-append}
 use Rattle.cob_source.proofs.CutOnce.{GapFirst, cut_both, cut_once}
 use Rattle.cob_source.proofs.Stands.{last_append, open_same, cut_same, continued_same, fits_same}
@@ -97,7 +97,7 @@ cut_on {m} words' r c w =
 
 pub starts : {m : Cutting} {before : List (List ℕ)} {cells : List Cell} {q : Option ℕ} {last : ℕ} {words : List Lexeme} (line : List ℕ) (n : ℕ) (ts : List Lexeme) (new : List Cell) (open_now : Option ℕ) (words' : List Lexeme)
     → HasRead m before cells q last words → KeepsCharacters line → kind_of_line line ≡ Plain → q ≡ None → Cuts m cells ts → words ++ ts ≡ words' → n ≡ length before + 1
-    → StandsFor new (line_end n ∷ cells_behind n 0 line) → open_now ≡ open_quote new → HasRead m (before ++ line ∷ []) new open_now n words'
+    → LeavesOutSpaces new (line_end n ∷ cells_behind n 0 line) → open_now ≡ open_quote new → HasRead m (before ++ line ∷ []) new open_now n words'
 starts {m} {before} {cells} {q} {last} {words} line n ts new open_now words' r k e none c w num stands open_is = record {
   done = joined_of before;
   whole = line_end n ∷ cells_behind n 0 line;

@@ -25,9 +25,9 @@ open_in q (b ∷ bs) = open_in (open_with q b) bs
 abbrev pub IsSpace : Cell → Type 0
 IsSpace c = c.byte ≡ 32
 
--- these cells stand for a text: what they leave out is spaces at its end, and nothing where a literal is open there; they end in a
+-- these cells are a text but for what they leave out: spaces at its end, and nothing where a literal is open there; they end in a
 -- quote exactly where the text does
-pub record StandsFor (cells whole : List Cell) : Type 0 where
+pub record LeavesOutSpaces (cells whole : List Cell) : Type 0 where
   pub left_out : List Cell
   pub whole_is : whole ≡ cells ++ left_out
   pub are_spaces : AllByRecursion IsSpace left_out
@@ -45,7 +45,7 @@ pub record HasRead (m : Cutting) (before : List (List ℕ)) (cells : List Cell) 
   pub whole : List Cell
   pub joined_is : joined_of before ≡ done ++ whole
   pub begins : Begins done whole
-  pub stands : StandsFor cells whole
+  pub stands : LeavesOutSpaces cells whole
   pub open_is : open_now ≡ open_quote cells
   pub closed : open_quote done ≡ None
   pub cut : Cuts m done words
@@ -67,7 +67,7 @@ ContinuationRefused rule n number cells line = ⊥
 -- a continuation line was joined
 pub record IsContinued (number : ℕ) (line : List ℕ) (old new : List Cell) (open_now : Option ℕ) (last : ℕ) : Type 0 where
   pub fits : is_bad_continuation old line ≡ false
-  pub stands : StandsFor new (continued (open_quote old) number old line)
+  pub stands : LeavesOutSpaces new (continued (open_quote old) number old line)
   pub open_is : open_now ≡ open_quote new
   pub last_is : last ≡ number
 

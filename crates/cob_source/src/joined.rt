@@ -3,7 +3,7 @@ ghost use Rattle.cob_source.specs.Tokens.{Lexeme, lexemes};
 ghost use Rattle.cob_source.specs.Cuts.{open_with, open_quote, is_quote, Cuts};
 ghost use Rattle.cob_source.specs.Lines.{filled, program_text, kind_of_line, trim_end, continued_text, left_out, cells_from, cells_behind, line_end};
 ghost use Rattle.cob_source.specs.Words.{ends_quoted, first_character, is_misfit, is_bad_continuation};
-ghost use Rattle.cob_source.specs.Reading.{StandsFor, EndsInSpaces, open_in, EndRefused, ContinuationRefused, IsContinued};
+ghost use Rattle.cob_source.specs.Reading.{LeavesOutSpaces, EndsInSpaces, open_in, EndRefused, ContinuationRefused, IsContinued};
 ghost use Rattle.cob_source.specs.declared.lines.LineKind.TheVariants.{Continuation};
 
 use crate::cut::cut;
@@ -108,7 +108,7 @@ fn add_columns(
     requires few { skipped ≤ 65 }
     requires short { length text.now ≤ 65 }
     requires quote { joined.old.quote ≡ open_quote joined.old.cells.items }
-    ensures cells { OnOk result (StandsFor joined.new.cells.items (joined.old.cells.items
+    ensures cells { OnOk result (LeavesOutSpaces joined.new.cells.items (joined.old.cells.items
         ++ cells_from number (8 + skipped) (drop skipped (filled text.now)))) }
     ensures quote { OnOk result (joined.new.quote ≡ open_quote joined.new.cells.items) }
     ensures last { OnOk result (joined.new.last ≡ number) }
@@ -138,7 +138,7 @@ fn drop_end(cells: &mut Vec<Cell>)
 /// Begins a new line.
 pub fn begin_line(number: u32, line: &[u8], joined: &mut Joined) -> Result<(), AllocError>
     ensures cells { OnOk result
-        (StandsFor joined.new.cells.items (line_end number ∷ cells_behind number 0 line.now)) }
+        (LeavesOutSpaces joined.new.cells.items (line_end number ∷ cells_behind number 0 line.now)) }
     ensures quote { OnOk result (joined.new.quote ≡ open_quote joined.new.cells.items) }
     ensures last { OnOk result (joined.new.last ≡ number) }
 {

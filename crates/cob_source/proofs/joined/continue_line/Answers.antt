@@ -5,7 +5,7 @@ use Rattle.cob_source.specs.Cuts.{open_quote}
 use Rattle.cob_source.specs.Lines.{spaces, program_text, indicator, left_out, continued_text, continued, filled, cells_from}
 use Rattle.cob_source.specs.Words.{is_bad_continuation}
 use Rattle.cob_source.proofs.Trims.{spaces_before, not_blank}
-use Rattle.cob_source.specs.Reading.{StandsFor}
+use Rattle.cob_source.specs.Reading.{LeavesOutSpaces}
 use Rattle.cob_source.proofs.Opens.{open_trim_end}
 use Rattle.cob_source.proofs.joined.continue_line.Goals as goal
 
@@ -32,10 +32,10 @@ add_columns-requires c =
       quote = c.make_ready-skipped.ensures.quote ∙ c.requires.quote ∙ sym (ap open_quote c.make_ready-skipped.ensures.cells ∙ open_before c.args.joined.now.quote c.args.joined.now.cells.items);
     }
 
-continued_is : (q : Option ℕ) (text line : List ℕ) (n skipped : ℕ) (old base new : List Cell) → base ≡ continued_text q old → skipped ≡ left_out q text → StandsFor new (base ++ cells_from n (8 + skipped) (drop skipped (filled text)))
-    → text ≡ program_text line → q ≡ open_quote old → StandsFor new (continued (open_quote old) n old line)
+continued_is : (q : Option ℕ) (text line : List ℕ) (n skipped : ℕ) (old base new : List Cell) → base ≡ continued_text q old → skipped ≡ left_out q text → LeavesOutSpaces new (base ++ cells_from n (8 + skipped) (drop skipped (filled text)))
+    → text ≡ program_text line → q ≡ open_quote old → LeavesOutSpaces new (continued (open_quote old) n old line)
 continued_is q text line n skipped old base new b s stands t r =
-    subst (StandsFor new)
+    subst (LeavesOutSpaces new)
     (ap (λ (l : List Cell). l ++ cells_from n (8 + skipped) (drop skipped (filled text))) b
     ∙ ap (λ (k : ℕ). continued_text q old ++ cells_from n (8 + k) (drop k (filled text))) s
     ∙ ap (λ (x : List ℕ). continued_text q old ++ cells_from n (8 + left_out q x) (drop (left_out q x) (filled x))) t
