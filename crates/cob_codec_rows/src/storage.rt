@@ -101,6 +101,7 @@ fn stored_and_read<S: Storage>(shape: &Shape, number: &Number, bytes: &mut [u8])
         (v.negative ≡ number.now.negative) × (v.digits ≡ number.now.digits)) }
 {
     S::store(shape, number, bytes);
+    S::laws();
     S::read(shape, bytes)
 }
 

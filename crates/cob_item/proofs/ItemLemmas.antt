@@ -9,10 +9,10 @@ use Rattle.cob_copybook_tree.specs.declared.node.Item.{Item}
 use Rattle.cob_copybook_tree.specs.Lengths.{item_size, stored_size}
 use Rattle.cob_codec.specs.Sign.{IsHeld}
 use Rattle.std.specs.Prelude.{if◌then◌else◌}
-use Rattle.cob_codec.specs.ZonedLaws as zoned
-use Rattle.cob_codec.specs.SeparateLaws as separate
-use Rattle.cob_codec.specs.PackedLaws as packed
-use Rattle.cob_codec.specs.BinaryLaws as binary
+use Rattle.cob_codec.proofs.ZonedLaws as zoned
+use Rattle.cob_codec.proofs.SeparateLaws as separate
+use Rattle.cob_codec.proofs.PackedLaws as packed
+use Rattle.cob_codec.proofs.BinaryLaws as binary
 use Rattle.cob_item.specs.declared.form.Form.{Form}
 use Rattle.cob_item.specs.declared.form.Form.TheVariants.{Zoned, Separate, Packed, Binary}
 use Rattle.cob_item.specs.Items.{IsNumberItem, Represents, stored_form, RepresentsAs, OneItemNumber, ItemReadsBack, HoldsNumbers, TakesPicture, written_as, form_of, form_by, display_form, is_leading, size_as}

@@ -2,7 +2,7 @@ use Rattle.std.proofs.Common.{◌≡◌, ℕ, ◌+◌, ◌*◌, ◌^◌, ◌<◌
 use Rattle.std.proofs.lemmas.List.{take_more}
 use Rattle.cob_decimal.specs.Decimal.{number_of}
 use Rattle.cob_decimal.proofs.DecimalLemmas.{number_of-push}
-use Rattle.cob_codec.specs.SignLaws.{digit_small}
+use Rattle.cob_codec.proofs.SignLemmas.{digit_small}
 use Rattle.cob_codec.proofs.BinaryLemmas.{room, one_more}
 use Rattle.cob_codec.proofs.binary.magnitude_of.Goals as goal
 

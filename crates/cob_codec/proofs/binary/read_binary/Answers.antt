@@ -1,7 +1,7 @@
 use Rattle.std.proofs.Common.{◌≡◌, ℕ, ◌^◌, ◌<◌, sym, ◌∙◌, arith}
 use Rattle.cob_decimal.specs.Decimal.{number_of}
 use Rattle.cob_decimal.proofs.DecimalLemmas.{number_of-lt}
-use Rattle.cob_codec.specs.BinaryLaws.{same_signed}
+use Rattle.cob_codec.proofs.BinaryLaws.{same_signed}
 use Rattle.cob_codec.proofs.binary.read_binary.Goals as goal
 
 pub returns-then-magnitude-power_of_ten-clause-none : goal.returns-then-magnitude-power_of_ten-clause-none

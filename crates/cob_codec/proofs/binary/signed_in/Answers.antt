@@ -1,7 +1,7 @@
 use Rattle.std.proofs.Common.{◌≡◌, ℕ, ◌+◌, ◌-◌, ◌*◌, ◌<◌, ◌≤◌, List, length, ap, sym, ◌∙◌, arith}
 use Rattle.byteorder.specs.Endian.{twos_complement}
 use Rattle.cob_codec.specs.Binary.{binary_length, binary_number}
-use Rattle.cob_codec.specs.BinaryLaws.{Width, half_of, width, twos_minus}
+use Rattle.cob_codec.proofs.BinaryLaws.{Width, half_of, width, twos_minus}
 use Rattle.cob_codec.proofs.binary.signed_in.Goals as goal
 
 pub returns-then-number-greatest-clause-value : goal.returns-then-number-greatest-clause-value

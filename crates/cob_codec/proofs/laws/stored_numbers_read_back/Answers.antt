@@ -1,7 +1,7 @@
-use Rattle.cob_codec.specs.ZonedLaws as zoned
-use Rattle.cob_codec.specs.SeparateLaws as separate
-use Rattle.cob_codec.specs.PackedLaws as packed
-use Rattle.cob_codec.specs.BinaryLaws as binary
+use Rattle.cob_codec.proofs.ZonedLaws as zoned
+use Rattle.cob_codec.proofs.SeparateLaws as separate
+use Rattle.cob_codec.proofs.PackedLaws as packed
+use Rattle.cob_codec.proofs.BinaryLaws as binary
 use Rattle.cob_codec.proofs.laws.stored_numbers_read_back.Goals as goal
 
 pub returns : goal.returns

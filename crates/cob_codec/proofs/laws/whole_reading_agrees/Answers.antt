@@ -1,6 +1,6 @@
 use Rattle.std.proofs.Common.{sym, ◌∙◌}
 use Rattle.cob_decimal.specs.Decimal.{number_of}
-use Rattle.cob_codec.specs.BinaryLaws.{same_signed}
+use Rattle.cob_codec.proofs.BinaryLaws.{same_signed}
 use Rattle.cob_codec.proofs.laws.whole_reading_agrees.Goals as goal
 
 pub returns : goal.returns

@@ -1,6 +1,6 @@
 use Rattle.std.proofs.Common.{◌≡◌, ℕ, ◌/◌, ◌%◌, ◌<◌, List, ◌++◌, [], ◌∷◌, length, take, get_or, ap, sym, ◌∙◌, arith, length-append, length-take-le, append_assoc}
 use Rattle.cob_codec.specs.Packed.{halves}
-use Rattle.cob_codec.specs.PackedLaws.{length-halves}
+use Rattle.cob_codec.proofs.PackedLaws.{length-halves}
 use Rattle.cob_codec.proofs.PackedLemmas.{digit_halves, more_halves}
 use Rattle.cob_codec.proofs.packed.push_halves.Goals as goal
 

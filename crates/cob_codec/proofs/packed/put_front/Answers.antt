@@ -1,7 +1,7 @@
 use Rattle.std.proofs.Common.{◌≡◌, ℕ, ◌-◌, ◌/◌, ◌%◌, List, ◌∷◌, length, take, drop, get_or, length-drop, ap, sym, ◌∙◌, arith}
 use Rattle.std.proofs.lemmas.List.{take_all}
 use Rattle.cob_codec.specs.Packed.{bytes_of_halves}
-use Rattle.cob_codec.specs.PackedLaws.{length-joined}
+use Rattle.cob_codec.proofs.PackedLaws.{length-joined}
 use Rattle.cob_codec.proofs.PackedLemmas.{odd_front}
 use Rattle.cob_codec.proofs.SliceLemmas.{after_first}
 use Rattle.cob_codec.proofs.packed.put_front.Goals as goal

@@ -1,6 +1,6 @@
 use Rattle.std.proofs.Common.{◌≡◌, ℕ, ◌-◌, ◌/◌, List, ◌++◌, [], ◌∷◌, length, take, get_or, ◌∙◌, arith, length-take-le}
-use Rattle.cob_codec.specs.SignLaws.{some_from, none_from}
-use Rattle.cob_codec.specs.PackedLaws.{front_count, packed_from, packed_parts}
+use Rattle.cob_codec.proofs.SignLemmas.{some_from, none_from}
+use Rattle.cob_codec.proofs.PackedLaws.{front_count, packed_from, packed_parts}
 use Rattle.cob_codec.proofs.PackedLemmas.{all_but_last, not_packed}
 use Rattle.cob_codec.proofs.packed.read_packed.Goals as goal
 

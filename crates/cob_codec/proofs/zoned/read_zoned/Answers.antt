@@ -1,4 +1,4 @@
-use Rattle.cob_codec.specs.ZonedLaws.{zoned_digit}
+use Rattle.cob_codec.proofs.ZonedLaws.{zoned_digit}
 use Rattle.std.proofs.Common.{◌<◌, ◌%◌, get_or, length, arith}
 use Rattle.cob_codec.proofs.zoned.read_zoned.Goals as goal
 

@@ -1,5 +1,5 @@
-use Rattle.cob_codec.specs.SignLaws.{only_from}
-use Rattle.cob_codec.specs.BinaryLaws.{one_number}
+use Rattle.cob_codec.proofs.SignLemmas.{only_from}
+use Rattle.cob_codec.proofs.BinaryLaws.{one_number}
 use Rattle.cob_codec.proofs.binary.BinaryStorage.read.Goals as goal
 
 pub returns-clause-only : goal.returns-clause-only

@@ -1,5 +1,5 @@
-use Rattle.cob_codec.specs.SignLaws.{only_from}
-use Rattle.cob_codec.specs.PackedLaws.{one_number}
+use Rattle.cob_codec.proofs.SignLemmas.{only_from}
+use Rattle.cob_codec.proofs.PackedLaws.{one_number}
 use Rattle.cob_codec.proofs.packed.PackedStorage.read.Goals as goal
 
 pub returns-clause-only : goal.returns-clause-only

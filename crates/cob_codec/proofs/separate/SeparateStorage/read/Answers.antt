@@ -1,5 +1,5 @@
-use Rattle.cob_codec.specs.SignLaws.{only_from}
-use Rattle.cob_codec.specs.SeparateLaws.{one_number}
+use Rattle.cob_codec.proofs.SignLemmas.{only_from}
+use Rattle.cob_codec.proofs.SeparateLaws.{one_number}
 use Rattle.cob_codec.proofs.separate.SeparateStorage.read.Goals as goal
 
 pub returns-clause-only : goal.returns-clause-only

@@ -6,8 +6,8 @@ use Rattle.std.proofs.lemmas.List.{length-replicate, append_cancel_left, same_fr
 use Rattle.std.proofs.lemmas.Nat.{div-mul-add, mod-mul-add}
 use Rattle.cob_decimal.specs.Decimal.{IsDigits}
 use Rattle.cob_codec.specs.Sign.{sign_code, IsHeld}
-use Rattle.cob_codec.specs.SignLaws.{code_meaning, code_small, one_sign, held, held_sign}
-use Rattle.cob_codec.specs.SeparateLaws.{heads, tails}
+use Rattle.cob_codec.proofs.SignLemmas.{code_meaning, code_small, one_sign, held, held_sign}
+use Rattle.cob_codec.proofs.SeparateLaws.{heads, tails}
 use Rattle.cob_codec.specs.Packed.{halves, bytes_of_halves, pad_count, packed_halves, packed_form, IsPacked, IsEnded}
 
 pub length-halves : (bs : List ℕ) → length (halves bs) ≡ 2 * length bs

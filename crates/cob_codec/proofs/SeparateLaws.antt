@@ -3,7 +3,7 @@ use Rattle.std.proofs.Common.{◌≡◌, ℕ, ◌+◌, ◌<◌, List, [], ◌∷
 use Rattle.std.proofs.lemmas.List.{length-map, same_from_push}
 use Rattle.cob_decimal.specs.Decimal.{number_of}
 use Rattle.cob_codec.specs.Sign.{IsHeld}
-use Rattle.cob_codec.specs.SignLaws.{same_sign, held_sign}
+use Rattle.cob_codec.proofs.SignLemmas.{same_sign, held_sign}
 use Rattle.cob_codec.specs.Zoned.{digit_bytes}
 use Rattle.cob_codec.specs.Separate.{sign_byte, separate_form, IsSignedSeparately}
 

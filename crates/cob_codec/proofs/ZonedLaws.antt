@@ -5,7 +5,7 @@ use Rattle.std.proofs.lemmas.List.{length-map, map-set, set-get_or, get_or-map}
 use Rattle.cob_decimal.specs.Decimal.{IsDigits}
 use Rattle.cob_codec.specs.Sign.{sign_meaning, sign_code, sign_place, IsHeld}
 use Rattle.cob_codec.specs.Zoned.{zone_of, low_digit, digit_bytes, IsZoned, zoned_form}
-use Rattle.cob_codec.specs.SignLaws.{digit_small, code_meaning, one_sign, held, held_sign}
+use Rattle.cob_codec.proofs.SignLemmas.{digit_small, code_meaning, one_sign, held, held_sign}
 
 -- the sign's place is one of the bytes
 pub place_within : (signed leading : Bool) (count : ℕ) → 0 < count → sign_place signed leading count < count
