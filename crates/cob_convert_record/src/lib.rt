@@ -17,8 +17,8 @@
 //!   one output or one stop, and never both.
 //! - Neither takes memory: all that they need is a [`Room`], made once, which each call leaves as large as it was (`room`).
 //!
-//! It stands on cob_move_apply for moves in order, on cob_move for the initial storage, on cob_layout for counts and lengths, and on cob_records
-//! for the two forms.
+//! It stands on cob_move_apply for moves in order, on cob_move_initial for the initial storage, on cob_layout for counts and lengths, and on
+//! cob_records for the two forms.
 #![tactic(auto)]
 
 mod conversion;
