@@ -10,7 +10,6 @@ pub mod ThoseLemmas
 pub mod ByteLemmas
 pub mod NeedLemmas
 pub mod StorageLemmas
-pub mod UnreadLemmas
 pub mod SpotLaw
 pub mod SpotMoves
 pub mod WayLaw

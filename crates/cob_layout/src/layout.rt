@@ -1,6 +1,6 @@
 //! Layouts.
 
-ghost use Rattle.std.specs.Prelude.{◌≡◌, ◌<◌, ◌≤◌, ◌+◌, length, Ok, Err, Some, OnOk, IfNone, IfOk, IfErr, IfSome, IsFalse, IsTrue, OnErr, option_map};
+ghost use Rattle.std.specs.Prelude.{◌≡◌, ◌<◌, ◌≤◌, ◌+◌, length, Ok, Err, Some, OnOk, IfNone, IfOk, IfErr, IfSome, OnErr, option_map};
 ghost use Rattle.cob_copybook.specs.Forests.{entries_in};
 ghost use Rattle.cob_copybook.specs.TreeLengths.{greatest_number, sum_of};
 ghost use Rattle.cob_limits.specs.Limits.{longest_record};
@@ -11,7 +11,7 @@ ghost use Rattle.cob_layout_places.specs.Cover.{IsCovered};
 ghost use Rattle.cob_copybook.specs.Bytes.{TakeBytes};
 ghost use Rattle.cob_layout_places.specs.References.{Refers};
 ghost use Rattle.cob_layout.specs.Placed.{placed};
-ghost use Rattle.cob_layout.specs.Counting.{greatest_counts, AreGreatest, CountsOf, NeededOf, ReadsNone};
+ghost use Rattle.cob_layout.specs.Counting.{greatest_counts, AreGreatest, CountsOf, NeededOf};
 
 use crate::copy::copied;
 use crate::counts::{Counts, greatest_in_order};
@@ -263,23 +263,5 @@ impl Layout {
         )?;
         counts.taken.copy_from_slice(&counts.next);
         Ok(())
-    }
-
-    /// Whether the place of a reference needs no count, so that it is the same in every storage.
-    ///
-    /// The counts are room to ask in; what they hold afterwards isn't said.
-    pub fn needs_no_count(&self, reference: &Ref, receiving: bool, counts: &mut Counts) -> bool
-        requires refers { Refers reference.now.node reference.now.subscripts.items self.now }
-        requires room { length counts.old ≡ entries_in self.now }
-        ensures must { IsTrue result → ReadsNone self.now reference.now.node receiving }
-        ensures only { IsFalse result → ReadsNone self.now reference.now.node receiving → ⊥ }
-        ensures room { length counts.new ≡ length counts.old }
-    {
-        let _ = self.greatest();
-        // Each count is an item, which takes a byte, and so ends past the end of no bytes.
-        match self.needed(reference, receiving, &[], counts) {
-            Ok(()) => true,
-            Err(_) => false,
-        }
     }
 }

@@ -26,7 +26,7 @@
 //!   to its greatest (`ok`), or answers the first fault (`err`) and leaves the counts as they were (`same`).
 //! - [`Layout::needed`] takes only the counts that a reference reads: those of the tables that stand before its entry, are it, hold it, stand
 //!   beneath it or beneath a table that holds it, but not those that it is spared where it receives; the other tables have their greatest number
-//!   (`ok`, `err`, `same`). [`Layout::needs_no_count`] says whether it reads none (`must`, `only`): then its place is the same in every storage.
+//!   (`ok`, `err`, `same`).
 //! - [`Layout::places_of`] takes all counts of a record's bytes and where its entries stand under them, in one walk and with no memory, into
 //!   [`Places`] that [`Layout::new_places`] made (`ok`), or answers the first fault (`err`). In them [`Layout::place_in`] finds a reference by
 //!   its number and its subscripts alone, with the answer of [`Layout::place`] under these counts (`value`, `current`, `fits`), and

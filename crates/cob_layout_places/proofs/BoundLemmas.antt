@@ -2,10 +2,10 @@
 use Rattle.std.proofs.Common.{ℕ, ◌+◌, ◌*◌, ◌≤◌, List, arith, Option, Some, None, Bool, true, false}
 use Rattle.cob_copybook_tree.specs.Forests.{Forest, NoEntries, AnEntry}
 use Rattle.cob_copybook_tree.specs.Nodes.{Resolved}
-use Rattle.cob_copybook_tree.specs.Lengths.{greatest_number, element_length, sum_of}
+use Rattle.cob_copybook_tree.specs.Lengths.{greatest_number, element_length, own_length, sum_of, whole_length}
 use Rattle.cob_layout_places.specs.declared.places.Found.{Found}
-use Rattle.cob_layout_places.specs.Lengths.{times}
-use Rattle.cob_layout_places.specs.Places.{place_of, begins, or_else, also, choose, is_table, skipped, EndsBy, EndInRecord}
+use Rattle.cob_layout_places.specs.Lengths.{times, area_by}
+use Rattle.cob_layout_places.specs.Places.{place_of, begins, or_else, also, choose, is_table, skipped, EndsBy, EndInRecord, EntryEndsInRecord}
 use Rattle.cob_layout_places.proofs.ForestLemmas.{element_le, within_always}
 use Rattle.cob_layout_places.proofs.PlaceLemmas.{Left, Fits, first_of, rest_of, element_fits, beneath_fits}
 
@@ -46,3 +46,26 @@ pub end_in_record : EndInRecord
 end_in_record counts number tree start subscripts f =
     find_fits (times counts) number tree start start (start + sum_of greatest_number tree) subscripts
     (record { possible = f.possible; leaves = f.leaves; within = within_always counts tree; space = 0; room_left = omega arith; areas = f.areas; greatest = omega arith })
+
+-- an entry takes no more room of its own than its elements, and these are no longer than an area of their length
+own_le : (o : Option (List ℕ)) (w : ℕ) → own_length o w ≤ w
+own_le None w = omega arith
+own_le (Some name) w = omega arith
+
+in_own_area : (o : Option (List ℕ)) (w : ℕ) → w ≤ area_by o w w
+in_own_area None w = omega arith
+in_own_area (Some name) w = omega arith
+
+pub entry_ends : EntryEndsInRecord
+entry_ends counts number e b start subscripts f =
+    let whole = whole_length greatest_number e b in
+    find_fits (times counts) number (AnEntry e b NoEntries) start start (start + whole) subscripts
+    (record {
+      possible = f.possible;
+      leaves = f.leaves;
+      within = within_always counts (AnEntry e b NoEntries);
+      space = whole;
+      room_left = omega arith;
+      areas = (in_own_area e.redefines whole, f.areas, tt);
+      greatest = omega (arith, own_le e.redefines whole);
+    })

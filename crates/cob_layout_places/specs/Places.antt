@@ -6,7 +6,7 @@ use Rattle.cob_copybook_tree.specs.Forests.{Forest, NoEntries, AnEntry}
 use Rattle.cob_copybook_tree.specs.Nodes.{Resolved}
 use Rattle.cob_copybook_tree.specs.Lengths.{element_length, whole_length, own_length, greatest_number, sum_of}
 use Rattle.cob_layout_places.specs.declared.places.Found.{Found}
-use Rattle.cob_layout_places.specs.Lengths.{times, FitsInRecord}
+use Rattle.cob_layout_places.specs.Lengths.{times, EntryFits, FitsInRecord}
 
 -- an entry with OCCURS is a table
 abbrev pub is_table : ResolvedOccurs → Bool
@@ -76,3 +76,9 @@ EndsBy m o = IfSome o (λ f. f.offset + f.length ≤ m)
 abbrev pub EndInRecord : Type 0
 EndInRecord = (counts : List ℕ) (number : ℕ) (tree : Forest Resolved) (start : ℕ) (subscripts : List ℕ) → FitsInRecord start tree
     → EndsBy (start + sum_of greatest_number tree) (place_of (times counts) number tree start start subscripts)
+
+-- and what is found of one entry with those beneath it ends within its greatest length, whether or not it redefines
+abbrev pub EntryEndsInRecord : Type 0
+EntryEndsInRecord = (counts : List ℕ) (number : ℕ) (entry : Resolved) (children : Forest Resolved) (start : ℕ) (subscripts : List ℕ)
+    → EntryFits start entry children
+    → EndsBy (start + whole_length greatest_number entry children) (place_of (times counts) number (AnEntry entry children NoEntries) start start subscripts)

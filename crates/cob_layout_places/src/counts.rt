@@ -2,10 +2,10 @@ ghost use Rattle.std.specs.Prelude.{◌≡◌, ◌≢◌, ℕ, ◌+◌, ◌<◌,
 ghost use Rattle.cob_decimal.specs.Decimal.{IsDigits, number_of};
 ghost use Rattle.cob_copybook_tree.specs.declared.node.Item.{Item};
 ghost use Rattle.cob_copybook_tree.specs.declared.node.Kind.TheVariants.{Item as ItemKind};
-ghost use Rattle.cob_copybook_tree.specs.Nodes.{tree_of};
+ghost use Rattle.cob_copybook_tree.specs.Nodes.{node, tree_of};
 ghost use Rattle.cob_copybook_tree.specs.Lengths.{item_size};
 ghost use Rattle.cob_item.specs.Items.{IsNumberItem};
-ghost use Rattle.cob_layout_places.specs.Lengths.{times, FitsInRecord};
+ghost use Rattle.cob_layout_places.specs.Lengths.{times, EntryFits};
 ghost use Rattle.cob_layout_places.specs.Places.{place_of};
 ghost use Rattle.cob_layout_places.specs.Counts.{AreCountable, AreNumberedBelow, IsCountValue, IsCountable, IsCounted, kind_in, SaysOfTable, Taken};
 
@@ -128,7 +128,7 @@ pub fn count_there(root: &Node, table: Table, found: Found, bytes: &[u8]) -> Res
 ///
 /// The count gives no number from its table's least to its greatest one, or ends past the bytes.
 pub fn count_of(root: &Node, table: Table, bytes: &[u8], counts: &[u32]) -> Result<u32, CountFault>
-    requires fit { FitsInRecord 0 (tree_of root.now) }
+    requires fit { EntryFits 0 (node root.now).top (node root.now).beneath }
     requires countable { IsCountable (tree_of root.now) table }
     ensures ok { IfOk result (λ v. IsCounted (tree_of root.now) bytes.now table counts.now (Ok v)) }
     ensures err { IfErr result
@@ -151,7 +151,7 @@ pub fn take_counts(
     bytes: &[u8],
     counts: &mut [u32],
 ) -> Result<(), CountFault>
-    requires fit { FitsInRecord 0 (tree_of root.now) }
+    requires fit { EntryFits 0 (node root.now).top (node root.now).beneath }
     requires countable { AreCountable (tree_of root.now) tables.now }
     requires slots { AreNumberedBelow (length counts.old) tables.now }
     ensures ok { OnOk result

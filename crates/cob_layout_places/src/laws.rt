@@ -2,14 +2,15 @@ ghost use Rattle.std.specs.Prelude.{ℕ, List};
 ghost use Rattle.cob_copybook_tree.specs.Lengths.{greatest_number};
 ghost use Rattle.cob_layout_places.specs.Lengths.{times};
 ghost use Rattle.cob_layout_places.specs.Needs.{NeedsAreRead};
-ghost use Rattle.cob_layout_places.specs.Places.{EndInRecord};
+ghost use Rattle.cob_layout_places.specs.Places.{EndInRecord, EntryEndsInRecord};
 ghost use Rattle.cob_layout_places.specs.Counts.{OneOutcome};
 ghost use Rattle.cob_layout_places.specs.Agree.{OnePlace, SameCounts};
 ghost use Rattle.cob_layout_places.specs.Cover.{Covering, CountsOccurrences};
 
-/// A place that is found ends within the record's greatest length.
+/// A place that is found ends within the greatest length: of the entries side by side that it is found in, or of the one entry.
 pub fn places_end_in_record()
-    ensures { EndInRecord }
+    ensures entries { EndInRecord }
+    ensures entry { EntryEndsInRecord }
 {}
 
 /// Each byte of a record is in exactly one occurrence of an item that stands in no redefinition.

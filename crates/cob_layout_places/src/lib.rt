@@ -19,8 +19,9 @@
 //!   [`is_needed`] is its test of a table. [`needs_are_read`] says which these are in the words of COBOL, and [`one_place`] that counts that
 //!   agree on them give the entry one place.
 //!
-//! What holds of the entries of every record is asked for as `FitsInRecord` of specs/Lengths.antt: each entry may occur, groups alone have entries
-//! beneath them, no redefinition is longer than its area, and the record isn't too long.
+//! What holds of the entries of every record is asked for as `EntryFits` of specs/Lengths.antt: each entry may occur, groups alone have entries
+//! beneath them, no redefinition beneath the entry is longer than its area, and the entry isn't too long. `FitsInRecord` says so of entries that
+//! stand side by side.
 //!
 //! It stands on `cob_copybook_tree` for the entries and on `cob_item` for the numbers of counts. Only [`tables`] takes memory.
 #![tactic(auto)]

@@ -1,7 +1,7 @@
 ghost use Rattle.std.specs.Prelude.{◌≡◌, ◌==◌, ◌&&◌, false, ℕ, ◌+◌, ◌<◌, ◌≤◌, Bool, List, length, Ok, Err, OnOk, IfErr};
 ghost use Rattle.cob_copybook_tree.specs.Forests.{entries_in};
 ghost use Rattle.cob_copybook_tree.specs.Nodes.{forest, node, tree_of};
-ghost use Rattle.cob_layout_places.specs.Lengths.{FitsInRecord};
+ghost use Rattle.cob_layout_places.specs.Lengths.{EntryFits};
 ghost use Rattle.cob_layout_places.specs.Places.{is_table};
 ghost use Rattle.cob_layout_places.specs.Cover.{AreNumbered};
 ghost use Rattle.cob_layout_places.specs.Counts.{AreCountable, AreNumberedBelow, Taken};
@@ -89,7 +89,7 @@ pub fn take_needed(
     bytes: &[u8],
     counts: &mut [u32],
 ) -> Result<(), CountFault>
-    requires fit { FitsInRecord 0 (tree_of root.now) }
+    requires fit { EntryFits 0 (node root.now).top (node root.now).beneath }
     requires numbered { AreNumbered 0 (tree_of root.now) }
     requires countable { AreCountable (tree_of root.now) tables.now }
     requires slots { AreNumberedBelow (length counts.old) tables.now }

@@ -1,7 +1,7 @@
 ghost use Rattle.std.specs.Prelude.{◌≡◌, ℕ, ◌+◌, ◌*◌, ◌<◌, ◌≤◌, Bool, List, length, Option, Some, None, IfOk, IfErr};
 ghost use Rattle.cob_copybook_tree.specs.Nodes.{node, tree_of};
 ghost use Rattle.cob_copybook_tree.specs.Lengths.{element_length, greatest_number, greatest_number_by, length_by_kind, own_length, whole_length};
-ghost use Rattle.cob_layout_places.specs.Lengths.{times, EntryFits, FitsInRecord, MayOccur};
+ghost use Rattle.cob_layout_places.specs.Lengths.{times, EntryFits, MayOccur};
 ghost use Rattle.cob_limits.specs.Limits.{longest_record};
 ghost use Rattle.cob_layout_places.specs.Places.{also, begins, place_of, is_table, is_there, later, skipped};
 
@@ -145,7 +145,7 @@ pub fn seek(
     start: u32,
     subscripts: &[u32],
 ) -> Option<Found>
-    requires { FitsInRecord start (tree_of entry.now) }
+    requires { EntryFits start (node entry.now).top (node entry.now).beneath }
     ensures { result ≡ place_of (times counts.now) number
         (tree_of entry.now) start start subscripts.now }
 {

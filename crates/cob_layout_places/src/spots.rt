@@ -4,7 +4,7 @@ ghost use Rattle.std.specs.Prelude.{◌≡◌, ◌++◌, ◌+◌, ◌≤◌, dro
 ghost use Rattle.cob_copybook_tree.specs.Forests.{entries_in};
 ghost use Rattle.cob_copybook_tree.specs.Lengths.{sum_of};
 ghost use Rattle.cob_copybook_tree.specs.Nodes.{forest, node, tree_of};
-ghost use Rattle.cob_layout_places.specs.Lengths.{times, EntryFits, FitsInRecord};
+ghost use Rattle.cob_layout_places.specs.Lengths.{times, EntryFits};
 ghost use Rattle.cob_layout_places.specs.Spots.{spots_of};
 
 use crate::lengths::times_of;
@@ -51,7 +51,7 @@ fn put_entry(entry: &Node, counts: &[u32], start: u32, spots: &mut [Spot]) -> us
 
 /// Writes the spots of an entry that begins at `start` and of those beneath it, in their order; the answer is how many these are.
 pub fn put_spots(entry: &Node, counts: &[u32], start: u32, spots: &mut [Spot]) -> usize
-    requires fit { FitsInRecord start (tree_of entry.now) }
+    requires fit { EntryFits start (node entry.now).top (node entry.now).beneath }
     requires room { entries_in (tree_of entry.now) ≤ length spots.old }
     ensures count { result ≡ entries_in (tree_of entry.now) }
     ensures spots { spots.new ≡ spots_of (times counts.now) (tree_of entry.now) start start

@@ -117,7 +117,7 @@ fn pair_move(alloc: Global, groups: &TwoGroups, one: &Pair<'_, '_>) -> Result<Mo
     };
     let receiver = operand_below(&groups.to, one.to);
     judge(&sender, &receiver.kind)?;
-    let mut receivers = Vec::new(alloc);
+    let mut receivers = Vec::with_capacity(alloc, 1)?;
     receivers.push(receiver)?;
     Ok(Move { sender, receivers })
 }

@@ -64,7 +64,7 @@ pub fn references_at<'a>(
         → Several IsReference xs ws → EndsReferences more → lexemes words.now ≡ ws ++ more
         → IfOk result (λ r. (written_references r.0.items ≡ xs) × (lexemes r.1.now ≡ more)) }
 {
-    let mut references = Vec::new(alloc);
+    let mut references = Vec::with_capacity(alloc, 1)?;
     let mut rest = words;
     while let Some((reference, more)) = reference_at(rest) {
         references.push(reference)?;

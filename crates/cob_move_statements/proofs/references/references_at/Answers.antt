@@ -9,7 +9,7 @@ use Rattle.cob_move_statements.proofs.references.references_at.Goals as goal
 
 pub loop-reference-init : goal.loop-reference-init
 loop-reference-init c =
-    subst (λ (ds : List WrittenReference). SoFar IsReference EndsReferences (lexemes c.args.words.now) (lexemes c.args.words.now) ds) (sym (ap written_references c.new-references.ensures.items))
+    subst (λ (ds : List WrittenReference). SoFar IsReference EndsReferences (lexemes c.args.words.now) (lexemes c.args.words.now) ds) (sym (ap written_references c.in_ok-references.ensures.items))
     (begins IsReference EndsReferences (lexemes c.args.words.now))
 
 pub loop-reference-preserved : goal.loop-reference-preserved

@@ -1,8 +1,12 @@
 use Rattle.std.proofs.Common.{ap, ◌∙◌, length, arith}
-use Rattle.cob_copybook.specs.Nodes.{tree_of}
+use Rattle.cob_copybook.specs.Nodes.{node, tree_of}
+use Rattle.cob_layout_places.proofs.PlaceLemmas.{entry_fits}
 use Rattle.cob_layout.proofs.RecordLemmas.{as_many, slots_for}
 use Rattle.cob_layout.proofs.GreatestLemmas.{greatest_length}
 use Rattle.cob_layout.proofs.layout.Layout.counts_of.Goals as goal
+
+pub take_counts-requires-clause-fit : goal.take_counts-requires-clause-fit
+take_counts-requires-clause-fit c = entry_fits 0 (node c.self.inside.root).top (node c.self.inside.root).beneath c.self.invariant.1.fit
 
 pub copy_from_slice-requires : goal.copy_from_slice-requires
 copy_from_slice-requires c =

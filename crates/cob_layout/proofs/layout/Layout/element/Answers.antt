@@ -15,7 +15,7 @@ element_at-requires c =
     let tables : c.tables_at-tables.result.now ≡ (held_at (map held ways) r).tables = rw c.deref.ensures.value at c.tables_at-tables.ensures in
     let counts = c.requires.spots.0 in
     let is = element_is t u counts c.args.spots.now ways r subscripts c.self.invariant.1 c.self.view_is c.self.invariant.6 c.requires.refers c.requires.spots.1 in
-    let fits = element_fits c.places_end_in_record.ensures t u counts r subscripts (moved c.args.spots.now (held_at (map held ways) r).tables subscripts (first_element c.args.spots.now r)) c.self.invariant.1 c.self.view_is is in
+    let fits = element_fits c.places_end_in_record.ensures.entries t u counts r subscripts (moved c.args.spots.now (held_at (map held ways) r).tables subscripts (first_element c.args.spots.now r)) c.self.invariant.1 c.self.view_is is in
     record { room = rw (tables, c.as_slice.ensures.value) (omega (arith, fits)) }
 
 pub returns : goal.returns

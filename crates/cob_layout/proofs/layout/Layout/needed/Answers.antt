@@ -2,13 +2,17 @@ use Rattle.std.proofs.Common.{rules, ◌≡◌, ap, ◌∙◌, length, arith, Er
 use Rattle.std.specs.Prelude.{IfErr}
 use Rattle.std.proofs.lemmas.List.{length-replicate}
 use Rattle.cob_copybook.specs.Forests.{entries_in}
-use Rattle.cob_copybook.specs.Nodes.{tree_of}
+use Rattle.cob_copybook.specs.Nodes.{node, tree_of}
+use Rattle.cob_layout_places.proofs.PlaceLemmas.{entry_fits}
 use Rattle.cob_layout.proofs.RecordLemmas.{number_below, slots_for}
 use Rattle.cob_layout_places.specs.Counts.{tables_of, Taken}
 use Rattle.cob_layout_places.specs.Needs.{needed_tables}
 use Rattle.cob_layout.specs.Counting.{greatest_counts}
 use Rattle.cob_layout.proofs.NeedLemmas.{front_is, zeros_are, needed_at, needed_err}
 use Rattle.cob_layout.proofs.layout.Layout.needed.Goals as goal
+
+pub take_needed-requires-clause-fit : goal.take_needed-requires-clause-fit
+take_needed-requires-clause-fit c = entry_fits 0 (node c.self.inside.root).top (node c.self.inside.root).beneath c.self.invariant.1.fit
 
 pub take_needed-requires-clause-slots : goal.take_needed-requires-clause-slots
 take_needed-requires-clause-slots c =

@@ -1,11 +1,15 @@
 use Rattle.std.proofs.Common.{sym, subst, ◌∙◌}
-use Rattle.cob_copybook.specs.Nodes.{tree_of}
+use Rattle.cob_copybook.specs.Nodes.{node, tree_of}
 use Rattle.cob_layout_places.specs.Lengths.{times}
 use Rattle.cob_layout_places.specs.Needs.{Has}
+use Rattle.cob_layout_places.proofs.PlaceLemmas.{entry_fits}
 use Rattle.cob_layout.proofs.ReferenceLemmas.{found_there, refers_has}
 use Rattle.cob_layout.proofs.EndLemmas.{current}
 use Rattle.cob_layout.proofs.StandingLemmas.{most_fits}
 use Rattle.cob_layout.proofs.layout.Layout.place.Goals as goal
+
+pub seek-requires : goal.seek-requires
+seek-requires c = entry_fits 0 (node c.self.inside.root).top (node c.self.inside.root).beneath c.self.invariant.1.fit
 
 pub returns-in-None-clause-value : goal.returns-in-None-clause-value
 returns-in-None-clause-value c =
