@@ -1,5 +1,6 @@
 pub mod PlaceLemmas
 pub mod ListLemmas
+pub mod BasisLemmas
 pub mod ReceiverLemmas
 pub mod OneLemmas
 pub mod CountLemmas

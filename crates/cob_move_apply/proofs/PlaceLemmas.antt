@@ -23,8 +23,8 @@ use Rattle.cob_layout.specs.Storage.{greatest_length}
 use Rattle.cob_move_operands.specs.declared.Side.{Side}
 use Rattle.cob_move_operands.specs.declared.Operand.{Operand}
 use Rattle.cob_move_operands.specs.Moves.{IsOperand}
-use Rattle.cob_move_apply.specs.declared.step.PlacedOperand.{PlacedOperand}
-use Rattle.cob_move_apply.specs.declared.step.Basis.TheVariants as basis
+use Rattle.cob_move_apply.specs.declared.basis.Basis.{Basis}
+use Rattle.cob_move_apply.specs.declared.basis.Basis.TheVariants as basis
 use Rattle.cob_move_apply.specs.declared.stop.StopCause.TheVariants.{Subscript}
 use Rattle.cob_move_apply.specs.Located.{Located, StandsUnder, stop_at}
 use Rattle.cob_move_apply.specs.Placed.{IsFixed, IsPlaced, IsBasis}
@@ -69,8 +69,8 @@ filled_at side t receiving o bytes p sound is (counts, needs, stands) =
 
 -- ---- what a place rests on
 
-pub fixed_in : (t : Forest Resolved) (receiving : Bool) (o : PlacedOperand) (p : Place) → IsPlaced t receiving o → o.basis ≡ basis.Fixed p → IsFixed t receiving o.operand p
-fixed_in t receiving o p is e = subst (IsBasis t receiving o.operand) e is.basis
+pub fixed_in : (t : Forest Resolved) (receiving : Bool) (o : Operand) (b : Basis) (p : Place) → IsPlaced t receiving o b → b ≡ basis.Fixed p → IsFixed t receiving o p
+fixed_in t receiving o b p is e = subst (IsBasis t receiving o) e is.basis
 
 -- where all counts of a storage are valid, and the operand is spared none
 pub under_all : AllGiveNeeded → (t : Forest Resolved) (receiving : Bool) (o : Operand) (bytes : List ℕ) (places : Standing) (there : Result Place PlaceFault)

@@ -1,7 +1,5 @@
--- Moves with the places of their operands, or what these rest on.
-use Rattle.std.specs.Prelude.{ℕ, ◌+◌, ◌≤◌, Bool, true, false, List, map, Ok}
-use Rattle.std.specs.List.{AllByRecursion}
-use Rattle.cob_layout.specs.Described.{plain_value}
+-- Moves, with what the places of their operands rest on.
+use Rattle.std.specs.Prelude.{◌≡◌, ℕ, ◌+◌, ◌≤◌, Bool, true, false, List, [], ◌∷◌, ◌++◌, Ok}
 use Rattle.cob_layout.specs.Forests.{Forest}
 use Rattle.cob_layout.specs.Nodes.{Resolved}
 use Rattle.cob_layout.specs.declared.fields.Place.{Place}
@@ -14,25 +12,8 @@ use Rattle.cob_move_receive.specs.Sent.{sent}
 use Rattle.cob_move_apply.specs.Applied.{Content}
 use Rattle.cob_move_apply.specs.Located.{Located}
 use Rattle.cob_move_apply.specs.declared.receivers.Given.{Given}
-use Rattle.cob_move_apply.specs.declared.step.PlacedOperand.{PlacedOperand}
-use Rattle.cob_move_apply.specs.declared.step.PlacedSender.{PlacedSender}
-use Rattle.cob_move_apply.specs.declared.step.PlacedSender.TheVariants as placed_sender
-use Rattle.cob_move_apply.specs.declared.step.Step.{Step}
-use Rattle.cob_move_apply.specs.declared.step.Basis.{Basis}
-use Rattle.cob_move_apply.specs.declared.step.Basis.TheVariants as basis
-
--- the operand itself
-abbrev pub operand_of : PlacedOperand → Operand
-operand_of p = p.operand
-
--- the sender itself
-abbrev pub sender_of : PlacedSender → Sender
-sender_of (placed_sender.Entry side p) = Entry side p.operand
-sender_of (placed_sender.Constant value) = Literal (plain_value value)
-
--- the move itself
-abbrev pub move_of : Step → Move
-move_of s = record { sender = sender_of s.sender; receivers = map operand_of s.receivers.items }
+use Rattle.cob_move_apply.specs.declared.basis.Basis.{Basis}
+use Rattle.cob_move_apply.specs.declared.basis.Basis.TheVariants as basis
 
 -- what the code's value gives
 abbrev pub content_of : Given → Content
@@ -51,20 +32,27 @@ IsBasis tree receiving o basis.AllCounts = SparesNone tree o.entry.node receivin
 IsBasis tree receiving o basis.NeededCounts = Unit {0}
 
 -- an operand of the record, with what its place rests on
-pub record IsPlaced (tree : Forest Resolved) (receiving : Bool) (p : PlacedOperand) : Type 0 where
-  pub operand : IsOperand tree p.operand
-  pub basis : IsBasis tree receiving p.operand p.basis
+pub record IsPlaced (tree : Forest Resolved) (receiving : Bool) (o : Operand) (b : Basis) : Type 0 where
+  pub operand : IsOperand tree o
+  pub basis : IsBasis tree receiving o b
 
--- so is a sender
-abbrev pub IsPlacedSender : Records → PlacedSender → Type 0
-IsPlacedSender r (placed_sender.Entry side p) = IsPlaced (record_of r side) false p
-IsPlacedSender r (placed_sender.Constant value) = Unit {0}
+-- so is a sender; a constant has no place
+abbrev pub IsPlacedSender : Records → Sender → Basis → Type 0
+IsPlacedSender r (Entry side o) b = IsPlaced (record_of r side) false o b
+IsPlacedSender r (Literal c) b = Unit {0}
 
--- and so are the sender and the receivers of a move
-pub record IsPlacedMove (r : Records) (s : Step) : Type 0 where
-  pub sender : IsPlacedSender r s.sender
-  pub receivers : AllByRecursion (IsPlaced r.output true) s.receivers.items
+-- receivers, and what the place of each rests on, in their order
+abbrev pub ArePlacedReceivers : Forest Resolved → List Operand → List Basis → Type 0
+ArePlacedReceivers tree [] [] = Unit {0}
+ArePlacedReceivers tree (o ∷ os) (b ∷ bs) = IsPlaced tree true o b × ArePlacedReceivers tree os bs
+ArePlacedReceivers tree _ _ = ⊥
 
--- moves between these records, with the places of their operands
-abbrev pub ArePlacedMoves : Records → List Step → Type 0
-ArePlacedMoves r steps = AllByRecursion (IsPlacedMove r) steps
+-- a move, and what the places of its operands rest on: the sender's first, and then the receivers'
+abbrev pub IsPlacedMove : Records → Move → List Basis → Type 0
+IsPlacedMove r m [] = ⊥
+IsPlacedMove r m (b ∷ bs) = IsPlacedSender r m.sender b × ArePlacedReceivers r.output m.receivers bs
+
+-- moves, and what the places of their operands rest on, one move's behind another's
+abbrev pub ArePlacedMoves : Records → List Move → List Basis → Type 0
+ArePlacedMoves r [] bs = bs ≡ []
+ArePlacedMoves r (m ∷ ms) bs = (own rest : List Basis) × (bs ≡ own ++ rest) × IsPlacedMove r m own × ArePlacedMoves r ms rest

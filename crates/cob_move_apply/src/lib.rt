@@ -19,6 +19,7 @@
 #![tactic(auto)]
 
 mod application;
+mod basis;
 mod laws;
 mod moves;
 mod places;
@@ -26,7 +27,6 @@ mod preparation;
 mod receivers;
 mod scratch;
 mod senders;
-mod step;
 mod stop;
 mod survey;
 mod workspace;

@@ -7,9 +7,9 @@ ghost use Rattle.cob_move_apply.specs.Applied.{Applied, ending};
 ghost use Rattle.cob_move_apply.specs.Room.{room_of};
 
 use crate::application::apply_in;
-use crate::preparation::placed_moves;
+use crate::basis::Basis;
+use crate::preparation::bases_of;
 use crate::scratch::Scratch;
-use crate::step::Step;
 use crate::stop::Stop;
 use crate::workspace::Layouts;
 use cob_layout::{Layout, records_are_sound};
@@ -30,7 +30,9 @@ fn at_most_u32(count: usize) -> u32
 /// Moves between two records, ready to be carried out.
 #[derive(Debug, Drop)]
 pub struct Moves {
-    pub(crate) steps: Vec<Step>,
+    pub(crate) moves: Vec<Move>,
+    /// What the places of the operands rest on, one move's behind another's.
+    pub(crate) bases: Vec<Basis>,
 }
 
 impl Moves {
@@ -43,18 +45,21 @@ impl Moves {
     /// Where no memory is left.
     pub fn new(
         alloc: Global,
-        moves: Vec<Move>,
+        given: Vec<Move>,
         input: &Layout,
         output: &Layout,
     ) -> Result<Moves, AllocError>
-        requires moves { AreMoves (record { input = input.now; output = output.now })
-            (map move moves.items) }
-        ensures made { IfOk result (λ m. moves_of m ≡ map move moves.items) }
+        requires given { AreMoves (record { input = input.now; output = output.now })
+            (map move given.items) }
+        ensures made { IfOk result (λ m. moves_of m ≡ map move given.items) }
         ensures prepared { IfOk result
             (λ m. ArePrepared (record { input = input.now; output = output.now }) m) }
     {
-        let steps = placed_moves(alloc, moves, input, output)?;
-        Ok(Moves { steps })
+        let bases = bases_of(alloc, given.as_slice(), input, output)?;
+        Ok(Moves {
+            moves: given,
+            bases,
+        })
     }
 
     /// How many single moves these are: each is a sender with one of its receivers. More than a u32 holds come as the greatest u32.
@@ -62,8 +67,8 @@ impl Moves {
         ensures { result ≡ min (single_moves (moves_of self.now)) 4294967295 }
     {
         let mut count: usize = 0;
-        for step in self.steps.iter() {
-            count = count.saturating_add(step.receivers.len());
+        for one in self.moves.iter() {
+            count = count.saturating_add(one.receivers.len());
         }
         at_most_u32(count)
     }
@@ -103,7 +108,8 @@ impl Moves {
             output: output_layout,
         };
         apply_in(
-            self.steps.as_slice(),
+            self.moves.as_slice(),
+            self.bases.as_slice(),
             &layouts,
             input,
             output,

@@ -12,7 +12,7 @@ ghost use Rattle.cob_move_apply.specs.Placed.{IsPlaced};
 ghost use Rattle.cob_move_apply.specs.declared.stop.StopCause.TheVariants.{Subscript};
 ghost use Rattle.cob_move_apply.specs.Surveyed.{IsSurvey};
 
-use crate::step::{Basis, PlacedOperand};
+use crate::basis::{Basis, PlacedOperand};
 use crate::stop::{Stop, StopCause};
 use crate::survey::Survey;
 use cob_layout::{Counts, Layout, Place, PlaceFault, Places, all_give_needed};
@@ -42,6 +42,7 @@ fn past_count(side: Side, fault: PlaceFault) -> Stop
 /// # Errors
 ///
 /// The first count that it needs and that isn't valid; a subscript past its table's count.
+#[inline(never)]
 fn place_by_needs(
     stored: &Stored<'_>,
     operand: &Operand,
@@ -101,37 +102,63 @@ fn place_by_counts(
     }
 }
 
-/// Where an operand stands in a storage, sending or receiving.
+/// Where an operand that is spared no count stands in a storage: by all counts where they are valid, and else by those that it needs.
 ///
 /// # Errors
 ///
 /// The first count that it needs and that isn't valid; a subscript past its table's count.
-pub(crate) fn locate(
+#[inline(never)]
+fn place_by_all(
     stored: &Stored<'_>,
-    placed: &PlacedOperand,
+    operand: &Operand,
     receiving: bool,
     survey: &mut Survey,
 ) -> Result<Place, Stop>
     requires sound { IsSound stored.now.layout.now }
-    requires placed { IsPlaced stored.now.layout.now receiving placed.now }
+    requires operand { IsOperand stored.now.layout.now operand.now }
+    requires spared { SparesNone stored.now.layout.now operand.now.entry.node receiving }
     requires survey { IsSurvey stored.now.layout.now stored.now.bytes.now survey.old }
-    ensures located { Located stored.now.side stored.now.layout.now receiving placed.now.operand
+    ensures located { Located stored.now.side stored.now.layout.now receiving operand.now
         stored.now.bytes.now result }
     ensures fits { IfOk result
         (λ p. p.offset + p.length ≤ greatest_length stored.now.layout.now) }
-    ensures filled { IfOk result (λ p. Occupies placed.now.operand.kind p.length) }
+    ensures filled { IfOk result (λ p. Occupies operand.now.kind p.length) }
     ensures survey { IsSurvey stored.now.layout.now stored.now.bytes.now survey.new }
 {
-    let operand = &placed.operand;
+    if survey.take(stored.layout, stored.bytes) {
+        place_by_counts(stored, operand, receiving, &survey.places)
+    } else {
+        place_by_needs(stored, operand, receiving, &mut survey.needed)
+    }
+}
+
+/// Where an operand stands in a storage, sending or receiving. It is inlined so that a place that rests on no count costs no call.
+///
+/// # Errors
+///
+/// The first count that it needs and that isn't valid; a subscript past its table's count.
+#[inline(always)]
+pub(crate) fn locate(
+    stored: &Stored<'_>,
+    placed: &PlacedOperand<'_>,
+    receiving: bool,
+    survey: &mut Survey,
+) -> Result<Place, Stop>
+    requires sound { IsSound stored.now.layout.now }
+    requires placed { IsPlaced stored.now.layout.now receiving
+        placed.now.operand.now placed.now.basis }
+    requires survey { IsSurvey stored.now.layout.now stored.now.bytes.now survey.old }
+    ensures located { Located stored.now.side stored.now.layout.now receiving
+        placed.now.operand.now stored.now.bytes.now result }
+    ensures fits { IfOk result
+        (λ p. p.offset + p.length ≤ greatest_length stored.now.layout.now) }
+    ensures filled { IfOk result (λ p. Occupies placed.now.operand.now.kind p.length) }
+    ensures survey { IsSurvey stored.now.layout.now stored.now.bytes.now survey.new }
+{
+    let operand = placed.operand;
     match placed.basis {
         Basis::Fixed(place) => Ok(place),
-        Basis::AllCounts => {
-            if survey.take(stored.layout, stored.bytes) {
-                place_by_counts(stored, operand, receiving, &survey.places)
-            } else {
-                place_by_needs(stored, operand, receiving, &mut survey.needed)
-            }
-        }
+        Basis::AllCounts => place_by_all(stored, operand, receiving, survey),
         Basis::NeededCounts => place_by_needs(stored, operand, receiving, &mut survey.needed),
     }
 }

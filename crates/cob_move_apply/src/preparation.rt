@@ -1,11 +1,18 @@
 //! Moves made ready: the places that are the same in every storage, found once, and what each other one rests on.
 
-ghost use Rattle.std.specs.Prelude.{◌≡◌, map, true, false, IfOk};
+ghost use Rattle.std.specs.Prelude.{◌≡◌, ◌++◌, List, map, true, false, IfOk, OnOk};
 ghost use Rattle.std.specs.List.{AllByRecursion};
 ghost use Rattle.cob_move_operands.specs.Moves.{AreMoves, IsMove, IsOperand, IsSender, move, sender};
-ghost use Rattle.cob_move_apply.specs.Placed.{ArePlacedMoves, IsPlaced, IsPlacedMove, IsPlacedSender, IsBasis, move_of, operand_of, sender_of};
+ghost use Rattle.cob_move_apply.specs.Placed.{
+  ArePlacedMoves,
+  ArePlacedReceivers,
+  IsBasis,
+  IsPlacedMove,
+  IsPlacedSender,
+};
+ghost use Rattle.cob_move_apply.specs.declared.basis.Basis as specs_basis;
 
-use crate::step::{Basis, PlacedOperand, PlacedSender, Step};
+use crate::basis::Basis;
 use cob_layout::Layout;
 use cob_move_operands::{Move, Operand, Sender, Side};
 use std::alloc::{AllocError, Global};
@@ -25,101 +32,84 @@ fn basis_of(layout: &Layout, operand: &Operand, receiving: bool) -> Basis
     }
 }
 
-/// An operand, with what its place rests on.
-fn placed(layout: &Layout, operand: Operand, receiving: bool) -> PlacedOperand
-    requires operand { IsOperand layout.now operand }
-    ensures same { operand_of result ≡ operand }
-    ensures placed { IsPlaced layout.now receiving result }
-{
-    let basis = basis_of(layout, &operand, receiving);
-    PlacedOperand { operand, basis }
-}
-
-/// A sender, with what its place rests on.
-fn placed_sender(given: Sender, input: &Layout, output: &Layout) -> PlacedSender
-    requires given { IsSender (record { input = input.now; output = output.now }) (sender given) }
-    ensures same { sender_of result ≡ sender given }
-    ensures placed { IsPlacedSender (record { input = input.now; output = output.now }) result }
+/// What a sender's place rests on. A constant has no place, and its basis is never asked for.
+fn sender_basis(given: &Sender, input: &Layout, output: &Layout) -> Basis
+    requires given { IsSender (record { input = input.now; output = output.now }) (sender given.now) }
+    ensures { IsPlacedSender (record { input = input.now; output = output.now }) (sender given.now)
+        result }
 {
     match given {
-        Sender::Constant(value) => PlacedSender::Constant(value),
-        Sender::Entry { side, operand } => match side {
-            Side::In => PlacedSender::Entry {
-                side: Side::In,
-                operand: placed(input, operand, false),
-            },
-            Side::Out => PlacedSender::Entry {
-                side: Side::Out,
-                operand: placed(output, operand, false),
-            },
+        Sender::Constant(_) => Basis::NeededCounts,
+        Sender::Entry { side, operand } => match *side {
+            Side::In => basis_of(input, operand, false),
+            Side::Out => basis_of(output, operand, false),
         },
     }
 }
 
-/// Receivers, each with what its place rests on.
+/// Puts what the place of each receiver rests on behind the bases so far.
 ///
 /// # Errors
 ///
 /// Where no memory is left.
-fn placed_receivers(
-    alloc: Global,
-    receivers: Vec<Operand>,
+fn push_receivers(
+    receivers: &[Operand],
     layout: &Layout,
-) -> Result<Vec<PlacedOperand>, AllocError>
-    requires receivers { AllByRecursion (IsOperand layout.now) receivers.items }
-    ensures same { IfOk result (λ all. map operand_of all.items ≡ receivers.items) }
-    ensures placed { IfOk result (λ all. AllByRecursion (IsPlaced layout.now true) all.items) }
+    bases: &mut Vec<Basis>,
+) -> Result<(), AllocError>
+    requires receivers { AllByRecursion (IsOperand layout.now) receivers.now }
+    ensures placed { OnOk result ((own : List specs_basis.Basis)
+        × (bases.new.items ≡ bases.old.items ++ own)
+        × ArePlacedReceivers layout.now receivers.now own) }
 {
-    let mut all = Vec::with_capacity(alloc, receivers.len())?;
     for receiver in receivers {
-        all.push(placed(layout, receiver, true))?;
+        let basis = basis_of(layout, receiver, true);
+        bases.push(basis)?;
     }
-    Ok(all)
+    Ok(())
 }
 
-/// A move, with what the places of its operands rest on.
+/// Puts what the places of a move's operands rest on behind the bases so far: the sender's, and then its receivers'.
 ///
 /// # Errors
 ///
 /// Where no memory is left.
-fn placed_move(
-    alloc: Global,
-    given: Move,
+fn push_move(
+    one: &Move,
     input: &Layout,
     output: &Layout,
-) -> Result<Step, AllocError>
-    requires given { IsMove (record { input = input.now; output = output.now }) (move given) }
-    ensures same { IfOk result (λ step. move_of step ≡ move given) }
-    ensures placed { IfOk result
-        (λ step. IsPlacedMove (record { input = input.now; output = output.now }) step) }
+    bases: &mut Vec<Basis>,
+) -> Result<(), AllocError>
+    requires one { IsMove (record { input = input.now; output = output.now }) (move one.now) }
+    ensures placed { OnOk result ((own : List specs_basis.Basis)
+        × (bases.new.items ≡ bases.old.items ++ own)
+        × IsPlacedMove (record { input = input.now; output = output.now }) (move one.now) own) }
 {
-    let Move { sender, receivers } = given;
-    let sender = placed_sender(sender, input, output);
-    let receivers = placed_receivers(alloc, receivers, output)?;
-    Ok(Step { sender, receivers })
+    let basis = sender_basis(&one.sender, input, output);
+    bases.push(basis)?;
+    push_receivers(one.receivers.as_slice(), output, bases)
 }
 
-/// Moves, with what the places of their operands rest on.
+/// What the places of the operands of moves rest on, one move's behind another's.
 ///
 /// # Errors
 ///
 /// Where no memory is left.
-pub(crate) fn placed_moves(
+pub(crate) fn bases_of(
     alloc: Global,
-    given: Vec<Move>,
+    given: &[Move],
     input: &Layout,
     output: &Layout,
-) -> Result<Vec<Step>, AllocError>
+) -> Result<Vec<Basis>, AllocError>
     requires given { AreMoves (record { input = input.now; output = output.now })
-        (map move given.items) }
-    ensures same { IfOk result (λ steps. map move_of steps.items ≡ map move given.items) }
+        (map move given.now) }
     ensures placed { IfOk result
-        (λ steps. ArePlacedMoves (record { input = input.now; output = output.now }) steps.items) }
+        (λ bases. ArePlacedMoves (record { input = input.now; output = output.now })
+        (map move given.now) bases.items) }
 {
-    let mut steps = Vec::with_capacity(alloc, given.len())?;
+    let mut bases = Vec::with_capacity(alloc, given.len().saturating_mul(2))?;
     for one in given {
-        let step = placed_move(alloc, one, input, output)?;
-        steps.push(step)?;
+        push_move(one, input, output, &mut bases)?;
     }
-    Ok(steps)
+    Ok(bases)
 }

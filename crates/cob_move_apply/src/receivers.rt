@@ -1,16 +1,15 @@
 //! The receivers of a move, one after another.
 
-ghost use Rattle.std.specs.Prelude.{◌≡◌, length, map, OnErr, true};
-ghost use Rattle.std.specs.List.{AllByRecursion};
+ghost use Rattle.std.specs.Prelude.{◌≡◌, length, OnErr, true};
 ghost use Rattle.cob_layout.specs.Sound.{IsSound};
 ghost use Rattle.cob_layout.specs.Storage.{greatest_length};
 ghost use Rattle.cob_move_receive.specs.Sent.{sent, IsComplete};
 ghost use Rattle.cob_move_apply.specs.Applied.{AllGet, Gets, ending, kept};
-ghost use Rattle.cob_move_apply.specs.Placed.{IsPlaced, content_of, operand_of};
+ghost use Rattle.cob_move_apply.specs.Placed.{ArePlacedReceivers, IsPlaced, content_of};
 ghost use Rattle.cob_move_apply.specs.Surveyed.{IsSurvey};
 
+use crate::basis::{PlacedOperand, PlacedReceivers};
 use crate::places::{Stored, locate};
-use crate::step::PlacedOperand;
 use crate::stop::{Stop, StopCause};
 use crate::survey::Survey;
 use cob_layout::Layout;
@@ -33,16 +32,16 @@ pub(crate) struct Given<'a> {
 fn receive_one(
     layout: &Layout,
     given: &Given<'_>,
-    receiver: &PlacedOperand,
+    receiver: &PlacedOperand<'_>,
     output: &mut [u8],
     survey: &mut Survey,
 ) -> Result<(), Stop>
     requires sound { IsSound layout.now }
     requires given { IsComplete (sent given.now.sent) }
-    requires receiver { IsPlaced layout.now true receiver.now }
+    requires receiver { IsPlaced layout.now true receiver.now.operand.now receiver.now.basis }
     requires output { length output.old ≡ greatest_length layout.now }
     requires survey { IsSurvey layout.now output.old survey.old }
-    ensures gets { Gets layout.now (content_of given.now) receiver.now.operand output.old
+    ensures gets { Gets layout.now (content_of given.now) receiver.now.operand.now output.old
         (kept result output.new) }
     ensures same { OnErr result (output.new ≡ output.old) }
     ensures survey { IsSurvey layout.now output.new survey.new }
@@ -75,21 +74,26 @@ fn receive_one(
 pub(crate) fn receive_all(
     layout: &Layout,
     given: &Given<'_>,
-    receivers: &[PlacedOperand],
+    receivers: &PlacedReceivers<'_>,
     output: &mut [u8],
     survey: &mut Survey,
 ) -> Result<(), Stop>
     requires sound { IsSound layout.now }
     requires given { IsComplete (sent given.now.sent) }
-    requires receivers { AllByRecursion (IsPlaced layout.now true) receivers.now }
+    requires receivers { ArePlacedReceivers layout.now
+        receivers.now.operands.now receivers.now.bases.now }
     requires output { length output.old ≡ greatest_length layout.now }
     requires survey { IsSurvey layout.now output.old survey.old }
-    ensures get { AllGet layout.now (content_of given.now) (map operand_of receivers.now) output.old
+    ensures get { AllGet layout.now (content_of given.now) receivers.now.operands.now output.old
         (ending result output.new) }
     ensures survey { IsSurvey layout.now output.new survey.new }
 {
-    for receiver in receivers {
-        receive_one(layout, given, receiver, output, survey)?;
+    for (index, operand) in receivers.operands.iter().enumerate() {
+        let receiver = PlacedOperand {
+            operand,
+            basis: receivers.bases[index],
+        };
+        receive_one(layout, given, &receiver, output, survey)?;
     }
     Ok(())
 }

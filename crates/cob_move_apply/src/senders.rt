@@ -1,23 +1,22 @@
 //! One move: what its sender gives, and its receivers in turn.
 
-ghost use Rattle.std.specs.Prelude.{◌≡◌, ◌+◌, ◌≤◌, ℕ, List, length, map, take, true, false};
-ghost use Rattle.std.specs.List.{AllByRecursion};
+ghost use Rattle.std.specs.Prelude.{◌≡◌, ◌+◌, ◌≤◌, ℕ, List, length, take, true, false};
 ghost use Rattle.cob_layout.specs.Fields.{field_of};
 ghost use Rattle.cob_layout.specs.Sound.{IsSound};
 ghost use Rattle.cob_layout.specs.Storage.{greatest_length, IsStorage};
-ghost use Rattle.cob_move_operands.specs.Moves.{Entry};
+ghost use Rattle.cob_move_operands.specs.Moves.{Entry, move};
 ghost use Rattle.cob_move_operands.specs.declared.Side.TheVariants.{In, Out};
 ghost use Rattle.cob_move_apply.specs.Applied.{IsMoved, ending};
-ghost use Rattle.cob_move_apply.specs.Placed.{IsPlaced, IsPlacedMove, move_of, operand_of};
+ghost use Rattle.cob_move_apply.specs.Placed.{ArePlacedReceivers, IsPlaced, IsPlacedMove};
 ghost use Rattle.cob_move_apply.specs.Surveyed.{IsWorkspace, records};
 
+use crate::basis::{Basis, PlacedOperand, PlacedReceivers};
 use crate::places::{Stored, locate};
 use crate::receivers::{Given, receive_all};
-use crate::step::{PlacedOperand, PlacedSender, Step};
 use crate::stop::Stop;
 use crate::workspace::{Layouts, Workspace};
 use cob_layout::{Place, field, places_lie_in_storage};
-use cob_move_operands::Side;
+use cob_move_operands::{Move, Sender, Side};
 use cob_move_receive::Sent;
 
 /// Copies the bytes of a place to the front of `content`.
@@ -36,8 +35,8 @@ fn copy_field(place: Place, bytes: &[u8], content: &mut [u8])
 ///
 /// The first thing missing.
 fn move_from_input(
-    sender: &PlacedOperand,
-    receivers: &[PlacedOperand],
+    sender: &PlacedOperand<'_>,
+    receivers: &PlacedReceivers<'_>,
     layouts: &Layouts<'_>,
     input: &[u8],
     output: &mut [u8],
@@ -45,13 +44,14 @@ fn move_from_input(
 ) -> Result<(), Stop>
     requires in_sound { IsSound layouts.now.input.now }
     requires out_sound { IsSound layouts.now.output.now }
-    requires sender { IsPlaced layouts.now.input.now false sender.now }
-    requires receivers { AllByRecursion (IsPlaced layouts.now.output.now true) receivers.now }
+    requires sender { IsPlaced layouts.now.input.now false sender.now.operand.now sender.now.basis }
+    requires receivers { ArePlacedReceivers layouts.now.output.now
+        receivers.now.operands.now receivers.now.bases.now }
     requires input { IsStorage layouts.now.input.now input.now }
     requires output { length output.old ≡ greatest_length layouts.now.output.now }
     requires space { IsWorkspace (records layouts.now) input.now output.old space.old }
     ensures moved { IsMoved (records layouts.now)
-        (record { sender = Entry In sender.now.operand; receivers = map operand_of receivers.now })
+        (record { sender = Entry In sender.now.operand.now; receivers = receivers.now.operands.now })
         input.now output.old (ending result output.new) }
     ensures space { IsWorkspace (records layouts.now) input.now output.new space.new }
 {
@@ -80,20 +80,21 @@ fn move_from_input(
 ///
 /// The first thing missing.
 fn move_within_output(
-    sender: &PlacedOperand,
-    receivers: &[PlacedOperand],
+    sender: &PlacedOperand<'_>,
+    receivers: &PlacedReceivers<'_>,
     layouts: &Layouts<'_>,
     input: &[u8],
     output: &mut [u8],
     space: &mut Workspace,
 ) -> Result<(), Stop>
     requires sound { IsSound layouts.now.output.now }
-    requires sender { IsPlaced layouts.now.output.now false sender.now }
-    requires receivers { AllByRecursion (IsPlaced layouts.now.output.now true) receivers.now }
+    requires sender { IsPlaced layouts.now.output.now false sender.now.operand.now sender.now.basis }
+    requires receivers { ArePlacedReceivers layouts.now.output.now
+        receivers.now.operands.now receivers.now.bases.now }
     requires output { length output.old ≡ greatest_length layouts.now.output.now }
     requires space { IsWorkspace (records layouts.now) input.now output.old space.old }
     ensures moved { IsMoved (records layouts.now)
-        (record { sender = Entry Out sender.now.operand; receivers = map operand_of receivers.now })
+        (record { sender = Entry Out sender.now.operand.now; receivers = receivers.now.operands.now })
         input.now output.old (ending result output.new) }
     ensures space { IsWorkspace (records layouts.now) input.now output.new space.new }
 {
@@ -115,13 +116,14 @@ fn move_within_output(
     receive_all(layouts.output, &given, receivers, output, &mut space.output)
 }
 
-/// Carries out one move.
+/// Carries out one move. The bases are those of its sender and of its receivers.
 ///
 /// # Errors
 ///
 /// The first thing missing. The storage is as the receivers before left it then.
 pub(crate) fn make_move(
-    step: &Step,
+    one: &Move,
+    bases: &[Basis],
     layouts: &Layouts<'_>,
     input: &[u8],
     output: &mut [u8],
@@ -129,27 +131,42 @@ pub(crate) fn make_move(
 ) -> Result<(), Stop>
     requires in_sound { IsSound layouts.now.input.now }
     requires out_sound { IsSound layouts.now.output.now }
-    requires step { IsPlacedMove (records layouts.now) step.now }
+    requires placed { IsPlacedMove (records layouts.now) (move one.now) bases.now }
     requires input { IsStorage layouts.now.input.now input.now }
     requires output { length output.old ≡ greatest_length layouts.now.output.now }
     requires space { IsWorkspace (records layouts.now) input.now output.old space.old }
-    ensures moved { IsMoved (records layouts.now) (move_of step.now) input.now output.old
+    ensures moved { IsMoved (records layouts.now) (move one.now) input.now output.old
         (ending result output.new) }
     ensures space { IsWorkspace (records layouts.now) input.now output.new space.new }
 {
-    let receivers = step.receivers.as_slice();
-    match &step.sender {
-        PlacedSender::Entry { side, operand } => match *side {
-            Side::In => move_from_input(operand, receivers, layouts, input, output, space),
-            Side::Out => move_within_output(operand, receivers, layouts, input, output, space),
-        },
-        PlacedSender::Constant(value) => {
+    let receivers = PlacedReceivers {
+        operands: one.receivers.as_slice(),
+        bases: &bases[1..],
+    };
+    match &one.sender {
+        Sender::Entry { side, operand } => {
+            let sender = PlacedOperand {
+                operand,
+                basis: bases[0],
+            };
+            match *side {
+                Side::In => move_from_input(&sender, &receivers, layouts, input, output, space),
+                Side::Out => move_within_output(&sender, &receivers, layouts, input, output, space),
+            }
+        }
+        Sender::Constant(value) => {
             let given = Given {
                 sent: Sent::Constant(value),
                 side: Side::Out,
                 offset: 0,
             };
-            receive_all(layouts.output, &given, receivers, output, &mut space.output)
+            receive_all(
+                layouts.output,
+                &given,
+                &receivers,
+                output,
+                &mut space.output,
+            )
         }
     }
 }

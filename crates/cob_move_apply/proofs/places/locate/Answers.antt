@@ -3,11 +3,11 @@ use Rattle.cob_move_apply.proofs.places.locate.Goals as goal
 
 pub returns-in-Fixed-clause-located : goal.returns-in-Fixed-clause-located
 returns-in-Fixed-clause-located c =
-    let fixed = fixed_in c.args.stored.now.layout.now c.args.receiving c.args.placed.now c.in-Fixed.place c.requires.placed c.in-Fixed.is in
+    let fixed = fixed_in c.args.stored.now.layout.now c.args.receiving c.args.placed.now.operand.now c.args.placed.now.basis c.in-Fixed.place c.requires.placed c.in-Fixed.is in
     fixed.place c.args.stored.now.side c.args.stored.now.bytes.now
 
 pub returns-in-Fixed-clause-filled : goal.returns-in-Fixed-clause-filled
 returns-in-Fixed-clause-filled c =
-    let fixed = fixed_in c.args.stored.now.layout.now c.args.receiving c.args.placed.now c.in-Fixed.place c.requires.placed c.in-Fixed.is in
-    filled_at c.args.stored.now.side c.args.stored.now.layout.now c.args.receiving c.args.placed.now.operand c.args.stored.now.bytes.now c.in-Fixed.place c.requires.sound c.requires.placed.operand
+    let fixed = fixed_in c.args.stored.now.layout.now c.args.receiving c.args.placed.now.operand.now c.args.placed.now.basis c.in-Fixed.place c.requires.placed c.in-Fixed.is in
+    filled_at c.args.stored.now.side c.args.stored.now.layout.now c.args.receiving c.args.placed.now.operand.now c.args.stored.now.bytes.now c.in-Fixed.place c.requires.sound c.requires.placed.operand
     (fixed.place c.args.stored.now.side c.args.stored.now.bytes.now)

@@ -1,0 +1,120 @@
+-- Moves, and what the places of their operands rest on.
+use Rattle.std.proofs.Common.{◌≡◌, ℕ, ◌+◌, ◌<◌, ◌≤◌, true, List, [], ◌∷◌, ◌++◌, length, get_or, take, drop, refl, sym, ap, subst, ◌∙◌, arith, append_assoc, append-nil}
+use Rattle.std.proofs.lemmas.List.{drop_all, drop_more, length-append}
+use Rattle.std.proofs.Math.Seq.{take-append_seam, drop-append_seam}
+use Rattle.cob_layout.specs.Forests.{Forest}
+use Rattle.cob_layout.specs.Nodes.{Resolved}
+use Rattle.cob_move_operands.specs.declared.Operand.{Operand}
+use Rattle.cob_move_operands.specs.Moves.{Move, Records}
+use Rattle.cob_move_apply.specs.declared.basis.Basis.{Basis}
+use Rattle.cob_move_apply.specs.Placed.{ArePlacedMoves, ArePlacedReceivers, IsPlaced, IsPlacedMove, IsPlacedSender}
+use Rattle.cob_move_apply.proofs.ListLemmas.{next}
+
+-- ---- receivers
+
+pub as_many : (tree : Forest Resolved) (os : List Operand) (bs : List Basis) → ArePlacedReceivers tree os bs → length os ≡ length bs
+as_many tree [] [] h = refl
+as_many tree [] (b ∷ bs) h = absurd h
+as_many tree (o ∷ os) [] h = absurd h
+as_many tree (o ∷ os) (b ∷ bs) h = omega (arith, as_many tree os bs h.1)
+
+pub in_both : (tree : Forest Resolved) (os : List Operand) (bs : List Basis) (i : ℕ) → ArePlacedReceivers tree os bs → i < length os → i < length bs
+in_both tree os bs i h lt = omega (arith, lt, as_many tree os bs h)
+
+-- the receiver at a place, and those behind it
+here : (tree : Forest Resolved) (os : List Operand) (bs : List Basis) (i : ℕ) (o : Operand) (d : Basis) → i < length os → o ≡ get_or os i o → i < length bs
+    → ArePlacedReceivers tree (drop i os) (drop i bs) → ArePlacedReceivers tree (o ∷ drop (i + 1) os) (get_or bs i d ∷ drop (i + 1) bs)
+here tree os bs i o d lt is below h =
+    subst (λ (ys : List Basis). ArePlacedReceivers tree (o ∷ drop (i + 1) os) ys) (drop_more bs i d below)
+    (subst (λ (xs : List Operand). ArePlacedReceivers tree xs (drop i bs)) (next os i o lt is) h)
+
+pub left_receiver : (tree : Forest Resolved) (os : List Operand) (bs : List Basis) (i : ℕ) (o : Operand) (d : Basis) → i < length os → o ≡ get_or os i o → i < length bs
+    → ArePlacedReceivers tree (drop i os) (drop i bs) → IsPlaced tree true o (get_or bs i d)
+left_receiver tree os bs i o d lt is below h = let all = here tree os bs i o d lt is below h in all.0
+
+pub more_left : (tree : Forest Resolved) (os : List Operand) (bs : List Basis) (i : ℕ) (o : Operand) (d : Basis) → i < length os → o ≡ get_or os i o → i < length bs
+    → ArePlacedReceivers tree (drop i os) (drop i bs) → ArePlacedReceivers tree (drop (i + 1) os) (drop (i + 1) bs)
+more_left tree os bs i o d lt is below h = let all = here tree os bs i o d lt is below h in all.1
+
+-- ---- noting the bases of receivers
+
+-- the bases of these receivers stand behind those before
+abbrev pub Noted : Forest Resolved → List Operand → List Basis → List Basis → Type 0
+Noted tree os before now = (own : List Basis) × (now ≡ before ++ own) × ArePlacedReceivers tree os own
+
+-- with the bases of the receivers from place i on, those of all are noted
+abbrev pub NotedTo : Forest Resolved → List Operand → ℕ → List Basis → List Basis → Type 0
+NotedTo tree os i before now = (rest : List Basis) → ArePlacedReceivers tree (drop i os) rest → Noted tree os before (now ++ rest)
+
+pub noted_none : (tree : Forest Resolved) (os : List Operand) (before : List Basis) → NotedTo tree os 0 before before
+noted_none tree os before rest h = (rest, refl, h)
+
+pub noted_more : (tree : Forest Resolved) (os : List Operand) (i : ℕ) (o : Operand) (b : Basis) (before now new : List Basis) → i < length os → o ≡ get_or os i o
+    → IsPlaced tree true o b → new ≡ now ++ b ∷ [] → NotedTo tree os i before now → NotedTo tree os (i + 1) before new
+noted_more tree os i o b before now new lt is placed added so rest h =
+    let (own, same, all) = so (b ∷ rest) (subst (λ (xs : List Operand). ArePlacedReceivers tree xs (b ∷ rest)) (sym (next os i o lt is)) (placed, h)) in
+    (own, ap (λ (xs : List Basis). xs ++ rest) added ∙ append_assoc now (b ∷ []) rest ∙ same, all)
+
+pub noted_all : (tree : Forest Resolved) (os : List Operand) (i : ℕ) (before now : List Basis) → length os ≤ i → NotedTo tree os i before now → Noted tree os before now
+noted_all tree os i before now past so =
+    let (own, same, all) = so [] (subst (λ (xs : List Operand). ArePlacedReceivers tree xs []) (sym (drop_all i os past)) tt) in
+    (own, sym (append-nil now) ∙ same, all)
+
+-- ---- one move
+
+-- its sender's basis was noted, and then its receivers'
+pub noted_move : (r : Records) (m : Move) (b : Basis) (before between now : List Basis) → IsPlacedSender r m.sender b → between ≡ before ++ b ∷ []
+    → Noted r.output m.receivers between now → (own : List Basis) × (now ≡ before ++ own) × IsPlacedMove r m own
+noted_move r m b before between now sender added (own, same, all) =
+    (b ∷ own, same ∙ ap (λ (xs : List Basis). xs ++ own) added ∙ append_assoc before (b ∷ []) own, (sender, all))
+
+pub of_move : (r : Records) (m : Move) (bs : List Basis) → IsPlacedMove r m bs → length bs ≡ length m.receivers + 1
+of_move r m [] h = absurd h
+of_move r m (b ∷ bs) h = omega (arith, as_many r.output m.receivers bs h.1)
+
+pub sender_first : (r : Records) (m : Move) (bs : List Basis) (d : Basis) → IsPlacedMove r m bs → IsPlacedSender r m.sender (get_or bs 0 d)
+sender_first r m [] d h = absurd h
+sender_first r m (b ∷ bs) d h = h.0
+
+pub receivers_behind : (r : Records) (m : Move) (bs : List Basis) → IsPlacedMove r m bs → ArePlacedReceivers r.output m.receivers (drop 1 bs)
+receivers_behind r m [] h = absurd h
+receivers_behind r m (b ∷ bs) h = h.1
+
+-- ---- moves one after another
+
+-- with the bases of the moves from place i on, those of all are noted
+abbrev pub MovesTo : Records → List Move → ℕ → List Basis → Type 0
+MovesTo r ms i now = (rest : List Basis) → ArePlacedMoves r (drop i ms) rest → ArePlacedMoves r ms (now ++ rest)
+
+pub moves_more : (r : Records) (ms : List Move) (i : ℕ) (m : Move) (now new : List Basis) → i < length ms → m ≡ get_or ms i m
+    → (own : List Basis) × (new ≡ now ++ own) × IsPlacedMove r m own → MovesTo r ms i now → MovesTo r ms (i + 1) new
+moves_more r ms i m now new lt is (own, added, placed) so rest h =
+    subst (λ (xs : List Basis). ArePlacedMoves r ms xs) (sym (ap (λ (xs : List Basis). xs ++ rest) added ∙ append_assoc now own rest))
+    (so (own ++ rest) (subst (λ (xs : List Move). ArePlacedMoves r xs (own ++ rest)) (sym (next ms i m lt is)) (own, rest, refl, placed, h)))
+
+pub moves_all : (r : Records) (ms : List Move) (i : ℕ) (now : List Basis) → length ms ≤ i → MovesTo r ms i now → ArePlacedMoves r ms now
+moves_all r ms i now past so =
+    subst (λ (xs : List Basis). ArePlacedMoves r ms xs) (append-nil now)
+    (so [] (subst (λ (xs : List Move). ArePlacedMoves r xs []) (sym (drop_all i ms past)) refl))
+
+-- ---- the bases of a move, cut from the front
+
+-- these are the bases of the move at place i, and those of the moves behind it
+pub cut : (r : Records) (ms : List Move) (i : ℕ) (m : Move) (bs : List Basis) → i < length ms → m ≡ get_or ms i m → ArePlacedMoves r (drop i ms) bs
+    → ArePlacedMoves r (m ∷ drop (i + 1) ms) bs
+cut r ms i m bs lt is h = subst (λ (xs : List Move). ArePlacedMoves r xs bs) (next ms i m lt is) h
+
+pub enough : (r : Records) (ms : List Move) (m : Move) (bs : List Basis) → ArePlacedMoves r (m ∷ ms) bs → length m.receivers + 1 ≤ length bs
+enough r ms m bs (own, rest, is, placed, h) = omega (arith, ap length is, length-append own rest, of_move r m own placed)
+
+pub front_of : (r : Records) (ms : List Move) (m : Move) (bs : List Basis) (n : ℕ) → n ≡ length m.receivers + 1 → ArePlacedMoves r (m ∷ ms) bs → IsPlacedMove r m (take n bs)
+front_of r ms m bs n size (own, rest, is, placed, h) =
+    let front : take n bs ≡ own =
+    ap (λ k. take k bs) (size ∙ sym (of_move r m own placed)) ∙ ap (λ (xs : List Basis). take (length own) xs) is ∙ take-append_seam own rest in
+    subst (λ (xs : List Basis). IsPlacedMove r m xs) (sym front) placed
+
+pub behind_front : (r : Records) (ms : List Move) (m : Move) (bs : List Basis) (n : ℕ) → n ≡ length m.receivers + 1 → ArePlacedMoves r (m ∷ ms) bs → ArePlacedMoves r ms (drop n bs)
+behind_front r ms m bs n size (own, rest, is, placed, h) =
+    let behind : drop n bs ≡ rest =
+    ap (λ k. drop k bs) (size ∙ sym (of_move r m own placed)) ∙ ap (λ (xs : List Basis). drop (length own) xs) is ∙ drop-append_seam own rest in
+    subst (λ (xs : List Basis). ArePlacedMoves r ms xs) (sym behind) h
