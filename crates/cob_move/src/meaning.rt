@@ -1,6 +1,6 @@
 //! What statements mean.
 
-ghost use Rattle.std.specs.Prelude.{◌≡◌, List, [], ◌∷◌, IfErr, IfOk};
+ghost use Rattle.std.specs.Prelude.{◌≡◌, ◌++◌, List, [], ◌∷◌, IfErr, IfOk, OnOk};
 ghost use Rattle.cob_move_apply.specs.Forests.{Forest};
 ghost use Rattle.cob_move_apply.specs.Nodes.{Resolved};
 ghost use Rattle.cob_move.specs.Meaning.{AreMeanings, AreMeant, IsMeaning};
@@ -11,6 +11,7 @@ ghost use Rattle.cob_move.specs.Refusals.{
   SomeBroken,
   fault_on,
 };
+ghost use Rattle.cob_move_apply.specs.Move as code_move;
 ghost use Rattle.cob_move_apply.specs.Moves.{Move as Meant, moves};
 ghost use Rattle.cob_move_references.specs.Directory.{entries_named};
 ghost use Rattle.cob_move_statements.specs.Written.{
@@ -30,45 +31,53 @@ use cob_move_references::Names;
 use cob_move_statements::{Action, MoveFault, MoveRule, Reference, Statement, StatementSender};
 use std::alloc::Global;
 
-/// The one move of a MOVE with a sender and its receivers, as a list.
-fn single_move(
+/// Puts the one move of a MOVE with a sender and its receivers behind the moves so far.
+fn push_single(
     alloc: Global,
     names: &Names<'_>,
     sender: &StatementSender<'_>,
     receivers: &[Reference<'_>],
-) -> Result<Vec<Move>, MoveRule>
-    ensures found { IfOk result (λ v. (input output : Forest Resolved)
-        → IsMeaning (entries_named names.now) input output
-        (MoveTo (written_sender sender.now) (written_references receivers.now)) (moves v.items)) }
+    list: &mut Vec<Move>,
+) -> Result<(), MoveRule>
+    ensures found { OnOk result ((own : List code_move.Move)
+        × (list.new.items ≡ list.old.items ++ own)
+        × ((input output : Forest Resolved) → IsMeaning (entries_named names.now) input output
+        (MoveTo (written_sender sender.now) (written_references receivers.now)) (moves own))) }
     ensures fault { IfErr result (λ r. (input output : Forest Resolved)
         → BreaksStatement r (entries_named names.now) input output
         (MoveTo (written_sender sender.now) (written_references receivers.now))) }
 {
     let single = move_of(alloc, names, sender, receivers)?;
-    let mut list = Vec::with_capacity(alloc, 1)?;
     list.push(single)?;
-    Ok(list)
+    Ok(())
 }
 
-/// The moves of what stands behind MOVE.
-fn action_moves(
+/// Puts the moves of what stands behind MOVE behind the moves so far.
+fn push_moves(
     alloc: Global,
     names: &Names<'_>,
     input: &Book,
     output: &Book,
     action: &Action<'_>,
-) -> Result<Vec<Move>, MoveRule>
-    ensures found { IfOk result (λ v. IsMeaning (entries_named names.now) input.now output.now
-        (written_action action.now) (moves v.items)) }
+    list: &mut Vec<Move>,
+) -> Result<(), MoveRule>
+    ensures found { OnOk result ((own : List code_move.Move)
+        × (list.new.items ≡ list.old.items ++ own)
+        × IsMeaning (entries_named names.now) input.now output.now
+        (written_action action.now) (moves own)) }
     ensures fault { IfErr result (λ r. BreaksStatement r (entries_named names.now)
         input.now output.now (written_action action.now)) }
 {
     match action {
         Action::Move { sender, receivers } => {
-            let single = single_move(alloc, names, sender, receivers.as_slice())?;
-            Ok(single)
+            push_single(alloc, names, sender, receivers.as_slice(), list)?;
+            Ok(())
         }
-        Action::Corresponding { from, to } => moves_of(alloc, names, input, output, from, to),
+        Action::Corresponding { from, to } => {
+            let mut own = moves_of(alloc, names, input, output, from, to)?;
+            list.append(&mut own)?;
+            Ok(())
+        }
     }
 }
 
@@ -97,7 +106,8 @@ pub fn meaning_of(
 {
     one_meaning();
     meanings_break_no_rule();
-    let own = action_moves(alloc, names, input, output, &statement.action)?;
+    let mut own = Vec::with_capacity(alloc, 1)?;
+    push_moves(alloc, names, input, output, &statement.action, &mut own)?;
     Ok(own)
 }
 
@@ -111,21 +121,24 @@ fn fault_on(rule: MoveRule, line: u32) -> MoveFault
     }
 }
 
-/// The moves of a statement, or its fault on its line.
-fn meaning_on(
+/// Puts the moves of a statement behind the moves so far, or tells its fault on its line.
+fn push_meaning(
     alloc: Global,
     names: &Names<'_>,
     input: &Book,
     output: &Book,
     statement: &Statement<'_>,
-) -> Result<Vec<Move>, MoveFault>
-    ensures found { IfOk result (λ v. IsMeaning (entries_named names.now) input.now output.now
-        (written_action statement.now.action) (moves v.items)) }
+    list: &mut Vec<Move>,
+) -> Result<(), MoveFault>
+    ensures found { OnOk result ((own : List code_move.Move)
+        × (list.new.items ≡ list.old.items ++ own)
+        × IsMeaning (entries_named names.now) input.now output.now
+        (written_action statement.now.action) (moves own)) }
     ensures fault { IfErr result (λ f. BreaksOn f (entries_named names.now)
         input.now output.now (written_statement statement.now)) }
 {
-    match meaning_of(alloc, names, input, output, statement) {
-        Ok(own) => Ok(own),
+    match push_moves(alloc, names, input, output, &statement.action, list) {
+        Ok(()) => Ok(()),
         Err(rule) => Err(fault_on(rule, statement.line)),
     }
 }
@@ -145,8 +158,7 @@ fn meanings_of(
 {
     let mut list = Vec::with_capacity(alloc, statements.len())?;
     for statement in statements {
-        let mut own = meaning_on(alloc, names, input, output, statement)?;
-        list.append(&mut own)?;
+        push_meaning(alloc, names, input, output, statement, &mut list)?;
     }
     Ok(list)
 }

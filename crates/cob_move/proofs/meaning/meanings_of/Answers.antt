@@ -7,19 +7,18 @@ use Rattle.cob_move.proofs.MeaningLemmas.{meanings_all, meanings_more}
 use Rattle.cob_move.proofs.SomeLemmas.{some_here, some_later}
 use Rattle.cob_move.proofs.meaning.meanings_of.Goals as goal
 
-pub returns-in_err-own-clause-fault : goal.returns-in_err-own-clause-fault
-returns-in_err-own-clause-fault c =
-    let p = err_from_is_err_and c.from_residual-in_err-own.result c.from_residual-in_err-own.ensures.1 in
+pub returns-in_err-push_meaning-clause-fault : goal.returns-in_err-push_meaning-clause-fault
+returns-in_err-push_meaning-clause-fault c =
+    let p = err_from_is_err_and c.from_residual-in_err-push_meaning.result c.from_residual-in_err-push_meaning.ensures.1 in
     rw (p.1, p.2)
-    (inr (c.loop-statement.invariant.broken c.in_err-own.field-0.0
-    (some_here written_statement (BreaksOn c.in_err-own.field-0.0 (entries_named c.args.names.now) c.args.input.now c.args.output.now) c.args.statements.now c.loop-statement.statement-index
-    c.statement-item.result c.loop-statement-test.true c.statement-item.is c.in_err-own.ensures.fault)))
+    (inr (c.loop-statement.invariant.broken c.in_err-push_meaning.field-0.0
+    (some_here written_statement (BreaksOn c.in_err-push_meaning.field-0.0 (entries_named c.args.names.now) c.args.input.now c.args.output.now) c.args.statements.now c.loop-statement.statement-index
+    c.statement-item.result c.loop-statement-test.true c.statement-item.is c.in_err-push_meaning.ensures.fault)))
 
 pub loop-statement-preserved : goal.loop-statement-preserved
 loop-statement-preserved c = record {
   found = meanings_more (entries_named c.args.names.now) c.args.input.now c.args.output.now c.args.statements.now c.loop-statement.statement-index c.statement-item.result
-      c.loop-statement.list.items c.in_ok-own.own.items c.append.new.self.items c.loop-statement-test.true c.statement-item.is c.in_ok-own.ensures.found c.in_ok-append.ensures.items
-      c.loop-statement.invariant.found;
+      c.loop-statement.list.items c.push_meaning.new.list.items c.loop-statement-test.true c.statement-item.is c.in_ok-push_meaning.ensures.found c.loop-statement.invariant.found;
   broken = λ f h. c.loop-statement.invariant.broken f
       (some_later written_statement (BreaksOn f (entries_named c.args.names.now) c.args.input.now c.args.output.now) c.args.statements.now c.loop-statement.statement-index c.statement-item.result
       c.loop-statement-test.true c.statement-item.is h);
