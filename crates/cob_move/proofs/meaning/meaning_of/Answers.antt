@@ -17,7 +17,9 @@ returns-clause-found c =
     c.in_ok-own.ensures.items c.in_ok-push_moves.ensures.found
 
 pub returns-clause-only : goal.returns-clause-only
-returns-clause-only c = λ ms h.
-    (c.one_meaning.ensures (entries_named c.args.names.now) c.args.input.now c.args.output.now (written_action c.args.statement.now.action) (moves c.push_moves.new.list.items) ms
-    (alone (entries_named c.args.names.now) c.args.input.now c.args.output.now (written_action c.args.statement.now.action) c.in_ok-own.own.items c.push_moves.new.list.items
-    c.in_ok-own.ensures.items c.in_ok-push_moves.ensures.found) h, tt)
+returns-clause-only c = λ ms h. (
+  c.one_meaning.ensures (entries_named c.args.names.now) c.args.input.now c.args.output.now (written_action c.args.statement.now.action) (moves c.push_moves.new.list.items) ms
+      (alone (entries_named c.args.names.now) c.args.input.now c.args.output.now (written_action c.args.statement.now.action) c.in_ok-own.own.items c.push_moves.new.list.items
+      c.in_ok-own.ensures.items c.in_ok-push_moves.ensures.found) h,
+  tt,
+)

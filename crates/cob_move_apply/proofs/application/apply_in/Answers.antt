@@ -19,11 +19,15 @@ loop-one-init c = record {
 
 pub split_at-requires : goal.split_at-requires
 split_at-requires c =
-    omega (arith, c.len.ensures, c.one-item.result.receivers.ok.0,
-    enough (records c.args.layouts.now) (drop (c.loop-one.one-index + 1) (map move c.args.given.now)) (move c.one-item.result) c.loop-one.rest.now
-    (cut (records c.args.layouts.now) (map move c.args.given.now) c.loop-one.one-index (move c.one-item.result) c.loop-one.rest.now
-    (below move c.args.given.now c.loop-one.one-index c.loop-one-test.true) (at move c.args.given.now c.loop-one.one-index c.one-item.result c.loop-one-test.true c.one-item.is)
-    c.loop-one.invariant.left))
+    omega (
+      arith,
+      c.len.ensures,
+      c.one-item.result.receivers.ok.0,
+      enough (records c.args.layouts.now) (drop (c.loop-one.one-index + 1) (map move c.args.given.now)) (move c.one-item.result) c.loop-one.rest.now
+          (cut (records c.args.layouts.now) (map move c.args.given.now) c.loop-one.one-index (move c.one-item.result) c.loop-one.rest.now
+          (below move c.args.given.now c.loop-one.one-index c.loop-one-test.true) (at move c.args.given.now c.loop-one.one-index c.one-item.result c.loop-one-test.true c.one-item.is)
+          c.loop-one.invariant.left),
+    )
 
 pub make_move-requires-clause-placed : goal.make_move-requires-clause-placed
 make_move-requires-clause-placed c =
