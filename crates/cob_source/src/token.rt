@@ -29,11 +29,11 @@ pub enum Kind {
 /// A word, a literal or a stop of a source text.
 #[derive(Debug, Drop)]
 pub struct Token {
-    pub kind: Kind,
     /// The characters, in ASCII: a word in capitals, a literal as it stands and without its quotes, a stop's period.
     pub text: Vec<u8>,
     /// The line of the first character, from 1.
     pub line: u32,
     /// The column of the first character, from 8 to 72.
     pub column: u8,
+    pub kind: Kind,
 }

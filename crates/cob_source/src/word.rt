@@ -11,10 +11,11 @@ use std::alloc::{AllocError, Global};
 fn capitals(alloc: Global, cells: &[Cell]) -> Result<Vec<u8>, AllocError>
     ensures { IfOk result (λ v. v.items ≡ word_text cells.now) }
 {
-    cells
-        .iter()
-        .map(|c| c.byte.to_ascii_uppercase())
-        .collect(alloc)
+    let mut text = Vec::with_capacity(alloc, cells.len())?;
+    for cell in cells {
+        text.push(cell.byte.to_ascii_uppercase())?;
+    }
+    Ok(text)
 }
 
 /// Adds the word of these characters, if there are any.
