@@ -10,7 +10,7 @@ ghost use Rattle.cob_move_apply.specs.Placed.{
   IsPlacedMove,
   IsPlacedSender,
 };
-ghost use Rattle.cob_move_apply.specs.declared.basis.Basis as specs_basis;
+ghost use Rattle.cob_move_apply.specs.declared.basis.Basis as code_basis;
 
 use crate::basis::Basis;
 use cob_layout::Layout;
@@ -34,7 +34,8 @@ fn basis_of(layout: &Layout, operand: &Operand, receiving: bool) -> Basis
 
 /// What a sender's place rests on. A constant has no place, and its basis is never asked for.
 fn sender_basis(given: &Sender, input: &Layout, output: &Layout) -> Basis
-    requires given { IsSender (record { input = input.now; output = output.now }) (sender given.now) }
+    requires given { IsSender (record { input = input.now; output = output.now })
+        (sender given.now) }
     ensures { IsPlacedSender (record { input = input.now; output = output.now }) (sender given.now)
         result }
 {
@@ -58,7 +59,7 @@ fn push_receivers(
     bases: &mut Vec<Basis>,
 ) -> Result<(), AllocError>
     requires receivers { AllByRecursion (IsOperand layout.now) receivers.now }
-    ensures placed { OnOk result ((own : List specs_basis.Basis)
+    ensures placed { OnOk result ((own : List code_basis.Basis)
         × (bases.new.items ≡ bases.old.items ++ own)
         × ArePlacedReceivers layout.now receivers.now own) }
 {
@@ -81,7 +82,7 @@ fn push_move(
     bases: &mut Vec<Basis>,
 ) -> Result<(), AllocError>
     requires one { IsMove (record { input = input.now; output = output.now }) (move one.now) }
-    ensures placed { OnOk result ((own : List specs_basis.Basis)
+    ensures placed { OnOk result ((own : List code_basis.Basis)
         × (bases.new.items ≡ bases.old.items ++ own)
         × IsPlacedMove (record { input = input.now; output = output.now }) (move one.now) own) }
 {

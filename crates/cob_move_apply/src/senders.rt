@@ -44,7 +44,8 @@ fn move_from_input(
 ) -> Result<(), Stop>
     requires in_sound { IsSound layouts.now.input.now }
     requires out_sound { IsSound layouts.now.output.now }
-    requires sender { IsPlaced layouts.now.input.now false sender.now.operand.now sender.now.basis }
+    requires sender { IsPlaced layouts.now.input.now false
+        sender.now.operand.now sender.now.basis }
     requires receivers { ArePlacedReceivers layouts.now.output.now
         receivers.now.operands.now receivers.now.bases.now }
     requires input { IsStorage layouts.now.input.now input.now }
@@ -88,7 +89,8 @@ fn move_within_output(
     space: &mut Workspace,
 ) -> Result<(), Stop>
     requires sound { IsSound layouts.now.output.now }
-    requires sender { IsPlaced layouts.now.output.now false sender.now.operand.now sender.now.basis }
+    requires sender { IsPlaced layouts.now.output.now false
+        sender.now.operand.now sender.now.basis }
     requires receivers { ArePlacedReceivers layouts.now.output.now
         receivers.now.operands.now receivers.now.bases.now }
     requires output { length output.old ≡ greatest_length layouts.now.output.now }
