@@ -12,3 +12,9 @@ rt = importlib.util.module_from_spec(importlib.util.spec_from_loader("rt_itself"
 sys.modules["rt_itself"] = rt
 loader.exec_module(rt)
 ROOT = os.path.dirname(os.path.dirname(os.path.realpath(__file__)))
+
+
+def sum_once():
+    """Has a crate's sources summed once while a tool runs, and not again for each way that leads to it through crates.txt: they must not change meanwhile."""
+    plain, sums = rt.rtlib.Crate.stamp, {}
+    rt.rtlib.Crate.stamp = lambda crate: sums.get(crate.folder) or sums.setdefault(crate.folder, plain(crate))
