@@ -1,13 +1,13 @@
-ghost use Rattle.std.specs.Prelude.{◌≡◌, [], IfOk};
+ghost use Rattle.std.specs.Prelude.{◌≡◌, [], IfOk, None, true};
 ghost use Rattle.std.specs.Io.Buffered.{reader_buffer, reader_capacity, reader_inner, writer_buffer, writer_capacity, writer_inner};
 ghost use Rattle.cob_records.specs.Files.{buffer_size, is_standard, names_standard};
 ghost use Rattle.cob_records.specs.Streams.{source_reader, source_failures, sink_writer, sink_failures, sink_errors};
 
 use crate::streams::{ReadSource, WriteSink};
 use std::fs::File;
-use std::io;
 use std::io::{BufReader, BufWriter, Input, Print, Printer, Read, Write};
 use std::rt::Files;
+use std::{fs, io};
 
 /// How many bytes the buffer of an end holds: two of the longest frames, almost.
 const BUFFER: usize = 65_536;
@@ -81,6 +81,20 @@ fn is_dash(name: &str) -> bool
     ensures { result ≡ names_standard name.now }
 {
     matches!(name.as_bytes(), [b'-'])
+}
+
+/// How many bytes the file of this name has, where it is a regular file whose size the system tells. That of a standard stream is not
+/// known.
+pub fn size_of<R: Files>(rt: &R, name: &str) -> Option<u64>
+    ensures { names_standard name.now ≡ true → result ≡ None }
+{
+    if is_dash(name) {
+        return None;
+    }
+    match fs::metadata(rt, name) {
+        Ok(metadata) if metadata.is_file() => Some(metadata.len()),
+        _ => None,
+    }
 }
 
 /// A source over the file of this name, or over standard input where the name is `-`.

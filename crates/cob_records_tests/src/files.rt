@@ -2,8 +2,8 @@
 
 use crate::frames::FRAME;
 use cob_records::{
-    Form, MemSource, OpenFault, Opened, Progress, RecordFault, Sink, create_sink, next_record,
-    open_source, put_record,
+    Form, MemSource, OpenFault, Opened, Progress, RecordFault, Sink, Telling, create_sink,
+    next_record, open_source, put_record,
 };
 
 /// How many records of ten bytes: more than one buffer holds.
@@ -106,7 +106,11 @@ fn a_full_device_fails_when_the_buffer_is_handed_on(rt: HostRuntime) {
 fn progress_changes_nothing(rt: HostRuntime) {
     for form in [Form::Variable, Form::Fixed] {
         let mut slot = [0u8; 8];
-        let mut source = Progress::new(MemSource::new(FRAME), &rt, form, 8);
+        let telling = Telling {
+            size: Some(8),
+            rewrites: false,
+        };
+        let mut source = Progress::new(MemSource::new(FRAME), &rt, form, 8, telling);
         let read = next_record(&mut source, form, 8, &mut slot);
         let size = if form == Form::Fixed { 8 } else { 4 };
         assert_eq!(rt; read, Ok(Some(size)));

@@ -11,4 +11,6 @@ mod frames;
 #[cfg(test)]
 mod limited;
 #[cfg(test)]
+mod progress;
+#[cfg(test)]
 mod streams;

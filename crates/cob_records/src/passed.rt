@@ -1,0 +1,123 @@
+ghost use Rattle.std.specs.Prelude.{◌≡◌, ℕ, ◌<◌, ◌≤◌, List, [], ◌++◌, length, take, true};
+ghost use Rattle.cob_limits.specs.Limits.{longest_record};
+ghost use Rattle.cob_records.specs.Place.{is_place};
+
+use crate::place::{Place, behind, start};
+use crate::records::Form;
+use crate::report::{Report, what_is_ahead};
+
+/// What has passed of a stream of records.
+#[derive(Clone, Copy)]
+pub(crate) struct Passed {
+    form: Form,
+    greatest: u16,
+    place: Place,
+    records: u64,
+    bytes: u64,
+    ghost low: { 0 < greatest },
+    ghost high: { greatest ≤ longest_record },
+    ghost within: { is_place place ≡ true },
+}
+
+impl Passed {
+    ghost use Rattle.cob_records.specs.Progress.{HasPassed, IsAt, IsReportOf};
+    ghost use Rattle.cob_records.specs.declared.place.Place.TheVariants.{Record};
+
+    /// What has passed of a stream before its first byte.
+    pub(crate) fn new(form: Form, greatest: u16) -> Passed
+        requires low { 0 < greatest }
+        requires high { greatest ≤ longest_record }
+        ensures none { HasPassed [] result }
+        ensures form { result.form ≡ form }
+        ensures greatest { result.greatest ≡ greatest }
+    {
+        Passed {
+            form,
+            greatest,
+            place: start(form, greatest),
+            records: 0,
+            bytes: 0,
+        }
+    }
+
+    // So many bytes pass, and the next one stands at this place. The answer is how many there are.
+    fn move_to(&mut self, place: Place, count: usize) -> usize
+        requires { is_place place ≡ true }
+        ensures count { result ≡ count }
+        ensures passed { (bytes part : List ℕ) → HasPassed bytes self.old → length part ≡ count
+            → ((rest : List ℕ) → IsAt self.old.form self.old.greatest self.old.place rest
+            → IsAt self.old.form self.old.greatest place (rest ++ part))
+            → HasPassed (bytes ++ part) self.new }
+        ensures form { self.new.form ≡ self.old.form }
+        ensures greatest { self.new.greatest ≡ self.old.greatest }
+    {
+        self.place = place;
+        self.bytes = self.bytes.saturating_add(count as u64);
+        count
+    }
+
+    // The rest of a record passes, and the next byte begins a frame. The answer is how many bytes it had.
+    fn end_record(&mut self, left: usize) -> usize
+        ensures count { result ≡ left }
+        ensures passed { (bytes part : List ℕ) → HasPassed bytes self.old → length part ≡ left
+            → self.old.place ≡ Record left → HasPassed (bytes ++ part) self.new }
+        ensures form { self.new.form ≡ self.old.form }
+        ensures greatest { self.new.greatest ≡ self.old.greatest }
+    {
+        self.place = start(self.form, self.greatest);
+        self.records = self.records.saturating_add(1);
+        self.bytes = self.bytes.saturating_add(left as u64);
+        left
+    }
+
+    // Bytes from the front of the piece pass, some of them at least; the answer is how many.
+    fn pass(&mut self, piece: &[u8]) -> usize
+        requires { 0 < length piece.now }
+        ensures some { 0 < result }
+        ensures within { result ≤ length piece.now }
+        ensures passed { (bytes : List ℕ) → HasPassed bytes self.old
+            → HasPassed (bytes ++ take result piece.now) self.new }
+        ensures form { self.new.form ≡ self.old.form }
+        ensures greatest { self.new.greatest ≡ self.old.greatest }
+    {
+        match self.place {
+            Place::Descriptor { head, seen } => {
+                let place = behind(head, seen, piece[0], self.greatest);
+                self.move_to(place, 1)
+            }
+            Place::Record { left } if piece.len() < left => {
+                let place = Place::Record {
+                    left: left - piece.len(),
+                };
+                self.move_to(place, piece.len())
+            }
+            Place::Record { left } => self.end_record(left),
+            Place::Lost => self.move_to(Place::Lost, piece.len()),
+        }
+    }
+
+    /// The piece passes.
+    pub(crate) fn add(&mut self, piece: &[u8])
+        ensures passed { (bytes : List ℕ) → HasPassed bytes self.old
+            → HasPassed (bytes ++ piece.now) self.new }
+        ensures form { self.new.form ≡ self.old.form }
+        ensures greatest { self.new.greatest ≡ self.old.greatest }
+    {
+        let mut at: usize = 0;
+        while at < piece.len() {
+            at += self.pass(&piece[at..]);
+        }
+    }
+
+    /// What is told of what has passed, where the stream has this size and so many seconds have gone by.
+    pub(crate) fn report(&self, size: Option<u64>, elapsed: u64) -> Report
+        ensures { (bytes : List ℕ) → HasPassed bytes self.now
+            → IsReportOf self.now.form self.now.greatest size elapsed bytes result }
+    {
+        Report {
+            records: self.records,
+            bytes: self.bytes,
+            ahead: what_is_ahead(size, elapsed, self.bytes),
+        }
+    }
+}
