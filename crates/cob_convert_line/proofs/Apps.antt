@@ -1,6 +1,6 @@
 -- What the parser says of a command, and of what it found, in the words of this crate.
-use Rattle.std.proofs.Common.{◌≡◌, ◌&&◌, ◌==◌, arith, length, map, eqb-true, Bool, List, [], ◌∷◌, Option, Some, None, option_map, true, false, refl, sym, ap, ap₂, true≢false}
-use Rattle.std.specs.Prelude.{not, is_some, unwrap_or}
+use Rattle.std.proofs.Common.{rules, ◌≡◌, ◌&&◌, ◌==◌, arith, length, map, eqb-true, Bool, List, [], ◌∷◌, Option, Some, None, option_map, true, false, refl, sym, ap, ap₂, true≢false}
+use Rattle.std.specs.Prelude.{IsSome, not, is_some, unwrap_or}
 use Rattle.clap.specs.Words.{Row, Text, app_of}
 use Rattle.clap.specs.declared.builder.command.Command.{Command}
 use Rattle.clap.specs.declared.builder.command.Command.TheViews.{out-Command}
@@ -24,6 +24,16 @@ pub both_parts : {X : Type 0} (found : Option X) (name_of : X → Text) (rows_of
 both_parts None name_of rows_of name rows n r = absurd (true≢false (sym (ap is_some n)))
 both_parts (Some x) name_of rows_of name rows n r =
     ap₂ (λ (a : Text) (b : List Row). Some (a, b)) (ap (λ o. unwrap_or o name) n) (ap (λ o. unwrap_or o rows) r)
+
+-- what is there when it is turned into another is there
+pub is_there : {X Y : Type 0} (f : X → Y) (found : Option X) → is_some (option_map f found) ≡ true → IsSome found
+is_there f None e = absurd (true≢false (sym e))
+is_there f (Some x) e = search rules
+
+-- an option without a first part has no second
+pub no_parts : {X Y Z : Type 0} (found : Option X) (f : X → Y) (g : X → Z) (z : Z) → option_map f found ≡ None → option_map g found ≡ Some z → ⊥
+no_parts None f g z none some = true≢false (sym (ap is_some some))
+no_parts (Some x) f g z none some = true≢false (ap is_some none)
 
 -- no words are a job
 pub none_said : {X : Type 0} (text : X → Text) (words : List X) → (length words == 0) ≡ true → IsCommandLineOf (map text words) line.Job

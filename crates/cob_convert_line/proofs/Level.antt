@@ -12,13 +12,14 @@ use Rattle.clap.specs.Kinds.{Kinds, check_kinds, or_else}
 use Rattle.clap.specs.Takes.{is_given}
 use Rattle.clap.specs.Faults.{check_fault, default_fault, defaults_fault, level_fault, settle_fault, walk_fault}
 use Rattle.clap.specs.Walk.{finished, nothing_held, settled, walk}
+use Rattle.clap.specs.declared.error.kind.ErrorKind.TheVariants.{MissingRequiredArgument}
 use Rattle.clap.specs.declared.parser.matches.ValueSource.{ValueSource}
 use Rattle.clap.specs.declared.parser.matches.ValueSource.TheVariants.{CommandLine, DefaultValue}
 use Rattle.clap.specs.declared.builder.value_parser.Reading.TheVariants.{AsWritten}
-use Rattle.cob_convert_line.specs.Options.{Alone, AreOptions, Default, Given, Kind, Options, Request, Required, default_of, found_at, taken}
+use Rattle.cob_convert_line.specs.Options.{Alone, AreOptions, AreThere, Default, Given, IsThere, Kind, Options, Request, Required, default_of, found_at, taken}
 use Rattle.cob_convert_line.proofs.Rules.{rule_from, rules_from, same_text}
 use Rattle.cob_convert_line.proofs.Rows.{add_row, given_row}
-use Rattle.cob_convert_line.proofs.Turns.{at, hold, leaf_shape, or_else_first}
+use Rattle.cob_convert_line.proofs.Turns.{at, hold, leaf_shape, not_nil, or_else_first}
 use Rattle.cob_convert_line.proofs.Walks.{AreNames, complete, rows_behind, sound}
 
 -- an option with its value, and where that comes from
@@ -31,7 +32,7 @@ entry_row e = record { id = e.0; values = e.1 ∷ []; count = None; source = Som
 abbrev entry_at : Text → List Entry → Option Entry
 entry_at name E = find (λ e. bytes_eq e.0 name) E
 
-abbrev value_in : Option Entry → Option Text
+abbrev pub value_in : Option Entry → Option Text
 value_in = option_map (λ e. e.1)
 
 has_entry : (name : Text) (E : List Entry) → has_row name (map entry_row E) ≡ is_some (entry_at name E)
@@ -193,15 +194,6 @@ given_is_there os given name v is =
     ∙ (ap (λ x. option_map_or (λ (r : Row). explicit_source r.source) x false) (find_entry name all.0
     ∙ ap (option_map entry_row) (all.2 name ∙ ap (λ x. option_or x (defaults_in name os)) (given_at name given ∙ ap (option_map (λ v. (name, v, CommandLine))) is))))
 
-abbrev pub IsThere : Kind → Text → Given → Type 0
-IsThere Required name given = (v : Text) × (found_at name given ≡ Some v)
-IsThere kind name given = Unit {0}
-
--- each option that has to be there is
-abbrev pub AreThere : Options → Given → Type 0
-AreThere [] given = Unit {0}
-AreThere (o ∷ os) given = IsThere o.1 o.0 given × AreThere os given
-
 nothing_lacks : (all os : Options) (given : Given) → AreThere os given
     → list_any (λ a. a.required && not (is_given a.id (rows_of_given all given))) (rules_from os) ≡ false
 nothing_lacks all [] given there = refl
@@ -276,3 +268,70 @@ pub level_rows : (command : Text) (os : Options) (words : List Text) (given : Gi
 level_rows command os words given names are =
     let found = complete command os names words given are [] None refl (λ name none_there. absurd (true≢false (sym none_there))) in
     ap (λ rows. fold with_default rows (rules_from os)) found.1
+
+-- what is given comes from the command line, and a default does not
+by_default : (name : Text) (os : Options) → option_map_or (λ (e : Entry). explicit_source (Some e.2)) (defaults_in name os) false ≡ false
+by_default name [] = refl
+by_default name (o ∷ os) = go o.0 o.1 (bytes_eq o.0 name) (by_default name os)
+  where
+    go : (n : Text) (kind : Kind) (b : Bool) → option_map_or (λ (e : Entry). explicit_source (Some e.2)) (defaults_in name os) false ≡ false
+        → option_map_or (λ (e : Entry). explicit_source (Some e.2)) (option_or (pick b (default_entry n kind)) (defaults_in name os)) false ≡ false
+    go n kind false later = later
+    go n Required true later = later
+    go n (Default v) true later = refl
+    go n Alone true later = refl
+    go n Request true later = later
+
+-- an option that is there is given
+there_is_given : (os : Options) (given : Given) (name : Text) → is_given name (rows_of_given os given) ≡ true → (v : Text) × (found_at name given ≡ Some v)
+there_is_given os given name there = go (found_at name given) refl
+  where
+    all : WithDefaults os (given_entries given)
+    all = with_defaults os (given_entries given)
+
+    of_rows : (o : Option Entry) → entry_at name all.0 ≡ o → option_map_or (λ (e : Entry). explicit_source (Some e.2)) o false ≡ true
+    of_rows o e = sym (ap (is_given name) (ap (λ rows. fold with_default rows (rules_from os)) (given_rows given) ∙ all.1)
+        ∙ (ap (λ x. option_map_or (λ (r : Row). explicit_source r.source) x false) (find_entry name all.0 ∙ ap (option_map entry_row) e) ∙ same o)) ∙ there
+      where
+        same : (o : Option Entry) → option_map_or (λ (r : Row). explicit_source r.source) (option_map entry_row o) false ≡ option_map_or (λ (e : Entry). explicit_source (Some e.2)) o false
+        same None = refl
+        same (Some e) = refl
+
+    go : (found : Option Text) → found_at name given ≡ found → (v : Text) × (found_at name given ≡ Some v)
+    go (Some v) is = (v, is)
+    go None is = absurd (true≢false (sym (of_rows (defaults_in name os)
+        (all.2 name ∙ ap (λ x. option_or x (defaults_in name os)) (given_at name given ∙ ap (option_map (λ v. (name, v, CommandLine))) is))) ∙ by_default name os))
+
+none_lack : (all os : Options) (given : Given) → list_any (λ a. a.required && not (is_given a.id (rows_of_given all given))) (rules_from os) ≡ false → AreThere os given
+none_lack all [] given passed = tt
+none_lack all (o ∷ os) given passed = go o.0 o.1 (none_lack all os given) passed
+  where
+    given_true : (b d : Bool) → (not b || d) ≡ false → (b ≡ true) × (d ≡ false)
+    given_true true d e = (refl, e)
+    given_true false d e = absurd (true≢false e)
+
+    go : (n : Text) (kind : Kind) → (list_any (λ a. a.required && not (is_given a.id (rows_of_given all given))) (rules_from os) ≡ false → AreThere os given)
+        → list_any (λ a. a.required && not (is_given a.id (rows_of_given all given))) (rule_from n kind ∷ rules_from os) ≡ false → AreThere ((n, kind) ∷ os) given
+    go n Required later e = let both = given_true _ _ e in (there_is_given all given n both.0, later both.1)
+    go n (Default v) later e = (tt, later e)
+    go n Alone later e = (tt, later e)
+    go n Request later e = (tt, later e)
+
+last_of : (a b d e : Kinds) → or_else a (or_else [] (or_else b (or_else d e))) ≡ [] → e ≡ []
+last_of [] [] [] e h = h
+last_of [] [] (k ∷ ks) e h = absurd (not_nil k ks h)
+last_of [] (k ∷ ks) d e h = absurd (not_nil k ks h)
+last_of (k ∷ ks) b d e h = absurd (not_nil k ks h)
+
+check_false : (lacks : Bool) → check_kinds false false lacks ≡ [] → lacks ≡ false
+check_false false e = refl
+check_false true e = absurd (not_nil MissingRequiredArgument [] e)
+
+-- where a command passes, each of its options that has to be there is
+pub level_there : (command : Text) (os : Options) (words : List Text) (given : Given) → rows_after (rules_from os) [] words ≡ rows_of_given os given
+    → level_fault (leaf_shape command os) [] nothing_held words false [] ≡ [] → AreThere os given
+level_there command os words given rows passed =
+    none_lack os os given (check_false _ (sym (ap (λ r. check_fault (leaf_shape command os) r false) rows)
+    ∙ last_of (walk_of command os words) (settle_of os words)
+    (defaults_fault (settled (rules_from os) (walk (rules_from os) [] nothing_held words).held).rows (rules_from os))
+    (check_fault (leaf_shape command os) (finished (rules_from os) (walk (rules_from os) [] nothing_held words).held) false) passed))

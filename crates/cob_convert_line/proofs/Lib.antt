@@ -7,3 +7,4 @@ pub mod Level
 pub mod Top
 pub mod Said
 pub mod Apps
+pub mod Spelled

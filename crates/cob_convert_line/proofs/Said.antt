@@ -10,7 +10,7 @@ use Rattle.clap.specs.declared.error.Error.{Error}
 use Rattle.cob_convert_line.specs.declared.fault.LineFault.{LineFault}
 use Rattle.cob_convert_line.specs.declared.fault.LineFault.TheVariants.{Memory}
 use Rattle.cob_convert_line.proofs.Turns.{not_nil}
-use Rattle.cob_convert_line.specs.Options.{Given, Options, found_at, taken}
+use Rattle.cob_convert_line.specs.Options.{AreThere, Given, Options, found_at, taken}
 use Rattle.cob_convert_line.specs.Lines.{IsCheck, IsCommand, IsCommandLineOf, IsConvert, IsLayout, IsShow, check_options, commands, convert_options, fault_by_kind, layout_options, show_options, words_fault}
 use Rattle.cob_convert_line.specs.Program.{program_app}
 use Rattle.cob_convert_line.specs.declared.line.Line.{Line}
@@ -19,7 +19,7 @@ use Rattle.cob_convert_line.specs.declared.line.ConvertLine.{ConvertLine}
 use Rattle.cob_convert_line.specs.declared.line.CheckLine.{CheckLine}
 use Rattle.cob_convert_line.specs.declared.line.LayoutLine.{LayoutLine}
 use Rattle.cob_convert_line.specs.declared.line.ShowLine.{ShowLine}
-use Rattle.cob_convert_line.proofs.Level.{AreThere, level_complete, level_rows, level_sound, look_is, rows_of_given}
+use Rattle.cob_convert_line.proofs.Level.{level_complete, level_rows, level_sound, look_is, rows_of_given}
 use Rattle.cob_convert_line.proofs.Walks.{AreNames}
 use Rattle.cob_convert_line.proofs.Top.{known_fault, known_rows, unknown}
 
@@ -36,6 +36,7 @@ convert_said given said h = record {
   output = sym (look_is convert_options given (codes "out") refl) ∙ h.output;
   in_form = sym (look_is convert_options given (codes "in-form") refl) ∙ h.in_form;
   out_form = sym (look_is convert_options given (codes "out-form") refl) ∙ h.out_form;
+  atomic = sym (ap flag_read (look_is convert_options given (codes "atomic") refl)) ∙ h.atomic;
   progress = sym (ap flag_read (look_is convert_options given (codes "progress") refl)) ∙ h.progress;
 }
 
@@ -108,8 +109,8 @@ is_given (Some u) v e = (u, refl)
 convert_back : (given : Given) (said : ConvertLine) → IsConvert (taken convert_options given) said
     → AreNames convert_options × AreThere convert_options given × IsConvert (λ id. first_of id (rows_of_given convert_options given)) said
 convert_back given said h = (
-  ((refl, refl), ((refl, refl), ((refl, refl), ((refl, refl), ((refl, refl), ((refl, refl), ((refl, refl), ((refl, refl), ((refl, refl), tt))))))))),
-  (is_given _ _ h.in_book, (is_given _ _ h.out_book, (is_given _ _ h.moves, (is_given _ _ h.input, (is_given _ _ h.output, (tt, (tt, (tt, (tt, tt))))))))),
+  ((refl, refl), ((refl, refl), ((refl, refl), ((refl, refl), ((refl, refl), ((refl, refl), ((refl, refl), ((refl, refl), ((refl, refl), ((refl, refl), tt)))))))))),
+  (is_given _ _ h.in_book, (is_given _ _ h.out_book, (is_given _ _ h.moves, (is_given _ _ h.input, (is_given _ _ h.output, (tt, (tt, (tt, (tt, (tt, tt)))))))))),
   record {
     in_book = look_is convert_options given (codes "in-book") refl ∙ h.in_book;
     out_book = look_is convert_options given (codes "out-book") refl ∙ h.out_book;
@@ -118,6 +119,7 @@ convert_back given said h = (
     output = look_is convert_options given (codes "out") refl ∙ h.output;
     in_form = look_is convert_options given (codes "in-form") refl ∙ h.in_form;
     out_form = look_is convert_options given (codes "out-form") refl ∙ h.out_form;
+    atomic = ap flag_read (look_is convert_options given (codes "atomic") refl) ∙ h.atomic;
     progress = ap flag_read (look_is convert_options given (codes "progress") refl) ∙ h.progress;
   },
 )

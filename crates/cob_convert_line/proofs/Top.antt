@@ -19,7 +19,7 @@ use Rattle.cob_convert_line.proofs.Rules.{rules_from, same_text}
 use Rattle.cob_convert_line.proofs.Turns.{dashes, leaf_shape, not_nil, or_else_first, or_else_next}
 use Rattle.cob_convert_line.proofs.Forms.{Form, IsPlain, form_of, hyphens, letters, option, value}
 
-abbrev Commands : Type 0
+abbrev pub Commands : Type 0
 Commands = List (Text × Options)
 
 abbrev subs_from : Commands → List Shape

@@ -1,14 +1,15 @@
 -- What a command line says.
-use Rattle.std.specs.Prelude.{◌≡◌, Bool, false, List, [], ◌∷◌, Some, None, Option, if◌then◌else◌, codes}
+use Rattle.std.specs.Prelude.{◌≡◌, ◌⊎◌, ⊤, Bool, true, false, is_some, List, [], ◌∷◌, Some, None, Option, if◌then◌else◌, codes}
 use Rattle.std.specs.Str.{bytes_eq}
 use Rattle.std.specs.Option.{option_map_or}
-use Rattle.clap.specs.Words.{Text, kind_of}
+use Rattle.clap.specs.Words.{IsAmong, Text, fault_of, kind_of}
 use Rattle.clap.specs.declared.error.Error.{Error}
 use Rattle.clap.specs.declared.error.kind.ErrorKind.{ErrorKind}
 use Rattle.clap.specs.declared.error.kind.ErrorKind.TheVariants as kind
 use Rattle.cob_records.specs.declared.records.Form.{Form}
 use Rattle.cob_records.specs.declared.records.Form.TheVariants.{Fixed, Variable}
-use Rattle.cob_convert_line.specs.Options.{Alone, AreOptions, Default, Given, Options, Request, Required, found_at, taken}
+use Rattle.cob_convert_line.specs.Options.{Alone, AreOptions, AreThere, Default, Given, Kind, Options, Request, Required, found_at, taken}
+use Rattle.cob_convert_line.specs.Program.{program_app}
 use Rattle.cob_convert_line.specs.declared.line.Line.{Line}
 use Rattle.cob_convert_line.specs.declared.line.Line.TheVariants as line
 use Rattle.cob_convert_line.specs.declared.line.ConvertLine.{ConvertLine}
@@ -26,6 +27,17 @@ fault_by_kind _ error = fault.Words error
 -- what an error of the parser is for the command line
 abbrev pub words_fault : Error → LineFault
 words_fault error = fault_by_kind (kind_of error) error
+
+-- the parser's answer is the help or the version
+abbrev pub is_answer_kind : ErrorKind → Bool
+is_answer_kind kind.DisplayHelp = true
+is_answer_kind kind.DisplayVersion = true
+is_answer_kind _ = false
+
+-- the words ask for the help or the version
+abbrev pub is_answer : LineFault → Bool
+is_answer (fault.Words error) = is_answer_kind (kind_of error)
+is_answer _ = false
 
 -- the letter of a form
 abbrev pub letter_of : Form → Text
@@ -45,7 +57,7 @@ Look = Text → Option Text
 abbrev pub is_flagged : Text → Look → Bool
 is_flagged name look = option_map_or (λ value. bytes_eq value (codes "true")) (look name) false
 
--- The options of `convert` name the line's files, its forms and its flag.
+-- The options of `convert` name the line's files, its forms and its flags.
 pub record IsConvert (look : Look) (line : ConvertLine) : Type 0 where
   pub in_book : look (codes "in-book") ≡ Some line.in_book.now
   pub out_book : look (codes "out-book") ≡ Some line.out_book.now
@@ -54,6 +66,7 @@ pub record IsConvert (look : Look) (line : ConvertLine) : Type 0 where
   pub output : look (codes "out") ≡ Some line.output.now
   pub in_form : look (codes "in-form") ≡ Some (letter_of line.in_form)
   pub out_form : look (codes "out-form") ≡ Some (letter_of line.out_form)
+  pub atomic : is_flagged (codes "atomic") look ≡ line.atomic
   pub progress : is_flagged (codes "progress") look ≡ line.progress
 
 -- The options of `check` name the line's files.
@@ -88,7 +101,8 @@ check_options = (codes "in-book", Required) ∷ (codes "out-book", Required) ∷
 -- the options of `convert`
 abbrev pub convert_options : Options
 convert_options = (codes "in-book", Required) ∷ (codes "out-book", Required) ∷ (codes "moves", Required) ∷ (codes "in", Required) ∷ (codes "out", Required)
-    ∷ (codes "in-form", Default (codes "f")) ∷ (codes "out-form", Default (codes "f")) ∷ (codes "progress", Alone) ∷ (codes "help", Request) ∷ []
+    ∷ (codes "in-form", Default (codes "f")) ∷ (codes "out-form", Default (codes "f"))
+    ∷ (codes "atomic", Alone) ∷ (codes "progress", Alone) ∷ (codes "help", Request) ∷ []
 
 -- the option of `layout`
 abbrev pub layout_options : Options
@@ -108,3 +122,43 @@ abbrev pub IsCommandLineOf : List Text → Line → Type 0
 IsCommandLineOf [] said = said ≡ line.Job
 IsCommandLineOf (command ∷ words) said = (options : Options) × (given : Given) × (found_at command commands ≡ Some options)
     × AreOptions options words given × IsCommand command (taken options given) said
+
+-- What words spell: the name of a command, and then its options, those that have to be there among them.
+abbrev pub Spells : List Text → Options → Given → Type 0
+Spells [] options given = ⊥
+Spells (command ∷ words) options given = (found_at command commands ≡ Some options) × AreOptions options words given × AreThere options given
+
+-- the name is that of an option for a form
+abbrev pub IsFormName : Text → Type 0
+IsFormName name = (name ≡ codes "form") ⊎ (name ≡ codes "in-form") ⊎ (name ≡ codes "out-form")
+
+-- an option of this name has a letter that is none of a form
+abbrev pub LacksForm : Look → Text → Type 0
+LacksForm look name = (letter : Text) × (look name ≡ Some letter) × (form_by_letter letter ≡ None)
+
+-- an option for a form has a letter that is none of a form
+abbrev pub LacksAForm : Look → Type 0
+LacksAForm look = (name : Text) × IsFormName name × LacksForm look name
+
+-- The fault of words that are no command line, by the first rule that they break: they spell no command with its options, and the parser says
+-- what they are in place of that; or an option has a letter that is none of a form.
+abbrev pub IsFaultOf : List Text → LineFault → Type 0
+IsFaultOf words (fault.Words error) = ((options : Options) (given : Given) → Spells words options given → ⊥) × IsAmong (kind_of error) (fault_of program_app words)
+IsFaultOf words fault.Form = (options : Options) × (given : Given) × Spells words options given × LacksAForm (taken options given)
+IsFaultOf words fault.NotText = ⊥
+IsFaultOf words fault.Memory = ⊥
+
+-- an option that takes a value has one
+abbrev pub IsNamed : Kind → Text → Look → Type 0
+IsNamed Required name look = is_some (look name) ≡ true
+IsNamed (Default value) name look = is_some (look name) ≡ true
+IsNamed kind name look = ⊤
+
+-- each of these options that takes a value has one
+abbrev pub AreNamed : Options → Look → Type 0
+AreNamed [] look = ⊤
+AreNamed (option ∷ options) look = IsNamed option.1 option.0 look × AreNamed options look
+
+-- the name is that of a command, and each of its options that takes a value has one
+abbrev pub IsComplete : Text → Look → Type 0
+IsComplete name look = (options : Options) × (found_at name commands ≡ Some options) × AreNamed options look

@@ -1,5 +1,5 @@
 -- The options that the words of a command give.
-use Rattle.std.specs.Prelude.{◌≡◌, ◌==◌, ◌&&◌, Bool, true, false, not, List, [], ◌∷◌, ◌++◌, length, Option, Some, None, option_map, codes, find}
+use Rattle.std.specs.Prelude.{◌≡◌, ◌==◌, ◌&&◌, Bool, true, false, not, List, [], ◌∷◌, ◌++◌, length, Option, Some, None, option_map, codes, find, ⊤}
 use Rattle.std.specs.Option.{option_or}
 use Rattle.std.specs.Str.{bytes_eq, chars}
 use Rattle.clap.specs.Words.{Text}
@@ -65,3 +65,13 @@ default_of _ = None
 -- what an option names: the value that it is given, or its default
 abbrev pub taken : Options → Given → Text → Option Text
 taken options given name = option_or (found_at name given) (default_of (found_at name options))
+
+-- an option that has to be there is given
+abbrev pub IsThere : Kind → Text → Given → Type 0
+IsThere Required name given = (value : Text) × (found_at name given ≡ Some value)
+IsThere kind name given = ⊤
+
+-- each of these options that has to be there is given
+abbrev pub AreThere : Options → Given → Type 0
+AreThere [] given = ⊤
+AreThere (option ∷ options) given = IsThere option.1 option.0 given × AreThere options given

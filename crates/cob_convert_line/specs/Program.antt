@@ -11,9 +11,9 @@ required_rule name = record (new_rule name) { long = Some name; value_names = 1;
 abbrev pub form_rule : Text → Rule
 form_rule name = record (new_rule name) { long = Some name; value_names = 1; defaults = codes "f" ∷ [] }
 
--- the flag `--progress`
-abbrev pub progress_rule : Rule
-progress_rule = record (new_rule (codes "progress")) { long = Some (codes "progress"); action = Some SetTrue }
+-- an option that stands alone
+abbrev pub alone_rule : Text → Rule
+alone_rule name = record (new_rule name) { long = Some name; action = Some SetTrue }
 
 -- a command with the options for the three texts
 abbrev pub with_texts_app : App → App
@@ -21,8 +21,9 @@ with_texts_app app = with_rule (with_rule (with_rule app (required_rule (codes "
 
 -- `convert` and its options
 abbrev pub convert_app : App
-convert_app = with_rule (with_rule (with_rule (with_rule (with_rule (with_texts_app (new_app (codes "convert")))
-    (required_rule (codes "in"))) (required_rule (codes "out"))) (form_rule (codes "in-form"))) (form_rule (codes "out-form"))) progress_rule
+convert_app = with_rule (with_rule (with_rule (with_rule (with_rule (with_rule (with_texts_app (new_app (codes "convert")))
+    (required_rule (codes "in"))) (required_rule (codes "out"))) (form_rule (codes "in-form"))) (form_rule (codes "out-form")))
+    (alone_rule (codes "atomic"))) (alone_rule (codes "progress"))
 
 -- `check` and its options
 abbrev pub check_app : App
@@ -35,7 +36,7 @@ layout_app = with_rule (new_app (codes "layout")) (required_rule (codes "book"))
 -- `show` and its options
 abbrev pub show_app : App
 show_app = with_rule (with_rule (with_rule (with_rule (new_app (codes "show"))
-    (required_rule (codes "book"))) (required_rule (codes "in"))) (form_rule (codes "form"))) progress_rule
+    (required_rule (codes "book"))) (required_rule (codes "in"))) (form_rule (codes "form"))) (alone_rule (codes "progress"))
 
 -- the program without its commands: a command has to be named, and the words begin behind the program's name
 abbrev pub bare_app : App

@@ -1,5 +1,5 @@
 ghost use Rattle.std.specs.Prelude.{◌≡◌};
-ghost use Rattle.cob_convert_line.specs.Lines.{words_fault};
+ghost use Rattle.cob_convert_line.specs.Lines.{is_answer, words_fault};
 ghost use Rattle.cob_convert_line.specs.declared.fault.LineFault.TheVariants.{Memory};
 
 use clap::error::ErrorKind;
@@ -20,9 +20,6 @@ pub enum LineFault {
     /// A word is no text in UTF-8, so that no option can take it.
     #[error("a word is not text in UTF-8")]
     NotText,
-    /// A command or an option that has to be there is not. The parser refuses such words first, so that this is never answered.
-    #[error("an option is missing")]
-    Missing,
     /// Memory was refused.
     #[error("memory")]
     Memory,
@@ -49,10 +46,12 @@ impl From<clap::Error> for LineFault {
 
 impl LineFault {
     /// Whether it is no fault, but the help or the version that the words ask for.
-    pub fn is_answer(&self) -> bool {
+    pub fn is_answer(&self) -> bool
+        ensures { result ≡ is_answer self.now }
+    {
         match self {
             LineFault::Words(error) => !error.use_stderr(),
-            LineFault::Form | LineFault::NotText | LineFault::Missing | LineFault::Memory => false,
+            LineFault::Form | LineFault::NotText | LineFault::Memory => false,
         }
     }
 

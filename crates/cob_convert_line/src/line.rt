@@ -32,6 +32,8 @@ pub struct ConvertLine<'a> {
     pub in_form: Form,
     /// How the records of the output stand.
     pub out_form: Form,
+    /// Whether the output is put in its place only when all is converted.
+    pub atomic: bool,
     /// Whether it tells on standard error how far it is.
     pub progress: bool,
 }

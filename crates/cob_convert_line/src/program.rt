@@ -1,12 +1,66 @@
-ghost use Rattle.std.specs.Prelude.{◌≡◌, IfOk, false};
-ghost use Rattle.clap.specs.Words.{app_of, rule_of};
-ghost use Rattle.cob_convert_line.specs.Program.{check_app, convert_app, form_rule, layout_app, program_app, progress_rule, required_rule, show_app, with_texts_app};
+ghost use Rattle.std.specs.Prelude.{◌≡◌, IfOk, codes, false};
+ghost use Rattle.clap.specs.Words.{app_of, new_app, rule_of};
+ghost use Rattle.cob_convert_line.specs.Program.{alone_rule, check_app, convert_app, form_rule, layout_app, program_app, required_rule, show_app, with_texts_app};
 
 use clap::{Arg, ArgAction, Command};
 use std::alloc::{AllocError, Global};
 
 /// What `--version` prints after the program's name: its version, and the toolchain that proved and built it.
-const VERSION: &str = "1.0.0\nrattle-kit-13b logic dac8208d650f15bf";
+const VERSION: &str = "1.0.0\nrattle-kit-13f logic dac8208d650f15bf";
+
+// What `--atomic` and `--progress` do.
+const ATOMIC_HELP: &str = "Write OUT.part first, and rename it when all is done";
+
+const PROGRESS_HELP: &str = "Tell on standard error how far it is";
+
+// How the words of `convert` stand, in two lines.
+const CONVERT_USAGE: &str = "cobconv convert [OPTIONS] --in-book <FILE> --out-book <FILE>
+                       --moves <FILE> --in <FILE> --out <FILE>";
+
+// What stands behind the options of each command.
+const PROGRAM_NOTES: &str = "Example:
+  cobconv convert --in-book old.cpy --out-book new.cpy --moves moves.cbl \\
+    --in old.dat --out new.dat";
+
+const CONVERT_NOTES: &str = "Example:
+  cobconv convert --in-book old.cpy --out-book new.cpy --moves moves.cbl \\
+    --in old.dat --out new.dat --in-form v";
+
+const CHECK_NOTES: &str =
+    "Example: cobconv check --in-book old.cpy --out-book new.cpy --moves moves.cbl
+
+What is refused in a text:
+  T1 to T6  the reference format, by columns
+In a copybook:
+  B1   no data entry
+  B2   the grammar of entries: levels, clauses and periods
+  B3   level numbers, items and groups
+  B4   the picture, by P1 to P7
+  B5   a usage that its group or its picture does not allow
+  B6   SIGN on an item that is no signed DISPLAY number
+  B7   REDEFINES: no such entry in its area, or longer than the area
+  B8   OCCURS: at level 01, too many tables in one another, or a bad number
+  B9   DEPENDING ON: no entry or several of this name, or one that can't count
+  B10  VALUE: a literal that the item does not hold
+  B11  JUSTIFIED or BLANK WHEN ZERO on an item that can't have it
+  B12  a word or a level that is left out by name
+  B13  a name that isn't one, or is reserved
+  B14  a record of over 32,752 bytes
+  B15  over 2,000 entries
+In a paragraph:
+  M1   the grammar of statements
+  M2   no entry has this name with these qualifiers
+  M3   several entries have it
+  M4   not one subscript for each OCCURS, or one outside of its table
+  M5   a receiver in the input record
+  M6   a move that the table of categories does not have
+  M7   a literal that its receiver can't take
+  M8   CORRESPONDING with an item
+  M9   CORRESPONDING in which an item is in two pairs
+  M10  an alphanumeric sender of over 31 characters to a number
+
+The statuses: 0 done, 1 a record stopped the run, 2 the command line or the job
+is malformed, 3 a text is refused, 4 a device failed, 5 memory was refused";
 
 // An option that has to be there, with a value.
 fn required<'a>(alloc: Global, name: &'a str, value: &'a str, help: &'a str) -> Arg<'a>
@@ -32,15 +86,15 @@ fn form<'a>(alloc: Global, name: &'a str, help: &'a str) -> Arg<'a>
         .help(help)
 }
 
-// The flag that asks to be told how far a run is.
-fn progress<'a>(alloc: Global) -> Arg<'a>
-    ensures rule { rule_of result ≡ progress_rule }
+// An option that stands alone.
+fn alone<'a>(alloc: Global, name: &'a str, help: &'a str) -> Arg<'a>
+    ensures rule { rule_of result ≡ alone_rule name.entry.now }
     ensures local { result.global ≡ false }
 {
-    Arg::new(alloc, "progress")
-        .long("progress")
+    Arg::new(alloc, name)
+        .long(name)
         .action(ArgAction::SetTrue)
-        .help("Tell on standard error how many records and bytes are done, about once a second")
+        .help(help)
 }
 
 // A command with the options for the three texts.
@@ -62,12 +116,9 @@ fn convert<'a>(alloc: Global) -> Result<Command<'a>, AllocError>
     ensures { IfOk result (λ made. app_of made ≡ convert_app) }
 {
     let command = Command::new(alloc, "convert")
-        .about(
-            "Convert a file of records by two copybooks and a paragraph, and print how many there were",
-        )
-        .after_help(
-            "Example: cobconv convert --in-book old.cpy --out-book new.cpy --moves moves.cbl --in old.dat --out new.dat --in-form v",
-        );
+        .about("Convert a file of records by two copybooks and a paragraph")
+        .override_usage(CONVERT_USAGE)
+        .after_help(CONVERT_NOTES);
     with_texts(alloc, command)?
         .arg(required(
             alloc,
@@ -84,22 +135,19 @@ fn convert<'a>(alloc: Global) -> Result<Command<'a>, AllocError>
         .arg(form(
             alloc,
             "in-form",
-            "How the input's records stand: f of fixed length, v with a descriptor word before each",
+            "How the input's records stand: f of fixed length,\nv with a descriptor word before each",
         ))?
         .arg(form(alloc, "out-form", "How the output's records stand: f or v"))?
-        .arg(progress(alloc))
+        .arg(alone(alloc, "atomic", ATOMIC_HELP))?
+        .arg(alone(alloc, "progress", PROGRESS_HELP))
 }
 
 fn check<'a>(alloc: Global) -> Result<Command<'a>, AllocError>
     ensures { IfOk result (λ made. app_of made ≡ check_app) }
 {
     let command = Command::new(alloc, "check")
-        .about(
-            "Read two copybooks and a paragraph, and print the records' greatest lengths and the number of moves",
-        )
-        .after_help(
-            "Example: cobconv check --in-book old.cpy --out-book new.cpy --moves moves.cbl",
-        );
+        .about("Read the three texts, and print both lengths and the number of moves")
+        .after_help(CHECK_NOTES);
     with_texts(alloc, command)
 }
 
@@ -123,23 +171,29 @@ fn show<'a>(alloc: Global) -> Result<Command<'a>, AllocError>
         .arg(form(
             alloc,
             "form",
-            "How the records stand: f of fixed length, v with a descriptor word before each",
+            "How the records stand: f of fixed length,\nv with a descriptor word before each",
         ))?
-        .arg(progress(alloc))
+        .arg(alone(alloc, "progress", PROGRESS_HELP))
+}
+
+// The program's name, and what its help says beside its commands.
+fn titled<'a>(alloc: Global) -> Command<'a>
+    ensures { app_of result ≡ new_app (codes "cobconv") }
+{
+    Command::new(alloc, "cobconv")
+        .about(
+            "Converts files of COBOL records by two copybooks and a paragraph of MOVE\nstatements. Without a command it does the job that stands on standard input.",
+        )
+        .override_usage("cobconv [COMMAND]")
+        .after_help(PROGRAM_NOTES)
 }
 
 /// The program and its commands, as `clap` takes them; the words it parses are those after the program's name.
 pub fn program<'a>(alloc: Global) -> Result<Command<'a>, AllocError>
     ensures { IfOk result (λ made. app_of made ≡ program_app) }
 {
-    Command::new(alloc, "cobconv")
+    titled(alloc)
         .bin_name("cobconv")?
-        .about(
-            "Converts files of COBOL records by two copybooks and a paragraph of MOVE statements. Without a command it does the job that stands on standard input.",
-        )
-        .after_help(
-            "Example: cobconv convert --in-book old.cpy --out-book new.cpy --moves moves.cbl --in old.dat --out new.dat",
-        )
         .version(VERSION)
         .no_binary_name(true)
         .subcommand_required(true)

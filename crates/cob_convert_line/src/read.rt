@@ -1,6 +1,6 @@
-ghost use Rattle.std.specs.Prelude.{◌≡◌, ◌⊎◌, IfErr, IfOk, None, Some, map, option_map};
-ghost use Rattle.clap.specs.Words.{first_of, found_of, one_of, rows_of};
-ghost use Rattle.cob_convert_line.specs.Lines.{IsCheck, IsCommand, IsConvert, IsLayout, IsCommandLineOf, IsShow, form_by_letter, is_flagged, letter_of};
+ghost use Rattle.std.specs.Prelude.{◌≡◌, ◌⊎◌, IfErr, IfOk, Some, is_some, map, true};
+ghost use Rattle.clap.specs.Words.{first_of, found_of, rows_of};
+ghost use Rattle.cob_convert_line.specs.Lines.{AreNamed, IsCheck, IsCommand, IsCommandLineOf, IsComplete, IsConvert, IsFaultOf, IsLayout, IsShow, LacksAForm, LacksForm, check_options, convert_options, form_by_letter, is_flagged, layout_options, letter_of, show_options};
 ghost use Rattle.cob_convert_line.specs.declared.fault.LineFault.TheVariants.{Memory};
 
 use crate::fault::LineFault;
@@ -22,26 +22,25 @@ fn form_named(letter: &str) -> Option<Form>
     }
 }
 
-// What an option names, where `clap` has seen to it that it is there.
-fn named<'a>(options: &ArgMatches<'a>, name: &str) -> Result<&'a str, LineFault>
-    ensures named { IfOk result (λ word.
-        first_of name.now (rows_of (found_of options.now)) ≡ Some word.now) }
-    ensures lacks { IfErr result (λ _. first_of name.now (rows_of (found_of options.now)) ≡ None) }
+// What an option names, which has a value.
+fn named<'a>(options: &ArgMatches<'a>, name: &str) -> &'a str
+    requires { is_some (first_of name.now (rows_of (found_of options.now))) ≡ true }
+    ensures { first_of name.now (rows_of (found_of options.now)) ≡ Some result.now }
 {
-    match options.get_str(name) {
-        Some(word) => Ok(word),
-        None => Err(LineFault::Missing),
-    }
+    options.get_str(name).unwrap()
 }
 
-// The form that an option names.
+// The form that an option names, which has a value.
 fn form(options: &ArgMatches<'_>, name: &str) -> Result<Form, LineFault>
+    requires { is_some (first_of name.now (rows_of (found_of options.now))) ≡ true }
     ensures named { IfOk result (λ form.
         first_of name.now (rows_of (found_of options.now)) ≡ Some (letter_of form)) }
     ensures lacks { IfErr result (λ _. (form : Form)
         → first_of name.now (rows_of (found_of options.now)) ≡ Some (letter_of form) → ⊥) }
+    ensures fault { IfErr result (λ fault. (fault ≡ LineFault.Form)
+        × LacksForm (λ id. first_of id (rows_of (found_of options.now))) name.now) }
 {
-    form_named(named(options, name)?).ok_or(LineFault::Form)
+    form_named(named(options, name)).ok_or(LineFault::Form)
 }
 
 // Whether a flag was given.
@@ -55,52 +54,57 @@ fn flag(options: &ArgMatches<'_>, name: &str) -> bool
 }
 
 fn convert_line<'a>(options: &ArgMatches<'a>) -> Result<ConvertLine<'a>, LineFault>
+    requires { AreNamed convert_options (λ id. first_of id (rows_of (found_of options.now))) }
     ensures options { IfOk result (IsConvert (λ id. first_of id (rows_of (found_of options.now)))) }
     ensures lacks { IfErr result (λ _. (line : ConvertLine)
         → IsConvert (λ id. first_of id (rows_of (found_of options.now))) line → ⊥) }
+    ensures fault { IfErr result (λ fault. (fault ≡ LineFault.Form)
+        × LacksAForm (λ id. first_of id (rows_of (found_of options.now)))) }
 {
     Ok(ConvertLine {
-        in_book: named(options, "in-book")?,
-        out_book: named(options, "out-book")?,
-        moves: named(options, "moves")?,
-        input: named(options, "in")?,
-        output: named(options, "out")?,
+        in_book: named(options, "in-book"),
+        out_book: named(options, "out-book"),
+        moves: named(options, "moves"),
+        input: named(options, "in"),
+        output: named(options, "out"),
         in_form: form(options, "in-form")?,
         out_form: form(options, "out-form")?,
+        atomic: flag(options, "atomic"),
         progress: flag(options, "progress"),
     })
 }
 
-fn check_line<'a>(options: &ArgMatches<'a>) -> Result<CheckLine<'a>, LineFault>
-    ensures options { IfOk result (IsCheck (λ id. first_of id (rows_of (found_of options.now)))) }
-    ensures lacks { IfErr result (λ _. (line : CheckLine)
-        → IsCheck (λ id. first_of id (rows_of (found_of options.now))) line → ⊥) }
+fn check_line<'a>(options: &ArgMatches<'a>) -> CheckLine<'a>
+    requires { AreNamed check_options (λ id. first_of id (rows_of (found_of options.now))) }
+    ensures { IsCheck (λ id. first_of id (rows_of (found_of options.now))) result }
 {
-    Ok(CheckLine {
-        in_book: named(options, "in-book")?,
-        out_book: named(options, "out-book")?,
-        moves: named(options, "moves")?,
-    })
+    CheckLine {
+        in_book: named(options, "in-book"),
+        out_book: named(options, "out-book"),
+        moves: named(options, "moves"),
+    }
 }
 
-fn layout_line<'a>(options: &ArgMatches<'a>) -> Result<LayoutLine<'a>, LineFault>
-    ensures options { IfOk result (IsLayout (λ id. first_of id (rows_of (found_of options.now)))) }
-    ensures lacks { IfErr result (λ _. (line : LayoutLine)
-        → IsLayout (λ id. first_of id (rows_of (found_of options.now))) line → ⊥) }
+fn layout_line<'a>(options: &ArgMatches<'a>) -> LayoutLine<'a>
+    requires { AreNamed layout_options (λ id. first_of id (rows_of (found_of options.now))) }
+    ensures { IsLayout (λ id. first_of id (rows_of (found_of options.now))) result }
 {
-    Ok(LayoutLine {
-        book: named(options, "book")?,
-    })
+    LayoutLine {
+        book: named(options, "book"),
+    }
 }
 
 fn show_line<'a>(options: &ArgMatches<'a>) -> Result<ShowLine<'a>, LineFault>
+    requires { AreNamed show_options (λ id. first_of id (rows_of (found_of options.now))) }
     ensures options { IfOk result (IsShow (λ id. first_of id (rows_of (found_of options.now)))) }
     ensures lacks { IfErr result (λ _. (line : ShowLine)
         → IsShow (λ id. first_of id (rows_of (found_of options.now))) line → ⊥) }
+    ensures fault { IfErr result (λ fault. (fault ≡ LineFault.Form)
+        × LacksAForm (λ id. first_of id (rows_of (found_of options.now)))) }
 {
     Ok(ShowLine {
-        book: named(options, "book")?,
-        input: named(options, "in")?,
+        book: named(options, "book"),
+        input: named(options, "in"),
         form: form(options, "form")?,
         progress: flag(options, "progress"),
     })
@@ -108,17 +112,20 @@ fn show_line<'a>(options: &ArgMatches<'a>) -> Result<ShowLine<'a>, LineFault>
 
 // The line of a command that was named with these options.
 fn command_line<'a>(name: &str, options: &ArgMatches<'a>) -> Result<Line<'a>, LineFault>
+    requires { IsComplete name.now (λ id. first_of id (rows_of (found_of options.now))) }
     ensures options { IfOk result (IsCommand name.now
         (λ id. first_of id (rows_of (found_of options.now)))) }
     ensures lacks { IfErr result (λ _. (line : Line)
         → IsCommand name.now (λ id. first_of id (rows_of (found_of options.now))) line → ⊥) }
+    ensures fault { IfErr result (λ fault. (fault ≡ LineFault.Form)
+        × LacksAForm (λ id. first_of id (rows_of (found_of options.now)))) }
 {
     match name {
         "convert" => Ok(Line::Convert(convert_line(options)?)),
-        "check" => Ok(Line::Check(check_line(options)?)),
-        "layout" => Ok(Line::Layout(layout_line(options)?)),
+        "check" => Ok(Line::Check(check_line(options))),
+        "layout" => Ok(Line::Layout(layout_line(options))),
         "show" => Ok(Line::Show(show_line(options)?)),
-        _ => Err(LineFault::Missing),
+        _ => unreachable!(),
     }
 }
 
@@ -132,6 +139,8 @@ pub fn line_of<'a, S: AsStr>(alloc: Global, words: &'a [S]) -> Result<Line<'a>, 
     ensures options { IfOk result (IsCommandLineOf (map S.text words.entry.now)) }
     ensures refused { IfErr result (λ fault. (fault ≡ Memory)
         ⊎ ((line : Line) → IsCommandLineOf (map S.text words.entry.now) line → ⊥)) }
+    ensures fault { IfErr result (λ fault. (fault ≡ Memory)
+        ⊎ IsFaultOf (map S.text words.entry.now) fault) }
 {
     if words.is_empty() {
         return Ok(Line::Job);
@@ -139,6 +148,6 @@ pub fn line_of<'a, S: AsStr>(alloc: Global, words: &'a [S]) -> Result<Line<'a>, 
     let matches = program(alloc)?.try_get_matches_from(words)?;
     match matches.subcommand() {
         Some((name, options)) => command_line(name, options),
-        None => Err(LineFault::Missing),
+        None => unreachable!(),
     }
 }

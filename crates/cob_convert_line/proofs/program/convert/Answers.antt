@@ -7,10 +7,11 @@ use Rattle.cob_convert_line.proofs.program.convert.Goals as goal
 
 pub returns : goal.returns
 returns c =
-    let start : app_of c.after_help-command.result ≡ new_app (codes "convert") = ap app_of_fields c.after_help-command.ensures ∙ ap app_of_fields c.about.ensures ∙ c.new.ensures.app in
+    let start : app_of c.after_help-command.result ≡ new_app (codes "convert") = ap app_of_fields c.after_help-command.ensures ∙ ap app_of_fields c.override_usage.ensures ∙ ap app_of_fields c.about.ensures ∙ c.new.ensures.app in
     let texts = c.in_ok-with_texts.ensures ∙ ap (λ (a : App). with_texts_app a) start in
     let one = c.in_ok-arg.ensures.shape c.required.ensures.local ∙ ap₂ with_rule texts c.required.ensures.rule in
     let two = c.in_ok-arg-2.ensures.shape c.required-2.ensures.local ∙ ap₂ with_rule one c.required-2.ensures.rule in
     let three = c.in_ok-arg-3.ensures.shape c.form.ensures.local ∙ ap₂ with_rule two c.form.ensures.rule in
     let four = c.in_ok-arg-4.ensures.shape c.form-2.ensures.local ∙ ap₂ with_rule three c.form-2.ensures.rule in
-    IfOk-weaker c.arg-5.result _ _ (λ made h. h.shape c.progress.ensures.local ∙ ap₂ with_rule four c.progress.ensures.rule) c.arg-5.ensures
+    let five = c.in_ok-arg-5.ensures.shape c.alone.ensures.local ∙ ap₂ with_rule four c.alone.ensures.rule in
+    IfOk-weaker c.arg-6.result _ _ (λ made h. h.shape c.alone-2.ensures.local ∙ ap₂ with_rule five c.alone-2.ensures.rule) c.arg-6.ensures

@@ -9,4 +9,4 @@ returns c =
     let one = c.in_ok-arg.ensures.shape c.required.ensures.local ∙ ap₂ with_rule start c.required.ensures.rule in
     let two = c.in_ok-arg-2.ensures.shape c.required-2.ensures.local ∙ ap₂ with_rule one c.required-2.ensures.rule in
     let three = c.in_ok-arg-3.ensures.shape c.form.ensures.local ∙ ap₂ with_rule two c.form.ensures.rule in
-    IfOk-weaker c.arg-4.result _ _ (λ made h. h.shape c.progress.ensures.local ∙ ap₂ with_rule three c.progress.ensures.rule) c.arg-4.ensures
+    IfOk-weaker c.arg-4.result _ _ (λ made h. h.shape c.alone.ensures.local ∙ ap₂ with_rule three c.alone.ensures.rule) c.arg-4.ensures

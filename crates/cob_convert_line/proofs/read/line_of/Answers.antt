@@ -1,6 +1,7 @@
-use Rattle.std.proofs.Common.{inr, ap, sym, refl, map, option_map, true, ◌≡◌, ◌∙◌}
+use Rattle.std.proofs.Common.{inr, ap, subst, sym, refl, map, option_map, true, ◌≡◌, ◌∙◌}
 use Rattle.std.specs.Box.{box_value}
 use Rattle.std.proofs.lemmas.Result.{IfErr-weaker, IfOk-weaker}
+use Rattle.clap.specs.Kinds.{HasKind}
 use Rattle.clap.specs.Words.{App, app_of, fault_of, found_of, is_simple, is_simple_and_free, rows_of, subcommand_of}
 use Rattle.clap.specs.declared.parser.matches.ArgMatches.TheViews.{out-ArgMatches, out-SubCommand}
 use Rattle.cob_convert_line.specs.Lines.{IsCommandLineOf}
@@ -8,6 +9,7 @@ use Rattle.cob_convert_line.specs.Program.{program_app}
 use Rattle.cob_convert_line.specs.declared.line.Line.{Line}
 use Rattle.cob_convert_line.proofs.Apps.{both_parts, none_said, some_said}
 use Rattle.cob_convert_line.proofs.Said.{found_by, named_by, refusal, said_by, told}
+use Rattle.cob_convert_line.proofs.Spelled.{complete_by, form_fault, found_in, words_refused}
 use Rattle.cob_convert_line.proofs.read.line_of.Goals as goal
 
 simple : is_simple program_app ≡ true
@@ -17,10 +19,10 @@ free : is_simple_and_free program_app ≡ true
 free = refl
 
 pub returns-then-is_empty : goal.returns-then-is_empty
-returns-then-is_empty g c = record { options = none_said g.S.AsStr.text c.args.words.now (sym c.is_empty.ensures ∙ c.if-is_empty.true); refused = tt }
+returns-then-is_empty g c = record { options = none_said g.S.AsStr.text c.args.words.now (sym c.is_empty.ensures ∙ c.if-is_empty.true); refused = tt; fault = tt }
 
-pub returns-in-Some : goal.returns-in-Some
-returns-in-Some g c =
+pub command_line-requires : goal.command_line-requires
+command_line-requires g c =
     let words = map g.S.AsStr.text c.args.words.now in
     let some = some_said g.S.AsStr.text c.args.words.now (sym c.is_empty.ensures ∙ c.if-is_empty.false) in
     let name = c.in-Some.name.now in
@@ -33,10 +35,64 @@ returns-in-Some g c =
     (sym c.subcommand.ensures.rows ∙ ap (option_map (λ p. rows_of (found_of p.1.now))) c.in-Some.is) in
     let reading = ap (λ (a : App). subcommand_of a words) (sym built) ∙ sym found.1 ∙ entered in
     let passed = ap (λ (a : App). fault_of a words) (sym built) ∙ c.in_ok-matches.ensures.kinds (ap is_simple_and_free built ∙ free) in
-    record {
-      options = IfOk-weaker c.command_line.result _ _ (λ said h. said_by words name rows said some passed reading h) c.command_line.ensures.options;
-      refused = IfErr-weaker c.command_line.result _ _ (λ fault lacks. inr (λ said h. lacks said (named_by words name rows said some reading h))) c.command_line.ensures.lacks;
-    }
+    complete_by words name rows (found_in words name rows some passed reading)
+
+pub returns-clause-options : goal.returns-clause-options
+returns-clause-options g c =
+    let words = map g.S.AsStr.text c.args.words.now in
+    let some = some_said g.S.AsStr.text c.args.words.now (sym c.is_empty.ensures ∙ c.if-is_empty.false) in
+    let name = c.in-Some.name.now in
+    let rows = rows_of (found_of c.in-Some.options.now) in
+    let built = c.in_ok-program.ensures in
+    let found = c.in_ok-matches.ensures.matches (ap is_simple built ∙ simple) in
+    let entered = both_parts (out-ArgMatches c.in_ok-matches.matches).subcommand (λ b. (out-SubCommand (box_value b)).name.now)
+    (λ b. rows_of (found_of (out-SubCommand (box_value b)).matches)) name rows
+    (sym c.subcommand.ensures.name ∙ ap (option_map (λ p. p.0.now)) c.in-Some.is)
+    (sym c.subcommand.ensures.rows ∙ ap (option_map (λ p. rows_of (found_of p.1.now))) c.in-Some.is) in
+    let reading = ap (λ (a : App). subcommand_of a words) (sym built) ∙ sym found.1 ∙ entered in
+    let passed = ap (λ (a : App). fault_of a words) (sym built) ∙ c.in_ok-matches.ensures.kinds (ap is_simple_and_free built ∙ free) in
+    IfOk-weaker c.command_line.result _ _ (λ said h. said_by words name rows said some passed reading h) c.command_line.ensures.options
+
+pub returns-clause-refused : goal.returns-clause-refused
+returns-clause-refused g c =
+    let words = map g.S.AsStr.text c.args.words.now in
+    let some = some_said g.S.AsStr.text c.args.words.now (sym c.is_empty.ensures ∙ c.if-is_empty.false) in
+    let name = c.in-Some.name.now in
+    let rows = rows_of (found_of c.in-Some.options.now) in
+    let built = c.in_ok-program.ensures in
+    let found = c.in_ok-matches.ensures.matches (ap is_simple built ∙ simple) in
+    let entered = both_parts (out-ArgMatches c.in_ok-matches.matches).subcommand (λ b. (out-SubCommand (box_value b)).name.now)
+    (λ b. rows_of (found_of (out-SubCommand (box_value b)).matches)) name rows
+    (sym c.subcommand.ensures.name ∙ ap (option_map (λ p. p.0.now)) c.in-Some.is)
+    (sym c.subcommand.ensures.rows ∙ ap (option_map (λ p. rows_of (found_of p.1.now))) c.in-Some.is) in
+    let reading = ap (λ (a : App). subcommand_of a words) (sym built) ∙ sym found.1 ∙ entered in
+    let passed = ap (λ (a : App). fault_of a words) (sym built) ∙ c.in_ok-matches.ensures.kinds (ap is_simple_and_free built ∙ free) in
+    IfErr-weaker c.command_line.result _ _ (λ fault lacks. inr (λ said h. lacks said (named_by words name rows said some reading h))) c.command_line.ensures.lacks
+
+pub returns-clause-fault : goal.returns-clause-fault
+returns-clause-fault g c =
+    let words = map g.S.AsStr.text c.args.words.now in
+    let some = some_said g.S.AsStr.text c.args.words.now (sym c.is_empty.ensures ∙ c.if-is_empty.false) in
+    let name = c.in-Some.name.now in
+    let rows = rows_of (found_of c.in-Some.options.now) in
+    let built = c.in_ok-program.ensures in
+    let found = c.in_ok-matches.ensures.matches (ap is_simple built ∙ simple) in
+    let entered = both_parts (out-ArgMatches c.in_ok-matches.matches).subcommand (λ b. (out-SubCommand (box_value b)).name.now)
+    (λ b. rows_of (found_of (out-SubCommand (box_value b)).matches)) name rows
+    (sym c.subcommand.ensures.name ∙ ap (option_map (λ p. p.0.now)) c.in-Some.is)
+    (sym c.subcommand.ensures.rows ∙ ap (option_map (λ p. rows_of (found_of p.1.now))) c.in-Some.is) in
+    let reading = ap (λ (a : App). subcommand_of a words) (sym built) ∙ sym found.1 ∙ entered in
+    let passed = ap (λ (a : App). fault_of a words) (sym built) ∙ c.in_ok-matches.ensures.kinds (ap is_simple_and_free built ∙ free) in
+    IfErr-weaker c.command_line.result _ _ (λ fault h. form_fault words name rows fault (found_in words name rows some passed reading) h.0 h.1) c.command_line.ensures.fault
+
+pub returns-in_err-matches-clause-fault : goal.returns-in_err-matches-clause-fault
+returns-in_err-matches-clause-fault g c =
+    let words = map g.S.AsStr.text c.args.words.now in
+    let built = c.in_ok-program.ensures in
+    let kinds = c.in_err-matches.ensures.kinds (ap is_simple_and_free built ∙ free) in
+    told c.from_residual-in_err-matches.result _ _ (λ fault is. words_refused words c.in_err-matches.field-0.0 fault
+    (subst (λ (a : App). HasKind (fault_of a words) c.in_err-matches.field-0.0) built kinds) is)
+    c.from_residual-in_err-matches.ensures.1
 
 pub returns-in_err-matches-clause-refused : goal.returns-in_err-matches-clause-refused
 returns-in_err-matches-clause-refused g c =

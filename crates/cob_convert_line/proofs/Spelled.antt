@@ -1,0 +1,181 @@
+-- What words spell, and which fault they have that spell nothing.
+use Rattle.std.proofs.Common.{◌≡◌, ◌∙◌, ◌⊎◌, inl, inr, Bool, true, false, refl, sym, ap, List, [], ◌∷◌, Option, Some, None, is_some, option_map, codes, subst, true≢false}
+use Rattle.std.specs.Prelude.{unwrap_or}
+use Rattle.std.specs.Option.{option_or}
+use Rattle.std.specs.Str.{bytes_eq}
+use Rattle.clap.specs.Words.{Row, Text, first_of, subcommand_of}
+use Rattle.clap.specs.Faults.{fault_of}
+use Rattle.clap.specs.Kinds.{HasKind, IsAmong, Kinds}
+use Rattle.clap.specs.Values.{kind_of}
+use Rattle.clap.specs.declared.error.Error.{Error}
+use Rattle.clap.specs.declared.error.kind.ErrorKind.{ErrorKind}
+use Rattle.clap.specs.declared.error.kind.ErrorKind.TheVariants as kind
+use Rattle.cob_convert_line.specs.declared.fault.LineFault.{LineFault}
+use Rattle.cob_convert_line.specs.declared.fault.LineFault.TheVariants.{Form, Memory, Words}
+use Rattle.cob_convert_line.specs.Options.{AreThere, Given, Options, default_of, found_at}
+use Rattle.cob_convert_line.specs.Lines.{AreNamed, IsComplete, IsFaultOf, IsFormName, LacksAForm, Spells, check_options, commands, convert_options, fault_by_kind, layout_options, show_options, words_fault}
+use Rattle.cob_convert_line.specs.Program.{program_app}
+use Rattle.cob_convert_line.proofs.Level.{defaults_in, level_complete, level_sound, level_there, look_is, rows_of_given, value_in}
+use Rattle.cob_convert_line.proofs.Turns.{not_nil}
+use Rattle.cob_convert_line.proofs.Walks.{AreNames}
+use Rattle.cob_convert_line.proofs.Top.{Commands, known_fault, known_rows, unknown}
+
+-- what is true of the options of each of these commands
+abbrev Each : (Options → Type 0) → Commands → Type 0
+Each P [] = Unit {0}
+Each P (o ∷ cs) = P o.1 × Each P cs
+
+each_found : (P : Options → Type 0) (cs : Commands) (w : Text) (os : Options) → Each P cs → found_at w cs ≡ Some os → P os
+each_found P [] w os all is = absurd (true≢false (sym (ap is_some is)))
+each_found P (o ∷ cs) w os all is = go (bytes_eq o.0 w) refl is (each_found P cs w os all.1)
+  where
+    go : (b : Bool) → bytes_eq o.0 w ≡ b → found_at w (o ∷ cs) ≡ Some os → (found_at w cs ≡ Some os → P os) → P os
+    go true e here later = subst P (ap (λ x. unwrap_or x o.1) (sym (ap (λ b. option_map (λ it. it.1) (Rattle.std.proofs.Common.cond b (Some o) (Rattle.std.proofs.Common.find (λ it. bytes_eq it.0 w) cs))) e) ∙ here)) all.0
+    go false e here later = later (sym (ap (λ b. option_map (λ it. it.1) (Rattle.std.proofs.Common.cond b (Some o) (Rattle.std.proofs.Common.find (λ it. bytes_eq it.0 w) cs))) e) ∙ here)
+
+-- the options of a command have names
+names_of : (w : Text) (os : Options) → found_at w commands ≡ Some os → AreNames os
+names_of w os is = each_found AreNames commands w os (
+  ((refl, refl), ((refl, refl), ((refl, refl), ((refl, refl), ((refl, refl), ((refl, refl), ((refl, refl), ((refl, refl), ((refl, refl), ((refl, refl), tt)))))))))),
+  (
+    ((refl, refl), ((refl, refl), ((refl, refl), ((refl, refl), tt)))),
+    (
+      ((refl, refl), ((refl, refl), tt)),
+      (((refl, refl), ((refl, refl), ((refl, refl), ((refl, refl), ((refl, refl), tt))))), tt),
+    ),
+  ),
+) is
+
+-- words that spell a command pass
+pub spelled_passes : (words : List Text) (os : Options) (given : Given) → Spells words os given → fault_of program_app words ≡ []
+spelled_passes [] os given h = absurd h
+spelled_passes (w ∷ rest) os given h = known_fault w os h.0 rest ∙ level_complete w os rest given (names_of w os h.0) h.1 h.2
+
+-- and words that pass spell one, whose rows are found
+pub record Found (words : List Text) (name : Text) (rows : List Row) : Type 0 where
+  pub os : Options
+  pub given : Given
+  pub known : found_at name commands ≡ Some os
+  pub spells : Spells words os given
+  pub same : rows ≡ rows_of_given os given
+
+pub spelled_by : (words : List Text) → (words ≡ [] → ⊥) → fault_of program_app words ≡ []
+    → (name : Text) × (rows : List Row) × (subcommand_of program_app words ≡ Some (name, rows)) × Found words name rows
+spelled_by [] some passed = absurd (some refl)
+spelled_by (w ∷ rest) some passed = go (found_at w commands) refl
+  where
+    go : (o : Option Options) → found_at w commands ≡ o
+        → (name : Text) × (rows : List Row) × (subcommand_of program_app (w ∷ rest) ≡ Some (name, rows)) × Found (w ∷ rest) name rows
+    go None is = absurd (unknown w rest is passed)
+    go (Some os) is =
+        let through = sym (known_fault w os is rest) ∙ passed in
+        let level = level_sound w os rest through in (
+          w,
+          rows_of_given os level.0,
+          known_rows w os is rest ∙ ap (λ r. Some (w, r)) level.2,
+          record { os = os; given = level.0; known = is; spells = (is, level.1, level_there w os rest level.0 level.2 through); same = refl },
+        )
+
+-- what the parser found is what they spell
+pub found_in : (words : List Text) (name : Text) (rows : List Row) → (words ≡ [] → ⊥) → fault_of program_app words ≡ []
+    → subcommand_of program_app words ≡ Some (name, rows) → Found words name rows
+found_in words name rows some passed found =
+    let b = spelled_by words some passed in
+    let same : ◌≡◌ {A = Text × List Row} (b.0, b.1) (name, rows) = ap (λ o. unwrap_or o (name, rows)) (sym b.2 ∙ found) in
+    subst (λ (p : Text × List Row). Found words p.0 p.1) same b.3
+
+-- a required option names what is given, and one with a default names something
+abbrev Names : Options → Type 0
+Names os = (given : Given) → AreThere os given → AreNamed os (λ id. first_of id (rows_of_given os given))
+
+given_names : (os : Options) (given : Given) (name : Text) → value_in (defaults_in name os) ≡ default_of (found_at name os) → (v : Text) × (found_at name given ≡ Some v)
+    → is_some (first_of name (rows_of_given os given)) ≡ true
+given_names os given name default (v, is) = ap is_some (look_is os given name default ∙ ap (λ x. option_or x (default_of (found_at name os))) is)
+
+default_names : (os : Options) (given : Given) (name v : Text) → value_in (defaults_in name os) ≡ default_of (found_at name os) → default_of (found_at name os) ≡ Some v
+    → is_some (first_of name (rows_of_given os given)) ≡ true
+default_names os given name v default is = ap is_some (look_is os given name default ∙ ap (option_or (found_at name given)) is) ∙ some (found_at name given)
+  where
+    some : (x : Option Text) → is_some (option_or x (Some v)) ≡ true
+    some None = refl
+    some (Some u) = refl
+
+convert_names : Names convert_options
+convert_names given h = let os = convert_options in (
+  given_names os given (codes "in-book") refl h.0,
+  (
+    given_names os given (codes "out-book") refl h.1.0,
+    (
+      given_names os given (codes "moves") refl h.1.1.0,
+      (
+        given_names os given (codes "in") refl h.1.1.1.0,
+        (
+          given_names os given (codes "out") refl h.1.1.1.1.0,
+          (default_names os given (codes "in-form") (codes "f") refl refl, (default_names os given (codes "out-form") (codes "f") refl refl, (tt, (tt, (tt, tt))))),
+        ),
+      ),
+    ),
+  ),
+)
+
+check_names : Names check_options
+check_names given h = let os = check_options in
+    (given_names os given (codes "in-book") refl h.0, (given_names os given (codes "out-book") refl h.1.0, (given_names os given (codes "moves") refl h.1.1.0, (tt, tt))))
+
+layout_names : Names layout_options
+layout_names given h = (given_names layout_options given (codes "book") refl h.0, (tt, tt))
+
+show_names : Names show_options
+show_names given h = let os = show_options in
+    (given_names os given (codes "book") refl h.0, (given_names os given (codes "in") refl h.1.0, (default_names os given (codes "form") (codes "f") refl refl, (tt, (tt, tt)))))
+
+pub complete_by : (words : List Text) (name : Text) (rows : List Row) → Found words name rows → IsComplete name (λ id. first_of id rows)
+complete_by [] name rows f = absurd f.spells
+complete_by (w ∷ rest) name rows f =
+    let all = each_found Names commands name f.os (convert_names, (check_names, (layout_names, (show_names, tt)))) f.known in
+    (f.os, f.known, subst (λ (r : List Row). AreNamed f.os (λ id. first_of id r)) (sym f.same) (all f.given f.spells.2))
+
+-- an option for a form has one default
+abbrev HasForms : Options → Type 0
+HasForms os = (name : Text) → IsFormName name → value_in (defaults_in name os) ≡ default_of (found_at name os)
+
+by_name : (os : Options) → value_in (defaults_in (codes "form") os) ≡ default_of (found_at (codes "form") os)
+    → value_in (defaults_in (codes "in-form") os) ≡ default_of (found_at (codes "in-form") os)
+    → value_in (defaults_in (codes "out-form") os) ≡ default_of (found_at (codes "out-form") os) → HasForms os
+by_name os a b d name (inl e) = subst (λ n. value_in (defaults_in n os) ≡ default_of (found_at n os)) (sym e) a
+by_name os a b d name (inr (inl e)) = subst (λ n. value_in (defaults_in n os) ≡ default_of (found_at n os)) (sym e) b
+by_name os a b d name (inr (inr e)) = subst (λ n. value_in (defaults_in n os) ≡ default_of (found_at n os)) (sym e) d
+
+pub form_fault : (words : List Text) (name : Text) (rows : List Row) (fault : LineFault) → Found words name rows → fault ≡ Form → LacksAForm (λ id. first_of id rows)
+    → (fault ≡ Memory) ⊎ IsFaultOf words fault
+form_fault words name rows fault f is (option, form, (letter, named, none)) =
+    let forms = each_found HasForms commands name f.os (
+      by_name convert_options refl refl refl,
+      (
+        by_name check_options refl refl refl,
+        (
+          by_name layout_options refl refl refl,
+          (by_name show_options refl refl refl, tt),
+        ),
+      ),
+    ) f.known in
+    let look = sym (look_is f.os f.given option (forms option form)) ∙ (ap (first_of option) (sym f.same) ∙ named) in
+    inr (subst (IsFaultOf words) (sym is) (f.os, f.given, f.spells, (option, form, (letter, look, none))))
+
+-- a parser's error is want of memory, or is told as a fault of the words
+by_kind : (k : ErrorKind) (error : Error) → (fault_by_kind k error ≡ Memory) ⊎ (fault_by_kind k error ≡ Words error)
+by_kind kind.OutOfMemory error = inl refl
+by_kind _ error = inr refl
+
+pub words_refused : (words : List Text) (error : Error) (fault : LineFault) → HasKind (fault_of program_app words) error → fault ≡ words_fault error
+    → (fault ≡ Memory) ⊎ IsFaultOf words fault
+words_refused words error fault (inl memory) is = inl (is ∙ ap (λ k. fault_by_kind k error) memory)
+words_refused words error fault (inr among) is = go (by_kind (kind_of error) error)
+  where
+    nothing : (kinds : Kinds) → fault_of program_app words ≡ kinds → IsAmong (kind_of error) kinds → (os : Options) (given : Given) → Spells words os given → ⊥
+    nothing [] e in_none os given h = in_none
+    nothing (k ∷ ks) e in_some os given h = not_nil k ks (sym e ∙ spelled_passes words os given h)
+
+    go : (fault_by_kind (kind_of error) error ≡ Memory) ⊎ (fault_by_kind (kind_of error) error ≡ Words error) → (fault ≡ Memory) ⊎ IsFaultOf words fault
+    go (inl memory) = inl (is ∙ memory)
+    go (inr told) = inr (subst (IsFaultOf words) (sym (is ∙ told)) (nothing (fault_of program_app words) refl among, among))
