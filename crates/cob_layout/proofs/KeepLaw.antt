@@ -36,7 +36,7 @@ use Rattle.cob_layout.proofs.SpotLaw.{AreSpots, are_spots, nowhere, found_own, f
 -- ---- bytes beside a place
 
 -- bytes that the place doesn't meet stay
-beside : (o l : ℕ) (p : Place) (a field : List ℕ) → p.offset + p.length ≤ length a → length field ≡ p.length → (p.offset + p.length ≤ o) ⊎ (o + l ≤ p.offset)
+pub beside : (o l : ℕ) (p : Place) (a field : List ℕ) → p.offset + p.length ≤ length a → length field ≡ p.length → (p.offset + p.length ≤ o) ⊎ (o + l ≤ p.offset)
     → take l (drop o a) ≡ take l (drop o (with_field a p field))
 beside o l p a field fits long (inl behind) = ap (take l) (sym (drop-put_mid p.offset p.length a field o behind (omega (arith, fits)) long))
 beside o l p a field fits long (inr before) =

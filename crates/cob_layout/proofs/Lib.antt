@@ -12,9 +12,13 @@ pub mod NeedLemmas
 pub mod StorageLemmas
 pub mod SpotLaw
 pub mod SpotMoves
+pub mod KindLaw
 pub mod WayLaw
 pub mod ReadLaw
 pub mod KeepLaw
+pub mod KeptLemmas
+pub mod KeepingLemmas
+pub mod WritingLemmas
 pub mod StandingLemmas
 pub mod TakingLemmas
 pub mod Loans

@@ -21,7 +21,7 @@ use Rattle.cob_layout_places.specs.Agree.{SameCounts, OnePlace}
 use Rattle.cob_layout_places.proofs.NeedLaw.{low, high, has_number, below_needed}
 use Rattle.cob_layout.specs.Counting.{greatest_counts, AreThose, IsRead, IsSparedOf, NeededOf}
 use Rattle.cob_layout_places.specs.References.{Refers}
-use Rattle.cob_layout.specs.Laws.{AllGiveNeeded, OneOfNeeded, OnePlaceByNeeds}
+use Rattle.cob_layout.specs.Laws.{AllGiveNeeded, OneOfNeeded, OnePlaceByAll, OnePlaceByNeeds}
 use Rattle.cob_layout.proofs.GreatestLemmas.{greatest_length}
 use Rattle.cob_layout.proofs.ReferenceLemmas.{refers_has}
 use Rattle.cob_layout.proofs.ThoseLemmas.{IsIn, of_all, same_those, those_in, in_those, decided, kept_those, Rise, rise_all, rise_those, rise_low, rise_high, one_number}
@@ -40,7 +40,7 @@ same_ok c d e = cc
 no_fault : (c : List ℕ) (e : CountFault) → the_ok c ≡ the_err e → ⊥
 no_fault c e h = cc
 
-same_or_not : (a b : ℕ) → (a ≡ b) ⊎ (a ≡ b → ⊥)
+pub same_or_not : (a b : ℕ) → (a ≡ b) ⊎ (a ≡ b → ⊥)
 same_or_not a b = elim (cases_lt a b) [
   | inl lt ↦ inr (λ e. omega (arith, lt, e))
   | inr ge ↦ elim (cases_lt b a) [
@@ -49,10 +49,10 @@ same_or_not a b = elim (cases_lt a b) [
   ]
 ]
 
-other_index : (c : List ℕ) (i k v : ℕ) → (k ≡ i → ⊥) → slice_index (slice_set c i v) k ≡ slice_index c k
+pub other_index : (c : List ℕ) (i k v : ℕ) → (k ≡ i → ⊥) → slice_index (slice_set c i v) k ≡ slice_index c k
 other_index c i k v other = get_or-set_other c i k v 0 other
 
-own_index : (c : List ℕ) (i k v : ℕ) → k ≡ i → i < length c → slice_index (slice_set c i v) k ≡ v
+pub own_index : (c : List ℕ) (i k v : ℕ) → k ≡ i → i < length c → slice_index (slice_set c i v) k ≡ v
 own_index c i k v same lt = ap (λ (m : ℕ). slice_index (slice_set c i v) m) same ∙ get_or-set_same c i v 0 lt
 
 -- counts that agree on an entry do so where one number is put into both
@@ -109,11 +109,11 @@ first_some : (o p : Option Kind) (k : Kind) → (o ≡ None → ⊥) → or_else
 first_some None p k n e = absurd (n refl)
 first_some (Some j) p k n e = e
 
-chosen_yes : (b : Bool) (k : Kind) (o p : Option Kind) → b ≡ true → or_else (choose b k o) p ≡ Some k
+pub chosen_yes : (b : Bool) (k : Kind) (o p : Option Kind) → b ≡ true → or_else (choose b k o) p ≡ Some k
 chosen_yes true k o p e = refl
 chosen_yes false k o p e = absurd (cc)
 
-chosen_no : (b : Bool) (k : Kind) (o p : Option Kind) → b ≡ false → or_else (choose b k o) p ≡ or_else o p
+pub chosen_no : (b : Bool) (k : Kind) (o p : Option Kind) → b ≡ false → or_else (choose b k o) p ≡ or_else o p
 chosen_no false k o p e = refl
 chosen_no true k o p e = absurd (cc)
 
@@ -138,7 +138,7 @@ two_kinds None = inl refl
 two_kinds (Some k) = inr (λ e. cc)
 
 -- what is described under a number is an entry's
-kind_has : (a : ℕ) (k : Kind) (f : Forest Resolved) → kind_in a f ≡ Some k → Has a f
+pub kind_has : (a : ℕ) (k : Kind) (f : Forest Resolved) → kind_in a f ≡ Some k → Has a f
 kind_has a k NoEntries e = absurd (cc)
 kind_has a k (AnEntry e children more) is = elim (two_ways (e.number == a)) [
   | inl own ↦ inl (is_yes e.number a own)
@@ -235,7 +235,7 @@ known t x s i =
     by y item is single (inr (inr (inr (inr n)))) = absurd (single (share_in x.count y t n))
 
 -- counts that agree on what the place of a table's count needs give the table one count
-same_count : OnePlace → (t : Forest Resolved) (bytes : List ℕ) (x : Table) (c d : List ℕ) (r : Result ℕ CountFault) → AreNumbered 0 t → Has x.count t
+pub same_count : OnePlace → (t : Forest Resolved) (bytes : List ℕ) (x : Table) (c d : List ℕ) (r : Result ℕ CountFault) → AreNumbered 0 t → Has x.count t
     → ((y : ℕ) → Has y t → Needs x.count y t → slice_index c y ≡ slice_index d y) → IsCounted t bytes x c r → IsCounted t bytes x d r
 same_count place t bytes x c d r numbered has agree h =
     let one = place c d t x.count [] numbered has agree in
@@ -436,12 +436,16 @@ all_give_needed sound read place t bytes c r receiving subscripts spared is refe
     ]) in
     (d, (ys, read_those, made.taken), same)
 
-pub one_place_by_needs : AllGiveNeeded → OneOfNeeded → SameCounts → OnePlaceByNeeds
-one_place_by_needs give one same t a b c d r receiving subscripts read spared is refers as_long those_read those_spared agree all some =
-    let (counts, (ys, those_ys, taken), place) = give t a c r receiving subscripts spared is refers all those_spared in
+pub one_place_by_needs : OneOfNeeded → SameCounts → OnePlaceByNeeds
+one_place_by_needs one same t a b c d r receiving subscripts read as_long those_read agree (ys, those_ys, taken) some =
     let g = greatest_counts t in
     let lists : ys ≡ read = same_those (IsRead t r receiving) (tables_of t) ys read those_ys those_read in
-    let here : Taken t a read g (Ok counts) = subst (λ (zs : List Table). Taken t a zs g (Ok counts)) lists taken in
-    let there : Taken t b read g (Ok counts) = same t a b read g (Ok counts) as_long agree here in
-    let e : counts ≡ d = same_ok counts d (one t r receiving b (Ok counts) (Ok d) (read, those_read, there) some) in
-    sym place ∙ ap (λ (k : List ℕ). place_of (times k) r t 0 0 subscripts) e
+    let here : Taken t a read g (Ok c) = subst (λ (zs : List Table). Taken t a zs g (Ok c)) lists taken in
+    let there : Taken t b read g (Ok c) = same t a b read g (Ok c) as_long agree here in
+    let e : c ≡ d = same_ok c d (one t r receiving b (Ok c) (Ok d) (read, those_read, there) some) in
+    ap (λ (k : List ℕ). place_of (times k) r t 0 0 subscripts) e
+
+pub one_place_by_all : AllGiveNeeded → OnePlaceByNeeds → OnePlaceByAll
+one_place_by_all give needed t a b c d r receiving subscripts read spared is refers as_long those_read those_spared agree all some =
+    let (counts, own, place) = give t a c r receiving subscripts spared is refers all those_spared in
+    sym place ∙ needed t a b counts d r receiving subscripts read as_long those_read agree own some

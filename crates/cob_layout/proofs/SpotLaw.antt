@@ -20,7 +20,7 @@ use Rattle.cob_layout.proofs.ReferenceLemmas.{refers_has}
 use Rattle.cob_layout.proofs.EndLemmas.{numbered}
 use Rattle.cob_layout.proofs.AreaLemmas.{absent, is_same, is_other}
 
-one_longer : {X : Type 0} (front : List X) (x : X) → length (front ++ x ∷ []) ≡ length front + 1
+pub one_longer : {X : Type 0} (front : List X) (x : X) → length (front ++ x ∷ []) ≡ length front + 1
 one_longer front x = length-append front (x ∷ [])
 
 -- ---- the spot of each entry stands by its number
@@ -32,18 +32,18 @@ AreSpots spots c (AnEntry e children more) at area =
     ((d : Spot) → get_or spots e.number d ≡ record { offset = start; length = element_length c e children; times = c e })
     × AreSpots spots c children start start × AreSpots spots c more (at + own_length e.redefines (whole_length c e children)) start
 
-at_seam : {X : Type 0} (front back all : List X) (x d : X) (n : ℕ) → n ≡ length front → all ≡ front ++ x ∷ back → get_or all n d ≡ x
+pub at_seam : {X : Type 0} (front back all : List X) (x d : X) (n : ℕ) → n ≡ length front → all ≡ front ++ x ∷ back → get_or all n d ≡ x
 at_seam {X} front back all x d n is cut = ap (λ (zs : List X). get_or zs n d) cut ∙ ap (λ (k : ℕ). get_or (front ++ x ∷ back) k d) is ∙ get_or-append_seam front x back d
 
 -- a list in three parts behind a front, and its first element and its parts each behind what comes before
-first_part : {X : Type 0} (front a b back all : List X) (x : X) → all ≡ front ++ ((x ∷ (a ++ b)) ++ back) → all ≡ front ++ x ∷ ((a ++ b) ++ back)
+pub first_part : {X : Type 0} (front a b back all : List X) (x : X) → all ≡ front ++ ((x ∷ (a ++ b)) ++ back) → all ≡ front ++ x ∷ ((a ++ b) ++ back)
 first_part front a b back all x e = e
 
-second_part : {X : Type 0} (front a b back all : List X) (x : X) → all ≡ front ++ ((x ∷ (a ++ b)) ++ back) → all ≡ (front ++ x ∷ []) ++ (a ++ (b ++ back))
+pub second_part : {X : Type 0} (front a b back all : List X) (x : X) → all ≡ front ++ ((x ∷ (a ++ b)) ++ back) → all ≡ (front ++ x ∷ []) ++ (a ++ (b ++ back))
 second_part {X} front a b back all x e =
     e ∙ ap (λ (zs : List X). front ++ x ∷ zs) (append_assoc a b back) ∙ sym (append_assoc front (x ∷ []) (a ++ (b ++ back)))
 
-third_part : {X : Type 0} (front a b back all : List X) (x : X) → all ≡ front ++ ((x ∷ (a ++ b)) ++ back) → all ≡ ((front ++ x ∷ []) ++ a) ++ (b ++ back)
+pub third_part : {X : Type 0} (front a b back all : List X) (x : X) → all ≡ front ++ ((x ∷ (a ++ b)) ++ back) → all ≡ ((front ++ x ∷ []) ++ a) ++ (b ++ back)
 third_part front a b back all x e = second_part front a b back all x e ∙ sym (append_assoc (front ++ x ∷ []) a (b ++ back))
 
 pub are_spots : (c : Resolved → ℕ) (f : Forest Resolved) (n at area : ℕ) (front back all : List Spot) → n ≡ length front → AreNumbered n f → all ≡ front ++ (spots_of c f at area ++ back) → AreSpots all c f at area

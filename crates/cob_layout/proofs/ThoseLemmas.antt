@@ -11,11 +11,7 @@ use Rattle.cob_layout_places.specs.Counts.{table_of, tables_of, Taken, OneOutcom
 use Rattle.cob_layout_places.specs.Needs.{keep}
 use Rattle.cob_layout.specs.Counting.{greatest_counts, AreThose, IsRead}
 use Rattle.cob_layout.specs.Laws.{OneOfAll, OneOfNeeded}
-
--- one of the tables
-abbrev pub IsIn : Table → List Table → Type 0
-IsIn x [] = ⊥
-IsIn x (y ∷ ys) = (x ≡ y) ⊎ IsIn x ys
+pub use Rattle.cob_layout.specs.Kept.{IsIn}
 
 pub of_all : (P : Table → Type 0) (xs : List Table) (x : Table) → AllByRecursion P xs → IsIn x xs → P x
 of_all P [] x h i = absurd i
@@ -69,7 +65,7 @@ two_ways : (b : Bool) → (b ≡ true) ⊎ (b ≡ false)
 two_ways true = inl refl
 two_ways false = inr refl
 
-keep_yes : (test : Table → Bool) (x : Table) (xs : List Table) → test x ≡ true → keep test (x ∷ xs) ≡ x ∷ keep test xs
+pub keep_yes : (test : Table → Bool) (x : Table) (xs : List Table) → test x ≡ true → keep test (x ∷ xs) ≡ x ∷ keep test xs
 keep_yes test x xs e = rw e refl
 
 pub keep_no : (test : Table → Bool) (x : Table) (xs : List Table) → test x ≡ false → keep test (x ∷ xs) ≡ keep test xs

@@ -83,10 +83,19 @@ AllGiveNeeded = (tree : Forest Resolved) (bytes c : List ℕ) (r : ℕ) (receivi
     × (place_of (times d) r tree 0 0 subscripts
     ≡ place_of (times (greatest spared c)) r tree 0 0 subscripts)
 
--- Storages of one length that have the same bytes where the counts stand that a reference reads give it one place: whether all counts of a storage
--- are taken, but for those that it is spared, or only those that are needed.
+-- Storages of one length that have the same bytes where the counts stand that a reference reads give it one place, each under the counts that it
+-- needs there, whatever else the storages hold.
 abbrev pub OnePlaceByNeeds : Type 0
-OnePlaceByNeeds = (tree : Forest Resolved) (a b c d : List ℕ) (r : ℕ) (receiving : Bool) (subscripts : List ℕ)
+OnePlaceByNeeds = (tree : Forest Resolved) (a b c d : List ℕ) (r : ℕ) (receiving : Bool) (subscripts : List ℕ) (read : List Table)
+    → length a ≡ length b
+    → AreThose (IsRead tree r receiving) (tables_of tree) read
+    → AgreeOnCounts tree a b read (greatest_counts tree)
+    → NeededOf tree r receiving a (Ok c) → NeededOf tree r receiving b (Ok d)
+    → place_of (times c) r tree 0 0 subscripts ≡ place_of (times d) r tree 0 0 subscripts
+
+-- And so where all counts of one of them are taken, but for those that the reference is spared.
+abbrev pub OnePlaceByAll : Type 0
+OnePlaceByAll = (tree : Forest Resolved) (a b c d : List ℕ) (r : ℕ) (receiving : Bool) (subscripts : List ℕ)
     (read spared : List Table) → IsRecordDescription tree → Refers r subscripts tree → length a ≡ length b
     → AreThose (IsRead tree r receiving) (tables_of tree) read
     → AreThose (IsSparedOf tree r receiving) (tables_of tree) spared

@@ -1,11 +1,13 @@
 pub mod Placed
 pub mod Counting
 pub mod Storage
+pub mod Kinds
 pub mod Laws
 pub mod Ways
 pub mod Standing
 pub mod Fields
 pub mod Sound
+pub mod Kept
 -- words of the crates below that the contracts of this one speak of
 pub use Rattle.cob_copybook.specs.BookFault
 pub use Rattle.cob_copybook.specs.BookRule

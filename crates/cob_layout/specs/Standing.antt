@@ -1,5 +1,6 @@
 -- The counts of a record's tables, and where its entries stand under them.
 use Rattle.std.specs.Prelude.{◌≡◌, ◌⊎◌, ◌&&◌, nat_lt, ℕ, ◌+◌, ◌≤◌, Bool, true, false, List, [], ◌∷◌, length, Ok}
+use Rattle.std.specs.List.{AllByRecursion}
 use Rattle.cob_copybook.specs.Forests.{Forest, entries_in}
 use Rattle.cob_copybook.specs.Nodes.{Resolved}
 use Rattle.cob_layout.specs.declared.fields.Place.{Place}
@@ -10,6 +11,7 @@ use Rattle.cob_layout_places.specs.Lengths.{times}
 use Rattle.cob_layout_places.specs.Spots.{spots_of}
 use Rattle.cob_layout_places.specs.Counts.{tables_of}
 use Rattle.cob_layout.specs.Counting.{AreThose, CountsOf, IsSparedOf}
+use Rattle.cob_layout.specs.Ways.{spot_at}
 
 -- how a record stands: the counts of its tables and the spots of its entries, by the numbers of the entries
 pub record Standing : Type 0 where
@@ -59,6 +61,14 @@ first_number (x ∷ xs) = x.number
 abbrev pub is_spared : (last : Bool) → (r : ℕ) → Table → Bool
 is_spared last r x = last && (nat_lt r x.number && nat_lt r x.count)
 
--- the place meets no byte of the first element that stands there
+-- the place ends before the first element that stands there, or begins behind it
 abbrev pub IsApart : Place → Spot → Type 0
 IsApart p s = (p.offset + p.length ≤ s.offset) ⊎ (s.offset + s.length ≤ p.offset)
+
+-- the place meets the count of none of these tables, where the counts' items stand at these spots
+abbrev pub MeetsNone : Place → List Spot → List Table → Type 0
+MeetsNone p spots xs = AllByRecursion (λ (x : Table). IsApart p (spot_at spots x.count)) xs
+
+-- the place meets no item of the record that counts a table, where these stand in these places
+abbrev pub MeetsNoCount : Forest Resolved → Place → Standing → Type 0
+MeetsNoCount tree p s = MeetsNone p s.spots (tables_of tree)

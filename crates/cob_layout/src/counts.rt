@@ -34,14 +34,23 @@ impl Counts {
     /// # Errors
     ///
     /// Where no memory is left.
+    pub(crate) fn new(alloc: Global, taken: Vec<u32>) -> Result<Counts, AllocError>
+        ensures { IfOk result (λ c. c ≡ taken.items) }
+    {
+        let next = copied_counts(alloc, &taken)?;
+        Ok(Counts { taken, next })
+    }
+
+    /// A copy of these counts, with room to take others.
+    ///
+    /// # Errors
+    ///
+    /// Where no memory is left.
     pub(crate) fn of(alloc: Global, counts: &[u32]) -> Result<Counts, AllocError>
         ensures { IfOk result (λ c. c ≡ counts.now) }
     {
-        let mut taken = Vec::new(alloc);
-        taken.extend_from_slice(counts)?;
-        let mut next = Vec::new(alloc);
-        next.extend_from_slice(counts)?;
-        Ok(Counts { taken, next })
+        let taken = copied_counts(alloc, counts)?;
+        Counts::new(alloc, taken)
     }
 
     /// The counts by the numbers of the tables' entries.
@@ -50,6 +59,19 @@ impl Counts {
     {
         &self.taken
     }
+}
+
+/// These counts once more.
+///
+/// # Errors
+///
+/// Where no memory is left.
+pub(crate) fn copied_counts(alloc: Global, counts: &[u32]) -> Result<Vec<u32>, AllocError>
+    ensures { IfOk result (λ same. same.items ≡ counts.now) }
+{
+    let mut same = Vec::new(alloc);
+    same.extend_from_slice(counts)?;
+    Ok(same)
 }
 
 /// The greatest count of an entry: 0 for one that doesn't vary.

@@ -1,4 +1,5 @@
-ghost use Rattle.cob_layout.specs.Laws.{AllGiveNeeded, BeginWithArea, EndInLength, FitsRef, LieInStorage, OneOfAll, OneOfNeeded, OnePlaceByNeeds};
+ghost use Rattle.cob_layout.specs.Kept.{KeptAfter, KeptGiveNeeded, ReadOnce, WritesKeep};
+ghost use Rattle.cob_layout.specs.Laws.{AllGiveNeeded, BeginWithArea, EndInLength, FitsRef, LieInStorage, OneOfAll, OneOfNeeded, OnePlaceByAll, OnePlaceByNeeds};
 
 use crate::sound::records_are_sound;
 use cob_layout_places::{needs_are_read, one_outcome, one_place, same_counts};
@@ -41,9 +42,10 @@ pub fn all_give_needed()
     one_place();
 }
 
-/// Storages that agree on the counts that a reference reads give it one place.
+/// Storages that agree on the counts that a reference reads give it one place: whether only these are taken of both, or all of one.
 pub fn one_place_by_needs()
-    ensures { OnePlaceByNeeds }
+    ensures needed { OnePlaceByNeeds }
+    ensures all { OnePlaceByAll }
 {
     all_give_needed();
     one_outcome_of_counts();
@@ -58,4 +60,15 @@ pub fn places_lie_in_storage()
     places_end_in_length();
     all_give_needed();
     one_outcome_of_counts();
+}
+
+/// Counts of a storage that are kept and those that are read anew are what a reference needs, and each is read once at most until the bytes of its item
+/// or of an item before it change.
+pub fn kept_give_needed()
+    ensures needed { KeptGiveNeeded }
+    ensures kept { KeptAfter }
+    ensures once { ReadOnce }
+    ensures writes { WritesKeep }
+{
+    one_place();
 }

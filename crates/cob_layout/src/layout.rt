@@ -16,12 +16,13 @@ ghost use Rattle.cob_layout.specs.Counting.{greatest_counts, AreGreatest, Counts
 use crate::copy::copied;
 use crate::counts::{Counts, greatest_in_order};
 use crate::fields::Place;
+use crate::kinds::kinds;
 use crate::laws::{fits_ref, places_end_in_length};
 use crate::sound::records_are_sound;
 use crate::spots::new_spots;
 use crate::ways::{Way, ways};
 use arrayvec::ArrayVec;
-use cob_copybook::{Book, Node};
+use cob_copybook::{Book, Kind, Node};
 use cob_layout_places::{
     CountFault, Found, Ref, Spot, Table, covering, element_of, needs_are_read, refers, seek,
     tables, take_counts, take_needed, times_of,
@@ -48,6 +49,8 @@ pub struct Layout {
     pub(crate) ways: Vec<Way>,
     /// Where the entries stand under the greatest counts.
     pub(crate) spots: Vec<Spot>,
+    /// What the entries describe.
+    pub(crate) kinds: Vec<Kind>,
 }
 
 impl Model for Layout {
@@ -60,6 +63,7 @@ impl Model for Layout {
     ghost use Rattle.cob_layout_places.specs.Counts.{tables_of};
     ghost use Rattle.cob_layout_places.specs.Spots.{spots_of};
     ghost use Rattle.cob_layout.specs.Ways.{held, held_in};
+    ghost use Rattle.cob_layout.specs.Kinds.{kinds_of};
     ghost use Rattle.cob_layout.specs.Sound.{IsSound};
     ghost use Rattle.cob_layout.specs.Counting.{greatest_counts};
     ghost use Rattle.cob_copybook.specs.Bytes.{TakeBytes};
@@ -72,7 +76,7 @@ impl Model for Layout {
 
     ghost view = { λ l. tree_of l.root };
 
-    ghost invariant = { λ l. IsRecordDescription (tree_of l.root) × IsSound (tree_of l.root) × (l.tables.items ≡ tables_of (tree_of l.root)) × (l.counts ≡ greatest_counts (tree_of l.root)) × (l.greatest ≡ sum_of greatest_number (tree_of l.root)) × TakeBytes (tree_of l.root) × (map held l.ways.items ≡ held_in [] (tree_of l.root)) × (l.spots.items ≡ spots_of (times (greatest_counts (tree_of l.root))) (tree_of l.root) 0 0) };
+    ghost invariant = { λ l. IsRecordDescription (tree_of l.root) × IsSound (tree_of l.root) × (l.tables.items ≡ tables_of (tree_of l.root)) × (l.counts ≡ greatest_counts (tree_of l.root)) × (l.greatest ≡ sum_of greatest_number (tree_of l.root)) × TakeBytes (tree_of l.root) × (map held l.ways.items ≡ held_in [] (tree_of l.root)) × (l.spots.items ≡ spots_of (times (greatest_counts (tree_of l.root))) (tree_of l.root) 0 0) × (l.kinds.items ≡ kinds_of (tree_of l.root)) };
 }
 
 /// The place of an element, or the fault where it isn't one of those that there are.
@@ -104,11 +108,12 @@ impl Layout {
         let root = copied(alloc, book.root())?;
         let tables = tables(alloc, &root)?;
         let in_order = greatest_in_order(alloc, &root)?;
-        let counts = Counts::of(alloc, &in_order)?;
+        let spots = new_spots(alloc, &root, &in_order)?;
         let greatest = book.greatest();
         let entries = in_order.len();
         let ways = ways(alloc, &root, entries)?;
-        let spots = new_spots(alloc, &root, &in_order)?;
+        let kinds = kinds(alloc, &root, entries)?;
+        let counts = Counts::new(alloc, in_order)?;
         Ok(Layout {
             root,
             tables,
@@ -116,6 +121,7 @@ impl Layout {
             greatest,
             ways,
             spots,
+            kinds,
         })
     }
 

@@ -2,8 +2,8 @@
 //! and REDEFINES clauses; IBM Enterprise COBOL for z/OS, Language Reference, "Data division--data description entry").
 //!
 //! A [`Layout`] is made once of a copybook's `Book` and then answers every question about places. It holds a copy of the record's tree, its
-//! tables that vary, and their greatest counts, and by the numbers of the entries the tables that hold each, and where it stands under the
-//! greatest counts. A [`Counts`] says how often these tables occur in one record, a [`Places`] that and where each entry stands then, and a
+//! tables that vary, and their greatest counts, and by the numbers of the entries what each describes, the tables that hold it, and where it
+//! stands under the greatest counts. A [`Counts`] says how often these tables occur in one record, a [`Places`] that and where each entry stands then, and a
 //! [`Ref`] names one element of one entry: the entry by its number, and a subscript for each table that holds it or that it is.
 //!
 //! What is promised:
@@ -32,15 +32,21 @@
 //!   its number and its subscripts alone, with the answer of [`Layout::place`] under these counts (`value`, `current`, `fits`), and
 //!   [`Layout::length_in`] is that of [`Layout::length`]. [`Layout::fixed_place`] does so for a reference that reads no count (`fixed`,
 //!   `value`, `none`), and [`Layout::spares_none`] says whether a reference is spared none (`must`, `only`), so that all counts give it its
-//!   place. Where [`Layout::keeps_counts`] says so of a place, its bytes may change and the counts stay (`keeps`).
+//!   place. [`Layout::keeps_counts`] says whether a place meets the item of no count (`must`, `only`); where it meets none, its bytes may change
+//!   and the counts stay (`keeps`).
+//! - [`Layout::kind`] is what the entry with a number describes.
 //! - The bytes of a storage say one thing of all counts and of those that are needed ([`one_outcome_of_counts`]). Where all are valid, those
 //!   that are needed are, and the place is that under all counts, but for the tables that the reference is spared, which have their greatest
 //!   number ([`all_give_needed`]). So a place that a sender finds lies within the record's bytes, be they all of its storage or its current
-//!   part ([`places_lie_in_storage`]). Storages that agree on what a reference reads give it one place, whichever of the two calls took the counts
-//!   ([`one_place_by_needs`]).
+//!   part ([`places_lie_in_storage`]). Storages that agree on the counts that a reference reads give it one place (`needed` of
+//!   [`one_place_by_needs`]), also where all counts of one of them were taken (`all`).
+//! - Counts of a storage may be kept, so that they are not read again ([`kept_give_needed`]): those that are kept and those that are read anew are
+//!   the ones that a reference needs, or the first fault (`needed`); what is kept behind a reading are counts of the storage (`kept`); each table
+//!   is read once at most (`once`); and where the bytes of a place change that meets the item of no count up to a table's, that table's count
+//!   stays (`writes`).
 //!
 //! The definitions: `CountsOf`, `NeededOf` and `AreGreatest` of specs/Counting.antt, `placed` of specs/Placed.antt, `ArePlaces`, `StandsIn`,
-//! `KeepsCounts` and `SparesNone` of specs/Standing.antt, those of the laws of specs/Laws.antt, and what they name of `cob_copybook`
+//! `KeepsCounts`, `MeetsNoCount` and `SparesNone` of specs/Standing.antt, those of the laws of specs/Laws.antt and specs/Kept.antt, and what they name of `cob_copybook`
 //! (`TakeBytes`) and of `cob_layout_places`, which has the arithmetic of lengths and places. What holds of every record description is the law
 //! [`records_are_sound`] (specs/Sound.antt). The bytes of a [`Place`] are read through [`field`] and written through [`field_mut`], which
 //! changes these bytes and no other (specs/Fields.antt).
@@ -50,6 +56,8 @@
 mod copy;
 mod counts;
 mod fields;
+mod keeping;
+mod kinds;
 mod laws;
 mod layout;
 mod places;
@@ -69,8 +77,8 @@ pub use cob_layout_places::{
 pub use counts::Counts;
 pub use fields::{Place, field, field_mut};
 pub use laws::{
-    all_give_needed, fits_ref, one_outcome_of_counts, one_place_by_needs, places_end_in_length,
-    places_lie_in_storage, redefinitions_begin_with_area,
+    all_give_needed, fits_ref, kept_give_needed, one_outcome_of_counts, one_place_by_needs,
+    places_end_in_length, places_lie_in_storage, redefinitions_begin_with_area,
 };
 pub use layout::{Layout, PlaceFault};
 pub use places::Places;

@@ -9,15 +9,16 @@ ghost use Rattle.cob_layout_places.specs.References.{Refers};
 ghost use Rattle.cob_layout_places.specs.Spots.{spots_of};
 ghost use Rattle.cob_layout.specs.Placed.{placed};
 ghost use Rattle.cob_layout.specs.Counting.{greatest_counts, CountsOf, ReadsNone};
-ghost use Rattle.cob_layout.specs.Standing.{ArePlaces, IsRoomFor, KeepsCounts, SparesNone, AreSomePlaces, StandsIn};
+ghost use Rattle.cob_layout.specs.Standing.{ArePlaces, IsRoomFor, KeepsCounts, MeetsNoCount, SparesNone, AreSomePlaces, StandsIn};
 
+use crate::counts::copied_counts;
 use crate::fields::Place;
 use crate::laws::places_end_in_length;
 use crate::layout::{Layout, PlaceFault, placed};
 use crate::reads::{meets_no_count, none_needed, none_spared};
 use crate::sound::records_are_sound;
-use crate::spots::{element_at, new_spots, put_all_spots, spot_at};
-use crate::taking::{copied_counts, take_all_counts};
+use crate::spots::{copied_spots, element_at, put_all_spots, spot_at};
+use crate::taking::take_all_counts;
 use crate::ways::{end_of_table, is_last_receiver, tables_at};
 use cob_layout_places::{
     CountFault, Found, Ref, Spot, needs_are_read, one_place, places_end_in_record, same_counts,
@@ -90,7 +91,7 @@ impl Layout {
         ensures room { IfOk result (λ p. IsRoomFor self.now p) }
     {
         let counts = copied_counts(alloc, self.counts.as_slice())?;
-        let spots = new_spots(alloc, &self.root, &counts)?;
+        let spots = copied_spots(alloc, &self.spots)?;
         Ok(Places { counts, spots })
     }
 
@@ -183,9 +184,12 @@ impl Layout {
         none_spared(&self.tables, last, reference.node)
     }
 
-    /// Whether the counts of a storage stay as they are where the bytes of this place alone change: the place meets the item of no count.
+    /// Whether a place meets the item of no count, where these stand in these places: then the counts of a storage stay as they are where the
+    /// bytes of this place alone change.
     pub fn keeps_counts(&self, place: Place, places: &Places) -> bool
         requires room { IsRoomFor self.now places.now }
+        ensures must { IsTrue result → MeetsNoCount self.now place places.now }
+        ensures only { IsFalse result → MeetsNoCount self.now place places.now → ⊥ }
         ensures keeps { IsTrue result → KeepsCounts self.now place places.now }
     {
         one_place();

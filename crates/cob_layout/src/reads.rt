@@ -1,11 +1,8 @@
 //! Which counts a reference reads or is spared, and places that meet no count.
 
-ghost use Rattle.std.specs.Prelude.{◌≡◌, IsTrue};
-ghost use Rattle.std.specs.List.{AllByRecursion};
+ghost use Rattle.std.specs.Prelude.{◌≡◌, IsFalse, IsTrue};
 ghost use Rattle.cob_layout_places.specs.Needs.{is_needed, keep};
-ghost use Rattle.cob_layout_places.specs.declared.varying.Table.{Table};
-ghost use Rattle.cob_layout.specs.Standing.{are_none, is_spared, IsApart};
-ghost use Rattle.cob_layout.specs.Ways.{spot_at};
+ghost use Rattle.cob_layout.specs.Standing.{are_none, is_spared, IsApart, MeetsNone};
 
 use crate::fields::Place;
 use crate::spots::spot_at;
@@ -42,9 +39,10 @@ pub(crate) fn none_spared(tables: &[Table], last: bool, number: usize) -> bool
     true
 }
 
-/// Whether a place meets no byte of the element at this spot.
+/// Whether a place ends before the element at this spot, or begins behind it.
 fn is_apart(place: Place, spot: Spot) -> bool
-    ensures { IsTrue result → IsApart place spot }
+    ensures must { IsTrue result → IsApart place spot }
+    ensures only { IsFalse result → IsApart place spot → ⊥ }
 {
     let place_end = u64::from(place.offset) + u64::from(place.length);
     let spot_end = u64::from(spot.offset) + u64::from(spot.length);
@@ -53,8 +51,8 @@ fn is_apart(place: Place, spot: Spot) -> bool
 
 /// Whether a place meets the count of none of the tables.
 pub(crate) fn meets_no_count(tables: &[Table], spots: &[Spot], place: Place) -> bool
-    ensures { IsTrue result
-        → AllByRecursion (λ (x : Table). IsApart place (spot_at spots.now x.count)) tables.now }
+    ensures must { IsTrue result → MeetsNone place spots.now tables.now }
+    ensures only { IsFalse result → MeetsNone place spots.now tables.now → ⊥ }
 {
     for table in tables {
         if !is_apart(place, spot_at(spots, table.count)) {

@@ -54,6 +54,19 @@ pub(crate) fn new_spots(alloc: Global, root: &Node, counts: &[u32]) -> Result<Ve
     Ok(spots)
 }
 
+/// These spots once more.
+///
+/// # Errors
+///
+/// Where no memory is left.
+pub(crate) fn copied_spots(alloc: Global, spots: &[Spot]) -> Result<Vec<Spot>, AllocError>
+    ensures { IfOk result (λ same. same.items ≡ spots.now) }
+{
+    let mut same = Vec::new(alloc);
+    same.extend_from_slice(spots)?;
+    Ok(same)
+}
+
 /// An element of an entry, moved by one subscript of a table that holds the entry or that it is.
 fn moved_by(found: Found, table: Spot, subscript: u32) -> Found
     requires room { found.offset + (subscript - 1) * table.length ≤ longest_record }

@@ -14,7 +14,6 @@ ghost use Rattle.cob_layout.specs.Ways.{first_element};
 use crate::spots::spot_at;
 use cob_copybook::Node;
 use cob_layout_places::{CountFault, Found, Spot, Table, count_of, count_there, one_place};
-use std::alloc::{AllocError, Global};
 
 /// What the bytes say of a table under the counts so far. A count that stands before the first table that varies is found at its spot.
 fn count_in(
@@ -84,17 +83,4 @@ pub(crate) fn take_all_counts(
         counts[table.number] = count_in(root, *table, first, spots, bytes, counts)?;
     }
     Ok(())
-}
-
-/// These counts once more.
-///
-/// # Errors
-///
-/// Where no memory is left.
-pub(crate) fn copied_counts(alloc: Global, counts: &[u32]) -> Result<Vec<u32>, AllocError>
-    ensures { IfOk result (λ same. same.items ≡ counts.now) }
-{
-    let mut same = Vec::new(alloc);
-    same.extend_from_slice(counts)?;
-    Ok(same)
 }

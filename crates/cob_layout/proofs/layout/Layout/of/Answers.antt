@@ -14,8 +14,8 @@ invariant_of-result c =
     let same : t ≡ c.args.book.now = ap (λ (n : Tree Resolved). AnEntry n.top n.beneath NoEntries) c.in_ok-root.ensures.same ∙ c.root.ensures.tree in
     let is : IsRecordDescription t = subst IsRecordDescription (sym same) c.root.ensures.record in
     let sound = c.records_are_sound.ensures t is in
-    let counts = c.in_ok-counts.ensures ∙ c.deref.ensures.value ∙ c.in_ok-in_order.ensures ∙ sym (greatest_is t sound.numbered) in
-    (is, sound, c.in_ok-tables.ensures, counts, c.greatest-greatest.ensures.value ∙ ap (sum_of greatest_number) (sym same), c.in_ok-root.ensures.bytes, c.in_ok-ways.ensures, c.in_ok-spots.ensures ∙ ap (λ (cs : List ℕ). spots_of (times cs) t 0 0) (c.deref-2.ensures.value ∙ c.in_ok-in_order.ensures ∙ sym (greatest_is t sound.numbered)))
+    let counts = c.in_ok-counts.ensures ∙ c.in_ok-in_order.ensures ∙ sym (greatest_is t sound.numbered) in
+    (is, sound, c.in_ok-tables.ensures, counts, c.greatest-greatest.ensures.value ∙ ap (sum_of greatest_number) (sym same), c.in_ok-root.ensures.bytes, c.in_ok-ways.ensures, c.in_ok-spots.ensures ∙ ap (λ (cs : List ℕ). spots_of (times cs) t 0 0) (c.deref.ensures.value ∙ c.in_ok-in_order.ensures ∙ sym (greatest_is t sound.numbered)), c.in_ok-kinds.ensures)
 
 pub ways-requires-clause-end : goal.ways-requires-clause-end
 ways-requires-clause-end c =
@@ -25,4 +25,4 @@ ways-requires-clause-end c =
 pub new_spots-requires-clause-room : goal.new_spots-requires-clause-room
 new_spots-requires-clause-room c =
     let t = tree_of c.in_ok-root.root in
-    ap length (c.deref-2.ensures.value ∙ c.in_ok-in_order.ensures) ∙ length_in_order t
+    ap length (c.deref.ensures.value ∙ c.in_ok-in_order.ensures) ∙ length_in_order t

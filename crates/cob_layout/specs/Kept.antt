@@ -1,0 +1,130 @@
+-- Counts of a storage that are kept.
+use Rattle.std.specs.Prelude.{◌≡◌, ◌⊎◌, ℕ, ◌+◌, ◌≤◌, Bool, true, false, MatchBool, MatchOption, List, [], ◌∷◌, Option, Some, None, Ok, Err, Result, length, if◌then◌else◌, slice_index, slice_set}
+use Rattle.cob_copybook.specs.Forests.{Forest}
+use Rattle.cob_copybook.specs.Nodes.{Resolved}
+use Rattle.cob_layout_places.specs.declared.counts.CountFault.{CountFault}
+use Rattle.cob_layout_places.specs.declared.varying.Table.{Table}
+use Rattle.cob_layout_places.specs.Counts.{tables_of, IsCounted, Taken}
+use Rattle.cob_layout_places.specs.Needs.{keep, is_read}
+use Rattle.cob_layout.specs.Counting.{greatest_counts}
+use Rattle.cob_layout.specs.Sound.{IsSound}
+use Rattle.cob_layout.specs.declared.fields.Place.{Place}
+use Rattle.cob_layout.specs.Fields.{with_field}
+use Rattle.cob_layout_places.specs.declared.places.Found.{Found}
+use Rattle.cob_layout_places.specs.Lengths.{times}
+use Rattle.cob_layout_places.specs.Places.{place_of}
+
+-- one of the tables
+abbrev pub IsIn : Table → List Table → Type 0
+IsIn x [] = ⊥
+IsIn x (y ∷ ys) = (x ≡ y) ⊎ IsIn x ys
+
+-- no table that varies has this number
+abbrev pub IsNoTable : Forest Resolved → ℕ → Type 0
+IsNoTable tree k = (z : Table) → IsIn z (tables_of tree) → z.number ≡ k → ⊥
+
+-- The count of a table in a storage: what its item gives under counts that are, up to the item, those of the tables there.
+pub data IsCountOf (tree : Forest Resolved) (bytes : List ℕ) : Table → ℕ → Type 0 where
+  counted : (x : Table) (v : ℕ) (c : List ℕ)
+      → ((y : Table) → IsIn y (tables_of tree) → y.number ≤ x.count → IsCountOf tree bytes y (slice_index c y.number))
+      → ((k : ℕ) → IsNoTable tree k → slice_index c k ≡ slice_index (greatest_counts tree) k)
+      → IsCounted tree bytes x c (Ok v) → IsCountOf tree bytes x v
+
+-- the kept count of the first of these tables, and those of the others
+abbrev pub first_kept : List (Option ℕ) → Option ℕ
+first_kept [] = None
+first_kept (k ∷ ks) = k
+
+abbrev pub others_kept : List (Option ℕ) → List (Option ℕ)
+others_kept [] = []
+others_kept (k ∷ ks) = ks
+
+-- a count that is kept is that of the table
+abbrev pub IsKept : Forest Resolved → List ℕ → Table → Option ℕ → Type 0
+IsKept tree bytes x None = Unit {0}
+IsKept tree bytes x (Some v) = IsCountOf tree bytes x v
+
+-- those of these tables, in their order
+abbrev pub AreKept : Forest Resolved → List ℕ → List Table → List (Option ℕ) → Type 0
+AreKept tree bytes [] ks = Unit {0}
+AreKept tree bytes (x ∷ xs) ks = IsKept tree bytes x (first_kept ks) × AreKept tree bytes xs (others_kept ks)
+
+-- What the bytes say of a table that is read, and then of others: a count that is kept is not read again; one that is not kept is read, one more
+-- than for the others, and may be refused.
+abbrev pub TakenBy : Forest Resolved → List ℕ → Table → Option ℕ → List ℕ → Result (List ℕ) CountFault → ℕ → (List ℕ → ℕ → Type 0) → Type 0
+TakenBy tree bytes x (Some v) c r n others = others (slice_set c x.number v) n
+TakenBy tree bytes x None c r n others =
+    ((v m : ℕ) × IsCounted tree bytes x c (Ok v) × others (slice_set c x.number v) m × (n ≡ m + 1))
+    ⊎ ((e : CountFault) × IsCounted tree bytes x c (Err e) × (r ≡ Err e) × (n ≡ 1))
+
+-- What the bytes say of those of these tables that are read, one behind another, as `Taken` says it, where a count that is kept is not read again;
+-- so many were read, the last of them refused or not.
+abbrev pub TakenAnew : Forest Resolved → List ℕ → (Table → Bool) → List Table → List (Option ℕ) → List ℕ → Result (List ℕ) CountFault → ℕ → Type 0
+TakenAnew tree bytes read [] ks c r n = (r ≡ Ok c) × (n ≡ 0)
+TakenAnew tree bytes read (x ∷ xs) ks c r n =
+    MatchBool (read x) (TakenBy tree bytes x (first_kept ks) c r n (λ d m. TakenAnew tree bytes read xs (others_kept ks) d r m))
+    (TakenAnew tree bytes read xs (others_kept ks) c r n)
+
+-- how many counts are kept
+abbrev pub one_if : Option ℕ → ℕ
+one_if None = 0
+one_if (Some v) = 1
+
+abbrev pub kept_in : List Table → List (Option ℕ) → ℕ
+kept_in [] ks = 0
+kept_in (x ∷ xs) ks = one_if (first_kept ks) + kept_in xs (others_kept ks)
+
+-- what is kept behind a reading with these counts: the counts of the tables that are read, and those that were kept before
+abbrev pub kept_after : (Table → Bool) → List ℕ → List Table → List (Option ℕ) → List (Option ℕ)
+kept_after read d [] ks = []
+kept_after read d (x ∷ xs) ks = (if read x then Some (slice_index d x.number) else first_kept ks) ∷ kept_after read d xs (others_kept ks)
+
+-- Each table is read once at most while its count is kept: as many are kept more as were read, and where a count is refused no more were read than were
+-- not kept.
+abbrev pub ReadOnce : Type 0
+ReadOnce = (tree : Forest Resolved) (bytes : List ℕ) (read : Table → Bool) (xs : List Table) (ks : List (Option ℕ)) (c d : List ℕ) (e : CountFault) (n : ℕ)
+    → (TakenAnew tree bytes read xs ks c (Ok d) n → n + kept_in xs ks ≡ kept_in xs (kept_after read d xs ks))
+    × (TakenAnew tree bytes read xs ks c (Err e) n → n + kept_in xs ks ≤ length xs)
+
+-- what is kept behind a reading are counts of the storage
+abbrev pub KeptAfter : Type 0
+KeptAfter = (tree : Forest Resolved) (bytes : List ℕ) (node : ℕ) (receiving : Bool) (ks : List (Option ℕ)) (d : List ℕ) (n : ℕ)
+    → IsSound tree → AreKept tree bytes (tables_of tree) ks
+    → TakenAnew tree bytes (is_read tree node receiving) (tables_of tree) ks (greatest_counts tree) (Ok d) n
+    → AreKept tree bytes (tables_of tree) (kept_after (is_read tree node receiving) d (tables_of tree) ks)
+
+-- Kept counts and those that are read anew are what a reference needs.
+abbrev pub KeptGiveNeeded : Type 0
+KeptGiveNeeded = (tree : Forest Resolved) (bytes : List ℕ) (node : ℕ) (receiving : Bool) (ks : List (Option ℕ)) (r : Result (List ℕ) CountFault) (n : ℕ)
+    → IsSound tree → AreKept tree bytes (tables_of tree) ks
+    → TakenAnew tree bytes (is_read tree node receiving) (tables_of tree) ks (greatest_counts tree) r n
+    → Taken tree bytes (keep (is_read tree node receiving) (tables_of tree)) (greatest_counts tree) r
+
+-- how many reads are counted: as many as there were, up to 2 ^ 64 - 1
+abbrev pub most_reads : ℕ
+most_reads = 18446744073709551615
+
+-- what is said of one table that is read, and how many counts that takes
+abbrev pub IsReadOne : Forest Resolved → List ℕ → Table → Option ℕ → List ℕ → Result ℕ CountFault → ℕ → Type 0
+IsReadOne tree bytes x (Some w) c (Ok v) n = (v ≡ w) × (n ≡ 0)
+IsReadOne tree bytes x (Some w) c (Err e) n = ⊥
+IsReadOne tree bytes x None c r n = IsCounted tree bytes x c r × (n ≡ 1)
+
+-- what an answer says of counts
+abbrev pub outcome_of : {A : Type 0} → Result A CountFault → List ℕ → Result (List ℕ) CountFault
+outcome_of (Ok a) c = Ok c
+outcome_of (Err e) c = Err e
+
+-- the item of a table's count meets no byte of the place, wherever counts that are the storage's put it
+abbrev pub StandsApart : Forest Resolved → List ℕ → Place → Table → Type 0
+StandsApart tree bytes p x = (v : ℕ) (c : List ℕ) (f : Found)
+    → ((y : Table) → IsIn y (tables_of tree) → y.number ≤ x.count → IsCountOf tree bytes y (slice_index c y.number))
+    → ((k : ℕ) → IsNoTable tree k → slice_index c k ≡ slice_index (greatest_counts tree) k)
+    → IsCounted tree bytes x c (Ok v) → place_of (times c) x.count tree 0 0 [] ≡ Some f
+    → (p.offset + p.length ≤ f.offset) ⊎ (f.offset + f.length ≤ p.offset)
+
+-- Where the bytes of a place change, the counts stay whose items the place doesn't meet, and those before them.
+abbrev pub WritesKeep : Type 0
+WritesKeep = (tree : Forest Resolved) (before field : List ℕ) (p : Place) (x : Table) (v : ℕ) → IsSound tree → p.offset + p.length ≤ length before → length field ≡ p.length
+    → IsIn x (tables_of tree) → ((y : Table) → IsIn y (tables_of tree) → y.number ≤ x.number → StandsApart tree before p y)
+    → IsCountOf tree before x v → IsCountOf tree (with_field before p field) x v
