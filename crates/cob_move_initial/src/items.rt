@@ -70,7 +70,6 @@ pub fn write_item(item: &Item, value: &Option<Value>, bytes: &mut [u8])
         (IsItemValue (is_number item.now) item.now (item_size item.now)) }
     requires long { length bytes.old ≡ item_size item.now }
     ensures holds { HoldsItem item.now (option_map plain_value value.now) bytes.new }
-    ensures room { length bytes.new ≡ length bytes.old }
 {
     match value {
         None => clear(item, bytes),
@@ -84,7 +83,6 @@ pub fn write_item(item: &Item, value: &Option<Value>, bytes: &mut [u8])
 /// constants.)
 pub fn write_group(value: &Value, bytes: &mut [u8])
     ensures holds { HoldsGroup (length bytes.old) (plain_value value.now) bytes.new }
-    ensures room { length bytes.new ≡ length bytes.old }
 {
     receive_in_group(&Sent::Constant(value), bytes);
 }

@@ -86,7 +86,6 @@ pub fn initial(layout: &Layout, book: &Book, bytes: &mut [u8])
     ensures initial { IsInitial book.now bytes.new }
     // Each entry that stands in no redefinition and beneath no group with a VALUE has places, and the bytes there hold what the entry does.
     ensures places { HoldAtPlaces book.now bytes.new }
-    ensures room { length bytes.new ≡ length bytes.old }
 {
     records_are_sound();
     let record = &mut bytes[..usize::from(layout.greatest())];
