@@ -1,5 +1,6 @@
 -- Which entry a written reference names, and which rule it breaks.
 use Rattle.std.specs.Prelude.{◌≡◌, ℕ, ◌<◌, ◌≤◌, List, [], ◌∷◌, length, map}
+use Rattle.cob_limits.specs.Limits.{most_digits}
 use Rattle.cob_decimal.specs.Decimal.{number_of}
 use Rattle.cob_decimal.specs.Literals.{AreDigits, digits_in}
 use Rattle.cob_move_operands.specs.declared.Side.{Side}
@@ -19,9 +20,11 @@ subscript_number text = number_of (digits_in text)
 abbrev pub subscript_numbers : List (List ℕ) → List ℕ
 subscript_numbers texts = map subscript_number texts
 
--- A subscript of a table is digits that spell a number from 1 to the table's greatest number.
+-- A subscript of a table is a whole literal without a sign, with no more digits than a literal has, which spells a number from 1 to the table's
+-- greatest number.
 pub record IsSubscriptOf (most : ℕ) (text : List ℕ) : Type 0 where
   pub digits : AreDigits text
+  pub few : length text ≤ most_digits
   pub first : 0 < subscript_number text
   pub last : subscript_number text ≤ most
 

@@ -75,7 +75,7 @@ impl<'a> Names<'a> {
     /// # Errors
     ///
     /// `Unknown` where no entry of the two records has the name with these qualifiers, `Ambiguous` where several have, and `Subscripts` where
-    /// the subscripts aren't one for each table of the entry, from 1 to its greatest number.
+    /// the subscripts aren't one for each table of the entry, of no more digits than a literal has, from 1 to its greatest number.
     pub fn find(&self, reference: &Reference<'_>) -> Result<Named, MoveRule>
         // What is found is what the reference names.
         ensures found { IfOk result (λ n. NamesOperand

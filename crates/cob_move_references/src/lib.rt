@@ -8,8 +8,8 @@
 //!
 //! - [`Names::of`] has the entries of both records (`all_entries` of specs/Candidates.antt, which the view `entries_named` shows).
 //! - [`Names::find`] answers what a reference names (`found`, `NamesOperand` of specs/References.antt): of all entries of the two records exactly
-//!   one has the name with these qualifiers, and each of its tables has a subscript, from 1 to its greatest number. What a reference names is
-//!   found (`only`), and a refusal names a rule that is broken (`fault`, `BreaksReference`). Neither takes memory.
+//!   one has the name with these qualifiers, and each of its tables has a subscript, a literal of at most 31 digits, from 1 to its greatest number.
+//!   What a reference names is found (`only`), and a refusal names a rule that is broken (`fault`, `BreaksReference`). Neither takes memory.
 //! - [`Names::find_receiver`] does the same in the output record: a receiver that stands in the input record is refused (`BreaksReceiver`).
 //! - Laws: what is named is an operand of its record ([`named_are_operands`]), a reference names one operand at most ([`one_named`]) and then
 //!   breaks no rule ([`named_break_no_rule`]).

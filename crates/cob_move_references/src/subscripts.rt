@@ -8,7 +8,7 @@ ghost use Rattle.cob_move_statements.specs.Written.{word_texts};
 ghost use Rattle.cob_move_references.specs.References.{AreSubscriptsOf, IsSubscriptOf, subscript_number, subscript_numbers};
 
 use arrayvec::ArrayVec;
-use cob_limits::MAX_SUBSCRIPTS;
+use cob_limits::{MAX_DIGITS, MAX_SUBSCRIPTS};
 use cob_source::Token;
 
 /// Whether a character is a digit.
@@ -40,12 +40,15 @@ fn number_within(text: &[u8], most: u32) -> Option<u32>
     Some(number)
 }
 
-/// The number of a subscript of a table whose greatest number this is.
+/// The number of a subscript of a table whose greatest number this is. A literal has no more digits than a number has, zeros in front counted.
 fn subscript_of(text: &[u8], most: u32) -> Option<u32>
     ensures found { IfSome result (λ n. IsSubscriptOf most text.now) }
     ensures value { IfSome result (λ n. n ≡ subscript_number text.now) }
     ensures none { IfNone result (IsSubscriptOf most text.now → ⊥) }
 {
+    if text.len() > MAX_DIGITS {
+        return None;
+    }
     let number = number_within(text, most)?;
     if number == 0 {
         return None;
