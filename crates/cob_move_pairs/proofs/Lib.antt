@@ -5,3 +5,5 @@ pub mod GroupLemmas
 pub mod NodeLemmas
 pub mod OperandLemmas
 pub mod PartnerLemmas
+pub mod NumberLemmas
+pub mod KeptLemmas

@@ -1,18 +1,16 @@
 -- How often an entry is in a pair.
-use Rattle.std.proofs.Common.{◌≡◌, ℕ, suc, ◌+◌, ◌<◌, ◌≤◌, ◌==◌, Bool, true, false, List, [], ◌∷◌, ◌++◌, length, get_or, map, drop, refl, sym, ap, subst, ◌∙◌, arith}
+use Rattle.std.proofs.Common.{◌≡◌, ℕ, suc, ◌+◌, ◌<◌, ◌≤◌, ◌==◌, Bool, true, false, List, [], ◌∷◌, ◌++◌, length, map, refl, sym, ap, subst, ◌∙◌, arith}
 use Rattle.std.specs.Prelude.{filter}
 use Rattle.std.proofs.lemmas.Bool.Decides.{nat_tests}
-use Rattle.std.proofs.lemmas.List.{at_drop_more, length-append}
+use Rattle.std.proofs.lemmas.List.{length-append}
 use Rattle.std.proofs.lemmas.List.Elements.{filter-append}
 use Rattle.cob_move_statements.specs.declared.fault.MoveRule.{MoveRule}
 use Rattle.cob_move_statements.specs.declared.fault.MoveRule.TheVariants as rule
 use Rattle.cob_move_pairs.specs.Pairs.{AreOnce, Pair, Subordinate, pairs_from, partners, receives, sends}
-use Rattle.cob_move_pairs.specs.declared.pairing.Pair.{Pair as Paired}
-use Rattle.cob_move_pairs.specs.Listed.{pair, pairs}
 use Rattle.cob_move_pairs.specs.Pairing.{IsTwice, paired}
 use Rattle.cob_move_pairs.specs.Partners.{MoreThanOne}
 
-abbrev one_if : Bool → ℕ
+abbrev pub one_if : Bool → ℕ
 one_if true = 1
 one_if false = 0
 
@@ -20,25 +18,18 @@ counted : {A : Type 0} (f : A → Bool) (x : A) (xs : List A) (t : Bool) → f x
 counted f x xs true e = rw e (omega arith)
 counted f x xs false e = rw e (omega arith)
 
-pub sends_at : (n : ℕ) (ps : List Paired) (i : ℕ) (p : Paired) (t : Bool) → i < length ps → p ≡ get_or ps i p → ((pair p).from.number == n) ≡ t
-    → sends n (pairs (drop i ps)) ≡ one_if t + sends n (pairs (drop (i + 1) ps))
-sends_at n ps i p t lt is e =
-    at_drop_more (λ (xs : List Paired). sends n (pairs xs)) ps i p lt
-    ∙ ap (λ (x : Paired). sends n (pair x ∷ pairs (drop (i + 1) ps))) (sym is)
-    ∙ counted (λ (q : Pair). q.from.number == n) (pair p) (pairs (drop (i + 1) ps)) t e
-
-pub receives_at : (n : ℕ) (ps : List Paired) (i : ℕ) (p : Paired) (t : Bool) → i < length ps → p ≡ get_or ps i p → ((pair p).to.number == n) ≡ t
-    → receives n (pairs (drop i ps)) ≡ one_if t + receives n (pairs (drop (i + 1) ps))
-receives_at n ps i p t lt is e =
-    at_drop_more (λ (xs : List Paired). receives n (pairs xs)) ps i p lt
-    ∙ ap (λ (x : Paired). receives n (pair x ∷ pairs (drop (i + 1) ps))) (sym is)
-    ∙ counted (λ (q : Pair). q.to.number == n) (pair p) (pairs (drop (i + 1) ps)) t e
-
 sends_append : (n : ℕ) (xs ys : List Pair) → sends n (xs ++ ys) ≡ sends n xs + sends n ys
 sends_append n xs ys = ap length (filter-append (λ (q : Pair). q.from.number == n) xs ys) ∙ length-append (filter (λ (q : Pair). q.from.number == n) xs) (filter (λ (q : Pair). q.from.number == n) ys)
 
 receives_append : (n : ℕ) (xs ys : List Pair) → receives n (xs ++ ys) ≡ receives n xs + receives n ys
 receives_append n xs ys = ap length (filter-append (λ (q : Pair). q.to.number == n) xs ys) ∙ length-append (filter (λ (q : Pair). q.to.number == n) xs) (filter (λ (q : Pair). q.to.number == n) ys)
+
+-- one pair more
+pub sends_more : (n : ℕ) (ps : List Pair) (p : Pair) (t : Bool) → (p.from.number == n) ≡ t → sends n (ps ++ p ∷ []) ≡ sends n ps + one_if t
+sends_more n ps p t e = omega (arith, sends_append n ps (p ∷ []), counted (λ (q : Pair). q.from.number == n) p [] t e)
+
+pub receives_more : (n : ℕ) (ps : List Pair) (p : Pair) (t : Bool) → (p.to.number == n) ≡ t → receives n (ps ++ p ∷ []) ≡ receives n ps + one_if t
+receives_more n ps p t e = omega (arith, receives_append n ps (p ∷ []), counted (λ (q : Pair). q.to.number == n) p [] t e)
 
 -- pairs in front of others
 pub once_front : (xs ys : List Pair) → AreOnce (xs ++ ys) → AreOnce xs
@@ -47,7 +38,7 @@ once_front xs ys h = λ n. (omega (arith, (h n).0, sends_append n xs ys), omega 
 pub none_once : AreOnce []
 none_once = λ n. (omega arith, omega arith)
 
-same_number : (a b : ℕ) → (a == b) ≡ true → a ≡ b
+pub same_number : (a b : ℕ) → (a == b) ≡ true → a ≡ b
 same_number a b e = grind (arith, nat_tests)
 
 own_number : (a : ℕ) → (a == a) ≡ true

@@ -3,3 +3,7 @@ pub mod Pairing
 pub mod Listed
 pub mod Partners
 pub mod Groups
+pub mod Between
+pub mod Keys
+pub mod Found
+pub mod Numbers

@@ -2,22 +2,16 @@
 
 ghost use Rattle.std.specs.Prelude.{
   ◌≡◌,
-  ◌<◌,
-  ◌==◌,
   ◌||◌,
-  true,
-  false,
   List,
   [],
-  ◌∷◌,
-  ◌++◌,
   map,
   IfOk,
   IfErr,
-  OnOk,
 };
 ghost use Rattle.cob_move_operands.specs.Nodes.{forest, tree_of};
-ghost use Rattle.cob_move_pairs.specs.Listed.{subordinates_listed, pair, pairs, subordinate};
+ghost use Rattle.cob_move_pairs.specs.Between.{AreFoundPairs, ends, ends_of};
+ghost use Rattle.cob_move_pairs.specs.Listed.{pairs, subordinates_listed};
 ghost use Rattle.cob_move_pairs.specs.Pairing.{
   IsPairing,
   IsPairingFault,
@@ -29,137 +23,75 @@ ghost use Rattle.cob_move_pairs.specs.Pairing.{
 ghost use Rattle.cob_move_pairs.specs.Pairs.{
   AreOnce,
   pairs_among,
-  pairs_from,
-  receives,
-  sends,
   subordinates,
 };
 
+use crate::pair::{EntryPair, Pair};
+use crate::pair_list::PairList;
 use crate::partners::Partners;
 use crate::subordinate::{Subordinate, is_elementary, list_entries};
 use cob_move_operands::Node;
 use cob_move_statements::{MoveFault, MoveRule};
-use std::alloc::Global;
-
-/// Two entries that correspond.
-#[derive(Clone, Copy)]
-pub struct Pair<'b, 'a> {
-    pub from: &'b Subordinate<'a>,
-    pub to: &'b Subordinate<'a>,
-}
-
-/// Whether this entry sends in a pair.
-fn is_from(number: usize, one: &Pair<'_, '_>) -> bool
-    ensures { result ≡ ((pair one.now).from.number == number) }
-{
-    one.from.entry.number == number
-}
-
-/// Whether this entry receives in a pair.
-fn is_to(number: usize, one: &Pair<'_, '_>) -> bool
-    ensures { result ≡ ((pair one.now).to.number == number) }
-{
-    one.to.entry.number == number
-}
-
-/// Whether an entry sends in one of the pairs.
-fn is_sent(number: usize, list: &[Pair<'_, '_>]) -> bool
-    ensures yes { result ≡ true → 0 < sends number (pairs list.now) }
-    ensures no { result ≡ false → sends number (pairs list.now) ≡ 0 }
-{
-    for one in list {
-        if is_from(number, one) {
-            return true;
-        }
-    }
-    false
-}
-
-/// Whether an entry receives in one of the pairs.
-fn is_received(number: usize, list: &[Pair<'_, '_>]) -> bool
-    ensures yes { result ≡ true → 0 < receives number (pairs list.now) }
-    ensures no { result ≡ false → receives number (pairs list.now) ≡ 0 }
-{
-    for one in list {
-        if is_to(number, one) {
-            return true;
-        }
-    }
-    false
-}
-
-/// Whether an entry of a pair is in one of the others.
-#[tactic(auto, using(crate::proofs::OnceLemmas::once_more))]
-fn is_paired(one: &Pair<'_, '_>, list: &[Pair<'_, '_>]) -> bool
-    ensures yes { result ≡ true → AreOnce (pairs list.now ++ pair one.now ∷ []) → ⊥ }
-    ensures no { result ≡ false → AreOnce (pairs list.now)
-        → AreOnce (pairs list.now ++ pair one.now ∷ []) }
-{
-    is_sent(one.from.entry.number, list) || is_received(one.to.entry.number, list)
-}
-
-/// Puts a pair behind others.
-///
-/// # Errors
-///
-/// `Twice` where one of its entries is in a pair already; `Memory`.
-fn add_pair<'b, 'a>(one: Pair<'b, 'a>, list: &mut Vec<Pair<'b, 'a>>) -> Result<(), MoveRule>
-    ensures added { OnOk result
-        (pairs list.new.items ≡ pairs list.old.items ++ pair one.entry ∷ []) }
-    ensures once { OnOk result (AreOnce (pairs list.old.items) → AreOnce (pairs list.new.items)) }
-    ensures fault { IfErr result (λ r. IsTwice r (pairs list.old.items ++ pair one.entry ∷ [])) }
-{
-    if is_paired(&one, list.as_slice()) {
-        return Err(MoveRule::Twice);
-    }
-    list.push(one)?;
-    Ok(())
-}
-
-/// Puts the pair of a sending entry behind others, if it has one.
-///
-/// # Errors
-///
-/// `Twice` where an entry is in two pairs; `Memory`.
-fn add_pair_of<'b, 'a>(
-    from: &'b Subordinate<'a>,
-    partners: &Partners<'b, 'a>,
-    list: &mut Vec<Pair<'b, 'a>>,
-) -> Result<(), MoveRule>
-    ensures added { OnOk result (pairs list.new.items ≡ pairs list.old.items
-        ++ pairs_from (subordinates_listed partners.now.entries.now) (subordinate from.now)) }
-    ensures once { OnOk result (AreOnce (pairs list.old.items) → AreOnce (pairs list.new.items)) }
-    ensures fault { IfErr result (λ r. IsTwice r (pairs list.old.items
-        ++ pairs_from (subordinates_listed partners.now.entries.now) (subordinate from.now))) }
-{
-    match partners.partner_of(from)? {
-        Some(to) => add_pair(Pair { from, to }, list),
-        None => Ok(()),
-    }
-}
+use std::alloc::{AllocError, Global};
+use std::rc::Rc;
 
 /// The pairs among two lists of entries, in the order of the sending ones.
 ///
 /// # Errors
 ///
 /// `Twice` where an entry is in two pairs; `Memory`.
-pub fn pairs_between<'b, 'a>(
+fn pairs_between<'b, 'a>(
     alloc: Global,
     from: &'b [Subordinate<'a>],
-    to: &'b [Subordinate<'a>],
+    to: &'b Partners<'a>,
 ) -> Result<Vec<Pair<'b, 'a>>, MoveRule>
     ensures found { IfOk result (λ v. pairs v.items
-        ≡ pairs_among (subordinates_listed from.now) (subordinates_listed to.now)) }
+        ≡ pairs_among (subordinates_listed from.now) (subordinates_listed to.now.entries.items)) }
     ensures once { IfOk result (λ v. AreOnce (pairs v.items)) }
     ensures fault { IfErr result (λ r. IsTwice r
-        (pairs_among (subordinates_listed from.now) (subordinates_listed to.now))) }
+        (pairs_among (subordinates_listed from.now) (subordinates_listed to.now.entries.items))) }
 {
-    let partners = Partners::of(alloc, to)?;
-    let mut list = Vec::new(alloc);
+    let mut found = PairList::new(alloc);
     for sender in from {
-        add_pair_of(sender, &partners, &mut list)?;
+        found.add_pair_of(sender, to)?;
     }
-    Ok(list)
+    Ok(found.list)
+}
+
+/// The entries of the pairs among what is below two groups, in the order of the sending one.
+///
+/// # Errors
+///
+/// `Twice` where an entry is in two pairs; `Memory`.
+pub(crate) fn entry_pairs<'a>(
+    alloc: Global,
+    from: &Partners<'a>,
+    to: &Partners<'a>,
+) -> Result<Vec<EntryPair<'a>>, MoveRule>
+    ensures found { IfOk result (λ v. AreFoundPairs
+        (pairs_among (subordinates_listed from.now.entries.items) (subordinates_listed to.now.entries.items))
+        v.items) }
+    ensures fault { IfErr result (λ r. IsTwice r (pairs_among
+        (subordinates_listed from.now.entries.items) (subordinates_listed to.now.entries.items))) }
+{
+    let list = pairs_between(alloc, from.entries.as_slice(), to)?;
+    let entries = entries_of(alloc, list.as_slice())?;
+    Ok(entries)
+}
+
+/// The entries of pairs, without the names by which they correspond.
+fn entries_of<'a>(alloc: Global, list: &[Pair<'_, 'a>]) -> Result<Vec<EntryPair<'a>>, MoveRule>
+    ensures found { IfOk result (λ v. map ends v.items ≡ map ends_of (pairs list.now)) }
+    ensures fault { IfErr result (λ r. r ≡ MoveRule.Memory) }
+{
+    let mut entries = Vec::with_capacity(alloc, list.len())?;
+    for one in list {
+        entries.push(EntryPair {
+            from: one.from.entry,
+            to: one.to.entry,
+        })?;
+    }
+    Ok(entries)
 }
 
 /// The numbers of the entries of pairs.
@@ -178,25 +110,24 @@ fn numbers_of(alloc: Global, list: &[Pair<'_, '_>]) -> Result<Vec<(usize, usize)
 ///
 /// # Errors
 ///
-/// `Memory`.
-pub fn subordinates<'a>(
+/// Memory was refused.
+pub(crate) fn subordinates<'a>(
     alloc: Global,
     entries: &'a [Node],
-) -> Result<Vec<Subordinate<'a>>, MoveRule>
-    ensures found { IfOk result
+) -> Result<Vec<Subordinate<'a>>, AllocError>
+    ensures { IfOk result
         (λ v. subordinates_listed v.items ≡ subordinates [] (forest entries.now)) }
-    ensures fault { IfErr result (λ r. r ≡ MoveRule.Memory) }
 {
+    let between = Rc::new(alloc, Vec::new(alloc))?;
     let mut list = Vec::new(alloc);
-    list_entries(alloc, &[], entries, &mut list)?;
+    list_entries(alloc, &between, entries, &mut list)?;
     Ok(list)
 }
 
 /// The entries below a group that may be in a pair, in their order.
-fn below<'a>(alloc: Global, group: &'a Node) -> Result<Vec<Subordinate<'a>>, MoveRule>
-    ensures found { IfOk result
+fn below<'a>(alloc: Global, group: &'a Node) -> Result<Vec<Subordinate<'a>>, AllocError>
+    ensures { IfOk result
         (λ v. subordinates_listed v.items ≡ subordinates [] (those_beneath (tree_of group.now))) }
-    ensures fault { IfErr result (λ r. r ≡ MoveRule.Memory) }
 {
     subordinates(alloc, group.children.as_slice())
 }
@@ -218,8 +149,9 @@ fn paired(alloc: Global, from: &Node, to: &Node) -> Result<Vec<(usize, usize)>, 
         return Err(MoveRule::Groups);
     }
     let senders = below(alloc, from)?;
-    let receivers = below(alloc, to)?;
-    let list = pairs_between(alloc, senders.as_slice(), receivers.as_slice())?;
+    let entries = below(alloc, to)?;
+    let receivers = Partners::of(alloc, entries)?;
+    let list = pairs_between(alloc, senders.as_slice(), &receivers)?;
     let numbers = numbers_of(alloc, list.as_slice())?;
     Ok(numbers)
 }

@@ -1,4 +1,4 @@
-//! The entries below a receiving group, found by their names.
+//! The entries below a group, found by their names.
 
 ghost use Rattle.std.specs.Prelude.{◌≡◌, ◌≢◌, ◌<◌, ℕ, List, length, IfErr, IfOk, OnOk};
 ghost use Rattle.cob_copybook_names.specs.Links.{AreLinked, IsLast, noted_for};
@@ -11,18 +11,18 @@ use cob_move_statements::MoveRule;
 use indexmap::IndexMap;
 use std::alloc::{AllocError, Global};
 
-/// The entries below a receiving group.
+/// The entries below a group, to be found by their names.
 #[derive(Drop)]
-pub(crate) struct Partners<'b, 'a> {
-    pub entries: &'b [Subordinate<'a>],
+pub(crate) struct Partners<'a> {
+    pub entries: Vec<Subordinate<'a>>,
     /// For each entry, the place of the last one before it of the same name.
     earlier: Vec<Option<usize>>,
     /// The place of the last entry of each name.
     last: IndexMap<&'a [u8], usize>,
 
-    ghost sized: { length earlier.items ≡ length entries.now },
-    ghost linked: { AreLinked (names_listed (subordinates_listed entries.now)) earlier.items (length entries.now) },
-    ghost latest: { (name : List ℕ) → IsLast (names_listed (subordinates_listed entries.now)) name (length entries.now) (noted_for last name) },
+    ghost sized: { length earlier.items ≡ length entries.items },
+    ghost linked: { AreLinked (names_listed (subordinates_listed entries.items)) earlier.items (length entries.items) },
+    ghost latest: { (name : List ℕ) → IsLast (names_listed (subordinates_listed entries.items)) name (length entries.items) (noted_for last name) },
 }
 
 /// Notes an entry as the last one of its name, and answers the place of the one that was noted before.
@@ -39,7 +39,7 @@ fn note<'a>(
     Ok(last.insert(name, place)?)
 }
 
-impl<'b, 'a> Partners<'b, 'a> {
+impl<'a> Partners<'a> {
     /// The entries to be found by their names.
     ///
     /// # Errors
@@ -47,9 +47,9 @@ impl<'b, 'a> Partners<'b, 'a> {
     /// Memory was refused.
     pub(crate) fn of(
         alloc: Global,
-        entries: &'b [Subordinate<'a>],
-    ) -> Result<Partners<'b, 'a>, AllocError>
-        ensures { IfOk result (λ p. p.entries.now ≡ entries.now) }
+        entries: Vec<Subordinate<'a>>,
+    ) -> Result<Partners<'a>, AllocError>
+        ensures { IfOk result (λ p. p.entries.items ≡ entries.entry.items) }
     {
         let mut last = IndexMap::new(alloc);
         let mut earlier = Vec::new(alloc);
@@ -72,11 +72,11 @@ impl<'b, 'a> Partners<'b, 'a> {
     pub(crate) fn partner_of(
         &self,
         from: &Subordinate<'_>,
-    ) -> Result<Option<&'b Subordinate<'a>>, MoveRule>
-        ensures found { IfOk result (λ o. partners (subordinates_listed self.now.entries.now)
+    ) -> Result<Option<&Subordinate<'a>>, MoveRule>
+        ensures found { IfOk result (λ o. partners (subordinates_listed self.now.entries.items)
             (subordinate from.now) ≡ partner_list o) }
         ensures fault { IfErr result (λ r. MoreThanOne r
-            (partners (subordinates_listed self.now.entries.now) (subordinate from.now))) }
+            (partners (subordinates_listed self.now.entries.items) (subordinate from.now))) }
     {
         let mut found = None;
         let mut place = self.last.get(from.name).copied();

@@ -18,31 +18,33 @@ ghost use Rattle.cob_move_pairs.specs.Pairs.{
 use cob_move_operands::{Kind, Name, Node, is_table};
 use cob_move_receive::{SenderKind, may_move};
 use std::alloc::{AllocError, Global};
+use std::rc::Rc;
 
 /// An entry below a group.
 #[derive(Drop)]
-pub struct Subordinate<'a> {
+pub(crate) struct Subordinate<'a> {
     pub entry: &'a Node,
     pub name: &'a [u8],
-    /// The names of the groups between, the nearest first.
-    pub between: Vec<&'a [u8]>,
+    /// The names of the groups between, the nearest first. The entries of one group share them.
+    pub between: Rc<Vec<&'a [u8]>>,
 }
 
 /// The names of the groups between that stand above what is below an entry: FILLER adds none.
 fn between_below<'a>(
     alloc: Global,
     entry: &'a Node,
-    between: &[&'a [u8]],
-) -> Result<Vec<&'a [u8]>, AllocError>
-    ensures { IfOk result (λ v. names_between v.items
-        ≡ between_below (out-Node entry.now).name (names_between between.now)) }
+    between: &Rc<Vec<&'a [u8]>>,
+) -> Result<Rc<Vec<&'a [u8]>>, AllocError>
+    ensures { IfOk result (λ v. names_between v.value.items
+        ≡ between_below (out-Node entry.now).name (names_between between.now.value.items)) }
 {
+    let Some(name) = &entry.name else {
+        return between.clone();
+    };
     let mut names = Vec::new(alloc);
-    if let Some(name) = &entry.name {
-        names.push(name.as_bytes())?;
-    }
-    names.extend_from_slice(between)?;
-    Ok(names)
+    names.push(name.as_bytes())?;
+    names.extend_from_slice(between.as_slice())?;
+    Ok(Rc::new(alloc, names)?)
 }
 
 /// Whether an entry is left out with all below it.
@@ -54,22 +56,19 @@ fn is_left_out(entry: &Node) -> bool
 
 /// Puts an entry behind those that are listed, unless it is FILLER.
 fn list_entry<'a>(
-    alloc: Global,
-    between: &[&'a [u8]],
+    between: &Rc<Vec<&'a [u8]>>,
     entry: &'a Node,
     list: &mut Vec<Subordinate<'a>>,
 ) -> Result<(), AllocError>
     ensures { OnOk result (subordinates_listed list.new.items ≡ subordinates_listed list.old.items
-        ++ own_subordinate (out-Node entry.now).name (names_between between.now)
+        ++ own_subordinate (out-Node entry.now).name (names_between between.now.value.items)
         (resolved_entry (out-Node entry.now))) }
 {
     if let Some(name) = &entry.name {
-        let mut names = Vec::new(alloc);
-        names.extend_from_slice(between)?;
         list.push(Subordinate {
             entry,
             name: name.as_bytes(),
-            between: names,
+            between: between.clone()?,
         })?;
     }
     Ok(())
@@ -82,20 +81,20 @@ fn list_entry<'a>(
 /// Memory was refused.
 pub(crate) fn list_entries<'a>(
     alloc: Global,
-    between: &[&'a [u8]],
+    between: &Rc<Vec<&'a [u8]>>,
     entries: &'a [Node],
     list: &mut Vec<Subordinate<'a>>,
 ) -> Result<(), AllocError>
     ensures { OnOk result (subordinates_listed list.new.items ≡ subordinates_listed list.old.items
-        ++ subordinates (names_between between.now) (forest entries.now)) }
+        ++ subordinates (names_between between.now.value.items) (forest entries.now)) }
 {
     for entry in entries {
         if is_left_out(entry) {
             continue;
         }
-        list_entry(alloc, between, entry, list)?;
+        list_entry(between, entry, list)?;
         let below = between_below(alloc, entry, between)?;
-        list_entries(alloc, below.as_slice(), entry.children.as_slice(), list)?;
+        list_entries(alloc, &below, entry.children.as_slice(), list)?;
     }
     Ok(())
 }

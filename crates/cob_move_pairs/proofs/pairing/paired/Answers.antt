@@ -2,7 +2,7 @@ use Rattle.std.proofs.Common.{◌∙◌, map, ap, sym, List}
 use Rattle.std.proofs.lemmas.Result.{err_from_is_err_and}
 use Rattle.cob_move_operands.specs.Nodes.{tree_of}
 use Rattle.cob_move_pairs.specs.declared.subordinate.Subordinate.{Subordinate as Listed}
-use Rattle.cob_move_pairs.specs.declared.pairing.Pair.{Pair as Paired}
+use Rattle.cob_move_pairs.specs.declared.pair.Pair.{Pair as Paired}
 use Rattle.cob_move_pairs.specs.Pairing.{pair_numbers}
 use Rattle.cob_move_pairs.specs.Listed.{subordinates_listed, pairs}
 use Rattle.cob_move_pairs.proofs.GroupLemmas.{pairing, pairing_fault}
@@ -12,16 +12,16 @@ pub returns-in_err-list-clause-fault : goal.returns-in_err-list-clause-fault
 returns-in_err-list-clause-fault c =
     let p = err_from_is_err_and c.from_residual-in_err-list.result c.from_residual-in_err-list.ensures.1 in
     rw (p.1, p.2)
-    (pairing_fault c.in_err-list.field-0.0 (tree_of c.args.from.now) (tree_of c.args.to.now) (subordinates_listed c.as_slice.result.now) (subordinates_listed c.as_slice-2.result.now)
-    (ap (λ (bs : List Listed). subordinates_listed bs) c.as_slice.ensures.value ∙ c.in_ok-senders.ensures.found)
-    (ap (λ (bs : List Listed). subordinates_listed bs) c.as_slice-2.ensures.value ∙ c.in_ok-receivers.ensures.found)
+    (pairing_fault c.in_err-list.field-0.0 (tree_of c.args.from.now) (tree_of c.args.to.now) (subordinates_listed c.as_slice.result.now) (subordinates_listed c.in_ok-receivers.receivers.entries.items)
+    (ap (λ (bs : List Listed). subordinates_listed bs) c.as_slice.ensures.value ∙ c.in_ok-senders.ensures)
+    (ap (λ (bs : List Listed). subordinates_listed bs) c.in_ok-receivers.ensures ∙ c.in_ok-entries.ensures)
     c.in_err-list.ensures.fault)
 
 pub returns-clause-found : goal.returns-clause-found
 returns-clause-found c =
-    pairing (tree_of c.args.from.now) (tree_of c.args.to.now) (subordinates_listed c.as_slice.result.now) (subordinates_listed c.as_slice-2.result.now) (pairs c.in_ok-list.list.items) c.in_ok-numbers.numbers.items
-    (ap (λ (bs : List Listed). subordinates_listed bs) c.as_slice.ensures.value ∙ c.in_ok-senders.ensures.found)
-    (ap (λ (bs : List Listed). subordinates_listed bs) c.as_slice-2.ensures.value ∙ c.in_ok-receivers.ensures.found)
+    pairing (tree_of c.args.from.now) (tree_of c.args.to.now) (subordinates_listed c.as_slice.result.now) (subordinates_listed c.in_ok-receivers.receivers.entries.items) (pairs c.in_ok-list.list.items) c.in_ok-numbers.numbers.items
+    (ap (λ (bs : List Listed). subordinates_listed bs) c.as_slice.ensures.value ∙ c.in_ok-senders.ensures)
+    (ap (λ (bs : List Listed). subordinates_listed bs) c.in_ok-receivers.ensures ∙ c.in_ok-entries.ensures)
     c.in_ok-list.ensures.found c.in_ok-list.ensures.once
-    (c.in_ok-numbers.ensures.found ∙ ap (λ (ps : List Paired). map pair_numbers (pairs ps)) c.as_slice-3.ensures.value)
+    (c.in_ok-numbers.ensures.found ∙ ap (λ (ps : List Paired). map pair_numbers (pairs ps)) c.as_slice-2.ensures.value)
     (sym c.is_no_group.ensures ∙ c.if-is_no_group.false)

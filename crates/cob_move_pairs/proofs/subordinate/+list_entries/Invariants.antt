@@ -9,4 +9,4 @@ decreases-list_entries l = goal.size-list_entries l
 
 abbrev pub invariant-loop-entry : goal.invariant-loop-entry
 invariant-loop-entry l =
-    subordinates_listed l.fn.list.items ++ subordinates (names_between l.between) (forest l.entries) ≡ subordinates_listed l.list.items ++ subordinates (names_between l.between) (forest (drop l.entry-index l.entries))
+    subordinates_listed l.fn.list.items ++ subordinates (names_between l.between.value.items) (forest l.entries) ≡ subordinates_listed l.list.items ++ subordinates (names_between l.between.value.items) (forest (drop l.entry-index l.entries))

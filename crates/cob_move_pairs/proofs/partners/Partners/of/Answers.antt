@@ -1,4 +1,4 @@
-use Rattle.std.proofs.Common.{◌≡◌, ℕ, length, sym, subst, ◌∙◌, arith, length-append, Some}
+use Rattle.std.proofs.Common.{◌≡◌, ℕ, ap, get_or, length, sym, subst, ◌∙◌, arith, length-append, Some}
 use Rattle.cob_copybook_names.specs.Links.{IsLast, AreLinked, noted_for}
 use Rattle.cob_copybook_names.proofs.Links.{linked_more, latest_more}
 use Rattle.cob_move_pairs.specs.Listed.{subordinate, subordinates_listed}
@@ -8,10 +8,11 @@ use Rattle.cob_move_pairs.proofs.partners.Partners.of.Goals as goal
 
 pub loop-place-preserved : goal.loop-place-preserved
 loop-place-preserved c =
-    let names = names_listed (subordinates_listed c.args.entries.now) in
+    let names = names_listed (subordinates_listed c.args.entries.items) in
     let place = c.loop-place.place in
-    let item = c.index-entries-place.result in
-    let here = name_at c.args.entries.now place item (omega arith) c.index-entries-place.is in
+    let item = c.entry-item.result in
+    let is : item ≡ get_or c.args.entries.items place item = c.entry-item.is ∙ ap (λ cs. get_or cs place item) c.deref-entry-items.ensures.value in
+    let here = name_at c.args.entries.items place item (omega arith) is in
     record {
       sized = rw (c.in_ok-push.ensures.items, length-append) (omega (arith, c.loop-place.invariant.sized));
       linked = rw c.in_ok-push.ensures.items (linked_more names c.loop-place.earlier.items place c.in_ok-before.before c.loop-place.invariant.sized c.loop-place.invariant.linked
@@ -23,8 +24,8 @@ loop-place-preserved c =
 
 pub invariant_of-result : goal.invariant_of-result
 invariant_of-result c =
-    let names = names_listed (subordinates_listed c.args.entries.now) in
-    let all : c.loop-place.place ≡ length c.args.entries.now = omega arith in
+    let names = names_listed (subordinates_listed c.args.entries.items) in
+    let all : c.loop-place.place ≡ length c.args.entries.items = omega arith in
     record {
       sized = c.loop-place.invariant.sized ∙ all;
       linked = subst (AreLinked names c.loop-place.earlier.items) all c.loop-place.invariant.linked;

@@ -7,6 +7,6 @@ use Rattle.cob_move_pairs.proofs.partners.Partners.of.Given as goal
 abbrev pub invariant-loop-place : goal.invariant-loop-place
 invariant-loop-place l = record {
   sized : length l.earlier.items ≡ l.place;
-  linked : AreLinked (names_listed (subordinates_listed l.entries)) l.earlier.items l.place;
-  latest : (name : List ℕ) → IsLast (names_listed (subordinates_listed l.entries)) name l.place (noted_for l.last name);
+  linked : AreLinked (names_listed (subordinates_listed l.fn.entries.items)) l.earlier.items l.place;
+  latest : (name : List ℕ) → IsLast (names_listed (subordinates_listed l.fn.entries.items)) name l.place (noted_for l.last name);
 }

@@ -11,7 +11,7 @@ use Rattle.cob_move_pairs.proofs.partners.Partners.partner_of.Goals.{After-index
 
 pub loop-place-init : goal.loop-place-init
 loop-place-init c =
-    let cs = c.args.self.now.entries.now in
+    let cs = c.args.self.now.entries.items in
     let all = subordinates_listed cs in
     let x = subordinate c.args.from.now in
     let same = c.copied-place.ensures ∙ c.get.ensures.value in
@@ -20,11 +20,11 @@ loop-place-init c =
 
 pub returns-then-is_some-clause-fault : goal.returns-then-is_some-clause-fault
 returns-then-is_some-clause-fault c =
-    let cs = c.args.self.now.entries.now in
+    let cs = c.args.self.now.entries.items in
     let x = subordinate c.args.from.now in
     let p = c.in-Some.here in
-    let item : Listed = get_or cs p c.index-self-here.result in
-    let read : item ≡ get_or cs p item = ap (λ (y : Listed). get_or cs p y) c.index-self-here.is in
+    let item = c.index-entry.result.now in
+    let read : item ≡ get_or cs p item = c.index-entry.ensures in
     let lt = inside_at c.loop-place.place p (length cs) c.in-Some.is c.loop-place.invariant.inside in
     let all = subordinates_listed cs in
     let front = front_at cs c.loop-place.place p item c.in-Some.is lt read in (
@@ -34,9 +34,9 @@ returns-then-is_some-clause-fault c =
     )
 
 -- the place before this one
-earlier_at : (c : After-index-place) → IsLast (names_listed (subordinates_listed c.args.self.now.entries.now)) (subordinate c.args.from.now).name c.in-Some.here c.index-place.result.now
+earlier_at : (c : After-index-place) → IsLast (names_listed (subordinates_listed c.args.self.now.entries.items)) (subordinate c.args.from.now).name c.in-Some.here c.index-place.result.now
 earlier_at c =
-    let cs = c.args.self.now.entries.now in
+    let cs = c.args.self.now.entries.items in
     let lt = inside_at c.loop-place.place c.in-Some.here (length cs) c.in-Some.is c.loop-place.invariant.inside in
     link_at cs c.args.self.now.earlier.items (subordinate c.args.from.now).name c.loop-place.place c.in-Some.here c.index-place.result.now c.args.self.now.sized c.args.self.now.linked c.in-Some.is lt
     (c.loop-place.invariant.borne c.in-Some.here c.in-Some.is) c.index-place.ensures
@@ -49,12 +49,12 @@ loop-place-smaller c =
 
 pub loop-place-preserved : goal.loop-place-preserved
 loop-place-preserved c =
-    let cs = c.args.self.now.entries.now in
+    let cs = c.args.self.now.entries.items in
     let all = subordinates_listed cs in
     let x = subordinate c.args.from.now in
     let p = c.in-Some.here in
-    let item : Listed = get_or cs p c.index-self-here.result in
-    let read : item ≡ get_or cs p item = ap (λ (y : Listed). get_or cs p y) c.index-self-here.is in
+    let item = c.index-entry.result.now in
+    let read : item ≡ get_or cs p item = c.index-entry.ensures in
     let next = c.index-place.result.now in
     let lt = inside_at c.loop-place.place p (length cs) c.in-Some.is c.loop-place.invariant.inside in
     let l = earlier_at (goal.at.loop-place-preserved c).After-index-place in

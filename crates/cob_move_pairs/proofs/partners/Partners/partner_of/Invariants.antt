@@ -10,8 +10,8 @@ decreases-loop-place l = entries_up_to l.place
 
 abbrev pub invariant-loop-place : goal.invariant-loop-place
 invariant-loop-place l = record {
-  inside : entries_up_to l.place ≤ length l.self.entries.now;
-  borne : (p : ℕ) → l.place ≡ Some p → BearsAt (names_listed (subordinates_listed l.self.entries.now)) (subordinate l.from).name p;
-  whole : partners (subordinates_listed l.self.entries.now) (subordinate l.from)
-      ≡ partners (take (entries_up_to l.place) (subordinates_listed l.self.entries.now)) (subordinate l.from) ++ partner_list l.found;
+  inside : entries_up_to l.place ≤ length l.self.entries.items;
+  borne : (p : ℕ) → l.place ≡ Some p → BearsAt (names_listed (subordinates_listed l.self.entries.items)) (subordinate l.from).name p;
+  whole : partners (subordinates_listed l.self.entries.items) (subordinate l.from)
+      ≡ partners (take (entries_up_to l.place) (subordinates_listed l.self.entries.items)) (subordinate l.from) ++ partner_list l.found;
 }

@@ -1,0 +1,17 @@
+-- Which pairs were found.
+use Rattle.std.specs.Prelude.{ℕ, IsSome}
+use Rattle.indexmap.specs.IndexMap.{get_by}
+use Rattle.cob_move_operands.specs.declared.Side.{Side}
+use Rattle.cob_move_operands.specs.declared.Side.TheVariants.{In, Out}
+use Rattle.cob_move_pairs.specs.declared.correspondences.Correspondences.{Correspondences}
+use Rattle.cob_move_pairs.specs.declared.sending.SendingRecord.{SendingRecord}
+use Rattle.cob_move_pairs.specs.Keys.{same_groups}
+
+-- what was found of the groups of a side's record
+abbrev pub sending_record : Correspondences → Side → SendingRecord
+sending_record c In = c.from_input
+sending_record c Out = c.from_output
+
+-- The pairs of the sending group with this number in this side's record and the receiving one with that number were found.
+abbrev pub ArePairsFound : Correspondences → Side → ℕ → ℕ → Type 0
+ArePairsFound c side from to = IsSome (get_by (same_groups from to) (sending_record c side).lists)

@@ -1,0 +1,18 @@
+//! Two entries that correspond.
+
+use crate::subordinate::Subordinate;
+use cob_move_operands::Node;
+
+/// Two entries below groups that correspond, with the names by which they do.
+#[derive(Clone, Copy)]
+pub(crate) struct Pair<'b, 'a> {
+    pub from: &'b Subordinate<'a>,
+    pub to: &'b Subordinate<'a>,
+}
+
+/// A sending and a receiving entry that correspond.
+#[derive(Clone, Copy)]
+pub struct EntryPair<'a> {
+    pub from: &'a Node,
+    pub to: &'a Node,
+}
