@@ -43,7 +43,7 @@ impl Model for Conversion {
 
     ghost coded = { Prim.hlevel (codes, coded_forest) };
 
-    ghost view = { λ c. record { in_form = c.in_form; out_form = c.out_form; records = record { input = c.input; output = c.output }; moves = moves_of c.moves } };
+    ghost view = { λ c. record { in_form = c.in_form; out_form = c.out_form; records = record { input = c.input; output = c.output }; moves = moves_of (record { input = c.input; output = c.output }) c.moves } };
 
     ghost invariant = { λ c. ArePrepared (record { input = c.input; output = c.output }) c.moves × IsInitial c.output c.image.items × (length c.image.items ≡ greatest_length c.output) };
 }
@@ -116,7 +116,7 @@ fn written_length(
 
 impl Conversion {
     ghost use Rattle.cob_records.specs.Frame.{IsRecord};
-    ghost use Rattle.cob_move_apply.specs.Prepared.{ArePrepared, moves_of, single_moves};
+    ghost use Rattle.cob_move_apply.specs.Prepared.{ArePrepared, most_moves_told, moves_of, single_moves};
     ghost use Rattle.cob_move_apply.specs.Storage.{IsStorage};
     ghost use Rattle.cob_move_initial.specs.Initial.{IsInitial};
     ghost use Rattle.cob_convert_record.specs.Conversion.{in_length, out_length};
@@ -144,7 +144,7 @@ impl Conversion {
           in_form = in_form;
           out_form = out_form;
           records = record { input = input; output = output };
-          moves = moves_of moves;
+          moves = moves_of (record { input = input; output = output }) moves;
         }) }
     {
         let mut image = vec![in alloc; 0u8; usize::from(output.greatest())]?;
@@ -200,7 +200,7 @@ impl Conversion {
 
     /// How many single moves there are, each of a sender to one of its receivers; the greatest number of 32 bits where there are more.
     pub fn single_moves(&self) -> u32
-        ensures { result ≡ min (single_moves self.now.moves) 4294967295 }
+        ensures { result ≡ min (single_moves self.now.moves) most_moves_told }
     {
         self.moves.single_moves()
     }

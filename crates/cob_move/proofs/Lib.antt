@@ -1,3 +1,4 @@
+pub mod OwnLemmas
 pub mod ParagraphLemmas
 pub mod SomeLemmas
 pub mod SingleLemmas

@@ -1,35 +1,45 @@
 -- Statements, one after another.
-use Rattle.std.proofs.Common.{◌≡◌, ℕ, ◌+◌, ◌<◌, ◌≤◌, List, [], ◌++◌, length, get_or, drop, refl, sym, ap, subst, ◌∙◌, append_assoc, append-nil}
-use Rattle.std.proofs.lemmas.List.{drop_all, map-append}
+use Rattle.std.proofs.Common.{◌≡◌, ℕ, ◌+◌, ◌<◌, ◌≤◌, List, [], ◌∷◌, ◌++◌, length, get_or, drop, refl, sym, ap, subst, ◌∙◌, append_assoc, append-nil}
+use Rattle.std.proofs.lemmas.List.{drop_all}
+use Rattle.std.proofs.lemmas.Grind.{flat_map-append}
 use Rattle.cob_move_apply.specs.Forests.{Forest}
 use Rattle.cob_move_apply.specs.Nodes.{Resolved}
-use Rattle.cob_move_apply.specs.Move as code_move
-use Rattle.cob_move_apply.specs.Moves.{Move, move, moves}
+use Rattle.cob_move_apply.specs.StatementMoves.{StatementMoves}
+use Rattle.cob_move_apply.specs.Moves.{Move, Records, moves, statement_moves}
 use Rattle.cob_move_statements.specs.declared.parts.Statement.{Statement}
-use Rattle.cob_move_statements.specs.Written.{WrittenAction, written_statement, written_statements}
-use Rattle.cob_move_references.specs.Candidates.{Candidate}
-use Rattle.cob_move.specs.Meaning.{AreMeanings, IsMeaning}
+use Rattle.cob_move_statements.specs.Written.{WrittenStatement, written_statement, written_statements}
+use Rattle.cob_move_references.specs.Candidates.{Candidate, all_entries}
+use Rattle.cob_move.specs.Meaning.{AreMeanings, AreMeant, IsMeaning}
 use Rattle.cob_move.proofs.SomeLemmas.{next}
 
--- what was put behind no moves is all that there is
-pub alone : (all : List Candidate) (input output : Forest Resolved) (action : WrittenAction) (now new : List code_move.Move) → now ≡ []
-    → (own : List code_move.Move) × (new ≡ now ++ own) × IsMeaning all input output action (moves own) → IsMeaning all input output action (moves new)
-alone all input output action now new none (own, added, h) =
-    subst (λ (xs : List code_move.Move). IsMeaning all input output action (moves xs)) (sym (added ∙ ap (λ (xs : List code_move.Move). xs ++ own) none)) h
+-- the moves of one statement more
+one_more : (r : Records) (now new : List StatementMoves) (own : StatementMoves) → new ≡ now ++ own ∷ [] → moves r new ≡ moves r now ++ statement_moves r own
+one_more r now new own added =
+    ap (λ (xs : List StatementMoves). moves r xs) added ∙ flat_map-append (statement_moves r) now (own ∷ [])
+    ∙ ap (λ (xs : List Move). moves r now ++ xs) (append-nil (statement_moves r own))
 
-pub meanings_more : (all : List Candidate) (input output : Forest Resolved) (ss : List Statement) (i : ℕ) (s : Statement) (now new : List code_move.Move)
-    → i < length ss → s ≡ get_or ss i s → (own : List code_move.Move) × (new ≡ now ++ own) × IsMeaning all input output (written_statement s).action (moves own)
-    → ((more : List Move) → AreMeanings all input output (written_statements (drop i ss)) more → AreMeanings all input output (written_statements ss) (moves now ++ more))
-    → (more : List Move) → AreMeanings all input output (written_statements (drop (i + 1) ss)) more → AreMeanings all input output (written_statements ss) (moves new ++ more)
-meanings_more all input output ss i s now new lt is (own, added, h) before more rest =
-    let same : moves now ++ (moves own ++ more) ≡ moves new ++ more =
-    sym (append_assoc (moves now) (moves own) more) ∙ ap (λ (xs : List Move). xs ++ more) (sym (map-append move now own) ∙ ap (λ (xs : List code_move.Move). moves xs) (sym added)) in
+pub meanings_more : (r : Records) (all : List Candidate) (input output : Forest Resolved) (ss : List Statement) (i : ℕ) (s : Statement) (now new : List StatementMoves) (own : StatementMoves)
+    → i < length ss → s ≡ get_or ss i s → new ≡ now ++ own ∷ [] → IsMeaning all input output (written_statement s).action (statement_moves r own)
+    → ((more : List Move) → AreMeanings all input output (written_statements (drop i ss)) more → AreMeanings all input output (written_statements ss) (moves r now ++ more))
+    → (more : List Move) → AreMeanings all input output (written_statements (drop (i + 1) ss)) more → AreMeanings all input output (written_statements ss) (moves r new ++ more)
+meanings_more r all input output ss i s now new own lt is added h before more rest =
+    let mine : List Move = statement_moves r own in
+    let same : moves r now ++ (mine ++ more) ≡ moves r new ++ more =
+    sym (append_assoc (moves r now) mine more) ∙ ap (λ (xs : List Move). xs ++ more) (sym (one_more r now new own added)) in
     subst (λ (xs : List Move). AreMeanings all input output (written_statements ss) xs) same
-    (before (moves own ++ more) (subst (λ (qs : List Statement). AreMeanings all input output (written_statements qs) (moves own ++ more)) (sym (next ss i s lt is)) (moves own, more, h, rest, refl)))
+    (before (mine ++ more) (subst (λ (qs : List Statement). AreMeanings all input output (written_statements qs) (mine ++ more)) (sym (next ss i s lt is)) (mine, more, h, rest, refl)))
 
-pub meanings_all : (all : List Candidate) (input output : Forest Resolved) (ss : List Statement) (i : ℕ) (now : List code_move.Move) → length ss ≤ i
-    → ((more : List Move) → AreMeanings all input output (written_statements (drop i ss)) more → AreMeanings all input output (written_statements ss) (moves now ++ more))
-    → AreMeanings all input output (written_statements ss) (moves now)
-meanings_all all input output ss i now past before =
-    subst (λ (xs : List Move). AreMeanings all input output (written_statements ss) xs) (append-nil (moves now))
+pub meanings_all : (r : Records) (all : List Candidate) (input output : Forest Resolved) (ss : List Statement) (i : ℕ) (now : List StatementMoves) → length ss ≤ i
+    → ((more : List Move) → AreMeanings all input output (written_statements (drop i ss)) more → AreMeanings all input output (written_statements ss) (moves r now ++ more))
+    → AreMeanings all input output (written_statements ss) (moves r now)
+meanings_all r all input output ss i now past before =
+    subst (λ (xs : List Move). AreMeanings all input output (written_statements ss) xs) (append-nil (moves r now))
     (before [] (subst (λ (qs : List Statement). AreMeanings all input output (written_statements qs) []) (sym (drop_all i ss past)) refl))
+
+-- what statements mean where any entry of two records may be named
+pub meant_here : (all : List Candidate) (a b input output : Forest Resolved) (ss : List WrittenStatement) (xs : List StatementMoves) → all ≡ all_entries input output → a ≡ input → b ≡ output
+    → AreMeanings all a b ss (moves (record { input = a; output = b }) xs) → AreMeant input output ss (moves (record { input = input; output = output }) xs)
+meant_here all a b input output ss xs named in_is out_is h =
+    subst (λ (cs : List Candidate). AreMeanings cs input output ss (moves (record { input = input; output = output }) xs)) named
+    (subst (λ (y : Forest Resolved). AreMeanings all input y ss (moves (record { input = input; output = y }) xs)) out_is
+    (subst (λ (x : Forest Resolved). AreMeanings all x b ss (moves (record { input = x; output = b }) xs)) in_is h))

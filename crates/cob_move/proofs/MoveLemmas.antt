@@ -16,7 +16,8 @@ use Rattle.cob_move_pairs.specs.Groups.{IsListed, SubordinatesAreOperands, entri
 use Rattle.cob_move_pairs.specs.Pairs.{Pair, Subordinate, correspond, pairs_among, pairs_from, subordinates}
 use Rattle.cob_move_apply.specs.Sound.{RecordsAreSound}
 use Rattle.cob_move.specs.declared.corresponding.TwoGroups.{TwoGroups}
-use Rattle.cob_move.specs.Meaning.{AreMeant, AreMovesOf, AreReceiversOf, IsMeaning, IsSenderOf, entries_of, pair_move, pairs_of}
+use Rattle.cob_move.specs.Meaning.{AreGroupsOf, AreMeant, AreMovesOf, AreReceiversOf, IsMeaning, IsSenderOf, pair_move, pairs_of}
+use Rattle.cob_move_pairs.specs.Between.{entries_of}
 use Rattle.cob_move.specs.MeaningLaws.{MeantAreMoves}
 use Rattle.cob_move.proofs.SomeLemmas.{all_append, all_map, all_weaken}
 
@@ -56,14 +57,14 @@ among (x ∷ xs) ys =
 -- ---- moves
 
 -- the records are such, and what a reference names is an operand
-record AreGiven (records : Records) : Type 0 where
-  input : IsRecordDescription records.input
-  output : IsRecordDescription records.output
-  named : NamedAreOperands
-  below : SubordinatesAreOperands
-  sound : RecordsAreSound
+pub record AreGiven (records : Records) : Type 0 where
+  pub input : IsRecordDescription records.input
+  pub output : IsRecordDescription records.output
+  pub named : NamedAreOperands
+  pub below : SubordinatesAreOperands
+  pub sound : RecordsAreSound
 
-abbrev all_of : Records → List Candidate
+abbrev pub all_of : Records → List Candidate
 all_of records = all_entries records.input records.output
 
 is_sender : (records : Records) → AreGiven records → (s : WrittenSender) (m : Sender) → IsSenderOf (all_of records) s m → IsSender records m
@@ -91,18 +92,21 @@ is_pair records given g p a b x = record {
   receivers = (given.below records.output g.to p.to (given.sound records.output given.output).numbered b x.1, tt);
 }
 
-are_pairs : (records : Records) → AreGiven records → (from to : WrittenReference) (ms : List Move) → AreMovesOf (all_of records) records.input records.output from to ms → AreMoves records ms
-are_pairs records given from to ms h =
-    let g : TwoGroups = h.groups in
+pub group_moves : (records : Records) → AreGiven records → (from to : WrittenReference) (g : TwoGroups) → AreGroupsOf (all_of records) from to g
+    → AreMoves records (map (pair_move g) (pairs_of records.input records.output g))
+group_moves records given from to g named =
     let froms : List Subordinate = subordinates [] (entries_below g.from.entry.node (record_of records g.side)) in
     let tos : List Subordinate = subordinates [] (entries_below g.to.entry.node records.output) in
     let each : AllByRecursion (IsMove records) (map (pair_move g) (pairs_among froms tos)) =
     all_map (IsAmong froms tos) (IsMove records) (pair_move g)
-    (λ p x. is_pair records given g p (given.named records from g.side g.from given.input given.output h.named.sending) (given.named records to Out g.to given.input given.output h.named.receiving) x)
+    (λ p x. is_pair records given g p (given.named records from g.side g.from given.input given.output named.sending) (given.named records to Out g.to given.input given.output named.receiving) x)
     (pairs_among froms tos) (among froms tos) in
     let same : map (pair_move g) (pairs_of records.input records.output g) ≡ map (pair_move g) (pairs_among froms tos) =
     ap (λ (f : Forest Resolved). map (pair_move g) (pairs_among (subordinates [] (entries_below g.from.entry.node f)) tos)) (same_entries records g.side) in
-    subst (λ (xs : List Move). AreMoves records xs) (sym (h.moves ∙ same)) each
+    subst (λ (xs : List Move). AreMoves records xs) (sym same) each
+
+are_pairs : (records : Records) → AreGiven records → (from to : WrittenReference) (ms : List Move) → AreMovesOf (all_of records) records.input records.output from to ms → AreMoves records ms
+are_pairs records given from to ms h = subst (λ (xs : List Move). AreMoves records xs) (sym h.moves) (group_moves records given from to h.groups h.named)
 
 are_moves : (records : Records) → AreGiven records → (a : WrittenAction) (ms : List Move) → IsMeaning (all_of records) records.input records.output a ms → AreMoves records ms
 are_moves records given (MoveTo s ws) ms (m, h, e) =

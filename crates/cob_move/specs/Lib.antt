@@ -1,3 +1,5 @@
+pub mod Between
+pub mod Entries
 pub mod Paragraphs
 pub mod Laws
 pub mod Meaning

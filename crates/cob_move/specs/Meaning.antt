@@ -6,7 +6,7 @@ use Rattle.cob_move_apply.specs.Meaning.{IsConstantOf}
 use Rattle.cob_move_apply.specs.Forests.{Forest}
 use Rattle.cob_move_apply.specs.Nodes.{Resolved}
 use Rattle.cob_move_apply.specs.Side.{Side}
-use Rattle.cob_move_apply.specs.Side.TheVariants.{In, Out}
+use Rattle.cob_move_apply.specs.Side.TheVariants.{Out}
 use Rattle.cob_move_apply.specs.Operand.{Operand}
 use Rattle.cob_move_apply.specs.Moves.{Sender, Entry, Literal, Move}
 use Rattle.cob_move_initial.specs.Table.{SenderKind, Entry as EntryOf, Literal as LiteralOf}
@@ -15,8 +15,9 @@ use Rattle.cob_move_statements.specs.Written.{WrittenReference, WrittenSender, S
 use Rattle.cob_move_references.specs.Candidates.{Candidate, all_entries}
 use Rattle.cob_move_references.specs.References.{NamesOperand}
 use Rattle.cob_move.specs.declared.corresponding.TwoGroups.{TwoGroups}
-use Rattle.cob_move_pairs.specs.Groups.{entries_below, operand_below}
-use Rattle.cob_move_pairs.specs.Pairs.{AreOnce, Pair, corresponding_pairs, is_elementary}
+use Rattle.cob_move_pairs.specs.Between.{entries_of, pairs_below}
+use Rattle.cob_move_pairs.specs.Groups.{operand_below}
+use Rattle.cob_move_pairs.specs.Pairs.{AreOnce, Pair, is_elementary}
 
 -- What the table of categories asks of a sender: what its entry describes, or its constant.
 abbrev pub kind_of_sender : Sender → SenderKind
@@ -49,15 +50,10 @@ pub record AreGroupsOf (all : List Candidate) (from to : WrittenReference) (g : 
   pub receiving : NamesOperand all to Out g.to
   pub groups : (is_elementary g.from.kind || is_elementary g.to.kind) ≡ false
 
--- the entries of a side's record
-abbrev pub entries_of : Forest Resolved → Forest Resolved → Side → Forest Resolved
-entries_of input output In = input
-entries_of input output Out = output
-
 -- The pairs of two groups of the records, in the order of the sending one.
 abbrev pub pairs_of : Forest Resolved → Forest Resolved → TwoGroups → List Pair
 pairs_of input output g =
-    corresponding_pairs (entries_below g.from.entry.node (entries_of input output g.side)) (entries_below g.to.entry.node output)
+    pairs_below (entries_of input output g.side) output g.from.entry.node g.to.entry.node
 
 -- The move of a pair: its entries have the subscripts of the groups.
 abbrev pub pair_move : TwoGroups → Pair → Move

@@ -49,9 +49,9 @@ BreaksParagraph other line text = ⊥
 abbrev pub IsRefusalOf : MoveFault → List ℕ → Forest Resolved → Forest Resolved → Type 0
 IsRefusalOf f text input output = BreaksParagraph f.rule f.line text ⊎ BreaksMeaning f text input output
 
--- the moves of a paragraph, in their order
-abbrev pub moves_in : Paragraph → List Move
-moves_in p = moves_of p.moves
+-- the moves of a paragraph between two records, in their order
+abbrev pub moves_in : Records → Paragraph → List Move
+moves_in r p = moves_of r p.moves
 
 -- the moves of a paragraph are made ready for these records
 abbrev pub IsReadyFor : Records → Paragraph → Type 0

@@ -1,35 +1,32 @@
-//! MOVE CORRESPONDING, written out.
+//! MOVE CORRESPONDING, pair by pair.
 
-ghost use Rattle.std.specs.Prelude.{◌≡◌, ◌⊎◌, ◌≤◌, ◌||◌, List, [], ◌∷◌, length, map, IfErr, IfOk};
+ghost use Rattle.std.specs.Prelude.{◌≡◌, ◌⊎◌, ◌||◌, map, IfErr, IfOk, OnOk};
 ghost use Rattle.std.specs.List.{AllByRecursion};
 ghost use Rattle.cob_move_apply.specs.Forests.{Forest};
-ghost use Rattle.cob_move_apply.specs.Nodes.{Resolved};
-ghost use Rattle.cob_limits.specs.Limits.{most_dimensions};
+ghost use Rattle.cob_move_apply.specs.Nodes.{Resolved, tree_of};
+ghost use Rattle.cob_move.specs.Between.{AreAllowed, ArePairsOf, BreaksBetween, numbered, numbers_of};
+ghost use Rattle.cob_move.specs.Entries.{AreNamed, records_of};
 ghost use Rattle.cob_move.specs.Meaning.{
   AreGroupsOf,
   AreMovesOf,
   IsAllowedMove,
-  entries_of,
   pair_move,
   pairs_of,
 };
 ghost use Rattle.cob_move.specs.Refusals.{BreaksPair, BreaksStatement, SomeOf};
-ghost use Rattle.cob_move_apply.specs.Moves.{move, moves};
-ghost use Rattle.cob_move_pairs.specs.Groups.{entries_below, operand_below};
-ghost use Rattle.cob_move_pairs.specs.Listed.{subordinates_listed, pair, pairs, subordinate};
+ghost use Rattle.cob_move_apply.specs.Moves.{numbered_move};
+ghost use Rattle.cob_move_pairs.specs.Between.{ends};
 ghost use Rattle.cob_move_pairs.specs.Pairing.{IsTwice};
-ghost use Rattle.cob_move_pairs.specs.Pairs.{AreOnce, is_elementary, subordinates};
+ghost use Rattle.cob_move_pairs.specs.Pairs.{AreOnce, is_elementary};
 ghost use Rattle.cob_move_references.specs.Directory.{entries_named};
 ghost use Rattle.cob_move_statements.specs.Written.{MoveCorresponding, written_reference};
 
+use crate::entries::Entries;
 use crate::single::judge;
-use arrayvec::ArrayVec;
-use cob_limits::MAX_SUBSCRIPTS;
-use cob_move_apply::{Book, Move, Operand, Ref, Sender, Side};
-use cob_move_pairs::{
-    Pair, Subordinate, entries_below, is_elementary, pairs_between, subordinates,
-};
-use cob_move_references::Names;
+use cob_move_apply::{NumberedPair, Operand, PairMoves, Side, records_are_sound};
+use cob_move_initial::SenderKind;
+use cob_move_pairs::{Correspondences, EntryPair, is_elementary, subordinates_are_operands};
+use cob_move_references::{Names, named_are_operands};
 use cob_move_statements::{MoveRule, Reference};
 use std::alloc::Global;
 
@@ -76,122 +73,74 @@ fn groups_of(
     })
 }
 
-/// The same subscripts once more.
-fn same_subscripts(subscripts: &[u32]) -> ArrayVec<u32, MAX_SUBSCRIPTS>
-    requires { length subscripts.now ≤ most_dimensions }
-    ensures { result.items ≡ subscripts.now }
-{
-    let mut same = ArrayVec::new();
-    for subscript in subscripts {
-        same.push(*subscript);
-    }
-    same
-}
-
-/// An entry below a group as an operand, with the group's subscripts.
-fn operand_below(group: &Operand, below: &Subordinate<'_>) -> Operand
-    ensures { result ≡ operand_below group.now (subordinate below.now) }
-{
-    Operand {
-        entry: Ref {
-            node: below.entry.number,
-            subscripts: same_subscripts(group.entry.subscripts.as_slice()),
-        },
-        kind: below.entry.kind.clone(),
-    }
-}
-
-/// The move of a pair.
+/// Judges the move of a pair.
 ///
 /// # Errors
 ///
-/// `TooLong`, and what else the table refuses; `Memory`.
-fn pair_move(alloc: Global, groups: &TwoGroups, one: &Pair<'_, '_>) -> Result<Move, MoveRule>
-    ensures found { IfOk result (λ m. move m ≡ pair_move groups.now (pair one.now)) }
-    ensures allowed { IfOk result (λ m. IsAllowedMove (move m)) }
-    ensures fault { IfErr result (λ r. (r ≡ MoveRule.Memory) ⊎ BreaksPair r (pair one.now)) }
+/// `TooLong`, and what else the table refuses.
+fn judge_pair(one: &EntryPair<'_>) -> Result<(), MoveRule>
+    ensures allowed { OnOk result (AreAllowed (ends one.now)) }
+    ensures fault { IfErr result (λ r. BreaksBetween r (ends one.now)) }
 {
-    let sender = Sender::Entry {
-        side: groups.side,
-        operand: operand_below(&groups.from, one.from),
-    };
-    let receiver = operand_below(&groups.to, one.to);
-    judge(&sender, &receiver.kind)?;
-    let mut receivers = Vec::with_capacity(alloc, 1)?;
-    receivers.push(receiver)?;
-    Ok(Move { sender, receivers })
+    judge(&SenderKind::Entry(&one.from.kind), &one.to.kind)
 }
 
-/// The moves of pairs, in their order.
+/// The numbers of the entries of pairs, in their order, where the move of each pair is one that is allowed.
 ///
 /// # Errors
 ///
-/// As [`pair_move`], for one of them.
-fn pair_moves(
-    alloc: Global,
-    groups: &TwoGroups,
-    list: &[Pair<'_, '_>],
-) -> Result<Vec<Move>, MoveRule>
-    ensures found { IfOk result (λ v. moves v.items ≡ map (pair_move groups.now) (pairs list.now)) }
-    ensures allowed { IfOk result (λ v. AllByRecursion IsAllowedMove (moves v.items)) }
+/// As [`judge_pair`], for one of them; `Memory`.
+fn judged_numbers(alloc: Global, list: &[EntryPair<'_>]) -> Result<Vec<NumberedPair>, MoveRule>
+    ensures numbers { IfOk result (λ v. v.items ≡ map numbers_of (map ends list.now)) }
+    ensures allowed { IfOk result (λ v. AllByRecursion AreAllowed (map ends list.now)) }
     ensures fault { IfErr result (λ r. (r ≡ MoveRule.Memory)
-        ⊎ SomeOf (BreaksPair r) (pairs list.now)) }
+        ⊎ SomeOf (BreaksBetween r) (map ends list.now)) }
 {
-    let mut written_out = Vec::new(alloc);
+    let mut numbers = Vec::with_capacity(alloc, list.len())?;
     for one in list {
-        let single = pair_move(alloc, groups, one)?;
-        written_out.push(single)?;
+        judge_pair(one)?;
+        numbers.push(NumberedPair {
+            from: one.from.number,
+            to: one.to.number,
+        })?;
     }
-    Ok(written_out)
-}
-
-/// What may be in a pair below the entry of a record with this number.
-fn subordinates_of<'a>(
-    alloc: Global,
-    book: &'a Book,
-    number: usize,
-) -> Result<Vec<Subordinate<'a>>, MoveRule>
-    ensures found { IfOk result (λ v.
-        subordinates_listed v.items ≡ subordinates [] (entries_below number book.now)) }
-    ensures fault { IfErr result (λ r. r ≡ MoveRule.Memory) }
-{
-    subordinates(alloc, entries_below(book.root(), number))
-}
-
-/// The record of a side.
-fn book_of<'a>(input: &'a Book, output: &'a Book, side: Side) -> &'a Book
-    ensures { result.now ≡ entries_of input.now output.now side }
-{
-    match side {
-        Side::In => input,
-        Side::Out => output,
-    }
+    Ok(numbers)
 }
 
 /// The moves of the pairs of two groups.
 ///
 /// # Errors
 ///
-/// `Twice`; as [`pair_move`], for one of the pairs; `Memory`.
+/// `Twice`; as [`judge_pair`], for one of the pairs; `Memory`.
 fn moves_between(
     alloc: Global,
-    input: &Book,
-    output: &Book,
-    groups: &TwoGroups,
-) -> Result<Vec<Move>, MoveRule>
-    ensures once { IfOk result (λ v. AreOnce (pairs_of input.now output.now groups.now)) }
-    ensures found { IfOk result (λ v.
-        moves v.items ≡ map (pair_move groups.now) (pairs_of input.now output.now groups.now)) }
-    ensures allowed { IfOk result (λ v. AllByRecursion IsAllowedMove (moves v.items)) }
-    ensures fault { IfErr result (λ r. IsTwice r (pairs_of input.now output.now groups.now)
-        ⊎ SomeOf (BreaksPair r) (pairs_of input.now output.now groups.now)) }
+    pairs: &mut Correspondences<'_>,
+    groups: TwoGroups,
+) -> Result<PairMoves, MoveRule>
+    ensures kept { IfOk result (λ v. (v.side ≡ groups.side) × (v.from ≡ groups.from.entry)
+        × (v.to ≡ groups.to.entry) × (v.pairs.items ≡ map numbered (pairs_of
+        (tree_of pairs.old.input.now) (tree_of pairs.old.output.now) groups))) }
+    ensures once { IfOk result (λ v. AreOnce (pairs_of
+        (tree_of pairs.old.input.now) (tree_of pairs.old.output.now) groups)) }
+    ensures allowed { IfOk result (λ v. AllByRecursion IsAllowedMove (map (pair_move groups)
+        (pairs_of (tree_of pairs.old.input.now) (tree_of pairs.old.output.now) groups))) }
+    ensures fault { IfErr result (λ r. IsTwice r (pairs_of
+        (tree_of pairs.old.input.now) (tree_of pairs.old.output.now) groups)
+        ⊎ SomeOf (BreaksPair r) (pairs_of
+        (tree_of pairs.old.input.now) (tree_of pairs.old.output.now) groups)) }
+    ensures input { pairs.new.input ≡ pairs.old.input }
+    ensures output { pairs.new.output ≡ pairs.old.output }
 {
-    let sending = book_of(input, output, groups.side);
-    let senders = subordinates_of(alloc, sending, groups.from.entry.node)?;
-    let receivers = subordinates_of(alloc, output, groups.to.entry.node)?;
-    let list = pairs_between(alloc, senders.as_slice(), receivers.as_slice())?;
-    let written_out = pair_moves(alloc, groups, list.as_slice())?;
-    Ok(written_out)
+    let from = groups.from.entry.node;
+    let to = groups.to.entry.node;
+    pairs.find(alloc, groups.side, from, to)?;
+    let numbers = judged_numbers(alloc, pairs.between(groups.side, from, to))?;
+    Ok(PairMoves {
+        side: groups.side,
+        from: groups.from.entry,
+        to: groups.to.entry,
+        pairs: numbers,
+    })
 }
 
 /// The moves that a MOVE CORRESPONDING means.
@@ -201,19 +150,28 @@ fn moves_between(
 /// A rule that its references, its groups or one of its pairs breaks; `Memory`.
 pub(crate) fn moves_of(
     alloc: Global,
-    names: &Names<'_>,
-    input: &Book,
-    output: &Book,
+    entries: &Entries<'_, '_>,
+    pairs: &mut Correspondences<'_>,
     from: &Reference<'_>,
     to: &Reference<'_>,
-) -> Result<Vec<Move>, MoveRule>
-    ensures found { IfOk result (λ v. AreMovesOf (entries_named names.now) input.now output.now
-        (written_reference from.now) (written_reference to.now) (moves v.items)) }
-    ensures fault { IfErr result (λ r. BreaksStatement r (entries_named names.now)
-        input.now output.now
+) -> Result<PairMoves, MoveRule>
+    requires named { AreNamed entries.now }
+    requires pairs { ArePairsOf (records_of entries.now) pairs.old }
+    ensures found { IfOk result (λ v. AreMovesOf (entries_named entries.now.names.now)
+        entries.now.input.now entries.now.output.now
+        (written_reference from.now) (written_reference to.now)
+        (map (numbered_move (records_of entries.now) v) v.pairs.items)) }
+    ensures fault { IfErr result (λ r. BreaksStatement r (entries_named entries.now.names.now)
+        entries.now.input.now entries.now.output.now
         (MoveCorresponding (written_reference from.now) (written_reference to.now))) }
+    ensures pairs { ArePairsOf (records_of entries.now) pairs.new }
 {
-    let groups = groups_of(names, from, to)?;
-    let written_out = moves_between(alloc, input, output, &groups)?;
-    Ok(written_out)
+    named_are_operands();
+    subordinates_are_operands();
+    records_are_sound();
+    let _ = entries.input.greatest();
+    let _ = entries.output.greatest();
+    let groups = groups_of(entries.names, from, to)?;
+    let list = moves_between(alloc, pairs, groups)?;
+    Ok(list)
 }

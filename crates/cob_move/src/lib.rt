@@ -21,10 +21,10 @@
 //! specs/Meaning.antt). MOVE CORRESPONDING means one move for each pair of its two groups, in the order of the sending group, each with the
 //! subscripts of the groups (`AreMovesOf`).
 //!
-//! What is promised of [`meaning_of`], for one statement, and of [`all_meant`], for statements one behind another: `Ok` has just the moves
-//! that are meant (clause `found`); what has a meaning is answered, memory aside, and as these moves (`only`); and a refusal names a rule
-//! that is broken, M1 to M10 (`fault`; `BreaksStatement` of specs/Refusals.antt says each in its words), with the line of the statement that
-//! breaks it, or line 0 for want of memory (`AreBroken`). Which of several broken rules is named isn't said.
+//! What is promised of [`all_meant`], for statements one behind another: `Ok` has just the moves that are meant (clause `found`); what has a
+//! meaning is answered, memory aside, and as these moves (`only`); and a refusal names a rule that is broken, M1 to M10 (`fault`;
+//! `BreaksStatement` of specs/Refusals.antt says each in its words), with the line of the statement that breaks it, or line 0 for want of
+//! memory (`AreBroken`). Which of several broken rules is named isn't said.
 //!
 //! Laws: statements mean one list of moves at most ([`one_meaning`], [`one_meant`]); where they have a meaning, none breaks a rule
 //! ([`meanings_break_no_rule`], [`meant_break_no_rule`]); and what they mean are moves between the two records ([`meant_are_moves`]).
@@ -35,6 +35,7 @@
 #![tactic(auto)]
 
 mod corresponding;
+mod entries;
 mod laws;
 mod meaning;
 mod meaning_laws;
@@ -50,7 +51,7 @@ pub use cob_move_initial::{initial, one_initial, write_group};
 pub use cob_move_pairs::pairs;
 pub use cob_move_statements::{MoveFault, MoveRule};
 pub use laws::{one_paragraph, paragraph_breaks_no_rule};
-pub use meaning::{all_meant, meaning_of};
+pub use meaning::all_meant;
 pub use meaning_laws::{
     meanings_break_no_rule, meant_are_moves, meant_break_no_rule, one_meaning, one_meant,
 };

@@ -4,19 +4,19 @@ ghost use Rattle.std.specs.Prelude.{◌≡◌, length, map, min, IfErr, IfOk, Li
 ghost use Rattle.cob_move_apply.specs.Books.{IsRecordDescription};
 ghost use Rattle.cob_move_apply.specs.Storage.{IsStorage, greatest_length};
 ghost use Rattle.cob_move_apply.specs.Applied.{Applied, ending};
-ghost use Rattle.cob_move_apply.specs.Prepared.{ArePrepared, moves_of, single_moves};
+ghost use Rattle.cob_move_apply.specs.Told.{most_moves_told, single_moves};
 ghost use Rattle.cob_move_apply.specs.Room.{room_of};
-ghost use Rattle.cob_move_apply.specs.Moves.{AreMoves, Move as Meant, moves};
+ghost use Rattle.cob_move_apply.specs.Moves.{Move as Meant, Records, moves};
 ghost use Rattle.cob_move_statements.specs.declared.fault.MoveRule.TheVariants.{Memory};
 ghost use Rattle.cob_move.specs.Paragraphs.{IsParagraphOf, IsReadyFor, IsRefusalOf, moves_in};
 
 use crate::laws::{one_paragraph, paragraph_breaks_no_rule};
 use crate::meaning::all_meant;
 use crate::meaning_laws::meant_are_moves;
-use cob_move_apply::{Book, Layout, Move, Moves, Scratch, Stop};
+use cob_move_apply::{Book, Layout, Moves, Scratch, StatementMoves, Stop};
 use cob_move_statements::{MoveFault, statements};
 use cob_source::paragraph_tokens;
-use std::alloc::{AllocError, Global};
+use std::alloc::Global;
 
 /// The moves that a paragraph says between two records, ready to be carried out.
 #[derive(Debug, Drop)]
@@ -33,39 +33,27 @@ fn meant_moves(
     alloc: Global,
     input: &Book,
     output: &Book,
+    in_layout: &Layout,
+    out_layout: &Layout,
     text: &[u8],
-) -> Result<Vec<Move>, MoveFault>
-    ensures found { IfOk result
-        (λ v. IsParagraphOf text.now input.now output.now (moves v.items)) }
+) -> Result<Vec<StatementMoves>, MoveFault>
+    requires in_layout { in_layout.now ≡ input.now }
+    requires out_layout { out_layout.now ≡ output.now }
+    ensures found { IfOk result (λ v. IsParagraphOf text.now input.now output.now
+        (moves (record { input = input.now; output = output.now }) v.items)) }
     ensures fault { IfErr result (λ f. IsRefusalOf f text.now input.now output.now) }
 {
     let words = paragraph_tokens(alloc, text)?;
     let statements = statements(alloc, words.as_slice())?;
-    let meant = all_meant(alloc, input, output, statements.as_slice())?;
+    let meant = all_meant(
+        alloc,
+        input,
+        output,
+        in_layout,
+        out_layout,
+        statements.as_slice(),
+    )?;
     Ok(meant)
-}
-
-/// The moves made ready for the records of two books.
-///
-/// # Errors
-///
-/// Memory was refused.
-fn prepared(
-    alloc: Global,
-    meant: Vec<Move>,
-    input: &Book,
-    output: &Book,
-) -> Result<Moves, AllocError>
-    requires moves { AreMoves (record { input = input.now; output = output.now })
-        (moves meant.items) }
-    ensures made { IfOk result (λ m. moves_of m ≡ moves meant.items) }
-    ensures prepared { IfOk result
-        (λ m. ArePrepared (record { input = input.now; output = output.now }) m) }
-{
-    let in_layout = Layout::of(alloc, input)?;
-    let out_layout = Layout::of(alloc, output)?;
-    let ready = Moves::new(alloc, meant, &in_layout, &out_layout)?;
-    Ok(ready)
 }
 
 impl Paragraph {
@@ -83,13 +71,15 @@ impl Paragraph {
     ) -> Result<Paragraph, MoveFault>
         // What is read are the moves that the text says.
         ensures found { IfOk result
-            (λ p. IsParagraphOf text.now input.now output.now (moves_in p)) }
+            (λ p. IsParagraphOf text.now input.now output.now
+            (moves_in (record { input = input.now; output = output.now }) p)) }
         // They are ready for the records of these books.
         ensures ready { IfOk result
             (λ p. IsReadyFor (record { input = input.now; output = output.now }) p) }
         // A text that is a paragraph is read, memory aside.
         ensures only { (ms : List Meant) → IsParagraphOf text.now input.now output.now ms
-            → IfOk result (λ p. moves_in p ≡ ms) × IfErr result (λ f. f.rule ≡ Memory) }
+            → IfOk result (λ p. moves_in (record { input = input.now; output = output.now }) p ≡ ms)
+            × IfErr result (λ f. f.rule ≡ Memory) }
         // A refusal names a rule that is broken.
         ensures fault { IfErr result (λ f. IsRefusalOf f text.now input.now output.now) }
     {
@@ -98,14 +88,16 @@ impl Paragraph {
         meant_are_moves();
         let _ = input.root();
         let _ = output.root();
-        let meant = meant_moves(alloc, input, output, text)?;
-        let moves = prepared(alloc, meant, input, output)?;
+        let in_layout = Layout::of(alloc, input)?;
+        let out_layout = Layout::of(alloc, output)?;
+        let meant = meant_moves(alloc, input, output, &in_layout, &out_layout, text)?;
+        let moves = Moves::new(alloc, meant, &in_layout, &out_layout)?;
         Ok(Paragraph { moves })
     }
 
     /// The number of single moves, each of a sender to one of its receivers. More than a u32 holds come as the greatest u32.
     pub fn moves(&self) -> u32
-        ensures { result ≡ min (single_moves (moves_in self.now)) 4294967295 }
+        ensures { (r : Records) → result ≡ min (single_moves (moves_in r self.now)) most_moves_told }
     {
         self.moves.single_moves()
     }
@@ -141,9 +133,8 @@ pub fn apply(
     requires room { scratch.old ≡ room_of
         (record { input = in_layout.now; output = out_layout.now }) }
     ensures applied { Applied (record { input = in_layout.now; output = out_layout.now })
-        (moves_in paragraph.now) input.now output.old (ending result output.new) }
+        (moves_in (record { input = in_layout.now; output = out_layout.now }) paragraph.now) input.now output.old (ending result output.new) }
     ensures room { scratch.new ≡ scratch.old }
-    ensures size { length output.new ≡ length output.old }
 {
     paragraph
         .moves

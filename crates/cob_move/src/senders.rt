@@ -6,13 +6,14 @@ ghost use Rattle.cob_move_apply.specs.Described.{plain_value};
 ghost use Rattle.cob_move_apply.specs.Meaning.{IsConstantOf};
 ghost use Rattle.cob_move.specs.Meaning.{IsSenderOf};
 ghost use Rattle.cob_move.specs.Refusals.{BreaksSender};
-ghost use Rattle.cob_move_apply.specs.Moves.{sender};
+ghost use Rattle.cob_move_apply.specs.Moves.{IsSender, sender};
+ghost use Rattle.cob_move.specs.Entries.{AreNamed, records_of};
 ghost use Rattle.cob_move_references.specs.Candidates.{Candidate};
 ghost use Rattle.cob_move_references.specs.Directory.{entries_named};
 ghost use Rattle.cob_move_statements.specs.Written.{SentConstant, SentReference, written_reference, written_sender};
 
+use crate::entries::Entries;
 use cob_move_apply::{BookRule, Sender, Value, ValueClause, value_of};
-use cob_move_references::Names;
 use cob_move_statements::{MoveRule, Reference, StatementSender};
 
 /// What the constant of a sender means.
@@ -37,16 +38,19 @@ fn constant_of(written: &ValueClause<'_>) -> Result<Value, MoveRule>
 /// # Errors
 ///
 /// `Unknown`, `Ambiguous`, `Subscripts`.
-fn entry_of(names: &Names<'_>, reference: &Reference<'_>) -> Result<Sender, MoveRule>
-    ensures found { IfOk result (λ s. IsSenderOf (entries_named names.now)
-        (SentReference (written_reference reference.now)) (sender s)) }
-    ensures fault { IfErr result (λ r. BreaksSender r (entries_named names.now)
+fn entry_of(entries: &Entries<'_, '_>, reference: &Reference<'_>) -> Result<Sender, MoveRule>
+    requires named { AreNamed entries.now }
+    ensures found { IfOk result (λ s. IsSenderOf (entries_named entries.now.names.now)
+        (SentReference (written_reference reference.now)) (sender (records_of entries.now) s)) }
+    ensures operand { IfOk result
+        (λ s. IsSender (records_of entries.now) (sender (records_of entries.now) s)) }
+    ensures fault { IfErr result (λ r. BreaksSender r (entries_named entries.now.names.now)
         (SentReference (written_reference reference.now))) }
 {
-    let named = names.find(reference)?;
+    let named = entries.named(reference)?;
     Ok(Sender::Entry {
         side: named.side,
-        operand: named.operand,
+        entry: named.entry,
     })
 }
 
@@ -56,16 +60,19 @@ fn entry_of(names: &Names<'_>, reference: &Reference<'_>) -> Result<Sender, Move
 ///
 /// `Unknown`, `Ambiguous`, `Subscripts` for a reference; `Grammar`, `Literal` for a constant.
 pub(crate) fn sender_of(
-    names: &Names<'_>,
+    entries: &Entries<'_, '_>,
     written: &StatementSender<'_>,
 ) -> Result<Sender, MoveRule>
-    ensures found { IfOk result (λ s. IsSenderOf (entries_named names.now)
-        (written_sender written.now) (sender s)) }
-    ensures fault { IfErr result (λ r. BreaksSender r (entries_named names.now)
+    requires named { AreNamed entries.now }
+    ensures found { IfOk result (λ s. IsSenderOf (entries_named entries.now.names.now)
+        (written_sender written.now) (sender (records_of entries.now) s)) }
+    ensures operand { IfOk result
+        (λ s. IsSender (records_of entries.now) (sender (records_of entries.now) s)) }
+    ensures fault { IfErr result (λ r. BreaksSender r (entries_named entries.now.names.now)
         (written_sender written.now)) }
 {
     match written {
-        StatementSender::Reference(reference) => entry_of(names, reference),
+        StatementSender::Reference(reference) => entry_of(entries, reference),
         StatementSender::Constant(literal) => {
             let value = constant_of(literal)?;
             Ok(Sender::Constant(value))

@@ -1,13 +1,20 @@
 //! Single moves: of a sender to one of its receivers.
 
-ghost use Rattle.std.specs.Prelude.{◌≡◌, ◌⊎◌, List, [], ◌∷◌, IfErr, IfNone, IfOk, IfSome, OnOk};
+ghost use Rattle.std.specs.Prelude.{◌≡◌, ◌⊎◌, List, [], ◌∷◌, map, IfErr, IfNone, IfOk, IfSome, OnOk};
 ghost use Rattle.std.specs.List.{AllByRecursion};
 ghost use Rattle.cob_move_apply.specs.Forests.{Forest};
 ghost use Rattle.cob_move_apply.specs.Nodes.{Resolved};
 ghost use Rattle.cob_move.specs.Meaning.{AreReceiversOf, IsMoveOf, kind_of_sender};
 ghost use Rattle.cob_move.specs.Refusals.{BreaksMove, BreaksReceipt, BreaksStatement, SomeOf};
 ghost use Rattle.cob_move_apply.specs.Side.TheVariants.{Out};
-ghost use Rattle.cob_move_apply.specs.Moves.{move, sender};
+ghost use Rattle.cob_move_apply.specs.Moves.{
+  IsOperand,
+  IsSender,
+  move,
+  operand_in,
+  sender,
+};
+ghost use Rattle.cob_move.specs.Entries.{AreNamed, records_of};
 ghost use Rattle.cob_move_initial.specs.Refusals.{IsAllowed};
 ghost use Rattle.cob_move_initial.specs.Table.{sender_kind};
 ghost use Rattle.cob_move_references.specs.Directory.{entries_named};
@@ -19,19 +26,20 @@ ghost use Rattle.cob_move_statements.specs.Written.{
   written_sender,
 };
 
+use crate::entries::Entries;
 use crate::senders::sender_of;
-use cob_move_apply::{Kind, Move, Operand, Sender};
+use cob_move_apply::{Kind, Move, Ref, Sender, Side};
 use cob_move_initial::{Refusal, SenderKind, refusal_of};
-use cob_move_references::Names;
 use cob_move_statements::{MoveRule, Reference, StatementSender};
 use std::alloc::Global;
 
 /// What the table of categories asks of a sender.
-fn kind_of_sender(from: &Sender) -> SenderKind<'_>
-    ensures { sender_kind result ≡ kind_of_sender (sender from.now) }
+fn kind_of_sender<'a>(entries: &'a Entries<'_, '_>, from: &'a Sender) -> SenderKind<'a>
+    requires sender { IsSender (records_of entries.now) (sender (records_of entries.now) from.now) }
+    ensures { sender_kind result ≡ kind_of_sender (sender (records_of entries.now) from.now) }
 {
     match from {
-        Sender::Entry { operand, .. } => SenderKind::Entry(&operand.kind),
+        Sender::Entry { side, entry } => SenderKind::Entry(entries.kind(*side, entry)),
         Sender::Constant(value) => SenderKind::Constant(value),
     }
 }
@@ -41,11 +49,11 @@ fn kind_of_sender(from: &Sender) -> SenderKind<'_>
 /// # Errors
 ///
 /// `NotAllowed`, `Literal`, `TooLong`.
-pub(crate) fn judge(from: &Sender, to: &Kind) -> Result<(), MoveRule>
-    ensures allowed { OnOk result (IsAllowed (kind_of_sender (sender from.now)) to.now) }
-    ensures fault { IfErr result (λ r. BreaksMove r (kind_of_sender (sender from.now)) to.now) }
+pub(crate) fn judge(from: &SenderKind<'_>, to: &Kind) -> Result<(), MoveRule>
+    ensures allowed { OnOk result (IsAllowed (sender_kind from.now) to.now) }
+    ensures fault { IfErr result (λ r. BreaksMove r (sender_kind from.now) to.now) }
 {
-    match refusal_of(&kind_of_sender(from), to) {
+    match refusal_of(from, to) {
         None => Ok(()),
         Some(Refusal::NotAllowed) => Err(MoveRule::NotAllowed),
         Some(Refusal::Literal) => Err(MoveRule::Literal),
@@ -59,19 +67,26 @@ pub(crate) fn judge(from: &Sender, to: &Kind) -> Result<(), MoveRule>
 ///
 /// `Unknown`, `Ambiguous`, `Subscripts`, `Receiver`; `NotAllowed`, `Literal`, `TooLong`.
 fn receiver_of(
-    names: &Names<'_>,
+    entries: &Entries<'_, '_>,
     from: &Sender,
     reference: &Reference<'_>,
-) -> Result<Operand, MoveRule>
-    ensures found { IfOk result (λ o. NamesOperand (entries_named names.now)
-        (written_reference reference.now) Out o) }
-    ensures allowed { IfOk result (λ o. IsAllowed (kind_of_sender (sender from.now)) o.kind) }
-    ensures fault { IfErr result (λ r. BreaksReceipt r (entries_named names.now)
-        (sender from.now) (written_reference reference.now)) }
+) -> Result<Ref, MoveRule>
+    requires named { AreNamed entries.now }
+    requires sender { IsSender (records_of entries.now) (sender (records_of entries.now) from.now) }
+    ensures found { IfOk result (λ o. NamesOperand (entries_named entries.now.names.now)
+        (written_reference reference.now) Out (operand_in entries.now.output.now o)) }
+    ensures allowed { IfOk result
+        (λ o. IsAllowed (kind_of_sender (sender (records_of entries.now) from.now))
+        (operand_in entries.now.output.now o).kind) }
+    ensures fault { IfErr result (λ r. BreaksReceipt r (entries_named entries.now.names.now)
+        (sender (records_of entries.now) from.now) (written_reference reference.now)) }
 {
-    let operand = names.find_receiver(reference)?;
-    judge(from, &operand.kind)?;
-    Ok(operand)
+    let entry = entries.named_receiver(reference)?;
+    judge(
+        &kind_of_sender(entries, from),
+        entries.kind(Side::Out, &entry),
+    )?;
+    Ok(entry)
 }
 
 /// What the receivers of a sender mean.
@@ -81,21 +96,24 @@ fn receiver_of(
 /// As [`receiver_of`], for one of them; `Memory`.
 fn receivers_of(
     alloc: Global,
-    names: &Names<'_>,
+    entries: &Entries<'_, '_>,
     from: &Sender,
     references: &[Reference<'_>],
-) -> Result<Vec<Operand>, MoveRule>
-    ensures found { IfOk result (λ v. AreReceiversOf (entries_named names.now)
-        (written_references references.now) v.items) }
+) -> Result<Vec<Ref>, MoveRule>
+    requires named { AreNamed entries.now }
+    requires sender { IsSender (records_of entries.now) (sender (records_of entries.now) from.now) }
+    ensures found { IfOk result (λ v. AreReceiversOf (entries_named entries.now.names.now)
+        (written_references references.now) (map (operand_in entries.now.output.now) v.items)) }
     ensures allowed { IfOk result (λ v.
-        AllByRecursion (λ o. IsAllowed (kind_of_sender (sender from.now)) o.kind) v.items) }
+        AllByRecursion (λ o. IsAllowed (kind_of_sender (sender (records_of entries.now) from.now))
+        o.kind) (map (operand_in entries.now.output.now) v.items)) }
     ensures fault { IfErr result (λ r. (r ≡ MoveRule.Memory)
-        ⊎ SomeOf (BreaksReceipt r (entries_named names.now) (sender from.now))
-        (written_references references.now)) }
+        ⊎ SomeOf (BreaksReceipt r (entries_named entries.now.names.now)
+        (sender (records_of entries.now) from.now)) (written_references references.now)) }
 {
     let mut receivers = Vec::with_capacity(alloc, references.len())?;
     for reference in references {
-        let receiver = receiver_of(names, from, reference)?;
+        let receiver = receiver_of(entries, from, reference)?;
         receivers.push(receiver)?;
     }
     Ok(receivers)
@@ -108,17 +126,19 @@ fn receivers_of(
 /// A rule that the sender or one of the receivers breaks; `Memory`.
 pub(crate) fn move_of(
     alloc: Global,
-    names: &Names<'_>,
+    entries: &Entries<'_, '_>,
     written: &StatementSender<'_>,
     references: &[Reference<'_>],
 ) -> Result<Move, MoveRule>
-    ensures found { IfOk result (λ m. IsMoveOf (entries_named names.now)
-        (written_sender written.now) (written_references references.now) (move m)) }
+    requires named { AreNamed entries.now }
+    ensures found { IfOk result (λ m. IsMoveOf (entries_named entries.now.names.now)
+        (written_sender written.now) (written_references references.now)
+        (move (records_of entries.now) m)) }
     ensures fault { IfErr result (λ r. (input output : Forest Resolved)
-        → BreaksStatement r (entries_named names.now) input output
+        → BreaksStatement r (entries_named entries.now.names.now) input output
         (MoveTo (written_sender written.now) (written_references references.now))) }
 {
-    let sender = sender_of(names, written)?;
-    let receivers = receivers_of(alloc, names, &sender, references)?;
+    let sender = sender_of(entries, written)?;
+    let receivers = receivers_of(alloc, entries, &sender, references)?;
     Ok(Move { sender, receivers })
 }

@@ -1,31 +1,59 @@
--- How many single moves there are.
-use Rattle.std.proofs.Common.{◌≡◌, ℕ, ◌+◌, ◌<◌, ◌≤◌, List, length, get_or, drop, map, min, sym, ap, ◌∙◌, arith}
-use Rattle.std.proofs.lemmas.List.{drop_all}
+-- How many operands and how many single moves there are.
+use Rattle.std.proofs.Common.{◌≡◌, ℕ, ◌+◌, ◌*◌, ◌<◌, ◌≤◌, List, [], ◌∷◌, ◌++◌, length, get_or, drop, map, min, refl, sym, ap, ◌∙◌, arith}
+use Rattle.std.proofs.lemmas.List.{length-map}
 use Rattle.cob_move_operands.specs.declared.Move as code_move
-use Rattle.cob_move_operands.specs.Moves.{move}
-use Rattle.cob_move_apply.specs.Prepared.{single_moves}
-use Rattle.cob_move_apply.proofs.ListLemmas.{next}
+use Rattle.cob_move_operands.specs.declared.PairMoves.{PairMoves}
+use Rattle.cob_move_operands.specs.declared.StatementMoves.{StatementMoves}
+use Rattle.cob_move_operands.specs.declared.NumberedPair.{NumberedPair}
+use Rattle.cob_move_operands.specs.Moves.{Move, Records, move, moves, numbered_move, operand_in, statement_moves}
+use Rattle.cob_move_apply.specs.Placed.{operands}
+use Rattle.cob_move_apply.specs.Told.{single_moves}
+use Rattle.cob_move_apply.proofs.StatementLemmas.{cut_statement, none_left}
 
--- the single moves of the moves from place i on
-abbrev pub from : List code_move.Move → ℕ → ℕ
-from ms i = single_moves (map move (drop i ms))
+-- ---- of one statement
 
-from_next : (ms : List code_move.Move) (i : ℕ) (m : code_move.Move) → i < length ms → m ≡ get_or ms i m → from ms i ≡ length m.receivers.items + from ms (i + 1)
-from_next ms i m lt is =
-    ap (λ (xs : List code_move.Move). single_moves (map move xs)) (next ms i m lt is)
+pub single_operands : (r : Records) (m : code_move.Move) → operands (move r m ∷ []) ≡ length m.receivers.items + 1
+single_operands r m = omega (arith, length-map m.receivers.items (operand_in r.output))
+
+pub pairs_operands : (r : Records) (g : PairMoves) (ps : List NumberedPair) → operands (map (numbered_move r g) ps) ≡ length ps * 2
+pairs_operands r g [] = refl
+pairs_operands r g (p ∷ ps) = omega (arith, pairs_operands r g ps)
+
+pub single_alone : (r : Records) (m : code_move.Move) → single_moves (move r m ∷ []) ≡ length m.receivers.items
+single_alone r m = omega (arith, length-map m.receivers.items (operand_in r.output))
+
+pub pairs_alone : (r : Records) (g : PairMoves) (ps : List NumberedPair) → single_moves (map (numbered_move r g) ps) ≡ length ps
+pairs_alone r g [] = refl
+pairs_alone r g (p ∷ ps) = omega (arith, pairs_alone r g ps)
+
+-- ---- of statements, one behind another
+
+single_append : (xs ys : List Move) → single_moves (xs ++ ys) ≡ single_moves xs + single_moves ys
+single_append [] ys = omega arith
+single_append (x ∷ xs) ys = omega (arith, single_append xs ys)
+
+-- the single moves of the statements from place i on
+abbrev pub from : Records → List StatementMoves → ℕ → ℕ
+from r ss i = single_moves (moves r (drop i ss))
+
+from_next : (r : Records) (ss : List StatementMoves) (i : ℕ) (s : StatementMoves) → i < length ss → s ≡ get_or ss i s
+    → from r ss i ≡ single_moves (statement_moves r s) + from r ss (i + 1)
+from_next r ss i s lt is = ap single_moves (cut_statement r ss i s lt is) ∙ single_append (statement_moves r s) (moves r (drop (i + 1) ss))
 
 past_greatest : (c n rest total most greatest : ℕ) → most ≤ greatest → min (c + (n + rest)) most ≡ min total most
     → min (min (c + n) greatest + rest) most ≡ min total most
 past_greatest c n rest total most greatest le h = omega (arith, le, h)
 
-pub counted_on : (ms : List code_move.Move) (i : ℕ) (m : code_move.Move) (c n r total most greatest : ℕ) → i < length ms → m ≡ get_or ms i m → n ≡ length m.receivers.items → most ≤ greatest
-    → r ≡ min (c + n) greatest → min (c + from ms i) most ≡ min total most → min (r + from ms (i + 1)) most ≡ min total most
-counted_on ms i m c n r total most greatest lt is size le sum h =
-    ap (λ k. min (k + from ms (i + 1)) most) sum
-    ∙ past_greatest c n (from ms (i + 1)) total most greatest le
-    (ap (λ k. min (c + (k + from ms (i + 1))) most) size ∙ sym (ap (λ k. min (c + k) most) (from_next ms i m lt is)) ∙ h)
+pub counted_on : (r : Records) (ss : List StatementMoves) (i : ℕ) (s : StatementMoves) (c n new total most greatest : ℕ) → i < length ss → s ≡ get_or ss i s
+    → n ≡ single_moves (statement_moves r s) → most ≤ greatest → new ≡ min (c + n) greatest → min (c + from r ss i) most ≡ min total most
+    → min (new + from r ss (i + 1)) most ≡ min total most
+counted_on r ss i s c n new total most greatest lt is size le sum h =
+    ap (λ k. min (k + from r ss (i + 1)) most) sum
+    ∙ past_greatest c n (from r ss (i + 1)) total most greatest le
+    (ap (λ k. min (c + (k + from r ss (i + 1))) most) size ∙ sym (ap (λ k. min (c + k) most) (from_next r ss i s lt is)) ∙ h)
 
-pub counted_all : (ms : List code_move.Move) (i c r total most : ℕ) → length ms ≤ i → r ≡ min c most → min (c + from ms i) most ≡ min total most → r ≡ min total most
-counted_all ms i c r total most past is h =
-    let none : from ms i ≡ 0 = ap (λ (xs : List code_move.Move). single_moves (map move xs)) (drop_all i ms past) in
+pub counted_all : (r : Records) (ss : List StatementMoves) (i c result total most : ℕ) → length ss ≤ i → result ≡ min c most → min (c + from r ss i) most ≡ min total most
+    → result ≡ min total most
+counted_all r ss i c result total most past is h =
+    let none : from r ss i ≡ 0 = ap single_moves (none_left r ss i past) in
     omega (arith, is, none, h)

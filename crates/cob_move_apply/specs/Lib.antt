@@ -2,6 +2,8 @@ pub mod Located
 pub mod Applied
 pub mod Room
 pub mod Placed
+pub mod Seen
+pub mod Told
 pub mod Prepared
 pub mod Surveyed
 -- words of the crates below that the contracts of this one speak of
@@ -11,6 +13,7 @@ pub use Rattle.cob_layout.specs.Books
 pub use Rattle.cob_layout.specs.Codes
 pub use Rattle.cob_layout.specs.CountFault
 pub use Rattle.cob_layout.specs.Counting
+pub use Rattle.cob_layout.specs.Counts
 pub use Rattle.cob_layout.specs.Described
 pub use Rattle.cob_layout.specs.EntryLists
 pub use Rattle.cob_layout.specs.Forests
@@ -22,10 +25,14 @@ pub use Rattle.cob_layout.specs.Meaning
 pub use Rattle.cob_move_operands.specs.declared.Move
 pub use Rattle.cob_move_operands.specs.Moves
 pub use Rattle.cob_layout.specs.Nodes
+pub use Rattle.cob_move_operands.specs.declared.NumberedPair
 pub use Rattle.cob_move_operands.specs.declared.Operand
+pub use Rattle.cob_move_operands.specs.declared.PairMoves
+pub use Rattle.cob_move_operands.specs.Ref
 pub use Rattle.cob_layout.specs.References
 pub use Rattle.cob_layout.specs.Role
 pub use Rattle.cob_move_operands.specs.declared.Side
+pub use Rattle.cob_move_operands.specs.declared.StatementMoves
 pub use Rattle.cob_layout.specs.Sound
 pub use Rattle.cob_layout.specs.Storage
 pub use Rattle.cob_layout.specs.TreeLengths

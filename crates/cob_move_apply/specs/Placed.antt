@@ -1,5 +1,5 @@
 -- Moves, with what the places of their operands rest on.
-use Rattle.std.specs.Prelude.{◌≡◌, ℕ, ◌+◌, ◌≤◌, Bool, true, false, List, [], ◌∷◌, ◌++◌, Ok}
+use Rattle.std.specs.Prelude.{◌≡◌, ℕ, ◌+◌, ◌≤◌, Bool, true, false, List, [], ◌∷◌, ◌++◌, Ok, length}
 use Rattle.cob_layout.specs.Forests.{Forest}
 use Rattle.cob_layout.specs.Nodes.{Resolved}
 use Rattle.cob_layout.specs.declared.fields.Place.{Place}
@@ -56,3 +56,8 @@ IsPlacedMove r m (b ∷ bs) = IsPlacedSender r m.sender b × ArePlacedReceivers 
 abbrev pub ArePlacedMoves : Records → List Move → List Basis → Type 0
 ArePlacedMoves r [] bs = bs ≡ []
 ArePlacedMoves r (m ∷ ms) bs = (own rest : List Basis) × (bs ≡ own ++ rest) × IsPlacedMove r m own × ArePlacedMoves r ms rest
+
+-- how many operands moves have, each a sender and its receivers
+abbrev pub operands : List Move → ℕ
+operands [] = 0
+operands (m ∷ ms) = length m.receivers + 1 + operands ms

@@ -1,7 +1,12 @@
 //! What the places of operands rest on.
 
-use cob_layout::Place;
-use cob_move_operands::Operand;
+ghost use Rattle.std.specs.Prelude.{◌≡◌};
+ghost use Rattle.cob_layout.specs.Sound.{IsSound};
+ghost use Rattle.cob_move_operands.specs.Moves.{IsOperand, operand_in};
+ghost use Rattle.cob_move_apply.specs.Seen.{operand_of};
+
+use cob_layout::{Kind, Layout, Place, Ref};
+use cob_move_operands::Side;
 
 /// What the place of an operand rests on.
 #[derive(Clone, Copy, Debug)]
@@ -17,13 +22,41 @@ pub(crate) enum Basis {
 /// An operand, with what its place rests on.
 #[derive(Clone, Copy)]
 pub(crate) struct PlacedOperand<'a> {
-    pub(crate) operand: &'a Operand,
+    pub(crate) entry: &'a Ref,
+    pub(crate) kind: &'a Kind,
+    pub(crate) basis: Basis,
+}
+
+/// An entry of the record of a side that is sent, with what its place rests on.
+#[derive(Clone, Copy)]
+pub(crate) struct SentEntry<'a> {
+    pub(crate) side: Side,
+    pub(crate) entry: &'a Ref,
     pub(crate) basis: Basis,
 }
 
 /// The receivers of a move, with what the place of each rests on, in their order.
 #[derive(Clone, Copy)]
 pub(crate) struct PlacedReceivers<'a> {
-    pub(crate) operands: &'a [Operand],
+    pub(crate) entries: &'a [Ref],
     pub(crate) bases: &'a [Basis],
+}
+
+/// The operand that is an entry of the record of a layout, with what its place rests on.
+#[inline(always)]
+pub(crate) fn placed_operand<'a>(
+    layout: &'a Layout,
+    entry: &'a Ref,
+    basis: Basis,
+) -> PlacedOperand<'a>
+    requires sound { IsSound layout.now }
+    requires operand { IsOperand layout.now (operand_in layout.now entry.now) }
+    ensures operand { operand_of result ≡ operand_in layout.now entry.now }
+    ensures basis { result.basis ≡ basis }
+{
+    PlacedOperand {
+        entry,
+        kind: layout.kind(entry.node),
+        basis,
+    }
 }

@@ -1,9 +1,10 @@
 //! Moves that are ready to be carried out.
 
-ghost use Rattle.std.specs.Prelude.{◌≡◌, length, map, min, IfOk};
+ghost use Rattle.std.specs.Prelude.{◌≡◌, length, min, IfOk};
 ghost use Rattle.cob_layout.specs.Storage.{greatest_length, IsStorage};
-ghost use Rattle.cob_move_operands.specs.Moves.{move, AreMoves};
+ghost use Rattle.cob_move_operands.specs.Moves.{AreMoves, Records, moves, statement_moves};
 ghost use Rattle.cob_move_apply.specs.Applied.{Applied, ending};
+ghost use Rattle.cob_move_apply.specs.Told.{most_moves_told, single_moves};
 ghost use Rattle.cob_move_apply.specs.Room.{room_of};
 
 use crate::application::apply_in;
@@ -13,12 +14,12 @@ use crate::scratch::Scratch;
 use crate::stop::Stop;
 use crate::workspace::Layouts;
 use cob_layout::{Layout, records_are_sound};
-use cob_move_operands::Move;
+use cob_move_operands::StatementMoves;
 use std::alloc::{AllocError, Global};
 
 /// A number, or the greatest u32 where it is more.
 fn at_most_u32(count: usize) -> u32
-    ensures { result ≡ min count 4294967295 }
+    ensures { result ≡ min count most_moves_told }
 {
     if count < u32::MAX as usize {
         count as u32
@@ -27,16 +28,26 @@ fn at_most_u32(count: usize) -> u32
     }
 }
 
+/// How many single moves the moves of a statement are.
+fn single_moves_in(one: &StatementMoves) -> usize
+    ensures { (r : Records) → result ≡ single_moves (statement_moves r one.now) }
+{
+    match one {
+        StatementMoves::Single(single) => single.receivers.len(),
+        StatementMoves::Pairs(group) => group.pairs.len(),
+    }
+}
+
 /// Moves between two records, ready to be carried out.
 #[derive(Debug, Drop)]
 pub struct Moves {
-    pub(crate) moves: Vec<Move>,
+    pub(crate) statements: Vec<StatementMoves>,
     /// What the places of the operands rest on, one move's behind another's.
     pub(crate) bases: Vec<Basis>,
 }
 
 impl Moves {
-    ghost use Rattle.cob_move_apply.specs.Prepared.{ArePrepared, moves_of, single_moves};
+    ghost use Rattle.cob_move_apply.specs.Prepared.{ArePrepared, moves_of};
 
     /// Moves between the records of these layouts, made ready: a place that is the same in every storage is found here.
     ///
@@ -45,30 +56,31 @@ impl Moves {
     /// Where no memory is left.
     pub fn new(
         alloc: Global,
-        given: Vec<Move>,
+        given: Vec<StatementMoves>,
         input: &Layout,
         output: &Layout,
     ) -> Result<Moves, AllocError>
         requires given { AreMoves (record { input = input.now; output = output.now })
-            (map move given.items) }
-        ensures made { IfOk result (λ m. moves_of m ≡ map move given.items) }
+            (moves (record { input = input.now; output = output.now }) given.items) }
+        ensures made { IfOk result
+            (λ m. (r : Records) → moves_of r m ≡ moves r given.items) }
         ensures prepared { IfOk result
             (λ m. ArePrepared (record { input = input.now; output = output.now }) m) }
     {
         let bases = bases_of(alloc, given.as_slice(), input, output)?;
         Ok(Moves {
-            moves: given,
+            statements: given,
             bases,
         })
     }
 
     /// How many single moves these are: each is a sender with one of its receivers. More than a u32 holds come as the greatest u32.
     pub fn single_moves(&self) -> u32
-        ensures { result ≡ min (single_moves (moves_of self.now)) 4294967295 }
+        ensures { (r : Records) → result ≡ min (single_moves (moves_of r self.now)) most_moves_told }
     {
         let mut count: usize = 0;
-        for one in self.moves.iter() {
-            count = count.saturating_add(one.receivers.len());
+        for one in self.statements.iter() {
+            count = count.saturating_add(single_moves_in(one));
         }
         at_most_u32(count)
     }
@@ -96,9 +108,9 @@ impl Moves {
         requires room { scratch.old ≡ room_of
             (record { input = input_layout.now; output = output_layout.now }) }
         ensures applied { Applied (record { input = input_layout.now; output = output_layout.now })
-            (moves_of self.now) input.now output.old (ending result output.new) }
+            (moves_of (record { input = input_layout.now; output = output_layout.now }) self.now)
+            input.now output.old (ending result output.new) }
         ensures room { scratch.new ≡ scratch.old }
-        ensures size { length output.new ≡ length output.old }
     {
         records_are_sound();
         let _ = input_layout.greatest();
@@ -108,7 +120,7 @@ impl Moves {
             output: output_layout,
         };
         apply_in(
-            self.moves.as_slice(),
+            self.statements.as_slice(),
             self.bases.as_slice(),
             &layouts,
             input,

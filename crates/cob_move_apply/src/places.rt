@@ -9,6 +9,7 @@ ghost use Rattle.cob_move_operands.specs.Moves.{IsOperand};
 ghost use Rattle.cob_move_receive.specs.Sent.{Occupies};
 ghost use Rattle.cob_move_apply.specs.Located.{Located, stop_at};
 ghost use Rattle.cob_move_apply.specs.Placed.{IsPlaced};
+ghost use Rattle.cob_move_apply.specs.Seen.{operand_of};
 ghost use Rattle.cob_move_apply.specs.declared.stop.StopCause.TheVariants.{Subscript};
 ghost use Rattle.cob_move_apply.specs.Surveyed.{IsSurvey};
 
@@ -16,7 +17,7 @@ use crate::basis::{Basis, PlacedOperand};
 use crate::stop::{Stop, StopCause};
 use crate::survey::Survey;
 use cob_layout::{Counts, Layout, Place, PlaceFault, Places, all_give_needed};
-use cob_move_operands::{Operand, Side};
+use cob_move_operands::Side;
 
 /// The storage of the record of one side.
 #[derive(Clone, Copy)]
@@ -45,29 +46,29 @@ fn past_count(side: Side, fault: PlaceFault) -> Stop
 #[inline(never)]
 fn place_by_needs(
     stored: &Stored<'_>,
-    operand: &Operand,
+    operand: &PlacedOperand<'_>,
     receiving: bool,
     counts: &mut Counts,
 ) -> Result<Place, Stop>
     requires sound { IsSound stored.now.layout.now }
-    requires operand { IsOperand stored.now.layout.now operand.now }
+    requires operand { IsOperand stored.now.layout.now (operand_of operand.now) }
     requires room { length counts.old ≡ entries_in stored.now.layout.now }
-    ensures located { Located stored.now.side stored.now.layout.now receiving operand.now
+    ensures located { Located stored.now.side stored.now.layout.now receiving (operand_of operand.now)
         stored.now.bytes.now result }
     ensures fits { IfOk result
         (λ p. p.offset + p.length ≤ greatest_length stored.now.layout.now) }
-    ensures filled { IfOk result (λ p. Occupies operand.now.kind p.length) }
+    ensures filled { IfOk result (λ p. Occupies operand.now.kind.now p.length) }
     ensures room { length counts.new ≡ length counts.old }
 {
     let layout = stored.layout;
-    if let Err(fault) = layout.needed(&operand.entry, receiving, stored.bytes, counts) {
+    if let Err(fault) = layout.needed(operand.entry, receiving, stored.bytes, counts) {
         return Err(Stop {
             side: stored.side,
             offset: fault.offset,
             cause: StopCause::Count,
         });
     }
-    match layout.place(&operand.entry, counts) {
+    match layout.place(operand.entry, counts) {
         Ok(place) => Ok(place),
         Err(fault) => Err(past_count(stored.side, fault)),
     }
@@ -80,23 +81,23 @@ fn place_by_needs(
 /// A subscript past its table's count.
 fn place_by_counts(
     stored: &Stored<'_>,
-    operand: &Operand,
+    operand: &PlacedOperand<'_>,
     receiving: bool,
     places: &Places,
 ) -> Result<Place, Stop>
     requires sound { IsSound stored.now.layout.now }
-    requires operand { IsOperand stored.now.layout.now operand.now }
-    requires spared { SparesNone stored.now.layout.now operand.now.entry.node receiving }
+    requires operand { IsOperand stored.now.layout.now (operand_of operand.now) }
+    requires spared { SparesNone stored.now.layout.now operand.now.entry.now.node receiving }
     requires taken { StandsIn stored.now.layout.now stored.now.bytes.now places.now }
-    ensures located { Located stored.now.side stored.now.layout.now receiving operand.now
+    ensures located { Located stored.now.side stored.now.layout.now receiving (operand_of operand.now)
         stored.now.bytes.now result }
     ensures fits { IfOk result
         (λ p. p.offset + p.length ≤ greatest_length stored.now.layout.now) }
-    ensures filled { IfOk result (λ p. Occupies operand.now.kind p.length) }
+    ensures filled { IfOk result (λ p. Occupies operand.now.kind.now p.length) }
 {
     let _ = stored.layout.greatest();
     all_give_needed();
-    match stored.layout.place_in(&operand.entry, places) {
+    match stored.layout.place_in(operand.entry, places) {
         Ok(place) => Ok(place),
         Err(fault) => Err(past_count(stored.side, fault)),
     }
@@ -110,19 +111,19 @@ fn place_by_counts(
 #[inline(never)]
 fn place_by_all(
     stored: &Stored<'_>,
-    operand: &Operand,
+    operand: &PlacedOperand<'_>,
     receiving: bool,
     survey: &mut Survey,
 ) -> Result<Place, Stop>
     requires sound { IsSound stored.now.layout.now }
-    requires operand { IsOperand stored.now.layout.now operand.now }
-    requires spared { SparesNone stored.now.layout.now operand.now.entry.node receiving }
+    requires operand { IsOperand stored.now.layout.now (operand_of operand.now) }
+    requires spared { SparesNone stored.now.layout.now operand.now.entry.now.node receiving }
     requires survey { IsSurvey stored.now.layout.now stored.now.bytes.now survey.old }
-    ensures located { Located stored.now.side stored.now.layout.now receiving operand.now
+    ensures located { Located stored.now.side stored.now.layout.now receiving (operand_of operand.now)
         stored.now.bytes.now result }
     ensures fits { IfOk result
         (λ p. p.offset + p.length ≤ greatest_length stored.now.layout.now) }
-    ensures filled { IfOk result (λ p. Occupies operand.now.kind p.length) }
+    ensures filled { IfOk result (λ p. Occupies operand.now.kind.now p.length) }
     ensures survey { IsSurvey stored.now.layout.now stored.now.bytes.now survey.new }
 {
     if survey.take(stored.layout, stored.bytes) {
@@ -146,19 +147,18 @@ pub(crate) fn locate(
 ) -> Result<Place, Stop>
     requires sound { IsSound stored.now.layout.now }
     requires placed { IsPlaced stored.now.layout.now receiving
-        placed.now.operand.now placed.now.basis }
+        (operand_of placed.now) placed.now.basis }
     requires survey { IsSurvey stored.now.layout.now stored.now.bytes.now survey.old }
     ensures located { Located stored.now.side stored.now.layout.now receiving
-        placed.now.operand.now stored.now.bytes.now result }
+        (operand_of placed.now) stored.now.bytes.now result }
     ensures fits { IfOk result
         (λ p. p.offset + p.length ≤ greatest_length stored.now.layout.now) }
-    ensures filled { IfOk result (λ p. Occupies placed.now.operand.now.kind p.length) }
+    ensures filled { IfOk result (λ p. Occupies placed.now.kind.now p.length) }
     ensures survey { IsSurvey stored.now.layout.now stored.now.bytes.now survey.new }
 {
-    let operand = placed.operand;
     match placed.basis {
         Basis::Fixed(place) => Ok(place),
-        Basis::AllCounts => place_by_all(stored, operand, receiving, survey),
-        Basis::NeededCounts => place_by_needs(stored, operand, receiving, &mut survey.needed),
+        Basis::AllCounts => place_by_all(stored, placed, receiving, survey),
+        Basis::NeededCounts => place_by_needs(stored, placed, receiving, &mut survey.needed),
     }
 }

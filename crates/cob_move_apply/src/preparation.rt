@@ -2,30 +2,45 @@
 
 ghost use Rattle.std.specs.Prelude.{◌≡◌, ◌++◌, List, map, true, false, IfOk, OnOk};
 ghost use Rattle.std.specs.List.{AllByRecursion};
-ghost use Rattle.cob_move_operands.specs.Moves.{AreMoves, IsMove, IsOperand, IsSender, move, sender};
+ghost use Rattle.cob_move_operands.specs.Moves.{
+  AreMoves,
+  IsMove,
+  IsOperand,
+  IsSender,
+  Records,
+  move,
+  moves,
+  numbered_move,
+  operand_in,
+  sender,
+  statement_moves,
+};
 ghost use Rattle.cob_move_apply.specs.Placed.{
   ArePlacedMoves,
   ArePlacedReceivers,
   IsBasis,
   IsPlacedMove,
   IsPlacedSender,
+  operands,
 };
 ghost use Rattle.cob_move_apply.specs.declared.basis.Basis as code_basis;
 
 use crate::basis::Basis;
-use cob_layout::Layout;
-use cob_move_operands::{Move, Operand, Sender, Side};
+use crate::pairs::entry_below;
+use cob_layout::{Layout, Ref};
+use cob_move_operands::{Move, NumberedPair, PairMoves, Sender, Side, StatementMoves};
 use std::alloc::{AllocError, Global};
+use std::slice;
 
 /// What an operand's place rests on.
-fn basis_of(layout: &Layout, operand: &Operand, receiving: bool) -> Basis
-    requires operand { IsOperand layout.now operand.now }
-    ensures { IsBasis layout.now receiving operand.now result }
+fn basis_of(layout: &Layout, entry: &Ref, receiving: bool) -> Basis
+    requires operand { IsOperand layout.now (operand_in layout.now entry.now) }
+    ensures { IsBasis layout.now receiving (operand_in layout.now entry.now) result }
 {
-    if let Some(place) = layout.fixed_place(&operand.entry, receiving) {
+    if let Some(place) = layout.fixed_place(entry, receiving) {
         return Basis::Fixed(place);
     }
-    if layout.spares_none(&operand.entry, receiving) {
+    if layout.spares_none(entry, receiving) {
         Basis::AllCounts
     } else {
         Basis::NeededCounts
@@ -35,15 +50,15 @@ fn basis_of(layout: &Layout, operand: &Operand, receiving: bool) -> Basis
 /// What a sender's place rests on. A constant has no place, and its basis is never asked for.
 fn sender_basis(given: &Sender, input: &Layout, output: &Layout) -> Basis
     requires given { IsSender (record { input = input.now; output = output.now })
-        (sender given.now) }
-    ensures { IsPlacedSender (record { input = input.now; output = output.now }) (sender given.now)
-        result }
+        (sender (record { input = input.now; output = output.now }) given.now) }
+    ensures { IsPlacedSender (record { input = input.now; output = output.now })
+        (sender (record { input = input.now; output = output.now }) given.now) result }
 {
     match given {
         Sender::Constant(_) => Basis::NeededCounts,
-        Sender::Entry { side, operand } => match *side {
-            Side::In => basis_of(input, operand, false),
-            Side::Out => basis_of(output, operand, false),
+        Sender::Entry { side, entry } => match *side {
+            Side::In => basis_of(input, entry, false),
+            Side::Out => basis_of(output, entry, false),
         },
     }
 }
@@ -54,14 +69,15 @@ fn sender_basis(given: &Sender, input: &Layout, output: &Layout) -> Basis
 ///
 /// Where no memory is left.
 fn push_receivers(
-    receivers: &[Operand],
+    receivers: &[Ref],
     layout: &Layout,
     bases: &mut Vec<Basis>,
 ) -> Result<(), AllocError>
-    requires receivers { AllByRecursion (IsOperand layout.now) receivers.now }
+    requires receivers { AllByRecursion (IsOperand layout.now)
+        (map (operand_in layout.now) receivers.now) }
     ensures placed { OnOk result ((own : List code_basis.Basis)
         × (bases.new.items ≡ bases.old.items ++ own)
-        × ArePlacedReceivers layout.now receivers.now own) }
+        × ArePlacedReceivers layout.now (map (operand_in layout.now) receivers.now) own) }
 {
     for receiver in receivers {
         let basis = basis_of(layout, receiver, true);
@@ -81,14 +97,114 @@ fn push_move(
     output: &Layout,
     bases: &mut Vec<Basis>,
 ) -> Result<(), AllocError>
-    requires one { IsMove (record { input = input.now; output = output.now }) (move one.now) }
+    requires one { IsMove (record { input = input.now; output = output.now })
+        (move (record { input = input.now; output = output.now }) one.now) }
     ensures placed { OnOk result ((own : List code_basis.Basis)
         × (bases.new.items ≡ bases.old.items ++ own)
-        × IsPlacedMove (record { input = input.now; output = output.now }) (move one.now) own) }
+        × IsPlacedMove (record { input = input.now; output = output.now })
+        (move (record { input = input.now; output = output.now }) one.now) own) }
 {
     let basis = sender_basis(&one.sender, input, output);
     bases.push(basis)?;
     push_receivers(one.receivers.as_slice(), output, bases)
+}
+
+/// Puts what the places of a pair's two entries rest on behind the bases so far.
+///
+/// # Errors
+///
+/// Where no memory is left.
+fn push_pair(
+    group: &PairMoves,
+    pair: &NumberedPair,
+    input: &Layout,
+    output: &Layout,
+    bases: &mut Vec<Basis>,
+) -> Result<(), AllocError>
+    requires one { IsMove (record { input = input.now; output = output.now })
+        (numbered_move (record { input = input.now; output = output.now }) group.now pair.now) }
+    ensures placed { OnOk result ((own : List code_basis.Basis)
+        × (bases.new.items ≡ bases.old.items ++ own)
+        × IsPlacedMove (record { input = input.now; output = output.now })
+        (numbered_move (record { input = input.now; output = output.now }) group.now pair.now) own) }
+{
+    let from = entry_below(&group.from, pair.from);
+    let to = entry_below(&group.to, pair.to);
+    let sending = match group.side {
+        Side::In => basis_of(input, &from, false),
+        Side::Out => basis_of(output, &from, false),
+    };
+    bases.push(sending)?;
+    push_receivers(slice::from_ref(&to), output, bases)
+}
+
+/// Puts what the places of the entries of pairs rest on behind the bases so far, one pair's behind another's.
+///
+/// # Errors
+///
+/// Where no memory is left.
+fn push_pairs(
+    group: &PairMoves,
+    input: &Layout,
+    output: &Layout,
+    bases: &mut Vec<Basis>,
+) -> Result<(), AllocError>
+    requires pairs { AreMoves (record { input = input.now; output = output.now })
+        (map (numbered_move (record { input = input.now; output = output.now }) group.now)
+        group.now.pairs.items) }
+    ensures placed { OnOk result ((own : List code_basis.Basis)
+        × (bases.new.items ≡ bases.old.items ++ own)
+        × ArePlacedMoves (record { input = input.now; output = output.now })
+        (map (numbered_move (record { input = input.now; output = output.now }) group.now)
+        group.now.pairs.items) own) }
+{
+    for pair in group.pairs.iter() {
+        push_pair(group, pair, input, output, bases)?;
+    }
+    Ok(())
+}
+
+/// Puts what the places of the operands of a statement's moves rest on behind the bases so far, one move's behind another's.
+///
+/// # Errors
+///
+/// Where no memory is left.
+fn push_statement(
+    one: &StatementMoves,
+    input: &Layout,
+    output: &Layout,
+    bases: &mut Vec<Basis>,
+) -> Result<(), AllocError>
+    requires moves { AreMoves (record { input = input.now; output = output.now })
+        (statement_moves (record { input = input.now; output = output.now }) one.now) }
+    ensures placed { OnOk result ((own : List code_basis.Basis)
+        × (bases.new.items ≡ bases.old.items ++ own)
+        × ArePlacedMoves (record { input = input.now; output = output.now })
+        (statement_moves (record { input = input.now; output = output.now }) one.now) own) }
+{
+    match one {
+        StatementMoves::Single(single) => push_move(single, input, output, bases),
+        StatementMoves::Pairs(group) => push_pairs(group, input, output, bases),
+    }
+}
+
+/// How many operands the moves of a statement have, senders and receivers.
+pub(crate) fn operands_in(one: &StatementMoves) -> usize
+    ensures { (r : Records) → result ≡ operands (statement_moves r one.now) }
+{
+    match one {
+        StatementMoves::Single(single) => single.receivers.len() + 1,
+        StatementMoves::Pairs(group) => group.pairs.len() * 2,
+    }
+}
+
+/// How many operands the moves of statements have, or the greatest usize where there are more.
+fn operands_in_all(given: &[StatementMoves]) -> usize {
+    let mut count: usize = 0;
+    for one in given {
+        count = count.saturating_add(operands_in(one));
+    }
+    count
 }
 
 /// What the places of the operands of moves rest on, one move's behind another's.
@@ -98,19 +214,19 @@ fn push_move(
 /// Where no memory is left.
 pub(crate) fn bases_of(
     alloc: Global,
-    given: &[Move],
+    given: &[StatementMoves],
     input: &Layout,
     output: &Layout,
 ) -> Result<Vec<Basis>, AllocError>
     requires given { AreMoves (record { input = input.now; output = output.now })
-        (map move given.now) }
+        (moves (record { input = input.now; output = output.now }) given.now) }
     ensures placed { IfOk result
         (λ bases. ArePlacedMoves (record { input = input.now; output = output.now })
-        (map move given.now) bases.items) }
+        (moves (record { input = input.now; output = output.now }) given.now) bases.items) }
 {
-    let mut bases = Vec::with_capacity(alloc, given.len().saturating_mul(2))?;
+    let mut bases = Vec::with_capacity(alloc, operands_in_all(given))?;
     for one in given {
-        push_move(one, input, output, &mut bases)?;
+        push_statement(one, input, output, &mut bases)?;
     }
     Ok(bases)
 }

@@ -6,9 +6,10 @@ ghost use Rattle.cob_layout.specs.Storage.{greatest_length};
 ghost use Rattle.cob_move_receive.specs.Sent.{sent, IsComplete};
 ghost use Rattle.cob_move_apply.specs.Applied.{AllGet, Gets, ending, kept};
 ghost use Rattle.cob_move_apply.specs.Placed.{ArePlacedReceivers, IsPlaced, content_of};
+ghost use Rattle.cob_move_apply.specs.Seen.{operand_of, receivers_in};
 ghost use Rattle.cob_move_apply.specs.Surveyed.{IsSurvey};
 
-use crate::basis::{PlacedOperand, PlacedReceivers};
+use crate::basis::{PlacedOperand, PlacedReceivers, placed_operand};
 use crate::places::{Stored, locate};
 use crate::stop::{Stop, StopCause};
 use crate::survey::Survey;
@@ -38,10 +39,10 @@ fn receive_one(
 ) -> Result<(), Stop>
     requires sound { IsSound layout.now }
     requires given { IsComplete (sent given.now.sent) }
-    requires receiver { IsPlaced layout.now true receiver.now.operand.now receiver.now.basis }
+    requires receiver { IsPlaced layout.now true (operand_of receiver.now) receiver.now.basis }
     requires output { length output.old ≡ greatest_length layout.now }
     requires survey { IsSurvey layout.now output.old survey.old }
-    ensures gets { Gets layout.now (content_of given.now) receiver.now.operand.now output.old
+    ensures gets { Gets layout.now (content_of given.now) (operand_of receiver.now) output.old
         (kept result output.new) }
     ensures same { OnErr result (output.new ≡ output.old) }
     ensures survey { IsSurvey layout.now output.new survey.new }
@@ -54,7 +55,7 @@ fn receive_one(
     let place = locate(&stored, receiver, true, survey)?;
     let start = place.offset as usize;
     let end = start + place.length as usize;
-    if receive(&given.sent, &receiver.operand.kind, &mut output[start..end]) {
+    if receive(&given.sent, receiver.kind, &mut output[start..end]) {
         survey.change(layout, place);
         Ok(())
     } else {
@@ -81,18 +82,15 @@ pub(crate) fn receive_all(
     requires sound { IsSound layout.now }
     requires given { IsComplete (sent given.now.sent) }
     requires receivers { ArePlacedReceivers layout.now
-        receivers.now.operands.now receivers.now.bases.now }
+        (receivers_in layout.now receivers.now) receivers.now.bases.now }
     requires output { length output.old ≡ greatest_length layout.now }
     requires survey { IsSurvey layout.now output.old survey.old }
-    ensures get { AllGet layout.now (content_of given.now) receivers.now.operands.now output.old
+    ensures get { AllGet layout.now (content_of given.now) (receivers_in layout.now receivers.now) output.old
         (ending result output.new) }
     ensures survey { IsSurvey layout.now output.new survey.new }
 {
-    for (index, operand) in receivers.operands.iter().enumerate() {
-        let receiver = PlacedOperand {
-            operand,
-            basis: receivers.bases[index],
-        };
+    for (index, entry) in receivers.entries.iter().enumerate() {
+        let receiver = placed_operand(layout, entry, receivers.bases[index]);
         receive_one(layout, given, &receiver, output, survey)?;
     }
     Ok(())

@@ -7,10 +7,11 @@ ghost use Rattle.cob_layout.specs.Storage.{greatest_length, IsStorage};
 ghost use Rattle.cob_move_operands.specs.Moves.{Entry, move};
 ghost use Rattle.cob_move_operands.specs.declared.Side.TheVariants.{In, Out};
 ghost use Rattle.cob_move_apply.specs.Applied.{IsMoved, ending};
-ghost use Rattle.cob_move_apply.specs.Placed.{ArePlacedReceivers, IsPlaced, IsPlacedMove};
+ghost use Rattle.cob_move_apply.specs.Placed.{ArePlacedReceivers, IsPlaced, IsPlacedMove, IsPlacedSender};
+ghost use Rattle.cob_move_apply.specs.Seen.{entry_sent, operand_of, receivers_in};
 ghost use Rattle.cob_move_apply.specs.Surveyed.{IsWorkspace, records};
 
-use crate::basis::{Basis, PlacedOperand, PlacedReceivers};
+use crate::basis::{Basis, PlacedOperand, PlacedReceivers, SentEntry, placed_operand};
 use crate::places::{Stored, locate};
 use crate::receivers::{Given, receive_all};
 use crate::stop::Stop;
@@ -45,14 +46,17 @@ fn move_from_input(
     requires in_sound { IsSound layouts.now.input.now }
     requires out_sound { IsSound layouts.now.output.now }
     requires sender { IsPlaced layouts.now.input.now false
-        sender.now.operand.now sender.now.basis }
+        (operand_of sender.now) sender.now.basis }
     requires receivers { ArePlacedReceivers layouts.now.output.now
-        receivers.now.operands.now receivers.now.bases.now }
+        (receivers_in layouts.now.output.now receivers.now) receivers.now.bases.now }
     requires input { IsStorage layouts.now.input.now input.now }
     requires output { length output.old ≡ greatest_length layouts.now.output.now }
     requires space { IsWorkspace (records layouts.now) input.now output.old space.old }
     ensures moved { IsMoved (records layouts.now)
-        (record { sender = Entry In sender.now.operand.now; receivers = receivers.now.operands.now })
+        (record {
+          sender = Entry In (operand_of sender.now);
+          receivers = receivers_in layouts.now.output.now receivers.now;
+        })
         input.now output.old (ending result output.new) }
     ensures space { IsWorkspace (records layouts.now) input.now output.new space.new }
 {
@@ -66,7 +70,7 @@ fn move_from_input(
     let place = locate(&stored, sender, false, &mut space.input)?;
     let given = Given {
         sent: Sent::Entry {
-            kind: &sender.operand.kind,
+            kind: sender.kind,
             bytes: field(input, place),
         },
         side: Side::In,
@@ -90,13 +94,16 @@ fn move_within_output(
 ) -> Result<(), Stop>
     requires sound { IsSound layouts.now.output.now }
     requires sender { IsPlaced layouts.now.output.now false
-        sender.now.operand.now sender.now.basis }
+        (operand_of sender.now) sender.now.basis }
     requires receivers { ArePlacedReceivers layouts.now.output.now
-        receivers.now.operands.now receivers.now.bases.now }
+        (receivers_in layouts.now.output.now receivers.now) receivers.now.bases.now }
     requires output { length output.old ≡ greatest_length layouts.now.output.now }
     requires space { IsWorkspace (records layouts.now) input.now output.old space.old }
     ensures moved { IsMoved (records layouts.now)
-        (record { sender = Entry Out sender.now.operand.now; receivers = receivers.now.operands.now })
+        (record {
+          sender = Entry Out (operand_of sender.now);
+          receivers = receivers_in layouts.now.output.now receivers.now;
+        })
         input.now output.old (ending result output.new) }
     ensures space { IsWorkspace (records layouts.now) input.now output.new space.new }
 {
@@ -109,13 +116,54 @@ fn move_within_output(
     copy_field(place, output, space.content.as_mut_slice());
     let given = Given {
         sent: Sent::Entry {
-            kind: &sender.operand.kind,
+            kind: sender.kind,
             bytes: &space.content.as_slice()[..place.length as usize],
         },
         side: Side::Out,
         offset: place.offset,
     };
     receive_all(layouts.output, &given, receivers, output, &mut space.output)
+}
+
+/// Moves an entry of one of the two records, by the basis of its place.
+///
+/// # Errors
+///
+/// The first thing missing.
+pub(crate) fn move_entry(
+    sent: &SentEntry<'_>,
+    receivers: &PlacedReceivers<'_>,
+    layouts: &Layouts<'_>,
+    input: &[u8],
+    output: &mut [u8],
+    space: &mut Workspace,
+) -> Result<(), Stop>
+    requires in_sound { IsSound layouts.now.input.now }
+    requires out_sound { IsSound layouts.now.output.now }
+    requires sender { IsPlacedSender (records layouts.now)
+        (entry_sent (records layouts.now) sent.now) sent.now.basis }
+    requires receivers { ArePlacedReceivers layouts.now.output.now
+        (receivers_in layouts.now.output.now receivers.now) receivers.now.bases.now }
+    requires input { IsStorage layouts.now.input.now input.now }
+    requires output { length output.old ≡ greatest_length layouts.now.output.now }
+    requires space { IsWorkspace (records layouts.now) input.now output.old space.old }
+    ensures moved { IsMoved (records layouts.now) (record {
+      sender = entry_sent (records layouts.now) sent.now;
+      receivers = receivers_in layouts.now.output.now receivers.now;
+    })
+        input.now output.old (ending result output.new) }
+    ensures space { IsWorkspace (records layouts.now) input.now output.new space.new }
+{
+    match sent.side {
+        Side::In => {
+            let sender = placed_operand(layouts.input, sent.entry, sent.basis);
+            move_from_input(&sender, receivers, layouts, input, output, space)
+        }
+        Side::Out => {
+            let sender = placed_operand(layouts.output, sent.entry, sent.basis);
+            move_within_output(&sender, receivers, layouts, input, output, space)
+        }
+    }
 }
 
 /// Carries out one move. The bases are those of its sender and of its receivers.
@@ -133,28 +181,27 @@ pub(crate) fn make_move(
 ) -> Result<(), Stop>
     requires in_sound { IsSound layouts.now.input.now }
     requires out_sound { IsSound layouts.now.output.now }
-    requires placed { IsPlacedMove (records layouts.now) (move one.now) bases.now }
+    requires placed { IsPlacedMove (records layouts.now) (move (records layouts.now) one.now)
+        bases.now }
     requires input { IsStorage layouts.now.input.now input.now }
     requires output { length output.old ≡ greatest_length layouts.now.output.now }
     requires space { IsWorkspace (records layouts.now) input.now output.old space.old }
-    ensures moved { IsMoved (records layouts.now) (move one.now) input.now output.old
-        (ending result output.new) }
+    ensures moved { IsMoved (records layouts.now) (move (records layouts.now) one.now) input.now
+        output.old (ending result output.new) }
     ensures space { IsWorkspace (records layouts.now) input.now output.new space.new }
 {
     let receivers = PlacedReceivers {
-        operands: one.receivers.as_slice(),
+        entries: one.receivers.as_slice(),
         bases: &bases[1..],
     };
     match &one.sender {
-        Sender::Entry { side, operand } => {
-            let sender = PlacedOperand {
-                operand,
+        Sender::Entry { side, entry } => {
+            let sent = SentEntry {
+                side: *side,
+                entry,
                 basis: bases[0],
             };
-            match *side {
-                Side::In => move_from_input(&sender, &receivers, layouts, input, output, space),
-                Side::Out => move_within_output(&sender, &receivers, layouts, input, output, space),
-            }
+            move_entry(&sent, &receivers, layouts, input, output, space)
         }
         Sender::Constant(value) => {
             let given = Given {

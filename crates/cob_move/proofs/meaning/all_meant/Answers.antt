@@ -12,4 +12,4 @@ returns-in_err-list-clause-only c = λ ms h.
 
 pub returns-clause-only : goal.returns-clause-only
 returns-clause-only c = λ ms h.
-    (c.one_meant.ensures (all_entries c.args.input.now c.args.output.now) c.args.input.now c.args.output.now (written_statements c.args.statements.now) (moves c.in_ok-list.list.items) ms c.in_ok-list.ensures.found h, tt)
+    (c.one_meant.ensures (all_entries c.args.input.now c.args.output.now) c.args.input.now c.args.output.now (written_statements c.args.statements.now) (moves (record { input = c.args.input.now; output = c.args.output.now }) c.in_ok-list.list.items) ms c.in_ok-list.ensures.found h, tt)

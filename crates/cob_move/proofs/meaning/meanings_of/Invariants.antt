@@ -1,4 +1,6 @@
 use Rattle.std.proofs.Common.{◌++◌, drop, List}
+use Rattle.cob_move.specs.Between.{ArePairsOf}
+use Rattle.cob_move.specs.Entries.{records_of}
 use Rattle.cob_move.specs.Meaning.{AreMeanings}
 use Rattle.cob_move.specs.Refusals.{BreaksOn, SomeOf}
 use Rattle.cob_move_apply.specs.Moves.{Move, moves}
@@ -9,8 +11,9 @@ use Rattle.cob_move.proofs.meaning.meanings_of.Given as goal
 
 abbrev pub invariant-loop-statement : goal.invariant-loop-statement
 invariant-loop-statement l = record {
-  found : (more : List Move) → AreMeanings (entries_named l.names) l.input l.output (written_statements (drop l.statement-index l.statements)) more
-      → AreMeanings (entries_named l.names) l.input l.output (written_statements l.statements) (moves l.list.items ++ more);
-  broken : (f : MoveFault) → SomeOf (BreaksOn f (entries_named l.names) l.input l.output) (written_statements (drop l.statement-index l.statements))
-      → SomeOf (BreaksOn f (entries_named l.names) l.input l.output) (written_statements l.statements);
+  found : (more : List Move) → AreMeanings (entries_named l.entries.names.now) l.entries.input.now l.entries.output.now (written_statements (drop l.statement-index l.statements)) more
+      → AreMeanings (entries_named l.entries.names.now) l.entries.input.now l.entries.output.now (written_statements l.statements) (moves (records_of l.entries) l.list.items ++ more);
+  broken : (f : MoveFault) → SomeOf (BreaksOn f (entries_named l.entries.names.now) l.entries.input.now l.entries.output.now) (written_statements (drop l.statement-index l.statements))
+      → SomeOf (BreaksOn f (entries_named l.entries.names.now) l.entries.input.now l.entries.output.now) (written_statements l.statements);
+  pairs : ArePairsOf (records_of l.entries) l.pairs;
 }

@@ -1,5 +1,6 @@
 use Rattle.std.proofs.lemmas.Result.{err_from_is_err_and}
 use Rattle.cob_move_apply.specs.Moves.{sender}
+use Rattle.cob_move.specs.Entries.{records_of}
 use Rattle.cob_move_references.specs.Directory.{entries_named}
 use Rattle.cob_move_statements.specs.Written.{written_references, written_sender}
 use Rattle.cob_move.proofs.SingleLemmas.{receivers_fault}
@@ -9,5 +10,5 @@ pub returns-in_err-receivers-clause-fault : goal.returns-in_err-receivers-clause
 returns-in_err-receivers-clause-fault c =
     let p = err_from_is_err_and c.from_residual-in_err-receivers.result c.from_residual-in_err-receivers.ensures.1 in
     rw (p.1, p.2)
-    (λ input output. receivers_fault c.in_err-receivers.field-0.0 (entries_named c.args.names.now) (written_sender c.args.written.now) (sender c.in_ok-sender.sender)
+    (λ input output. receivers_fault c.in_err-receivers.field-0.0 (entries_named c.args.entries.now.names.now) (written_sender c.args.written.now) (sender (records_of c.args.entries.now) c.in_ok-sender.sender)
     (written_references c.args.references.now) input output c.in_ok-sender.ensures.found c.in_err-receivers.ensures.fault)

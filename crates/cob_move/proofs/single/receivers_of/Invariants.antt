@@ -1,9 +1,10 @@
-use Rattle.std.proofs.Common.{◌++◌, drop, List}
+use Rattle.std.proofs.Common.{◌++◌, drop, List, map}
 use Rattle.std.specs.List.{AllByRecursion}
 use Rattle.cob_move.specs.Meaning.{AreReceiversOf, kind_of_sender}
 use Rattle.cob_move.specs.Refusals.{BreaksReceipt, SomeOf}
 use Rattle.cob_move_apply.specs.Operand.{Operand}
-use Rattle.cob_move_apply.specs.Moves.{sender}
+use Rattle.cob_move_apply.specs.Moves.{operand_in, sender}
+use Rattle.cob_move.specs.Entries.{records_of}
 use Rattle.cob_move_initial.specs.Refusals.{IsAllowed}
 use Rattle.cob_move_references.specs.Directory.{entries_named}
 use Rattle.cob_move_statements.specs.declared.fault.MoveRule.{MoveRule}
@@ -12,9 +13,9 @@ use Rattle.cob_move.proofs.single.receivers_of.Given as goal
 
 abbrev pub invariant-loop-reference : goal.invariant-loop-reference
 invariant-loop-reference l = record {
-  found : (more : List Operand) → AreReceiversOf (entries_named l.names) (written_references (drop l.reference-index l.references)) more
-      → AreReceiversOf (entries_named l.names) (written_references l.references) (l.receivers.items ++ more);
-  allowed : AllByRecursion (λ o. IsAllowed (kind_of_sender (sender l.from)) o.kind) l.receivers.items;
-  broken : (r : MoveRule) → SomeOf (BreaksReceipt r (entries_named l.names) (sender l.from)) (written_references (drop l.reference-index l.references))
-      → SomeOf (BreaksReceipt r (entries_named l.names) (sender l.from)) (written_references l.references);
+  found : (more : List Operand) → AreReceiversOf (entries_named l.entries.names.now) (written_references (drop l.reference-index l.references)) more
+      → AreReceiversOf (entries_named l.entries.names.now) (written_references l.references) (map (operand_in l.entries.output.now) l.receivers.items ++ more);
+  allowed : AllByRecursion (λ o. IsAllowed (kind_of_sender (sender (records_of l.entries) l.from)) o.kind) (map (operand_in l.entries.output.now) l.receivers.items);
+  broken : (r : MoveRule) → SomeOf (BreaksReceipt r (entries_named l.entries.names.now) (sender (records_of l.entries) l.from)) (written_references (drop l.reference-index l.references))
+      → SomeOf (BreaksReceipt r (entries_named l.entries.names.now) (sender (records_of l.entries) l.from)) (written_references l.references);
 }

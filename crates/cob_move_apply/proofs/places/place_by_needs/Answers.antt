@@ -4,5 +4,5 @@ use Rattle.cob_move_apply.proofs.places.place_by_needs.Goals as goal
 
 pub returns-in-Ok-clause-filled : goal.returns-in-Ok-clause-filled
 returns-in-Ok-clause-filled c =
-    filled c.args.stored.now.layout.now c.args.operand.now.entry.node c.needed.new.counts c.args.operand.now.entry.subscripts.items c.args.operand.now.kind c.in-Ok.place c.requires.sound c.requires.operand.is
+    filled c.args.stored.now.layout.now c.args.operand.now.entry.now.node c.needed.new.counts c.args.operand.now.entry.now.subscripts.items c.args.operand.now.kind.now c.in-Ok.place c.requires.sound c.requires.operand.is
     (c.place.ensures.value ∙ ap (λ r. Some r) c.in-Ok.is)

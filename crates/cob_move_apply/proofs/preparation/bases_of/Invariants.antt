@@ -1,10 +1,10 @@
-use Rattle.std.proofs.Common.{drop, map}
-use Rattle.cob_move_operands.specs.Moves.{AreMoves, move}
-use Rattle.cob_move_apply.proofs.BasisLemmas.{MovesTo}
+use Rattle.std.proofs.Common.{drop}
+use Rattle.cob_move_operands.specs.Moves.{AreMoves, moves}
+use Rattle.cob_move_apply.proofs.StatementLemmas.{StatementsTo}
 use Rattle.cob_move_apply.proofs.preparation.bases_of.Given as goal
 
 abbrev pub invariant-loop-one : goal.invariant-loop-one
 invariant-loop-one l = record {
-  noted : MovesTo (record { input = l.input; output = l.output }) (map move l.given) l.one-index l.bases.items;
-  left : AreMoves (record { input = l.input; output = l.output }) (drop l.one-index (map move l.given));
+  noted : StatementsTo (record { input = l.input; output = l.output }) l.given l.one-index l.bases.items;
+  left : AreMoves (record { input = l.input; output = l.output }) (moves (record { input = l.input; output = l.output }) (drop l.one-index l.given));
 }

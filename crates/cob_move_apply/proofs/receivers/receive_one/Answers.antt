@@ -3,6 +3,7 @@ use borrow.Rule.Slice.PartMut.{mid_len}
 use Rattle.cob_move_apply.specs.Placed.{content_of}
 use Rattle.cob_move_apply.specs.Surveyed.{IsSurvey}
 use Rattle.cob_move_apply.proofs.ReceiverLemmas.{got, lacks, put_is}
+use Rattle.cob_move_apply.specs.Seen.{operand_of}
 use Rattle.cob_move_apply.proofs.receivers.receive_one.Goals as goal
 
 pub returns-then-receive-clause-gets : goal.returns-then-receive-clause-gets
@@ -10,7 +11,7 @@ returns-then-receive-clause-gets c =
     let start : ℕ = c.in_ok-place.place.offset in
     let end : ℕ = start + c.in_ok-place.place.length in
     let back : end - start ≡ c.in_ok-place.place.length = omega arith in
-    got c.args.layout.now (content_of c.args.given.now) c.args.receiver.now.operand.now c.args.output.now c.receive.new.bytes c.in_ok-place.place _ c.receive.result
+    got c.args.layout.now (content_of c.args.given.now) (operand_of c.args.receiver.now) c.args.output.now c.receive.new.bytes c.in_ok-place.place _ c.receive.result
     c.in_ok-place.ensures.located (mid_len start end c.args.output.now (omega (arith, c.in_ok-place.ensures.fits, c.requires.output)) ∙ back) c.if-receive.true c.receive.ensures.gets
 
 pub returns-then-receive-clause-survey : goal.returns-then-receive-clause-survey
@@ -28,5 +29,5 @@ returns-else-receive-clause-gets c =
     let start : ℕ = c.in_ok-place.place.offset in
     let end : ℕ = start + c.in_ok-place.place.length in
     let back : end - start ≡ c.in_ok-place.place.length = omega arith in
-    lacks c.args.layout.now (content_of c.args.given.now) c.args.receiver.now.operand.now c.args.output.now c.receive.new.bytes c.in_ok-place.place _ c.receive.result
+    lacks c.args.layout.now (content_of c.args.given.now) (operand_of c.args.receiver.now) c.args.output.now c.receive.new.bytes c.in_ok-place.place _ c.receive.result
     c.in_ok-place.ensures.located (mid_len start end c.args.output.now (omega (arith, c.in_ok-place.ensures.fits, c.requires.output)) ∙ back) c.if-receive.false c.receive.ensures.gets

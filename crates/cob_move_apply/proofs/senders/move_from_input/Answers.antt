@@ -3,19 +3,20 @@ use Rattle.cob_move_operands.specs.declared.Side.TheVariants.{In}
 use Rattle.cob_move_apply.specs.Applied.{ending}
 use Rattle.cob_move_apply.specs.Surveyed.{records}
 use Rattle.cob_move_apply.proofs.ReceiverLemmas.{complete, stops_first, moved}
+use Rattle.cob_move_apply.specs.Seen.{operand_of, receivers_in}
 use Rattle.cob_move_apply.proofs.senders.move_from_input.Goals as goal
 
 pub field-requires : goal.field-requires
 field-requires c =
     let (counts, needs, stands) = c.in_ok-place.ensures.located in
-    c.places_lie_in_storage.ensures c.args.layouts.now.input.now c.args.input.now counts c.args.sender.now.operand.now.entry.node c.args.sender.now.operand.now.entry.subscripts.items c.in_ok-place.place
+    c.places_lie_in_storage.ensures c.args.layouts.now.input.now c.args.input.now counts c.args.sender.now.entry.now.node c.args.sender.now.entry.now.subscripts.items c.in_ok-place.place
     c.greatest.ensures.record c.requires.input c.requires.sender.operand.refers needs stands
 
 pub receive_all-requires-clause-given : goal.receive_all-requires-clause-given
 receive_all-requires-clause-given c =
     let (counts, needs, stands) = c.in_ok-place.ensures.located in
-    complete c.args.sender.now.operand.now.kind c.in_ok-place.place c.args.input.now c.field.result.now c.in_ok-place.ensures.filled
-    (c.places_lie_in_storage.ensures c.args.layouts.now.input.now c.args.input.now counts c.args.sender.now.operand.now.entry.node c.args.sender.now.operand.now.entry.subscripts.items c.in_ok-place.place
+    complete c.args.sender.now.kind.now c.in_ok-place.place c.args.input.now c.field.result.now c.in_ok-place.ensures.filled
+    (c.places_lie_in_storage.ensures c.args.layouts.now.input.now c.args.input.now counts c.args.sender.now.entry.now.node c.args.sender.now.entry.now.subscripts.items c.in_ok-place.place
     c.greatest.ensures.record c.requires.input c.requires.sender.operand.refers needs stands)
     c.field.ensures
 
@@ -23,11 +24,11 @@ pub returns-in_err-place-clause-moved : goal.returns-in_err-place-clause-moved
 returns-in_err-place-clause-moved c =
     let p = err_from_is_err_and c.from_residual.result c.from_residual.ensures.1 in
     rw (p.1, p.2)
-    (stops_first (records c.args.layouts.now) In c.args.sender.now.operand.now c.args.receivers.now.operands.now c.args.input.now c.args.output.now
+    (stops_first (records c.args.layouts.now) In (operand_of c.args.sender.now) (receivers_in c.args.layouts.now.output.now c.args.receivers.now) c.args.input.now c.args.output.now
     c.in_err-place.field-0.0 c.in_err-place.ensures.located)
 
 pub returns-clause-moved : goal.returns-clause-moved
 returns-clause-moved c =
-    moved (records c.args.layouts.now) In c.args.sender.now.operand.now c.args.receivers.now.operands.now c.args.input.now c.args.output.now c.field.result.now
+    moved (records c.args.layouts.now) In (operand_of c.args.sender.now) (receivers_in c.args.layouts.now.output.now c.args.receivers.now) c.args.input.now c.args.output.now c.field.result.now
     c.in_ok-place.place (ending c.receive_all.result c.receive_all.new.output)
     c.in_ok-place.ensures.located c.field.ensures c.receive_all.ensures.get

@@ -11,7 +11,7 @@ use Rattle.cob_convert_record.proofs.conversion.Conversion.convert.Goals as goal
 pub returns-in_err-apply-clause-stops : goal.returns-in_err-apply-clause-stops
 returns-in_err-apply-clause-stops c =
     let p = err_from_is_err_and c.from_residual.result c.from_residual.ensures.1 in
-    let own : Conversion = record { in_form = c.self.inside.in_form; out_form = c.self.inside.out_form; records = record { input = c.self.inside.input; output = c.self.inside.output }; moves = moves_of c.self.inside.moves } in
+    let own : Conversion = record { in_form = c.self.inside.in_form; out_form = c.self.inside.out_form; records = record { input = c.self.inside.input; output = c.self.inside.output }; moves = moves_of (record { input = c.self.inside.input; output = c.self.inside.output }) c.self.inside.moves } in
     let begins : IsInitial c.self.inside.output c.begin.new.output
     = subst (λ (x : Conversion). IsInitial x.records.output c.begin.new.output) (sym c.self.view_is) c.begin.ensures.begins in
     let stops : StopsAt own c.args.input.now c.in_err-apply.field-0.0
@@ -20,7 +20,7 @@ returns-in_err-apply-clause-stops c =
 
 pub returns-clause-stops : goal.returns-clause-stops
 returns-clause-stops c =
-    let own : Conversion = record { in_form = c.self.inside.in_form; out_form = c.self.inside.out_form; records = record { input = c.self.inside.input; output = c.self.inside.output }; moves = moves_of c.self.inside.moves } in
+    let own : Conversion = record { in_form = c.self.inside.in_form; out_form = c.self.inside.out_form; records = record { input = c.self.inside.input; output = c.self.inside.output }; moves = moves_of (record { input = c.self.inside.input; output = c.self.inside.output }) c.self.inside.moves } in
     let begins : IsInitial c.self.inside.output c.begin.new.output
     = subst (λ (x : Conversion). IsInitial x.records.output c.begin.new.output) (sym c.self.view_is) c.begin.ensures.begins in
     if_error c.written_length.result (λ (stop : Stop). IsCountStop c.self.inside.output c.apply.new.output stop)
@@ -30,7 +30,7 @@ returns-clause-stops c =
 
 pub returns-clause-converts : goal.returns-clause-converts
 returns-clause-converts c =
-    let own : Conversion = record { in_form = c.self.inside.in_form; out_form = c.self.inside.out_form; records = record { input = c.self.inside.input; output = c.self.inside.output }; moves = moves_of c.self.inside.moves } in
+    let own : Conversion = record { in_form = c.self.inside.in_form; out_form = c.self.inside.out_form; records = record { input = c.self.inside.input; output = c.self.inside.output }; moves = moves_of (record { input = c.self.inside.input; output = c.self.inside.output }) c.self.inside.moves } in
     let begins : IsInitial c.self.inside.output c.begin.new.output
     = subst (λ (x : Conversion). IsInitial x.records.output c.begin.new.output) (sym c.self.view_is) c.begin.ensures.begins in
     if_value c.written_length.result (λ (made : ℕ). IsOutputOf c.self.inside.out_form c.self.inside.output c.apply.new.output (take made c.apply.new.output))

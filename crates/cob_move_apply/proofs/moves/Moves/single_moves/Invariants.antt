@@ -1,7 +1,7 @@
 use Rattle.std.proofs.Common.{◌≡◌, ◌+◌, drop, min}
-use Rattle.cob_move_operands.specs.Moves.{moves}
-use Rattle.cob_move_apply.specs.Prepared.{single_moves}
+use Rattle.cob_move_operands.specs.Moves.{Records, moves}
+use Rattle.cob_move_apply.specs.Told.{most_moves_told, single_moves}
 use Rattle.cob_move_apply.proofs.moves.Moves.single_moves.Given as goal
 
 abbrev pub invariant-loop-one : goal.invariant-loop-one
-invariant-loop-one l = min (l.count + single_moves (moves (drop l.one-index l.one-items))) 4294967295 ≡ min (single_moves (moves l.one-items)) 4294967295
+invariant-loop-one l = (r : Records) → min (l.count + single_moves (moves r (drop l.one-index l.one-items))) most_moves_told ≡ min (single_moves (moves r l.one-items)) most_moves_told

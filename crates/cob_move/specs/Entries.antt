@@ -1,0 +1,14 @@
+-- The entries of two records, as statements name them.
+use Rattle.std.specs.Prelude.{◌≡◌}
+use Rattle.cob_move_apply.specs.Moves.{Records}
+use Rattle.cob_move_references.specs.Candidates.{all_entries}
+use Rattle.cob_move_references.specs.Directory.{entries_named}
+use Rattle.cob_move.specs.declared.entries.Entries.{Entries}
+
+-- the two records
+abbrev pub records_of : Entries → Records
+records_of e = record { input = e.input.now; output = e.output.now }
+
+-- any entry of the two records may be named, and no other
+abbrev pub AreNamed : Entries → Type 0
+AreNamed e = entries_named e.names.now ≡ all_entries e.input.now e.output.now

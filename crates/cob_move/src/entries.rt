@@ -1,0 +1,98 @@
+//! The entries of two records, as statements name them.
+
+ghost use Rattle.std.specs.Prelude.{◌≡◌, IfErr, IfOk};
+ghost use Rattle.cob_move_apply.specs.Moves.{IsOperand, operand_in, record_of};
+ghost use Rattle.cob_move_apply.specs.Side.TheVariants.{Out};
+ghost use Rattle.cob_move_references.specs.Directory.{entries_named};
+ghost use Rattle.cob_move_references.specs.References.{BreaksReceiver, BreaksReference, NamesOperand};
+ghost use Rattle.cob_move_statements.specs.Written.{written_reference};
+ghost use Rattle.cob_move.specs.Entries.{AreNamed, records_of};
+
+use cob_move_apply::{Kind, Layout, Ref, Side, records_are_sound};
+use cob_move_references::{Names, named_are_operands};
+use cob_move_statements::{MoveRule, Reference};
+
+/// The entries of the input record and of the output record: by their names, and by their numbers.
+#[derive(Clone, Copy)]
+pub(crate) struct Entries<'n, 'a> {
+    pub names: &'n Names<'a>,
+    pub input: &'a Layout,
+    pub output: &'a Layout,
+}
+
+/// An entry of one of the two records, with its subscripts.
+#[derive(Drop)]
+pub(crate) struct NamedEntry {
+    pub side: Side,
+    pub entry: Ref,
+}
+
+impl Entries<'_, '_> {
+    /// The layout of a side's record.
+    pub(crate) fn layout(&self, side: Side) -> &Layout
+        ensures { result.now ≡ record_of (records_of self.now) side }
+    {
+        match side {
+            Side::In => self.input,
+            Side::Out => self.output,
+        }
+    }
+
+    /// What an entry of a side's record describes.
+    pub(crate) fn kind(&self, side: Side, entry: &Ref) -> &Kind
+        requires operand { IsOperand (record_of (records_of self.now) side)
+            (operand_in (record_of (records_of self.now) side) entry.now) }
+        ensures { result.now ≡ (operand_in (record_of (records_of self.now) side) entry.now).kind }
+    {
+        records_are_sound();
+        let layout = self.layout(side);
+        let _ = layout.greatest();
+        layout.kind(entry.node)
+    }
+
+    /// What a written reference names.
+    ///
+    /// # Errors
+    ///
+    /// `Unknown`, `Ambiguous`, `Subscripts`.
+    pub(crate) fn named(&self, reference: &Reference<'_>) -> Result<NamedEntry, MoveRule>
+        requires named { AreNamed self.now }
+        ensures found { IfOk result (λ n. NamesOperand (entries_named self.now.names.now)
+            (written_reference reference.now) n.side
+            (operand_in (record_of (records_of self.now) n.side) n.entry)) }
+        ensures operand { IfOk result (λ n. IsOperand (record_of (records_of self.now) n.side)
+            (operand_in (record_of (records_of self.now) n.side) n.entry)) }
+        ensures fault { IfErr result (λ r. BreaksReference r (entries_named self.now.names.now)
+            (written_reference reference.now)) }
+    {
+        named_are_operands();
+        let _ = self.input.greatest();
+        let _ = self.output.greatest();
+        let named = self.names.find(reference)?;
+        Ok(NamedEntry {
+            side: named.side,
+            entry: named.operand.entry,
+        })
+    }
+
+    /// What a receiver's written reference names in the output record.
+    ///
+    /// # Errors
+    ///
+    /// `Unknown`, `Ambiguous`, `Subscripts`, `Receiver`.
+    pub(crate) fn named_receiver(&self, reference: &Reference<'_>) -> Result<Ref, MoveRule>
+        requires named { AreNamed self.now }
+        ensures found { IfOk result (λ entry. NamesOperand (entries_named self.now.names.now)
+            (written_reference reference.now) Out (operand_in self.now.output.now entry)) }
+        ensures operand { IfOk result
+            (λ entry. IsOperand self.now.output.now (operand_in self.now.output.now entry)) }
+        ensures fault { IfErr result (λ r. BreaksReceiver r (entries_named self.now.names.now)
+            (written_reference reference.now)) }
+    {
+        named_are_operands();
+        let _ = self.input.greatest();
+        let _ = self.output.greatest();
+        let named = self.names.find_receiver(reference)?;
+        Ok(named.entry)
+    }
+}

@@ -1,0 +1,117 @@
+//! The moves of the pairs of two groups.
+
+ghost use Rattle.std.specs.Prelude.{◌≡◌, List, length, map, ◌≤◌};
+ghost use Rattle.cob_limits.specs.Limits.{most_dimensions};
+ghost use Rattle.cob_layout.specs.Sound.{IsSound};
+ghost use Rattle.cob_layout.specs.Storage.{greatest_length, IsStorage};
+ghost use Rattle.cob_move_operands.specs.Moves.{entry_below, numbered_move};
+ghost use Rattle.cob_move_apply.specs.Applied.{Applied, IsMoved, ending};
+ghost use Rattle.cob_move_apply.specs.Placed.{ArePlacedMoves, IsPlacedMove};
+ghost use Rattle.cob_move_apply.specs.Surveyed.{IsWorkspace, records};
+
+use crate::basis::{Basis, PlacedReceivers, SentEntry};
+use crate::senders::move_entry;
+use crate::stop::Stop;
+use crate::workspace::{Layouts, Workspace};
+use arrayvec::ArrayVec;
+use cob_layout::Ref;
+use cob_limits::MAX_SUBSCRIPTS;
+use cob_move_operands::{NumberedPair, PairMoves};
+use std::slice;
+
+/// The same subscripts once more.
+fn same_subscripts(subscripts: &[u32]) -> ArrayVec<u32, MAX_SUBSCRIPTS>
+    requires { length subscripts.now ≤ most_dimensions }
+    ensures { result.items ≡ subscripts.now }
+{
+    let mut same = ArrayVec::new();
+    for subscript in subscripts {
+        same.push(*subscript);
+    }
+    same
+}
+
+/// The entry with this number, with the subscripts of a group.
+pub(crate) fn entry_below(group: &Ref, number: usize) -> Ref
+    ensures { result ≡ entry_below group.now number }
+{
+    Ref {
+        node: number,
+        subscripts: same_subscripts(group.subscripts.as_slice()),
+    }
+}
+
+/// Carries out the move of one pair of two groups. The bases are those of its two entries.
+///
+/// # Errors
+///
+/// The first thing missing.
+fn make_pair_move(
+    group: &PairMoves,
+    pair: &NumberedPair,
+    bases: &[Basis],
+    layouts: &Layouts<'_>,
+    input: &[u8],
+    output: &mut [u8],
+    space: &mut Workspace,
+) -> Result<(), Stop>
+    requires in_sound { IsSound layouts.now.input.now }
+    requires out_sound { IsSound layouts.now.output.now }
+    requires placed { IsPlacedMove (records layouts.now)
+        (numbered_move (records layouts.now) group.now pair.now) bases.now }
+    requires input { IsStorage layouts.now.input.now input.now }
+    requires output { length output.old ≡ greatest_length layouts.now.output.now }
+    requires space { IsWorkspace (records layouts.now) input.now output.old space.old }
+    ensures moved { IsMoved (records layouts.now)
+        (numbered_move (records layouts.now) group.now pair.now) input.now output.old
+        (ending result output.new) }
+    ensures space { IsWorkspace (records layouts.now) input.now output.new space.new }
+{
+    let from = entry_below(&group.from, pair.from);
+    let to = entry_below(&group.to, pair.to);
+    let sent = SentEntry {
+        side: group.side,
+        entry: &from,
+        basis: bases[0],
+    };
+    let entries = slice::from_ref(&to);
+    let receivers = PlacedReceivers {
+        entries,
+        bases: &bases[1..],
+    };
+    move_entry(&sent, &receivers, layouts, input, output, space)
+}
+
+/// Carries out the moves of the pairs of two groups in order. The bases are those of their entries, one pair's behind another's.
+///
+/// # Errors
+///
+/// The first thing missing. The storage is as the moves before left it then.
+pub(crate) fn make_pair_moves(
+    group: &PairMoves,
+    bases: &[Basis],
+    layouts: &Layouts<'_>,
+    input: &[u8],
+    output: &mut [u8],
+    space: &mut Workspace,
+) -> Result<(), Stop>
+    requires in_sound { IsSound layouts.now.input.now }
+    requires out_sound { IsSound layouts.now.output.now }
+    requires placed { ArePlacedMoves (records layouts.now)
+        (map (numbered_move (records layouts.now) group.now) group.now.pairs.items) bases.now }
+    requires input { IsStorage layouts.now.input.now input.now }
+    requires output { length output.old ≡ greatest_length layouts.now.output.now }
+    requires space { IsWorkspace (records layouts.now) input.now output.old space.old }
+    ensures applied { Applied (records layouts.now)
+        (map (numbered_move (records layouts.now) group.now) group.now.pairs.items) input.now
+        output.old (ending result output.new) }
+    ensures space { IsWorkspace (records layouts.now) input.now output.new space.new }
+{
+    let mut rest = bases;
+    for pair in group.pairs.iter() {
+        let (own, others) = rest.split_at(2);
+        make_pair_move(group, pair, own, layouts, input, output, space)?;
+        rest = others;
+    }
+    Ok(())
+}
