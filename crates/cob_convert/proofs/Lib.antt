@@ -4,4 +4,5 @@ pub mod FirstPlaces
 pub mod Gathering
 pub mod Headline
 pub mod One
+pub mod Ready
 pub mod Refused

@@ -1,5 +1,5 @@
-ghost use Rattle.std.specs.Prelude.{◌≡◌, ◌≤◌, List, IfOk, IfErr, min, vec_len};
-ghost use Rattle.cob_move.specs.Prepared.{single_moves};
+ghost use Rattle.std.specs.Prelude.{◌≡◌, ◌<◌, ◌≤◌, List, IfOk, IfErr, min, vec_len};
+ghost use Rattle.cob_move.specs.Prepared.{most_moves_told, single_moves};
 ghost use Rattle.cob_records.specs.Device.{counted, Told};
 ghost use Rattle.cob_move.specs.Paragraphs.{IsParagraphOf};
 ghost use Rattle.cob_limits.specs.Limits.{longest_record};
@@ -138,6 +138,7 @@ impl Converter {
     /// How many bytes an input record has at most.
     pub fn in_length(&self) -> u16
         ensures value { result ≡ in_length self.now }
+        ensures some { 0 < result }
         ensures most { result ≤ longest_record }
     {
         self.conversion.in_length()
@@ -146,6 +147,7 @@ impl Converter {
     /// How many bytes an output record has at most.
     pub fn out_length(&self) -> u16
         ensures value { result ≡ out_length self.now }
+        ensures some { 0 < result }
         ensures most { result ≤ longest_record }
     {
         self.conversion.out_length()
@@ -153,7 +155,7 @@ impl Converter {
 
     /// How many single moves there are, each of a sender to one of its receivers; the greatest number of 32 bits where there are more.
     pub fn moves(&self) -> u32
-        ensures { result ≡ min (single_moves self.now.moves) 4294967295 }
+        ensures { result ≡ min (single_moves self.now.moves) most_moves_told }
     {
         self.conversion.single_moves()
     }
