@@ -2,13 +2,15 @@
 
 ghost use Rattle.std.specs.Prelude.{◌≡◌, ◌≤◌, ◌+◌, length, IfErr, IfSome, is_err, true};
 ghost use Rattle.cob_convert_record.specs.TreeLengths.{greatest_number, sum_of};
+ghost use Rattle.cob_layout.specs.Standing.{AreSomePlaces};
 ghost use Rattle.cob_records.specs.Device.{counted};
 ghost use Rattle.cob_records.specs.Frame.{is_write_error, is_write_fault};
 
 use crate::text::{put, put_behind_space, put_number};
 use crate::values::put_value;
 use arrayvec::ArrayVec;
-use cob_convert_record::{Counts, Item, Kind, Layout, Name, Node, Place, field, is_table};
+use cob_convert_record::{Item, Kind, Layout, Name, Node, Place, field, is_table};
+use cob_layout::Places;
 use cob_limits::MAX_SUBSCRIPTS;
 use cob_records::{RecordFault, Sink};
 
@@ -27,25 +29,21 @@ pub(crate) struct Table {
 /// Tables one in another, the outermost first.
 pub(crate) type Tables = ArrayVec<Table, MAX_SUBSCRIPTS>;
 
-/// The place of an element of the entry with this number, where there is one under these counts.
-pub(crate) fn place_of(
-    layout: &Layout,
-    counts: &Counts,
-    number: usize,
-    subscripts: &[u32],
-) -> Option<Place>
-    ensures { IfSome result (λ p. p.offset + p.length ≤ sum_of greatest_number layout.now) }
-{
-    let reference = layout.reference(number, subscripts)?;
-    layout.place(&reference, counts).ok()
-}
-
-/// What a record holds: its layout, its counts and its bytes.
+/// What a record holds: its layout, where its entries stand, and its bytes.
 #[derive(Clone, Copy)]
 pub(crate) struct Contents<'a> {
     pub(crate) layout: &'a Layout,
-    pub(crate) counts: &'a Counts,
+    pub(crate) places: &'a Places,
     pub(crate) bytes: &'a [u8],
+}
+
+/// The place of an element of the entry with this number, where there is one among these places.
+fn place_of(layout: &Layout, places: &Places, number: usize, subscripts: &[u32]) -> Option<Place>
+    requires { AreSomePlaces layout.now places.now }
+    ensures { IfSome result (λ p. p.offset + p.length ≤ sum_of greatest_number layout.now) }
+{
+    let reference = layout.reference(number, subscripts)?;
+    layout.place_in(&reference, places).ok()
 }
 
 /// A named elementary item.
@@ -87,12 +85,13 @@ fn put_element<W: Sink>(
     named: Named,
     subscripts: &[u32],
 ) -> Result<(), RecordFault>
-    requires { length contents.bytes.now ≡ sum_of greatest_number contents.layout.now }
+    requires bytes { length contents.bytes.now ≡ sum_of greatest_number contents.layout.now }
+    requires stands { AreSomePlaces contents.layout.now contents.places.now }
     ensures kind { IfErr result (λ fault. is_write_fault fault ≡ true) }
     ensures cause { W.failures sink.new ≡ counted (is_err result) (W.failures sink.old) }
     ensures errors { W.errors sink.new ≡ counted (is_write_error result) (W.errors sink.old) }
 {
-    let Some(place) = place_of(contents.layout, contents.counts, named.number, subscripts) else {
+    let Some(place) = place_of(contents.layout, contents.places, named.number, subscripts) else {
         return Ok(());
     };
     put(sink, sent, named.name.as_bytes())?;
@@ -113,7 +112,8 @@ fn put_elements<W: Sink>(
     tables: &[Table],
     subscripts: &mut Subscripts,
 ) -> Result<(), RecordFault>
-    requires { length contents.bytes.now ≡ sum_of greatest_number contents.layout.now }
+    requires bytes { length contents.bytes.now ≡ sum_of greatest_number contents.layout.now }
+    requires stands { AreSomePlaces contents.layout.now contents.places.now }
     ensures kind { IfErr result (λ fault. is_write_fault fault ≡ true) }
     ensures cause { W.failures sink.new ≡ counted (is_err result) (W.failures sink.old) }
     ensures errors { W.errors sink.new ≡ counted (is_write_error result) (W.errors sink.old) }
@@ -127,7 +127,7 @@ fn put_elements<W: Sink>(
         }
         if place_of(
             contents.layout,
-            contents.counts,
+            contents.places,
             table.number,
             subscripts.as_slice(),
         )
@@ -150,7 +150,8 @@ pub(crate) fn put_items<W: Sink>(
     entry: &Node,
     tables: &mut Tables,
 ) -> Result<(), RecordFault>
-    requires { length contents.bytes.now ≡ sum_of greatest_number contents.layout.now }
+    requires bytes { length contents.bytes.now ≡ sum_of greatest_number contents.layout.now }
+    requires stands { AreSomePlaces contents.layout.now contents.places.now }
     ensures kind { IfErr result (λ fault. is_write_fault fault ≡ true) }
     ensures cause { W.failures sink.new ≡ counted (is_err result) (W.failures sink.old) }
     ensures errors { W.errors sink.new ≡ counted (is_write_error result) (W.errors sink.old) }

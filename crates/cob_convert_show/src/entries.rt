@@ -4,7 +4,7 @@ ghost use Rattle.std.specs.Prelude.{◌≡◌, ◌≤◌, length, IfErr, is_err,
 ghost use Rattle.cob_records.specs.Device.{counted};
 ghost use Rattle.cob_records.specs.Frame.{is_write_error, is_write_fault, taken_of};
 
-use crate::elements::{Subscripts, place_of};
+use crate::elements::Subscripts;
 use crate::text::{put, put_behind_space};
 use cob_convert_record::{
     Book, Item, Kind, Layout, Name, Node, Place, ResolvedOccurs, Sign, Usage, is_table,
@@ -144,6 +144,12 @@ fn put_entry<W: Sink>(
     put(sink, sent, b"\n")
 }
 
+/// The place of an element of the entry with this number, where each table has its greatest number of elements.
+fn place_of(layout: &Layout, number: usize, subscripts: &[u32]) -> Option<Place> {
+    let reference = layout.reference(number, subscripts)?;
+    layout.place(&reference, layout.greatest_counts()).ok()
+}
+
 /// Writes the lines of an entry and of those beneath it. The tables that hold it have the subscripts that are handed in.
 fn put_entries<W: Sink>(
     sink: &mut W,
@@ -161,8 +167,7 @@ fn put_entries<W: Sink>(
     if table && first.try_push(1).is_err() {
         return Ok(());
     }
-    let counts = layout.greatest_counts();
-    if let Some(place) = place_of(layout, counts, entry.number, first.as_slice()) {
+    if let Some(place) = place_of(layout, entry.number, first.as_slice()) {
         put_entry(sink, sent, root, entry, place)?;
     }
     for child in entry.children.iter() {
@@ -194,7 +199,7 @@ fn fault_after(fault: RecordFault, sent: u64) -> RecordFault
 
 /// Writes a line for each entry of a book, in their order: its level in two digits, its name or FILLER, the offset and the length
 /// of its first element where each table has its greatest number of elements, what it is, what it redefines, and how often it
-/// occurs. The layout is that of the book.
+/// occurs. The layout is that of the book. What was written may wait in the sink: the caller flushes it.
 ///
 /// # Errors
 ///

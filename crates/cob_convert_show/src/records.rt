@@ -1,8 +1,8 @@
 //! The records of a file.
 
-ghost use Rattle.std.specs.Prelude.{◌≡◌, length, IfErr, Err, is_err, true, false};
+ghost use Rattle.std.specs.Prelude.{◌≡◌, length, IfErr, IfOk, Err, is_err, true, false};
 ghost use Rattle.cob_convert_record.specs.TreeLengths.{greatest_number, sum_of};
-ghost use Rattle.cob_convert_record.specs.Forests.{entries_in};
+ghost use Rattle.cob_layout.specs.Standing.{AreSomePlaces, IsRoomFor};
 ghost use Rattle.cob_records.specs.Device.{counted};
 ghost use Rattle.cob_records.specs.Frame.{is_write_error, is_write_fault};
 ghost use Rattle.cob_convert_show.specs.Records.{is_read_cause, is_write_cause, is_error_cause, stopped_by, refused_by, IsStop, IsShowFault};
@@ -10,7 +10,8 @@ ghost use Rattle.cob_convert_show.specs.declared.records.ShowFault.TheVariants.{
 
 use crate::elements::{Contents, Tables, put_items};
 use crate::text::{put, put_number};
-use cob_convert_record::{Book, Cause, CountFault, Counts, Layout, Node, RunFault, Side};
+use cob_convert_record::{Book, Cause, CountFault, Layout, Node, RunFault, Side};
+use cob_layout::Places;
 use cob_records::{Form, RecordFault, Sink, Source, next_record};
 use std::alloc::{AllocError, Global};
 
@@ -78,17 +79,18 @@ fn count_stop(fault: CountFault) -> Stop
     }
 }
 
-/// Reads the next record and its counts, and says whether there was one. It is as long as its counts say, and in form f as at most.
+/// Reads the next record and its places, and says whether there was one. It is as long as its counts say, and in form f as at most.
 fn read_record<R: Source>(
     layout: &Layout,
     form: Form,
     source: &mut R,
     bytes: &mut [u8],
-    counts: &mut Counts,
+    places: &mut Places,
 ) -> Result<bool, Stop>
     requires bytes { length bytes.old ≡ sum_of greatest_number layout.now }
-    requires counts { length counts.old ≡ entries_in layout.now }
-    ensures counts { length counts.new ≡ length counts.old }
+    requires room { IsRoomFor layout.now places.old }
+    ensures room { IsRoomFor layout.now places.new }
+    ensures stands { IfOk result (λ found. found ≡ true → AreSomePlaces layout.now places.new) }
     ensures stop { IfErr result (λ stop. IsStop stop.offset stop.cause) }
     ensures wrote { IfErr result (λ stop. is_write_cause stop.cause ≡ false) }
     ensures errors { IfErr result (λ stop. is_error_cause stop.cause ≡ false) }
@@ -100,10 +102,10 @@ fn read_record<R: Source>(
         Ok(Some(count)) => count,
         Err(fault) => return Err(frame_stop(fault)),
     };
-    if let Err(fault) = layout.counts_of(&bytes[..count], counts) {
+    if let Err(fault) = layout.places_of(&bytes[..count], places) {
         return Err(count_stop(fault));
     }
-    if form == Form::Variable && count != usize::from(layout.length(counts)) {
+    if form == Form::Variable && count != usize::from(layout.length_in(places)) {
         return Err(frame_stop(RecordFault::Length));
     }
     Ok(true)
@@ -117,7 +119,8 @@ fn put_lines<W: Sink>(
     contents: Contents,
     root: &Node,
 ) -> Result<(), RecordFault>
-    requires { length contents.bytes.now ≡ sum_of greatest_number contents.layout.now }
+    requires bytes { length contents.bytes.now ≡ sum_of greatest_number contents.layout.now }
+    requires stands { AreSomePlaces contents.layout.now contents.places.now }
     ensures kind { IfErr result (λ fault. is_write_fault fault ≡ true) }
     ensures cause { W.failures sink.new ≡ counted (is_err result) (W.failures sink.old) }
     ensures errors { W.errors sink.new ≡ counted (is_write_error result) (W.errors sink.old) }
@@ -151,12 +154,12 @@ fn stop_at(number: u64, side: Side, offset: u32, cause: Cause, written: u64) -> 
 fn show_records<R: Source, W: Sink>(
     shown: Shown,
     bytes: &mut [u8],
-    counts: &mut Counts,
+    places: &mut Places,
     source: &mut R,
     sink: &mut W,
 ) -> Result<u64, ShowFault>
     requires bytes { length bytes.old ≡ sum_of greatest_number shown.layout.now }
-    requires counts { length counts.old ≡ entries_in shown.layout.now }
+    requires room { IsRoomFor shown.layout.now places.old }
     ensures fault { IfErr result IsShowFault }
     ensures record { result ≡ Err Memory → ⊥ }
     ensures reads { R.failures source.new ≡ counted
@@ -168,7 +171,7 @@ fn show_records<R: Source, W: Sink>(
 {
     let mut written: u64 = 0;
     for done in 0..LIMIT {
-        match read_record(shown.layout, shown.form, source, bytes, counts) {
+        match read_record(shown.layout, shown.form, source, bytes, places) {
             Ok(false) => return Ok(done),
             Ok(true) => {}
             Err(Stop { offset, cause }) => {
@@ -177,7 +180,7 @@ fn show_records<R: Source, W: Sink>(
         }
         let contents = Contents {
             layout: shown.layout,
-            counts,
+            places,
             bytes,
         };
         if let Err(fault) = put_lines(sink, &mut written, done + 1, contents, shown.root) {
@@ -189,7 +192,7 @@ fn show_records<R: Source, W: Sink>(
 
 /// Reads records, and writes for each a line with its number, and then a line for each element of each named elementary item, in
 /// the order of the entries, the last subscript the fastest: its name with its subscripts, its offset and its value. The answer is
-/// the number of records. The layout is that of the book.
+/// the number of records. The layout is that of the book. What was written may wait in the sink: the caller flushes it.
 ///
 /// A value is a number as text, or `?` and the bytes in hexadecimal digits where they represent no number; or it is characters in
 /// quotation marks, where a byte that has no character, or is a quotation mark or a backslash, is `\x` and its two digits.
@@ -220,11 +223,11 @@ pub fn show<R: Source, W: Sink>(
         (stopped_by is_error_cause result) (W.errors sink.old) }
 {
     let mut bytes = vec![in alloc; 0u8; usize::from(layout.greatest())]?;
-    let mut counts = layout.new_counts(alloc)?;
+    let mut places = layout.new_places(alloc)?;
     let shown = Shown {
         root: book.root(),
         layout,
         form,
     };
-    show_records(shown, &mut bytes, &mut counts, source, sink)
+    show_records(shown, &mut bytes, &mut places, source, sink)
 }

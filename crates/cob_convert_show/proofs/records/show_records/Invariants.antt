@@ -1,13 +1,13 @@
--- No call of either end has failed so far, and there is room for a record and its counts.
+-- No call of either end has failed so far, and there is room for a record and its places.
 use Rattle.std.proofs.Common.{◌≡◌, length}
-use Rattle.cob_convert_record.specs.Forests.{entries_in}
 use Rattle.cob_convert_record.specs.TreeLengths.{greatest_number, sum_of}
+use Rattle.cob_layout.specs.Standing.{IsRoomFor}
 use Rattle.cob_convert_show.proofs.records.show_records.Given as goal
 
 abbrev pub invariant-loop-done : goal.invariant-loop-done
 invariant-loop-done g l = record {
   bytes : length l.bytes ≡ sum_of greatest_number l.shown.layout.now;
-  counts : length l.counts ≡ entries_in l.shown.layout.now;
+  room : IsRoomFor l.shown.layout.now l.places;
   reads : g.R.Source.failures l.source ≡ g.R.Source.failures l.fn.source;
   writes : g.W.Sink.failures l.sink ≡ g.W.Sink.failures l.fn.sink;
   errors : g.W.Sink.errors l.sink ≡ g.W.Sink.errors l.fn.sink;
