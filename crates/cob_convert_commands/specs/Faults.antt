@@ -1,5 +1,5 @@
 -- What a command is told to come to that is not done, and the status with which it ends.
-use Rattle.std.specs.Prelude.{◌==◌, ◌||◌, ◌-◌, nat_le, ℕ, Bool, true, false, Result, Ok, Err, ⊤, if◌then◌else◌}
+use Rattle.std.specs.Prelude.{◌≡◌, ◌⊎◌, ◌==◌, ◌||◌, ◌-◌, nat_le, ℕ, Bool, true, false, Result, Ok, Err, ⊤, if◌then◌else◌}
 use Rattle.cob_convert.specs.declared.fault.PrepareFault.{PrepareFault}
 use Rattle.cob_convert.specs.declared.fault.PrepareFault.TheVariants as prepare
 use Rattle.cob_convert.specs.declared.jobs.Status.{Status}
@@ -13,8 +13,15 @@ use Rattle.cob_convert.specs.BookFault.{BookFault}
 use Rattle.cob_convert.specs.BookRule.{BookRule}
 use Rattle.cob_convert.specs.BookRule.TheVariants as rule
 use Rattle.cob_source.specs.declared.fault.SourceRule.TheVariants as source
+use Rattle.cob_convert_files.specs.declared.texts.TextFault.{TextFault}
+use Rattle.cob_convert_files.specs.declared.texts.TextFault.TheVariants as text
+use Rattle.cob_convert_files.specs.declared.outputs.PlaceFault.{PlaceFault}
+use Rattle.cob_convert_files.specs.declared.outputs.PlaceFault.TheVariants as place
 use Rattle.cob_records.specs.declared.device.DeviceFault.{DeviceFault}
+use Rattle.cob_records.specs.declared.files.OpenFault.{OpenFault}
+use Rattle.cob_records.specs.declared.files.OpenFault.TheVariants as opening
 use Rattle.cob_records.specs.declared.records.RecordFault.TheVariants.{ReadFailed, WriteFailed, TookNothing}
+use Rattle.cob_convert_commands.specs.declared.fault.FileName.{FileName}
 use Rattle.cob_convert_commands.specs.declared.fault.CommandFault.{CommandFault}
 use Rattle.cob_convert_commands.specs.declared.fault.CommandFault.TheVariants as fault
 
@@ -22,6 +29,17 @@ use Rattle.cob_convert_commands.specs.declared.fault.CommandFault.TheVariants as
 abbrev pub refused_text : PrepareFault → CommandFault
 refused_text prepare.Memory = fault.Memory
 refused_text refused = fault.Refused refused
+
+-- what is told of a text that was not read, by the option that names its file
+abbrev pub unread_text : TextFault → FileName → CommandFault
+unread_text text.NotOpened name = fault.CannotOpen name
+unread_text text.NotRead name = fault.CannotRead name
+unread_text text.Memory name = fault.Memory
+
+-- what is told of a file that was not opened or not made, by the option that names it
+abbrev pub unopened_file : OpenFault → FileName → CommandFault
+unopened_file opening.NotOpened name = fault.CannotOpen name
+unopened_file opening.Memory name = fault.Memory
 
 -- what the refusal of a listing's copybook is for a command: want of memory is told as that
 abbrev pub book_fault_by : BookRule → BookFault → CommandFault
@@ -57,8 +75,9 @@ status_of (fault.CannotRead name) = status.Device
 status_of (fault.Refused refused) = status.Refused
 status_of (fault.Stopped stopped) = status_of_stop stopped.cause
 status_of (fault.Book refused) = status.Refused
-status_of fault.OneFile = status.Malformed
+status_of (fault.OneFile name) = status.Malformed
 status_of (fault.Unflushed last) = status.Device
+status_of fault.NotRenamed = status.Device
 status_of fault.Unprinted = status.Device
 status_of fault.Memory = status.Memory
 
@@ -80,3 +99,19 @@ abbrev pub finished_run : Result ℕ RunFault → Result ⊤ DeviceFault → Res
 finished_run (Ok done) (Ok flushed) = Ok done
 finished_run (Err stopped) (Ok flushed) = Err (fault.Stopped stopped)
 finished_run answer (Err failed) = Err (unflushed_fault answer)
+
+-- What so many records that were handed over come to, behind what was done to put the output in its place: a part that is not on its device lacks
+-- its last record, as an output that was not handed over does.
+abbrev pub placed_run : ℕ → Result ⊤ PlaceFault → Result ℕ CommandFault
+placed_run done (Ok placed) = Ok done
+placed_run done (Err place.NotSynced) = Err (unflushed_fault (Ok done))
+placed_run done (Err place.NotRenamed) = Err fault.NotRenamed
+
+-- The status of what is told by a line: a line that is not printed is a device's failure, whatever it tells.
+abbrev pub printed_status : {E : Type 0} → Result ⊤ E → Status → Status
+printed_status (Ok printed) told = told
+printed_status (Err failed) told = status.Device
+
+-- The status of a fault that was told: its own, or that of a device where it could not be told.
+abbrev pub IsToldStatus : CommandFault → Status → Type 0
+IsToldStatus told end = (end ≡ status_of told) ⊎ (end ≡ status.Device)

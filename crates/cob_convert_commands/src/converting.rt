@@ -1,9 +1,14 @@
-ghost use Rattle.std.specs.Prelude.{◌≡◌};
-ghost use Rattle.cob_convert_commands.specs.Faults.{finished_run, stops_writing, unflushed_fault};
+ghost use Rattle.std.specs.Prelude.{◌≡◌, [], OnOk};
+ghost use Rattle.std.specs.Io.Buffered.{writer_buffer};
+ghost use Rattle.cob_records.specs.Streams.{sink_writer};
+ghost use Rattle.cob_convert_commands.specs.Faults.{finished_run, placed_run, stops_writing, unflushed_fault};
 
 use crate::fault::{CommandFault, FileName};
-use crate::texts::{Texts, prepared};
+use crate::inputs::judge_output;
+use crate::terminals::telling;
+use crate::texts::Texts;
 use cob_convert::{Cause, Converter, RunFault};
+use cob_convert_files::{PlaceFault, create_part, part_name, put_in_place};
 use cob_convert_line::ConvertLine;
 use cob_records::{
     DeviceFault, FileSink, FileSource, Progress, RecordFault, create_sink, open_source,
@@ -61,19 +66,103 @@ fn answer_of<R: AllocGlobal + Files + Input + Print + Eprint + Clock>(
 ) -> Result<u64, RunFault> {
     if line.progress {
         let length = converter.in_length();
-        converter.run(&mut Progress::new(source, rt, line.in_form, length), sink)
+        let telling = telling(rt, line.input);
+        let mut told = Progress::new(source, rt, line.in_form, length, telling);
+        let answer = converter.run(&mut told, sink);
+        told.finish();
+        answer
     } else {
         converter.run(&mut source, sink)
     }
 }
 
+/// What a run comes to, and whether the last of what it wrote was handed to the device.
+struct Ending {
+    answer: Result<u64, RunFault>,
+    flushed: Result<(), DeviceFault>,
+}
+
+/// Runs to the end, and hands what the sink still holds to the device, whatever the run came to.
+fn run_to_end<R: AllocGlobal + Files + Input + Print + Eprint + Clock>(
+    rt: &R,
+    line: &ConvertLine<'_>,
+    converter: &mut Converter,
+    source: FileSource<R::File, R::Reader>,
+    sink: &mut FileSink<R::File, Printer<'_, R>>,
+) -> Ending
+    ensures { OnOk result.flushed (writer_buffer (sink_writer sink.new) ≡ []) }
+{
+    let answer = answer_of(rt, line, converter, source, sink);
+    let flushed = sink.flush();
+    Ending { answer, flushed }
+}
+
+/// Opens the records that are converted.
+fn records_of<R: AllocGlobal + Files + Input>(
+    rt: &R,
+    line: &ConvertLine<'_>,
+) -> Result<FileSource<R::File, R::Reader>, CommandFault> {
+    match open_source(rt, line.input) {
+        Ok(source) => Ok(source),
+        Err(fault) => Err(CommandFault::of_file(fault, FileName::In)),
+    }
+}
+
+/// Converts into the output itself, which is made, or emptied where it is there.
+fn convert_into<R: AllocGlobal + Files + Input + Print + Eprint + Clock>(
+    rt: &R,
+    line: &ConvertLine<'_>,
+    converter: &mut Converter,
+) -> Result<u64, CommandFault> {
+    judge_output(rt, line, line.output)?;
+    let source = records_of(rt, line)?;
+    let mut sink = match create_sink(rt, line.output) {
+        Ok(sink) => sink,
+        Err(fault) => return Err(CommandFault::of_file(fault, FileName::Out)),
+    };
+    let Ending { answer, flushed } = run_to_end(rt, line, converter, source, &mut sink);
+    finished(answer, flushed)
+}
+
+/// What so many records come to behind what was done to put them in their place.
+fn placed(done: u64, place: Result<(), PlaceFault>) -> Result<u64, CommandFault>
+    ensures { result ≡ placed_run done place }
+{
+    match place {
+        Ok(()) => Ok(done),
+        Err(PlaceFault::NotSynced) => Err(unflushed(Ok(done))),
+        Err(PlaceFault::NotRenamed) => Err(CommandFault::NotRenamed),
+    }
+}
+
+/// Converts into the part of the output, and puts it in its place when all is done. Where it is not, the output is as it was, and the part has
+/// the records before.
+fn convert_beside<R: AllocGlobal + Files + Input + Print + Eprint + Clock>(
+    rt: &R,
+    line: &ConvertLine<'_>,
+    converter: &mut Converter,
+) -> Result<u64, CommandFault> {
+    let part = part_name(rt.alloc(), line.output)?;
+    judge_output(rt, line, line.output)?;
+    judge_output(rt, line, &part)?;
+    let source = records_of(rt, line)?;
+    let mut sink = match create_part(rt, line.output, &part) {
+        Ok(sink) => sink,
+        Err(fault) => return Err(CommandFault::of_file(fault, FileName::Out)),
+    };
+    let Ending { answer, flushed } = run_to_end(rt, line, converter, source, &mut sink);
+    let done = finished(answer, flushed)?;
+    placed(done, put_in_place(rt, sink, &part, line.output))
+}
+
 /// Converts the records of the file that `--in` names, and answers how many there were. The texts are read and prepared before the input is
-/// opened, and the output is made or emptied last: so a text that is refused leaves no file, and neither does an output that is the input.
+/// opened, and the output is made or emptied last: so a text that is refused leaves no file, and neither does an output that is one of the files
+/// that are read.
 ///
 /// # Errors
 ///
-/// A file that is not opened or not read, a text that is refused, one name for input and output, a record that stops the run, a device that
-/// fails at one, want of memory.
+/// A file that is not opened or not read, a text that is refused, an output that is one of the files that are read, a record that stops the run,
+/// a device that fails at one, an output that is not put in its place, want of memory.
 pub fn convert<R: AllocGlobal + Files + Input + Print + Eprint + Clock>(
     rt: &R,
     line: &ConvertLine<'_>,
@@ -83,18 +172,10 @@ pub fn convert<R: AllocGlobal + Files + Input + Print + Eprint + Clock>(
         out_book: line.out_book,
         moves: line.moves,
     };
-    let mut converter = prepared(rt, texts, line.in_form, line.out_form)?;
-    if line.input == line.output && line.input != "-" {
-        return Err(CommandFault::OneFile);
+    let mut converter = texts.prepared(rt, line.in_form, line.out_form)?;
+    if line.atomic {
+        convert_beside(rt, line, &mut converter)
+    } else {
+        convert_into(rt, line, &mut converter)
     }
-    let source = match open_source(rt, line.input) {
-        Ok(source) => source,
-        Err(fault) => return Err(CommandFault::of_file(fault, FileName::In)),
-    };
-    let mut sink = match create_sink(rt, line.output) {
-        Ok(sink) => sink,
-        Err(fault) => return Err(CommandFault::of_file(fault, FileName::Out)),
-    };
-    let answer = answer_of(rt, line, &mut converter, source, &mut sink);
-    finished(answer, sink.flush())
 }

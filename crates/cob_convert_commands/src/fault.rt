@@ -1,8 +1,9 @@
 ghost use Rattle.std.specs.Prelude.{◌≡◌};
-ghost use Rattle.cob_convert_commands.specs.Faults.{refused_book, show_fault, refused_text, status_of, status_of_stop};
+ghost use Rattle.cob_convert_commands.specs.Faults.{refused_book, show_fault, refused_text, status_of, status_of_stop, unopened_file, unread_text};
 ghost use Rattle.cob_convert_commands.specs.declared.fault.CommandFault.TheVariants.{Memory, Stopped};
 
 use cob_convert::{BookFault, BookRule, Cause, PrepareFault, RunFault, Status};
+use cob_convert_files::TextFault;
 use cob_convert_show::ShowFault;
 use cob_records::{OpenFault, RecordFault};
 use std::alloc::AllocError;
@@ -55,15 +56,18 @@ pub enum CommandFault {
     /// The copybook of a listing breaks a rule.
     #[error("book {0}")]
     Book(BookFault),
-    /// The input and the output of a conversion are one file by their names, which making the output would empty.
-    #[error("in and out are one file")]
-    OneFile,
+    /// A file that is read and the output of a conversion are one file, whose bytes making the output would lose.
+    #[error("{0} and out are one file")]
+    OneFile(FileName),
     /// A record stopped the run, or a device failed at it.
     #[error("{0}")]
     Stopped(RunFault),
     /// The last bytes of the output could not be handed to the device, so that this record, the last one that was put, is not written whole.
     #[error("record {last} out offset 0 F6")]
     Unflushed { last: u64 },
+    /// The system did not give the output, which is written whole under the name of its part, its own name.
+    #[error("cannot rename out")]
+    NotRenamed,
     /// What is printed could not be, or the device of an output without records failed, so that no fault line is printed either.
     #[error("cannot print")]
     Unprinted,
@@ -152,16 +156,30 @@ impl CommandFault {
             CommandFault::CannotOpen(_)
             | CommandFault::CannotRead(_)
             | CommandFault::Unflushed { .. }
+            | CommandFault::NotRenamed
             | CommandFault::Unprinted => Status::Device,
             CommandFault::Refused(_) | CommandFault::Book(_) => Status::Refused,
-            CommandFault::OneFile => Status::Malformed,
+            CommandFault::OneFile(_) => Status::Malformed,
             CommandFault::Stopped(fault) => stop_status(fault.cause),
             CommandFault::Memory => Status::Memory,
         }
     }
 
+    /// The fault of a text that was to be read.
+    pub fn of_text(fault: TextFault, name: FileName) -> CommandFault
+        ensures { result ≡ unread_text fault name }
+    {
+        match fault {
+            TextFault::NotOpened => CommandFault::CannotOpen(name),
+            TextFault::NotRead => CommandFault::CannotRead(name),
+            TextFault::Memory => CommandFault::Memory,
+        }
+    }
+
     /// The fault of a file that was to be opened or made.
-    pub fn of_file(fault: OpenFault, name: FileName) -> CommandFault {
+    pub fn of_file(fault: OpenFault, name: FileName) -> CommandFault
+        ensures { result ≡ unopened_file fault name }
+    {
         match fault {
             OpenFault::NotOpened => CommandFault::CannotOpen(name),
             OpenFault::Memory => CommandFault::Memory,

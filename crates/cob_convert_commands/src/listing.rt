@@ -1,16 +1,43 @@
+ghost use Rattle.std.specs.Prelude.{◌≡◌, [], OnOk};
+ghost use Rattle.std.specs.Io.Buffered.{writer_buffer};
+ghost use Rattle.cob_records.specs.Streams.{sink_writer};
+
 use crate::fault::{CommandFault, FileName};
-use crate::texts::read_text;
+use crate::terminals::telling;
+use crate::texts::text_of;
 use cob_convert::{Book, Layout, Role};
 use cob_convert_line::{LayoutLine, ShowLine};
-use cob_convert_show::{layout_text, show};
-use cob_records::{Progress, create_sink, open_source};
-use std::io::{Eprint, Input, Print};
+use cob_convert_show::{ShowFault, layout_text, show};
+use cob_records::{DeviceFault, FileSink, FileSource, Progress, create_sink, open_source};
+use std::io::{Eprint, Input, Print, Printer};
 use std::rt::{Clock, Files};
 
+/// A copybook, and the layout of its records.
+#[derive(Drop)]
+struct Listed {
+    book: Book,
+    layout: Layout,
+}
+
 /// Reads the copybook that `--book` names.
-fn read_book<R: AllocGlobal + Files>(rt: &R, path: &str) -> Result<Book, CommandFault> {
-    let text = read_text(rt, path, FileName::Book)?;
-    Ok(Book::read(rt.alloc(), Role::In, &text)?)
+fn read_book<R: AllocGlobal + Files>(rt: &R, path: &str) -> Result<Listed, CommandFault> {
+    let text = text_of(rt, path, FileName::Book)?;
+    let book = Book::read(rt.alloc(), Role::In, &text)?;
+    let layout = Layout::of(rt.alloc(), &book)?;
+    Ok(Listed { book, layout })
+}
+
+/// Lists the entries of a copybook, and hands all of the list to the device.
+fn list_to_end<R: Files + Print>(
+    listed: &Listed,
+    sink: &mut FileSink<R::File, Printer<'_, R>>,
+) -> Result<(), DeviceFault>
+    ensures { OnOk result (writer_buffer (sink_writer sink.new) ≡ []) }
+{
+    match layout_text(&listed.book, &listed.layout, sink) {
+        Ok(()) => sink.flush(),
+        Err(_) => Err(DeviceFault),
+    }
 }
 
 /// Prints a line for each entry of a copybook on standard output.
@@ -22,15 +49,49 @@ pub fn list_entries<R: AllocGlobal + Files + Print>(
     rt: &R,
     line: &LayoutLine<'_>,
 ) -> Result<(), CommandFault> {
-    let book = read_book(rt, line.book)?;
-    let layout = Layout::of(rt.alloc(), &book)?;
+    let listed = read_book(rt, line.book)?;
     let Ok(mut sink) = create_sink(rt, "-") else {
         return Err(CommandFault::Memory);
     };
-    if layout_text(&book, &layout, &mut sink).is_err() || sink.flush().is_err() {
-        return Err(CommandFault::Unprinted);
+    match list_to_end(&listed, &mut sink) {
+        Ok(()) => Ok(()),
+        Err(DeviceFault) => Err(CommandFault::Unprinted),
     }
-    Ok(())
+}
+
+/// What a listing of records comes to, which tells on standard error how far it is where that is asked for.
+fn shown<R: AllocGlobal + Files + Input + Print + Eprint + Clock>(
+    rt: &R,
+    line: &ShowLine<'_>,
+    listed: &Listed,
+    mut source: FileSource<R::File, R::Reader>,
+    sink: &mut FileSink<R::File, Printer<'_, R>>,
+) -> Result<u64, ShowFault> {
+    let Listed { book, layout } = listed;
+    if line.progress {
+        let telling = telling(rt, line.input);
+        let mut told = Progress::new(source, rt, line.form, layout.greatest(), telling);
+        let answer = show(rt.alloc(), book, layout, line.form, &mut told, sink);
+        told.finish();
+        answer
+    } else {
+        show(rt.alloc(), book, layout, line.form, &mut source, sink)
+    }
+}
+
+/// Lists records, and hands all of the list to the device, whatever the listing came to; `Err` where it was not handed over.
+fn show_to_end<R: AllocGlobal + Files + Input + Print + Eprint + Clock>(
+    rt: &R,
+    line: &ShowLine<'_>,
+    listed: &Listed,
+    source: FileSource<R::File, R::Reader>,
+    sink: &mut FileSink<R::File, Printer<'_, R>>,
+) -> Result<Result<u64, ShowFault>, DeviceFault>
+    ensures { OnOk result (writer_buffer (sink_writer sink.new) ≡ []) }
+{
+    let answer = shown(rt, line, listed, source, sink);
+    sink.flush()?;
+    Ok(answer)
 }
 
 /// Prints the values of the records of the file that `--in` names on standard output, and answers how many records there were.
@@ -43,30 +104,16 @@ pub fn list_records<R: AllocGlobal + Files + Input + Print + Eprint + Clock>(
     rt: &R,
     line: &ShowLine<'_>,
 ) -> Result<u64, CommandFault> {
-    let book = read_book(rt, line.book)?;
-    let layout = Layout::of(rt.alloc(), &book)?;
-    let mut source = match open_source(rt, line.input) {
+    let listed = read_book(rt, line.book)?;
+    let source = match open_source(rt, line.input) {
         Ok(source) => source,
         Err(fault) => return Err(CommandFault::of_file(fault, FileName::In)),
     };
     let Ok(mut sink) = create_sink(rt, "-") else {
         return Err(CommandFault::Memory);
     };
-    let answer = if line.progress {
-        let mut told = Progress::new(source, rt, line.form, layout.greatest());
-        show(rt.alloc(), &book, &layout, line.form, &mut told, &mut sink)
-    } else {
-        show(
-            rt.alloc(),
-            &book,
-            &layout,
-            line.form,
-            &mut source,
-            &mut sink,
-        )
-    };
-    if sink.flush().is_err() {
-        return Err(CommandFault::Unprinted);
+    match show_to_end(rt, line, &listed, source, &mut sink) {
+        Ok(answer) => Ok(answer?),
+        Err(DeviceFault) => Err(CommandFault::Unprinted),
     }
-    Ok(answer?)
 }

@@ -6,20 +6,25 @@
 //! - `text`, a name, entries or statements that are parted by bars: makes the file, each of them a line from column 8 on.
 //! - `bytes`, a name, hexadecimal digits: makes the file of these bytes.
 //! - `decode`, a name, the name of a file with hexadecimal digits: makes the file of the bytes that they are.
-//! - `run`, words that are parted by spaces, and where they are wanted the name of the file that is standard input (none: nothing) and the
-//!   number of bytes that standard output takes (none: all): does what the words ask for. Printed are the lines of standard output behind
-//!   `>`, those of standard error behind `!`, and the status.
+//! - `long`, a name, a number of bytes, entries or statements as above: makes the file of so many bytes, in which comments stand before the last.
+//! - `link`, `symlink`, the name of a file, a new name: makes a link of that name to the file.
+//! - `remove`, a name: removes the file.
+//! - `run`, words that are parted by spaces, and where they are wanted the name of the file that is standard input (none: nothing), the
+//!   number of bytes that standard output takes (none: all), the name of the file that standard output goes to as the system tells it (none: of
+//!   no file), and `stuck` where no file can be renamed: does what the words ask for. A word that begins with `@` is the whole path of the file
+//!   behind it. Printed are the lines of standard output behind `>`, those of standard error behind `!`, and the status.
 //! - `refuse`, `memory` or `not-text`: refuses words for want of memory, or because one is no text.
 //! - `file`, a name: prints behind `=` the bytes of the file in hexadecimal digits, or that there are none, or no file.
 #![tactic(auto)]
 
 mod stage;
 
-use crate::stage::Stage;
+use crate::stage::{Scene, Stage};
 use cob_convert_commands::{answer, refuse};
 use cob_convert_line::LineFault;
 use cob_rows::{bytes_of, lines_of, push_digits, push_text};
 use std::alloc::Global;
+use std::os::unix::fs::symlink;
 use std::rt::{Env, Files};
 use std::{env, fs, io};
 
@@ -47,29 +52,90 @@ fn print_outcome<R: AllocGlobal + Print>(
     println!(rt; "status {status}")
 }
 
-/// Runs a command line.
-fn run<R: AllocGlobal + Files + Print>(
+/// Adds a word of a command line: `@NAME` is the whole path of the file NAME.
+fn push_word<R: AllocGlobal + Files>(
     rt: &R,
-    words: &str,
-    input: &[u8],
-    room: usize,
+    words: &mut Vec<String>,
+    word: &str,
 ) -> io::Result<()> {
-    let mut list = Vec::new(rt.alloc());
-    for word in words.split(' ') {
+    let word = match word.strip_prefix('@') {
+        Some(name) => format!(in rt.alloc(); "{}/{name}", fs::canonicalize(rt, ".")?.display())?,
+        None => format!(in rt.alloc(); "{word}")?,
+    };
+    words.push(word)?;
+    Ok(())
+}
+
+/// Runs a command line.
+fn run<R: AllocGlobal + Files + Print>(rt: &R, line: &str, scene: Scene<'_>) -> io::Result<()> {
+    let mut words = Vec::new(rt.alloc());
+    for word in line.split(' ') {
         if !word.is_empty() {
-            list.push(word)?;
+            push_word(rt, &mut words, word)?;
         }
     }
-    let stage = Stage::new(rt, input, room);
-    let status = answer(&stage, list.as_slice());
+    let stage = Stage::new(rt, scene);
+    let status = answer(&stage, words.as_slice());
     print_outcome(rt, stage, status)
+}
+
+/// Runs a command line in the scene that the fields behind it name.
+fn run_in_scene<'a, R: AllocGlobal + Files + Print, I: Iterator<Item = &'a str>>(
+    rt: &R,
+    line: &str,
+    mut fields: I,
+) -> io::Result<()> {
+    let input_name = fields.next().unwrap_or("");
+    let input = match input_name {
+        "" => Vec::new(rt.alloc()),
+        name => fs::read(rt, name)?,
+    };
+    let room = fields.next().unwrap_or("").parse().unwrap_or(usize::MAX);
+    let output_name = fields.next().unwrap_or("");
+    let is_stuck = fields.next() == Some("stuck");
+    let scene = Scene {
+        input: &input,
+        input_name,
+        output_name,
+        room,
+        is_stuck,
+    };
+    run(rt, line, scene)
 }
 
 /// Refuses words for a cause that a test does not bring about by words.
 fn refuse_words<R: AllocGlobal + Files + Print>(rt: &R, fault: &LineFault) -> io::Result<()> {
-    let stage = Stage::new(rt, &[], usize::MAX);
+    let scene = Scene {
+        input: &[],
+        input_name: "",
+        output_name: "",
+        room: usize::MAX,
+        is_stuck: false,
+    };
+    let stage = Stage::new(rt, scene);
     let status = refuse(&stage, fault);
     print_outcome(rt, stage, status)
+}
+
+/// A text of so many bytes: the entries or statements that are parted by bars, each on a line, and lines of comment before the last.
+fn long_text(alloc: Global, size: usize, entries: &str) -> io::Result<Vec<u8>> {
+    let (front, last) = entries.rsplit_once('|').unwrap_or(("", entries));
+    let mut text = lines_of(alloc, front)?;
+    text.push(b'\n')?;
+    let last = lines_of(alloc, last)?;
+    let mut rest = size.saturating_sub(text.len() + last.len());
+    for _ in 0..size {
+        let length = if rest > 80 { 73 } else { rest };
+        if length < 8 {
+            break;
+        }
+        text.extend_from_slice(b"      *")?;
+        text.resize(text.len() + (length - 8), b'-')?;
+        text.push(b'\n')?;
+        rest -= length;
+    }
+    text.extend_from_slice(&last)?;
+    Ok(text)
 }
 
 /// The bytes of a text of hexadecimal digits on several lines; `None` where anything else stands there.
@@ -106,31 +172,46 @@ fn show_file<R: AllocGlobal + Files + Print>(rt: &R, name: &str) -> io::Result<(
     println!(rt; "= {digits}")
 }
 
-/// Does a step.
-fn step<R: AllocGlobal + Files + Print>(rt: &R, line: &str) -> io::Result<()> {
-    let mut fields = line.split('\t');
-    let kind = fields.next().unwrap_or("");
-    let first = fields.next().unwrap_or("");
-    let second = fields.next().unwrap_or("");
+/// Does a step that makes, links or removes a file.
+fn make_file<R: AllocGlobal + Files + Print>(
+    rt: &R,
+    kind: &str,
+    first: &str,
+    second: &str,
+    third: &str,
+) -> io::Result<()> {
     match kind {
         "text" => fs::write(rt, first, lines_of(rt.alloc(), second)?.as_slice()),
+        "long" => {
+            let size = second.parse().unwrap_or(0);
+            fs::write(rt, first, long_text(rt.alloc(), size, third)?.as_slice())
+        }
         "bytes" => make(rt, first, bytes_of(rt.alloc(), second)?),
         "decode" => {
             let text = fs::read_to_string(rt, second)?;
             make(rt, first, decoded(rt.alloc(), &text)?)
         }
-        "run" => {
-            let input = match second {
-                "" => Vec::new(rt.alloc()),
-                name => fs::read(rt, name)?,
-            };
-            let room = fields.next().unwrap_or("").parse().unwrap_or(usize::MAX);
-            run(rt, first, &input, room)
-        }
+        "link" => fs::hard_link(rt, first, second),
+        "symlink" => symlink(rt, first, second),
+        "remove" => fs::remove_file(rt, first),
+        _ => println!(rt; "BAD STEP"),
+    }
+}
+
+/// Does a step.
+fn step<R: AllocGlobal + Files + Print>(rt: &R, line: &str) -> io::Result<()> {
+    let mut fields = line.split('\t');
+    let kind = fields.next().unwrap_or("");
+    let first = fields.next().unwrap_or("");
+    match kind {
+        "run" => run_in_scene(rt, first, fields),
         "refuse" if first == "memory" => refuse_words(rt, &LineFault::Memory),
         "refuse" => refuse_words(rt, &LineFault::NotText),
         "file" => show_file(rt, first),
-        _ => println!(rt; "BAD STEP"),
+        kind => {
+            let second = fields.next().unwrap_or("");
+            make_file(rt, kind, first, second, fields.next().unwrap_or(""))
+        }
     }
 }
 

@@ -9,24 +9,38 @@ use std::io::{BufRead, Eprint, ErrorKind, Input, Lines, Print};
 use std::rt::{Clock, Files};
 use std::time::Duration;
 
+/// What a command finds when it is run.
+#[derive(Clone, Copy)]
+pub struct Scene<'a> {
+    /// What standard input gives.
+    pub input: &'a [u8],
+    /// The name of the file that standard input comes from; of none where it is empty.
+    pub input_name: &'a str,
+    /// The name of the file that standard output goes to; of none where it is empty.
+    pub output_name: &'a str,
+    /// How many bytes standard output takes.
+    pub room: usize,
+    /// Whether no file can be renamed.
+    pub is_stuck: bool,
+}
+
 /// A runtime in whose place a command runs: files are the system's, standard input is given, and what goes to standard output and to standard
-/// error is kept. Standard output takes so many bytes and no more, and the clock goes on by a second each time that it is looked at.
+/// error is kept. The clock goes on by a second each time that it is looked at. The names `/dev/stdin` and `/dev/stdout` lead to the files that
+/// the scene has for them, and `/dev/stderr` to the same as `/dev/stdout`.
 pub struct Stage<'a, R> {
     rt: &'a R,
-    input: &'a [u8],
-    room: usize,
+    scene: Scene<'a>,
     output: Cell<Vec<u8>>,
     errors: Cell<Vec<u8>>,
     seconds: Cell<u64>,
 }
 
 impl<'a, R: AllocGlobal> Stage<'a, R> {
-    /// A stage with this standard input, whose standard output takes so many bytes.
-    pub fn new(rt: &'a R, input: &'a [u8], room: usize) -> Stage<'a, R> {
+    /// A stage with this scene.
+    pub fn new(rt: &'a R, scene: Scene<'a>) -> Stage<'a, R> {
         Stage {
             rt,
-            input,
-            room,
+            scene,
             output: Cell::new(Vec::new(rt.alloc())),
             errors: Cell::new(Vec::new(rt.alloc())),
             seconds: Cell::new(0),
@@ -37,8 +51,7 @@ impl<'a, R: AllocGlobal> Stage<'a, R> {
     pub fn into_kept(self) -> (Vec<u8>, Vec<u8>) {
         let Stage {
             rt: _,
-            input: _,
-            room: _,
+            scene: _,
             output,
             errors,
             seconds: _,
@@ -96,7 +109,7 @@ impl<R: AllocGlobal> Print for Stage<'_, R> {
     }
 
     fn write_some(&self, bytes: &[u8]) -> io::Result<usize> {
-        self.keep(&self.output, self.room, bytes)
+        self.keep(&self.output, self.scene.room, bytes)
     }
 }
 
@@ -122,7 +135,7 @@ impl<'a, R> Input for Stage<'a, R> {
     }
 
     fn reader(&self) -> &'a [u8] {
-        self.input
+        self.scene.input
     }
 }
 
@@ -138,13 +151,27 @@ impl<R> Clock for Stage<'_, R> {
     }
 }
 
+/// Whether a name leads to a standard stream by a link.
+fn is_stream(path: &str) -> bool {
+    matches!(path, "/dev/stdin" | "/dev/stdout" | "/dev/stderr")
+}
+
+/// The name of the file that a name leads to where it is that of a standard stream.
+fn led<'a>(scene: Scene<'a>, path: &'a str) -> &'a str {
+    match path {
+        "/dev/stdin" => scene.input_name,
+        "/dev/stdout" | "/dev/stderr" => scene.output_name,
+        other => other,
+    }
+}
+
 impl<R: Files> Files for Stage<'_, R> {
     type File = R::File;
 
     type Dir = R::Dir;
 
     fn open_file(&self, how: &OpenOptions, path: &str) -> io::Result<R::File> {
-        self.rt.open_file(how, path)
+        self.rt.open_file(how, led(self.scene, path))
     }
 
     fn open_dir(&self, path: &str) -> io::Result<R::Dir> {
@@ -152,10 +179,13 @@ impl<R: Files> Files for Stage<'_, R> {
     }
 
     fn metadata(&self, path: &str) -> io::Result<Metadata> {
-        self.rt.metadata(path)
+        self.rt.metadata(led(self.scene, path))
     }
 
     fn symlink_metadata(&self, path: &str) -> io::Result<Metadata> {
+        if is_stream(path) {
+            return Ok(Metadata::of_symlink(0));
+        }
         self.rt.symlink_metadata(path)
     }
 
@@ -164,6 +194,9 @@ impl<R: Files> Files for Stage<'_, R> {
     }
 
     fn rename(&self, from: &str, to: &str) -> io::Result<()> {
+        if self.scene.is_stuck {
+            return Err(io::Error::from(ErrorKind::PermissionDenied));
+        }
         self.rt.rename(from, to)
     }
 
