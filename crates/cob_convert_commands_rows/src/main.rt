@@ -79,25 +79,25 @@ fn run<R: AllocGlobal + Files + Print>(rt: &R, line: &str, scene: Scene<'_>) -> 
     print_outcome(rt, stage, status)
 }
 
-/// Runs a command line in the scene that the fields behind it name.
-fn run_in_scene<'a, R: AllocGlobal + Files + Print, I: Iterator<Item = &'a str>>(
+/// Runs a command line in a scene: the file that its standard input is, how many bytes its standard output takes, the file that this is, and
+/// whether it is stuck behind them.
+fn run_in_scene<R: AllocGlobal + Files + Print>(
     rt: &R,
     line: &str,
-    mut fields: I,
+    input_name: &str,
+    room: &str,
+    output_name: &str,
+    is_stuck: bool,
 ) -> io::Result<()> {
-    let input_name = fields.next().unwrap_or("");
     let input = match input_name {
         "" => Vec::new(rt.alloc()),
         name => fs::read(rt, name)?,
     };
-    let room = fields.next().unwrap_or("").parse().unwrap_or(usize::MAX);
-    let output_name = fields.next().unwrap_or("");
-    let is_stuck = fields.next() == Some("stuck");
     let scene = Scene {
         input: &input,
         input_name,
         output_name,
-        room,
+        room: room.parse().unwrap_or(usize::MAX),
         is_stuck,
     };
     run(rt, line, scene)
@@ -204,7 +204,13 @@ fn step<R: AllocGlobal + Files + Print>(rt: &R, line: &str) -> io::Result<()> {
     let kind = fields.next().unwrap_or("");
     let first = fields.next().unwrap_or("");
     match kind {
-        "run" => run_in_scene(rt, first, fields),
+        "run" => {
+            let input_name = fields.next().unwrap_or("");
+            let room = fields.next().unwrap_or("");
+            let output_name = fields.next().unwrap_or("");
+            let is_stuck = fields.next() == Some("stuck");
+            run_in_scene(rt, first, input_name, room, output_name, is_stuck)
+        }
         "refuse" if first == "memory" => refuse_words(rt, &LineFault::Memory),
         "refuse" => refuse_words(rt, &LineFault::NotText),
         "file" => show_file(rt, first),
