@@ -1,7 +1,6 @@
 use crate::numbers::push_number;
-use cob_copybook_tree::Item;
+use cob_copybook_tree::{Item, is_number_item, read_number, store_number};
 use cob_entry::{Sign, Usage};
-use cob_item::{is_number_item, read_number, store_number};
 use cob_picture::Picture;
 use cob_rows::{Row, RowFault, push_digits};
 use std::alloc::Global;

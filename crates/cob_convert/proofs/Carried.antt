@@ -11,9 +11,9 @@ use Rattle.cob_records.specs.declared.records.Form.{Form}
 use Rattle.cob_records.specs.declared.records.Form.TheVariants.{Fixed, Variable}
 use Rattle.cob_convert_record.specs.Conversion.{Conversion, in_length}
 use Rattle.cob_convert_record.specs.declared.fault.RunFault.{RunFault}
-use Rattle.cob_move.specs.Stop.{Stop}
-use Rattle.cob_move.specs.Side.{Side}
-use Rattle.cob_move.specs.Side.TheVariants.{Out, In}
+use Rattle.cob_move_apply.specs.declared.stop.Stop.{Stop}
+use Rattle.cob_layout_places.specs.declared.operands.Side.{Side}
+use Rattle.cob_layout_places.specs.declared.operands.Side.TheVariants.{Out, In}
 use Rattle.cob_convert_record.specs.declared.fault.Cause.{Cause}
 use Rattle.cob_convert_record.specs.declared.fault.Cause.TheVariants.{Record}
 use Rattle.cob_records.specs.declared.records.RecordFault.{RecordFault}
@@ -21,9 +21,9 @@ use Rattle.cob_records.specs.declared.records.RecordFault.TheVariants.{Truncated
 use Rattle.cob_convert_record.specs.declared.misfit.MeasureFault.{MeasureFault}
 use Rattle.cob_convert_record.specs.Sizes.{IsSized, IsMeasureFault}
 use Rattle.cob_convert_record.specs.Becoming.{Becomes, StopsAt}
-use Rattle.cob_move.specs.Forests.{Forest}
-use Rattle.cob_move.specs.Nodes.{Resolved}
-use Rattle.cob_move.specs.Storage.{IsStorage}
+use Rattle.cob_copybook_tree.specs.Forests.{Forest}
+use Rattle.cob_copybook_tree.specs.Nodes.{Resolved}
+use Rattle.cob_layout.specs.Storage.{IsStorage}
 use Rattle.cob_convert.specs.Run.{Ran, Ends, Remains, Reason, InRead, InLayout, InConversion, InWrite, offset_from, refusal_from, IsConverted, cause_from, frames_in, frames_out, most_records}
 
 -- n records came, were converted and written; `written` counts their frames' bytes

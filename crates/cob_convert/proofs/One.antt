@@ -8,8 +8,8 @@ use Rattle.cob_records.specs.declared.records.RecordFault.{RecordFault}
 use Rattle.cob_records.specs.Frame.{framed, IsRecord, Reads, is_read_failure}
 use Rattle.cob_records.specs.Unique.{FramesAreOne, FramesReadBack, ReadingIsOne}
 use Rattle.cob_convert_record.specs.Laws.{ConversionsAreDecided}
-use Rattle.cob_move.specs.Stop.{Stop}
-use Rattle.cob_move.specs.Side.TheVariants.{In}
+use Rattle.cob_move_apply.specs.declared.stop.Stop.{Stop}
+use Rattle.cob_layout_places.specs.declared.operands.Side.TheVariants.{In}
 use Rattle.cob_convert_record.specs.Conversion.{Conversion, in_length}
 use Rattle.cob_convert_record.specs.declared.misfit.MeasureFault.{MeasureFault}
 use Rattle.cob_convert_record.specs.declared.fault.Cause.TheVariants.{Record}

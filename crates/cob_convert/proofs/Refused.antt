@@ -1,14 +1,14 @@
 -- Refusals of texts, one after another.
 use Rattle.std.proofs.Common.{◌≡◌, ℕ, List, ap, refl}
-use Rattle.cob_move.specs.Forests.{Forest}
-use Rattle.cob_move.specs.Nodes.{Resolved}
-use Rattle.cob_move.specs.Books.{IsBookOf}
-use Rattle.cob_move.specs.Role.TheVariants.{In, Out}
-use Rattle.cob_move.specs.Moves.{Move}
+use Rattle.cob_copybook_tree.specs.Forests.{Forest}
+use Rattle.cob_copybook_tree.specs.Nodes.{Resolved}
+use Rattle.cob_copybook.specs.Books.{IsBookOf}
+use Rattle.cob_copybook.specs.declared.role.Role.TheVariants.{In, Out}
+use Rattle.cob_layout_places.specs.Moves.{Move}
 use Rattle.cob_move.specs.Paragraphs.{IsParagraphOf, IsRefusalOf}
-use Rattle.cob_move.specs.MoveFault.{MoveFault}
-use Rattle.cob_move.specs.MoveRule.{MoveRule}
-use Rattle.cob_move.specs.MoveRule.TheVariants as rule
+use Rattle.cob_move_statements.specs.declared.fault.MoveFault.{MoveFault}
+use Rattle.cob_move_statements.specs.declared.fault.MoveRule.{MoveRule}
+use Rattle.cob_move_statements.specs.declared.fault.MoveRule.TheVariants as rule
 use Rattle.cob_convert.specs.declared.fault.PrepareFault.{PrepareFault}
 use Rattle.cob_convert.specs.declared.fault.PrepareFault.TheVariants.{InBook, OutBook, Moves, Memory}
 use Rattle.cob_convert.specs.Means.{IsBook, IsOutRefusal, IsMovesRefusal, IsPrepareRefusal, moves_refusal, moves_refusal_by}

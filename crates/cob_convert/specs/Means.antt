@@ -1,16 +1,16 @@
 -- What three texts mean, and why they are refused.
 use Rattle.std.specs.Prelude.{ℕ, List}
-use Rattle.cob_move.specs.Forests.{Forest}
-use Rattle.cob_move.specs.Nodes.{Resolved}
-use Rattle.cob_move.specs.Role.{Role}
-use Rattle.cob_move.specs.Role.TheVariants.{In, Out}
-use Rattle.cob_move.specs.Books.{IsBookOf, IsBookRefusal, IsMemory}
-use Rattle.cob_move.specs.BookFault.{BookFault}
+use Rattle.cob_copybook_tree.specs.Forests.{Forest}
+use Rattle.cob_copybook_tree.specs.Nodes.{Resolved}
+use Rattle.cob_copybook.specs.declared.role.Role.{Role}
+use Rattle.cob_copybook.specs.declared.role.Role.TheVariants.{In, Out}
+use Rattle.cob_copybook.specs.Books.{IsBookOf, IsBookRefusal, IsMemory}
+use Rattle.cob_entry.specs.declared.fault.BookFault.{BookFault}
 use Rattle.cob_convert_record.specs.Conversion.{Conversion}
 use Rattle.cob_move.specs.Paragraphs.{IsParagraphOf, IsRefusalOf}
-use Rattle.cob_move.specs.MoveFault.{MoveFault}
-use Rattle.cob_move.specs.MoveRule.{MoveRule}
-use Rattle.cob_move.specs.MoveRule.TheVariants as rule
+use Rattle.cob_move_statements.specs.declared.fault.MoveFault.{MoveFault}
+use Rattle.cob_move_statements.specs.declared.fault.MoveRule.{MoveRule}
+use Rattle.cob_move_statements.specs.declared.fault.MoveRule.TheVariants as rule
 use Rattle.cob_convert.specs.declared.fault.PrepareFault.{PrepareFault}
 use Rattle.cob_convert.specs.declared.fault.PrepareFault.TheVariants.{InBook, OutBook, Moves, Memory}
 

@@ -6,13 +6,13 @@ use Rattle.cob_records.specs.declared.records.RecordFault.{RecordFault}
 use Rattle.cob_records.specs.declared.records.RecordFault.TheVariants.{Length}
 use Rattle.cob_records.specs.Frame.{Reads, Puts, framed, IsRecord, is_read_failure, is_write_error, is_write_fault}
 use Rattle.cob_convert_record.specs.Conversion.{Conversion, in_length}
-use Rattle.cob_move.specs.Stop.{Stop}
-use Rattle.cob_move.specs.Side.{Side}
-use Rattle.cob_move.specs.Side.TheVariants.{In, Out}
-use Rattle.cob_move.specs.StopCause.{StopCause}
+use Rattle.cob_move_apply.specs.declared.stop.Stop.{Stop}
+use Rattle.cob_layout_places.specs.declared.operands.Side.{Side}
+use Rattle.cob_layout_places.specs.declared.operands.Side.TheVariants.{In, Out}
+use Rattle.cob_move_apply.specs.declared.stop.StopCause.{StopCause}
 use Rattle.cob_convert_record.specs.declared.fault.Cause.{Cause}
 use Rattle.cob_convert_record.specs.declared.fault.Cause.TheVariants.{NoValue, Count, Subscript, Limit, Record}
-use Rattle.cob_move.specs.StopCause.TheVariants.{NoValue as StopNoValue, Count as StopCount, Subscript as StopSubscript}
+use Rattle.cob_move_apply.specs.declared.stop.StopCause.TheVariants.{NoValue as StopNoValue, Count as StopCount, Subscript as StopSubscript}
 use Rattle.cob_convert_record.specs.declared.fault.RunFault.{RunFault}
 use Rattle.cob_convert_record.specs.declared.misfit.MeasureFault.{MeasureFault}
 use Rattle.cob_convert_record.specs.declared.misfit.MeasureFault.TheVariants.{Count as Uncounted, Length as Unfitting}

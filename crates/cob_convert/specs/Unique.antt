@@ -1,9 +1,9 @@
 -- Bytes have one conversion: what is written, what is answered and where it stops are determined.
 use Rattle.std.specs.Prelude.{◌≡◌, ℕ, ◌<◌, ◌≤◌, List, Result}
 use Rattle.cob_limits.specs.Limits.{longest_record}
-use Rattle.cob_move.specs.Forests.{Forest}
-use Rattle.cob_move.specs.Nodes.{Resolved}
-use Rattle.cob_move.specs.Storage.{greatest_length}
+use Rattle.cob_copybook_tree.specs.Forests.{Forest}
+use Rattle.cob_copybook_tree.specs.Nodes.{Resolved}
+use Rattle.cob_layout.specs.Storage.{greatest_length}
 use Rattle.cob_convert_record.specs.Conversion.{Conversion}
 use Rattle.cob_convert_record.specs.declared.fault.RunFault.{RunFault}
 use Rattle.cob_convert.specs.Converted.{Converted}

@@ -2,11 +2,11 @@
 
 ghost use Rattle.std.specs.Prelude.{◌≡◌, ℕ, List, IfOk, IfErr};
 ghost use Rattle.std.specs.Bool.{Decides};
-ghost use Rattle.cob_move.specs.Forests.{Forest};
-ghost use Rattle.cob_move.specs.Nodes.{Resolved};
-ghost use Rattle.cob_move.specs.Books.{IsBookOf, IsBookRefusal, IsMemory};
+ghost use Rattle.cob_copybook_tree.specs.Forests.{Forest};
+ghost use Rattle.cob_copybook_tree.specs.Nodes.{Resolved};
+ghost use Rattle.cob_copybook.specs.Books.{IsBookOf, IsBookRefusal, IsMemory};
 ghost use Rattle.cob_convert.specs.Means.{IsInRefusal, IsOutRefusal};
-ghost use Rattle.cob_move.specs.Role.TheVariants.{In, Out};
+ghost use Rattle.cob_copybook.specs.declared.role.Role.TheVariants.{In, Out};
 ghost use Rattle.cob_convert.specs.declared.fault.PrepareFault.TheVariants.{Memory};
 
 use crate::fault::PrepareFault;

@@ -1,10 +1,10 @@
 ghost use Rattle.std.specs.Prelude.{◌≡◌, ◌<◌, ◌≤◌, List, IfOk, IfErr, min, vec_len};
-ghost use Rattle.cob_move.specs.Prepared.{most_moves_told, single_moves};
+ghost use Rattle.cob_move_apply.specs.Prepared.{most_moves_told, single_moves};
 ghost use Rattle.cob_records.specs.Device.{counted, Told};
 ghost use Rattle.cob_move.specs.Paragraphs.{IsParagraphOf};
 ghost use Rattle.cob_limits.specs.Limits.{longest_record};
 ghost use Rattle.cob_convert_record.specs.Conversion.{in_length, out_length, Conversion as Meant};
-ghost use Rattle.cob_move.specs.Moves.{Move};
+ghost use Rattle.cob_layout_places.specs.Moves.{Move};
 ghost use Rattle.cob_convert.specs.declared.fault.PrepareFault.TheVariants.{Memory};
 ghost use Rattle.cob_convert.specs.Unique.{HasBytes};
 ghost use Rattle.cob_convert.specs.Means.{Means, IsMovesRefusal, IsPrepareRefusal};

@@ -2,16 +2,16 @@
 use Rattle.std.specs.Prelude.{◌≡◌, ◌⊎◌, ◌==◌, ◌||◌, ◌-◌, nat_le, ℕ, Bool, true, false, Result, Ok, Err, ⊤, if◌then◌else◌}
 use Rattle.cob_convert.specs.declared.fault.PrepareFault.{PrepareFault}
 use Rattle.cob_convert.specs.declared.fault.PrepareFault.TheVariants as prepare
-use Rattle.cob_convert.specs.declared.jobs.Status.{Status}
-use Rattle.cob_convert.specs.declared.jobs.Status.TheVariants as status
-use Rattle.cob_convert.specs.Cause.{Cause}
-use Rattle.cob_convert.specs.Cause.TheVariants as cause
-use Rattle.cob_convert.specs.RunFault.{RunFault}
+use Rattle.cob_job.specs.declared.jobs.Status.{Status}
+use Rattle.cob_job.specs.declared.jobs.Status.TheVariants as status
+use Rattle.cob_convert_record.specs.declared.fault.Cause.{Cause}
+use Rattle.cob_convert_record.specs.declared.fault.Cause.TheVariants as cause
+use Rattle.cob_convert_record.specs.declared.fault.RunFault.{RunFault}
 use Rattle.cob_convert_show.specs.declared.records.ShowFault.{ShowFault}
 use Rattle.cob_convert_show.specs.declared.records.ShowFault.TheVariants as listing
-use Rattle.cob_convert.specs.BookFault.{BookFault}
-use Rattle.cob_convert.specs.BookRule.{BookRule}
-use Rattle.cob_convert.specs.BookRule.TheVariants as rule
+use Rattle.cob_entry.specs.declared.fault.BookFault.{BookFault}
+use Rattle.cob_entry.specs.declared.fault.BookRule.{BookRule}
+use Rattle.cob_entry.specs.declared.fault.BookRule.TheVariants as rule
 use Rattle.cob_source.specs.declared.fault.SourceRule.TheVariants as source
 use Rattle.cob_convert_files.specs.declared.texts.TextFault.{TextFault}
 use Rattle.cob_convert_files.specs.declared.texts.TextFault.TheVariants as text

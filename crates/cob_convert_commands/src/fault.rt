@@ -2,9 +2,10 @@ ghost use Rattle.std.specs.Prelude.{◌≡◌};
 ghost use Rattle.cob_convert_commands.specs.Faults.{refused_book, show_fault, refused_text, status_of, status_of_stop, unopened_file, unread_text};
 ghost use Rattle.cob_convert_commands.specs.declared.fault.CommandFault.TheVariants.{Memory, Stopped};
 
-use cob_convert::{BookFault, BookRule, Cause, PrepareFault, RunFault, Status};
+use cob_convert::{BookFault, BookRule, Cause, PrepareFault, RunFault};
 use cob_convert_files::TextFault;
 use cob_convert_show::ShowFault;
+use cob_job::Status;
 use cob_records::{OpenFault, RecordFault};
 use std::alloc::AllocError;
 use std::fmt;

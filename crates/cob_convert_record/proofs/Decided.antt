@@ -2,15 +2,15 @@
 use Rattle.std.proofs.Common.{◌≡◌, ℕ, List, take, refl, sym, ◌∙◌, ap, subst, Option, Some, None, Ok, Err, Result, inl, inr, true, false}
 use Rattle.cob_records.specs.declared.records.Form.{Form}
 use Rattle.cob_records.specs.declared.records.Form.TheVariants.{Fixed, Variable}
-use Rattle.cob_move_apply.specs.Forests.{Forest}
-use Rattle.cob_move_apply.specs.Nodes.{Resolved}
-use Rattle.cob_move_apply.specs.CountFault.{CountFault}
-use Rattle.cob_move_apply.specs.Counting.{CountsOf}
-use Rattle.cob_move_apply.specs.Laws.{OneOfAll}
-use Rattle.cob_move_apply.specs.Storage.{current_length}
+use Rattle.cob_copybook_tree.specs.Forests.{Forest}
+use Rattle.cob_copybook_tree.specs.Nodes.{Resolved}
+use Rattle.cob_layout_places.specs.declared.counts.CountFault.{CountFault}
+use Rattle.cob_layout.specs.Counting.{CountsOf}
+use Rattle.cob_layout.specs.Laws.{OneOfAll}
+use Rattle.cob_layout.specs.Storage.{current_length}
 use Rattle.cob_move_initial.specs.Initial.{IsInitial}
 use Rattle.cob_move_initial.specs.Laws.{OneInitial}
-use Rattle.cob_move_apply.specs.Side.TheVariants.{Out}
+use Rattle.cob_layout_places.specs.declared.operands.Side.TheVariants.{Out}
 use Rattle.cob_convert_record.specs.Conversion.{Conversion}
 use Rattle.cob_move_apply.specs.declared.stop.Stop.{Stop}
 use Rattle.cob_move_apply.specs.declared.stop.StopCause.TheVariants.{Count as CountCause}

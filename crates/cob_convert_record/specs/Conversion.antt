@@ -1,8 +1,8 @@
 -- What is done to each record of a stream.
 use Rattle.std.specs.Prelude.{ℕ, List}
 use Rattle.cob_records.specs.declared.records.Form.{Form}
-use Rattle.cob_move_apply.specs.Storage.{greatest_length}
-use Rattle.cob_move_apply.specs.Moves.{Move, Records}
+use Rattle.cob_layout.specs.Storage.{greatest_length}
+use Rattle.cob_layout_places.specs.Moves.{Move, Records}
 
 -- what is done to each record: in which form it comes and what it becomes goes out, the two records, and the moves between them
 pub record Conversion : Type 0 where

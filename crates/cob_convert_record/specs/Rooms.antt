@@ -1,7 +1,7 @@
 -- Room for conversions.
 use Rattle.std.specs.Prelude.{ℕ}
-use Rattle.cob_move_apply.specs.Forests.{entries_in}
-use Rattle.cob_move_apply.specs.Moves.{Records}
+use Rattle.cob_copybook_tree.specs.Forests.{entries_in}
+use Rattle.cob_layout_places.specs.Moves.{Records}
 use Rattle.cob_move_apply.specs.Room.{RoomForMoves, room_of}
 
 -- how much room there is: that for moves, and for how many counts of either record

@@ -2,11 +2,11 @@
 use Rattle.std.specs.Prelude.{◌≡◌, ◌≢◌, ◌⊎◌, ℕ, true, false, List, length, Ok, Err}
 use Rattle.cob_records.specs.declared.records.Form.{Form}
 use Rattle.cob_records.specs.declared.records.Form.TheVariants.{Fixed, Variable}
-use Rattle.cob_move_apply.specs.Forests.{Forest}
-use Rattle.cob_move_apply.specs.Nodes.{Resolved}
-use Rattle.cob_move_apply.specs.CountFault.{CountFault}
-use Rattle.cob_move_apply.specs.Counting.{CountsOf}
-use Rattle.cob_move_apply.specs.Storage.{IsCurrent, current_length, greatest_length}
+use Rattle.cob_copybook_tree.specs.Forests.{Forest}
+use Rattle.cob_copybook_tree.specs.Nodes.{Resolved}
+use Rattle.cob_layout_places.specs.declared.counts.CountFault.{CountFault}
+use Rattle.cob_layout.specs.Counting.{CountsOf}
+use Rattle.cob_layout.specs.Storage.{IsCurrent, current_length, greatest_length}
 use Rattle.cob_convert_record.specs.declared.misfit.MeasureFault.{MeasureFault}
 use Rattle.cob_convert_record.specs.declared.misfit.MeasureFault.TheVariants.{Count, Length}
 

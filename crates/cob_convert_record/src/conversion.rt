@@ -2,10 +2,10 @@
 
 ghost use Rattle.std.specs.Prelude.{◌≡◌, ◌<◌, ◌≤◌, ℕ, List, length, min, take, Err, IfOk, IfErr, OnOk};
 ghost use Rattle.cob_limits.specs.Limits.{longest_record};
-ghost use Rattle.cob_move_apply.specs.Storage.{greatest_length};
-ghost use Rattle.cob_move_apply.specs.Forests.{Forest, entries_in};
-ghost use Rattle.cob_move_apply.specs.Nodes.{Resolved};
-ghost use Rattle.cob_move_apply.specs.Counting.{CountsOf};
+ghost use Rattle.cob_layout.specs.Storage.{greatest_length};
+ghost use Rattle.cob_copybook_tree.specs.Forests.{Forest, entries_in};
+ghost use Rattle.cob_copybook_tree.specs.Nodes.{Resolved};
+ghost use Rattle.cob_layout.specs.Counting.{CountsOf};
 ghost use Rattle.cob_convert_record.specs.Becoming.{IsCountStop, IsOutputOf};
 ghost use Rattle.cob_convert_record.specs.Sizes.{IsMeasureFault, IsSized};
 ghost use Rattle.cob_records.specs.declared.records.Form.TheVariants.{Variable};
@@ -32,12 +32,12 @@ pub struct Conversion {
 
 impl Model for Conversion {
     ghost use Rattle.std.specs.Prelude.{◌≡◌, length};
-    ghost use Rattle.cob_move_apply.specs.Storage.{greatest_length};
+    ghost use Rattle.cob_layout.specs.Storage.{greatest_length};
     ghost use Rattle.cob_move_initial.specs.Initial.{IsInitial};
     ghost use Rattle.cob_convert_record.specs.Conversion.{Conversion};
     ghost use Rattle.cob_move_apply.specs.Prepared.{ArePrepared, moves_of};
     ghost use Rattle.std.specs.Coded.{codes};
-    ghost use Rattle.cob_move_apply.specs.Codes.{coded_forest};
+    ghost use Rattle.cob_copybook.specs.Codes.{coded_forest};
 
     ghost Value = { Conversion };
 
@@ -117,7 +117,7 @@ fn written_length(
 impl Conversion {
     ghost use Rattle.cob_records.specs.Frame.{IsRecord};
     ghost use Rattle.cob_move_apply.specs.Prepared.{ArePrepared, most_moves_told, moves_of, single_moves};
-    ghost use Rattle.cob_move_apply.specs.Storage.{IsStorage};
+    ghost use Rattle.cob_layout.specs.Storage.{IsStorage};
     ghost use Rattle.cob_move_initial.specs.Initial.{IsInitial};
     ghost use Rattle.cob_convert_record.specs.Conversion.{in_length, out_length};
     ghost use Rattle.cob_convert_record.specs.Sizes.{IsSized, IsMeasureFault};

@@ -1,10 +1,10 @@
 -- How values are shown.
 use Rattle.std.specs.Prelude.{ℕ, Bool, ◌==◌, ◌||◌, List, ◌∷◌}
 use Rattle.cob_records.specs.Hex.{byte_text}
-use Rattle.cob_convert_record.specs.Item.{Item}
+use Rattle.cob_copybook_tree.specs.declared.node.Item.{Item}
 use Rattle.cob_decimal.specs.Decimal.{number_of}
 use Rattle.cob_decimal.specs.Literals.{IsNumberText}
-use Rattle.cob_convert_record.specs.Items.{Represents}
+use Rattle.cob_copybook_tree.specs.Items.{Represents}
 use Rattle.cob_picture.specs.Counts.{scale}
 
 -- the text is that of the number that the bytes of the item represent, at the scale of its picture

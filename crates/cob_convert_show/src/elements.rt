@@ -1,7 +1,7 @@
 //! The elements of a record that items have, and their places.
 
 ghost use Rattle.std.specs.Prelude.{◌≡◌, ◌≤◌, ◌+◌, length, IfErr, IfSome, is_err, true};
-ghost use Rattle.cob_convert_record.specs.TreeLengths.{greatest_number, sum_of};
+ghost use Rattle.cob_copybook_tree.specs.Lengths.{greatest_number, sum_of};
 ghost use Rattle.cob_layout.specs.Standing.{AreSomePlaces};
 ghost use Rattle.cob_records.specs.Device.{counted};
 ghost use Rattle.cob_records.specs.Frame.{is_write_error, is_write_fault};

@@ -1,7 +1,7 @@
 //! The records of a file.
 
 ghost use Rattle.std.specs.Prelude.{◌≡◌, length, IfErr, IfOk, Err, is_err, true, false};
-ghost use Rattle.cob_convert_record.specs.TreeLengths.{greatest_number, sum_of};
+ghost use Rattle.cob_copybook_tree.specs.Lengths.{greatest_number, sum_of};
 ghost use Rattle.cob_layout.specs.Standing.{AreSomePlaces, IsRoomFor};
 ghost use Rattle.cob_records.specs.Device.{counted};
 ghost use Rattle.cob_records.specs.Frame.{is_write_error, is_write_fault};

@@ -2,9 +2,9 @@
 
 ghost use Rattle.std.specs.Prelude.{◌≡◌, ◌≤◌, ◌<◌, length, IfErr, IfSome, IfNone, Some, None, is_err, true, false, Bool, List, [], ◌∷◌, ℕ};
 ghost use Rattle.cob_records.specs.Hex.{digit_character};
-ghost use Rattle.cob_convert_record.specs.TreeLengths.{item_size};
+ghost use Rattle.cob_copybook_tree.specs.Lengths.{item_size};
 ghost use Rattle.cob_cp037.specs.Table.{IsCoded};
-ghost use Rattle.cob_convert_record.specs.Items.{IsNumberItem, Represents};
+ghost use Rattle.cob_copybook_tree.specs.Items.{IsNumberItem, Represents};
 ghost use Rattle.cob_convert_show.specs.Values.{IsNumberShown, is_escaped, escaped};
 ghost use Rattle.cob_records.specs.Device.{counted};
 ghost use Rattle.cob_records.specs.Frame.{is_write_error, is_write_fault};

@@ -1,7 +1,7 @@
 //! Jobs on ends that fail, and the longest one.
 
 use crate::runs::UNLIMITED;
-use cob_convert::job;
+use cob_job::job;
 use cob_records::{Limited, MemSink, MemSource};
 use std::test::Fail;
 

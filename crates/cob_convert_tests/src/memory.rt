@@ -2,7 +2,8 @@
 
 use crate::jobs::{JOB, PRINTED};
 use crate::runs::{INPUT, OUTPUT, prepared};
-use cob_convert::{Converter, PrepareFault, job};
+use cob_convert::{Converter, PrepareFault};
+use cob_job::job;
 use cob_records::{Form, MemSink, MemSource};
 use std::alloc::Global;
 use std::test::Fail;

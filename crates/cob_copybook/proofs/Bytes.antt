@@ -8,11 +8,11 @@ use Rattle.cob_picture.specs.Positions.{PlainPicture}
 use Rattle.cob_picture.specs.Counts.{size, digits}
 use Rattle.cob_picture.specs.Pictures.{IsPictureOf}
 use Rattle.cob_picture.specs.Laws.{TakesBytes}
-use Rattle.cob_copybook_tree.specs.Usage.{Usage}
-use Rattle.cob_copybook_tree.specs.Usage.TheVariants.{Display, Binary, Packed}
-use Rattle.cob_copybook_tree.specs.Sign.{Sign}
-use Rattle.cob_copybook_entries.specs.Entries.{is_condition}
-use Rattle.cob_copybook_tree.specs.Described.{PlainEntry}
+use Rattle.cob_entry.specs.declared.kinds.Usage.{Usage}
+use Rattle.cob_entry.specs.declared.kinds.Usage.TheVariants.{Display, Binary, Packed}
+use Rattle.cob_entry.specs.declared.kinds.Sign.{Sign}
+use Rattle.cob_copybook_clauses.specs.Entries.{is_condition}
+use Rattle.cob_entry.specs.Described.{PlainEntry}
 use Rattle.cob_copybook_entries.specs.Meaning.{IsOption}
 use Rattle.cob_copybook_entries.specs.Books.{IsSentence, AreDescribed}
 use Rattle.cob_copybook_tree.specs.Forests.{Forest, NoEntries, AnEntry, Tree, flat, entries_in}

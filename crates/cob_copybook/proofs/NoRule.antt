@@ -4,11 +4,11 @@ use Rattle.std.specs.Prelude.{Option, None}
 use Rattle.cob_source.specs.Tokens.{Lexeme}
 use Rattle.cob_source.specs.declared.token.Cutting.TheVariants.{Whole}
 use Rattle.cob_source.specs.Words.{WordsAreOne, WordsBreakNoRule}
-use Rattle.cob_copybook_tree.specs.Described.{PlainEntry}
+use Rattle.cob_entry.specs.Described.{PlainEntry}
 use Rattle.cob_copybook_entries.specs.Books.{AreEntriesOf, BreaksEntryRule}
 use Rattle.cob_copybook_entries.specs.Laws.{OneListOfEntries, EntriesBreakNoRule}
-use Rattle.cob_copybook_tree.specs.BookRule.{BookRule}
-use Rattle.cob_copybook_tree.specs.BookRule.TheVariants as rule
+use Rattle.cob_entry.specs.declared.fault.BookRule.{BookRule}
+use Rattle.cob_entry.specs.declared.fault.BookRule.TheVariants as rule
 use Rattle.cob_copybook_tree.specs.Forests.{Forest}
 use Rattle.cob_copybook_tree.specs.Nodes.{Resolved}
 use Rattle.cob_copybook_tree.specs.Resolving.{resolved}

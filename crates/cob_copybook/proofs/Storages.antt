@@ -1,9 +1,9 @@
 -- Resolved trees: each entry occurs at least once.
 use Rattle.std.proofs.Common.{◌≡◌, sym, subst, ap, ◌∙◌, ℕ, ◌+◌, ◌<◌, List, arith}
 use Rattle.std.specs.Prelude.{Option, Some, None, Bool, unwrap_or}
-use Rattle.cob_copybook_tree.specs.Usage.{Usage}
-use Rattle.cob_copybook_tree.specs.Sign.{Sign}
-use Rattle.cob_copybook_tree.specs.Described.{PlainEntry, PlainOccurs, Fixed, Varying}
+use Rattle.cob_entry.specs.declared.kinds.Usage.{Usage}
+use Rattle.cob_entry.specs.declared.kinds.Sign.{Sign}
+use Rattle.cob_entry.specs.Described.{PlainEntry, PlainOccurs, Fixed, Varying}
 use Rattle.cob_copybook_tree.specs.Forests.{Forest, NoEntries, AnEntry, entries_in}
 use Rattle.cob_copybook_tree.specs.Nodes.{Resolved}
 use Rattle.cob_copybook_tree.specs.Lengths.{greatest_number_by}
@@ -12,9 +12,9 @@ use Rattle.cob_copybook_rules.specs.Tables.{AreTables, HasValidNumbers, dimensio
 use Rattle.cob_copybook_lengths.specs.Areas.{ArePossible, MayHold}
 use Rattle.cob_copybook_rules.specs.Filled.{AreFilled, IsFilled}
 use Rattle.cob_picture.specs.Positions.{PlainPicture}
-use Rattle.cob_copybook_tree.specs.Usage.TheVariants.{Display}
+use Rattle.cob_entry.specs.declared.kinds.Usage.TheVariants.{Display}
 use Rattle.cob_copybook_lengths.specs.Rules.{KeepsLengthRules, BreaksLengthRule, FitBreaksNone}
-use Rattle.cob_copybook_tree.specs.BookRule.{BookRule}
+use Rattle.cob_entry.specs.declared.fault.BookRule.{BookRule}
 use Rattle.cob_copybook.specs.Records.{IsStored}
 
 occurs_some : (o : Option PlainOccurs) (count : Option ℕ) → HasValidNumbers o → 0 < greatest_number_by (times_of o count)

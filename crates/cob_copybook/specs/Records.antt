@@ -1,8 +1,8 @@
 -- Which tree the entries of a record stand for, and which rule they break.
 use Rattle.std.specs.Prelude.{◌≡◌, ◌⊎◌, ℕ, List, Option, None}
-use Rattle.cob_copybook_tree.specs.Described.{PlainEntry}
-use Rattle.cob_copybook_tree.specs.BookRule.{BookRule}
-use Rattle.cob_copybook_tree.specs.BookRule.TheVariants as rule
+use Rattle.cob_entry.specs.Described.{PlainEntry}
+use Rattle.cob_entry.specs.declared.fault.BookRule.{BookRule}
+use Rattle.cob_entry.specs.declared.fault.BookRule.TheVariants as rule
 use Rattle.cob_copybook_tree.specs.Forests.{Forest}
 use Rattle.cob_copybook_tree.specs.Branches.{AreLevels, StandsFor}
 use Rattle.cob_copybook_tree.specs.Nodes.{Resolved}

@@ -1,8 +1,8 @@
 //! The record that a tree of entries describes.
 
 ghost use Rattle.std.specs.Prelude.{◌≡◌, ◌≤◌, [], ◌∷◌, IfOk, IfErr};
-ghost use Rattle.cob_copybook_tree.specs.Described.{PlainEntry};
-ghost use Rattle.cob_copybook_tree.specs.BookRule.TheVariants.{Memory};
+ghost use Rattle.cob_entry.specs.Described.{PlainEntry};
+ghost use Rattle.cob_entry.specs.declared.fault.BookRule.TheVariants.{Memory};
 ghost use Rattle.cob_copybook_tree.specs.Forests.{Forest, entries_in};
 ghost use Rattle.cob_copybook_tree.specs.Branches.{forest_of};
 ghost use Rattle.cob_copybook_tree.specs.Nodes.{Resolved, forest};

@@ -4,3 +4,5 @@ pub mod Unique
 pub mod StandsForLemmas
 pub mod ResolvedLemmas
 pub mod LengthLemmas
+pub mod ItemLemmas
+pub mod PictureLemmas

@@ -2,7 +2,7 @@
 //! what the job prints, and its status.
 #![tactic(auto)]
 
-use cob_convert::{Status, job};
+use cob_job::{Status, job};
 use cob_records::{ReadSource, WriteSink};
 use std::alloc::Global;
 use std::rt::{Env, Files};

@@ -2,17 +2,17 @@
 use Rattle.std.proofs.Common.{◌≡◌, ℕ, ◌+◌, ◌*◌, ◌<◌, ◌≤◌, ◌==◌, Bool, true, false, List, [], ◌∷◌, ◌++◌, Option, Some, None, refl, sym, ap, subst, ◌∙◌, arith, inl, inr}
 use Rattle.std.proofs.lemmas.Bool.Decides.{nat_tests}
 use Rattle.std.proofs.lemmas.Bool.{cases_lt}
-use Rattle.cob_copybook.specs.Item.{Item}
-use Rattle.cob_copybook.specs.Node.{Node}
-use Rattle.cob_copybook.specs.Node.TheViews.{out-Node}
-use Rattle.cob_copybook.specs.Kind.{Kind}
-use Rattle.cob_copybook.specs.Kind.TheVariants.{Group, Item as ItemKind}
-use Rattle.cob_copybook.specs.ResolvedOccurs.{ResolvedOccurs}
-use Rattle.cob_copybook.specs.ResolvedOccurs.TheVariants.{Once, Fixed, Varying}
-use Rattle.cob_copybook.specs.Forests.{Forest, NoEntries, AnEntry, Tree}
-use Rattle.cob_copybook.specs.Nodes.{Resolved, resolved_entry, node, forest, tree_of}
-use Rattle.cob_copybook.specs.TreeLengths.{greatest_number, length_by_kind, own_length, sum_of, whole_length}
-use Rattle.cob_copybook.specs.Areas.{AreAreas, MayFollow, is_varying}
+use Rattle.cob_copybook_tree.specs.declared.node.Item.{Item}
+use Rattle.cob_copybook_tree.specs.declared.node.Node.{Node}
+use Rattle.cob_copybook_tree.specs.declared.node.Node.TheViews.{out-Node}
+use Rattle.cob_copybook_tree.specs.declared.node.Kind.{Kind}
+use Rattle.cob_copybook_tree.specs.declared.node.Kind.TheVariants.{Group, Item as ItemKind}
+use Rattle.cob_copybook_tree.specs.declared.node.ResolvedOccurs.{ResolvedOccurs}
+use Rattle.cob_copybook_tree.specs.declared.node.ResolvedOccurs.TheVariants.{Once, Fixed, Varying}
+use Rattle.cob_copybook_tree.specs.Forests.{Forest, NoEntries, AnEntry, Tree}
+use Rattle.cob_copybook_tree.specs.Nodes.{Resolved, resolved_entry, node, forest, tree_of}
+use Rattle.cob_copybook_tree.specs.Lengths.{greatest_number, length_by_kind, own_length, sum_of, whole_length}
+use Rattle.cob_copybook_lengths.specs.Areas.{AreAreas, MayFollow, is_varying}
 use Rattle.cob_layout_places.specs.declared.varying.Table.{Table}
 use Rattle.cob_layout_places.specs.Lengths.{times, MayOccur}
 use Rattle.cob_layout_places.specs.Places.{choose, or_else}

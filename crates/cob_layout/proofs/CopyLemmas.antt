@@ -1,10 +1,10 @@
 -- Copies of nodes.
 use Rattle.std.proofs.Common.{◌≡◌, ℕ, ◌+◌, ◌<◌, ◌≤◌, List, [], ◌∷◌, ◌++◌, length, get_or, drop, map, sym, ap, ◌∙◌}
 use Rattle.std.proofs.lemmas.List.{append-nil, append_assoc, drop_all, drop_more, map-append}
-use Rattle.cob_copybook.specs.Node.{Node}
-use Rattle.cob_copybook.specs.Node.TheViews.{out-Node}
-use Rattle.cob_copybook.specs.Forests.{Forest, Tree, grown}
-use Rattle.cob_copybook.specs.Nodes.{Resolved, resolved_entry, node, forest}
+use Rattle.cob_copybook_tree.specs.declared.node.Node.{Node}
+use Rattle.cob_copybook_tree.specs.declared.node.Node.TheViews.{out-Node}
+use Rattle.cob_copybook_tree.specs.Forests.{Forest, Tree, grown}
+use Rattle.cob_copybook_tree.specs.Nodes.{Resolved, resolved_entry, node, forest}
 use Rattle.cob_layout_places.proofs.ForestLemmas.{node_out}
 
 -- an entry over copies of all its children is a copy

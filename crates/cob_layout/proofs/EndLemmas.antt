@@ -2,11 +2,11 @@
 use Rattle.std.proofs.Common.{◌≡◌, ◌⊎◌, ℕ, ◌+◌, ◌-◌, ◌*◌, ◌<◌, ◌≤◌, ◌==◌, Bool, true, false, ◌&&◌, nat_le, min, List, [], ◌∷◌, Option, Some, None, refl, sym, ap, subst, ◌∙◌, arith, inl, inr, Result}
 use Rattle.std.specs.Prelude.{IfOk}
 use Rattle.std.proofs.lemmas.Bool.Decides.{nat_tests}
-use Rattle.cob_copybook.specs.Kind.{Kind}
-use Rattle.cob_copybook.specs.Kind.TheVariants.{Group, Item as ItemKind}
-use Rattle.cob_copybook.specs.Forests.{Forest, NoEntries, AnEntry, entries_in}
-use Rattle.cob_copybook.specs.Nodes.{Resolved}
-use Rattle.cob_copybook.specs.TreeLengths.{greatest_number, length_by_kind, own_length, element_length, whole_length, sum_of}
+use Rattle.cob_copybook_tree.specs.declared.node.Kind.{Kind}
+use Rattle.cob_copybook_tree.specs.declared.node.Kind.TheVariants.{Group, Item as ItemKind}
+use Rattle.cob_copybook_tree.specs.Forests.{Forest, NoEntries, AnEntry, entries_in}
+use Rattle.cob_copybook_tree.specs.Nodes.{Resolved}
+use Rattle.cob_copybook_tree.specs.Lengths.{greatest_number, length_by_kind, own_length, element_length, whole_length, sum_of}
 use Rattle.cob_layout_places.specs.declared.places.Found.{Found}
 use Rattle.cob_layout_places.specs.Lengths.{area_by, times, AreLeaves, IsLeaf}
 use Rattle.cob_layout_places.specs.Places.{place_of, or_else, choose, also, begins, is_table, is_there, later, skipped}

@@ -5,9 +5,9 @@ use Rattle.std.specs.List.{AllByRecursion}
 use Rattle.std.proofs.lemmas.List.{drop-take, length-drop, length-take-le}
 use Rattle.std.proofs.lemmas.Slice.{take-put_mid_below, drop-put_mid}
 use borrow.Rule.Slice.PartMut.{same_len_mid}
-use Rattle.cob_copybook.specs.Forests.{Forest, NoEntries, AnEntry, entries_in}
-use Rattle.cob_copybook.specs.Nodes.{Resolved}
-use Rattle.cob_copybook.specs.TreeLengths.{greatest_number, element_length, whole_length, own_length}
+use Rattle.cob_copybook_tree.specs.Forests.{Forest, NoEntries, AnEntry, entries_in}
+use Rattle.cob_copybook_tree.specs.Nodes.{Resolved}
+use Rattle.cob_copybook_tree.specs.Lengths.{greatest_number, element_length, whole_length, own_length}
 use Rattle.cob_layout.specs.declared.fields.Place.{Place}
 use Rattle.cob_layout.specs.Fields.{with_field}
 use Rattle.cob_layout.specs.Sound.{IsSound}

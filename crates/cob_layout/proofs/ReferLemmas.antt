@@ -1,9 +1,9 @@
 -- How many subscripts a legal reference has.
 use Rattle.std.proofs.Common.{◌≡◌, ℕ, ◌+◌, ◌≤◌, List, [], ◌∷◌, length, ap, arith, inl, inr}
-use Rattle.cob_copybook.specs.ResolvedOccurs.{ResolvedOccurs}
-use Rattle.cob_copybook.specs.ResolvedOccurs.TheVariants.{Once, Fixed, Varying}
-use Rattle.cob_copybook.specs.Forests.{Forest, NoEntries, AnEntry}
-use Rattle.cob_copybook.specs.Nodes.{Resolved}
+use Rattle.cob_copybook_tree.specs.declared.node.ResolvedOccurs.{ResolvedOccurs}
+use Rattle.cob_copybook_tree.specs.declared.node.ResolvedOccurs.TheVariants.{Once, Fixed, Varying}
+use Rattle.cob_copybook_tree.specs.Forests.{Forest, NoEntries, AnEntry}
+use Rattle.cob_copybook_tree.specs.Nodes.{Resolved}
 use Rattle.cob_layout_places.specs.Places.{is_table, later}
 use Rattle.cob_layout.specs.Sound.{own_dimension, AreNested, RecordsAreSound}
 use Rattle.cob_layout_places.specs.References.{IsSubscripted, Refers}

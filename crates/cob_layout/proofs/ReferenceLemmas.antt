@@ -1,8 +1,8 @@
 -- What a reference to an entry of a record gives.
 use Rattle.std.proofs.Common.{◌≡◌, ℕ, ◌+◌, ◌<◌, ◌==◌, List, [], Bool, true, false, refl, arith, Option, Some, None, inl, inr, ◌⊎◌}
 use Rattle.std.proofs.lemmas.Bool.Decides.{nat_tests}
-use Rattle.cob_copybook.specs.Forests.{Forest, NoEntries, AnEntry, entries_in}
-use Rattle.cob_copybook.specs.Nodes.{Resolved}
+use Rattle.cob_copybook_tree.specs.Forests.{Forest, NoEntries, AnEntry, entries_in}
+use Rattle.cob_copybook_tree.specs.Nodes.{Resolved}
 use Rattle.cob_layout_places.specs.declared.places.Found.{Found}
 use Rattle.cob_layout_places.specs.Places.{place_of, or_else, choose, also, is_table, later}
 use Rattle.cob_layout_places.specs.Cover.{AreNumbered}

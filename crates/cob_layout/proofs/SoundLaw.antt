@@ -2,10 +2,10 @@
 use Rattle.std.proofs.Common.{◌≡◌, sym, subst, [], arith}
 use Rattle.std.specs.Prelude.{None}
 use Rattle.std.specs.List.{AllByRecursion}
-use Rattle.cob_copybook.specs.Forests.{Forest}
-use Rattle.cob_copybook.specs.Nodes.{Resolved}
-use Rattle.cob_copybook.specs.Resolving.{resolved}
-use Rattle.cob_copybook.specs.Areas.{ArePossible}
+use Rattle.cob_copybook_tree.specs.Forests.{Forest}
+use Rattle.cob_copybook_tree.specs.Nodes.{Resolved}
+use Rattle.cob_copybook_tree.specs.Resolving.{resolved}
+use Rattle.cob_copybook_lengths.specs.Areas.{ArePossible}
 use Rattle.cob_copybook.proofs.Storages.{possible}
 use Rattle.cob_layout_places.specs.Lengths.{FitsInRecord}
 use Rattle.cob_layout_places.specs.Cover.{AreNumbered}

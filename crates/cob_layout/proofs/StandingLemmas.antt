@@ -2,9 +2,9 @@
 use Rattle.std.proofs.Common.{◌≡◌, ℕ, ◌+◌, ◌*◌, ◌<◌, ◌≤◌, ◌==◌, ◌&&◌, nat_le, Bool, true, false, List, [], ◌∷◌, map, Option, Some, refl, sym, ap, subst, ◌∙◌, arith, inl, inr, Ok, Err, Result}
 use Rattle.std.specs.Prelude.{option_map, if◌then◌else◌, IfOk}
 use Rattle.std.proofs.lemmas.Bool.Decides.{nat_tests}
-use Rattle.cob_copybook.specs.Forests.{Forest, NoEntries, AnEntry, entries_in}
-use Rattle.cob_copybook.specs.Nodes.{Resolved}
-use Rattle.cob_copybook.specs.TreeLengths.{greatest_number, element_length, whole_length, own_length, sum_of}
+use Rattle.cob_copybook_tree.specs.Forests.{Forest, NoEntries, AnEntry, entries_in}
+use Rattle.cob_copybook_tree.specs.Nodes.{Resolved}
+use Rattle.cob_copybook_tree.specs.Lengths.{greatest_number, element_length, whole_length, own_length, sum_of}
 use Rattle.cob_copybook.specs.Books.{IsRecordDescription}
 use Rattle.cob_layout.specs.Sound.{IsSound}
 use Rattle.cob_layout.specs.declared.fields.Place.{Place}

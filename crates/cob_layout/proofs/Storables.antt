@@ -5,17 +5,17 @@ use Rattle.cob_picture.specs.Positions.{PlainPicture}
 use Rattle.cob_picture.specs.Counts.{size, signed}
 use Rattle.cob_picture.specs.declared.category.Category.{Category}
 use Rattle.cob_picture.specs.declared.category.Category.TheVariants.{Alphabetic, Numeric, Alphanumeric, AlphanumericEdited, NumericEdited}
-use Rattle.cob_copybook.specs.Usage.{Usage}
-use Rattle.cob_copybook.specs.Usage.TheVariants.{Display, Binary, Packed}
-use Rattle.cob_copybook.specs.Sign.{Sign}
-use Rattle.cob_copybook.specs.Described.{PlainEntry}
-use Rattle.cob_copybook.specs.Item.{Item}
-use Rattle.cob_copybook.specs.Forests.{Forest, NoEntries, AnEntry, entries_in}
-use Rattle.cob_copybook.specs.TreeLengths.{stored_size}
-use Rattle.cob_copybook.specs.Resolving.{inherited, is_numeric, is_display, keeps_sign, acting, kind_by_picture, resolved}
-use Rattle.cob_copybook.specs.Usages.{AreUsages, MayHave, Takes}
-use Rattle.cob_copybook.specs.Placements.{ArePlaced, MayBeBlank, CanBeBlank}
-use Rattle.cob_layout_places.specs.Items.{TakesPicture, IsNumberItem, display_form, form_by, is_separate}
+use Rattle.cob_entry.specs.declared.kinds.Usage.{Usage}
+use Rattle.cob_entry.specs.declared.kinds.Usage.TheVariants.{Display, Binary, Packed}
+use Rattle.cob_entry.specs.declared.kinds.Sign.{Sign}
+use Rattle.cob_entry.specs.Described.{PlainEntry}
+use Rattle.cob_copybook_tree.specs.declared.node.Item.{Item}
+use Rattle.cob_copybook_tree.specs.Forests.{Forest, NoEntries, AnEntry, entries_in}
+use Rattle.cob_copybook_tree.specs.Lengths.{stored_size}
+use Rattle.cob_copybook_tree.specs.Resolving.{inherited, is_numeric, is_display, keeps_sign, acting, kind_by_picture, resolved}
+use Rattle.cob_copybook_rules.specs.Usages.{AreUsages, MayHave, Takes}
+use Rattle.cob_copybook_rules.specs.Placements.{ArePlaced, MayBeBlank, CanBeBlank}
+use Rattle.cob_copybook_tree.specs.Items.{TakesPicture, IsNumberItem, display_form, form_by, is_separate}
 use Rattle.cob_layout.specs.Sound.{IsStorableKind, AreStorable}
 
 -- an item with a sign that acts where it may

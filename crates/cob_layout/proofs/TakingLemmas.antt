@@ -2,8 +2,8 @@
 use Rattle.std.proofs.Common.{◌≡◌, ℕ, ◌+◌, ◌<◌, ◌≤◌, List, [], ◌∷◌, length, get_or, Some, zero, suc, Result, refl, sym, subst, ◌∙◌, arith, inl, inr, append-nil}
 use Rattle.std.specs.Prelude.{slice_set, slice_index}
 use Rattle.std.proofs.lemmas.List.{get_or-set_other}
-use Rattle.cob_copybook.specs.Forests.{Forest, entries_in}
-use Rattle.cob_copybook.specs.Nodes.{Resolved}
+use Rattle.cob_copybook_tree.specs.Forests.{Forest, entries_in}
+use Rattle.cob_copybook_tree.specs.Nodes.{Resolved}
 use Rattle.cob_layout.specs.Sound.{IsSound}
 use Rattle.cob_layout_places.specs.declared.counts.CountFault.{CountFault}
 use Rattle.cob_layout_places.specs.declared.spots.Spot.{Spot}

@@ -1,10 +1,10 @@
 -- The reach of an entry, from what is held of each.
 use Rattle.std.proofs.Common.{◌≡◌, ℕ, ◌+◌, ◌&&◌, Bool, true, false, List, [], ◌∷◌, ◌++◌, refl, sym, ap, subst, ◌∙◌, arith, inl, inr, ◌⊎◌, append_assoc, append-nil}
 use Rattle.std.specs.Prelude.{◌||◌}
-use Rattle.cob_copybook.specs.ResolvedOccurs.{ResolvedOccurs}
-use Rattle.cob_copybook.specs.ResolvedOccurs.TheVariants.{Once, Fixed, Varying}
-use Rattle.cob_copybook.specs.Forests.{Forest, NoEntries, AnEntry, entries_in}
-use Rattle.cob_copybook.specs.Nodes.{Resolved}
+use Rattle.cob_copybook_tree.specs.declared.node.ResolvedOccurs.{ResolvedOccurs}
+use Rattle.cob_copybook_tree.specs.declared.node.ResolvedOccurs.TheVariants.{Once, Fixed, Varying}
+use Rattle.cob_copybook_tree.specs.Forests.{Forest, NoEntries, AnEntry, entries_in}
+use Rattle.cob_copybook_tree.specs.Nodes.{Resolved}
 use Rattle.cob_layout_places.specs.Places.{is_table}
 use Rattle.cob_layout_places.specs.Cover.{AreNumbered}
 use Rattle.cob_layout_places.specs.Needs.{Has, number_behind}

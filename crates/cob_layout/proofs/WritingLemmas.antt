@@ -1,8 +1,8 @@
 -- A place that meets the item of no kept count: its bytes change, and these counts stay.
 use Rattle.std.proofs.Common.{◌≡◌, ◌⊎◌, ℕ, ◌+◌, ◌<◌, ◌≤◌, List, [], length, Some, sym, subst, ◌∙◌, arith, Ok}
 use Rattle.std.specs.Prelude.{slice_index}
-use Rattle.cob_copybook.specs.Forests.{Forest}
-use Rattle.cob_copybook.specs.Nodes.{Resolved}
+use Rattle.cob_copybook_tree.specs.Forests.{Forest}
+use Rattle.cob_copybook_tree.specs.Nodes.{Resolved}
 use Rattle.cob_layout.specs.declared.fields.Place.{Place}
 use Rattle.cob_layout.specs.Fields.{with_field}
 use Rattle.cob_layout_places.specs.declared.places.Found.{Found}

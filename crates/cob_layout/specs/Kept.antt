@@ -1,7 +1,7 @@
 -- Counts of a storage that are kept.
 use Rattle.std.specs.Prelude.{◌≡◌, ◌⊎◌, ℕ, ◌+◌, ◌≤◌, Bool, true, false, MatchBool, MatchOption, List, [], ◌∷◌, Option, Some, None, Ok, Err, Result, length, if◌then◌else◌, slice_index, slice_set}
-use Rattle.cob_copybook.specs.Forests.{Forest}
-use Rattle.cob_copybook.specs.Nodes.{Resolved}
+use Rattle.cob_copybook_tree.specs.Forests.{Forest}
+use Rattle.cob_copybook_tree.specs.Nodes.{Resolved}
 use Rattle.cob_layout_places.specs.declared.counts.CountFault.{CountFault}
 use Rattle.cob_layout_places.specs.declared.varying.Table.{Table}
 use Rattle.cob_layout_places.specs.Counts.{tables_of, IsCounted, Taken}

@@ -8,31 +8,3 @@ pub mod Standing
 pub mod Fields
 pub mod Sound
 pub mod Kept
--- words of the crates below that the contracts of this one speak of
-pub use Rattle.cob_copybook.specs.BookFault
-pub use Rattle.cob_copybook.specs.BookRule
-pub use Rattle.cob_copybook.specs.Books
-pub use Rattle.cob_copybook.specs.Codes
-pub use Rattle.cob_layout_places.specs.declared.counts.CountFault
-pub use Rattle.cob_layout_places.specs.Counts
-pub use Rattle.cob_layout_places.specs.Cover
-pub use Rattle.cob_copybook.specs.Described
-pub use Rattle.cob_copybook.specs.EntryLists
-pub use Rattle.cob_copybook.specs.Figurative
-pub use Rattle.cob_copybook.specs.Forests
-pub use Rattle.cob_layout_places.specs.declared.places.Found
-pub use Rattle.cob_copybook.specs.Item
-pub use Rattle.cob_layout_places.specs.Items
-pub use Rattle.cob_copybook.specs.Kind
-pub use Rattle.cob_copybook.specs.Meaning
-pub use Rattle.cob_copybook.specs.Node
-pub use Rattle.cob_copybook.specs.Nodes
-pub use Rattle.cob_layout_places.specs.Lengths as PlaceLengths
-pub use Rattle.cob_layout_places.specs.Places
-pub use Rattle.cob_layout_places.specs.References
-pub use Rattle.cob_copybook.specs.ResolvedOccurs
-pub use Rattle.cob_copybook.specs.Resolving
-pub use Rattle.cob_copybook.specs.declared.role.Role
-pub use Rattle.cob_copybook.specs.TreeLengths
-pub use Rattle.cob_copybook.specs.Values
-pub use Rattle.cob_copybook.specs.Written

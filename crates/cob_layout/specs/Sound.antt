@@ -1,15 +1,15 @@
 -- What holds of the tree of every record description.
 use Rattle.std.specs.Prelude.{◌≡◌, ◌⊎◌, ℕ, ◌+◌, ◌<◌, ◌≤◌, true, false, [], None}
 use Rattle.std.specs.List.{AllByRecursion}
-use Rattle.cob_copybook.specs.Kind.{Kind}
-use Rattle.cob_copybook.specs.Kind.TheVariants.{Group, Item as ItemKind}
-use Rattle.cob_copybook.specs.ResolvedOccurs.{ResolvedOccurs}
-use Rattle.cob_copybook.specs.ResolvedOccurs.TheVariants.{Once, Fixed, Varying}
-use Rattle.cob_copybook.specs.Forests.{Forest, NoEntries, AnEntry}
-use Rattle.cob_copybook.specs.Nodes.{Resolved}
+use Rattle.cob_copybook_tree.specs.declared.node.Kind.{Kind}
+use Rattle.cob_copybook_tree.specs.declared.node.Kind.TheVariants.{Group, Item as ItemKind}
+use Rattle.cob_copybook_tree.specs.declared.node.ResolvedOccurs.{ResolvedOccurs}
+use Rattle.cob_copybook_tree.specs.declared.node.ResolvedOccurs.TheVariants.{Once, Fixed, Varying}
+use Rattle.cob_copybook_tree.specs.Forests.{Forest, NoEntries, AnEntry}
+use Rattle.cob_copybook_tree.specs.Nodes.{Resolved}
 use Rattle.cob_limits.specs.Limits.{most_dimensions}
-use Rattle.cob_copybook.specs.Areas.{AreAreas}
-use Rattle.cob_copybook.specs.Values.{AreValues}
+use Rattle.cob_copybook_lengths.specs.Areas.{AreAreas}
+use Rattle.cob_copybook_lengths.specs.Values.{AreValues}
 use Rattle.cob_copybook.specs.Books.{IsRecordDescription}
 use Rattle.cob_layout_places.specs.declared.varying.Table.{Table}
 use Rattle.cob_layout_places.specs.Lengths.{FitsInRecord}
@@ -17,7 +17,7 @@ use Rattle.cob_layout_places.specs.Places.{is_table}
 use Rattle.cob_layout_places.specs.Needs.{Has}
 use Rattle.cob_layout_places.specs.Cover.{AreNumbered}
 use Rattle.cob_layout_places.specs.Counts.{AreCountable, tables_of}
-use Rattle.cob_layout_places.specs.Items.{IsStorable}
+use Rattle.cob_copybook_tree.specs.Items.{IsStorable}
 
 -- an item can be stored
 abbrev pub IsStorableKind : Kind → Type 0

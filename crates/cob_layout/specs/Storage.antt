@@ -1,8 +1,8 @@
 -- The bytes of a record: all of its storage, or its current part.
 use Rattle.std.specs.Prelude.{◌≡◌, ◌⊎◌, ℕ, List, length, take, Ok}
-use Rattle.cob_copybook.specs.Forests.{Forest}
-use Rattle.cob_copybook.specs.Nodes.{Resolved}
-use Rattle.cob_copybook.specs.TreeLengths.{greatest_number, sum_of}
+use Rattle.cob_copybook_tree.specs.Forests.{Forest}
+use Rattle.cob_copybook_tree.specs.Nodes.{Resolved}
+use Rattle.cob_copybook_tree.specs.Lengths.{greatest_number, sum_of}
 use Rattle.cob_layout_places.specs.Lengths.{times}
 use Rattle.cob_layout.specs.Counting.{CountsOf}
 

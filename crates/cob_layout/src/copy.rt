@@ -1,8 +1,8 @@
 //! Copies of trees.
 
 ghost use Rattle.std.specs.Prelude.{◌≡◌, IfOk};
-ghost use Rattle.cob_copybook.specs.Nodes.{forest, node, resolved_entry, tree_of};
-ghost use Rattle.cob_copybook.specs.Node.TheViews.{out-Node};
+ghost use Rattle.cob_copybook_tree.specs.Nodes.{forest, node, resolved_entry, tree_of};
+ghost use Rattle.cob_copybook_tree.specs.declared.node.Node.TheViews.{out-Node};
 ghost use Rattle.cob_copybook.specs.Bytes.{TakesByte, TakeBytes};
 
 use cob_copybook::{Item, Kind, Name, Node, Value};

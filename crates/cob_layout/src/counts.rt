@@ -1,7 +1,7 @@
 //! The counts of the tables of a record.
 
 ghost use Rattle.std.specs.Prelude.{◌≡◌, ◌++◌, [], ◌∷◌, IfOk};
-ghost use Rattle.cob_copybook.specs.Nodes.{tree_of};
+ghost use Rattle.cob_copybook_tree.specs.Nodes.{tree_of};
 ghost use Rattle.cob_layout.specs.Counting.{in_order, varying};
 
 use cob_copybook::{Node, ResolvedOccurs};

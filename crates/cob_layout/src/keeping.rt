@@ -1,7 +1,7 @@
 //! Counts of a storage, some of which are kept.
 
 ghost use Rattle.std.specs.Prelude.{◌≡◌, ◌+◌, ℕ, length, min, Ok, Err, IfOk, IfErr};
-ghost use Rattle.cob_copybook.specs.Nodes.{node, tree_of};
+ghost use Rattle.cob_copybook_tree.specs.Nodes.{node, tree_of};
 ghost use Rattle.cob_layout_places.specs.Counts.{AreCountable, AreNumberedBelow, IsCountable};
 ghost use Rattle.cob_layout_places.specs.Lengths.{EntryFits};
 ghost use Rattle.cob_layout_places.specs.Needs.{is_needed};

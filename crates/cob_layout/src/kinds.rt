@@ -1,8 +1,8 @@
 //! What the entries of a record describe, by the numbers of the entries.
 
 ghost use Rattle.std.specs.Prelude.{◌≡◌, ◌<◌, ◌++◌, length, slice_index_or, Some, IfOk};
-ghost use Rattle.cob_copybook.specs.Forests.{entries_in};
-ghost use Rattle.cob_copybook.specs.Nodes.{tree_of};
+ghost use Rattle.cob_copybook_tree.specs.Forests.{entries_in};
+ghost use Rattle.cob_copybook_tree.specs.Nodes.{tree_of};
 ghost use Rattle.cob_layout_places.specs.Counts.{kind_in};
 ghost use Rattle.cob_layout.specs.Kinds.{kinds_of};
 

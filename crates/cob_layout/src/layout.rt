@@ -1,8 +1,8 @@
 //! Layouts.
 
 ghost use Rattle.std.specs.Prelude.{◌≡◌, ◌<◌, ◌≤◌, ◌+◌, length, Ok, Err, Some, OnOk, IfNone, IfOk, IfErr, IfSome, OnErr, option_map};
-ghost use Rattle.cob_copybook.specs.Forests.{entries_in};
-ghost use Rattle.cob_copybook.specs.TreeLengths.{greatest_number, sum_of};
+ghost use Rattle.cob_copybook_tree.specs.Forests.{entries_in};
+ghost use Rattle.cob_copybook_tree.specs.Lengths.{greatest_number, sum_of};
 ghost use Rattle.cob_limits.specs.Limits.{longest_record};
 ghost use Rattle.cob_copybook.specs.Books.{IsRecordDescription};
 ghost use Rattle.cob_layout_places.specs.Lengths.{times};
@@ -55,9 +55,9 @@ pub struct Layout {
 
 impl Model for Layout {
     ghost use Rattle.std.specs.Prelude.{◌≡◌, [], map};
-    ghost use Rattle.cob_copybook.specs.Forests.{Forest};
-    ghost use Rattle.cob_copybook.specs.Nodes.{Resolved, tree_of};
-    ghost use Rattle.cob_copybook.specs.TreeLengths.{greatest_number, sum_of};
+    ghost use Rattle.cob_copybook_tree.specs.Forests.{Forest};
+    ghost use Rattle.cob_copybook_tree.specs.Nodes.{Resolved, tree_of};
+    ghost use Rattle.cob_copybook_tree.specs.Lengths.{greatest_number, sum_of};
     ghost use Rattle.cob_copybook.specs.Books.{IsRecordDescription};
     ghost use Rattle.cob_layout_places.specs.Lengths.{times};
     ghost use Rattle.cob_layout_places.specs.Counts.{tables_of};

@@ -1,7 +1,7 @@
 //! The counts of a record, taken where they stand.
 
 ghost use Rattle.std.specs.Prelude.{◌≡◌, ◌<◌, [], length, Ok, Err, Some, OnOk, IfOk, IfErr};
-ghost use Rattle.cob_copybook.specs.Nodes.{tree_of};
+ghost use Rattle.cob_copybook_tree.specs.Nodes.{tree_of};
 ghost use Rattle.cob_layout.specs.Sound.{IsSound};
 ghost use Rattle.cob_layout_places.specs.Counts.{tables_of, AreNumberedBelow, IsCountable, IsCounted};
 ghost use Rattle.cob_layout_places.specs.Lengths.{times, FitsInRecord};

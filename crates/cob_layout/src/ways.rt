@@ -1,8 +1,8 @@
 //! What is known of the entries of a record whatever its counts: the tables that hold them, and where those beneath them end.
 
 ghost use Rattle.std.specs.Prelude.{◌≡◌, ◌==◌, ◌&&◌, ◌+◌, ◌++◌, ◌≤◌, [], length, map, IfOk};
-ghost use Rattle.cob_copybook.specs.Forests.{entries_in};
-ghost use Rattle.cob_copybook.specs.Nodes.{node, tree_of};
+ghost use Rattle.cob_copybook_tree.specs.Forests.{entries_in};
+ghost use Rattle.cob_copybook_tree.specs.Nodes.{node, tree_of};
 ghost use Rattle.cob_layout_places.specs.Cover.{AreNumbered};
 ghost use Rattle.cob_layout.specs.Sound.{own_dimension, AreNested};
 ghost use Rattle.cob_limits.specs.Limits.{most_dimensions};

@@ -10,7 +10,7 @@ use Rattle.cob_copybook_tree.specs.declared.node.Kind.TheVariants.{Item as ItemK
 use Rattle.cob_copybook_tree.specs.Forests.{Forest, NoEntries, AnEntry}
 use Rattle.cob_copybook_tree.specs.Nodes.{Resolved}
 use Rattle.cob_copybook_tree.specs.Lengths.{length_by_kind, sum_of, item_size}
-use Rattle.cob_item.proofs.ItemLemmas.{one_number}
+use Rattle.cob_copybook_tree.proofs.ItemLemmas.{one_number}
 use Rattle.cob_layout_places.specs.declared.counts.CountFault.{CountFault}
 use Rattle.cob_layout_places.specs.declared.places.Found.{Found}
 use Rattle.cob_layout_places.specs.declared.varying.Table.{Table}

@@ -4,15 +4,14 @@ ghost use Rattle.cob_copybook_tree.specs.declared.node.Item.{Item};
 ghost use Rattle.cob_copybook_tree.specs.declared.node.Kind.TheVariants.{Item as ItemKind};
 ghost use Rattle.cob_copybook_tree.specs.Nodes.{node, tree_of};
 ghost use Rattle.cob_copybook_tree.specs.Lengths.{item_size};
-ghost use Rattle.cob_item.specs.Items.{IsNumberItem};
+ghost use Rattle.cob_copybook_tree.specs.Items.{IsNumberItem};
 ghost use Rattle.cob_layout_places.specs.Lengths.{times, EntryFits};
 ghost use Rattle.cob_layout_places.specs.Places.{place_of};
 ghost use Rattle.cob_layout_places.specs.Counts.{AreCountable, AreNumberedBelow, IsCountValue, IsCountable, IsCounted, kind_in, SaysOfTable, Taken};
 
 use crate::places::{Found, seek};
 use crate::varying::{Table, kind_with};
-use cob_copybook_tree::{Item, Kind, Node};
-use cob_item::read_number;
+use cob_copybook_tree::{Item, Kind, Node, read_number};
 
 /// A count that gives no number from its table's least to its greatest one.
 #[derive(Clone, Copy, Debug, PartialEq, Eq)]

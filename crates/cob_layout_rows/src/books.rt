@@ -1,7 +1,7 @@
 //! The records of rows, and references to their entries.
 
 ghost use Rattle.std.specs.Prelude.{IfOk};
-ghost use Rattle.cob_move.specs.References.{Refers};
+ghost use Rattle.cob_layout_places.specs.References.{Refers};
 
 use arrayvec::ArrayVec;
 use cob_limits::MAX_SUBSCRIPTS;

@@ -1,8 +1,8 @@
 //! How the counts are taken under which a row asks.
 
 ghost use Rattle.std.specs.Prelude.{◌≡◌, length};
-ghost use Rattle.cob_move.specs.Forests.{entries_in};
-ghost use Rattle.cob_move.specs.References.{Refers};
+ghost use Rattle.cob_copybook_tree.specs.Forests.{entries_in};
+ghost use Rattle.cob_layout_places.specs.References.{Refers};
 
 use cob_move::{CountFault, Counts, Layout, Ref};
 use cob_rows::{RowFault, bytes_of};

@@ -1,8 +1,8 @@
 //! Lengths and places under counts.
 
 ghost use Rattle.std.specs.Prelude.{◌≡◌, length, IfOk};
-ghost use Rattle.cob_move.specs.Forests.{entries_in};
-ghost use Rattle.cob_move.specs.References.{Refers};
+ghost use Rattle.cob_copybook_tree.specs.Forests.{entries_in};
+ghost use Rattle.cob_layout_places.specs.References.{Refers};
 
 use crate::books::{book_of, reference_of};
 use crate::counted::{Counted, counted_of, take};

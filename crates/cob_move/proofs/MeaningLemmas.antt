@@ -2,10 +2,10 @@
 use Rattle.std.proofs.Common.{◌≡◌, ℕ, ◌+◌, ◌<◌, ◌≤◌, List, [], ◌∷◌, ◌++◌, length, get_or, drop, refl, sym, ap, subst, ◌∙◌, append_assoc, append-nil}
 use Rattle.std.proofs.lemmas.List.{drop_all}
 use Rattle.std.proofs.lemmas.Grind.{flat_map-append}
-use Rattle.cob_move_apply.specs.Forests.{Forest}
-use Rattle.cob_move_apply.specs.Nodes.{Resolved}
-use Rattle.cob_move_apply.specs.StatementMoves.{StatementMoves}
-use Rattle.cob_move_apply.specs.Moves.{Move, Records, moves, statement_moves}
+use Rattle.cob_copybook_tree.specs.Forests.{Forest}
+use Rattle.cob_copybook_tree.specs.Nodes.{Resolved}
+use Rattle.cob_layout_places.specs.declared.operands.StatementMoves.{StatementMoves}
+use Rattle.cob_layout_places.specs.Moves.{Move, Records, moves, statement_moves}
 use Rattle.cob_move_statements.specs.declared.parts.Statement.{Statement}
 use Rattle.cob_move_statements.specs.Written.{WrittenStatement, written_statement, written_statements}
 use Rattle.cob_move_references.specs.Candidates.{Candidate, all_entries}

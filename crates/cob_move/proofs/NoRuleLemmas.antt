@@ -2,18 +2,18 @@
 use Rattle.std.proofs.Common.{◌≡◌, Bool, true, false, List, [], ◌∷◌, map, refl, sym, ap, subst, ◌∙◌, inl, inr, Some}
 use Rattle.std.specs.Prelude.{◌||◌}
 use Rattle.std.specs.List.{AllByRecursion}
-use Rattle.cob_move_apply.specs.EntryLists.{BreaksConstant, BreaksValue}
+use Rattle.cob_copybook_entries.specs.Books.{BreaksConstant, BreaksValue}
 use Rattle.cob_move_apply.proofs.EntryNoRule.{no_constant, no_value}
-use Rattle.cob_move_apply.specs.Kind.{Kind}
-use Rattle.cob_move_apply.specs.Forests.{Forest}
-use Rattle.cob_move_apply.specs.Nodes.{Resolved}
-use Rattle.cob_move_apply.specs.Side.{Side}
-use Rattle.cob_move_apply.specs.Side.TheVariants.{In, Out}
-use Rattle.cob_move_apply.specs.Operand.{Operand}
-use Rattle.cob_move_apply.specs.Moves.{Sender, Move}
-use Rattle.cob_move_initial.specs.Table.{SenderKind}
-use Rattle.cob_move_initial.specs.Refusals.{IsAllowed, is_refused}
-use Rattle.cob_move_initial.specs.Refusal.TheVariants as refusal
+use Rattle.cob_copybook_tree.specs.declared.node.Kind.{Kind}
+use Rattle.cob_copybook_tree.specs.Forests.{Forest}
+use Rattle.cob_copybook_tree.specs.Nodes.{Resolved}
+use Rattle.cob_layout_places.specs.declared.operands.Side.{Side}
+use Rattle.cob_layout_places.specs.declared.operands.Side.TheVariants.{In, Out}
+use Rattle.cob_layout_places.specs.declared.operands.Operand.{Operand}
+use Rattle.cob_layout_places.specs.Moves.{Sender, Move}
+use Rattle.cob_move_receive.specs.Table.{SenderKind}
+use Rattle.cob_move_receive.specs.Refusals.{IsAllowed, is_refused}
+use Rattle.cob_move_receive.specs.declared.refusals.Refusal.TheVariants as refusal
 use Rattle.cob_move_statements.specs.declared.fault.MoveFault.{MoveFault}
 use Rattle.cob_move_statements.specs.declared.fault.MoveRule.{MoveRule}
 use Rattle.cob_move_statements.specs.declared.fault.MoveRule.TheVariants as rule

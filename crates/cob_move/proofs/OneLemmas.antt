@@ -1,11 +1,11 @@
 -- A statement has one meaning at most.
 use Rattle.std.proofs.Common.{◌≡◌, List, [], ◌∷◌, ◌++◌, map, sym, ap, ◌∙◌}
-use Rattle.cob_move_apply.specs.Described.{PlainValue}
+use Rattle.cob_entry.specs.Described.{PlainValue}
 use Rattle.cob_move_apply.proofs.EntryOneList.{one_constant}
-use Rattle.cob_move_apply.specs.Side.{Side}
-use Rattle.cob_move_apply.specs.Side.TheVariants.{Out}
-use Rattle.cob_move_apply.specs.Operand.{Operand}
-use Rattle.cob_move_apply.specs.Moves.{Sender, Entry, Literal, Move}
+use Rattle.cob_layout_places.specs.declared.operands.Side.{Side}
+use Rattle.cob_layout_places.specs.declared.operands.Side.TheVariants.{Out}
+use Rattle.cob_layout_places.specs.declared.operands.Operand.{Operand}
+use Rattle.cob_layout_places.specs.Moves.{Sender, Entry, Literal, Move}
 use Rattle.cob_move_statements.specs.Written.{WrittenReference, WrittenSender, SentReference, SentConstant, MoveTo, MoveCorresponding}
 use Rattle.cob_move_references.specs.Candidates.{Candidate}
 use Rattle.cob_move_references.specs.Laws.{OneNamed}

@@ -1,17 +1,17 @@
 -- Operands of a record, known by their entries.
 use Rattle.std.proofs.Common.{◌≡◌, ◌<◌, ◌++◌, List, [], ◌∷◌, map, sym, ap, subst, ◌∙◌, Option, Some, None}
 use Rattle.std.proofs.lemmas.List.{map-append}
-use Rattle.cob_move_apply.specs.Books.{IsRecordDescription}
-use Rattle.cob_move_apply.specs.Forests.{Forest, entries_in}
-use Rattle.cob_move_apply.specs.Sound.{IsSound}
+use Rattle.cob_copybook.specs.Books.{IsRecordDescription}
+use Rattle.cob_copybook_tree.specs.Forests.{Forest, entries_in}
+use Rattle.cob_layout.specs.Sound.{IsSound}
 use Rattle.cob_move_apply.proofs.SeenLemmas.{there}
-use Rattle.cob_move_apply.specs.Nodes.{Resolved}
-use Rattle.cob_move_apply.specs.Kind.{Kind}
-use Rattle.cob_move_apply.specs.Counts.{kind_in}
-use Rattle.cob_move_apply.specs.Side.{Side}
-use Rattle.cob_move_apply.specs.Operand.{Operand}
-use Rattle.cob_move_apply.specs.Ref.{Ref}
-use Rattle.cob_move_apply.specs.Moves.{IsOperand, Records, operand_in, or_group, record_of}
+use Rattle.cob_copybook_tree.specs.Nodes.{Resolved}
+use Rattle.cob_copybook_tree.specs.declared.node.Kind.{Kind}
+use Rattle.cob_layout_places.specs.Counts.{kind_in}
+use Rattle.cob_layout_places.specs.declared.operands.Side.{Side}
+use Rattle.cob_layout_places.specs.declared.operands.Operand.{Operand}
+use Rattle.cob_layout_places.specs.declared.reference.Ref.{Ref}
+use Rattle.cob_layout_places.specs.Moves.{IsOperand, Records, operand_in, or_group, record_of}
 use Rattle.cob_move_statements.specs.Written.{WrittenReference}
 use Rattle.cob_move_references.specs.Candidates.{Candidate, all_entries}
 use Rattle.cob_move_references.specs.Laws.{NamedAreOperands}

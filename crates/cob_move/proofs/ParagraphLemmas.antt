@@ -4,9 +4,9 @@ use Rattle.cob_source.specs.Tokens.{Lexeme}
 use Rattle.cob_source.specs.declared.fault.SourceRule.{SourceRule}
 use Rattle.cob_source.specs.declared.fault.SourceRule.TheVariants as source
 use Rattle.cob_source.specs.Words.{AreParagraphWordsOf, IsSourceRefusal, ParagraphWordsAreOne}
-use Rattle.cob_move_apply.specs.Books.{IsRecordDescription}
-use Rattle.cob_move_apply.specs.Forests.{Forest}
-use Rattle.cob_move_apply.specs.Nodes.{Resolved}
+use Rattle.cob_copybook.specs.Books.{IsRecordDescription}
+use Rattle.cob_copybook_tree.specs.Forests.{Forest}
+use Rattle.cob_copybook_tree.specs.Nodes.{Resolved}
 use Rattle.cob_move_statements.specs.declared.fault.MoveFault.{MoveFault}
 use Rattle.cob_move_statements.specs.declared.fault.MoveRule.{MoveRule}
 use Rattle.cob_move_statements.specs.declared.fault.MoveRule.TheVariants as rule
@@ -14,10 +14,10 @@ use Rattle.cob_move_statements.specs.Faults.{paragraph_fault_by}
 use Rattle.cob_move_statements.specs.Written.{WrittenStatement}
 use Rattle.cob_move_statements.specs.Statements.{IsLineOf, IsParagraph}
 use Rattle.cob_move_statements.specs.Laws.{OneListOfStatements}
-use Rattle.cob_move_apply.specs.StatementMoves.{StatementMoves}
+use Rattle.cob_layout_places.specs.declared.operands.StatementMoves.{StatementMoves}
 use Rattle.cob_move_apply.specs.declared.moves.Moves.{Moves}
 use Rattle.cob_move_apply.specs.Prepared.{ArePrepared}
-use Rattle.cob_move_apply.specs.Moves.{AreMoves, Move, moves}
+use Rattle.cob_layout_places.specs.Moves.{AreMoves, Move, moves}
 use Rattle.cob_move.specs.Meaning.{AreMeant}
 use Rattle.cob_move.specs.MeaningLaws.{MeantAreMoves, MeantBreakNoRule, OneMeant}
 use Rattle.cob_move_references.specs.Candidates.{all_entries}

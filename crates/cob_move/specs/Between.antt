@@ -1,10 +1,10 @@
 -- The pairs of two groups, as they are found.
 use Rattle.std.specs.Prelude.{◌≡◌}
-use Rattle.cob_move_apply.specs.NumberedPair.{NumberedPair}
-use Rattle.cob_move_apply.specs.Moves.{Records}
-use Rattle.cob_move_apply.specs.Nodes.{tree_of}
-use Rattle.cob_move_initial.specs.Table.{Entry as EntryOf}
-use Rattle.cob_move_initial.specs.Refusals.{IsAllowed}
+use Rattle.cob_layout_places.specs.declared.operands.NumberedPair.{NumberedPair}
+use Rattle.cob_layout_places.specs.Moves.{Records}
+use Rattle.cob_copybook_tree.specs.Nodes.{tree_of}
+use Rattle.cob_move_receive.specs.Table.{Entry as EntryOf}
+use Rattle.cob_move_receive.specs.Refusals.{IsAllowed}
 use Rattle.cob_move_statements.specs.declared.fault.MoveRule.{MoveRule}
 use Rattle.cob_move_pairs.specs.declared.correspondences.Correspondences.{Correspondences}
 use Rattle.cob_move_pairs.specs.Between.{Ends}

@@ -1,8 +1,8 @@
 -- What follows from the definitions, said as laws.
 use Rattle.std.specs.Prelude.{◌≡◌, ℕ, List}
-use Rattle.cob_move_apply.specs.Forests.{Forest}
-use Rattle.cob_move_apply.specs.Nodes.{Resolved}
-use Rattle.cob_move_apply.specs.Moves.{Move}
+use Rattle.cob_copybook_tree.specs.Forests.{Forest}
+use Rattle.cob_copybook_tree.specs.Nodes.{Resolved}
+use Rattle.cob_layout_places.specs.Moves.{Move}
 use Rattle.cob_move_statements.specs.declared.fault.MoveFault.{MoveFault}
 use Rattle.cob_move_statements.specs.declared.fault.MoveRule.TheVariants.{Memory}
 use Rattle.cob_move.specs.Paragraphs.{IsParagraphOf, IsRefusalOf}

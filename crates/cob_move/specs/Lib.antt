@@ -5,19 +5,3 @@ pub mod Laws
 pub mod Meaning
 pub mod Refusals
 pub mod MeaningLaws
--- words of the crates below that the contracts of this one speak of
-pub use Rattle.cob_move_apply.specs.BookFault
-pub use Rattle.cob_move_apply.specs.BookRule
-pub use Rattle.cob_move_apply.specs.Books
-pub use Rattle.cob_move_apply.specs.Forests
-pub use Rattle.cob_move_statements.specs.declared.fault.MoveFault
-pub use Rattle.cob_move_statements.specs.declared.fault.MoveRule
-pub use Rattle.cob_move_apply.specs.Moves
-pub use Rattle.cob_move_apply.specs.Nodes
-pub use Rattle.cob_move_apply.specs.Prepared
-pub use Rattle.cob_move_apply.specs.References
-pub use Rattle.cob_move_apply.specs.Role
-pub use Rattle.cob_move_apply.specs.Side
-pub use Rattle.cob_move_apply.specs.declared.stop.Stop
-pub use Rattle.cob_move_apply.specs.declared.stop.StopCause
-pub use Rattle.cob_move_apply.specs.Storage

@@ -1,16 +1,16 @@
 -- What a statement means between two records: its moves.
 use Rattle.std.specs.Prelude.{◌≡◌, ◌||◌, false, List, [], ◌∷◌, ◌++◌, map}
 use Rattle.std.specs.List.{AllByRecursion}
-use Rattle.cob_move_apply.specs.Described.{PlainValue}
-use Rattle.cob_move_apply.specs.Meaning.{IsConstantOf}
-use Rattle.cob_move_apply.specs.Forests.{Forest}
-use Rattle.cob_move_apply.specs.Nodes.{Resolved}
-use Rattle.cob_move_apply.specs.Side.{Side}
-use Rattle.cob_move_apply.specs.Side.TheVariants.{Out}
-use Rattle.cob_move_apply.specs.Operand.{Operand}
-use Rattle.cob_move_apply.specs.Moves.{Sender, Entry, Literal, Move}
-use Rattle.cob_move_initial.specs.Table.{SenderKind, Entry as EntryOf, Literal as LiteralOf}
-use Rattle.cob_move_initial.specs.Refusals.{IsAllowed}
+use Rattle.cob_entry.specs.Described.{PlainValue}
+use Rattle.cob_copybook_entries.specs.Meaning.{IsConstantOf}
+use Rattle.cob_copybook_tree.specs.Forests.{Forest}
+use Rattle.cob_copybook_tree.specs.Nodes.{Resolved}
+use Rattle.cob_layout_places.specs.declared.operands.Side.{Side}
+use Rattle.cob_layout_places.specs.declared.operands.Side.TheVariants.{Out}
+use Rattle.cob_layout_places.specs.declared.operands.Operand.{Operand}
+use Rattle.cob_layout_places.specs.Moves.{Sender, Entry, Literal, Move}
+use Rattle.cob_move_receive.specs.Table.{SenderKind, Entry as EntryOf, Literal as LiteralOf}
+use Rattle.cob_move_receive.specs.Refusals.{IsAllowed}
 use Rattle.cob_move_statements.specs.Written.{WrittenReference, WrittenSender, SentReference, SentConstant, WrittenAction, MoveTo, MoveCorresponding, WrittenStatement}
 use Rattle.cob_move_references.specs.Candidates.{Candidate, all_entries}
 use Rattle.cob_move_references.specs.References.{NamesOperand}

@@ -1,17 +1,17 @@
 -- Which rules a statement breaks.
 use Rattle.std.specs.Prelude.{◌≡◌, ◌⊎◌, ℕ, true, List, [], ◌∷◌, ◌++◌, Option, Some, None}
-use Rattle.cob_move_apply.specs.Written.{WrittenValue}
-use Rattle.cob_move_apply.specs.EntryLists.{BreaksConstant, BreaksValue}
-use Rattle.cob_move_apply.specs.Kind.{Kind}
-use Rattle.cob_move_apply.specs.Forests.{Forest}
-use Rattle.cob_move_apply.specs.Nodes.{Resolved}
-use Rattle.cob_move_apply.specs.Side.{Side}
-use Rattle.cob_move_apply.specs.Side.TheVariants.{Out}
-use Rattle.cob_move_apply.specs.Operand.{Operand}
-use Rattle.cob_move_apply.specs.Moves.{Sender}
-use Rattle.cob_move_initial.specs.Table.{SenderKind, Entry as EntryOf}
-use Rattle.cob_move_initial.specs.Refusals.{is_refused}
-use Rattle.cob_move_initial.specs.Refusal.TheVariants as refusal
+use Rattle.cob_copybook_clauses.specs.Written.{WrittenValue}
+use Rattle.cob_copybook_entries.specs.Books.{BreaksConstant, BreaksValue}
+use Rattle.cob_copybook_tree.specs.declared.node.Kind.{Kind}
+use Rattle.cob_copybook_tree.specs.Forests.{Forest}
+use Rattle.cob_copybook_tree.specs.Nodes.{Resolved}
+use Rattle.cob_layout_places.specs.declared.operands.Side.{Side}
+use Rattle.cob_layout_places.specs.declared.operands.Side.TheVariants.{Out}
+use Rattle.cob_layout_places.specs.declared.operands.Operand.{Operand}
+use Rattle.cob_layout_places.specs.Moves.{Sender}
+use Rattle.cob_move_receive.specs.Table.{SenderKind, Entry as EntryOf}
+use Rattle.cob_move_receive.specs.Refusals.{is_refused}
+use Rattle.cob_move_receive.specs.declared.refusals.Refusal.TheVariants as refusal
 use Rattle.cob_move_statements.specs.declared.fault.MoveRule.{MoveRule}
 use Rattle.cob_move_statements.specs.declared.fault.MoveRule.TheVariants as rule
 use Rattle.cob_move_statements.specs.declared.fault.MoveFault.{MoveFault}

@@ -2,8 +2,8 @@
 
 ghost use Rattle.std.specs.Prelude.{◌≡◌, ◌⊎◌, ◌||◌, map, IfErr, IfOk, OnOk};
 ghost use Rattle.std.specs.List.{AllByRecursion};
-ghost use Rattle.cob_move_apply.specs.Forests.{Forest};
-ghost use Rattle.cob_move_apply.specs.Nodes.{Resolved, tree_of};
+ghost use Rattle.cob_copybook_tree.specs.Forests.{Forest};
+ghost use Rattle.cob_copybook_tree.specs.Nodes.{Resolved, tree_of};
 ghost use Rattle.cob_move.specs.Between.{AreAllowed, ArePairsOf, BreaksBetween, numbered, numbers_of};
 ghost use Rattle.cob_move.specs.Entries.{AreNamed, records_of};
 ghost use Rattle.cob_move.specs.Meaning.{
@@ -14,7 +14,7 @@ ghost use Rattle.cob_move.specs.Meaning.{
   pairs_of,
 };
 ghost use Rattle.cob_move.specs.Refusals.{BreaksPair, BreaksStatement, SomeOf};
-ghost use Rattle.cob_move_apply.specs.Moves.{numbered_move};
+ghost use Rattle.cob_layout_places.specs.Moves.{numbered_move};
 ghost use Rattle.cob_move_pairs.specs.Between.{ends};
 ghost use Rattle.cob_move_pairs.specs.Pairing.{IsTwice};
 ghost use Rattle.cob_move_pairs.specs.Pairs.{AreOnce, is_elementary};

@@ -1,8 +1,8 @@
 //! The entries of two records, as statements name them.
 
 ghost use Rattle.std.specs.Prelude.{◌≡◌, IfErr, IfOk};
-ghost use Rattle.cob_move_apply.specs.Moves.{IsOperand, operand_in, record_of};
-ghost use Rattle.cob_move_apply.specs.Side.TheVariants.{Out};
+ghost use Rattle.cob_layout_places.specs.Moves.{IsOperand, operand_in, record_of};
+ghost use Rattle.cob_layout_places.specs.declared.operands.Side.TheVariants.{Out};
 ghost use Rattle.cob_move_references.specs.Directory.{entries_named};
 ghost use Rattle.cob_move_references.specs.References.{BreaksReceiver, BreaksReference, NamesOperand};
 ghost use Rattle.cob_move_statements.specs.Written.{written_reference};

@@ -11,7 +11,7 @@ ghost use Rattle.cob_move.specs.Refusals.{
   SomeBroken,
   fault_on,
 };
-ghost use Rattle.cob_move_apply.specs.Moves.{Move as Meant, moves, statement_moves};
+ghost use Rattle.cob_layout_places.specs.Moves.{Move as Meant, moves, statement_moves};
 ghost use Rattle.cob_move_references.specs.Directory.{entries_named};
 ghost use Rattle.cob_move_statements.specs.Written.{
   written_action,

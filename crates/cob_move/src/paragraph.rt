@@ -1,12 +1,12 @@
 //! Paragraphs.
 
 ghost use Rattle.std.specs.Prelude.{◌≡◌, length, map, min, IfErr, IfOk, List};
-ghost use Rattle.cob_move_apply.specs.Books.{IsRecordDescription};
-ghost use Rattle.cob_move_apply.specs.Storage.{IsStorage, greatest_length};
+ghost use Rattle.cob_copybook.specs.Books.{IsRecordDescription};
+ghost use Rattle.cob_layout.specs.Storage.{IsStorage, greatest_length};
 ghost use Rattle.cob_move_apply.specs.Applied.{Applied, ending};
 ghost use Rattle.cob_move_apply.specs.Told.{most_moves_told, single_moves};
 ghost use Rattle.cob_move_apply.specs.Room.{room_of};
-ghost use Rattle.cob_move_apply.specs.Moves.{Move as Meant, Records, moves};
+ghost use Rattle.cob_layout_places.specs.Moves.{Move as Meant, Records, moves};
 ghost use Rattle.cob_move_statements.specs.declared.fault.MoveRule.TheVariants.{Memory};
 ghost use Rattle.cob_move.specs.Paragraphs.{IsParagraphOf, IsReadyFor, IsRefusalOf, moves_in};
 

@@ -1,12 +1,12 @@
 //! What a sender means.
 
 ghost use Rattle.std.specs.Prelude.{◌≡◌, List, IfErr, IfOk};
-ghost use Rattle.cob_move_apply.specs.Written.{written_value};
-ghost use Rattle.cob_move_apply.specs.Described.{plain_value};
-ghost use Rattle.cob_move_apply.specs.Meaning.{IsConstantOf};
+ghost use Rattle.cob_copybook_clauses.specs.Written.{written_value};
+ghost use Rattle.cob_entry.specs.Described.{plain_value};
+ghost use Rattle.cob_copybook_entries.specs.Meaning.{IsConstantOf};
 ghost use Rattle.cob_move.specs.Meaning.{IsSenderOf};
 ghost use Rattle.cob_move.specs.Refusals.{BreaksSender};
-ghost use Rattle.cob_move_apply.specs.Moves.{IsSender, sender};
+ghost use Rattle.cob_layout_places.specs.Moves.{IsSender, sender};
 ghost use Rattle.cob_move.specs.Entries.{AreNamed, records_of};
 ghost use Rattle.cob_move_references.specs.Candidates.{Candidate};
 ghost use Rattle.cob_move_references.specs.Directory.{entries_named};

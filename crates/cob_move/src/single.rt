@@ -2,12 +2,12 @@
 
 ghost use Rattle.std.specs.Prelude.{◌≡◌, ◌⊎◌, List, [], ◌∷◌, map, IfErr, IfNone, IfOk, IfSome, OnOk};
 ghost use Rattle.std.specs.List.{AllByRecursion};
-ghost use Rattle.cob_move_apply.specs.Forests.{Forest};
-ghost use Rattle.cob_move_apply.specs.Nodes.{Resolved};
+ghost use Rattle.cob_copybook_tree.specs.Forests.{Forest};
+ghost use Rattle.cob_copybook_tree.specs.Nodes.{Resolved};
 ghost use Rattle.cob_move.specs.Meaning.{AreReceiversOf, IsMoveOf, kind_of_sender};
 ghost use Rattle.cob_move.specs.Refusals.{BreaksMove, BreaksReceipt, BreaksStatement, SomeOf};
-ghost use Rattle.cob_move_apply.specs.Side.TheVariants.{Out};
-ghost use Rattle.cob_move_apply.specs.Moves.{
+ghost use Rattle.cob_layout_places.specs.declared.operands.Side.TheVariants.{Out};
+ghost use Rattle.cob_layout_places.specs.Moves.{
   IsOperand,
   IsSender,
   move,
@@ -15,8 +15,8 @@ ghost use Rattle.cob_move_apply.specs.Moves.{
   sender,
 };
 ghost use Rattle.cob_move.specs.Entries.{AreNamed, records_of};
-ghost use Rattle.cob_move_initial.specs.Refusals.{IsAllowed};
-ghost use Rattle.cob_move_initial.specs.Table.{sender_kind};
+ghost use Rattle.cob_move_receive.specs.Refusals.{IsAllowed};
+ghost use Rattle.cob_move_receive.specs.Table.{sender_kind};
 ghost use Rattle.cob_move_references.specs.Directory.{entries_named};
 ghost use Rattle.cob_move_references.specs.References.{NamesOperand};
 ghost use Rattle.cob_move_statements.specs.Written.{

@@ -1,11 +1,11 @@
 -- How many operands and how many single moves there are.
 use Rattle.std.proofs.Common.{◌≡◌, ℕ, ◌+◌, ◌*◌, ◌<◌, ◌≤◌, List, [], ◌∷◌, ◌++◌, length, get_or, drop, map, min, refl, sym, ap, ◌∙◌, arith}
 use Rattle.std.proofs.lemmas.List.{length-map}
-use Rattle.cob_move_operands.specs.declared.Move as code_move
-use Rattle.cob_move_operands.specs.declared.PairMoves.{PairMoves}
-use Rattle.cob_move_operands.specs.declared.StatementMoves.{StatementMoves}
-use Rattle.cob_move_operands.specs.declared.NumberedPair.{NumberedPair}
-use Rattle.cob_move_operands.specs.Moves.{Move, Records, move, moves, numbered_move, operand_in, statement_moves}
+use Rattle.cob_layout_places.specs.declared.operands.Move as code_move
+use Rattle.cob_layout_places.specs.declared.operands.PairMoves.{PairMoves}
+use Rattle.cob_layout_places.specs.declared.operands.StatementMoves.{StatementMoves}
+use Rattle.cob_layout_places.specs.declared.operands.NumberedPair.{NumberedPair}
+use Rattle.cob_layout_places.specs.Moves.{Move, Records, move, moves, numbered_move, operand_in, statement_moves}
 use Rattle.cob_move_apply.specs.Placed.{operands}
 use Rattle.cob_move_apply.specs.Told.{single_moves}
 use Rattle.cob_move_apply.proofs.StatementLemmas.{cut_statement, none_left}

@@ -1,24 +1,24 @@
 -- Moves end in one way.
 use Rattle.std.proofs.Common.{◌≡◌, ℕ, Bool, true, false, List, [], ◌∷◌, sym, ap, subst, ◌∙◌, inl, inr, Ok, Err, Some, None, Result}
 use Rattle.std.specs.Prelude.{option_map}
-use Rattle.cob_layout.specs.Forests.{Forest}
-use Rattle.cob_layout.specs.Nodes.{Resolved}
+use Rattle.cob_copybook_tree.specs.Forests.{Forest}
+use Rattle.cob_copybook_tree.specs.Nodes.{Resolved}
 use Rattle.cob_layout.specs.declared.fields.Place.{Place}
 use Rattle.cob_layout.specs.Fields.{with_field}
-use Rattle.cob_layout.specs.CountFault.{CountFault}
-use Rattle.cob_layout.specs.PlaceLengths.{times}
-use Rattle.cob_layout.specs.Places.{place_of}
+use Rattle.cob_layout_places.specs.declared.counts.CountFault.{CountFault}
+use Rattle.cob_layout_places.specs.Lengths.{times}
+use Rattle.cob_layout_places.specs.Places.{place_of}
 use Rattle.cob_layout.specs.declared.layout.PlaceFault.{PlaceFault}
 use Rattle.cob_layout.specs.Counting.{NeededOf}
 use Rattle.cob_layout.specs.Laws.{OneOfNeeded}
 use Rattle.cob_layout.specs.Placed.{placed}
 use Rattle.cob_move_receive.specs.Received.{Received, OneReceived}
-use Rattle.cob_move_operands.specs.declared.Side.{Side}
-use Rattle.cob_move_operands.specs.declared.Side.TheVariants.{Out}
-use Rattle.cob_move_operands.specs.declared.Operand.{Operand}
+use Rattle.cob_layout_places.specs.declared.operands.Side.{Side}
+use Rattle.cob_layout_places.specs.declared.operands.Side.TheVariants.{Out}
+use Rattle.cob_layout_places.specs.declared.operands.Operand.{Operand}
 use Rattle.cob_move_apply.specs.declared.stop.Stop.{Stop}
 use Rattle.cob_move_apply.specs.declared.stop.StopCause.TheVariants.{Count, Subscript}
-use Rattle.cob_move_operands.specs.Moves.{Sender, Entry, Literal, Move, Records, record_of}
+use Rattle.cob_layout_places.specs.Moves.{Sender, Entry, Literal, Move, Records, record_of}
 use Rattle.cob_move_apply.specs.Located.{Located, StandsUnder, stop_at}
 use Rattle.cob_move_apply.specs.Applied.{AllGet, Applied, Content, Ending, EntryGives, Gets, Gives, IsMoved, OneEnding, content_at, done, stopped, storage_of}
 

@@ -1,28 +1,28 @@
 -- Where operands stand.
 use Rattle.std.proofs.Common.{◌≡◌, ℕ, ◌+◌, ◌≤◌, [], ◌==◌, Bool, true, false, List, refl, ap, subst, ◌∙◌, Option, Some, None, inr, Ok, Err, Result}
 use Rattle.std.specs.Prelude.{option_map}
-use Rattle.cob_layout.specs.Item.{Item}
-use Rattle.cob_layout.specs.Kind.{Kind}
-use Rattle.cob_layout.specs.Kind.TheVariants.{Group, Item as ItemKind}
-use Rattle.cob_layout.specs.Forests.{Forest, NoEntries, AnEntry}
-use Rattle.cob_layout.specs.Nodes.{Resolved}
-use Rattle.cob_layout.specs.TreeLengths.{item_size}
+use Rattle.cob_copybook_tree.specs.declared.node.Item.{Item}
+use Rattle.cob_copybook_tree.specs.declared.node.Kind.{Kind}
+use Rattle.cob_copybook_tree.specs.declared.node.Kind.TheVariants.{Group, Item as ItemKind}
+use Rattle.cob_copybook_tree.specs.Forests.{Forest, NoEntries, AnEntry}
+use Rattle.cob_copybook_tree.specs.Nodes.{Resolved}
+use Rattle.cob_copybook_tree.specs.Lengths.{item_size}
 use Rattle.cob_layout.specs.declared.fields.Place.{Place}
-use Rattle.cob_layout.specs.PlaceLengths.{times}
-use Rattle.cob_layout.specs.Places.{place_of, or_else, choose}
-use Rattle.cob_layout.specs.Counts.{kind_in}
+use Rattle.cob_layout_places.specs.Lengths.{times}
+use Rattle.cob_layout_places.specs.Places.{place_of, or_else, choose}
+use Rattle.cob_layout_places.specs.Counts.{kind_in}
 use Rattle.cob_layout.proofs.CountLemmas.{found_size, pairs_in}
 use Rattle.cob_layout.specs.Placed.{placed}
 use Rattle.cob_layout.proofs.StorageLemmas.{found_by}
-use Rattle.cob_layout.specs.Books.{IsRecordDescription}
+use Rattle.cob_copybook.specs.Books.{IsRecordDescription}
 use Rattle.cob_layout.specs.declared.layout.PlaceFault.{PlaceFault}
 use Rattle.cob_layout.specs.Counting.{greatest_counts, NeededOf, ReadsNone}
 use Rattle.cob_layout.specs.Laws.{AllGiveNeeded}
 use Rattle.cob_layout.specs.Standing.{ArePlaces, SparesNone, Standing, StandsIn}
 use Rattle.cob_layout.specs.Storage.{greatest_length}
-use Rattle.cob_move_operands.specs.declared.Side.{Side}
-use Rattle.cob_move_operands.specs.declared.Operand.{Operand}
-use Rattle.cob_move_operands.specs.Moves.{IsOperand}
+use Rattle.cob_layout_places.specs.declared.operands.Side.{Side}
+use Rattle.cob_layout_places.specs.declared.operands.Operand.{Operand}
+use Rattle.cob_layout_places.specs.Moves.{IsOperand}
 use Rattle.cob_move_apply.specs.declared.basis.Basis.{Basis}
 use Rattle.cob_move_apply.specs.declared.basis.Basis.TheVariants as basis
 use Rattle.cob_move_apply.specs.declared.stop.StopCause.TheVariants.{Subscript}

@@ -3,20 +3,20 @@ use Rattle.std.proofs.Common.{◌≡◌, ℕ, ◌+◌, ◌-◌, ◌<◌, ◌≤�
 use Rattle.std.proofs.lemmas.List.{drop_all, length-take, length-drop}
 use Rattle.std.proofs.Math.Seq.{take-append_seam}
 use borrow.Rule.Slice.PartMut.{put_mid}
-use Rattle.cob_layout.specs.Kind.{Kind}
-use Rattle.cob_layout.specs.Forests.{Forest}
-use Rattle.cob_layout.specs.Nodes.{Resolved}
+use Rattle.cob_copybook_tree.specs.declared.node.Kind.{Kind}
+use Rattle.cob_copybook_tree.specs.Forests.{Forest}
+use Rattle.cob_copybook_tree.specs.Nodes.{Resolved}
 use Rattle.cob_layout.specs.declared.fields.Place.{Place}
 use Rattle.cob_layout.specs.Fields.{with_field, field_of}
 use Rattle.cob_move_receive.specs.Received.{Received, outcome}
-use Rattle.cob_move_operands.specs.declared.Side.TheVariants.{Out}
+use Rattle.cob_layout_places.specs.declared.operands.Side.TheVariants.{Out}
 use Rattle.cob_move_apply.specs.declared.stop.StopCause.TheVariants.{NoValue}
-use Rattle.cob_move_operands.specs.declared.Operand.{Operand}
+use Rattle.cob_layout_places.specs.declared.operands.Operand.{Operand}
 use Rattle.cob_move_apply.specs.declared.stop.Stop.{Stop}
-use Rattle.cob_move_operands.specs.declared.Side.{Side}
+use Rattle.cob_layout_places.specs.declared.operands.Side.{Side}
 use Rattle.cob_move_receive.specs.Sent as sent
 use Rattle.cob_move_receive.specs.Sent.{Occupies}
-use Rattle.cob_move_operands.specs.Moves.{Sender, Entry, Move, Records, record_of}
+use Rattle.cob_layout_places.specs.Moves.{Sender, Entry, Move, Records, record_of}
 use Rattle.cob_move_apply.proofs.ListLemmas.{next}
 use Rattle.cob_move_apply.specs.Located.{Located, stop_at}
 use Rattle.cob_move_apply.specs.Applied.{Applied, IsMoved, storage_of, AllGet, Content, Ending, Gets, done, stopped}

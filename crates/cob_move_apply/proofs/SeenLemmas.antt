@@ -1,16 +1,16 @@
 -- Entries of a record, and what they describe.
 use Rattle.std.proofs.Common.{◌≡◌, ◌<◌, ℕ, List, [], ◌∷◌, map, ap, subst, sym, arith, Option, Some, None}
-use Rattle.cob_layout.specs.Kind.{Kind}
-use Rattle.cob_layout.specs.Forests.{Forest, entries_in}
-use Rattle.cob_layout.specs.Nodes.{Resolved}
-use Rattle.cob_layout.specs.Counts.{kind_in}
-use Rattle.cob_layout.specs.Cover.{AreNumbered}
-use Rattle.cob_move_operands.specs.Ref.{Ref}
+use Rattle.cob_copybook_tree.specs.declared.node.Kind.{Kind}
+use Rattle.cob_copybook_tree.specs.Forests.{Forest, entries_in}
+use Rattle.cob_copybook_tree.specs.Nodes.{Resolved}
+use Rattle.cob_layout_places.specs.Counts.{kind_in}
+use Rattle.cob_layout_places.specs.Cover.{AreNumbered}
+use Rattle.cob_layout_places.specs.declared.reference.Ref.{Ref}
 use Rattle.cob_layout.proofs.ReferenceLemmas.{has_below, refers_has}
-use Rattle.cob_move_operands.specs.declared.Operand.{Operand}
-use Rattle.cob_move_operands.specs.declared.PairMoves.{PairMoves}
-use Rattle.cob_move_operands.specs.declared.NumberedPair.{NumberedPair}
-use Rattle.cob_move_operands.specs.Moves.{Entry, IsOperand, Records, entry_below, numbered_move, operand_in, or_group, record_of}
+use Rattle.cob_layout_places.specs.declared.operands.Operand.{Operand}
+use Rattle.cob_layout_places.specs.declared.operands.PairMoves.{PairMoves}
+use Rattle.cob_layout_places.specs.declared.operands.NumberedPair.{NumberedPair}
+use Rattle.cob_layout_places.specs.Moves.{Entry, IsOperand, Records, entry_below, numbered_move, operand_in, or_group, record_of}
 use Rattle.cob_move_apply.specs.Applied.{Ending, IsMoved}
 
 -- the entry of an operand is one of the record's

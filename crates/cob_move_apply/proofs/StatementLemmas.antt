@@ -3,8 +3,8 @@ use Rattle.std.proofs.Common.{◌≡◌, ℕ, ◌+◌, ◌<◌, ◌≤◌, List,
 use Rattle.std.proofs.lemmas.List.{drop_all, length-append}
 use Rattle.std.proofs.Math.Seq.{take-append_seam, drop-append_seam}
 use Rattle.std.specs.List.{AllByRecursion}
-use Rattle.cob_move_operands.specs.declared.StatementMoves.{StatementMoves}
-use Rattle.cob_move_operands.specs.Moves.{AreMoves, IsMove, Move, Records, moves, statement_moves}
+use Rattle.cob_layout_places.specs.declared.operands.StatementMoves.{StatementMoves}
+use Rattle.cob_layout_places.specs.Moves.{AreMoves, IsMove, Move, Records, moves, statement_moves}
 use Rattle.cob_move_apply.specs.declared.basis.Basis.{Basis}
 use Rattle.cob_move_apply.specs.declared.stop.Stop.{Stop}
 use Rattle.cob_move_apply.specs.Applied.{Applied, Ending, IsMoved, done, ending, stopped}

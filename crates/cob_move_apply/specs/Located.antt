@@ -1,16 +1,16 @@
 -- Where an operand stands in a storage, or why it doesn't.
 use Rattle.std.specs.Prelude.{◌≡◌, ◌⊎◌, ℕ, Bool, List, Some, Ok, Err, Result, option_map}
-use Rattle.cob_layout.specs.Forests.{Forest}
-use Rattle.cob_layout.specs.Nodes.{Resolved}
+use Rattle.cob_copybook_tree.specs.Forests.{Forest}
+use Rattle.cob_copybook_tree.specs.Nodes.{Resolved}
 use Rattle.cob_layout.specs.declared.fields.Place.{Place}
-use Rattle.cob_layout.specs.CountFault.{CountFault}
-use Rattle.cob_layout.specs.PlaceLengths.{times}
-use Rattle.cob_layout.specs.Places.{place_of}
+use Rattle.cob_layout_places.specs.declared.counts.CountFault.{CountFault}
+use Rattle.cob_layout_places.specs.Lengths.{times}
+use Rattle.cob_layout_places.specs.Places.{place_of}
 use Rattle.cob_layout.specs.declared.layout.PlaceFault.{PlaceFault}
 use Rattle.cob_layout.specs.Placed.{placed}
 use Rattle.cob_layout.specs.Counting.{NeededOf}
-use Rattle.cob_move_operands.specs.declared.Side.{Side}
-use Rattle.cob_move_operands.specs.declared.Operand.{Operand}
+use Rattle.cob_layout_places.specs.declared.operands.Side.{Side}
+use Rattle.cob_layout_places.specs.declared.operands.Operand.{Operand}
 use Rattle.cob_move_apply.specs.declared.stop.Stop.{Stop}
 use Rattle.cob_move_apply.specs.declared.stop.StopCause.{StopCause}
 use Rattle.cob_move_apply.specs.declared.stop.StopCause.TheVariants.{Count, Subscript}

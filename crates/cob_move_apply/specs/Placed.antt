@@ -1,13 +1,13 @@
 -- Moves, with what the places of their operands rest on.
 use Rattle.std.specs.Prelude.{◌≡◌, ℕ, ◌+◌, ◌≤◌, Bool, true, false, List, [], ◌∷◌, ◌++◌, Ok, length}
-use Rattle.cob_layout.specs.Forests.{Forest}
-use Rattle.cob_layout.specs.Nodes.{Resolved}
+use Rattle.cob_copybook_tree.specs.Forests.{Forest}
+use Rattle.cob_copybook_tree.specs.Nodes.{Resolved}
 use Rattle.cob_layout.specs.declared.fields.Place.{Place}
 use Rattle.cob_layout.specs.Standing.{SparesNone}
 use Rattle.cob_layout.specs.Storage.{greatest_length}
-use Rattle.cob_move_operands.specs.declared.Side.{Side}
-use Rattle.cob_move_operands.specs.declared.Operand.{Operand}
-use Rattle.cob_move_operands.specs.Moves.{IsOperand, Move, Records, Sender, Entry, Literal, record_of}
+use Rattle.cob_layout_places.specs.declared.operands.Side.{Side}
+use Rattle.cob_layout_places.specs.declared.operands.Operand.{Operand}
+use Rattle.cob_layout_places.specs.Moves.{IsOperand, Move, Records, Sender, Entry, Literal, record_of}
 use Rattle.cob_move_receive.specs.Sent.{sent}
 use Rattle.cob_move_apply.specs.Applied.{Content}
 use Rattle.cob_move_apply.specs.Located.{Located}

@@ -1,6 +1,6 @@
 -- Moves that are ready to be carried out.
 use Rattle.std.specs.Prelude.{List}
-use Rattle.cob_move_operands.specs.Moves.{Move, Records, moves}
+use Rattle.cob_layout_places.specs.Moves.{Move, Records, moves}
 use Rattle.cob_move_apply.specs.declared.moves.Moves.{Moves}
 use Rattle.cob_move_apply.specs.Placed.{ArePlacedMoves}
 pub use Rattle.cob_move_apply.specs.Told.{most_moves_told, single_moves}

@@ -1,8 +1,8 @@
 -- The room that moves are carried out in.
 use Rattle.std.specs.Prelude.{ℕ}
-use Rattle.cob_layout.specs.Forests.{entries_in}
+use Rattle.cob_copybook_tree.specs.Forests.{entries_in}
 use Rattle.cob_layout.specs.Storage.{greatest_length}
-use Rattle.cob_move_operands.specs.Moves.{Records}
+use Rattle.cob_layout_places.specs.Moves.{Records}
 
 -- so many counts and so many places of either record, and so many bytes of a sender
 pub record RoomForMoves : Type 0 where

@@ -1,10 +1,10 @@
 -- What is known of both records' storages while moves go on.
 use Rattle.std.specs.Prelude.{◌≡◌, ℕ, List, length}
-use Rattle.cob_layout.specs.Forests.{Forest, entries_in}
-use Rattle.cob_layout.specs.Nodes.{Resolved}
+use Rattle.cob_copybook_tree.specs.Forests.{Forest, entries_in}
+use Rattle.cob_copybook_tree.specs.Nodes.{Resolved}
 use Rattle.cob_layout.specs.Standing.{IsRoomFor, Standing, StandsIn, room_in}
 use Rattle.cob_layout.specs.Storage.{greatest_length}
-use Rattle.cob_move_operands.specs.Moves.{Records}
+use Rattle.cob_layout_places.specs.Moves.{Records}
 use Rattle.cob_move_apply.specs.Room.{RoomForMoves}
 use Rattle.cob_move_apply.specs.declared.survey.Known.{Known}
 use Rattle.cob_move_apply.specs.declared.survey.Known.TheVariants as known

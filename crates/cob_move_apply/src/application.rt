@@ -5,7 +5,7 @@ ghost use Rattle.cob_layout.specs.Sound.{IsSound};
 ghost use Rattle.cob_layout.specs.Storage.{greatest_length, IsStorage};
 ghost use Rattle.cob_move_apply.specs.Applied.{Applied, ending};
 ghost use Rattle.cob_move_apply.specs.Placed.{ArePlacedMoves};
-ghost use Rattle.cob_move_operands.specs.Moves.{moves, statement_moves};
+ghost use Rattle.cob_layout_places.specs.Moves.{moves, statement_moves};
 ghost use Rattle.cob_move_apply.specs.Surveyed.{HasSpace, IsWorkspace, records};
 
 use crate::basis::Basis;
@@ -14,7 +14,7 @@ use crate::preparation::operands_in;
 use crate::senders::make_move;
 use crate::stop::Stop;
 use crate::workspace::{Layouts, Workspace};
-use cob_move_operands::StatementMoves;
+use cob_layout_places::StatementMoves;
 
 /// Carries out the moves of a statement in order. The bases are those of their operands, one move's behind another's.
 ///

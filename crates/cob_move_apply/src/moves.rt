@@ -2,7 +2,7 @@
 
 ghost use Rattle.std.specs.Prelude.{◌≡◌, length, min, IfOk};
 ghost use Rattle.cob_layout.specs.Storage.{greatest_length, IsStorage};
-ghost use Rattle.cob_move_operands.specs.Moves.{AreMoves, Records, moves, statement_moves};
+ghost use Rattle.cob_layout_places.specs.Moves.{AreMoves, Records, moves, statement_moves};
 ghost use Rattle.cob_move_apply.specs.Applied.{Applied, ending};
 ghost use Rattle.cob_move_apply.specs.Told.{most_moves_told, single_moves};
 ghost use Rattle.cob_move_apply.specs.Room.{room_of};
@@ -14,7 +14,7 @@ use crate::scratch::Scratch;
 use crate::stop::Stop;
 use crate::workspace::Layouts;
 use cob_layout::{Layout, records_are_sound};
-use cob_move_operands::StatementMoves;
+use cob_layout_places::StatementMoves;
 use std::alloc::{AllocError, Global};
 
 /// A number, or the greatest u32 where it is more.

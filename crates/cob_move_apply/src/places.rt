@@ -1,11 +1,11 @@
 //! Where operands stand.
 
 ghost use Rattle.std.specs.Prelude.{◌≡◌, ◌+◌, ◌≤◌, length, IfOk, IfErr, OnOk, Ok, Err};
-ghost use Rattle.cob_layout.specs.Forests.{entries_in};
+ghost use Rattle.cob_copybook_tree.specs.Forests.{entries_in};
 ghost use Rattle.cob_layout.specs.Sound.{IsSound};
 ghost use Rattle.cob_layout.specs.Storage.{greatest_length};
 ghost use Rattle.cob_layout.specs.Standing.{SparesNone, StandsIn};
-ghost use Rattle.cob_move_operands.specs.Moves.{IsOperand};
+ghost use Rattle.cob_layout_places.specs.Moves.{IsOperand};
 ghost use Rattle.cob_move_receive.specs.Sent.{Occupies};
 ghost use Rattle.cob_move_apply.specs.Located.{Located, stop_at};
 ghost use Rattle.cob_move_apply.specs.Placed.{IsPlaced};
@@ -17,7 +17,7 @@ use crate::basis::{Basis, PlacedOperand};
 use crate::stop::{Stop, StopCause};
 use crate::survey::Survey;
 use cob_layout::{Counts, Layout, Place, PlaceFault, Places, all_give_needed};
-use cob_move_operands::Side;
+use cob_layout_places::Side;
 
 /// The storage of the record of one side.
 #[derive(Clone, Copy)]

@@ -2,7 +2,7 @@
 
 ghost use Rattle.std.specs.Prelude.{◌≡◌, ◌++◌, List, map, true, false, IfOk, OnOk};
 ghost use Rattle.std.specs.List.{AllByRecursion};
-ghost use Rattle.cob_move_operands.specs.Moves.{
+ghost use Rattle.cob_layout_places.specs.Moves.{
   AreMoves,
   IsMove,
   IsOperand,
@@ -28,7 +28,7 @@ ghost use Rattle.cob_move_apply.specs.declared.basis.Basis as code_basis;
 use crate::basis::Basis;
 use crate::pairs::entry_below;
 use cob_layout::{Layout, Ref};
-use cob_move_operands::{Move, NumberedPair, PairMoves, Sender, Side, StatementMoves};
+use cob_layout_places::{Move, NumberedPair, PairMoves, Sender, Side, StatementMoves};
 use std::alloc::{AllocError, Global};
 use std::slice;
 

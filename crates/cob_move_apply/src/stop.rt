@@ -1,4 +1,4 @@
-use cob_move_operands::Side;
+use cob_layout_places::Side;
 
 /// Why the moves stop at a record.
 #[derive(Clone, Copy, Debug, PartialEq, Eq)]

@@ -1,8 +1,8 @@
 //! What is known of the counts of a storage while moves go on.
 
 ghost use Rattle.std.specs.Prelude.{◌≡◌, ◌+◌, ◌≤◌, ℕ, List, length, IfOk, IsTrue};
-ghost use Rattle.cob_layout.specs.Forests.{Forest};
-ghost use Rattle.cob_layout.specs.Nodes.{Resolved};
+ghost use Rattle.cob_copybook_tree.specs.Forests.{Forest};
+ghost use Rattle.cob_copybook_tree.specs.Nodes.{Resolved};
 ghost use Rattle.cob_layout.specs.Fields.{with_field};
 ghost use Rattle.cob_layout.specs.Standing.{StandsIn};
 ghost use Rattle.cob_move_apply.specs.Surveyed.{HasRoom, IsSurvey};

@@ -1,7 +1,7 @@
 //! What moves on one record work with.
 
 ghost use Rattle.std.specs.Prelude.{◌≡◌, List, ℕ, IfOk};
-ghost use Rattle.cob_move_operands.specs.Moves.{Records};
+ghost use Rattle.cob_layout_places.specs.Moves.{Records};
 ghost use Rattle.cob_move_apply.specs.Surveyed.{HasSpace, IsWorkspace};
 
 use crate::survey::Survey;

@@ -2,16 +2,16 @@
 use Rattle.std.proofs.Common.{◌≡◌, ℕ, ◌+◌, ◌-◌, ◌*◌, ◌<◌, ◌≤◌, ◌==◌, ◌&&◌, Bool, true, false, List, [], ◌∷◌, ◌++◌, length, take, drop, Option, None, Some, is_some, inl, inr, refl, sym, ap, ◌∙◌, subst, arith}
 use Rattle.std.proofs.lemmas.Bool.Decides.{nat_tests}
 use Rattle.std.proofs.lemmas.List.{length-append, length-take, length-drop, take_all, take-take, drop_at, drop-drop, drop-take}
-use Rattle.cob_layout.specs.Described.{PlainValue}
-use Rattle.cob_layout.specs.Kind.{Kind}
-use Rattle.cob_layout.specs.Kind.TheVariants.{Group}
-use Rattle.cob_layout.specs.Forests.{Forest, NoEntries, AnEntry, entries_in}
-use Rattle.cob_layout.specs.Nodes.{Resolved}
-use Rattle.cob_layout.specs.TreeLengths.{greatest_number, own_length, sum_of, element_length, whole_length}
-use Rattle.cob_layout.specs.Found.{Found}
-use Rattle.cob_layout.specs.PlaceLengths.{MayOccur}
-use Rattle.cob_layout.specs.Places.{is_table, skipped, later, is_there, begins, also, or_else, choose, place_of}
-use Rattle.cob_layout.specs.Cover.{AreNumbered}
+use Rattle.cob_entry.specs.Described.{PlainValue}
+use Rattle.cob_copybook_tree.specs.declared.node.Kind.{Kind}
+use Rattle.cob_copybook_tree.specs.declared.node.Kind.TheVariants.{Group}
+use Rattle.cob_copybook_tree.specs.Forests.{Forest, NoEntries, AnEntry, entries_in}
+use Rattle.cob_copybook_tree.specs.Nodes.{Resolved}
+use Rattle.cob_copybook_tree.specs.Lengths.{greatest_number, own_length, sum_of, element_length, whole_length}
+use Rattle.cob_layout_places.specs.declared.places.Found.{Found}
+use Rattle.cob_layout_places.specs.Lengths.{MayOccur}
+use Rattle.cob_layout_places.specs.Places.{is_table, skipped, later, is_there, begins, also, or_else, choose, place_of}
+use Rattle.cob_layout_places.specs.Cover.{AreNumbered}
 use Rattle.cob_layout.proofs.CoverLaw.{absent, differs, not_or}
 use Rattle.cob_layout.specs.Sound.{IsSound}
 use Rattle.cob_move_initial.specs.Initial.{HoldsElement, IsInitial}

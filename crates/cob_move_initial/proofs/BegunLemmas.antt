@@ -1,12 +1,12 @@
 -- The storage before the first move, cut by lengths: it is one, and where its elements stand.
 use Rattle.std.proofs.Common.{◌≡◌, ℕ, zero, suc, ◌+◌, ◌*◌, ◌<◌, ◌≤◌, List, ◌++◌, length, take, drop, Option, None, Some, sym, ap, ◌∙◌, subst, arith}
 use Rattle.std.proofs.lemmas.List.{length-append, length-drop, take_at, take-append-le, drop_at, drop-drop, drop-append-le}
-use Rattle.cob_layout.specs.Described.{PlainValue}
-use Rattle.cob_layout.specs.Kind.{Kind}
-use Rattle.cob_layout.specs.Kind.TheVariants.{Group, Item as ItemKind}
-use Rattle.cob_layout.specs.Forests.{Forest, NoEntries, AnEntry}
-use Rattle.cob_layout.specs.Nodes.{Resolved}
-use Rattle.cob_layout.specs.TreeLengths.{greatest_number, own_length, sum_of, element_length}
+use Rattle.cob_entry.specs.Described.{PlainValue}
+use Rattle.cob_copybook_tree.specs.declared.node.Kind.{Kind}
+use Rattle.cob_copybook_tree.specs.declared.node.Kind.TheVariants.{Group, Item as ItemKind}
+use Rattle.cob_copybook_tree.specs.Forests.{Forest, NoEntries, AnEntry}
+use Rattle.cob_copybook_tree.specs.Nodes.{Resolved}
+use Rattle.cob_copybook_tree.specs.Lengths.{greatest_number, own_length, sum_of, element_length}
 use Rattle.cob_move_initial.specs.Initial.{AreParts, Unless, HoldsElement, IsInitial}
 use Rattle.cob_move_initial.specs.Begun.{OfSize, IsBegun}
 

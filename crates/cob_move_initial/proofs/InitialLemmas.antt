@@ -1,11 +1,11 @@
 -- The storage of entries side by side, from the front.
 use Rattle.std.proofs.Common.{◌≡◌, ℕ, List, [], ◌++◌, length, take, Option, None, Some, is_some, true, false, refl, sym, ap, ◌∙◌}
 use Rattle.std.proofs.lemmas.List.{take_at}
-use Rattle.cob_layout.specs.Node.{Node}
-use Rattle.cob_layout.specs.Node.TheViews.{out-Node}
-use Rattle.cob_layout.specs.Forests.{Forest, AnEntry, Tree}
-use Rattle.cob_layout.specs.Nodes.{Resolved, node}
-use Rattle.cob_layout.specs.TreeLengths.{greatest_number, greatest_number_by, sum_of, element_length}
+use Rattle.cob_copybook_tree.specs.declared.node.Node.{Node}
+use Rattle.cob_copybook_tree.specs.declared.node.Node.TheViews.{out-Node}
+use Rattle.cob_copybook_tree.specs.Forests.{Forest, AnEntry, Tree}
+use Rattle.cob_copybook_tree.specs.Nodes.{Resolved, node}
+use Rattle.cob_copybook_tree.specs.Lengths.{greatest_number, greatest_number_by, sum_of, element_length}
 use Rattle.cob_layout.proofs.ForestLemmas.{node_out}
 use Rattle.cob_move_receive.specs.Characters.{repeated}
 use Rattle.cob_move_initial.proofs.PartLemmas.{parts_repeated}

@@ -2,14 +2,14 @@
 use Rattle.std.proofs.Common.{◌≡◌, ℕ, Bool, true, false, List, Some, None, refl, sym, subst}
 use Rattle.std.specs.Prelude.{MatchBool, if◌then◌else◌}
 use Rattle.cob_picture.specs.Positions.{shows_number, PlainPicture}
-use Rattle.cob_layout.specs.Figurative.{Figurative}
-use Rattle.cob_layout.specs.Figurative.TheVariants.{Space, Zero, HighValue, LowValue, Quote}
-use Rattle.cob_layout.specs.Described.{PlainValue, Numeric, Quoted, Figure, Repeated}
-use Rattle.cob_layout.specs.Kind.TheVariants.{Group, Item as ItemKind}
-use Rattle.cob_layout.specs.Item.{Item}
-use Rattle.cob_layout.specs.TreeLengths.{item_size}
-use Rattle.cob_layout.specs.Values.{IsNumericValue}
-use Rattle.cob_layout.specs.Resolving.{is_number}
+use Rattle.cob_entry.specs.declared.kinds.Figurative.{Figurative}
+use Rattle.cob_entry.specs.declared.kinds.Figurative.TheVariants.{Space, Zero, HighValue, LowValue, Quote}
+use Rattle.cob_entry.specs.Described.{PlainValue, Numeric, Quoted, Figure, Repeated}
+use Rattle.cob_copybook_tree.specs.declared.node.Kind.TheVariants.{Group, Item as ItemKind}
+use Rattle.cob_copybook_tree.specs.declared.node.Item.{Item}
+use Rattle.cob_copybook_tree.specs.Lengths.{item_size}
+use Rattle.cob_copybook_lengths.specs.Values.{IsNumericValue}
+use Rattle.cob_copybook_tree.specs.Resolving.{is_number}
 use Rattle.cob_move_receive.specs.Sent.{Amount, Literal}
 use Rattle.cob_move_receive.specs.Numbers.{ConstantGives}
 use Rattle.cob_move_receive.specs.Received.{GetsCharacters, GetsNumber, Received, OneReceived, outcome}

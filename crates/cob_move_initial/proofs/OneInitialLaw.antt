@@ -1,10 +1,10 @@
 -- The storage before the first move is determined, where what items and groups with a value hold is.
 use Rattle.std.proofs.Common.{◌≡◌, ℕ, zero, suc, List, ◌++◌, Option, None, Some, sym, ◌∙◌}
-use Rattle.cob_layout.specs.Described.{PlainValue}
-use Rattle.cob_layout.specs.Kind.{Kind}
-use Rattle.cob_layout.specs.Kind.TheVariants.{Group, Item as ItemKind}
-use Rattle.cob_layout.specs.Forests.{NoEntries, AnEntry}
-use Rattle.cob_layout.specs.TreeLengths.{greatest_number, sum_of}
+use Rattle.cob_entry.specs.Described.{PlainValue}
+use Rattle.cob_copybook_tree.specs.declared.node.Kind.{Kind}
+use Rattle.cob_copybook_tree.specs.declared.node.Kind.TheVariants.{Group, Item as ItemKind}
+use Rattle.cob_copybook_tree.specs.Forests.{NoEntries, AnEntry}
+use Rattle.cob_copybook_tree.specs.Lengths.{greatest_number, sum_of}
 use Rattle.cob_move_initial.specs.Laws.{OneGroup, OneItem, OneInitial}
 use Rattle.cob_move_initial.specs.Initial.{AreParts, Unless, HoldsElement, IsInitial}
 

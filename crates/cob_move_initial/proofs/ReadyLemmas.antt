@@ -1,9 +1,9 @@
 -- Entries that have a storage before the first move.
 use Rattle.std.proofs.Common.{◌≡◌, ℕ, ◌*◌, ◌≤◌, List, Option, None, Some, is_some, true, false, refl, arith}
-use Rattle.cob_layout.specs.Kind.TheVariants.{Group}
-use Rattle.cob_layout.specs.Forests.{Forest, AnEntry}
-use Rattle.cob_layout.specs.Nodes.{Resolved}
-use Rattle.cob_layout.specs.TreeLengths.{greatest_number, own_length, sum_of, whole_length}
+use Rattle.cob_copybook_tree.specs.declared.node.Kind.TheVariants.{Group}
+use Rattle.cob_copybook_tree.specs.Forests.{Forest, AnEntry}
+use Rattle.cob_copybook_tree.specs.Nodes.{Resolved}
+use Rattle.cob_copybook_tree.specs.Lengths.{greatest_number, own_length, sum_of, whole_length}
 use Rattle.cob_layout.proofs.ForestLemmas.{factor_le}
 use Rattle.cob_move_initial.specs.Ready.{HaveInitialStorage, HasInitialStorage}
 

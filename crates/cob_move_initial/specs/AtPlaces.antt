@@ -1,10 +1,10 @@
 -- What entries hold at their places, before the first move.
 use Rattle.std.specs.Prelude.{◌≡◌, ◌⊎◌, ℕ, List, take, drop, None, IsSomeAnd}
-use Rattle.cob_layout.specs.Kind.TheVariants.{Group}
-use Rattle.cob_layout.specs.Forests.{Forest, NoEntries, AnEntry}
-use Rattle.cob_layout.specs.Nodes.{Resolved}
-use Rattle.cob_layout.specs.TreeLengths.{greatest_number, sum_of}
-use Rattle.cob_layout.specs.Places.{place_of}
+use Rattle.cob_copybook_tree.specs.declared.node.Kind.TheVariants.{Group}
+use Rattle.cob_copybook_tree.specs.Forests.{Forest, NoEntries, AnEntry}
+use Rattle.cob_copybook_tree.specs.Nodes.{Resolved}
+use Rattle.cob_copybook_tree.specs.Lengths.{greatest_number, sum_of}
+use Rattle.cob_layout_places.specs.Places.{place_of}
 use Rattle.cob_move_initial.specs.Initial.{HoldsElement, IsInitial}
 
 -- the entry, with just these beneath it, is one of these or stands beneath one, in no redefinition and beneath no group with a value

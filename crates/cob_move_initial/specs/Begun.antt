@@ -1,8 +1,8 @@
 -- The storage of a record before the first move, cut into elements by their lengths.
 use Rattle.std.specs.Prelude.{◌≡◌, ℕ, List, [], ◌++◌, length}
-use Rattle.cob_layout.specs.Forests.{Forest, NoEntries, AnEntry}
-use Rattle.cob_layout.specs.Nodes.{Resolved}
-use Rattle.cob_layout.specs.TreeLengths.{greatest_number, sum_of, element_length}
+use Rattle.cob_copybook_tree.specs.Forests.{Forest, NoEntries, AnEntry}
+use Rattle.cob_copybook_tree.specs.Nodes.{Resolved}
+use Rattle.cob_copybook_tree.specs.Lengths.{greatest_number, sum_of, element_length}
 use Rattle.cob_move_initial.specs.Initial.{AreParts, Unless, HoldsElement}
 
 -- so many bytes, which are so

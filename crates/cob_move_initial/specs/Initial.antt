@@ -1,11 +1,11 @@
 -- The storage of a record before the first move.
 use Rattle.std.specs.Prelude.{◌≡◌, ℕ, zero, suc, List, [], ◌++◌, Option, Some, None}
-use Rattle.cob_layout.specs.Described.{PlainValue}
-use Rattle.cob_layout.specs.Kind.{Kind}
-use Rattle.cob_layout.specs.Kind.TheVariants.{Group, Item as ItemKind}
-use Rattle.cob_layout.specs.Forests.{Forest, NoEntries, AnEntry}
-use Rattle.cob_layout.specs.Nodes.{Resolved}
-use Rattle.cob_layout.specs.TreeLengths.{greatest_number, sum_of}
+use Rattle.cob_entry.specs.Described.{PlainValue}
+use Rattle.cob_copybook_tree.specs.declared.node.Kind.{Kind}
+use Rattle.cob_copybook_tree.specs.declared.node.Kind.TheVariants.{Group, Item as ItemKind}
+use Rattle.cob_copybook_tree.specs.Forests.{Forest, NoEntries, AnEntry}
+use Rattle.cob_copybook_tree.specs.Nodes.{Resolved}
+use Rattle.cob_copybook_tree.specs.Lengths.{greatest_number, sum_of}
 use Rattle.cob_move_initial.specs.Values.{HoldsGroup, HoldsItem}
 
 -- so many parts, one behind another, each of which is so

@@ -1,11 +1,11 @@
 -- What the storage before the first move asks of entries: that they have one.
 use Rattle.std.specs.Prelude.{◌<◌, ◌≤◌, false, is_some}
 use Rattle.cob_limits.specs.Limits.{longest_record}
-use Rattle.cob_layout.specs.Forests.{Forest}
-use Rattle.cob_layout.specs.Nodes.{Resolved}
-use Rattle.cob_layout.specs.TreeLengths.{greatest_number, sum_of, whole_length}
-use Rattle.cob_layout.specs.Values.{MayHaveValue, AreValues}
-use Rattle.cob_layout.specs.PlaceLengths.{MayOccur}
+use Rattle.cob_copybook_tree.specs.Forests.{Forest}
+use Rattle.cob_copybook_tree.specs.Nodes.{Resolved}
+use Rattle.cob_copybook_tree.specs.Lengths.{greatest_number, sum_of, whole_length}
+use Rattle.cob_copybook_lengths.specs.Values.{MayHaveValue, AreValues}
+use Rattle.cob_layout_places.specs.Lengths.{MayOccur}
 use Rattle.cob_layout.specs.Sound.{IsStorableKind, AreStorable}
 
 -- Entries side by side, which stand in no redefinition and beneath no group with a value, occur at least once under greatest counts, their items

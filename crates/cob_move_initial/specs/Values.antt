@@ -1,13 +1,13 @@
 -- What items and groups hold before the first move: their VALUE, or what MOVE ZERO or MOVE SPACE leaves.
 use Rattle.std.specs.Prelude.{ℕ, List, Option, Some, None, MatchBool, if◌then◌else◌}
 use Rattle.cob_picture.specs.Positions.{shows_number}
-use Rattle.cob_layout.specs.Figurative.{Figurative}
-use Rattle.cob_layout.specs.Figurative.TheVariants.{Space, Zero}
-use Rattle.cob_layout.specs.Described.{PlainValue, Figure}
-use Rattle.cob_layout.specs.Kind.TheVariants.{Group, Item as ItemKind}
-use Rattle.cob_layout.specs.Item.{Item}
-use Rattle.cob_layout.specs.TreeLengths.{item_size}
-use Rattle.cob_layout.specs.Resolving.{is_number}
+use Rattle.cob_entry.specs.declared.kinds.Figurative.{Figurative}
+use Rattle.cob_entry.specs.declared.kinds.Figurative.TheVariants.{Space, Zero}
+use Rattle.cob_entry.specs.Described.{PlainValue, Figure}
+use Rattle.cob_copybook_tree.specs.declared.node.Kind.TheVariants.{Group, Item as ItemKind}
+use Rattle.cob_copybook_tree.specs.declared.node.Item.{Item}
+use Rattle.cob_copybook_tree.specs.Lengths.{item_size}
+use Rattle.cob_copybook_tree.specs.Resolving.{is_number}
 use Rattle.cob_move_receive.specs.Sent.{Literal}
 use Rattle.cob_move_receive.specs.Received.{Received}
 

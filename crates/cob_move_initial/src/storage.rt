@@ -1,8 +1,8 @@
 //! The storage of a record before the first move.
 
 ghost use Rattle.std.specs.Prelude.{◌≡◌, ℕ, ◌*◌, ◌<◌, length, take, None};
-ghost use Rattle.cob_layout.specs.Nodes.{node, forest};
-ghost use Rattle.cob_layout.specs.TreeLengths.{greatest_number, sum_of, element_length, whole_length};
+ghost use Rattle.cob_copybook_tree.specs.Nodes.{node, forest};
+ghost use Rattle.cob_copybook_tree.specs.Lengths.{greatest_number, sum_of, element_length, whole_length};
 ghost use Rattle.cob_move_receive.specs.Characters.{repeated};
 ghost use Rattle.cob_move_initial.specs.Initial.{HoldsElement, IsInitial};
 ghost use Rattle.cob_move_initial.specs.Begun.{AreElements, IsBegun};

@@ -1,8 +1,8 @@
 -- The pairs of two groups.
 use Rattle.std.proofs.Common.{◌≡◌, ℕ, false, List, [], map, sym, ap, subst, ◌∙◌}
 use Rattle.std.specs.Prelude.{◌||◌}
-use Rattle.cob_move_operands.specs.Forests.{Forest}
-use Rattle.cob_move_operands.specs.Nodes.{Resolved}
+use Rattle.cob_copybook_tree.specs.Forests.{Forest}
+use Rattle.cob_copybook_tree.specs.Nodes.{Resolved}
 use Rattle.cob_move_statements.specs.declared.fault.MoveRule.{MoveRule}
 use Rattle.cob_move_statements.specs.declared.fault.MoveRule.TheVariants as rule
 use Rattle.cob_move_pairs.specs.Pairs.{pairs_among, AreOnce, Subordinate, Pair, corresponding_pairs, subordinates}

@@ -4,9 +4,9 @@ use Rattle.std.specs.Prelude.{◌&&◌, nat_eq, cond, Result, Ok, Err, OnOk, OnE
 use Rattle.std.specs.Option.{ForSome}
 use Rattle.std.specs.Map.{lookup}
 use Rattle.indexmap.specs.IndexMap.{IndexMap, get_by, IsUnchanged, Updates}
-use Rattle.cob_move_operands.specs.Forests.{Forest}
-use Rattle.cob_move_operands.specs.Node.{Node}
-use Rattle.cob_move_operands.specs.Nodes.{Resolved, tree_of}
+use Rattle.cob_copybook_tree.specs.Forests.{Forest}
+use Rattle.cob_copybook_tree.specs.declared.node.Node.{Node}
+use Rattle.cob_copybook_tree.specs.Nodes.{Resolved, tree_of}
 use Rattle.cob_move_pairs.specs.Between.{AreFoundPairs, ends, ends_of, pairs_below}
 use Rattle.cob_move_pairs.specs.Groups.{entries_below}
 use Rattle.cob_move_pairs.specs.Keys.{same_groups}

@@ -1,11 +1,11 @@
 -- The entries of nodes.
 use Rattle.std.proofs.Common.{◌≡◌, ℕ, ◌+◌, ◌<◌, List, length, get_or, drop, sym, ap, ◌∙◌}
 use Rattle.std.proofs.lemmas.List.{at_drop_more}
-use Rattle.cob_move_operands.specs.Node.{Node}
-use Rattle.cob_move_operands.specs.Node.TheViews.{out-Node}
-use Rattle.cob_move_operands.specs.Node.TheFolds.{fold_out-Node}
-use Rattle.cob_move_operands.specs.Forests.{AnEntry, Tree}
-use Rattle.cob_move_operands.specs.Nodes.{Resolved, forest, node, node_step, resolved_entry}
+use Rattle.cob_copybook_tree.specs.declared.node.Node.{Node}
+use Rattle.cob_copybook_tree.specs.declared.node.Node.TheViews.{out-Node}
+use Rattle.cob_copybook_tree.specs.declared.node.Node.TheFolds.{fold_out-Node}
+use Rattle.cob_copybook_tree.specs.Forests.{AnEntry, Tree}
+use Rattle.cob_copybook_tree.specs.Nodes.{Resolved, forest, node, node_step, resolved_entry}
 
 pub node_out : (n : Node) → node n ≡ record { top = resolved_entry (out-Node n); beneath = forest (out-Node n).children.items }
 node_out n = fold_out-Node (Tree Resolved) node_step n

@@ -2,16 +2,16 @@
 use Rattle.std.proofs.Common.{◌≡◌, ℕ, ◌+◌, ◌<◌, ◌≤◌, ◌==◌, Bool, true, false, List, [], ◌∷◌, ◌++◌, refl, sym, ap, subst, ◌∙◌, inl, inr, ◌⊎◌, arith, Option, Some, None}
 use Rattle.std.specs.Prelude.{◌||◌, is_some, if◌then◌else◌}
 use Rattle.std.proofs.lemmas.Bool.Decides.{nat_tests}
-use Rattle.cob_move_operands.specs.Kind.{Kind}
-use Rattle.cob_move_operands.specs.Forests.{Forest, NoEntries, AnEntry, entries_in}
-use Rattle.cob_move_operands.specs.Nodes.{Resolved}
-use Rattle.cob_move_operands.specs.TreeLengths.{greatest_number}
-use Rattle.cob_move_operands.specs.Places.{choose, is_table, later, or_else}
-use Rattle.cob_move_operands.specs.Counts.{kind_in}
-use Rattle.cob_move_operands.specs.Cover.{AreNumbered}
-use Rattle.cob_move_operands.specs.References.{IsSubscripted, Refers}
-use Rattle.cob_move_operands.specs.declared.Operand.{Operand}
-use Rattle.cob_move_operands.specs.Moves.{IsOperand}
+use Rattle.cob_copybook_tree.specs.declared.node.Kind.{Kind}
+use Rattle.cob_copybook_tree.specs.Forests.{Forest, NoEntries, AnEntry, entries_in}
+use Rattle.cob_copybook_tree.specs.Nodes.{Resolved}
+use Rattle.cob_copybook_tree.specs.Lengths.{greatest_number}
+use Rattle.cob_layout_places.specs.Places.{choose, is_table, later, or_else}
+use Rattle.cob_layout_places.specs.Counts.{kind_in}
+use Rattle.cob_layout_places.specs.Cover.{AreNumbered}
+use Rattle.cob_layout_places.specs.References.{IsSubscripted, Refers}
+use Rattle.cob_layout_places.specs.declared.operands.Operand.{Operand}
+use Rattle.cob_layout_places.specs.Moves.{IsOperand}
 use Rattle.cob_move_pairs.specs.Groups.{IsListed, SubordinatesAreOperands, entries_below, found_below, operand_below, or_bare}
 use Rattle.cob_move_pairs.specs.Pairs.{Subordinate, is_left_out, own_subordinate, between_below, subordinates}
 

@@ -2,8 +2,8 @@
 use Rattle.std.proofs.Common.{◌≡◌, ℕ, Bool, true, false, List, [], ◌∷◌, ◌++◌, ◌==◌, length, refl, sym, ap, ◌∙◌, append_assoc, arith, Bor}
 use Rattle.std.specs.Prelude.{if◌then◌else◌}
 use Rattle.std.proofs.lemmas.Bool.Decides.{nat_tests}
-use Rattle.cob_move_operands.specs.Forests.{Forest, AnEntry}
-use Rattle.cob_move_operands.specs.Nodes.{Resolved}
+use Rattle.cob_copybook_tree.specs.Forests.{Forest, AnEntry}
+use Rattle.cob_copybook_tree.specs.Nodes.{Resolved}
 use Rattle.cob_move_pairs.specs.Pairs.{Subordinate, subordinates, between_below, is_left_out, own_subordinate, same_names}
 use Rattle.cob_move_pairs.specs.Listed.{names_between}
 

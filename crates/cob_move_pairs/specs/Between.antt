@@ -1,11 +1,11 @@
 -- The pairs below the groups of two records.
 use Rattle.std.specs.Prelude.{◌≡◌, ℕ, List, map}
-use Rattle.cob_move_operands.specs.Kind.{Kind}
-use Rattle.cob_move_operands.specs.Forests.{Forest}
-use Rattle.cob_move_operands.specs.Nodes.{Resolved}
-use Rattle.cob_move_operands.specs.Node.TheViews.{out-Node}
-use Rattle.cob_move_operands.specs.declared.Side.{Side}
-use Rattle.cob_move_operands.specs.declared.Side.TheVariants.{In, Out}
+use Rattle.cob_copybook_tree.specs.declared.node.Kind.{Kind}
+use Rattle.cob_copybook_tree.specs.Forests.{Forest}
+use Rattle.cob_copybook_tree.specs.Nodes.{Resolved}
+use Rattle.cob_copybook_tree.specs.declared.node.Node.TheViews.{out-Node}
+use Rattle.cob_layout_places.specs.declared.operands.Side.{Side}
+use Rattle.cob_layout_places.specs.declared.operands.Side.TheVariants.{In, Out}
 use Rattle.cob_move_pairs.specs.declared.pair.EntryPair.{EntryPair}
 use Rattle.cob_move_pairs.specs.Groups.{entries_below}
 use Rattle.cob_move_pairs.specs.Pairs.{AreOnce, Pair, corresponding_pairs}

@@ -1,8 +1,8 @@
 -- Which pairs were found.
 use Rattle.std.specs.Prelude.{ℕ, IsSome}
 use Rattle.indexmap.specs.IndexMap.{get_by}
-use Rattle.cob_move_operands.specs.declared.Side.{Side}
-use Rattle.cob_move_operands.specs.declared.Side.TheVariants.{In, Out}
+use Rattle.cob_layout_places.specs.declared.operands.Side.{Side}
+use Rattle.cob_layout_places.specs.declared.operands.Side.TheVariants.{In, Out}
 use Rattle.cob_move_pairs.specs.declared.correspondences.Correspondences.{Correspondences}
 use Rattle.cob_move_pairs.specs.declared.sending.SendingRecord.{SendingRecord}
 use Rattle.cob_move_pairs.specs.Keys.{same_groups}

@@ -1,11 +1,11 @@
 -- What is below a group of a record, and where that refers.
 use Rattle.std.specs.Prelude.{◌≡◌, ◌⊎◌, ℕ, ◌==◌, List, [], ◌∷◌, Option, Some, None}
-use Rattle.cob_move_operands.specs.Forests.{Forest, NoEntries, AnEntry}
-use Rattle.cob_move_operands.specs.Nodes.{Resolved}
-use Rattle.cob_move_operands.specs.Cover.{AreNumbered}
-use Rattle.cob_move_operands.specs.Places.{choose, or_else}
-use Rattle.cob_move_operands.specs.declared.Operand.{Operand}
-use Rattle.cob_move_operands.specs.Moves.{IsOperand}
+use Rattle.cob_copybook_tree.specs.Forests.{Forest, NoEntries, AnEntry}
+use Rattle.cob_copybook_tree.specs.Nodes.{Resolved}
+use Rattle.cob_layout_places.specs.Cover.{AreNumbered}
+use Rattle.cob_layout_places.specs.Places.{choose, or_else}
+use Rattle.cob_layout_places.specs.declared.operands.Operand.{Operand}
+use Rattle.cob_layout_places.specs.Moves.{IsOperand}
 use Rattle.cob_move_pairs.specs.Pairs.{Subordinate, subordinates}
 
 -- what is below the first entry with this number, if there is one

@@ -1,7 +1,7 @@
 -- Entries and pairs without where they lie in memory.
 use Rattle.std.specs.Prelude.{ℕ, List, map}
 use Rattle.std.specs.Borrow.{Bor}
-use Rattle.cob_move_operands.specs.Node.TheViews.{out-Node}
+use Rattle.cob_copybook_tree.specs.declared.node.Node.TheViews.{out-Node}
 use Rattle.cob_move_pairs.specs.declared.subordinate.Subordinate.{Subordinate as Listed}
 use Rattle.cob_move_pairs.specs.declared.pair.Pair.{Pair as Paired}
 use Rattle.cob_move_pairs.specs.Pairs.{Subordinate, Pair}

@@ -1,7 +1,7 @@
 -- The pairs of two groups as numbers, and why there are none.
 use Rattle.std.specs.Prelude.{◌≡◌, ℕ, Bool, true, false, ◌||◌, List, map}
-use Rattle.cob_move_operands.specs.Forests.{Forest, NoEntries, AnEntry}
-use Rattle.cob_move_operands.specs.Nodes.{Resolved}
+use Rattle.cob_copybook_tree.specs.Forests.{Forest, NoEntries, AnEntry}
+use Rattle.cob_copybook_tree.specs.Nodes.{Resolved}
 use Rattle.cob_move_statements.specs.declared.fault.MoveRule.{MoveRule}
 use Rattle.cob_move_statements.specs.declared.fault.MoveRule.TheVariants as rule
 use Rattle.cob_move_pairs.specs.Pairs.{AreOnce, Pair, Subordinate, corresponding_pairs, is_elementary}

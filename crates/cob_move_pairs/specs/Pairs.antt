@@ -1,11 +1,11 @@
 -- The pairs of a MOVE CORRESPONDING.
 use Rattle.std.specs.Prelude.{ℕ, Bool, true, false, ◌&&◌, ◌||◌, is_some, ◌==◌, ◌≤◌, List, [], ◌∷◌, ◌++◌, Option, Some, None, bytes_eq, if◌then◌else◌, filter, map, length}
 use Rattle.std.specs.List.{flat_map}
-use Rattle.cob_move_operands.specs.Kind.{Kind}
-use Rattle.cob_move_operands.specs.Kind.TheVariants.{Group, Item as ItemKind}
-use Rattle.cob_move_operands.specs.Forests.{Forest, NoEntries, AnEntry}
-use Rattle.cob_move_operands.specs.Nodes.{Resolved}
-use Rattle.cob_move_operands.specs.Places.{is_table}
+use Rattle.cob_copybook_tree.specs.declared.node.Kind.{Kind}
+use Rattle.cob_copybook_tree.specs.declared.node.Kind.TheVariants.{Group, Item as ItemKind}
+use Rattle.cob_copybook_tree.specs.Forests.{Forest, NoEntries, AnEntry}
+use Rattle.cob_copybook_tree.specs.Nodes.{Resolved}
+use Rattle.cob_layout_places.specs.Places.{is_table}
 use Rattle.cob_move_receive.specs.Table.{Entry, may_move}
 
 -- An entry below a group: its number, its name, the names of the groups between, the nearest first, and what it describes.

@@ -1,7 +1,7 @@
 //! The pairs of the groups of two records.
 
 ghost use Rattle.std.specs.Prelude.{◌≡◌, map, IfErr, OnOk};
-ghost use Rattle.cob_move_operands.specs.Nodes.{tree_of};
+ghost use Rattle.cob_copybook_tree.specs.Nodes.{tree_of};
 ghost use Rattle.cob_move_pairs.specs.Between.{ends, ends_of, entries_of, pairs_below};
 ghost use Rattle.cob_move_pairs.specs.Found.{ArePairsFound};
 ghost use Rattle.cob_move_pairs.specs.Pairing.{IsTwice};
@@ -11,7 +11,7 @@ use crate::correspondences::Correspondences;
 use crate::listed_groups::ListedGroups;
 use crate::pair::EntryPair;
 use crate::sending::SendingRecord;
-use cob_move_operands::{Node, Side};
+use cob_layout_places::{Node, Side};
 use cob_move_statements::MoveRule;
 use std::alloc::Global;
 

@@ -4,7 +4,7 @@ ghost use Rattle.std.specs.Prelude.{◌≡◌};
 
 use crate::listed_groups::ListedGroups;
 use crate::sending::SendingRecord;
-use cob_move_operands::Node;
+use cob_layout_places::Node;
 
 /// The pairs below the groups of two records. Those of two groups are found once, and what is below a group is listed once.
 #[derive(Drop)]

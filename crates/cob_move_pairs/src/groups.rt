@@ -1,10 +1,10 @@
 //! What is below a group of a record.
 
 ghost use Rattle.std.specs.Prelude.{◌≡◌, Some, None, IfNone, IfSome};
-ghost use Rattle.cob_move_operands.specs.Nodes.{forest, tree_of};
+ghost use Rattle.cob_copybook_tree.specs.Nodes.{forest, tree_of};
 ghost use Rattle.cob_move_pairs.specs.Groups.{entries_below, found_below};
 
-use cob_move_operands::Node;
+use cob_layout_places::Node;
 
 /// What is below the entry with this number, if it is one of those below this entry, or this one.
 fn found_below(entry: &Node, number: usize) -> Option<&[Node]>

@@ -3,7 +3,7 @@
 ghost use Rattle.std.specs.Prelude.{◌≡◌, ℕ, nat_eq, [], OnOk};
 ghost use Rattle.std.specs.Option.{ForSome};
 ghost use Rattle.indexmap.specs.IndexMap.{ContainsKey, get};
-ghost use Rattle.cob_move_operands.specs.Nodes.{tree_of};
+ghost use Rattle.cob_copybook_tree.specs.Nodes.{tree_of};
 ghost use Rattle.cob_move_pairs.specs.Groups.{entries_below};
 ghost use Rattle.cob_move_pairs.specs.Listed.{subordinates_listed};
 ghost use Rattle.cob_move_pairs.specs.Pairs.{subordinates};
@@ -11,7 +11,7 @@ ghost use Rattle.cob_move_pairs.specs.Pairs.{subordinates};
 use crate::groups::entries_below;
 use crate::pairing::subordinates;
 use crate::partners::Partners;
-use cob_move_operands::Node;
+use cob_layout_places::Node;
 use indexmap::IndexMap;
 use std::alloc::{AllocError, Global};
 

@@ -1,7 +1,7 @@
 //! Two entries that correspond.
 
 use crate::subordinate::Subordinate;
-use cob_move_operands::Node;
+use cob_layout_places::Node;
 
 /// Two entries below groups that correspond, with the names by which they do.
 #[derive(Clone, Copy)]

@@ -9,7 +9,7 @@ ghost use Rattle.std.specs.Prelude.{
   IfOk,
   IfErr,
 };
-ghost use Rattle.cob_move_operands.specs.Nodes.{forest, tree_of};
+ghost use Rattle.cob_copybook_tree.specs.Nodes.{forest, tree_of};
 ghost use Rattle.cob_move_pairs.specs.Between.{AreFoundPairs, ends, ends_of};
 ghost use Rattle.cob_move_pairs.specs.Listed.{pairs, subordinates_listed};
 ghost use Rattle.cob_move_pairs.specs.Pairing.{
@@ -30,7 +30,7 @@ use crate::pair::{EntryPair, Pair};
 use crate::pair_list::PairList;
 use crate::partners::Partners;
 use crate::subordinate::{Subordinate, is_elementary, list_entries};
-use cob_move_operands::Node;
+use cob_layout_places::Node;
 use cob_move_statements::{MoveFault, MoveRule};
 use std::alloc::{AllocError, Global};
 use std::rc::Rc;

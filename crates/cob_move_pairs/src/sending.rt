@@ -3,7 +3,7 @@
 ghost use Rattle.std.specs.Prelude.{◌≡◌, ℕ, IfErr, IsSome, OnOk};
 ghost use Rattle.std.specs.Option.{ForSome};
 ghost use Rattle.indexmap.specs.IndexMap.{get_by};
-ghost use Rattle.cob_move_operands.specs.Nodes.{tree_of};
+ghost use Rattle.cob_copybook_tree.specs.Nodes.{tree_of};
 ghost use Rattle.cob_move_pairs.specs.Between.{AreFoundPairs, pairs_below};
 ghost use Rattle.cob_move_pairs.specs.Keys.{same_groups};
 ghost use Rattle.cob_move_pairs.specs.Pairing.{IsTwice};
@@ -12,7 +12,7 @@ use crate::group_numbers::GroupNumbers;
 use crate::listed_groups::ListedGroups;
 use crate::pair::EntryPair;
 use crate::pairing::entry_pairs;
-use cob_move_operands::Node;
+use cob_layout_places::Node;
 use cob_move_statements::MoveRule;
 use indexmap::IndexMap;
 use std::alloc::Global;

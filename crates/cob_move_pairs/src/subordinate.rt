@@ -1,8 +1,8 @@
 //! The entries below a group that may be in a pair, and which of them correspond.
 
 ghost use Rattle.std.specs.Prelude.{◌≡◌, List, [], ◌∷◌, ◌++◌, map, IfOk, OnOk, bytes_eq};
-ghost use Rattle.cob_move_operands.specs.Node.TheViews.{out-Node};
-ghost use Rattle.cob_move_operands.specs.Nodes.{forest, resolved_entry};
+ghost use Rattle.cob_copybook_tree.specs.declared.node.Node.TheViews.{out-Node};
+ghost use Rattle.cob_copybook_tree.specs.Nodes.{forest, resolved_entry};
 ghost use Rattle.cob_move_pairs.specs.Listed.{names_between, subordinate, subordinates_listed};
 ghost use Rattle.cob_move_pairs.specs.Pairs.{
   between_below,
@@ -15,7 +15,7 @@ ghost use Rattle.cob_move_pairs.specs.Pairs.{
   subordinates,
 };
 
-use cob_move_operands::{Kind, Name, Node, is_table};
+use cob_layout_places::{Kind, Name, Node, is_table};
 use cob_move_receive::{SenderKind, may_move};
 use std::alloc::{AllocError, Global};
 use std::rc::Rc;

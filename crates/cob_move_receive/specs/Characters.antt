@@ -6,15 +6,15 @@ use Rattle.cob_picture.specs.declared.category.Category.TheVariants.{Alphabetic,
 use Rattle.cob_picture.specs.declared.position.Position.{Position}
 use Rattle.cob_cp037.specs.Table.{IsCoded, HasCode}
 use Rattle.cob_edit.specs.Characters.{HasCharacters}
-use Rattle.cob_copybook_tree.specs.Figurative.{Figurative}
-use Rattle.cob_copybook_tree.specs.Figurative.TheVariants.{Space, Zero, HighValue, LowValue, Quote}
-use Rattle.cob_copybook_tree.specs.Described.{PlainValue}
-use Rattle.cob_copybook_tree.specs.Described as constant
+use Rattle.cob_entry.specs.declared.kinds.Figurative.{Figurative}
+use Rattle.cob_entry.specs.declared.kinds.Figurative.TheVariants.{Space, Zero, HighValue, LowValue, Quote}
+use Rattle.cob_entry.specs.Described.{PlainValue}
+use Rattle.cob_entry.specs.Described as constant
 use Rattle.cob_copybook_tree.specs.declared.node.Kind.{Kind}
 use Rattle.cob_copybook_tree.specs.declared.node.Kind.TheVariants.{Group, Item as ItemKind}
 use Rattle.cob_copybook_tree.specs.declared.node.Item.{Item}
 use Rattle.cob_copybook_tree.specs.Resolving.{is_number}
-use Rattle.cob_item.specs.Items.{Represents}
+use Rattle.cob_copybook_tree.specs.Items.{Represents}
 use Rattle.cob_move_receive.specs.Sent.{Sent, Entry, Literal}
 
 -- the byte of a character: its own in code page 037, and a space for one that has none there, as no literal of a copybook has

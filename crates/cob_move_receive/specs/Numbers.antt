@@ -8,15 +8,15 @@ use Rattle.cob_picture.specs.Counts.{scale}
 use Rattle.cob_picture.specs.Counts as counts
 use Rattle.cob_picture.specs.declared.category.Category.{Category}
 use Rattle.cob_picture.specs.declared.category.Category.TheVariants.{Alphabetic, Numeric, Alphanumeric, AlphanumericEdited, NumericEdited}
-use Rattle.cob_copybook_tree.specs.Figurative.{Figurative}
-use Rattle.cob_copybook_tree.specs.Figurative.TheVariants.{Space, Zero, HighValue, LowValue, Quote}
+use Rattle.cob_entry.specs.declared.kinds.Figurative.{Figurative}
+use Rattle.cob_entry.specs.declared.kinds.Figurative.TheVariants.{Space, Zero, HighValue, LowValue, Quote}
 use Rattle.cob_edit.specs.Pictured.{IsEdited, IsInRange}
-use Rattle.cob_copybook_tree.specs.Described.{PlainValue}
-use Rattle.cob_copybook_tree.specs.Described as constant
+use Rattle.cob_entry.specs.Described.{PlainValue}
+use Rattle.cob_entry.specs.Described as constant
 use Rattle.cob_copybook_tree.specs.declared.node.Kind.TheVariants.{Group, Item as ItemKind}
 use Rattle.cob_copybook_tree.specs.declared.node.Item.{Item}
 use Rattle.cob_copybook_tree.specs.Resolving.{is_number}
-use Rattle.cob_item.specs.Items.{Represents, stored_form}
+use Rattle.cob_copybook_tree.specs.Items.{Represents, stored_form}
 use Rattle.cob_move_receive.specs.Sent.{Sent, Entry, Literal, Amount}
 
 -- a whole number that isn't negative

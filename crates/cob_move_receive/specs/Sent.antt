@@ -1,11 +1,11 @@
 -- What a sender gives to each of its receivers.
 use Rattle.std.specs.Prelude.{◌≡◌, ℕ, ℤ, Bool, List, length}
 use Rattle.cob_decimal.specs.declared.number.Number.{Number}
-use Rattle.cob_copybook_tree.specs.Described.{PlainValue, plain_value}
+use Rattle.cob_entry.specs.Described.{PlainValue, plain_value}
 use Rattle.cob_copybook_tree.specs.declared.node.Kind.{Kind}
 use Rattle.cob_copybook_tree.specs.declared.node.Kind.TheVariants.{Group, Item as ItemKind}
 use Rattle.cob_copybook_tree.specs.Lengths.{item_size}
-use Rattle.cob_item.specs.Items.{IsStorable}
+use Rattle.cob_copybook_tree.specs.Items.{IsStorable}
 use Rattle.cob_move_receive.specs.declared.sent.Sent as code
 use Rattle.cob_move_receive.specs.declared.sent.Sent.TheVariants as code_sent
 

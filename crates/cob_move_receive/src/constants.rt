@@ -2,9 +2,9 @@
 
 ghost use Rattle.std.specs.Prelude.{◌≡◌, ◌≤◌, ℕ, List, length, IsTrue};
 ghost use Rattle.cob_limits.specs.Limits.{longest_literal};
-ghost use Rattle.cob_copybook_tree.specs.Described.{Repeated, plain_value};
+ghost use Rattle.cob_entry.specs.Described.{Repeated, plain_value};
 ghost use Rattle.cob_copybook_tree.specs.Lengths.{item_size};
-ghost use Rattle.cob_item.specs.Items.{IsStorable};
+ghost use Rattle.cob_copybook_tree.specs.Items.{IsStorable};
 ghost use Rattle.cob_move_receive.specs.Characters.{
   figurative_byte,
   has_insertions,

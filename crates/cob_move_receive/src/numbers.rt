@@ -4,19 +4,18 @@ ghost use Rattle.std.specs.Prelude.{◌≡◌, ◌↔◌, ◌<◌, ◌≤◌, �
 ghost use Rattle.cob_decimal.specs.Decimal.{IsDigits};
 ghost use Rattle.cob_decimal.specs.Literals.{AreDigits, digits_in};
 ghost use Rattle.cob_limits.specs.Limits.{most_digits};
-ghost use Rattle.cob_copybook_tree.specs.Described.{plain_value, Quoted};
+ghost use Rattle.cob_entry.specs.Described.{plain_value, Quoted};
 ghost use Rattle.cob_picture.specs.Counts.{size};
 ghost use Rattle.cob_picture.specs.Positions.{shows_number};
 ghost use Rattle.cob_copybook_tree.specs.Lengths.{item_size};
-ghost use Rattle.cob_item.specs.Items.{IsStorable};
+ghost use Rattle.cob_copybook_tree.specs.Items.{IsStorable};
 ghost use Rattle.cob_move_receive.specs.Sent.{Amount, amount, sent, IsComplete};
 ghost use Rattle.cob_move_receive.specs.Numbers.{whole_number, digits_of, is_numeral, AreNumerals, ConstantGives, FigureGives, GivesNumber, HoldsAmount, IsDigitText, IsReadAs, IsUnedited, ItemGives};
 
 use crate::sent::Sent;
-use cob_copybook_tree::{Figurative, Item, Kind, Value, is_number};
+use cob_copybook_tree::{Figurative, Item, Kind, Value, is_number, read_number, store_number};
 use cob_decimal::{Digits, Number};
 use cob_edit::{deedit, edit};
-use cob_item::{read_number, store_number};
 use cob_limits::MAX_DIGITS;
 use cob_picture::Category;
 

@@ -1,11 +1,11 @@
 //! One receiver.
 
 ghost use Rattle.std.specs.Prelude.{◌≡◌, ◌≤◌, ℕ, List, length, false, IsTrue, Some};
-ghost use Rattle.cob_copybook_tree.specs.Described.{plain_value};
+ghost use Rattle.cob_entry.specs.Described.{plain_value};
 ghost use Rattle.cob_picture.specs.Positions.{shows_number};
 ghost use Rattle.cob_copybook_tree.specs.Lengths.{item_size};
 ghost use Rattle.cob_copybook_tree.specs.declared.node.Kind.TheVariants.{Group, Item as ItemKind};
-ghost use Rattle.cob_item.specs.Items.{IsStorable};
+ghost use Rattle.cob_copybook_tree.specs.Items.{IsStorable};
 ghost use Rattle.cob_move_receive.specs.Sent.{sent, Entry, Literal, Occupies, IsComplete};
 ghost use Rattle.cob_move_receive.specs.Characters.{GivesConstant, GivesCharacters, IsRepeated, Arranged, placement_in};
 ghost use Rattle.cob_move_receive.specs.Received.{is_group, outcome, GetsNumber, GetsCharacters, ItemGets, Received};
@@ -15,8 +15,7 @@ use crate::constants::{constant_in, constant_left};
 use crate::numbers::{hold, number_given};
 use crate::numerals::numerals_to_point;
 use crate::sent::Sent;
-use cob_copybook_tree::{Item, Kind, is_number};
-use cob_item::read_number;
+use cob_copybook_tree::{Item, Kind, is_number, read_number};
 use cob_picture::Category;
 
 /// Writes what a group holds after the move of a sender to it, into all its bytes: the sender's bytes, from the left.

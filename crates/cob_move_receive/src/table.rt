@@ -1,7 +1,7 @@
 //! The table of categories: which sender may be moved to which receiver.
 
 ghost use Rattle.std.specs.Prelude.{◌≡◌};
-ghost use Rattle.cob_copybook_tree.specs.Described.{plain_value};
+ghost use Rattle.cob_entry.specs.Described.{plain_value};
 ghost use Rattle.cob_move_receive.specs.Table.{
   category_with,
   constant_receivers,

@@ -1,15 +1,15 @@
 -- Entries as they are listed.
 use Rattle.std.proofs.Common.{◌≡◌, ℕ, ◌+◌, List, [], ◌∷◌, ◌++◌, length, length-append, arith, refl}
-use Rattle.cob_layout.specs.ResolvedOccurs.{ResolvedOccurs}
-use Rattle.cob_layout.specs.ResolvedOccurs.TheVariants.{Once, Fixed, Varying}
-use Rattle.cob_layout.specs.Forests.{Forest, NoEntries, AnEntry}
-use Rattle.cob_layout.specs.TreeLengths.{greatest_number}
-use Rattle.cob_layout.specs.Nodes.{Resolved}
+use Rattle.cob_copybook_tree.specs.declared.node.ResolvedOccurs.{ResolvedOccurs}
+use Rattle.cob_copybook_tree.specs.declared.node.ResolvedOccurs.TheVariants.{Once, Fixed, Varying}
+use Rattle.cob_copybook_tree.specs.Forests.{Forest, NoEntries, AnEntry}
+use Rattle.cob_copybook_tree.specs.Lengths.{greatest_number}
+use Rattle.cob_copybook_tree.specs.Nodes.{Resolved}
 use Rattle.cob_copybook_names.specs.Naming.{with_name}
-use Rattle.cob_layout.specs.Places.{is_table}
+use Rattle.cob_layout_places.specs.Places.{is_table}
 use Rattle.cob_layout.specs.Sound.{AreNested, own_dimension}
-use Rattle.cob_move_operands.specs.declared.Side.{Side}
-use Rattle.cob_move_operands.specs.declared.Side.TheVariants.{In, Out}
+use Rattle.cob_layout_places.specs.declared.operands.Side.{Side}
+use Rattle.cob_layout_places.specs.declared.operands.Side.TheVariants.{In, Out}
 use Rattle.cob_move_references.specs.Candidates.{Candidate, all_entries, candidates, with_table}
 use Rattle.cob_move_references.specs.Listed.{AreShallow}
 

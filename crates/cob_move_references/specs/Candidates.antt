@@ -1,13 +1,13 @@
 -- The entries of the two records, as a reference may name them.
 use Rattle.std.specs.Prelude.{ℕ, Bool, true, false, List, [], ◌∷◌, ◌++◌}
-use Rattle.cob_layout.specs.Kind.{Kind}
-use Rattle.cob_layout.specs.Forests.{Forest, NoEntries, AnEntry}
-use Rattle.cob_layout.specs.Nodes.{Resolved}
-use Rattle.cob_layout.specs.TreeLengths.{greatest_number}
+use Rattle.cob_copybook_tree.specs.declared.node.Kind.{Kind}
+use Rattle.cob_copybook_tree.specs.Forests.{Forest, NoEntries, AnEntry}
+use Rattle.cob_copybook_tree.specs.Nodes.{Resolved}
+use Rattle.cob_copybook_tree.specs.Lengths.{greatest_number}
 use Rattle.cob_copybook_names.specs.Naming.{Bearer, with_name}
-use Rattle.cob_layout.specs.Places.{is_table}
-use Rattle.cob_move_operands.specs.declared.Side.{Side}
-use Rattle.cob_move_operands.specs.declared.Side.TheVariants.{In, Out}
+use Rattle.cob_layout_places.specs.Places.{is_table}
+use Rattle.cob_layout_places.specs.declared.operands.Side.{Side}
+use Rattle.cob_layout_places.specs.declared.operands.Side.TheVariants.{In, Out}
 
 -- What is known of an entry besides its names: its record, its number, the greatest number of each table that holds it or that it is, the
 -- outermost first, and what it describes.

@@ -2,7 +2,7 @@
 use Rattle.std.specs.Prelude.{◌≤◌, List, length}
 use Rattle.std.specs.List.{AllByRecursion}
 use Rattle.cob_limits.specs.Limits.{most_dimensions}
-use Rattle.cob_layout.specs.Node.TheViews.{out-Node}
+use Rattle.cob_copybook_tree.specs.declared.node.Node.TheViews.{out-Node}
 use Rattle.cob_copybook_names.specs.declared.bearer.Bearer.{Bearer as Listed}
 use Rattle.cob_copybook_names.specs.Listed.{bearer_by}
 use Rattle.cob_move_references.specs.declared.candidate.RecordEntry.{RecordEntry as ListedEntry}

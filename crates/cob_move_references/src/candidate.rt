@@ -1,17 +1,17 @@
 //! The entries of a record with what stands above them.
 
 ghost use Rattle.std.specs.Prelude.{◌≡◌, List, [], ◌∷◌, ◌++◌, map, IfOk, OnOk};
-ghost use Rattle.cob_layout.specs.TreeLengths.{greatest_number};
-ghost use Rattle.cob_layout.specs.Nodes.{resolved_entry, tree_of};
-ghost use Rattle.cob_layout.specs.Node.TheViews.{out-Node};
+ghost use Rattle.cob_copybook_tree.specs.Lengths.{greatest_number};
+ghost use Rattle.cob_copybook_tree.specs.Nodes.{resolved_entry, tree_of};
+ghost use Rattle.cob_copybook_tree.specs.declared.node.Node.TheViews.{out-Node};
 ghost use Rattle.cob_copybook_names.specs.Listed.{texts};
-ghost use Rattle.cob_layout.specs.Places.{is_table};
+ghost use Rattle.cob_layout_places.specs.Places.{is_table};
 ghost use Rattle.cob_move_references.specs.Candidates.{candidate, candidates, with_table};
 ghost use Rattle.cob_move_references.specs.Listed.{candidate_of};
 
 use cob_copybook_names::{Bearer, name_of, names_beneath};
 use cob_layout::{Node, is_table};
-use cob_move_operands::Side;
+use cob_layout_places::Side;
 use std::alloc::{AllocError, Global};
 
 /// An entry of one of the two records.

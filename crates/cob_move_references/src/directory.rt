@@ -2,7 +2,7 @@
 
 ghost use Rattle.std.specs.Prelude.{◌≡◌, ◌∷◌, [], map, IfErr, IfOk};
 ghost use Rattle.std.proofs.Props.{props};
-ghost use Rattle.cob_layout.specs.Written.{names_behind};
+ghost use Rattle.cob_copybook_clauses.specs.Written.{names_behind};
 ghost use Rattle.cob_source.specs.Tokens.{lexemes};
 ghost use Rattle.cob_copybook_names.specs.Naming.{named};
 ghost use Rattle.cob_move_references.specs.Listed.{AreShallow, candidate_of};

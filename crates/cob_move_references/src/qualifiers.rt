@@ -1,6 +1,6 @@
 //! Qualifiers as a paragraph has them.
 
-ghost use Rattle.cob_layout.specs.Written.{names_behind};
+ghost use Rattle.cob_copybook_clauses.specs.Written.{names_behind};
 ghost use Rattle.cob_source.specs.Tokens.{lexemes};
 
 use cob_copybook_names::Qualifiers;

@@ -5,16 +5,15 @@
 #![tactic(auto)]
 
 ghost use Rattle.std.specs.Prelude.{length, IsTrue};
-ghost use Rattle.cob_item.specs.Items.{IsStorable};
+ghost use Rattle.cob_copybook_tree.specs.Items.{IsStorable};
 ghost use Rattle.cob_move_receive.specs.Sent.{sent, Occupies, IsComplete};
 
 mod constants;
 
 use crate::constants::constant_of;
 use cob_copybook::{Book, Role};
-use cob_copybook_tree::{Item, Kind, is_number};
+use cob_copybook_tree::{Item, Kind, is_number, is_number_item};
 use cob_entry::BookRule;
-use cob_item::is_number_item;
 use cob_move_receive::{Refusal, SenderKind, Sent, receive, refusal_of};
 use cob_rows::{Family, Row, RowFault, print_rows, push_digits};
 use std::alloc::{AllocError, Global};

@@ -1,6 +1,6 @@
 -- No call of either end has failed so far, and there is room for a record and its places.
 use Rattle.std.proofs.Common.{◌≡◌, length}
-use Rattle.cob_convert_record.specs.TreeLengths.{greatest_number, sum_of}
+use Rattle.cob_copybook_tree.specs.Lengths.{greatest_number, sum_of}
 use Rattle.cob_layout.specs.Standing.{IsRoomFor}
 use Rattle.cob_convert_show.proofs.records.show_records.Given as goal
 

@@ -1,6 +1,6 @@
 use Rattle.std.proofs.Common.{List, sym, subst}
-use Rattle.cob_copybook.specs.Node.{Node}
-use Rattle.cob_copybook.specs.Nodes.{forest}
+use Rattle.cob_copybook_tree.specs.declared.node.Node.{Node}
+use Rattle.cob_copybook_tree.specs.Nodes.{forest}
 use Rattle.cob_copybook.specs.Bytes.{TakeBytes}
 use Rattle.cob_layout.proofs.CopyLemmas.{copy_is, next_copied}
 use Rattle.cob_layout.proofs.ByteLemmas.{copy_has, have_push}

@@ -1,5 +1,5 @@
 use Rattle.std.proofs.Common.{◌≡◌, ◌++◌, drop, map}
-use Rattle.cob_copybook.specs.Nodes.{node, forest}
+use Rattle.cob_copybook_tree.specs.Nodes.{node, forest}
 use Rattle.cob_copybook.specs.Bytes.{TakeBytes}
 use Rattle.cob_layout.proofs.copy.+copied.Given as goal
 

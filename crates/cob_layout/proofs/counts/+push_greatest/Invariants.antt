@@ -1,5 +1,5 @@
 use Rattle.std.proofs.Common.{◌≡◌, ◌++◌}
-use Rattle.cob_copybook.specs.Nodes.{tree_of}
+use Rattle.cob_copybook_tree.specs.Nodes.{tree_of}
 use Rattle.cob_layout_places.proofs.ForestLemmas.{left}
 use Rattle.cob_layout.specs.Counting.{in_order}
 use Rattle.cob_layout.proofs.counts.+push_greatest.Given as goal

@@ -1,5 +1,5 @@
 use Rattle.std.proofs.Common.{◌≡◌, length}
-use Rattle.cob_copybook.specs.Nodes.{tree_of}
+use Rattle.cob_copybook_tree.specs.Nodes.{tree_of}
 use Rattle.cob_layout_places.specs.Needs.{is_needed}
 use Rattle.cob_layout.proofs.KeepingLemmas.{Counted}
 use Rattle.cob_layout.proofs.keeping.take_anew.Given as goal

@@ -1,4 +1,4 @@
-use Rattle.cob_copybook.specs.Nodes.{node}
+use Rattle.cob_copybook_tree.specs.Nodes.{node}
 use Rattle.cob_layout_places.proofs.PlaceLemmas.{entry_fits}
 use Rattle.cob_layout.proofs.spots.put_all_spots.Goals as goal
 

@@ -1,6 +1,6 @@
 use Rattle.std.proofs.Common.{◌≡◌, ◌<◌, ℕ, List, drop, length}
 use Rattle.std.specs.Prelude.{Result, slice_index}
-use Rattle.cob_copybook.specs.Nodes.{tree_of}
+use Rattle.cob_copybook_tree.specs.Nodes.{tree_of}
 use Rattle.cob_layout_places.specs.declared.counts.CountFault.{CountFault}
 use Rattle.cob_layout_places.specs.Counts.{Taken}
 use Rattle.cob_layout.proofs.taking.take_all_counts.Given as goal

@@ -1,7 +1,7 @@
 use Rattle.std.proofs.Common.{◌≡◌, ◌∙◌, List, ap, inl, map, refl, subst}
 use Rattle.std.proofs.lemmas.Result.{err_from_is_err_and}
-use Rattle.cob_move_apply.specs.Forests.{Forest}
-use Rattle.cob_move_apply.specs.Nodes.{Resolved, tree_of}
+use Rattle.cob_copybook_tree.specs.Forests.{Forest}
+use Rattle.cob_copybook_tree.specs.Nodes.{Resolved, tree_of}
 use Rattle.cob_move_pairs.specs.Between.{ends, ends_of}
 use Rattle.cob_move_pairs.specs.Pairs.{AreOnce, Pair}
 use Rattle.cob_move.specs.declared.corresponding.TwoGroups.{TwoGroups}

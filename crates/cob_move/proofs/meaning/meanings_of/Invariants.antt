@@ -3,7 +3,7 @@ use Rattle.cob_move.specs.Between.{ArePairsOf}
 use Rattle.cob_move.specs.Entries.{records_of}
 use Rattle.cob_move.specs.Meaning.{AreMeanings}
 use Rattle.cob_move.specs.Refusals.{BreaksOn, SomeOf}
-use Rattle.cob_move_apply.specs.Moves.{Move, moves}
+use Rattle.cob_layout_places.specs.Moves.{Move, moves}
 use Rattle.cob_move_references.specs.Directory.{entries_named}
 use Rattle.cob_move_statements.specs.declared.fault.MoveFault.{MoveFault}
 use Rattle.cob_move_statements.specs.Written.{written_statements}

@@ -2,11 +2,11 @@ use Rattle.std.proofs.Common.{inr, map}
 use Rattle.std.proofs.lemmas.Result.{err_from_is_err_and}
 use Rattle.cob_move.specs.Meaning.{kind_of_sender}
 use Rattle.cob_move.specs.Refusals.{BreaksReceipt}
-use Rattle.cob_move_apply.specs.Operand.{Operand}
-use Rattle.cob_move_apply.specs.Moves.{operand_in, sender}
+use Rattle.cob_layout_places.specs.declared.operands.Operand.{Operand}
+use Rattle.cob_layout_places.specs.Moves.{operand_in, sender}
 use Rattle.cob_move.specs.Entries.{records_of}
 use Rattle.cob_move.proofs.OwnLemmas.{pushed}
-use Rattle.cob_move_initial.specs.Refusals.{IsAllowed}
+use Rattle.cob_move_receive.specs.Refusals.{IsAllowed}
 use Rattle.cob_move_references.specs.Directory.{entries_named}
 use Rattle.cob_move_statements.specs.Written.{written_reference}
 use Rattle.cob_move.proofs.SingleLemmas.{allowed_more, found_all, found_more}

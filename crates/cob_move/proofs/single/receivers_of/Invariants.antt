@@ -2,10 +2,10 @@ use Rattle.std.proofs.Common.{◌++◌, drop, List, map}
 use Rattle.std.specs.List.{AllByRecursion}
 use Rattle.cob_move.specs.Meaning.{AreReceiversOf, kind_of_sender}
 use Rattle.cob_move.specs.Refusals.{BreaksReceipt, SomeOf}
-use Rattle.cob_move_apply.specs.Operand.{Operand}
-use Rattle.cob_move_apply.specs.Moves.{operand_in, sender}
+use Rattle.cob_layout_places.specs.declared.operands.Operand.{Operand}
+use Rattle.cob_layout_places.specs.Moves.{operand_in, sender}
 use Rattle.cob_move.specs.Entries.{records_of}
-use Rattle.cob_move_initial.specs.Refusals.{IsAllowed}
+use Rattle.cob_move_receive.specs.Refusals.{IsAllowed}
 use Rattle.cob_move_references.specs.Directory.{entries_named}
 use Rattle.cob_move_statements.specs.declared.fault.MoveRule.{MoveRule}
 use Rattle.cob_move_statements.specs.Written.{written_references}

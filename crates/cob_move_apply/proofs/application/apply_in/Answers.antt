@@ -1,6 +1,6 @@
 use Rattle.std.proofs.Common.{◌≡◌, ◌+◌, ◌∙◌, drop, refl, sym, subst, List}
 use Rattle.std.proofs.lemmas.Result.{err_from_is_err_and}
-use Rattle.cob_move_operands.specs.Moves.{Records, moves, statement_moves}
+use Rattle.cob_layout_places.specs.Moves.{Records, moves, statement_moves}
 use Rattle.cob_move_apply.specs.declared.basis.Basis.{Basis}
 use Rattle.cob_move_apply.specs.Placed.{ArePlacedMoves}
 use Rattle.cob_move_apply.specs.Surveyed.{records}

@@ -1,5 +1,5 @@
 use Rattle.std.proofs.Common.{◌≡◌, length, drop}
-use Rattle.cob_move_operands.specs.Moves.{moves}
+use Rattle.cob_layout_places.specs.Moves.{moves}
 use Rattle.cob_move_apply.specs.Placed.{ArePlacedMoves}
 use Rattle.cob_move_apply.specs.Surveyed.{IsWorkspace, records}
 use Rattle.cob_move_apply.proofs.StatementLemmas.{StatementsFrom}

@@ -1,7 +1,7 @@
 use Rattle.std.proofs.Common.{get_or, ◌≡◌, ◌+◌, ◌∙◌, List, drop, map, refl, sym, subst}
 use Rattle.std.proofs.lemmas.Result.{err_from_is_err_and}
-use Rattle.cob_move_operands.specs.declared.NumberedPair.{NumberedPair}
-use Rattle.cob_move_operands.specs.Moves.{Records, numbered_move}
+use Rattle.cob_layout_places.specs.declared.operands.NumberedPair.{NumberedPair}
+use Rattle.cob_layout_places.specs.Moves.{Records, numbered_move}
 use Rattle.cob_move_apply.specs.declared.basis.Basis.{Basis}
 use Rattle.cob_move_apply.specs.Applied.{Applied, done, stopped}
 use Rattle.cob_move_apply.specs.Placed.{ArePlacedMoves, IsPlacedMove}

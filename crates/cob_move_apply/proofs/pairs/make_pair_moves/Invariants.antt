@@ -1,5 +1,5 @@
 use Rattle.std.proofs.Common.{◌≡◌, length, drop, map}
-use Rattle.cob_move_operands.specs.Moves.{numbered_move}
+use Rattle.cob_layout_places.specs.Moves.{numbered_move}
 use Rattle.cob_move_apply.specs.Placed.{ArePlacedMoves}
 use Rattle.cob_move_apply.specs.Surveyed.{IsWorkspace, records}
 use Rattle.cob_move_apply.proofs.ReceiverLemmas.{AppliedFrom}

@@ -1,4 +1,4 @@
-use Rattle.cob_move_operands.specs.Moves.{Records}
+use Rattle.cob_layout_places.specs.Moves.{Records}
 use Rattle.cob_move_apply.proofs.StatementLemmas.{moves_first, moves_left, statements_all, statements_more}
 use Rattle.cob_move_apply.proofs.preparation.bases_of.Goals as goal
 

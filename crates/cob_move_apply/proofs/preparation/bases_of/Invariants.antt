@@ -1,5 +1,5 @@
 use Rattle.std.proofs.Common.{drop}
-use Rattle.cob_move_operands.specs.Moves.{AreMoves, moves}
+use Rattle.cob_layout_places.specs.Moves.{AreMoves, moves}
 use Rattle.cob_move_apply.proofs.StatementLemmas.{StatementsTo}
 use Rattle.cob_move_apply.proofs.preparation.bases_of.Given as goal
 

@@ -1,6 +1,6 @@
 use Rattle.std.proofs.Common.{get_or, List, map, sym, subst}
-use Rattle.cob_move_operands.specs.declared.NumberedPair.{NumberedPair}
-use Rattle.cob_move_operands.specs.Moves.{AreMoves, IsMove, Records, numbered_move}
+use Rattle.cob_layout_places.specs.declared.operands.NumberedPair.{NumberedPair}
+use Rattle.cob_layout_places.specs.Moves.{AreMoves, IsMove, Records, numbered_move}
 use Rattle.cob_move_apply.proofs.ListLemmas.{at, below, read_is, left_first, left_more, past}
 use Rattle.cob_move_apply.proofs.StatementLemmas.{NotedMoves, noted_moves_all, noted_moves_more, noted_moves_none}
 use Rattle.cob_move_apply.proofs.preparation.push_pairs.Goals as goal

@@ -1,5 +1,5 @@
 use Rattle.std.proofs.Common.{drop, map}
-use Rattle.cob_move_operands.specs.Moves.{AreMoves, numbered_move}
+use Rattle.cob_layout_places.specs.Moves.{AreMoves, numbered_move}
 use Rattle.cob_move_apply.proofs.StatementLemmas.{NotedMovesTo}
 use Rattle.cob_move_apply.proofs.preparation.push_pairs.Given as goal
 

@@ -1,9 +1,9 @@
 use Rattle.std.proofs.Common.{◌∙◌, true, Err, List, Ok, subst, sym}
 use Rattle.std.proofs.lemmas.Result.{err_from_is_err_and}
-use Rattle.cob_layout.specs.Forests.{Forest}
-use Rattle.cob_layout.specs.Nodes.{Resolved}
-use Rattle.cob_move_operands.specs.declared.Operand.{Operand}
-use Rattle.cob_move_operands.specs.Moves.{operand_in}
+use Rattle.cob_copybook_tree.specs.Forests.{Forest}
+use Rattle.cob_copybook_tree.specs.Nodes.{Resolved}
+use Rattle.cob_layout_places.specs.declared.operands.Operand.{Operand}
+use Rattle.cob_layout_places.specs.Moves.{operand_in}
 use Rattle.cob_move_apply.specs.Applied.{Content, Gets}
 use Rattle.cob_move_apply.specs.Placed.{IsPlaced, content_of}
 use Rattle.cob_move_apply.specs.Seen.{receivers_in}

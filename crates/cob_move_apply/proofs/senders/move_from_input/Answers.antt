@@ -1,5 +1,5 @@
 use Rattle.std.proofs.lemmas.Result.{err_from_is_err_and}
-use Rattle.cob_move_operands.specs.declared.Side.TheVariants.{In}
+use Rattle.cob_layout_places.specs.declared.operands.Side.TheVariants.{In}
 use Rattle.cob_move_apply.specs.Applied.{ending}
 use Rattle.cob_move_apply.specs.Surveyed.{records}
 use Rattle.cob_move_apply.proofs.ReceiverLemmas.{complete, stops_first, moved}

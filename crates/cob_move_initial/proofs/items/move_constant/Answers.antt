@@ -1,6 +1,6 @@
 use Rattle.std.proofs.Common.{ℕ, length, Some, subst}
-use Rattle.cob_layout.specs.Described.{plain_value}
-use Rattle.cob_layout.specs.Kind.TheVariants.{Item as ItemKind}
+use Rattle.cob_entry.specs.Described.{plain_value}
+use Rattle.cob_copybook_tree.specs.declared.node.Kind.TheVariants.{Item as ItemKind}
 use Rattle.cob_move_receive.specs.Sent.{Literal}
 use Rattle.cob_move_receive.specs.Received.{Received}
 use Rattle.cob_move_initial.proofs.ItemLemmas.{received}

@@ -1,8 +1,8 @@
 use Rattle.std.proofs.Common.{◌≡◌, ◌+◌, [], ◌++◌, length, take, is_some, refl, sym, subst, ap, ◌∙◌, arith}
 use Rattle.std.proofs.lemmas.List.{append-nil, append_assoc, take_all, length-take, length-drop}
 use Rattle.std.proofs.lemmas.Slice.{take-put_mid}
-use Rattle.cob_layout.specs.Nodes.{node}
-use Rattle.cob_layout.specs.TreeLengths.{greatest_number, sum_of, element_length, whole_length}
+use Rattle.cob_copybook_tree.specs.Nodes.{node}
+use Rattle.cob_copybook_tree.specs.Lengths.{greatest_number, sum_of, element_length, whole_length}
 use Rattle.cob_layout.proofs.ForestLemmas.{left_is, left_end, redefines_of, element_small}
 use Rattle.cob_move_initial.specs.Begun.{IsBegun}
 use Rattle.cob_move_initial.specs.Ready.{HaveInitialStorage}

@@ -1,6 +1,6 @@
 use Rattle.std.proofs.Common.{◌≡◌, ◌+◌, ℕ, List, ◌++◌, length, take}
-use Rattle.cob_layout.specs.Nodes.{forest}
-use Rattle.cob_layout.specs.TreeLengths.{greatest_number, sum_of}
+use Rattle.cob_copybook_tree.specs.Nodes.{forest}
+use Rattle.cob_copybook_tree.specs.Lengths.{greatest_number, sum_of}
 use Rattle.cob_layout.proofs.ForestLemmas.{left}
 use Rattle.cob_move_initial.specs.Begun.{IsBegun}
 use Rattle.cob_move_initial.specs.Ready.{HaveInitialStorage}

@@ -1,5 +1,5 @@
 use Rattle.std.proofs.Common.{◌≡◌}
-use Rattle.cob_move_operands.proofs.ForestLemmas.{left, below}
+use Rattle.cob_layout_places.proofs.ForestLemmas.{left, below}
 use Rattle.cob_move_pairs.specs.Groups.{found_below}
 use Rattle.cob_move_pairs.proofs.groups.+found_below.Given as goal
 

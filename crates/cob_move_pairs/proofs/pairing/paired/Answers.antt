@@ -1,6 +1,6 @@
 use Rattle.std.proofs.Common.{◌∙◌, map, ap, sym, List}
 use Rattle.std.proofs.lemmas.Result.{err_from_is_err_and}
-use Rattle.cob_move_operands.specs.Nodes.{tree_of}
+use Rattle.cob_copybook_tree.specs.Nodes.{tree_of}
 use Rattle.cob_move_pairs.specs.declared.subordinate.Subordinate.{Subordinate as Listed}
 use Rattle.cob_move_pairs.specs.declared.pair.Pair.{Pair as Paired}
 use Rattle.cob_move_pairs.specs.Pairing.{pair_numbers}

@@ -1,8 +1,8 @@
 use Rattle.std.proofs.Common.{◌≡◌, ◌++◌, ◌+◌, ◌∙◌, List, ℕ, sym, ap, drop, arith}
-use Rattle.cob_move_operands.specs.Node.{Node}
-use Rattle.cob_move_operands.specs.Node.TheViews.{out-Node}
-use Rattle.cob_move_operands.specs.Forests.{Forest, AnEntry}
-use Rattle.cob_move_operands.specs.Nodes.{Resolved, forest, resolved_entry}
+use Rattle.cob_copybook_tree.specs.declared.node.Node.{Node}
+use Rattle.cob_copybook_tree.specs.declared.node.Node.TheViews.{out-Node}
+use Rattle.cob_copybook_tree.specs.Forests.{Forest, AnEntry}
+use Rattle.cob_copybook_tree.specs.Nodes.{Resolved, forest, resolved_entry}
 use Rattle.cob_move_pairs.proofs.NodeLemmas.{forest_at}
 use Rattle.cob_move_pairs.specs.Pairs.{Subordinate, subordinates}
 use Rattle.cob_move_pairs.specs.Listed.{subordinates_listed, names_between}

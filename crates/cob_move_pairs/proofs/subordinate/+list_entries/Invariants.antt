@@ -1,5 +1,5 @@
 use Rattle.std.proofs.Common.{◌≡◌, ◌++◌, drop}
-use Rattle.cob_move_operands.specs.Nodes.{forest}
+use Rattle.cob_copybook_tree.specs.Nodes.{forest}
 use Rattle.cob_move_pairs.specs.Pairs.{subordinates}
 use Rattle.cob_move_pairs.specs.Listed.{subordinates_listed, names_between}
 use Rattle.cob_move_pairs.proofs.subordinate.+list_entries.Given as goal

@@ -1,5 +1,5 @@
 use Rattle.std.proofs.Common.{◌≡◌, ◌++◌, map}
-use Rattle.cob_layout.specs.Nodes.{tree_of}
+use Rattle.cob_copybook_tree.specs.Nodes.{tree_of}
 use Rattle.cob_copybook_names.specs.Listed.{texts}
 use Rattle.cob_layout.proofs.ForestLemmas.{left}
 use Rattle.cob_move_references.specs.Candidates.{candidates}

@@ -1,6 +1,5 @@
 use Rattle.std.proofs.Common.{◌≡◌, ◌*◌, ◌≤◌, take}
-use Rattle.cob_picture.specs.Positions.{written_out}
-use Rattle.cob_picture.specs.Positions.{symbol_count}
+use Rattle.cob_picture.specs.Positions.{written_out, symbol_count}
 use Rattle.cob_picture.proofs.category.count_of.Given as goal
 
 abbrev pub invariant-loop-run : goal.invariant-loop-run

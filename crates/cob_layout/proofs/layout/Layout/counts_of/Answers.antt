@@ -1,5 +1,5 @@
 use Rattle.std.proofs.Common.{ap, ◌∙◌, length, arith}
-use Rattle.cob_copybook.specs.Nodes.{node, tree_of}
+use Rattle.cob_copybook_tree.specs.Nodes.{node, tree_of}
 use Rattle.cob_layout_places.proofs.PlaceLemmas.{entry_fits}
 use Rattle.cob_layout.proofs.RecordLemmas.{as_many, slots_for}
 use Rattle.cob_layout.proofs.GreatestLemmas.{greatest_length}

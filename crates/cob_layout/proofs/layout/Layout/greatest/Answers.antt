@@ -1,5 +1,5 @@
 use Rattle.std.proofs.Common.{refl, arith}
-use Rattle.cob_copybook.specs.Nodes.{tree_of}
+use Rattle.cob_copybook_tree.specs.Nodes.{tree_of}
 use Rattle.cob_layout.proofs.ByteLemmas.{greatest_some}
 use Rattle.cob_layout.proofs.layout.Layout.greatest.Goals as goal
 

@@ -1,7 +1,7 @@
 use Rattle.std.proofs.Common.{refl, sym, subst}
-use Rattle.cob_copybook.specs.Forests.{entries_in}
+use Rattle.cob_copybook_tree.specs.Forests.{entries_in}
 use Rattle.cob_layout.proofs.RecordLemmas.{as_many}
-use Rattle.cob_copybook.specs.Nodes.{tree_of}
+use Rattle.cob_copybook_tree.specs.Nodes.{tree_of}
 use Rattle.cob_layout.specs.Counting.{AreGreatest}
 use Rattle.cob_layout.proofs.GreatestLemmas.{are_greatest}
 use Rattle.cob_layout.proofs.layout.Layout.greatest_counts.Goals as goal

@@ -1,5 +1,5 @@
 use Rattle.std.proofs.Common.{◌≡◌, ap, subst, sym, ◌∙◌, List}
-use Rattle.cob_copybook.specs.Nodes.{tree_of}
+use Rattle.cob_copybook_tree.specs.Nodes.{tree_of}
 use Rattle.cob_layout_places.specs.declared.spots.Spot.{Spot}
 use Rattle.cob_layout_places.specs.declared.varying.Table.{Table}
 use Rattle.cob_layout_places.specs.Counts.{tables_of}

@@ -1,6 +1,6 @@
 use Rattle.std.proofs.Common.{subst, refl, arith, ◌≤◌, ◌*◌}
-use Rattle.cob_copybook.specs.Nodes.{node, tree_of}
-use Rattle.cob_copybook.specs.TreeLengths.{greatest_number, sum_of}
+use Rattle.cob_copybook_tree.specs.Nodes.{node, tree_of}
+use Rattle.cob_copybook_tree.specs.Lengths.{greatest_number, sum_of}
 use Rattle.cob_layout_places.specs.Lengths.{times}
 use Rattle.cob_layout_places.specs.Cover.{IsCovered}
 use Rattle.cob_layout.proofs.RecordLemmas.{length_is, length_least, length_small}

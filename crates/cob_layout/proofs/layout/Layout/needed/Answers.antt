@@ -1,8 +1,8 @@
 use Rattle.std.proofs.Common.{rules, ◌≡◌, ap, ◌∙◌, length, arith, Err}
 use Rattle.std.specs.Prelude.{IfErr}
 use Rattle.std.proofs.lemmas.List.{length-replicate}
-use Rattle.cob_copybook.specs.Forests.{entries_in}
-use Rattle.cob_copybook.specs.Nodes.{node, tree_of}
+use Rattle.cob_copybook_tree.specs.Forests.{entries_in}
+use Rattle.cob_copybook_tree.specs.Nodes.{node, tree_of}
 use Rattle.cob_layout_places.proofs.PlaceLemmas.{entry_fits}
 use Rattle.cob_layout.proofs.RecordLemmas.{number_below, slots_for}
 use Rattle.cob_layout_places.specs.Counts.{tables_of, Taken}

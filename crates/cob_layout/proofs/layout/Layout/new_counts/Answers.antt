@@ -1,6 +1,6 @@
 use Rattle.std.proofs.Common.{refl, sym, ap, ◌∙◌, length}
-use Rattle.cob_copybook.specs.Forests.{entries_in}
-use Rattle.cob_copybook.specs.Nodes.{tree_of}
+use Rattle.cob_copybook_tree.specs.Forests.{entries_in}
+use Rattle.cob_copybook_tree.specs.Nodes.{tree_of}
 use Rattle.cob_layout.proofs.RecordLemmas.{as_many, long_as}
 use Rattle.cob_layout.proofs.layout.Layout.new_counts.Goals as goal
 

@@ -1,6 +1,6 @@
 use Rattle.std.proofs.Common.{◌≡◌, sym, ap, ◌∙◌, length}
-use Rattle.cob_copybook.specs.Forests.{entries_in}
-use Rattle.cob_copybook.specs.Nodes.{tree_of}
+use Rattle.cob_copybook_tree.specs.Forests.{entries_in}
+use Rattle.cob_copybook_tree.specs.Nodes.{tree_of}
 use Rattle.cob_layout_places.specs.Lengths.{times}
 use Rattle.cob_layout_places.proofs.SpotLemmas.{length_spots}
 use Rattle.cob_layout.specs.Counting.{greatest_counts}

@@ -1,7 +1,7 @@
 use Rattle.std.proofs.Common.{◌≡◌, ℕ, List, length, sym, ap, subst, ◌∙◌, arith}
-use Rattle.cob_copybook.specs.Forests.{Tree, NoEntries, AnEntry}
-use Rattle.cob_copybook.specs.Nodes.{Resolved, tree_of}
-use Rattle.cob_copybook.specs.TreeLengths.{greatest_number, sum_of}
+use Rattle.cob_copybook_tree.specs.Forests.{Tree, NoEntries, AnEntry}
+use Rattle.cob_copybook_tree.specs.Nodes.{Resolved, tree_of}
+use Rattle.cob_copybook_tree.specs.Lengths.{greatest_number, sum_of}
 use Rattle.cob_copybook.specs.Books.{IsRecordDescription}
 use Rattle.cob_layout_places.specs.Lengths.{times}
 use Rattle.cob_layout_places.specs.Spots.{spots_of}

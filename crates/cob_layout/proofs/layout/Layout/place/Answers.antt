@@ -1,5 +1,5 @@
 use Rattle.std.proofs.Common.{sym, subst, ◌∙◌}
-use Rattle.cob_copybook.specs.Nodes.{node, tree_of}
+use Rattle.cob_copybook_tree.specs.Nodes.{node, tree_of}
 use Rattle.cob_layout_places.specs.Lengths.{times}
 use Rattle.cob_layout_places.specs.Needs.{Has}
 use Rattle.cob_layout_places.proofs.PlaceLemmas.{entry_fits}

@@ -1,5 +1,5 @@
 use Rattle.std.proofs.Common.{ap, ◌∙◌, length, arith}
-use Rattle.cob_copybook.specs.Nodes.{tree_of}
+use Rattle.cob_copybook_tree.specs.Nodes.{tree_of}
 use Rattle.cob_layout.specs.Standing.{Standing}
 use Rattle.cob_layout.proofs.GreatestLemmas.{greatest_length}
 use Rattle.cob_layout.proofs.RecordLemmas.{as_many, slots_for}

@@ -1,5 +1,5 @@
 use Rattle.std.proofs.Common.{◌≡◌, ◌==◌, ◌&&◌, length, map}
-use Rattle.cob_copybook.specs.Nodes.{tree_of}
+use Rattle.cob_copybook_tree.specs.Nodes.{tree_of}
 use Rattle.cob_layout_places.specs.Needs.{keep}
 use Rattle.cob_layout.specs.Standing.{are_none, is_spared}
 use Rattle.cob_layout.specs.Ways.{held, held_at}

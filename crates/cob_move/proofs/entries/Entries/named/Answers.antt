@@ -1,5 +1,5 @@
-use Rattle.cob_move_apply.specs.Operand.{Operand}
-use Rattle.cob_move_apply.specs.Moves.{Records, record_of}
+use Rattle.cob_layout_places.specs.declared.operands.Operand.{Operand}
+use Rattle.cob_layout_places.specs.Moves.{Records, record_of}
 use Rattle.cob_move_references.specs.Directory.{entries_named}
 use Rattle.cob_move_statements.specs.Written.{written_reference}
 use Rattle.cob_move.specs.Entries.{records_of}

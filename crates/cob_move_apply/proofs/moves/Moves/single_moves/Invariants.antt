@@ -1,5 +1,5 @@
 use Rattle.std.proofs.Common.{◌≡◌, ◌+◌, drop, min}
-use Rattle.cob_move_operands.specs.Moves.{Records, moves}
+use Rattle.cob_layout_places.specs.Moves.{Records, moves}
 use Rattle.cob_move_apply.specs.Told.{most_moves_told, single_moves}
 use Rattle.cob_move_apply.proofs.moves.Moves.single_moves.Given as goal
 

@@ -1,6 +1,6 @@
 use Rattle.std.proofs.Common.{Bor, Global, Vec, sym, subst}
-use Rattle.cob_move_operands.specs.Node.{Node}
-use Rattle.cob_move_operands.specs.Nodes.{tree_of}
+use Rattle.cob_copybook_tree.specs.declared.node.Node.{Node}
+use Rattle.cob_copybook_tree.specs.Nodes.{tree_of}
 use Rattle.cob_move_pairs.specs.declared.pair.EntryPair.{EntryPair}
 use Rattle.cob_move_pairs.specs.Between.{AreFoundPairs, pairs_below}
 use Rattle.cob_move_pairs.specs.Listed.{subordinates_listed}

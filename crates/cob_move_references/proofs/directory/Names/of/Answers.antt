@@ -1,7 +1,7 @@
 use Rattle.std.proofs.Common.{◌≡◌, List, [], ◌++◌, map, sym, subst, ap, ◌∙◌}
-use Rattle.cob_layout.specs.Nodes.{tree_of}
-use Rattle.cob_layout.specs.Books.{IsRecordDescription}
-use Rattle.cob_move_operands.specs.declared.Side.TheVariants.{In, Out}
+use Rattle.cob_copybook_tree.specs.Nodes.{tree_of}
+use Rattle.cob_copybook.specs.Books.{IsRecordDescription}
+use Rattle.cob_layout_places.specs.declared.operands.Side.TheVariants.{In, Out}
 use Rattle.cob_copybook_names.specs.declared.bearer.Bearer.{Bearer as Listed}
 use Rattle.cob_move_references.specs.declared.candidate.RecordEntry.{RecordEntry as ListedEntry}
 use Rattle.cob_move_references.specs.Candidates.{Candidate, all_entries, candidates}

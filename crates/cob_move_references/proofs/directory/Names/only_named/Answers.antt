@@ -1,5 +1,5 @@
 use Rattle.std.proofs.Common.{map, subst}
-use Rattle.cob_layout.specs.Written.{names_behind}
+use Rattle.cob_copybook_clauses.specs.Written.{names_behind}
 use Rattle.cob_source.specs.Tokens.{lexemes}
 use Rattle.cob_copybook_names.specs.declared.fault.NameFault.{NameFault}
 use Rattle.cob_copybook_names.specs.Naming.{IsNameFault, named}

@@ -1,0 +1,67 @@
+-- Bytes of an item represent one number, whatever its kind of storage.
+use Rattle.std.proofs.Common.{◌≡◌, ℕ, ◌+◌, ◌<◌, List, refl, sym, subst, arith, Bool, true, false, Option, Some, None}
+use Rattle.cob_picture.specs.Positions.{PlainPicture}
+use Rattle.cob_picture.specs.Counts.{digits, signed, size}
+use Rattle.cob_entry.specs.declared.kinds.Usage.{Usage}
+use Rattle.cob_entry.specs.declared.kinds.Usage.TheVariants as usage
+use Rattle.cob_entry.specs.declared.kinds.Sign.{Sign}
+use Rattle.cob_copybook_tree.specs.declared.node.Item.{Item}
+use Rattle.cob_copybook_tree.specs.Lengths.{item_size, stored_size}
+use Rattle.cob_codec.specs.Sign.{IsHeld}
+use Rattle.std.specs.Prelude.{if◌then◌else◌}
+use Rattle.cob_codec.proofs.ZonedLaws as zoned
+use Rattle.cob_codec.proofs.SeparateLaws as separate
+use Rattle.cob_codec.proofs.PackedLaws as packed
+use Rattle.cob_codec.proofs.BinaryLaws as binary
+use Rattle.cob_copybook_tree.specs.declared.form.Form.{Form}
+use Rattle.cob_copybook_tree.specs.declared.form.Form.TheVariants.{Zoned, Separate, Packed, Binary}
+use Rattle.cob_copybook_tree.specs.Items.{IsNumberItem, Represents, stored_form, RepresentsAs, OneItemNumber, ItemReadsBack, HoldsNumbers, TakesPicture, written_as, form_of, form_by, display_form, is_leading, size_as}
+
+one_as : (f : Form) (leading : Bool) (p : PlainPicture) (bytes : List ℕ) (a b : Bool) (ds es : List ℕ)
+    → RepresentsAs f leading p bytes a ds → RepresentsAs f leading p bytes b es → (a ≡ b) × (ds ≡ es)
+one_as Zoned leading p bytes a b ds es x y = zoned.one_number (digits p.positions) (signed p.positions) leading bytes a b ds es x y
+one_as Separate leading p bytes a b ds es x y = separate.one_number (digits p.positions) leading bytes a b ds es x y
+one_as Packed leading p bytes a b ds es x y = packed.one_number (digits p.positions) (signed p.positions) bytes a b ds es x y
+one_as Binary leading p bytes a b ds es x y = binary.one_number (digits p.positions) (signed p.positions) bytes a b ds es x y
+
+pub one_number : OneItemNumber
+one_number i bytes a b ds es x y = one_as (form_of i) (is_leading i.sign) i.picture bytes a b ds es x y
+
+reads_back_as : (f : Form) (leading : Bool) (p : PlainPicture) (negative : Bool) (ds : List ℕ) → TakesPicture f p → 0 < digits p.positions → IsHeld (digits p.positions) (signed p.positions) negative ds
+    → RepresentsAs f leading p (written_as f leading p negative ds) negative ds
+reads_back_as Zoned leading p negative ds t some h = zoned.reads_back (digits p.positions) (signed p.positions) leading negative ds some h
+reads_back_as Separate leading p negative ds t some h = separate.reads_back (digits p.positions) (signed p.positions) leading negative ds h
+reads_back_as Packed leading p negative ds t some h = packed.reads_back (digits p.positions) (signed p.positions) negative ds h
+reads_back_as Binary leading p negative ds t some h = binary.reads_back (digits p.positions) (signed p.positions) negative ds t h
+
+pub reads_back : ItemReadsBack
+reads_back i negative ds n some h = reads_back_as (form_of i) (is_leading i.sign) i.picture negative ds n.taken some h
+
+-- bytes that are those written for a number represent it
+pub written_reads : (i : Item) (negative : Bool) (ds bytes : List ℕ) → IsNumberItem i → 0 < digits i.picture.positions → IsHeld (digits i.picture.positions) (signed i.picture.positions) negative ds
+    → bytes ≡ stored_form i negative ds → Represents i bytes negative ds
+written_reads i negative ds bytes n some h e = subst (λ (xs : List ℕ). Represents i xs negative ds) (sym e) (reads_back i negative ds n some h)
+
+held_as : (f : Form) (leading : Bool) (p : PlainPicture) (bytes : List ℕ) (negative : Bool) (ds : List ℕ) → TakesPicture f p → RepresentsAs f leading p bytes negative ds
+    → IsHeld (digits p.positions) (signed p.positions) negative ds
+held_as Zoned leading p bytes negative ds t h = zoned.held_zoned (digits p.positions) (signed p.positions) leading bytes negative ds h
+held_as Separate leading p bytes negative ds t h = separate.held_separate (digits p.positions) (signed p.positions) leading bytes negative ds t h
+held_as Packed leading p bytes negative ds t h = packed.held_packed (digits p.positions) (signed p.positions) bytes negative ds h
+held_as Binary leading p bytes negative ds t h = binary.held_binary (digits p.positions) (signed p.positions) bytes negative ds h
+
+pub holds : HoldsNumbers
+holds i bytes negative ds n h = held_as (form_of i) (is_leading i.sign) i.picture bytes negative ds n.taken h
+
+size_by : (u : Usage) (sign : Option Sign) (p : PlainPicture) → digits p.positions ≡ size p.positions → stored_size u sign p ≡ size_as (form_by u sign) (digits p.positions)
+size_by usage.Display None p e = omega (arith, e)
+size_by usage.Display (Some s) p e = at s.separate
+  where
+    at : (b : Bool) → size p.positions + (if b then 1 else 0) ≡ size_as (display_form b) (digits p.positions)
+    at true = omega (arith, e)
+    at false = omega (arith, e)
+size_by usage.Packed sign p e = refl
+size_by usage.Binary sign p e = refl
+
+-- the bytes of an item are those of its kind of storage
+pub sizes : (i : Item) → digits i.picture.positions ≡ size i.picture.positions → item_size i ≡ size_as (form_of i) (digits i.picture.positions)
+sizes i e = size_by i.usage i.sign i.picture e

@@ -1,0 +1,16 @@
+ghost use Rattle.cob_copybook_tree.specs.Items.{HoldsNumbers, OneItemNumber, ItemReadsBack};
+
+/// The bytes of an item represent at most one number.
+pub fn one_number()
+    ensures { OneItemNumber }
+{}
+
+/// What was stored for a number reads back.
+pub fn stored_numbers_read_back()
+    ensures { ItemReadsBack }
+{}
+
+/// What the bytes of an item represent has the picture's digits, and a minus only where the picture has a sign.
+pub fn items_hold_numbers()
+    ensures { HoldsNumbers }
+{}

@@ -1,2 +1,0 @@
-pub mod ItemLemmas
-pub mod PictureLemmas

@@ -1,0 +1,2 @@
+pub mod JobData
+pub mod Jobs

@@ -1,0 +1,98 @@
+-- Moves between two records.
+use Rattle.std.specs.Prelude.{◌≡◌, ℕ, List, [], ◌∷◌, map, Option, Some, None}
+use Rattle.std.specs.List.{AllByRecursion, flat_map}
+use Rattle.cob_entry.specs.Described.{PlainValue, plain_value}
+use Rattle.cob_copybook_tree.specs.declared.node.Kind.{Kind}
+use Rattle.cob_copybook_tree.specs.declared.node.Kind.TheVariants.{Group}
+use Rattle.cob_copybook_tree.specs.Forests.{Forest}
+use Rattle.cob_copybook_tree.specs.Nodes.{Resolved}
+use Rattle.cob_layout_places.specs.Counts.{kind_in}
+use Rattle.cob_layout_places.specs.References.{Refers}
+use Rattle.cob_layout_places.specs.declared.reference.Ref.{Ref}
+use Rattle.cob_layout_places.specs.declared.operands.Side.{Side}
+use Rattle.cob_layout_places.specs.declared.operands.Side.TheVariants.{In, Out}
+use Rattle.cob_layout_places.specs.declared.operands.Operand.{Operand}
+use Rattle.cob_layout_places.specs.declared.operands.Sender as code
+use Rattle.cob_layout_places.specs.declared.operands.Sender.TheVariants as code_sender
+use Rattle.cob_layout_places.specs.declared.operands.Move as code_move
+use Rattle.cob_layout_places.specs.declared.operands.NumberedPair.{NumberedPair}
+use Rattle.cob_layout_places.specs.declared.operands.PairMoves.{PairMoves}
+use Rattle.cob_layout_places.specs.declared.operands.StatementMoves.{StatementMoves}
+use Rattle.cob_layout_places.specs.declared.operands.StatementMoves.TheVariants.{Single, Pairs}
+
+-- what is moved: an entry of one of the records, or a literal or figurative constant
+pub data Sender : Type 0 where
+  Entry : Side → Operand → Sender
+  Literal : PlainValue → Sender
+
+-- a sender and its receivers, which are entries of the output record
+pub record Move : Type 0 where
+  pub sender : Sender
+  pub receivers : List Operand
+
+-- the entries of two records, the input record and the output record
+pub record Records : Type 0 where
+  pub input : Forest Resolved
+  pub output : Forest Resolved
+
+-- the record of a side
+abbrev pub record_of : Records → Side → Forest Resolved
+record_of records In = records.input
+record_of records Out = records.output
+
+-- what is described, and a group where nothing is
+abbrev pub or_group : Option Kind → Kind
+or_group None = Group
+or_group (Some kind) = kind
+
+-- the operand that a reference names in a record: of the entry's kind there
+abbrev pub operand_in : Forest Resolved → Ref → Operand
+operand_in tree r = record { entry = r; kind = or_group (kind_in r.node tree) }
+
+-- what the code's value stands for between two records
+abbrev pub sender : Records → code.Sender → Sender
+sender records (code_sender.Entry side entry) = Entry side (operand_in (record_of records side) entry)
+sender records (code_sender.Constant value) = Literal (plain_value value)
+
+-- the same of a move of the code
+abbrev pub move : Records → code_move.Move → Move
+move records m = record { sender = sender records m.sender; receivers = map (operand_in records.output) m.receivers.items }
+
+-- the entry with this number, with the subscripts of a group
+abbrev pub entry_below : Ref → ℕ → Ref
+entry_below group number = record { node = number; subscripts = group.subscripts }
+
+-- the move of a pair of two groups, by the numbers of its entries
+abbrev pub numbered_move : Records → PairMoves → NumberedPair → Move
+numbered_move records g p = record {
+  sender = Entry g.side (operand_in (record_of records g.side) (entry_below g.from p.from));
+  receivers = operand_in records.output (entry_below g.to p.to) ∷ [];
+}
+
+-- the moves of one statement
+abbrev pub statement_moves : Records → StatementMoves → List Move
+statement_moves records (Single m) = move records m ∷ []
+statement_moves records (Pairs g) = map (numbered_move records g) g.pairs.items
+
+-- the moves of statements, one statement's behind another's
+abbrev pub moves : Records → List StatementMoves → List Move
+moves records ss = flat_map (statement_moves records) ss
+
+-- an operand refers to an entry of the record, with a subscript for each of its tables, and is of the kind that the record says
+pub record IsOperand (tree : Forest Resolved) (o : Operand) : Type 0 where
+  pub refers : Refers o.entry.node o.entry.subscripts.items tree
+  pub is : kind_in o.entry.node tree ≡ Some o.kind
+
+-- a sender is an operand of its side's record, or a constant
+abbrev pub IsSender : Records → Sender → Type 0
+IsSender records (Entry side o) = IsOperand (record_of records side) o
+IsSender records (Literal c) = Unit {0}
+
+-- sender and receivers of a move are operands of their records
+pub record IsMove (records : Records) (m : Move) : Type 0 where
+  pub sender : IsSender records m.sender
+  pub receivers : AllByRecursion (IsOperand records.output) m.receivers
+
+-- each of these is a move between the records
+abbrev pub AreMoves : Records → List Move → Type 0
+AreMoves records ms = AllByRecursion (IsMove records) ms

@@ -1,1 +1,0 @@
-pub use Rattle.cob_layout_places.proofs.ForestLemmas
