@@ -19,7 +19,8 @@ use Rattle.cob_copybook_tree.specs.Forests.{Forest, NoEntries, AnEntry, Tree, fl
 use Rattle.cob_copybook_tree.specs.Branches.{AreLevels}
 use Rattle.cob_copybook_tree.specs.Nodes.{Resolved}
 use Rattle.cob_copybook_tree.specs.Resolving.{inherited, kind_by_picture, resolved}
-use Rattle.cob_copybook_tree.specs.Lengths.{binary_size, greatest_number, own_length, length_by_kind, sum_of}
+use Rattle.cob_codec.specs.Binary.{binary_length}
+use Rattle.cob_copybook_tree.specs.Lengths.{greatest_number, own_length, length_by_kind, sum_of}
 use Rattle.cob_copybook_rules.specs.Filled.{IsFilled, AreFilled}
 use Rattle.cob_copybook_lengths.specs.Areas.{AreAreas, ArePossible, MayFollow}
 use Rattle.cob_copybook.specs.declared.role.Role.{Role}
@@ -67,7 +68,7 @@ back : (xs ys : List PlainEntry) → AllByRecursion EntryTakes (xs ++ ys) → Al
 back [] ys h = h
 back (x ∷ xs) ys h = back xs ys h.1
 
-binary_takes : (n : ℕ) → 0 < binary_size n
+binary_takes : (n : ℕ) → 0 < binary_length n
 binary_takes n = at (nat_le n 4) (nat_le n 9)
   where
     at : (a b : Bool) → 0 < (if a then 2 else (if b then 4 else 8))

@@ -5,11 +5,11 @@ use Rattle.cob_entry.specs.declared.kinds.Usage.{Usage}
 use Rattle.cob_entry.specs.declared.kinds.Sign.{Sign}
 use Rattle.cob_entry.specs.Described.{PlainEntry, PlainOccurs, Fixed, Varying}
 use Rattle.cob_copybook_tree.specs.Forests.{Forest, NoEntries, AnEntry, entries_in}
-use Rattle.cob_copybook_tree.specs.Nodes.{Resolved}
+use Rattle.cob_copybook_tree.specs.Nodes.{Resolved, MayHold}
 use Rattle.cob_copybook_tree.specs.Lengths.{greatest_number_by}
 use Rattle.cob_copybook_tree.specs.Resolving.{count_at, inherited, times_of, kind_by_picture, resolved}
 use Rattle.cob_copybook_rules.specs.Tables.{AreTables, HasValidNumbers, dimension}
-use Rattle.cob_copybook_lengths.specs.Areas.{ArePossible, MayHold}
+use Rattle.cob_copybook_lengths.specs.Areas.{ArePossible}
 use Rattle.cob_copybook_rules.specs.Filled.{AreFilled, IsFilled}
 use Rattle.cob_picture.specs.Positions.{PlainPicture}
 use Rattle.cob_entry.specs.declared.kinds.Usage.TheVariants.{Display}

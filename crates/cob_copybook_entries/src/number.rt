@@ -5,18 +5,6 @@ ghost use Rattle.cob_decimal.specs.Decimal.{number_of as number_in};
 ghost use Rattle.cob_decimal.specs.Literals.{AreDigits, digits_in};
 ghost use Rattle.cob_copybook_entries.specs.Meaning.{IsIntegerText};
 
-/// Whether each character is a digit.
-pub(crate) fn are_digits(text: &[u8]) -> bool
-    ensures { IsTrue result ↔ AreDigits text.now }
-{
-    for character in text {
-        if !character.is_ascii_digit() {
-            return false;
-        }
-    }
-    true
-}
-
 /// The number that a text of 1 to `most` digits spells.
 pub(crate) fn whole(text: &[u8], most: usize) -> Option<u32>
     requires { most ≤ 9 }

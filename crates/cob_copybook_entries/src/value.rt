@@ -11,9 +11,8 @@ ghost use Rattle.cob_copybook_entries.specs.Parts.{IsLiteralOf, behind_sign, IsU
 ghost use Rattle.cob_copybook_entries.specs.Breaks.{IsConstantFault};
 ghost use Rattle.cob_copybook_entries.specs.Signs.{begins_with_sign};
 
-use crate::number::are_digits;
 use cob_copybook_clauses::ValueClause;
-use cob_decimal::Number;
+use cob_decimal::{Number, are_digits};
 use cob_entry::{BookRule, Text, Value};
 use cob_limits::MAX_LITERAL;
 

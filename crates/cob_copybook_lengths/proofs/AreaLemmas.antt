@@ -5,10 +5,10 @@ use Rattle.std.specs.Option.{is_some}
 use Rattle.cob_copybook_tree.specs.declared.node.Kind.{Kind}
 use Rattle.cob_copybook_tree.specs.declared.node.Kind.TheVariants.{Group, Item as ItemKind}
 use Rattle.cob_copybook_tree.specs.Forests.{Forest, NoEntries, AnEntry, Tree}
-use Rattle.cob_copybook_tree.specs.Nodes.{Resolved}
+use Rattle.cob_copybook_tree.specs.Nodes.{Resolved, MayHold}
 use Rattle.cob_copybook_tree.specs.Lengths.{greatest_number, own_length, length_by_kind, sum_of, whole_length}
 use Rattle.cob_limits.specs.Limits.{longest_record}
-use Rattle.cob_copybook_lengths.specs.Areas.{MayFollow, MayHold, area_with}
+use Rattle.cob_copybook_lengths.specs.Areas.{MayFollow, area_with}
 use Rattle.cob_copybook_lengths.specs.Short.{IsShortArea}
 
 -- an entry that may stand there isn't longer than a record: it is a part of a row that isn't, or redefines an area that isn't

@@ -5,7 +5,7 @@ use Rattle.cob_copybook_tree.specs.declared.node.ResolvedOccurs.TheVariants.{Onc
 use Rattle.cob_copybook_tree.specs.declared.node.Kind.{Kind}
 use Rattle.cob_copybook_tree.specs.declared.node.Kind.TheVariants.{Group, Item as ItemKind}
 use Rattle.cob_copybook_tree.specs.Forests.{Forest, NoEntries, AnEntry, Tree}
-use Rattle.cob_copybook_tree.specs.Nodes.{Resolved}
+use Rattle.cob_copybook_tree.specs.Nodes.{Resolved, MayHold}
 use Rattle.cob_copybook_tree.specs.Lengths.{greatest_number, whole_length}
 
 -- a table with DEPENDING ON
@@ -57,12 +57,6 @@ abbrev pub AreAreas : List (Tree Resolved) → Forest Resolved → Type 0
 AreAreas area NoEntries = Unit {0}
 AreAreas area (AnEntry e children more) =
     MayFollow e.redefines area (record { top = e; beneath = children }) × AreAreas [] children × AreAreas (area_with e.redefines area (record { top = e; beneath = children })) more
-
--- an item has none beneath it
-abbrev pub MayHold : Kind → Forest Resolved → Type 0
-MayHold Group children = Unit {0}
-MayHold (ItemKind i) NoEntries = Unit {0}
-MayHold (ItemKind i) (AnEntry e children more) = ⊥
 
 -- each entry occurs at least once under greatest counts, and has others beneath it only if it is a group
 abbrev pub ArePossible : Forest Resolved → Type 0

@@ -6,7 +6,7 @@ ghost use Rattle.cob_decimal.specs.Decimal.{IsDigits, number_of};
 ghost use Rattle.cob_copybook_lengths.specs.Fitting.{IsSignificant, CanBeHeld};
 ghost use Rattle.cob_copybook_lengths.specs.Values.{HoldsNumber};
 
-use cob_decimal::Number;
+use cob_decimal::{Number, are_zeros};
 use cob_picture::Picture;
 
 /// The digits from the first that isn't zero on.
@@ -22,13 +22,6 @@ fn significant(digits: &[u8]) -> &[u8]
         }
     }
     &[]
-}
-
-/// Whether each of the digits is zero.
-fn are_zeros(digits: &[u8]) -> bool
-    ensures { result ≡ list_all (λ d. d == 0) digits.now }
-{
-    digits.iter().all(|digit| *digit == 0)
 }
 
 /// Whether digits, with so many zeros behind them, are at most `room` digits.

@@ -2,6 +2,7 @@
 use Rattle.std.specs.Prelude.{ℕ, ◌+◌, ◌*◌, ◌/◌, nat_le, if◌then◌else◌, Option, Some, None, List}
 use Rattle.cob_picture.specs.Positions.{PlainPicture}
 use Rattle.cob_picture.specs.Counts.{size, digits}
+use Rattle.cob_codec.specs.Binary.{binary_length}
 use Rattle.cob_entry.specs.declared.kinds.Usage.{Usage}
 use Rattle.cob_entry.specs.declared.kinds.Usage.TheVariants.{Display, Binary, Packed}
 use Rattle.cob_entry.specs.declared.kinds.Sign.{Sign}
@@ -18,16 +19,12 @@ abbrev pub separate_sign_length : Option Sign → ℕ
 separate_sign_length None = 0
 separate_sign_length (Some s) = if s.separate then 1 else 0
 
--- the bytes of a binary number of so many digits
-abbrev pub binary_size : ℕ → ℕ
-binary_size n = if nat_le n 4 then 2 else (if nat_le n 9 then 4 else 8)
-
 -- the bytes of an item that is stored so: a byte for each position that has one, and one for a separate sign; half a byte for each digit of a packed number,
 -- and one for its sign; 2, 4 or 8 for a binary one
 abbrev pub stored_size : Usage → Option Sign → PlainPicture → ℕ
 stored_size Display sign p = size p.positions + separate_sign_length sign
 stored_size Packed sign p = digits p.positions / 2 + 1
-stored_size Binary sign p = binary_size (digits p.positions)
+stored_size Binary sign p = binary_length (digits p.positions)
 
 -- the bytes of an item
 abbrev pub item_size : Item → ℕ

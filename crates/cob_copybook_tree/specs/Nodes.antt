@@ -6,7 +6,8 @@ use Rattle.cob_copybook_tree.specs.declared.node.Node.TheOpen.{Node-F}
 use Rattle.cob_copybook_tree.specs.declared.node.Node.TheFolds.{fold-Node}
 use Rattle.cob_copybook_tree.specs.declared.node.ResolvedOccurs.{ResolvedOccurs}
 use Rattle.cob_copybook_tree.specs.declared.node.Kind.{Kind}
-use Rattle.cob_copybook_tree.specs.Forests.{Forest, Tree, grown}
+use Rattle.cob_copybook_tree.specs.declared.node.Kind.TheVariants.{Group, Item as ItemKind}
+use Rattle.cob_copybook_tree.specs.Forests.{AnEntry, Forest, NoEntries, Tree, grown}
 
 -- an entry by itself
 pub record Resolved : Type 0 where
@@ -37,3 +38,9 @@ forest ns = grown (map node ns)
 -- one node by itself, with those beneath it
 abbrev pub tree_of : Node → Forest Resolved
 tree_of n = forest (n ∷ [])
+
+-- what may stand beneath an entry of this kind: nothing beneath an item
+abbrev pub MayHold : Kind → Forest Resolved → Type 0
+MayHold Group children = Unit {0}
+MayHold (ItemKind i) NoEntries = Unit {0}
+MayHold (ItemKind i) (AnEntry e children more) = ⊥

@@ -1,7 +1,8 @@
 ghost use Rattle.std.specs.Prelude.{◌≡◌, ◌*◌, min};
 ghost use Rattle.cob_copybook_tree.specs.declared.lengths.TheConstants.{MANY};
+ghost use Rattle.cob_codec.specs.Binary.{binary_length};
 ghost use Rattle.cob_copybook_tree.specs.Nodes.{node};
-ghost use Rattle.cob_copybook_tree.specs.Lengths.{binary_size, element_length, item_size, greatest_number, greatest_number_by, separate_sign_length, whole_length};
+ghost use Rattle.cob_copybook_tree.specs.Lengths.{element_length, item_size, greatest_number, greatest_number_by, separate_sign_length, whole_length};
 
 use crate::node::{Item, Kind, Node, ResolvedOccurs};
 use cob_entry::{Sign, Usage};
@@ -20,8 +21,8 @@ fn sign_byte(sign: Option<Sign>) -> u16
 }
 
 /// The bytes of a binary number of so many digits.
-fn binary_size(digits: u8) -> u16
-    ensures { result ≡ binary_size digits }
+fn binary_length(digits: u8) -> u16
+    ensures { result ≡ binary_length digits }
 {
     match digits {
         0..=4 => 2,
@@ -38,7 +39,7 @@ impl Item {
         match self.usage {
             Usage::Display => self.picture.size() + sign_byte(self.sign),
             Usage::Packed => u16::from(self.picture.digits()) / 2 + 1,
-            Usage::Binary => binary_size(self.picture.digits()),
+            Usage::Binary => binary_length(self.picture.digits()),
         }
     }
 }

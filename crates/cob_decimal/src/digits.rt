@@ -118,7 +118,7 @@ impl Digits {
 }
 
 /// Whether each digit is zero.
-fn are_zeros(digits: &[u8]) -> bool
+pub fn are_zeros(digits: &[u8]) -> bool
     ensures { result ≡ list_all (λ d. d == 0) digits.now }
 {
     digits.iter().all(|digit| *digit == 0)

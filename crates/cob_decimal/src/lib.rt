@@ -13,6 +13,7 @@
 //! - [`Number::of_text`] answers a number exactly for the numeric literals (`found`, `only`), with the value that is written there.
 //! - [`Number::write_text`] writes the text of the number: `IsNumberText` of specs/Literals.antt, of which [`laws`] says that a
 //!   number has just one.
+//! - [`are_digits`] says whether each character of a text is a digit, and [`are_zeros`] whether each digit of a list is 0.
 //! - The laws of digits that other crates build on are contracts of their own, in [`laws`].
 //!
 //! It stands on `cob_limits`, for how many digits there are at most, and on `arrayvec`, for lists of bounded length.
@@ -25,5 +26,6 @@ mod number;
 mod number_text;
 
 pub use cob_limits::{MAX_DIGITS, MAX_SCALE, MIN_SCALE};
-pub use digits::Digits;
+pub use digits::{Digits, are_zeros};
+pub use literal::are_digits;
 pub use number::Number;

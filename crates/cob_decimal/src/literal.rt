@@ -59,8 +59,8 @@ pub(crate) fn or_empty(text: Option<&[u8]>) -> &[u8]
     }
 }
 
-/// Whether each character is a digit.
-fn are_digits(text: &[u8]) -> bool
+/// Whether each character is a digit of ASCII.
+pub fn are_digits(text: &[u8]) -> bool
     ensures { IsTrue result ↔ AreDigits text.now }
 {
     for character in text {

@@ -5,10 +5,10 @@ use Rattle.std.proofs.lemmas.Bool.Decides.{nat_tests}
 use Rattle.cob_copybook_tree.specs.declared.node.Kind.{Kind}
 use Rattle.cob_copybook_tree.specs.declared.node.Kind.TheVariants.{Group, Item as ItemKind}
 use Rattle.cob_copybook_tree.specs.Forests.{Forest, NoEntries, AnEntry, entries_in}
-use Rattle.cob_copybook_tree.specs.Nodes.{Resolved}
+use Rattle.cob_copybook_tree.specs.Nodes.{Resolved, MayHold}
 use Rattle.cob_copybook_tree.specs.Lengths.{greatest_number, length_by_kind, own_length, element_length, whole_length, sum_of}
 use Rattle.cob_layout_places.specs.declared.places.Found.{Found}
-use Rattle.cob_layout_places.specs.Lengths.{area_by, times, AreLeaves, IsLeaf}
+use Rattle.cob_layout_places.specs.Lengths.{area_by, times, AreLeaves}
 use Rattle.cob_layout_places.specs.Places.{place_of, or_else, choose, also, begins, is_table, is_there, later, skipped}
 use Rattle.cob_layout_places.specs.Cover.{AreNumbered, CountsOccurrences}
 use Rattle.cob_layout_places.specs.Needs.{Has}
@@ -83,7 +83,7 @@ after_fits : (o : Option (List ℕ)) (at area space w sum m : ℕ) → at + (own
 after_fits None at area space w sum m fits ok = omega (arith, fits)
 after_fits (Some name) at area space w sum m fits ok = omega (arith, ok)
 
-beneath : (c : Resolved → ℕ) (k : Kind) (children : Forest Resolved) → IsLeaf k children → sum_of c children ≤ length_by_kind k (sum_of c children)
+beneath : (c : Resolved → ℕ) (k : Kind) (children : Forest Resolved) → MayHold k children → sum_of c children ≤ length_by_kind k (sum_of c children)
 beneath c Group children leaf = omega arith
 beneath c (ItemKind i) NoEntries leaf = omega arith
 beneath c (ItemKind i) (AnEntry e children more) leaf = absurd leaf

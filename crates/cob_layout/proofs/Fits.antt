@@ -4,11 +4,11 @@ use Rattle.std.specs.Prelude.{Option, Some, None}
 use Rattle.cob_copybook_tree.specs.declared.node.Kind.{Kind}
 use Rattle.cob_copybook_tree.specs.declared.node.Kind.TheVariants.{Group, Item as ItemKind}
 use Rattle.cob_copybook_tree.specs.Forests.{Forest, NoEntries, AnEntry, Tree}
-use Rattle.cob_copybook_tree.specs.Nodes.{Resolved}
+use Rattle.cob_copybook_tree.specs.Nodes.{Resolved, MayHold}
 use Rattle.cob_copybook_tree.specs.Lengths.{greatest_number, whole_length}
 use Rattle.cob_copybook_lengths.specs.Areas as areas
-use Rattle.cob_copybook_lengths.specs.Areas.{AreAreas, MayFollow, MayHold, area_with}
-use Rattle.cob_layout_places.specs.Lengths.{area_by, MayOccur, AreInAreas, IsLeaf, AreLeaves}
+use Rattle.cob_copybook_lengths.specs.Areas.{AreAreas, MayFollow, area_with}
+use Rattle.cob_layout_places.specs.Lengths.{area_by, MayOccur, AreInAreas, AreLeaves}
 use Rattle.cob_layout.specs.Sound.{RedefinesNothing}
 use Rattle.cob_copybook.proofs.Ones.{IsOne}
 
@@ -17,15 +17,10 @@ pub may_occur : (f : Forest Resolved) → areas.ArePossible f → MayOccur f
 may_occur NoEntries h = tt
 may_occur (AnEntry e children more) h = (h.0, may_occur children h.2, may_occur more h.3)
 
-leaf : (k : Kind) (children : Forest Resolved) → MayHold k children → IsLeaf k children
-leaf Group children h = tt
-leaf (ItemKind i) NoEntries h = tt
-leaf (ItemKind i) (AnEntry e children more) h = absurd h
-
 -- nothing stands beneath items
 pub leaves : (f : Forest Resolved) → areas.ArePossible f → AreLeaves f
 leaves NoEntries h = tt
-leaves (AnEntry e children more) h = (leaf e.kind children h.1, leaves children h.2, leaves more h.3)
+leaves (AnEntry e children more) h = (h.1, leaves children h.2, leaves more h.3)
 
 -- the length of an area is that of the first of the entries that share it
 abbrev area_length : List (Tree Resolved) → ℕ

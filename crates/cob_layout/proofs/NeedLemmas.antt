@@ -8,11 +8,11 @@ use Rattle.cob_copybook_tree.specs.declared.node.Item.{Item}
 use Rattle.cob_copybook_tree.specs.declared.node.Kind.{Kind}
 use Rattle.cob_copybook_tree.specs.declared.node.Kind.TheVariants.{Item as ItemKind}
 use Rattle.cob_copybook_tree.specs.Forests.{Forest, NoEntries, AnEntry, entries_in}
-use Rattle.cob_copybook_tree.specs.Nodes.{Resolved}
+use Rattle.cob_copybook_tree.specs.Nodes.{Resolved, MayHold}
 use Rattle.cob_layout.specs.Sound.{InTable, IsAhead, IsSound, RecordsAreSound}
 use Rattle.cob_layout_places.specs.declared.counts.CountFault.{CountFault}
 use Rattle.cob_layout_places.specs.declared.varying.Table.{Table}
-use Rattle.cob_layout_places.specs.Lengths.{times, AreLeaves, IsLeaf}
+use Rattle.cob_layout_places.specs.Lengths.{times, AreLeaves}
 use Rattle.cob_layout_places.specs.Places.{place_of, choose, or_else}
 use Rattle.cob_layout_places.specs.Cover.{AreNumbered}
 use Rattle.cob_layout_places.specs.Counts.{kind_in, tables_of, IsCountable, IsCounted, Taken}
@@ -189,7 +189,7 @@ share_in a b (AnEntry e children more) (inl h) = inl (h.0, h.1)
 share_in a b (AnEntry e children more) (inr (inl h)) = inr (inl (share_in a b children h))
 share_in a b (AnEntry e children more) (inr (inr h)) = inr (inr (share_in a b more h))
 
-leaf_bare : (i : Item) (b : ℕ) (children : Forest Resolved) → IsLeaf (ItemKind i) children → Has b children → ⊥
+leaf_bare : (i : Item) (b : ℕ) (children : Forest Resolved) → MayHold (ItemKind i) children → Has b children → ⊥
 leaf_bare i b NoEntries l h = h
 leaf_bare i b (AnEntry e children more) l h = l
 
@@ -199,7 +199,7 @@ item_bare n a b i NoEntries num l is h = h
 item_bare n a b i (AnEntry e children more) num l is (inl h) =
     let own = chosen_yes (e.number == a) e.kind (kind_in a children) (kind_in a more) (is_same e.number a h.0) in
     let kind : e.kind ≡ ItemKind i = some_is e.kind (ItemKind i) (sym own ∙ is) in
-    leaf_bare i b children (subst (λ (k : Kind). IsLeaf k children) kind l.0) h.1
+    leaf_bare i b children (subst (λ (k : Kind). MayHold k children) kind l.0) h.1
 item_bare n a b i (AnEntry e children more) num l is (inr (inl h)) =
     let has = holds_first a b children h in
     let rest = sym (chosen_no (e.number == a) e.kind (kind_in a children) (kind_in a more) (is_less e.number a (omega (arith, num.0, low (n + 1) a children num.1 has)))) ∙ is in

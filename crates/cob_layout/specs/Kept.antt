@@ -30,11 +30,12 @@ pub data IsCountOf (tree : Forest Resolved) (bytes : List ℕ) : Table → ℕ �
       → ((k : ℕ) → IsNoTable tree k → slice_index c k ≡ slice_index (greatest_counts tree) k)
       → IsCounted tree bytes x c (Ok v) → IsCountOf tree bytes x v
 
--- the kept count of the first of these tables, and those of the others
+-- the kept count of the first of these tables
 abbrev pub first_kept : List (Option ℕ) → Option ℕ
 first_kept [] = None
 first_kept (k ∷ ks) = k
 
+-- the kept counts of the other tables
 abbrev pub others_kept : List (Option ℕ) → List (Option ℕ)
 others_kept [] = []
 others_kept (k ∷ ks) = ks
@@ -65,11 +66,12 @@ TakenAnew tree bytes read (x ∷ xs) ks c r n =
     MatchBool (read x) (TakenBy tree bytes x (first_kept ks) c r n (λ d m. TakenAnew tree bytes read xs (others_kept ks) d r m))
     (TakenAnew tree bytes read xs (others_kept ks) c r n)
 
--- how many counts are kept
+-- a kept count counts as one
 abbrev pub one_if : Option ℕ → ℕ
 one_if None = 0
 one_if (Some v) = 1
 
+-- how many counts of these tables are kept
 abbrev pub kept_in : List Table → List (Option ℕ) → ℕ
 kept_in [] ks = 0
 kept_in (x ∷ xs) ks = one_if (first_kept ks) + kept_in xs (others_kept ks)

@@ -2,7 +2,7 @@
 //!
 //! `cob_copybook` says which trees are record descriptions, in the rules of copybooks (`IsRecordDescription` of its specs/Books.antt): levels,
 //! clauses that agree with each other, counts, lengths and values. The crates that lay a record out in bytes ask for less, each in its own words:
-//! `cob_layout_places` for lengths, numbers and counts of tables, `cob_item` for items that can be stored. The law
+//! `cob_layout_places` for lengths, numbers and counts of tables, `cob_copybook_tree` for items that can be stored. The law
 //! [`records_are_sound`] says that every record description is so (`IsSound` of specs/Sound.antt), so that what reads a copybook can hand its
 //! record on, and no caller has a premise left to show:
 //!

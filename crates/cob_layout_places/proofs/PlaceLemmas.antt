@@ -5,10 +5,10 @@ use Rattle.cob_copybook_tree.specs.declared.node.Node.TheViews.{out-Node}
 use Rattle.cob_copybook_tree.specs.declared.node.Kind.{Kind}
 use Rattle.cob_copybook_tree.specs.declared.node.Kind.TheVariants.{Group, Item as ItemKind}
 use Rattle.cob_copybook_tree.specs.Forests.{Forest, NoEntries, AnEntry, Tree}
-use Rattle.cob_copybook_tree.specs.Nodes.{Resolved, resolved_entry, node, tree_of}
+use Rattle.cob_copybook_tree.specs.Nodes.{Resolved, resolved_entry, node, tree_of, MayHold}
 use Rattle.cob_copybook_tree.specs.Lengths.{greatest_number, greatest_number_by, own_length, length_by_kind, sum_of, element_length, whole_length}
 use Rattle.cob_layout_places.specs.declared.places.Found.{Found}
-use Rattle.cob_layout_places.specs.Lengths.{times, area_by, MayOccur, AreInAreas, AreWithin, AreLeaves, IsLeaf, EntryFits, FitsInRecord}
+use Rattle.cob_layout_places.specs.Lengths.{times, area_by, MayOccur, AreInAreas, AreWithin, AreLeaves, EntryFits, FitsInRecord}
 use Rattle.cob_layout_places.specs.Places.{place_of, begins, or_else, also, choose, is_table, skipped, later, is_there}
 use Rattle.cob_layout_places.proofs.ForestLemmas.{left, below, below_is, left_is, redefines_of, node_out, mul-le, element_le, within_always}
 
@@ -124,12 +124,12 @@ entered c n start k e m subscripts ke ee f =
     rw (kk, ee) (element_fits c (node n).top (node n).beneath start subscripts m f.possible.0 f.within.1 f.small)
 
 -- what stands beneath an entry is no longer than its element
-sum_le_one : (k : Kind) (f : Forest Resolved) → IsLeaf k f → sum_of greatest_number f ≤ length_by_kind k (sum_of greatest_number f)
+sum_le_one : (k : Kind) (f : Forest Resolved) → MayHold k f → sum_of greatest_number f ≤ length_by_kind k (sum_of greatest_number f)
 sum_le_one Group f h = omega arith
 sum_le_one (ItemKind i) NoEntries h = omega arith
 sum_le_one (ItemKind i) (AnEntry e b rest) h = absurd h
 
-pub beneath_fits : (e : Resolved) (b : Forest Resolved) (n m : ℕ) → IsLeaf e.kind b → n + element_length greatest_number e b ≤ m → n + sum_of greatest_number b ≤ m
+pub beneath_fits : (e : Resolved) (b : Forest Resolved) (n m : ℕ) → MayHold e.kind b → n + element_length greatest_number e b ≤ m → n + sum_of greatest_number b ≤ m
 beneath_fits e b n m l h = omega (arith, sum_le_one e.kind b l)
 
 -- the children, as what is left where none has been looked at

@@ -6,7 +6,7 @@ use Rattle.cob_copybook_tree.specs.declared.node.ResolvedOccurs.TheVariants.{Onc
 use Rattle.cob_copybook_tree.specs.declared.node.Kind.{Kind}
 use Rattle.cob_copybook_tree.specs.declared.node.Kind.TheVariants.{Group, Item as ItemKind}
 use Rattle.cob_copybook_tree.specs.Forests.{Forest, NoEntries, AnEntry}
-use Rattle.cob_copybook_tree.specs.Nodes.{Resolved}
+use Rattle.cob_copybook_tree.specs.Nodes.{Resolved, MayHold}
 use Rattle.cob_copybook_tree.specs.Lengths.{greatest_number, sum_of, whole_length}
 
 -- an entry occurs once, a number of times, or as often as its count says, and no more often than its greatest number
@@ -36,16 +36,10 @@ AreInAreas area (AnEntry e children more) =
     let after = area_by e.redefines area (whole_length greatest_number e children) in
     (whole_length greatest_number e children ≤ after) × AreInAreas 0 children × AreInAreas after more
 
--- nothing stands beneath an item
-abbrev pub IsLeaf : Kind → Forest Resolved → Type 0
-IsLeaf Group children = Unit {0}
-IsLeaf (ItemKind i) NoEntries = Unit {0}
-IsLeaf (ItemKind i) (AnEntry e children more) = ⊥
-
 -- groups alone have entries beneath them
 abbrev pub AreLeaves : Forest Resolved → Type 0
 AreLeaves NoEntries = Unit {0}
-AreLeaves (AnEntry e children more) = IsLeaf e.kind children × AreLeaves children × AreLeaves more
+AreLeaves (AnEntry e children more) = MayHold e.kind children × AreLeaves children × AreLeaves more
 
 -- What holds of the entries of every record: each may occur, groups alone have entries beneath them, no redefinition is longer than its
 -- area, and the entries that begin there end with all their elements within 32,752 bytes.

@@ -14,8 +14,8 @@
 //! A place that depends on counts is found by all counts of the storage, where the operand is spared none of them and all are valid: they are
 //! taken once, and again only behind a receiver whose place meets the item of a count. Else it is found by those that the operand needs.
 //!
-//! It stands on cob_move_operands for moves as data, on cob_layout for places and counts, on cob_move_receive for what one receiver gets, and
-//! on cob_layout for what holds of every record. [`Moves::apply`] takes no memory: its room is a [`Scratch`].
+//! It stands on cob_layout_places for moves as data, on cob_layout for places, counts and what holds of every record, and on cob_move_receive
+//! for what one receiver gets. [`Moves::apply`] takes no memory: its room is a [`Scratch`].
 #![tactic(auto)]
 
 mod application;

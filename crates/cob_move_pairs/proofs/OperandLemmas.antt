@@ -2,6 +2,7 @@
 use Rattle.std.proofs.Common.{◌≡◌, ℕ, ◌+◌, ◌<◌, ◌≤◌, ◌==◌, Bool, true, false, List, [], ◌∷◌, ◌++◌, refl, sym, ap, subst, ◌∙◌, inl, inr, ◌⊎◌, arith, Option, Some, None}
 use Rattle.std.specs.Prelude.{◌||◌, is_some, if◌then◌else◌}
 use Rattle.std.proofs.lemmas.Bool.Decides.{nat_tests}
+use Rattle.cob_copybook_names.specs.Naming.{with_name}
 use Rattle.cob_copybook_tree.specs.declared.node.Kind.{Kind}
 use Rattle.cob_copybook_tree.specs.Forests.{Forest, NoEntries, AnEntry, entries_in}
 use Rattle.cob_copybook_tree.specs.Nodes.{Resolved}
@@ -13,7 +14,7 @@ use Rattle.cob_layout_places.specs.References.{IsSubscripted, Refers}
 use Rattle.cob_layout_places.specs.declared.operands.Operand.{Operand}
 use Rattle.cob_layout_places.specs.Moves.{IsOperand}
 use Rattle.cob_move_pairs.specs.Groups.{IsListed, SubordinatesAreOperands, entries_below, found_below, operand_below, or_bare}
-use Rattle.cob_move_pairs.specs.Pairs.{Subordinate, is_left_out, own_subordinate, between_below, subordinates}
+use Rattle.cob_move_pairs.specs.Pairs.{Subordinate, is_left_out, own_subordinate, subordinates}
 
 skip : {A : Type 0} (b : Bool) (k : A) (x y : Option A) → b ≡ false → x ≡ None → or_else (choose b k x) y ≡ y
 skip true k x y e n = cc
@@ -108,14 +109,14 @@ stands_own path n e children more (Some name) s h kept (inl x) =
 stands_own path n e children more (Some name) s h kept (inr x) = absurd x
 
 stands_step : (path : List (List ℕ)) (n : ℕ) (e : Resolved) (children more : Forest Resolved) (s : Subordinate) (t : Bool) → AreNumbered n (AnEntry e children more) → is_left_out e ≡ t
-    → (IsListed s (subordinates (between_below e.name path) children) → Stands (n + 1) s.number [] s.kind children)
+    → (IsListed s (subordinates (with_name e.name path) children) → Stands (n + 1) s.number [] s.kind children)
     → (IsListed s (subordinates path more) → Stands (n + 1 + entries_in children) s.number [] s.kind more)
-    → IsListed s ((if t then [] else own_subordinate e.name path e ++ subordinates (between_below e.name path) children) ++ subordinates path more)
+    → IsListed s ((if t then [] else own_subordinate e.name path e ++ subordinates (with_name e.name path) children) ++ subordinates path more)
     → Stands n s.number [] s.kind (AnEntry e children more)
 stands_step path n e children more s true h left a b o = stands_later n s.number [] s.kind e children more h (b o)
 stands_step path n e children more s false h kept a b o =
-    elim (one_of s (own_subordinate e.name path e ++ subordinates (between_below e.name path) children) (subordinates path more) o) [
-      | inl x ↦ elim (one_of s (own_subordinate e.name path e) (subordinates (between_below e.name path) children) x) [
+    elim (one_of s (own_subordinate e.name path e ++ subordinates (with_name e.name path) children) (subordinates path more) o) [
+      | inl x ↦ elim (one_of s (own_subordinate e.name path e) (subordinates (with_name e.name path) children) x) [
         | inl y ↦ stands_own path n e children more e.name s h kept y
         | inr y ↦ stands_plain n s.number s.kind e children more h (no_table (is_some e.redefines) (is_table e.occurs) kept) (a y)
       ]
@@ -125,7 +126,7 @@ stands_step path n e children more s false h kept a b o =
 stands_below : (path : List (List ℕ)) (n : ℕ) (f : Forest Resolved) (s : Subordinate) → AreNumbered n f → IsListed s (subordinates path f) → Stands n s.number [] s.kind f
 stands_below path n NoEntries s h o = absurd o
 stands_below path n (AnEntry e children more) s h o =
-    stands_step path n e children more s (is_left_out e) h refl (stands_below (between_below e.name path) (n + 1) children s h.1) (stands_below path (n + 1 + entries_in children) more s h.2) o
+    stands_step path n e children more s (is_left_out e) h refl (stands_below (with_name e.name path) (n + 1) children s h.1) (stands_below path (n + 1 + entries_in children) more s h.2) o
 
 -- what is below the entry that a number and subscripts refer to
 record Group (n r : ℕ) (subscripts : List ℕ) (f g : Forest Resolved) : Type 0 where

@@ -1,18 +1,15 @@
 -- Entries and pairs without where they lie in memory.
 use Rattle.std.specs.Prelude.{ℕ, List, map}
 use Rattle.std.specs.Borrow.{Bor}
+use Rattle.cob_copybook_names.specs.Listed.{texts}
 use Rattle.cob_copybook_tree.specs.declared.node.Node.TheViews.{out-Node}
 use Rattle.cob_move_pairs.specs.declared.subordinate.Subordinate.{Subordinate as Listed}
 use Rattle.cob_move_pairs.specs.declared.pair.Pair.{Pair as Paired}
 use Rattle.cob_move_pairs.specs.Pairs.{Subordinate, Pair}
 
--- the names behind references
-abbrev pub names_between : List (Bor (List ℕ)) → List (List ℕ)
-names_between names = map (λ name. name.now) names
-
 -- an entry below a group
 abbrev pub subordinate : Listed → Subordinate
-subordinate s = record { number = (out-Node s.entry.now).number; name = s.name.now; between = names_between s.between.value.items; kind = (out-Node s.entry.now).kind }
+subordinate s = record { number = (out-Node s.entry.now).number; name = s.name.now; between = texts s.between.value.items; kind = (out-Node s.entry.now).kind }
 
 -- entries below a group
 abbrev pub subordinates_listed : List Listed → List Subordinate

@@ -1,6 +1,7 @@
 -- The pairs of a MOVE CORRESPONDING.
 use Rattle.std.specs.Prelude.{ℕ, Bool, true, false, ◌&&◌, ◌||◌, is_some, ◌==◌, ◌≤◌, List, [], ◌∷◌, ◌++◌, Option, Some, None, bytes_eq, if◌then◌else◌, filter, map, length}
 use Rattle.std.specs.List.{flat_map}
+use Rattle.cob_copybook_names.specs.Naming.{with_name}
 use Rattle.cob_copybook_tree.specs.declared.node.Kind.{Kind}
 use Rattle.cob_copybook_tree.specs.declared.node.Kind.TheVariants.{Group, Item as ItemKind}
 use Rattle.cob_copybook_tree.specs.Forests.{Forest, NoEntries, AnEntry}
@@ -24,16 +25,11 @@ abbrev pub own_subordinate : Option (List ℕ) → List (List ℕ) → Resolved 
 own_subordinate None between e = []
 own_subordinate (Some name) between e = record { number = e.number; name = name; between = between; kind = e.kind } ∷ []
 
--- A FILLER group adds no name for those below it.
-abbrev pub between_below : Option (List ℕ) → List (List ℕ) → List (List ℕ)
-between_below None between = between
-between_below (Some name) between = name ∷ between
-
 -- The entries below a group that may be in a pair, in their order.
 abbrev pub subordinates : List (List ℕ) → Forest Resolved → List Subordinate
 subordinates between NoEntries = []
 subordinates between (AnEntry e children more) =
-    (if is_left_out e then [] else own_subordinate e.name between e ++ subordinates (between_below e.name between) children) ++ subordinates between more
+    (if is_left_out e then [] else own_subordinate e.name between e ++ subordinates (with_name e.name between) children) ++ subordinates between more
 
 -- Two lists of names are the same.
 abbrev pub same_names : List (List ℕ) → List (List ℕ) → Bool

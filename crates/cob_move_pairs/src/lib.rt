@@ -19,9 +19,8 @@
 //! [`entries_below`] is what stands below an entry of a record, and [`subordinates_are_operands`] is the law that what may be in a pair
 //! below a group is an operand of the record, with the group's subscripts, since no table stands between.
 //!
-//! It stands on cob_copybook_tree and cob_entry for entries and names, on cob_layout_places for which of them are tables, on
-//! cob_move_receive for the table of categories, on cob_move_operands for operands, on cob_copybook_names for links between entries of
-//! one name, on indexmap for the tables of names and of groups, and on cob_move_statements for the rules that are broken.
+//! It stands on cob_copybook_tree for entries and names, on cob_layout_places for operands and for which entries are tables, on
+//! cob_move_receive for the table of categories, on cob_copybook_names for links between entries of one name, on indexmap for the tables of names and of groups, and on cob_move_statements for the rules that are broken.
 #![tactic(auto)]
 
 mod between;

@@ -1,19 +1,12 @@
 //! The entries below a group that may be in a pair, and which of them correspond.
 
 ghost use Rattle.std.specs.Prelude.{◌≡◌, List, [], ◌∷◌, ◌++◌, map, IfOk, OnOk, bytes_eq};
+ghost use Rattle.cob_copybook_names.specs.Naming.{with_name};
+ghost use Rattle.cob_copybook_names.specs.Listed.{texts};
 ghost use Rattle.cob_copybook_tree.specs.declared.node.Node.TheViews.{out-Node};
 ghost use Rattle.cob_copybook_tree.specs.Nodes.{forest, resolved_entry};
-ghost use Rattle.cob_move_pairs.specs.Listed.{names_between, subordinate, subordinates_listed};
-ghost use Rattle.cob_move_pairs.specs.Pairs.{
-  between_below,
-  correspond,
-  is_elementary,
-  is_left_out,
-  may_correspond,
-  own_subordinate,
-  same_names,
-  subordinates,
-};
+ghost use Rattle.cob_move_pairs.specs.Listed.{subordinate, subordinates_listed};
+ghost use Rattle.cob_move_pairs.specs.Pairs.{correspond, is_elementary, is_left_out, may_correspond, own_subordinate, same_names, subordinates};
 
 use cob_layout_places::{Kind, Name, Node, is_table};
 use cob_move_receive::{SenderKind, may_move};
@@ -35,8 +28,8 @@ fn between_below<'a>(
     entry: &'a Node,
     between: &Rc<Vec<&'a [u8]>>,
 ) -> Result<Rc<Vec<&'a [u8]>>, AllocError>
-    ensures { IfOk result (λ v. names_between v.value.items
-        ≡ between_below (out-Node entry.now).name (names_between between.now.value.items)) }
+    ensures { IfOk result (λ v. texts v.value.items
+        ≡ with_name (out-Node entry.now).name (texts between.now.value.items)) }
 {
     let Some(name) = &entry.name else {
         return between.clone();
@@ -61,7 +54,7 @@ fn list_entry<'a>(
     list: &mut Vec<Subordinate<'a>>,
 ) -> Result<(), AllocError>
     ensures { OnOk result (subordinates_listed list.new.items ≡ subordinates_listed list.old.items
-        ++ own_subordinate (out-Node entry.now).name (names_between between.now.value.items)
+        ++ own_subordinate (out-Node entry.now).name (texts between.now.value.items)
         (resolved_entry (out-Node entry.now))) }
 {
     if let Some(name) = &entry.name {
@@ -86,7 +79,7 @@ pub(crate) fn list_entries<'a>(
     list: &mut Vec<Subordinate<'a>>,
 ) -> Result<(), AllocError>
     ensures { OnOk result (subordinates_listed list.new.items ≡ subordinates_listed list.old.items
-        ++ subordinates (names_between between.now.value.items) (forest entries.now)) }
+        ++ subordinates (texts between.now.value.items) (forest entries.now)) }
 {
     for entry in entries {
         if is_left_out(entry) {
@@ -108,7 +101,7 @@ fn is_same(a: &[u8], b: &[u8]) -> bool
 
 /// Whether two lists of names are the same.
 fn same_names(a: &[&[u8]], b: &[&[u8]]) -> bool
-    ensures { result ≡ same_names (names_between a.now) (names_between b.now) }
+    ensures { result ≡ same_names (texts a.now) (texts b.now) }
 {
     let Some((first, more)) = a.split_first() else {
         return b.is_empty();

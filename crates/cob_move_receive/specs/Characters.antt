@@ -1,5 +1,6 @@
 -- The characters that a sender gives, and how they stand in a receiver.
 use Rattle.std.specs.Prelude.{◌≡◌, ◌⊎◌, ℕ, zero, suc, ◌+◌, ◌-◌, ℤ, pos, negsuc, Bool, true, false, List, [], ◌∷◌, ◌++◌, length, map, take, drop, replicate, MatchBool}
+use Rattle.cob_decimal.specs.Parts.{zeros_of}
 use Rattle.cob_picture.specs.Counts.{scale}
 use Rattle.cob_picture.specs.declared.category.Category.{Category}
 use Rattle.cob_picture.specs.declared.category.Category.TheVariants.{Alphabetic, Numeric, Alphanumeric, AlphanumericEdited, NumericEdited}
@@ -48,14 +49,9 @@ figurative_byte Quote = 0x7F
 abbrev pub numerals : List ℕ → List ℕ
 numerals ds = map (λ d. d + 0xF0) ds
 
--- how many places lie between the last digit and the point: those of P at the right
-abbrev pub missing_places : ℤ → ℕ
-missing_places (pos k) = 0
-missing_places (negsuc k) = k + 1
-
 -- the digits of a number as characters, without its sign, with a zero for each P at the right
 abbrev pub numerals_to_point : List ℕ → ℤ → List ℕ
-numerals_to_point ds scale = numerals ds ++ replicate (missing_places scale) 0xF0
+numerals_to_point ds scale = numerals ds ++ replicate (zeros_of scale) 0xF0
 
 -- the item's bytes represent a number, and these are its digits
 abbrev pub GivesDigits : Item → List ℕ → List ℕ → Type 0

@@ -14,7 +14,7 @@ ghost use Rattle.cob_move_receive.specs.Numbers.{whole_number, digits_of, is_num
 
 use crate::sent::Sent;
 use cob_copybook_tree::{Figurative, Item, Kind, Value, is_number, read_number, store_number};
-use cob_decimal::{Digits, Number};
+use cob_decimal::{Digits, Number, are_digits};
 use cob_edit::{deedit, edit};
 use cob_limits::MAX_DIGITS;
 use cob_picture::Category;
@@ -91,18 +91,6 @@ fn item_gives(item: &Item, bytes: &[u8]) -> Option<Number>
         Category::Alphanumeric => read_characters(bytes),
         Category::Alphabetic | Category::AlphanumericEdited => None,
     }
-}
-
-/// Whether each character is a digit.
-fn are_digits(text: &[u8]) -> bool
-    ensures { IsTrue result ↔ AreDigits text.now }
-{
-    for character in text {
-        if !character.is_ascii_digit() {
-            return false;
-        }
-    }
-    true
 }
 
 /// The digits that characters stand for.

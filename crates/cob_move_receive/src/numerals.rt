@@ -3,7 +3,8 @@
 ghost use Rattle.std.specs.Prelude.{◌≡◌, ◌≤◌, ◌+◌, ◌*◌, ◌++◌, length, replicate};
 ghost use Rattle.cob_limits.specs.Limits.{most_digits};
 ghost use Rattle.cob_decimal.specs.Decimal.{IsDigits};
-ghost use Rattle.cob_move_receive.specs.Characters.{missing_places, numerals, numerals_to_point};
+ghost use Rattle.cob_decimal.specs.Parts.{zeros_of};
+ghost use Rattle.cob_move_receive.specs.Characters.{numerals, numerals_to_point};
 
 use arrayvec::ArrayVec;
 use cob_decimal::Number;
@@ -36,9 +37,9 @@ fn push_zeros(text: &mut ArrayVec<u8, MAX_NUMERALS>, zeros: usize)
     }
 }
 
-/// How many places lie between the last digit and the point.
-fn missing_places(scale: i8) -> usize
-    ensures { result ≡ missing_places scale }
+/// How many zeros stand between the last digit and the point.
+fn zeros_of(scale: i8) -> usize
+    ensures { result ≡ zeros_of scale }
 {
     if scale < 0 {
         usize::from(scale.unsigned_abs())
@@ -53,7 +54,7 @@ pub(crate) fn numerals_to_point(number: &Number) -> ArrayVec<u8, MAX_NUMERALS>
 {
     let mut text = ArrayVec::new();
     push_digits(&mut text, number.digits().as_slice());
-    push_zeros(&mut text, missing_places(number.scale()));
+    push_zeros(&mut text, zeros_of(number.scale()));
     text
 }
 

@@ -17,8 +17,8 @@
 //! Which entry a name with its qualifiers names, `cob_copybook_names` says, as of the count of a table (`named`); here stand what else a
 //! reference asks of that entry, and the listing of both records.
 //!
-//! It stands on `cob_move_statements` for references as they are written and for the rules, on `cob_move_operands` for operands, on
-//! `cob_copybook` for records and on `cob_layout` for what holds of them, and on `cob_copybook_names` for names.
+//! It stands on `cob_move_statements` for references as they are written and for the rules, on `cob_layout_places` for operands,
+//! on `cob_copybook` for records and on `cob_layout` for what holds of them, and on `cob_copybook_names` for names.
 #![tactic(auto)]
 
 mod candidate;

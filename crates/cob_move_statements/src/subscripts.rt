@@ -8,19 +8,8 @@ ghost use Rattle.cob_move_statements.specs.Statements.{AreSubscripts, IsBrackete
 ghost use Rattle.cob_copybook_clauses.specs.Reading.{NotFirstWord};
 
 use cob_copybook_clauses::{WordClass, behind, is_term};
+use cob_decimal::are_digits;
 use cob_source::Token;
-
-/// Whether each character is a digit.
-fn are_digits(text: &[u8]) -> bool
-    ensures { IsTrue result ↔ AreDigits text.now }
-{
-    for character in text {
-        if !character.is_ascii_digit() {
-            return false;
-        }
-    }
-    true
-}
 
 /// Whether a word is of digits, one at least.
 fn is_numeral(token: &Token) -> bool

@@ -1,11 +1,12 @@
 use Rattle.std.proofs.Common.{◌≡◌, ◌++◌, ◌+◌, ◌∙◌, List, ℕ, sym, ap, drop, arith}
+use Rattle.cob_copybook_names.specs.Listed.{texts}
 use Rattle.cob_copybook_tree.specs.declared.node.Node.{Node}
 use Rattle.cob_copybook_tree.specs.declared.node.Node.TheViews.{out-Node}
 use Rattle.cob_copybook_tree.specs.Forests.{Forest, AnEntry}
 use Rattle.cob_copybook_tree.specs.Nodes.{Resolved, forest, resolved_entry}
 use Rattle.cob_move_pairs.proofs.NodeLemmas.{forest_at}
 use Rattle.cob_move_pairs.specs.Pairs.{Subordinate, subordinates}
-use Rattle.cob_move_pairs.specs.Listed.{subordinates_listed, names_between}
+use Rattle.cob_move_pairs.specs.Listed.{subordinates_listed}
 use Rattle.cob_move_pairs.proofs.SubordinateLemmas.{step_kept}
 use Rattle.cob_move_pairs.proofs.subordinate.+list_entries.Goals as goal
 
@@ -14,7 +15,7 @@ loop-entry-preserved t c =
     let e : Resolved = resolved_entry (out-Node c.entry-item.result) in
     let children : Forest Resolved = forest c.as_slice.result.now in
     let more : Forest Resolved = forest (drop (c.loop-entry.entry-index + 1) c.args.entries.now) in
-    let path : List (List ℕ) = names_between c.args.between.now.value.items in
+    let path : List (List ℕ) = texts c.args.between.now.value.items in
     let m : List Subordinate = subordinates_listed c.loop-entry.list.items in
     let at = forest_at c.args.entries.now c.loop-entry.entry-index c.entry-item.result (omega arith) c.entry-item.is in
     let here : forest (drop c.loop-entry.entry-index c.args.entries.now) ≡ AnEntry e children more = at ∙ ap (λ (ns : List Node). AnEntry e (forest ns) more) (sym c.as_slice.ensures.value) in
