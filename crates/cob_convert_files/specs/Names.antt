@@ -2,5 +2,5 @@
 use Rattle.std.specs.Prelude.{List, ℕ, [], ◌∷◌, ◌++◌}
 
 -- The name of an output's part is the output's name with `.part` behind it.
-abbrev pub part_of : List ℕ → List ℕ
-part_of name = name ++ (46 ∷ 112 ∷ 97 ∷ 114 ∷ 116 ∷ [])
+abbrev pub name_of_part : List ℕ → List ℕ
+name_of_part name = name ++ (46 ∷ 112 ∷ 97 ∷ 114 ∷ 116 ∷ [])

@@ -2,7 +2,7 @@ ghost use Rattle.std.specs.Prelude.{◌≡◌, [], IfOk, OnOk, string_bytes};
 ghost use Rattle.std.specs.Io.Buffered.{writer_buffer, writer_capacity};
 ghost use Rattle.cob_records.specs.Files.{buffer_size};
 ghost use Rattle.cob_records.specs.Streams.{sink_writer, sink_failures, sink_errors};
-ghost use Rattle.cob_convert_files.specs.Names.{part_of};
+ghost use Rattle.cob_convert_files.specs.Names.{name_of_part};
 
 use cob_records::{FileSink, OpenFault, Opened, WriteSink};
 use std::alloc::{AllocError, Global};
@@ -20,7 +20,7 @@ const PERMISSIONS: u32 = 0o666;
 
 /// The name of the file that stands in for the output of this name until all of it is written.
 pub fn part_name(alloc: Global, name: &str) -> Result<String, AllocError>
-    ensures { IfOk result (λ part. string_bytes part ≡ part_of name.now) }
+    ensures { IfOk result (λ part. string_bytes part ≡ name_of_part name.now) }
 {
     let mut part = String::new(alloc);
     part.push_str(name)?;

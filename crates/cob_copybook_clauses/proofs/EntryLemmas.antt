@@ -8,7 +8,7 @@ use Rattle.cob_copybook_clauses.specs.declared.term.WordClass.TheVariants as ter
 use Rattle.cob_entry.specs.declared.kinds.Usage.{Usage}
 use Rattle.cob_copybook_clauses.specs.Terms.{word_class}
 use Rattle.cob_copybook_clauses.specs.Written.{WrittenClauses, WrittenEntry}
-use Rattle.cob_copybook_clauses.specs.Clauses.{usage_of, leading_of, Clause, Redefines, Picture, Stored, Signed, Occurs, Value, Justified, Blank, Spells}
+use Rattle.cob_copybook_clauses.specs.Clauses.{usage_of, leading_of, Clause, Redefines, Picture, Stored, Signed, Occurs, Value, Justified, Blank, SaysClause}
 use Rattle.cob_copybook_clauses.specs.Entries.{IsAbsent, put, SaysClauses, End, Then, starts_clause}
 use Rattle.cob_copybook_clauses.specs.Reading.{ClauseFirst, Stands}
 
@@ -22,7 +22,7 @@ begins words f = record { found = λ g s. s; only = λ g s. s }
 
 -- the reader of one clause answers the only one
 abbrev pub Only : List Lexeme → Clause → List Lexeme → Type 0
-Only rest c more = (d : Clause) (ws after : List Lexeme) → Spells d ws → ClauseFirst after → rest ≡ ws ++ after → (c ≡ d) × (more ≡ after)
+Only rest c more = (d : Clause) (ws after : List Lexeme) → SaysClause d ws → ClauseFirst after → rest ≡ ws ++ after → (c ≡ d) × (more ≡ after)
 
 usage_starts : (t : WordClass) (u : Usage) → usage_of t ≡ Some u → starts_clause t ≡ true
 usage_starts term.Display u e = refl
@@ -38,7 +38,7 @@ leading_starts _ b e = absurd cc
 begun : (k w : Lexeme) (t : WordClass) → k ≡ w → word_class k ≡ t → starts_clause t ≡ true → starts_clause (word_class w) ≡ true
 begun k w t e is st = ap (λ (x : Lexeme). starts_clause (word_class x)) (sym e) ∙ ap starts_clause is ∙ st
 
-pub clause_starts : (c : Clause) (ws more rest : List Lexeme) (w : Lexeme) → Spells c ws → ws ++ more ≡ w ∷ rest → starts_clause (word_class w) ≡ true
+pub clause_starts : (c : Clause) (ws more rest : List Lexeme) (w : Lexeme) → SaysClause c ws → ws ++ more ≡ w ∷ rest → starts_clause (word_class w) ≡ true
 clause_starts (Redefines n) ws more rest w (k, x, ik, n1, s) e = let same : k ≡ w = cc in begun k w _ same ik refl
 clause_starts (Picture p) ws more rest w (k, is, x, ik, n1, n2, n3, s) e = let same : k ≡ w = cc in begun k w _ same ik refl
 clause_starts (Stored v) ws more rest w ([], x, p, ix, s) e = let same : x ≡ w = cc in begun x w _ same refl (usage_starts (word_class x) v ix)
@@ -51,7 +51,7 @@ clause_starts Justified ws more rest w (k, right, ik, n1, s) e = let same : k �
 clause_starts Blank ws more rest w (k, when, x, ik, n1, n2, s) e = let same : k ≡ w = cc in begun k w _ same ik refl
 
 -- a clause has a word
-pub spelled_some : (c : Clause) (ws : List Lexeme) → Spells c ws → 0 < length ws
+pub spelled_some : (c : Clause) (ws : List Lexeme) → SaysClause c ws → 0 < length ws
 spelled_some (Redefines n) ws (k, x, ik, n1, s) = subst (λ (t : List Lexeme). 0 < length t) (sym s) (omega arith)
 spelled_some (Picture p) ws (k, is, x, ik, n1, n2, n3, s) = subst (λ (t : List Lexeme). 0 < length t) (sym s) (omega arith)
 spelled_some (Stored v) ws ([], x, p, ix, s) = subst (λ (t : List Lexeme). 0 < length t) (sym s) (omega arith)
@@ -99,12 +99,12 @@ twice words rest start now c more so some only full g says = full (behind c more
 
 -- no clause stands here
 stuck_at : {words : List Lexeme} {f g : WrittenClauses} → 0 < length words
-    → ((d : Clause) (ws after : List Lexeme) → Spells d ws → ClauseFirst after → words ≡ ws ++ after → ⊥) → SaysClauses words f g → ⊥
+    → ((d : Clause) (ws after : List Lexeme) → SaysClause d ws → ClauseFirst after → words ≡ ws ++ after → ⊥) → SaysClauses words f g → ⊥
 stuck_at {words = words} some none (End e same) = let nil : length words ≡ 0 = ap length e in omega (arith, some, nil)
 stuck_at some none (Then {more = y} d ws sp s free says) = none d ws y sp (says_first says) s
 
 pub stuck : (words rest : List Lexeme) (start now : WrittenClauses)
-    → SoFar words rest start now → 0 < length rest → ((d : Clause) (ws after : List Lexeme) → Spells d ws → ClauseFirst after → rest ≡ ws ++ after → ⊥) → (g : WrittenClauses) → SaysClauses words start g → ⊥
+    → SoFar words rest start now → 0 < length rest → ((d : Clause) (ws after : List Lexeme) → SaysClause d ws → ClauseFirst after → rest ≡ ws ++ after → ⊥) → (g : WrittenClauses) → SaysClauses words start g → ⊥
 stuck words rest start now so some none g says = stuck_at some none (so.only g says)
 
 -- at the end

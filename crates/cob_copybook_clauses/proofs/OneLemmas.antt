@@ -12,8 +12,8 @@ use Rattle.cob_entry.specs.declared.kinds.Sign.{Sign}
 use Rattle.cob_entry.specs.declared.kinds.Figurative.{Figurative}
 use Rattle.cob_copybook_clauses.specs.Terms.{word_class, term_of_kind}
 use Rattle.cob_copybook_clauses.specs.Written.{WrittenValue, Word, Quoted, Figure, Repeated, WrittenName, WrittenOccurs, WrittenClauses, names_behind}
-use Rattle.cob_copybook_clauses.specs.Clauses.{IsOptionalWord, IsOrAre, IsWord, IsFree, IsNameWord, AreNames, AreQualifiers, IsPrefix, IsSeparatePhrase, AreKeys, Indexes, Keyed, IsLeast, IsDependingOn, IsVaried, IsTable, IsConstant, usage_of, leading_of, figurative_of, Clause, Redefines, Picture, Stored, Signed, Occurs, Value, Justified, Blank, Spells}
-use Rattle.cob_copybook_clauses.specs.Entries.{starts_clause, AreNamed, SaysClauses, End, Then, bare, put}
+use Rattle.cob_copybook_clauses.specs.Clauses.{IsOptionalWord, IsOrAre, IsWord, IsFree, IsNameWord, AreNames, AreQualifiers, IsPrefix, IsSeparatePhrase, AreKeys, Indexes, Keyed, IsLeast, IsDependingOn, IsVaried, IsTable, IsConstant, usage_of, leading_of, figurative_of, Clause, Redefines, Picture, Stored, Signed, Occurs, Value, Justified, Blank, SaysClause}
+use Rattle.cob_copybook_clauses.specs.Entries.{starts_clause, NamesEntry, SaysClauses, End, Then, bare, put}
 use Rattle.cob_copybook_clauses.specs.Laws.{OneEntry}
 use Rattle.cob_copybook_clauses.specs.Reading.{NotFirstWord, ClauseFirst, kind_at, clause_kind_of}
 use Rattle.cob_copybook_clauses.proofs.TableLemmas.{name_plain, names_first, same_name, count_split}
@@ -251,7 +251,7 @@ leading_kind _ b e = absurd cc
 abbrev HasHead : Clause → List Lexeme → Type 0
 HasHead c n = (w : Lexeme) × (tail : List Lexeme) × (n ≡ w ∷ tail) × (kind_at (word_class w) ≡ Some (clause_kind_of c))
 
-head_kind : (c : Clause) (n : List Lexeme) → Spells c n → HasHead c n
+head_kind : (c : Clause) (n : List Lexeme) → SaysClause c n → HasHead c n
 head_kind (Redefines x) n (k, w, ik, i, s) = (k, w ∷ [], s, ap kind_at ik)
 head_kind (Picture x) n (k, is, w, ik, i, j, l, s) = (k, is ++ w ∷ [], s, ap kind_at ik)
 head_kind (Stored u) n ([], w, p, iu, s) = (w, [], s, usage_kind (word_class w) u iu)
@@ -263,7 +263,7 @@ head_kind (Value v) n (k, is, more, ik, i, j, s) = (k, is ++ more, s, ap kind_at
 head_kind Justified n (k, right, ik, i, s) = (k, right, s, ap kind_at ik)
 head_kind Blank n (k, when, w, ik, i, j, s) = (k, when ++ w ∷ [], s, ap kind_at ik)
 
-same_kind : (c d : Clause) (n m a b : List Lexeme) → Spells c n → Spells d m → n ++ a ≡ m ++ b → Some (clause_kind_of c) ≡ Some (clause_kind_of d)
+same_kind : (c d : Clause) (n m a b : List Lexeme) → SaysClause c n → SaysClause d m → n ++ a ≡ m ++ b → Some (clause_kind_of c) ≡ Some (clause_kind_of d)
 same_kind c d n m a b p q e =
     let (w, tail, f, k) = head_kind c n p in
     let (v, liat, g, l) = head_kind d m q in
@@ -278,14 +278,14 @@ same_text s t w v p q e = sym p.same ∙ ap (λ (x : Lexeme). x.text) e ∙ q.sa
 abbrev Cut : Clause → Clause → List Lexeme → List Lexeme → Type 0
 Cut c d a b = (c ≡ d) × (a ≡ b)
 
-redefines_cut : (x y : List ℕ) (n m a b : List Lexeme) → Spells (Redefines x) n → Spells (Redefines y) m → n ++ a ≡ m ++ b → Cut (Redefines x) (Redefines y) a b
+redefines_cut : (x y : List ℕ) (n m a b : List Lexeme) → SaysClause (Redefines x) n → SaysClause (Redefines y) m → n ++ a ≡ m ++ b → Cut (Redefines x) (Redefines y) a b
 redefines_cut x y n m a b (k, w, ik, p, s) (j, v, ij, q, t) e =
     let it : k ∷ (w ∷ a) ≡ j ∷ (v ∷ b) = sym (ap (λ t. t ++ a) s) ∙ e ∙ ap (λ s. s ++ b) t in
     let same : w ≡ v = cc in
     let tail : a ≡ b = cc in
     (ap Redefines (same_text x y w v p q same), tail)
 
-picture_cut : (x y : List ℕ) (n m a b : List Lexeme) → Spells (Picture x) n → Spells (Picture y) m → n ++ a ≡ m ++ b → Cut (Picture x) (Picture y) a b
+picture_cut : (x y : List ℕ) (n m a b : List Lexeme) → SaysClause (Picture x) n → SaysClause (Picture y) m → n ++ a ≡ m ++ b → Cut (Picture x) (Picture y) a b
 picture_cut x y n m a b (k, is, w, ik, i, p, np, s) (j, si, v, ij, l, q, nq, t) e =
     let it : k ∷ (is ++ w ∷ a) ≡ j ∷ (si ++ v ∷ b) =
     ap (λ t. k ∷ t) (sym (append_assoc is (w ∷ []) a)) ∙ sym (ap (λ t. t ++ a) s) ∙ e ∙ ap (λ s. s ++ b) t ∙ ap (λ t. j ∷ t) (append_assoc si (v ∷ []) b) in
@@ -307,7 +307,7 @@ usage_not t w u p none h = let both : Some u ≡ None = sym p ∙ ap usage_of h 
 leading_not : (t : WordClass) (w : Lexeme) (x : Bool) → leading_of (word_class w) ≡ Some x → leading_of t ≡ None → word_class w ≢ t
 leading_not t w x p none h = let both : Some x ≡ None = sym p ∙ ap leading_of h ∙ none in cc
 
-usage_cut : (x y : Usage) (n m a b : List Lexeme) → Spells (Stored x) n → Spells (Stored y) m → n ++ a ≡ m ++ b → Cut (Stored x) (Stored y) a b
+usage_cut : (x y : Usage) (n m a b : List Lexeme) → SaysClause (Stored x) n → SaysClause (Stored y) m → n ++ a ≡ m ++ b → Cut (Stored x) (Stored y) a b
 usage_cut x y n m a b (f, w, i, p, s) (g, v, l, q, t) e =
     let it : f ++ w ∷ a ≡ g ++ v ∷ b = sym (append_assoc f (w ∷ []) a) ∙ sym (ap (λ t. t ++ a) s) ∙ e ∙ ap (λ s. s ++ b) t ∙ append_assoc g (v ∷ []) b in
     let other = prefix_cut term.Usage f g (w ∷ a) (v ∷ b) i l (usage_not term.Usage w x p refl) (usage_not term.Is w x p refl) (usage_not term.Usage v y q refl) (usage_not term.Is v y q refl) it in
@@ -315,7 +315,7 @@ usage_cut x y n m a b (f, w, i, p, s) (g, v, l, q, t) e =
     let tail : a ≡ b = cc in
     (ap Stored (some_one x y (sym p ∙ ap (λ (z : Lexeme). usage_of (word_class z)) same ∙ q)), tail)
 
-sign_cut : (x y : Sign) (n m a b : List Lexeme) → Spells (Signed x) n → Spells (Signed y) m → ClauseFirst a → ClauseFirst b → n ++ a ≡ m ++ b → Cut (Signed x) (Signed y) a b
+sign_cut : (x y : Sign) (n m a b : List Lexeme) → SaysClause (Signed x) n → SaysClause (Signed y) m → ClauseFirst a → ClauseFirst b → n ++ a ≡ m ++ b → Cut (Signed x) (Signed y) a b
 sign_cut x y n m a b (f, w, sep, i, p, c, s) (g, v, pes, l, q, d, t) first tsrif e =
     let it : f ++ w ∷ (sep ++ a) ≡ g ++ v ∷ (pes ++ b) = sym (append_assoc f (w ∷ sep) a) ∙ sym (ap (λ t. t ++ a) s) ∙ e ∙ ap (λ s. s ++ b) t ∙ append_assoc g (v ∷ pes) b in
     let other = prefix_cut term.Sign f g (w ∷ (sep ++ a)) (v ∷ (pes ++ b)) i l (leading_not term.Sign w x.leading p refl) (leading_not term.Is w x.leading p refl) (leading_not term.Sign v y.leading q refl) (leading_not term.Is v y.leading q refl) it in
@@ -325,14 +325,14 @@ sign_cut x y n m a b (f, w, sep, i, p, c, s) (g, v, pes, l, q, d, t) first tsrif
     let leads : x.leading ≡ y.leading = some_one x.leading y.leading (sym p ∙ ap (λ (z : Lexeme). leading_of (word_class z)) same ∙ q) in
     (ap (λ z. Signed (record { leading = z; separate = x.separate })) leads ∙ ap (λ z. Signed (record { leading = y.leading; separate = z })) r.0, r.1)
 
-occurs_cut : (x y : WrittenOccurs) (n m a b : List Lexeme) → Spells (Occurs x) n → Spells (Occurs y) m → ClauseFirst a → ClauseFirst b → n ++ a ≡ m ++ b → Cut (Occurs x) (Occurs y) a b
+occurs_cut : (x y : WrittenOccurs) (n m a b : List Lexeme) → SaysClause (Occurs x) n → SaysClause (Occurs y) m → ClauseFirst a → ClauseFirst b → n ++ a ≡ m ++ b → Cut (Occurs x) (Occurs y) a b
 occurs_cut x y n m a b (k, ws, ik, p, s) (j, vs, ij, q, t) first tsrif e =
     let it : k ∷ (ws ++ a) ≡ j ∷ (vs ++ b) = sym (ap (λ t. t ++ a) s) ∙ e ∙ ap (λ s. s ++ b) t in
     let tail : ws ++ a ≡ vs ++ b = cc in
     let r = table_cut x y ws vs a b p q first tsrif tail in
     (ap Occurs r.0, r.1)
 
-value_cut : (x y : WrittenValue) (n m a b : List Lexeme) → Spells (Value x) n → Spells (Value y) m → n ++ a ≡ m ++ b → Cut (Value x) (Value y) a b
+value_cut : (x y : WrittenValue) (n m a b : List Lexeme) → SaysClause (Value x) n → SaysClause (Value y) m → n ++ a ≡ m ++ b → Cut (Value x) (Value y) a b
 value_cut x y n m a b (k, is, ws, ik, i, p, s) (j, si, vs, ij, l, q, t) e =
     let it : k ∷ (is ++ (ws ++ a)) ≡ j ∷ (si ++ (vs ++ b)) =
     ap (λ t. k ∷ t) (sym (append_assoc is ws a)) ∙ sym (ap (λ t. t ++ a) s) ∙ e ∙ ap (λ s. s ++ b) t ∙ ap (λ t. j ∷ t) (append_assoc si vs b) in
@@ -340,13 +340,13 @@ value_cut x y n m a b (k, is, ws, ik, i, p, s) (j, si, vs, ij, l, q, t) e =
     let r = constant_cut x y ws vs a b p q (is_or_are_cut is si (ws ++ a) (vs ++ b) i l (constant_not_first term.Is x ws a no_is p) (constant_not_first term.Are x ws a no_are p) (constant_not_first term.Is y vs b no_is q) (constant_not_first term.Are y vs b no_are q) behind) in
     (ap Value r.0, r.1)
 
-justified_cut : (n m a b : List Lexeme) → Spells Justified n → Spells Justified m → ClauseFirst a → ClauseFirst b → n ++ a ≡ m ++ b → Cut Justified Justified a b
+justified_cut : (n m a b : List Lexeme) → SaysClause Justified n → SaysClause Justified m → ClauseFirst a → ClauseFirst b → n ++ a ≡ m ++ b → Cut Justified Justified a b
 justified_cut n m a b (k, r, ik, i, s) (j, q, ij, l, t) first tsrif e =
     let it : k ∷ (r ++ a) ≡ j ∷ (q ++ b) = sym (ap (λ t. t ++ a) s) ∙ e ∙ ap (λ s. s ++ b) t in
     let tail : r ++ a ≡ q ++ b = cc in
     (refl, noise_cut term.Right r q a b i l (clause_not_first term.Right a refl first) (clause_not_first term.Right b refl tsrif) tail)
 
-blank_cut : (n m a b : List Lexeme) → Spells Blank n → Spells Blank m → n ++ a ≡ m ++ b → Cut Blank Blank a b
+blank_cut : (n m a b : List Lexeme) → SaysClause Blank n → SaysClause Blank m → n ++ a ≡ m ++ b → Cut Blank Blank a b
 blank_cut n m a b (k, is, w, ik, i, p, s) (j, si, v, ij, l, q, t) e =
     let it : k ∷ (is ++ w ∷ a) ≡ j ∷ (si ++ v ∷ b) =
     ap (λ t. k ∷ t) (sym (append_assoc is (w ∷ []) a)) ∙ sym (ap (λ t. t ++ a) s) ∙ e ∙ ap (λ s. s ++ b) t ∙ ap (λ t. j ∷ t) (append_assoc si (v ∷ []) b) in
@@ -355,17 +355,17 @@ blank_cut n m a b (k, is, w, ik, i, p, s) (j, si, v, ij, l, q, t) e =
     let tail : a ≡ b = cc in
     (refl, tail)
 
-clause_cut : (c d : Clause) (n m a b : List Lexeme) → Spells c n → Spells d m → ClauseFirst a → ClauseFirst b → n ++ a ≡ m ++ b → (c ≡ d) × (a ≡ b)
-clause_cut (Redefines x) d n m a b p q f g e = by_redefines (λ d. Spells d m → Cut (Redefines x) d a b) (λ y q. redefines_cut x y n m a b p q e) d (same_kind (Redefines x) d n m a b p q e) q
-clause_cut (Picture x) d n m a b p q f g e = by_picture (λ d. Spells d m → Cut (Picture x) d a b) (λ y q. picture_cut x y n m a b p q e) d (same_kind (Picture x) d n m a b p q e) q
-clause_cut (Stored x) d n m a b p q f g e = by_usage (λ d. Spells d m → Cut (Stored x) d a b) (λ y q. usage_cut x y n m a b p q e) d (same_kind (Stored x) d n m a b p q e) q
-clause_cut (Signed x) d n m a b p q f g e = by_sign (λ d. Spells d m → Cut (Signed x) d a b) (λ y q. sign_cut x y n m a b p q f g e) d (same_kind (Signed x) d n m a b p q e) q
-clause_cut (Occurs x) d n m a b p q f g e = by_occurs (λ d. Spells d m → Cut (Occurs x) d a b) (λ y q. occurs_cut x y n m a b p q f g e) d (same_kind (Occurs x) d n m a b p q e) q
-clause_cut (Value x) d n m a b p q f g e = by_value (λ d. Spells d m → Cut (Value x) d a b) (λ y q. value_cut x y n m a b p q e) d (same_kind (Value x) d n m a b p q e) q
-clause_cut Justified d n m a b p q f g e = by_justified (λ d. Spells d m → Cut Justified d a b) (λ q. justified_cut n m a b p q f g e) d (same_kind Justified d n m a b p q e) q
-clause_cut Blank d n m a b p q f g e = by_blank (λ d. Spells d m → Cut Blank d a b) (λ q. blank_cut n m a b p q e) d (same_kind Blank d n m a b p q e) q
+clause_cut : (c d : Clause) (n m a b : List Lexeme) → SaysClause c n → SaysClause d m → ClauseFirst a → ClauseFirst b → n ++ a ≡ m ++ b → (c ≡ d) × (a ≡ b)
+clause_cut (Redefines x) d n m a b p q f g e = by_redefines (λ d. SaysClause d m → Cut (Redefines x) d a b) (λ y q. redefines_cut x y n m a b p q e) d (same_kind (Redefines x) d n m a b p q e) q
+clause_cut (Picture x) d n m a b p q f g e = by_picture (λ d. SaysClause d m → Cut (Picture x) d a b) (λ y q. picture_cut x y n m a b p q e) d (same_kind (Picture x) d n m a b p q e) q
+clause_cut (Stored x) d n m a b p q f g e = by_usage (λ d. SaysClause d m → Cut (Stored x) d a b) (λ y q. usage_cut x y n m a b p q e) d (same_kind (Stored x) d n m a b p q e) q
+clause_cut (Signed x) d n m a b p q f g e = by_sign (λ d. SaysClause d m → Cut (Signed x) d a b) (λ y q. sign_cut x y n m a b p q f g e) d (same_kind (Signed x) d n m a b p q e) q
+clause_cut (Occurs x) d n m a b p q f g e = by_occurs (λ d. SaysClause d m → Cut (Occurs x) d a b) (λ y q. occurs_cut x y n m a b p q f g e) d (same_kind (Occurs x) d n m a b p q e) q
+clause_cut (Value x) d n m a b p q f g e = by_value (λ d. SaysClause d m → Cut (Value x) d a b) (λ y q. value_cut x y n m a b p q e) d (same_kind (Value x) d n m a b p q e) q
+clause_cut Justified d n m a b p q f g e = by_justified (λ d. SaysClause d m → Cut Justified d a b) (λ q. justified_cut n m a b p q f g e) d (same_kind Justified d n m a b p q e) q
+clause_cut Blank d n m a b p q f g e = by_blank (λ d. SaysClause d m → Cut Blank d a b) (λ q. blank_cut n m a b p q e) d (same_kind Blank d n m a b p q e) q
 
-none_spelled : (c : Clause) (words n more : List Lexeme) → words ≡ [] → Spells c n → words ≡ n ++ more → ⊥
+none_spelled : (c : Clause) (words n more : List Lexeme) → words ≡ [] → SaysClause c n → words ≡ n ++ more → ⊥
 none_spelled c words n more nil sp e =
     let some = spelled_some c n sp in
     let whole : length (n ++ more) ≡ 0 = ap length (sym e ∙ nil) in
@@ -383,7 +383,7 @@ says_one {f = f} {h = h} (Then {more = x} c n sp s free says) (Then {more = y} d
 no_name : (a : List Lexeme) (w : Lexeme) (tail : List Lexeme) → ClauseFirst a → a ≡ w ∷ tail → starts_clause (word_class w) ≡ false → ⊥
 no_name a w tail first e not = let both : true ≡ false = sym (subst ClauseFirst e first) ∙ not in absurd cc
 
-named_cut : (x y : Option (List ℕ)) (n m a b : List Lexeme) → AreNamed x n → AreNamed y m → ClauseFirst a → ClauseFirst b → n ++ a ≡ m ++ b → (x ≡ y) × (a ≡ b)
+named_cut : (x y : Option (List ℕ)) (n m a b : List Lexeme) → NamesEntry x n → NamesEntry y m → ClauseFirst a → ClauseFirst b → n ++ a ≡ m ++ b → (x ≡ y) × (a ≡ b)
 named_cut None None [] [] a b p q f g e = (refl, e)
 named_cut None None [] (w ∷ []) a b p q f g e = absurd (no_head term.Filler a b w refl f e q)
 named_cut None None (w ∷ []) [] a b p q f g e = absurd (no_head term.Filler b a w refl g (sym e) p)

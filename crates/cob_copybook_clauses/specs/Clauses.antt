@@ -153,12 +153,12 @@ IsConstant (Figure f) ws = (all : List Lexeme) × (w : Lexeme) × IsAll all × (
 IsConstant (Repeated text) ws = (all w : Lexeme) × (word_class all ≡ term.All) × (w.kind ≡ kind.Literal) × (w.text ≡ text) × (ws ≡ all ∷ (w ∷ []))
 
 -- the words say this clause
-abbrev pub Spells : Clause → List Lexeme → Type 0
-Spells (Redefines n) ws = (k w : Lexeme) × (word_class k ≡ term.Redefines) × IsWord n w × (ws ≡ k ∷ (w ∷ []))
-Spells (Picture p) ws = (k : Lexeme) × (is : List Lexeme) × (w : Lexeme) × (word_class k ≡ term.Picture) × IsOptionalWord term.Is is × IsWord p w × (word_class w ≢ term.Is) × (ws ≡ k ∷ (is ++ w ∷ []))
-Spells (Stored u) ws = (before : List Lexeme) × (w : Lexeme) × IsPrefix term.Usage before × (usage_of (word_class w) ≡ Some u) × (ws ≡ before ++ w ∷ [])
-Spells (Signed s) ws = (before : List Lexeme) × (w : Lexeme) × (separate : List Lexeme) × IsPrefix term.Sign before × (leading_of (word_class w) ≡ Some s.leading) × IsSeparatePhrase s.separate separate × (ws ≡ before ++ w ∷ separate)
-Spells (Occurs t) ws = (k : Lexeme) × (more : List Lexeme) × (word_class k ≡ term.Occurs) × IsTable t more × (ws ≡ k ∷ more)
-Spells (Value c) ws = (k : Lexeme) × (is more : List Lexeme) × (word_class k ≡ term.Value) × IsOrAre is × IsConstant c more × (ws ≡ k ∷ (is ++ more))
-Spells Justified ws = (k : Lexeme) × (right : List Lexeme) × (word_class k ≡ term.Justified) × IsOptionalWord term.Right right × (ws ≡ k ∷ right)
-Spells Blank ws = (k : Lexeme) × (when : List Lexeme) × (w : Lexeme) × (word_class k ≡ term.Blank) × IsOptionalWord term.When when × (word_class w ≡ term.Zero) × (ws ≡ k ∷ (when ++ w ∷ []))
+abbrev pub SaysClause : Clause → List Lexeme → Type 0
+SaysClause (Redefines n) ws = (k w : Lexeme) × (word_class k ≡ term.Redefines) × IsWord n w × (ws ≡ k ∷ (w ∷ []))
+SaysClause (Picture p) ws = (k : Lexeme) × (is : List Lexeme) × (w : Lexeme) × (word_class k ≡ term.Picture) × IsOptionalWord term.Is is × IsWord p w × (word_class w ≢ term.Is) × (ws ≡ k ∷ (is ++ w ∷ []))
+SaysClause (Stored u) ws = (before : List Lexeme) × (w : Lexeme) × IsPrefix term.Usage before × (usage_of (word_class w) ≡ Some u) × (ws ≡ before ++ w ∷ [])
+SaysClause (Signed s) ws = (before : List Lexeme) × (w : Lexeme) × (separate : List Lexeme) × IsPrefix term.Sign before × (leading_of (word_class w) ≡ Some s.leading) × IsSeparatePhrase s.separate separate × (ws ≡ before ++ w ∷ separate)
+SaysClause (Occurs t) ws = (k : Lexeme) × (more : List Lexeme) × (word_class k ≡ term.Occurs) × IsTable t more × (ws ≡ k ∷ more)
+SaysClause (Value c) ws = (k : Lexeme) × (is more : List Lexeme) × (word_class k ≡ term.Value) × IsOrAre is × IsConstant c more × (ws ≡ k ∷ (is ++ more))
+SaysClause Justified ws = (k : Lexeme) × (right : List Lexeme) × (word_class k ≡ term.Justified) × IsOptionalWord term.Right right × (ws ≡ k ∷ right)
+SaysClause Blank ws = (k : Lexeme) × (when : List Lexeme) × (w : Lexeme) × (word_class k ≡ term.Blank) × IsOptionalWord term.When when × (word_class w ≡ term.Zero) × (ws ≡ k ∷ (when ++ w ∷ []))

@@ -8,7 +8,7 @@ use Rattle.cob_copybook_clauses.specs.declared.term.WordClass.{WordClass}
 use Rattle.cob_copybook_clauses.specs.declared.term.WordClass.TheVariants as term
 use Rattle.cob_copybook_clauses.specs.Terms.{word_class}
 use Rattle.cob_copybook_clauses.specs.Written.{WrittenClauses, WrittenEntry}
-use Rattle.cob_copybook_clauses.specs.Clauses.{Clause, Redefines, Picture, Stored, Signed, Occurs, Value, Justified, Blank, Spells, IsWord}
+use Rattle.cob_copybook_clauses.specs.Clauses.{Clause, Redefines, Picture, Stored, Signed, Occurs, Value, Justified, Blank, SaysClause, IsWord}
 
 -- no clause yet
 abbrev pub bare : WrittenClauses
@@ -39,7 +39,7 @@ put Blank f = record f { blank = true }
 -- the words say, beyond the first clauses, what makes them the last: clauses in any order, each at most once
 pub data SaysClauses : List Lexeme → WrittenClauses → WrittenClauses → Type 0 where
   End : {ws : List Lexeme} {f g : WrittenClauses} → ws ≡ [] → f ≡ g → SaysClauses ws f g
-  Then : {ws more : List Lexeme} {f g : WrittenClauses} (c : Clause) (words : List Lexeme) → Spells c words → ws ≡ words ++ more → IsAbsent c f → SaysClauses more (put c f) g → SaysClauses ws f g
+  Then : {ws more : List Lexeme} {f g : WrittenClauses} (c : Clause) (words : List Lexeme) → SaysClause c words → ws ≡ words ++ more → IsAbsent c f → SaysClauses more (put c f) g → SaysClauses ws f g
 
 -- a word that may begin a clause
 abbrev pub starts_clause : WordClass → Bool
@@ -59,11 +59,11 @@ starts_clause term.Blank = true
 starts_clause _ = false
 
 -- what names an entry: nothing or FILLER, or a word that begins no clause
-abbrev pub AreNamed : Option (List ℕ) → List Lexeme → Type 0
-AreNamed None [] = Unit {0}
-AreNamed None (w ∷ []) = word_class w ≡ term.Filler
-AreNamed (Some n) (w ∷ []) = IsWord n w × (word_class w ≢ term.Filler) × (starts_clause (word_class w) ≡ false)
-AreNamed name ws = ⊥
+abbrev pub NamesEntry : Option (List ℕ) → List Lexeme → Type 0
+NamesEntry None [] = Unit {0}
+NamesEntry None (w ∷ []) = word_class w ≡ term.Filler
+NamesEntry (Some n) (w ∷ []) = IsWord n w × (word_class w ≢ term.Filler) × (starts_clause (word_class w) ≡ false)
+NamesEntry name ws = ⊥
 
 -- the words, up to the Stop, are this entry
 pub record IsWritten (ws : List Lexeme) (e : WrittenEntry) : Type 0 where
@@ -71,7 +71,7 @@ pub record IsWritten (ws : List Lexeme) (e : WrittenEntry) : Type 0 where
   pub names : List Lexeme
   pub more : List Lexeme
   pub level_is : IsWord e.level level
-  pub named : AreNamed e.name names
+  pub named : NamesEntry e.name names
   pub says : SaysClauses more bare e.clauses
   pub words : ws ≡ level ∷ (names ++ more)
 

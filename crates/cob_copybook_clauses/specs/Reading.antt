@@ -10,7 +10,7 @@ use Rattle.cob_copybook_clauses.specs.declared.clause.WrittenClause.{WrittenClau
 use Rattle.cob_copybook_clauses.specs.declared.clause.WrittenClause.TheVariants as phrase
 use Rattle.cob_copybook_clauses.specs.Terms.{word_class}
 use Rattle.cob_copybook_clauses.specs.Written.{written_occurs, written_value}
-use Rattle.cob_copybook_clauses.specs.Clauses.{Clause, Redefines, Picture, Stored, Signed, Occurs, Value, Justified, Blank, Spells}
+use Rattle.cob_copybook_clauses.specs.Clauses.{Clause, Redefines, Picture, Stored, Signed, Occurs, Value, Justified, Blank, SaysClause}
 use Rattle.cob_copybook_clauses.specs.Entries.{starts_clause}
 
 -- this word doesn't come first
@@ -64,7 +64,7 @@ clause_of phrase.Blank = Blank
 
 -- the clause stands at the front of the words, before these
 abbrev pub Stands : Clause → List Lexeme → List Lexeme → Type 0
-Stands c words more = (ws : List Lexeme) × Spells c ws × (words ≡ ws ++ more)
+Stands c words more = (ws : List Lexeme) × SaysClause c ws × (words ≡ ws ++ more)
 
 -- nothing is left, or a Stop comes first
 abbrev pub StopFirst : List Lexeme → Type 0

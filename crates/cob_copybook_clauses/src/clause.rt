@@ -7,7 +7,7 @@ ghost use Rattle.cob_copybook_clauses.specs.Clauses.{
   Picture,
   Redefines,
   Signed,
-  Spells,
+  SaysClause,
   Stored,
   Value,
   leading_of,
@@ -109,7 +109,7 @@ fn redefines_at(words: &[Token]) -> Option<(WrittenClause<'_>, &[Token])>
     ensures found { IfSome result
         (λ r. Stands (clause_of r.0) (lexemes words.now) (lexemes r.1.now)) }
     ensures only { (n : List ℕ) (ws more : List Lexeme)
-        → Spells (Redefines n) ws → ClauseFirst more → lexemes words.now ≡ ws ++ more
+        → SaysClause (Redefines n) ws → ClauseFirst more → lexemes words.now ≡ ws ++ more
         → IsSomeAnd result (λ r. (clause_of r.0 ≡ Redefines n) × (lexemes r.1.now ≡ more)) }
 {
     let more = behind(words, WordClass::Redefines)?;
@@ -122,7 +122,7 @@ fn picture_at(words: &[Token]) -> Option<(WrittenClause<'_>, &[Token])>
     ensures found { IfSome result
         (λ r. Stands (clause_of r.0) (lexemes words.now) (lexemes r.1.now)) }
     ensures only { (p : List ℕ) (ws more : List Lexeme)
-        → Spells (Picture p) ws → ClauseFirst more → lexemes words.now ≡ ws ++ more
+        → SaysClause (Picture p) ws → ClauseFirst more → lexemes words.now ≡ ws ++ more
         → IsSomeAnd result (λ r. (clause_of r.0 ≡ Picture p) × (lexemes r.1.now ≡ more)) }
 {
     let more = behind(words, WordClass::Picture)?;
@@ -135,7 +135,7 @@ fn usage_at(words: &[Token]) -> Option<(WrittenClause<'_>, &[Token])>
     ensures found { IfSome result
         (λ r. Stands (clause_of r.0) (lexemes words.now) (lexemes r.1.now)) }
     ensures only { (u : Usage) (ws more : List Lexeme)
-        → Spells (Stored u) ws → ClauseFirst more → lexemes words.now ≡ ws ++ more
+        → SaysClause (Stored u) ws → ClauseFirst more → lexemes words.now ≡ ws ++ more
         → IsSomeAnd result (λ r. (clause_of r.0 ≡ Stored u) × (lexemes r.1.now ≡ more)) }
 {
     let (first, rest) = skip_prefix(words, WordClass::Usage).split_first()?;
@@ -161,7 +161,7 @@ fn sign_at(words: &[Token]) -> Option<(WrittenClause<'_>, &[Token])>
     ensures found { IfSome result
         (λ r. Stands (clause_of r.0) (lexemes words.now) (lexemes r.1.now)) }
     ensures only { (s : Sign) (ws more : List Lexeme)
-        → Spells (Signed s) ws → ClauseFirst more → lexemes words.now ≡ ws ++ more
+        → SaysClause (Signed s) ws → ClauseFirst more → lexemes words.now ≡ ws ++ more
         → IsSomeAnd result (λ r. (clause_of r.0 ≡ Signed s) × (lexemes r.1.now ≡ more)) }
 {
     let (first, more) = skip_prefix(words, WordClass::Sign).split_first()?;
@@ -175,7 +175,7 @@ fn occurs_at(words: &[Token]) -> Option<(WrittenClause<'_>, &[Token])>
     ensures found { IfSome result
         (λ r. Stands (clause_of r.0) (lexemes words.now) (lexemes r.1.now)) }
     ensures only { (t : WrittenOccurs) (ws more : List Lexeme)
-        → Spells (Occurs t) ws → ClauseFirst more → lexemes words.now ≡ ws ++ more
+        → SaysClause (Occurs t) ws → ClauseFirst more → lexemes words.now ≡ ws ++ more
         → IsSomeAnd result (λ r. (clause_of r.0 ≡ Occurs t) × (lexemes r.1.now ≡ more)) }
 {
     let more = behind(words, WordClass::Occurs)?;
@@ -188,7 +188,7 @@ fn value_at(words: &[Token]) -> Option<(WrittenClause<'_>, &[Token])>
     ensures found { IfSome result
         (λ r. Stands (clause_of r.0) (lexemes words.now) (lexemes r.1.now)) }
     ensures only { (v : WrittenValue) (ws more : List Lexeme)
-        → Spells (Value v) ws → ClauseFirst more → lexemes words.now ≡ ws ++ more
+        → SaysClause (Value v) ws → ClauseFirst more → lexemes words.now ≡ ws ++ more
         → IsSomeAnd result (λ r. (clause_of r.0 ≡ Value v) × (lexemes r.1.now ≡ more)) }
 {
     let more = behind(words, WordClass::Value)?;
@@ -201,7 +201,7 @@ fn justified_at(words: &[Token]) -> Option<(WrittenClause<'_>, &[Token])>
     ensures found { IfSome result
         (λ r. Stands (clause_of r.0) (lexemes words.now) (lexemes r.1.now)) }
     ensures only { (ws more : List Lexeme)
-        → Spells Justified ws → ClauseFirst more → lexemes words.now ≡ ws ++ more
+        → SaysClause Justified ws → ClauseFirst more → lexemes words.now ≡ ws ++ more
         → IsSomeAnd result (λ r. (clause_of r.0 ≡ Justified) × (lexemes r.1.now ≡ more)) }
 {
     let more = behind(words, WordClass::Justified)?;
@@ -213,7 +213,7 @@ fn blank_at(words: &[Token]) -> Option<(WrittenClause<'_>, &[Token])>
     ensures found { IfSome result
         (λ r. Stands (clause_of r.0) (lexemes words.now) (lexemes r.1.now)) }
     ensures only { (ws more : List Lexeme)
-        → Spells Blank ws → ClauseFirst more → lexemes words.now ≡ ws ++ more
+        → SaysClause Blank ws → ClauseFirst more → lexemes words.now ≡ ws ++ more
         → IsSomeAnd result (λ r. (clause_of r.0 ≡ Blank) × (lexemes r.1.now ≡ more)) }
 {
     let more = behind(words, WordClass::Blank)?;
@@ -224,7 +224,7 @@ fn blank_at(words: &[Token]) -> Option<(WrittenClause<'_>, &[Token])>
 /// The kind of the clause in front.
 fn kind_in_front(words: &[Token]) -> Option<ClauseKind>
     ensures { (c : Clause) (ws more : List Lexeme)
-        → Spells c ws → lexemes words.now ≡ ws ++ more → result ≡ Some (clause_kind_of c) }
+        → SaysClause c ws → lexemes words.now ≡ ws ++ more → result ≡ Some (clause_kind_of c) }
 {
     let (first, _) = words.split_first()?;
     kind_at(word_class(first))
@@ -235,7 +235,7 @@ pub fn clause_at(words: &[Token]) -> Option<(WrittenClause<'_>, &[Token])>
     ensures found { IfSome result
         (λ r. Stands (clause_of r.0) (lexemes words.now) (lexemes r.1.now)) }
     ensures only { (c : Clause) (ws more : List Lexeme)
-        → Spells c ws → ClauseFirst more → lexemes words.now ≡ ws ++ more
+        → SaysClause c ws → ClauseFirst more → lexemes words.now ≡ ws ++ more
         → IsSomeAnd result (λ r. (clause_of r.0 ≡ c) × (lexemes r.1.now ≡ more)) }
 {
     match kind_in_front(words)? {

@@ -1,6 +1,6 @@
 ghost use Rattle.cob_copybook_clauses.specs.Clauses.{IsWord};
 ghost use Rattle.cob_copybook_clauses.specs.Entries.{
-  AreNamed,
+  NamesEntry,
   IsAbsent,
   IsWritten,
   SaysClauses,
@@ -110,10 +110,10 @@ fn starts_clause(token: &Token) -> bool
 
 /// The name of an entry, which may be absent, and what is behind it; none for FILLER.
 fn name_at(words: &[Token]) -> Option<(Option<&[u8]>, &[Token])>
-    ensures found { IfSome result (λ r. (names : List Lexeme) × AreNamed
+    ensures found { IfSome result (λ r. (names : List Lexeme) × NamesEntry
         (option_map (λ b. b.now) r.0) names × (lexemes words.now ≡ names ++ lexemes r.1.now)) }
     ensures only { (name : Option (List ℕ)) (names more : List Lexeme)
-        → AreNamed name names → ClauseFirst more → lexemes words.now ≡ names ++ more
+        → NamesEntry name names → ClauseFirst more → lexemes words.now ≡ names ++ more
         → IsSomeAnd result (λ r. (option_map (λ b. b.now) r.0 ≡ name) × (lexemes r.1.now ≡ more)) }
 {
     let Some((first, more)) = words.split_first() else {

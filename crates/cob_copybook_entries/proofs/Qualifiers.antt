@@ -2,7 +2,7 @@
 use Rattle.std.proofs.Common.{ℕ, List, [], ◌∷◌, Option, Some, None, sym, subst}
 use Rattle.cob_source.specs.Tokens.{Lexeme}
 use Rattle.cob_copybook_clauses.specs.Written.{WrittenName, WrittenClauses, WrittenEntry, names_behind}
-use Rattle.cob_copybook_clauses.specs.Clauses.{Clause, Redefines, Picture, Stored, Signed, Occurs, Value, Justified, Blank, Spells, AreQualifiers, IsVaried}
+use Rattle.cob_copybook_clauses.specs.Clauses.{Clause, Redefines, Picture, Stored, Signed, Occurs, Value, Justified, Blank, SaysClause, AreQualifiers, IsVaried}
 use Rattle.cob_copybook_clauses.specs.Entries.{SaysClauses, End, Then, put, bare, IsWritten}
 use Rattle.cob_copybook_entries.specs.Short.{AreShort, HasShortQualifiers, HasShortCount}
 
@@ -15,7 +15,7 @@ count_short : (count : Option WrittenName) (least : Option (List ℕ)) (ws : Lis
 count_short None least ws h = tt
 count_short (Some name) least ws h = subst AreShort (sym h.qualifiers) (names_short h.behind h.qualified)
 
-clause_short : (c : Clause) (f : WrittenClauses) (words : List Lexeme) → Spells c words → HasShortCount f.occurs → HasShortCount (put c f).occurs
+clause_short : (c : Clause) (f : WrittenClauses) (words : List Lexeme) → SaysClause c words → HasShortCount f.occurs → HasShortCount (put c f).occurs
 clause_short (Redefines n) f words h short = short
 clause_short (Picture p) f words h short = short
 clause_short (Stored u) f words h short = short

@@ -14,7 +14,7 @@ use Rattle.cob_layout_places.specs.Agree.{OnePlace}
 use Rattle.cob_layout_places.proofs.CountLemmas.{one_counted}
 use Rattle.cob_layout.specs.Counting.{greatest_counts}
 use Rattle.cob_layout.specs.Sound.{IsSound}
-use Rattle.cob_layout.specs.Kept.{IsIn, IsNoTable, IsCountOf, counted, IsKept, AreKept, TakenAnew, TakenBy, KeptAfter, KeptGiveNeeded, ReadOnce, first_kept, kept_after, kept_in, one_if, others_kept}
+use Rattle.cob_layout.specs.Kept.{IsIn, IsNoTable, IsStoredCount, counted, IsKeptCount, AreKept, TakenAnew, TakenBy, KeptAfter, KeptGiveNeeded, ReadOnce, first_kept, kept_after, kept_in, one_if, others_kept}
 use Rattle.cob_layout.proofs.GreatestLemmas.{greatest_length}
 use Rattle.cob_layout.proofs.NeedLemmas.{Known, known, same_count, same_or_not, other_index, own_index}
 use Rattle.cob_layout.proofs.ThoseLemmas.{Rise, rise_all, rise_low, rise_high, one_number, keep_yes, keep_no}
@@ -53,7 +53,7 @@ moved place t bytes x c d r s i tables others is =
     ]
 
 -- a table has one count
-pub one : OnePlace → (t : Forest Resolved) (bytes : List ℕ) → IsSound t → (x : Table) (v w : ℕ) → IsIn x (tables_of t) → IsCountOf t bytes x v → IsCountOf t bytes x w → v ≡ w
+pub one : OnePlace → (t : Forest Resolved) (bytes : List ℕ) → IsSound t → (x : Table) (v w : ℕ) → IsIn x (tables_of t) → IsStoredCount t bytes x v → IsStoredCount t bytes x w → v ≡ w
 one place t bytes s x v w i (counted _ _ c before rest is) (counted _ _ d earlier behind are) =
     same_ok v w (one_counted t bytes x d (Ok v) (Ok w)
     (moved place t bytes x c d (Ok v) s i
@@ -63,7 +63,7 @@ one place t bytes s x v w i (counted _ _ c before rest is) (counted _ _ d earlie
 
 -- the counts so far are those of the tables below this number that are read
 abbrev Before : Forest Resolved → List ℕ → (Table → Bool) → ℕ → List ℕ → Type 0
-Before t bytes read m c = (y : Table) → IsIn y (tables_of t) → y.number < m → read y ≡ true → IsCountOf t bytes y (slice_index c y.number)
+Before t bytes read m c = (y : Table) → IsIn y (tables_of t) → y.number < m → read y ≡ true → IsStoredCount t bytes y (slice_index c y.number)
 
 -- and they are the greatest ones where no table is
 abbrev Beside : Forest Resolved → List ℕ → Type 0
@@ -75,7 +75,7 @@ Closed t read = (x y : Table) → IsIn x (tables_of t) → IsIn y (tables_of t) 
 
 -- a kept count is what the bytes say under the counts so far
 still : OnePlace → (t : Forest Resolved) (bytes : List ℕ) (read : Table → Bool) (x : Table) (v : ℕ) (c : List ℕ) → IsSound t → Closed t read → IsIn x (tables_of t) → read x ≡ true
-    → Before t bytes read x.number c → Beside t c → IsCountOf t bytes x v → IsCounted t bytes x c (Ok v)
+    → Before t bytes read x.number c → Beside t c → IsStoredCount t bytes x v → IsCounted t bytes x c (Ok v)
 still place t bytes read x v c s closed i reads before beside (counted _ _ d earlier rest is) =
     let k : Known t x = known t x s i in
     moved place t bytes x d c (Ok v) s i
@@ -84,7 +84,7 @@ still place t bytes read x v c s closed i reads before beside (counted _ _ d ear
 
 -- a count that is read is that of the table
 anew : (t : Forest Resolved) (bytes : List ℕ) (read : Table → Bool) (x : Table) (v : ℕ) (c : List ℕ) → IsSound t → Closed t read → IsIn x (tables_of t) → read x ≡ true
-    → Before t bytes read x.number c → Beside t c → IsCounted t bytes x c (Ok v) → IsCountOf t bytes x v
+    → Before t bytes read x.number c → Beside t c → IsCounted t bytes x c (Ok v) → IsStoredCount t bytes x v
 anew t bytes read x v c s closed i reads before beside is =
     let k : Known t x = known t x s i in
     counted x v c (λ z j le. before z j (omega (arith, le, k.before)) (closed x z i j le reads)) beside is
@@ -101,12 +101,12 @@ cases false A B C h f g = g refl h
 -- what comes of it: a count, and then the others, or its fault
 abbrev Came : Forest Resolved → List ℕ → Table → List ℕ → Result (List ℕ) CountFault → (List ℕ → ℕ → Type 0) → Type 0
 Came t bytes x c r others =
-    ((v m : ℕ) × IsCounted t bytes x c (Ok v) × IsCountOf t bytes x v × others (slice_set c x.number v) m)
+    ((v m : ℕ) × IsCounted t bytes x c (Ok v) × IsStoredCount t bytes x v × others (slice_set c x.number v) m)
     ⊎ ((e : CountFault) × IsCounted t bytes x c (Err e) × (r ≡ Err e))
 
 came : (t : Forest Resolved) (bytes : List ℕ) (x : Table) (k : Option ℕ) (c : List ℕ) (r : Result (List ℕ) CountFault) (n : ℕ) (others : List ℕ → ℕ → Type 0)
-    → ((v : ℕ) → IsCountOf t bytes x v → IsCounted t bytes x c (Ok v)) → ((v : ℕ) → IsCounted t bytes x c (Ok v) → IsCountOf t bytes x v)
-    → IsKept t bytes x k → TakenBy t bytes x k c r n others → Came t bytes x c r others
+    → ((v : ℕ) → IsStoredCount t bytes x v → IsCounted t bytes x c (Ok v)) → ((v : ℕ) → IsCounted t bytes x c (Ok v) → IsStoredCount t bytes x v)
+    → IsKeptCount t bytes x k → TakenBy t bytes x k c r n others → Came t bytes x c r others
 came t bytes x (Some v) c r n others stays comes kept h = inl (v, n, stays v kept, kept, h)
 came t bytes x None c r n others stays comes kept (inl (v, m, is, h, e)) = inl (v, m, is, comes v is, h)
 came t bytes x None c r n others stays comes kept (inr (e, is, same, last)) = inr (e, is, same)
@@ -117,7 +117,7 @@ record Sofar (t : Forest Resolved) (bytes : List ℕ) (read : Table → Bool) (x
   among : (x : Table) → IsIn x xs → IsIn x (tables_of t)
   long : length c ≡ entries_in t
   beside : Beside t c
-  before : (y : Table) → IsIn y (tables_of t) → read y ≡ true → (IsIn y xs → ⊥) → IsCountOf t bytes y (slice_index c y.number)
+  before : (y : Table) → IsIn y (tables_of t) → read y ≡ true → (IsIn y xs → ⊥) → IsStoredCount t bytes y (slice_index c y.number)
 
 -- the tables below the first of them
 lower : (t : Forest Resolved) (bytes : List ℕ) (read : Table → Bool) (x : Table) (xs : List Table) (c : List ℕ) → Sofar t bytes read (x ∷ xs) c → Before t bytes read x.number c
@@ -130,7 +130,7 @@ not_in : (x y : Table) (xs : List Table) → (y.number ≡ x.number → ⊥) →
 not_in x y xs other none (inl e) = other (ap (λ (z : Table). z.number) e)
 not_in x y xs other none (inr i) = none i
 
-sofar_read : (t : Forest Resolved) (bytes : List ℕ) (read : Table → Bool) (x : Table) (xs : List Table) (v : ℕ) (c : List ℕ) → IsSound t → Sofar t bytes read (x ∷ xs) c → IsCountOf t bytes x v
+sofar_read : (t : Forest Resolved) (bytes : List ℕ) (read : Table → Bool) (x : Table) (xs : List Table) (v : ℕ) (c : List ℕ) → IsSound t → Sofar t bytes read (x ∷ xs) c → IsStoredCount t bytes x v
     → Sofar t bytes read xs (slice_set c x.number v)
 sofar_read t bytes read x xs v c s so own =
     let i : IsIn x (tables_of t) = so.among x (inl refl) in
@@ -140,9 +140,9 @@ sofar_read t bytes read x xs v c s so own =
       long = length-set c x.number v ∙ so.long;
       beside = beside_more t x v c i so.beside;
       before = λ y j reads none. elim (same_or_not y.number x.number) [
-        | inl same ↦ subst (λ (n : ℕ). IsCountOf t bytes y n) (sym (own_index c x.number y.number v same room))
-            (subst (λ (z : Table). IsCountOf t bytes z v) (sym (same_table t x y s i j same)) own)
-        | inr other ↦ subst (λ (n : ℕ). IsCountOf t bytes y n) (sym (other_index c x.number y.number v other)) (so.before y j reads (not_in x y xs other none))
+        | inl same ↦ subst (λ (n : ℕ). IsStoredCount t bytes y n) (sym (own_index c x.number y.number v same room))
+            (subst (λ (z : Table). IsStoredCount t bytes z v) (sym (same_table t x y s i j same)) own)
+        | inr other ↦ subst (λ (n : ℕ). IsStoredCount t bytes y n) (sym (other_index c x.number y.number v other)) (so.before y j reads (not_in x y xs other none))
       ];
     }
 
@@ -301,7 +301,7 @@ kept_are t bytes read d [] ks among so kept = tt
 kept_are t bytes read d (x ∷ xs) ks among so kept =
     (own (read x) refl, kept_are t bytes read d xs (others_kept ks) (λ y i. among y (inr i)) so kept.1)
   where
-    own : (b : Bool) → read x ≡ b → IsKept t bytes x (if b then Some (slice_index d x.number) else first_kept ks)
+    own : (b : Bool) → read x ≡ b → IsKeptCount t bytes x (if b then Some (slice_index d x.number) else first_kept ks)
     own true e = so.before x (among x (inl refl)) e (λ i. i)
     own false e = kept.0
 

@@ -10,7 +10,7 @@ use Rattle.cob_layout_places.specs.declared.varying.Table.{Table}
 use Rattle.cob_layout_places.specs.Counts.{tables_of, part_of, IsCounted, IsCountValue}
 use Rattle.cob_layout.specs.Counting.{greatest_counts}
 use Rattle.cob_layout.specs.Sound.{IsSound}
-use Rattle.cob_layout.specs.Kept.{IsIn, IsCountOf, counted, StandsApart, WritesKeep}
+use Rattle.cob_layout.specs.Kept.{IsIn, IsStoredCount, counted, StandsApart, WritesKeep}
 use Rattle.cob_layout.proofs.KeepLaw.{as_many_with, beside}
 use Rattle.cob_layout.proofs.NeedLemmas.{known}
 

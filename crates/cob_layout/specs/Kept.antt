@@ -24,11 +24,11 @@ abbrev pub IsNoTable : Forest Resolved → ℕ → Type 0
 IsNoTable tree k = (z : Table) → IsIn z (tables_of tree) → z.number ≡ k → ⊥
 
 -- The count of a table in a storage: what its item gives under counts that are, up to the item, those of the tables there.
-pub data IsCountOf (tree : Forest Resolved) (bytes : List ℕ) : Table → ℕ → Type 0 where
+pub data IsStoredCount (tree : Forest Resolved) (bytes : List ℕ) : Table → ℕ → Type 0 where
   counted : (x : Table) (v : ℕ) (c : List ℕ)
-      → ((y : Table) → IsIn y (tables_of tree) → y.number ≤ x.count → IsCountOf tree bytes y (slice_index c y.number))
+      → ((y : Table) → IsIn y (tables_of tree) → y.number ≤ x.count → IsStoredCount tree bytes y (slice_index c y.number))
       → ((k : ℕ) → IsNoTable tree k → slice_index c k ≡ slice_index (greatest_counts tree) k)
-      → IsCounted tree bytes x c (Ok v) → IsCountOf tree bytes x v
+      → IsCounted tree bytes x c (Ok v) → IsStoredCount tree bytes x v
 
 -- the kept count of the first of these tables
 abbrev pub first_kept : List (Option ℕ) → Option ℕ
@@ -41,14 +41,14 @@ others_kept [] = []
 others_kept (k ∷ ks) = ks
 
 -- a count that is kept is that of the table
-abbrev pub IsKept : Forest Resolved → List ℕ → Table → Option ℕ → Type 0
-IsKept tree bytes x None = Unit {0}
-IsKept tree bytes x (Some v) = IsCountOf tree bytes x v
+abbrev pub IsKeptCount : Forest Resolved → List ℕ → Table → Option ℕ → Type 0
+IsKeptCount tree bytes x None = Unit {0}
+IsKeptCount tree bytes x (Some v) = IsStoredCount tree bytes x v
 
 -- those of these tables, in their order
 abbrev pub AreKept : Forest Resolved → List ℕ → List Table → List (Option ℕ) → Type 0
 AreKept tree bytes [] ks = Unit {0}
-AreKept tree bytes (x ∷ xs) ks = IsKept tree bytes x (first_kept ks) × AreKept tree bytes xs (others_kept ks)
+AreKept tree bytes (x ∷ xs) ks = IsKeptCount tree bytes x (first_kept ks) × AreKept tree bytes xs (others_kept ks)
 
 -- What the bytes say of a table that is read, and then of others: a count that is kept is not read again; one that is not kept is read, one more
 -- than for the others, and may be refused.
@@ -120,7 +120,7 @@ outcome_of (Err e) c = Err e
 -- the item of a table's count meets no byte of the place, wherever counts that are the storage's put it
 abbrev pub StandsApart : Forest Resolved → List ℕ → Place → Table → Type 0
 StandsApart tree bytes p x = (v : ℕ) (c : List ℕ) (f : Found)
-    → ((y : Table) → IsIn y (tables_of tree) → y.number ≤ x.count → IsCountOf tree bytes y (slice_index c y.number))
+    → ((y : Table) → IsIn y (tables_of tree) → y.number ≤ x.count → IsStoredCount tree bytes y (slice_index c y.number))
     → ((k : ℕ) → IsNoTable tree k → slice_index c k ≡ slice_index (greatest_counts tree) k)
     → IsCounted tree bytes x c (Ok v) → place_of (times c) x.count tree 0 0 [] ≡ Some f
     → (p.offset + p.length ≤ f.offset) ⊎ (f.offset + f.length ≤ p.offset)
@@ -129,4 +129,4 @@ StandsApart tree bytes p x = (v : ℕ) (c : List ℕ) (f : Found)
 abbrev pub WritesKeep : Type 0
 WritesKeep = (tree : Forest Resolved) (before field : List ℕ) (p : Place) (x : Table) (v : ℕ) → IsSound tree → p.offset + p.length ≤ length before → length field ≡ p.length
     → IsIn x (tables_of tree) → ((y : Table) → IsIn y (tables_of tree) → y.number ≤ x.number → StandsApart tree before p y)
-    → IsCountOf tree before x v → IsCountOf tree (with_field before p field) x v
+    → IsStoredCount tree before x v → IsStoredCount tree (with_field before p field) x v

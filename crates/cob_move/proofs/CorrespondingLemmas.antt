@@ -17,14 +17,14 @@ use Rattle.cob_move_statements.specs.Written.{WrittenReference, MoveCorrespondin
 use Rattle.cob_move_references.specs.Candidates.{Candidate}
 use Rattle.cob_move_references.specs.References.{BreaksReceiver, BreaksReference, NamesOperand}
 use Rattle.cob_move_pairs.specs.declared.pair.EntryPair.{EntryPair}
-use Rattle.cob_move_pairs.specs.Between.{Ends, ends, ends_of}
+use Rattle.cob_move_pairs.specs.Between.{PairEnds, ends, ends_of}
 use Rattle.cob_move_pairs.specs.Groups.{operand_below}
 use Rattle.cob_move_pairs.specs.Pairing.{IsTwice}
 use Rattle.cob_move_pairs.specs.Pairs.{AreOnce, Pair, is_elementary}
 use Rattle.cob_move.specs.declared.corresponding.TwoGroups.{TwoGroups}
 use Rattle.cob_move.specs.Meaning.{AreGroupsOf, AreMovesOf, IsAllowedMove, pair_move, pairs_of}
 use Rattle.cob_move.specs.Refusals.{BreaksPair, BreaksStatement, LacksGroup, SomeOf}
-use Rattle.cob_move.specs.Between.{AreAllowed, BreaksBetween, numbered, numbers_of}
+use Rattle.cob_move.specs.Between.{MayMoveBetween, BreaksBetween, numbered, numbers_of}
 use Rattle.cob_move.proofs.OwnLemmas.{own_operand}
 use Rattle.cob_move.proofs.SomeLemmas.{next, none_of, some_here}
 
@@ -115,20 +115,20 @@ kept_moves r v g ps numbers (side, from, to, items) same h =
 -- ---- the pairs as they are found
 
 -- their numbers
-pub same_numbers : (es : List Ends) (ps : List Pair) → es ≡ map ends_of ps → map numbers_of es ≡ map numbered ps
-same_numbers es ps same = ap (λ (xs : List Ends). map numbers_of xs) same ∙ of_pairs ps
+pub same_numbers : (es : List PairEnds) (ps : List Pair) → es ≡ map ends_of ps → map numbers_of es ≡ map numbered ps
+same_numbers es ps same = ap (λ (xs : List PairEnds). map numbers_of xs) same ∙ of_pairs ps
   where
     of_pairs : (qs : List Pair) → map numbers_of (map ends_of qs) ≡ map numbered qs
     of_pairs [] = refl
     of_pairs (q ∷ qs) = ap (λ (ns : List NumberedPair). numbered q ∷ ns) (of_pairs qs)
 
-all_allowed : (g : TwoGroups) (ps : List Pair) → AllByRecursion AreAllowed (map ends_of ps) → AllByRecursion IsAllowedMove (map (pair_move g) ps)
+all_allowed : (g : TwoGroups) (ps : List Pair) → AllByRecursion MayMoveBetween (map ends_of ps) → AllByRecursion IsAllowedMove (map (pair_move g) ps)
 all_allowed g [] h = tt
 all_allowed g (p ∷ ps) h = ((h.0, tt), all_allowed g ps h.1)
 
 -- each move is allowed
-pub allowed_pairs : (g : TwoGroups) (es : List Ends) (ps : List Pair) → es ≡ map ends_of ps → AllByRecursion AreAllowed es → AllByRecursion IsAllowedMove (map (pair_move g) ps)
-allowed_pairs g es ps same h = all_allowed g ps (subst (λ (xs : List Ends). AllByRecursion AreAllowed xs) same h)
+pub allowed_pairs : (g : TwoGroups) (es : List PairEnds) (ps : List Pair) → es ≡ map ends_of ps → AllByRecursion MayMoveBetween es → AllByRecursion IsAllowedMove (map (pair_move g) ps)
+allowed_pairs g es ps same h = all_allowed g ps (subst (λ (xs : List PairEnds). AllByRecursion MayMoveBetween xs) same h)
 
 some_broken : (r : MoveRule) (ps : List Pair) → SomeOf (BreaksBetween r) (map ends_of ps) → SomeOf (BreaksPair r) ps
 some_broken r [] h = h
@@ -136,10 +136,10 @@ some_broken r (p ∷ ps) (inl b) = inl b
 some_broken r (p ∷ ps) (inr h) = inr (some_broken r ps h)
 
 -- one of them breaks a rule
-pub broken_pairs : (r : MoveRule) (es : List Ends) (ps : List Pair) → es ≡ map ends_of ps → (r ≡ rule.Memory) ⊎ SomeOf (BreaksBetween r) es
+pub broken_pairs : (r : MoveRule) (es : List PairEnds) (ps : List Pair) → es ≡ map ends_of ps → (r ≡ rule.Memory) ⊎ SomeOf (BreaksBetween r) es
     → IsTwice r ps ⊎ SomeOf (BreaksPair r) ps
 broken_pairs r es ps same (inl e) = inl (memory_twice r ps e)
-broken_pairs r es ps same (inr h) = inr (some_broken r ps (subst (λ (xs : List Ends). SomeOf (BreaksBetween r) xs) same h))
+broken_pairs r es ps same (inr h) = inr (some_broken r ps (subst (λ (xs : List PairEnds). SomeOf (BreaksBetween r) xs) same h))
 
 -- ---- judging them, one after another
 
@@ -154,11 +154,11 @@ numbers_more all now new list i p n lt is same added before =
     ∙ ap (λ (xs : List NumberedPair). xs ++ rest) (sym added)
 
 -- what holds of those before a place and of those from it on holds of all
-pub allowed_more : (list : List EntryPair) (i : ℕ) (p : EntryPair) → i < length list → p ≡ get_or list i p → AreAllowed (ends p)
-    → (AllByRecursion AreAllowed (map ends (drop i list)) → AllByRecursion AreAllowed (map ends list))
-    → AllByRecursion AreAllowed (map ends (drop (i + 1) list)) → AllByRecursion AreAllowed (map ends list)
+pub allowed_more : (list : List EntryPair) (i : ℕ) (p : EntryPair) → i < length list → p ≡ get_or list i p → MayMoveBetween (ends p)
+    → (AllByRecursion MayMoveBetween (map ends (drop i list)) → AllByRecursion MayMoveBetween (map ends list))
+    → AllByRecursion MayMoveBetween (map ends (drop (i + 1) list)) → AllByRecursion MayMoveBetween (map ends list)
 allowed_more list i p lt is h so rest =
-    so (subst (λ (qs : List EntryPair). AllByRecursion AreAllowed (map ends qs)) (sym (next list i p lt is)) (h, rest))
+    so (subst (λ (qs : List EntryPair). AllByRecursion MayMoveBetween (map ends qs)) (sym (next list i p lt is)) (h, rest))
 
 pub one_broken : (r : MoveRule) (list : List EntryPair) (i : ℕ) (p : EntryPair) → i < length list → p ≡ get_or list i p
     → ((x : MoveRule) → SomeOf (BreaksBetween x) (map ends (drop i list)) → SomeOf (BreaksBetween x) (map ends list))

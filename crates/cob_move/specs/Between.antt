@@ -7,7 +7,7 @@ use Rattle.cob_move_receive.specs.Table.{Entry as EntryOf}
 use Rattle.cob_move_receive.specs.Refusals.{IsAllowed}
 use Rattle.cob_move_statements.specs.declared.fault.MoveRule.{MoveRule}
 use Rattle.cob_move_pairs.specs.declared.correspondences.Correspondences.{Correspondences}
-use Rattle.cob_move_pairs.specs.Between.{Ends}
+use Rattle.cob_move_pairs.specs.Between.{PairEnds}
 use Rattle.cob_move_pairs.specs.Pairs.{Pair}
 use Rattle.cob_move.specs.Refusals.{BreaksMove}
 
@@ -17,7 +17,7 @@ pub record ArePairsOf (r : Records) (pairs : Correspondences) : Type 0 where
   pub output : tree_of pairs.output.now ≡ r.output
 
 -- the numbers of the two entries of a pair
-abbrev pub numbers_of : Ends → NumberedPair
+abbrev pub numbers_of : PairEnds → NumberedPair
 numbers_of e = record { from = e.from.number; to = e.to.number }
 
 -- a pair of the definition by the numbers of its entries
@@ -25,9 +25,9 @@ abbrev pub numbered : Pair → NumberedPair
 numbered p = record { from = p.from.number; to = p.to.number }
 
 -- the move of a pair is one that the table of categories has
-abbrev pub AreAllowed : Ends → Type 0
-AreAllowed e = IsAllowed (EntryOf e.from.kind) e.to.kind
+abbrev pub MayMoveBetween : PairEnds → Type 0
+MayMoveBetween e = IsAllowed (EntryOf e.from.kind) e.to.kind
 
 -- the move of a pair breaks the rule
-abbrev pub BreaksBetween : MoveRule → Ends → Type 0
+abbrev pub BreaksBetween : MoveRule → PairEnds → Type 0
 BreaksBetween r e = BreaksMove r (EntryOf e.from.kind) e.to.kind

@@ -10,5 +10,5 @@ abbrev pub records_of : Entries → Records
 records_of e = record { input = e.input.now; output = e.output.now }
 
 -- any entry of the two records may be named, and no other
-abbrev pub AreNamed : Entries → Type 0
-AreNamed e = entries_named e.names.now ≡ all_entries e.input.now e.output.now
+abbrev pub AllMayBeNamed : Entries → Type 0
+AllMayBeNamed e = entries_named e.names.now ≡ all_entries e.input.now e.output.now

@@ -4,8 +4,8 @@ ghost use Rattle.std.specs.Prelude.{◌≡◌, ◌⊎◌, ◌||◌, map, IfErr, 
 ghost use Rattle.std.specs.List.{AllByRecursion};
 ghost use Rattle.cob_copybook_tree.specs.Forests.{Forest};
 ghost use Rattle.cob_copybook_tree.specs.Nodes.{Resolved, tree_of};
-ghost use Rattle.cob_move.specs.Between.{AreAllowed, ArePairsOf, BreaksBetween, numbered, numbers_of};
-ghost use Rattle.cob_move.specs.Entries.{AreNamed, records_of};
+ghost use Rattle.cob_move.specs.Between.{MayMoveBetween, ArePairsOf, BreaksBetween, numbered, numbers_of};
+ghost use Rattle.cob_move.specs.Entries.{AllMayBeNamed, records_of};
 ghost use Rattle.cob_move.specs.Meaning.{
   AreGroupsOf,
   AreMovesOf,
@@ -79,7 +79,7 @@ fn groups_of(
 ///
 /// `TooLong`, and what else the table refuses.
 fn judge_pair(one: &EntryPair<'_>) -> Result<(), MoveRule>
-    ensures allowed { OnOk result (AreAllowed (ends one.now)) }
+    ensures allowed { OnOk result (MayMoveBetween (ends one.now)) }
     ensures fault { IfErr result (λ r. BreaksBetween r (ends one.now)) }
 {
     judge(&SenderKind::Entry(&one.from.kind), &one.to.kind)
@@ -92,7 +92,7 @@ fn judge_pair(one: &EntryPair<'_>) -> Result<(), MoveRule>
 /// As [`judge_pair`], for one of them; `Memory`.
 fn judged_numbers(alloc: Global, list: &[EntryPair<'_>]) -> Result<Vec<NumberedPair>, MoveRule>
     ensures numbers { IfOk result (λ v. v.items ≡ map numbers_of (map ends list.now)) }
-    ensures allowed { IfOk result (λ v. AllByRecursion AreAllowed (map ends list.now)) }
+    ensures allowed { IfOk result (λ v. AllByRecursion MayMoveBetween (map ends list.now)) }
     ensures fault { IfErr result (λ r. (r ≡ MoveRule.Memory)
         ⊎ SomeOf (BreaksBetween r) (map ends list.now)) }
 {
@@ -155,7 +155,7 @@ pub(crate) fn moves_of(
     from: &Reference<'_>,
     to: &Reference<'_>,
 ) -> Result<PairMoves, MoveRule>
-    requires named { AreNamed entries.now }
+    requires named { AllMayBeNamed entries.now }
     requires pairs { ArePairsOf (records_of entries.now) pairs.old }
     ensures found { IfOk result (λ v. AreMovesOf (entries_named entries.now.names.now)
         entries.now.input.now entries.now.output.now

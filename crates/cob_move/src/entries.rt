@@ -6,7 +6,7 @@ ghost use Rattle.cob_layout_places.specs.declared.operands.Side.TheVariants.{Out
 ghost use Rattle.cob_move_references.specs.Directory.{entries_named};
 ghost use Rattle.cob_move_references.specs.References.{BreaksReceiver, BreaksReference, NamesOperand};
 ghost use Rattle.cob_move_statements.specs.Written.{written_reference};
-ghost use Rattle.cob_move.specs.Entries.{AreNamed, records_of};
+ghost use Rattle.cob_move.specs.Entries.{AllMayBeNamed, records_of};
 
 use cob_move_apply::{Kind, Layout, Ref, Side, records_are_sound};
 use cob_move_references::{Names, named_are_operands};
@@ -56,7 +56,7 @@ impl Entries<'_, '_> {
     ///
     /// `Unknown`, `Ambiguous`, `Subscripts`.
     pub(crate) fn named(&self, reference: &Reference<'_>) -> Result<NamedEntry, MoveRule>
-        requires named { AreNamed self.now }
+        requires named { AllMayBeNamed self.now }
         ensures found { IfOk result (λ n. NamesOperand (entries_named self.now.names.now)
             (written_reference reference.now) n.side
             (operand_in (record_of (records_of self.now) n.side) n.entry)) }
@@ -81,7 +81,7 @@ impl Entries<'_, '_> {
     ///
     /// `Unknown`, `Ambiguous`, `Subscripts`, `Receiver`.
     pub(crate) fn named_receiver(&self, reference: &Reference<'_>) -> Result<Ref, MoveRule>
-        requires named { AreNamed self.now }
+        requires named { AllMayBeNamed self.now }
         ensures found { IfOk result (λ entry. NamesOperand (entries_named self.now.names.now)
             (written_reference reference.now) Out (operand_in self.now.output.now entry)) }
         ensures operand { IfOk result

@@ -2,7 +2,7 @@
 
 ghost use Rattle.std.specs.Prelude.{◌≡◌, List, IfErr, IfOk};
 ghost use Rattle.cob_move.specs.Between.{ArePairsOf};
-ghost use Rattle.cob_move.specs.Entries.{AreNamed, records_of};
+ghost use Rattle.cob_move.specs.Entries.{AllMayBeNamed, records_of};
 ghost use Rattle.cob_move.specs.Meaning.{AreMeanings, AreMeant, IsMeaning};
 ghost use Rattle.cob_move.specs.Refusals.{
   AreBroken,
@@ -40,7 +40,7 @@ fn meaning_of(
     pairs: &mut Correspondences<'_>,
     action: &Action<'_>,
 ) -> Result<StatementMoves, MoveRule>
-    requires named { AreNamed entries.now }
+    requires named { AllMayBeNamed entries.now }
     requires pairs { ArePairsOf (records_of entries.now) pairs.old }
     ensures found { IfOk result (λ v. IsMeaning (entries_named entries.now.names.now)
         entries.now.input.now entries.now.output.now (written_action action.now)
@@ -78,7 +78,7 @@ fn statement_meaning(
     pairs: &mut Correspondences<'_>,
     statement: &Statement<'_>,
 ) -> Result<StatementMoves, MoveFault>
-    requires named { AreNamed entries.now }
+    requires named { AllMayBeNamed entries.now }
     requires pairs { ArePairsOf (records_of entries.now) pairs.old }
     ensures found { IfOk result (λ v. IsMeaning (entries_named entries.now.names.now)
         entries.now.input.now entries.now.output.now (written_action statement.now.action)
@@ -100,7 +100,7 @@ fn meanings_of(
     pairs: &mut Correspondences<'_>,
     statements: &[Statement<'_>],
 ) -> Result<Vec<StatementMoves>, MoveFault>
-    requires named { AreNamed entries.now }
+    requires named { AllMayBeNamed entries.now }
     requires pairs { ArePairsOf (records_of entries.now) pairs.old }
     ensures found { IfOk result (λ v. AreMeanings (entries_named entries.now.names.now)
         entries.now.input.now entries.now.output.now (written_statements statements.now)

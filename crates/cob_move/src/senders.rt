@@ -7,7 +7,7 @@ ghost use Rattle.cob_copybook_entries.specs.Meaning.{IsConstantOf};
 ghost use Rattle.cob_move.specs.Meaning.{IsSenderOf};
 ghost use Rattle.cob_move.specs.Refusals.{BreaksSender};
 ghost use Rattle.cob_layout_places.specs.Moves.{IsSender, sender};
-ghost use Rattle.cob_move.specs.Entries.{AreNamed, records_of};
+ghost use Rattle.cob_move.specs.Entries.{AllMayBeNamed, records_of};
 ghost use Rattle.cob_move_references.specs.Candidates.{Candidate};
 ghost use Rattle.cob_move_references.specs.Directory.{entries_named};
 ghost use Rattle.cob_move_statements.specs.Written.{SentConstant, SentReference, written_reference, written_sender};
@@ -39,7 +39,7 @@ fn constant_of(written: &ValueClause<'_>) -> Result<Value, MoveRule>
 ///
 /// `Unknown`, `Ambiguous`, `Subscripts`.
 fn entry_of(entries: &Entries<'_, '_>, reference: &Reference<'_>) -> Result<Sender, MoveRule>
-    requires named { AreNamed entries.now }
+    requires named { AllMayBeNamed entries.now }
     ensures found { IfOk result (λ s. IsSenderOf (entries_named entries.now.names.now)
         (SentReference (written_reference reference.now)) (sender (records_of entries.now) s)) }
     ensures operand { IfOk result
@@ -63,7 +63,7 @@ pub(crate) fn sender_of(
     entries: &Entries<'_, '_>,
     written: &StatementSender<'_>,
 ) -> Result<Sender, MoveRule>
-    requires named { AreNamed entries.now }
+    requires named { AllMayBeNamed entries.now }
     ensures found { IfOk result (λ s. IsSenderOf (entries_named entries.now.names.now)
         (written_sender written.now) (sender (records_of entries.now) s)) }
     ensures operand { IfOk result

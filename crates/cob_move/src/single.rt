@@ -14,7 +14,7 @@ ghost use Rattle.cob_layout_places.specs.Moves.{
   operand_in,
   sender,
 };
-ghost use Rattle.cob_move.specs.Entries.{AreNamed, records_of};
+ghost use Rattle.cob_move.specs.Entries.{AllMayBeNamed, records_of};
 ghost use Rattle.cob_move_receive.specs.Refusals.{IsAllowed};
 ghost use Rattle.cob_move_receive.specs.Table.{sender_kind};
 ghost use Rattle.cob_move_references.specs.Directory.{entries_named};
@@ -71,7 +71,7 @@ fn receiver_of(
     from: &Sender,
     reference: &Reference<'_>,
 ) -> Result<Ref, MoveRule>
-    requires named { AreNamed entries.now }
+    requires named { AllMayBeNamed entries.now }
     requires sender { IsSender (records_of entries.now) (sender (records_of entries.now) from.now) }
     ensures found { IfOk result (λ o. NamesOperand (entries_named entries.now.names.now)
         (written_reference reference.now) Out (operand_in entries.now.output.now o)) }
@@ -100,7 +100,7 @@ fn receivers_of(
     from: &Sender,
     references: &[Reference<'_>],
 ) -> Result<Vec<Ref>, MoveRule>
-    requires named { AreNamed entries.now }
+    requires named { AllMayBeNamed entries.now }
     requires sender { IsSender (records_of entries.now) (sender (records_of entries.now) from.now) }
     ensures found { IfOk result (λ v. AreReceiversOf (entries_named entries.now.names.now)
         (written_references references.now) (map (operand_in entries.now.output.now) v.items)) }
@@ -130,7 +130,7 @@ pub(crate) fn move_of(
     written: &StatementSender<'_>,
     references: &[Reference<'_>],
 ) -> Result<Move, MoveRule>
-    requires named { AreNamed entries.now }
+    requires named { AllMayBeNamed entries.now }
     ensures found { IfOk result (λ m. IsMoveOf (entries_named entries.now.names.now)
         (written_sender written.now) (written_references references.now)
         (move (records_of entries.now) m)) }

@@ -15,7 +15,7 @@ use Rattle.cob_layout_places.specs.Cover.{AreNumbered}
 use Rattle.cob_layout.proofs.CoverLaw.{absent, differs, not_or}
 use Rattle.cob_layout.specs.Sound.{IsSound}
 use Rattle.cob_move_initial.specs.Initial.{HoldsElement, IsInitial}
-use Rattle.cob_move_initial.specs.Begun.{AreElements, IsBegun}
+use Rattle.cob_move_initial.specs.Begun.{AreElements, AreBegun}
 use Rattle.cob_move_initial.specs.AtPlaces.{HaveEntry, HoldAtPlaces}
 use Rattle.cob_move_initial.proofs.BegunLemmas.{element_at, first_length, element_by, begun_initial}
 use Rattle.cob_move_initial.proofs.InitialLemmas.{own_first}
@@ -103,13 +103,13 @@ group_held kind value size AreBeneath part is none held =
 abbrev HoldsOne : Resolved → Forest Resolved → List ℕ → Type 0
 HoldsOne d under bytes = HoldsElement d.kind d.value (sum_of greatest_number under) (IsInitial under) bytes
 
-one_held : (e : Resolved) (children : Forest Resolved) (d : Resolved) (under : Forest Resolved) (part : List ℕ) → e ≡ d → children ≡ under → HoldsElement e.kind e.value (sum_of greatest_number children) (IsBegun children) part → HoldsOne d under part
+one_held : (e : Resolved) (children : Forest Resolved) (d : Resolved) (under : Forest Resolved) (part : List ℕ) → e ≡ d → children ≡ under → HoldsElement e.kind e.value (sum_of greatest_number children) (AreBegun children) part → HoldsOne d under part
 one_held e children d under part same kids held =
     subst (λ (g : Forest Resolved). HoldsOne d g part) kids
-    (subst (λ (u : Resolved). HoldsOne u children part) same (element_by e.kind e.value (sum_of greatest_number children) (IsBegun children) (IsInitial children) (begun_initial children) part held))
+    (subst (λ (u : Resolved). HoldsOne u children part) same (element_by e.kind e.value (sum_of greatest_number children) (AreBegun children) (IsInitial children) (begun_initial children) part held))
 
 module _ (d : Resolved) (under : Forest Resolved) where
-  at_place : (f : Forest Resolved) (n at area : ℕ) (subscripts bytes : List ℕ) → MayOccur f → AreNumbered n f → IsBegun f bytes → HaveEntry f d under
+  at_place : (f : Forest Resolved) (n at area : ℕ) (subscripts bytes : List ℕ) → MayOccur f → AreNumbered n f → AreBegun f bytes → HaveEntry f d under
       → IsPlaced (place_of greatest_number d.number f at area subscripts) at bytes (HoldsOne d under)
   at_place NoEntries n at area subscripts bytes possible numbered begun have = absurd have
   at_place (AnEntry e children more) n at area subscripts bytes possible numbered begun (inl (own, inl is)) =
@@ -142,7 +142,7 @@ module _ (d : Resolved) (under : Forest Resolved) where
       within _ at taken (length begun.1) bytes (HoldsOne d under) (omega (arith, all, long)) (rw (skip, behind) rest)
 
 -- each entry holds at its places what it holds before the first move
-hold_at_places : (f : Forest Resolved) (bytes : List ℕ) → MayOccur f → AreNumbered 0 f → IsBegun f bytes → HoldAtPlaces f bytes
+hold_at_places : (f : Forest Resolved) (bytes : List ℕ) → MayOccur f → AreNumbered 0 f → AreBegun f bytes → HoldAtPlaces f bytes
 hold_at_places f bytes possible numbered begun d under subscripts have =
     let is = at_place d under f 0 0 0 subscripts bytes possible numbered begun have in
     let from_start : is.place.offset - 0 ≡ is.place.offset = omega arith in
@@ -159,7 +159,7 @@ pub record_begun : (e : Resolved) (children : Forest Resolved) (f : Forest Resol
     → IsBegunRecord f (front ++ rest)
 record_begun e children f front rest sound is elements end =
     let t = AnEntry e children NoEntries in
-    let begun : IsBegun t (front ++ rest) = rw end (own_first e children NoEntries front [] (ap is_some sound.first) elements refl) in
+    let begun : AreBegun t (front ++ rest) = rw end (own_first e children NoEntries front [] (ap is_some sound.first) elements refl) in
     subst (λ g. IsBegunRecord g (front ++ rest)) is record {
       initial = begun_initial t (front ++ rest) begun;
       places = hold_at_places t (front ++ rest) sound.fit.possible sound.numbered begun;

@@ -8,7 +8,7 @@ use Rattle.cob_copybook_tree.specs.Forests.{Forest, NoEntries, AnEntry}
 use Rattle.cob_copybook_tree.specs.Nodes.{Resolved}
 use Rattle.cob_copybook_tree.specs.Lengths.{greatest_number, own_length, sum_of, element_length}
 use Rattle.cob_move_initial.specs.Initial.{AreParts, Unless, HoldsElement, IsInitial}
-use Rattle.cob_move_initial.specs.Begun.{OfSize, IsBegun}
+use Rattle.cob_move_initial.specs.Begun.{OfSize, AreBegun}
 
 parts_by : (P Q : List ℕ → Type 0) → ((bytes : List ℕ) → P bytes → Q bytes) → (n : ℕ) (bytes : List ℕ) → AreParts P n bytes → AreParts Q n bytes
 parts_by P Q turn zero bytes parts = parts
@@ -25,11 +25,11 @@ element_by Group None size P Q turn bytes is = turn bytes is
 element_by Group (Some c) size P Q turn bytes is = is
 
 -- it is the storage before the first move
-pub begun_initial : (f : Forest Resolved) (bytes : List ℕ) → IsBegun f bytes → IsInitial f bytes
+pub begun_initial : (f : Forest Resolved) (bytes : List ℕ) → AreBegun f bytes → IsInitial f bytes
 begun_initial NoEntries bytes begun = begun
 begun_initial (AnEntry e children more) bytes begun =
-    let one = element_by e.kind e.value (sum_of greatest_number children) (IsBegun children) (IsInitial children) (begun_initial children) in
-    let parts = parts_by (OfSize (element_length greatest_number e children) (HoldsElement e.kind e.value (sum_of greatest_number children) (IsBegun children))) (HoldsElement e.kind e.value (sum_of greatest_number children) (IsInitial children)) (λ part is. one part is.1) (greatest_number e) in
+    let one = element_by e.kind e.value (sum_of greatest_number children) (AreBegun children) (IsInitial children) (begun_initial children) in
+    let parts = parts_by (OfSize (element_length greatest_number e children) (HoldsElement e.kind e.value (sum_of greatest_number children) (AreBegun children))) (HoldsElement e.kind e.value (sum_of greatest_number children) (IsInitial children)) (λ part is. one part is.1) (greatest_number e) in
     (begun.0, begun.1, begun.2, unless_by e.redefines _ _ parts begun.0 begun.3, begun_initial more begun.1 begun.4)
 
 suc_product : (n size : ℕ) → suc n * size ≡ size + n * size
@@ -67,12 +67,12 @@ more_fits k n size lt = grind arith
 -- where the element behind k others stands, and what it holds
 pub record IsElement (e : Resolved) (children : Forest Resolved) (k : ℕ) (bytes : List ℕ) : Type 0 where
   pub fits : k * element_length greatest_number e children + element_length greatest_number e children ≤ length bytes
-  pub holds : HoldsElement e.kind e.value (sum_of greatest_number children) (IsBegun children) (take (element_length greatest_number e children) (drop (k * element_length greatest_number e children) bytes))
+  pub holds : HoldsElement e.kind e.value (sum_of greatest_number children) (AreBegun children) (take (element_length greatest_number e children) (drop (k * element_length greatest_number e children) bytes))
 
-pub element_at : (e : Resolved) (children more : Forest Resolved) (k : ℕ) (bytes : List ℕ) → e.redefines ≡ None → k < greatest_number e → IsBegun (AnEntry e children more) bytes → IsElement e children k bytes
+pub element_at : (e : Resolved) (children more : Forest Resolved) (k : ℕ) (bytes : List ℕ) → e.redefines ≡ None → k < greatest_number e → AreBegun (AnEntry e children more) bytes → IsElement e children k bytes
 element_at e children more k bytes own lt begun =
     let size = element_length greatest_number e children in
-    let Is : List ℕ → Type 0 = HoldsElement e.kind e.value (sum_of greatest_number children) (IsBegun children) in
+    let Is : List ℕ → Type 0 = HoldsElement e.kind e.value (sum_of greatest_number children) (AreBegun children) in
     let parts : AreParts (OfSize size Is) (greatest_number e) begun.0 = unless_none e.redefines _ begun.0 own begun.3 in
     let long : length begun.0 ≡ greatest_number e * size = parts_length Is size (greatest_number e) begun.0 parts in
     let room : k * size + size ≤ length begun.0 = omega (arith, long, more_fits k (greatest_number e) size lt) in

@@ -10,13 +10,13 @@ abbrev pub OfSize : ℕ → (List ℕ → Type 0) → List ℕ → Type 0
 OfSize size IsPart bytes = (length bytes ≡ size) × IsPart bytes
 
 -- the storage of entries side by side, as `IsInitial` says, in which each element has its greatest length
-abbrev pub IsBegun : Forest Resolved → List ℕ → Type 0
-IsBegun NoEntries bytes = bytes ≡ []
-IsBegun (AnEntry e children more) bytes =
+abbrev pub AreBegun : Forest Resolved → List ℕ → Type 0
+AreBegun NoEntries bytes = bytes ≡ []
+AreBegun (AnEntry e children more) bytes =
     (first : List ℕ) × (rest : List ℕ) × (bytes ≡ first ++ rest)
-    × Unless e.redefines (AreParts (OfSize (element_length greatest_number e children) (HoldsElement e.kind e.value (sum_of greatest_number children) (IsBegun children))) (greatest_number e)) first
-    × IsBegun more rest
+    × Unless e.redefines (AreParts (OfSize (element_length greatest_number e children) (HoldsElement e.kind e.value (sum_of greatest_number children) (AreBegun children))) (greatest_number e)) first
+    × AreBegun more rest
 
 -- all elements of an entry, as many as there are at most
 abbrev pub AreElements : Resolved → Forest Resolved → List ℕ → Type 0
-AreElements e children = AreParts (OfSize (element_length greatest_number e children) (HoldsElement e.kind e.value (sum_of greatest_number children) (IsBegun children))) (greatest_number e)
+AreElements e children = AreParts (OfSize (element_length greatest_number e children) (HoldsElement e.kind e.value (sum_of greatest_number children) (AreBegun children))) (greatest_number e)

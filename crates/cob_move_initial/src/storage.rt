@@ -5,7 +5,7 @@ ghost use Rattle.cob_copybook_tree.specs.Nodes.{node, forest};
 ghost use Rattle.cob_copybook_tree.specs.Lengths.{greatest_number, sum_of, element_length, whole_length};
 ghost use Rattle.cob_move_receive.specs.Characters.{repeated};
 ghost use Rattle.cob_move_initial.specs.Initial.{HoldsElement, IsInitial};
-ghost use Rattle.cob_move_initial.specs.Begun.{AreElements, IsBegun};
+ghost use Rattle.cob_move_initial.specs.Begun.{AreElements, AreBegun};
 ghost use Rattle.cob_move_initial.specs.AtPlaces.{HoldAtPlaces};
 ghost use Rattle.cob_move_initial.specs.Ready.{HaveInitialStorage, HasInitialStorage};
 
@@ -31,7 +31,7 @@ fn write_element(entry: &Node, bytes: &mut [u8])
     requires room { length bytes.old ≡ element_length greatest_number (node entry.now).top
         (node entry.now).beneath }
     ensures holds { HoldsElement (node entry.now).top.kind (node entry.now).top.value
-        (sum_of greatest_number (node entry.now).beneath) (IsBegun (node entry.now).beneath) bytes.new }
+        (sum_of greatest_number (node entry.now).beneath) (AreBegun (node entry.now).beneath) bytes.new }
     ensures room { length bytes.new ≡ length bytes.old }
 {
     match &entry.kind {
@@ -62,7 +62,7 @@ fn write_elements(entry: &Node, bytes: &mut [u8])
 fn write_entries(entries: &[Node], bytes: &mut [u8])
     requires ready { HaveInitialStorage (forest entries.now) }
     requires room { length bytes.old ≡ sum_of greatest_number (forest entries.now) }
-    ensures begun { IsBegun (forest entries.now) bytes.new }
+    ensures begun { AreBegun (forest entries.now) bytes.new }
     ensures room { length bytes.new ≡ length bytes.old }
 {
     let mut at = 0;

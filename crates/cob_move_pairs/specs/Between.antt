@@ -26,16 +26,16 @@ pub record End : Type 0 where
   pub kind : Kind
 
 -- The two entries of a pair, without the names by which they correspond.
-pub record Ends : Type 0 where
+pub record PairEnds : Type 0 where
   pub from : End
   pub to : End
 
 -- the two entries of a pair of the definition
-abbrev pub ends_of : Pair → Ends
+abbrev pub ends_of : Pair → PairEnds
 ends_of p = record { from = record { number = p.from.number; kind = p.from.kind }; to = record { number = p.to.number; kind = p.to.kind } }
 
 -- the two entries that a listed pair refers to
-abbrev pub ends : EntryPair → Ends
+abbrev pub ends : EntryPair → PairEnds
 ends p = record {
   from = record { number = (out-Node p.from.now).number; kind = (out-Node p.from.now).kind };
   to = record { number = (out-Node p.to.now).number; kind = (out-Node p.to.now).kind };

@@ -1,6 +1,6 @@
 use Rattle.std.proofs.Common.{◌≡◌, ◌++◌, drop, map}
 use Rattle.std.specs.List.{AllByRecursion}
-use Rattle.cob_move.specs.Between.{AreAllowed, BreaksBetween, numbers_of}
+use Rattle.cob_move.specs.Between.{MayMoveBetween, BreaksBetween, numbers_of}
 use Rattle.cob_move.specs.Refusals.{SomeOf}
 use Rattle.cob_move_pairs.specs.Between.{ends}
 use Rattle.cob_move_statements.specs.declared.fault.MoveRule.{MoveRule}
@@ -9,6 +9,6 @@ use Rattle.cob_move.proofs.corresponding.judged_numbers.Given as goal
 abbrev pub invariant-loop-one : goal.invariant-loop-one
 invariant-loop-one l = record {
   so_far : map numbers_of (map ends l.list) ≡ l.numbers.items ++ map numbers_of (map ends (drop l.one-index l.list));
-  allowed : AllByRecursion AreAllowed (map ends (drop l.one-index l.list)) → AllByRecursion AreAllowed (map ends l.list);
+  allowed : AllByRecursion MayMoveBetween (map ends (drop l.one-index l.list)) → AllByRecursion MayMoveBetween (map ends l.list);
   broken : (r : MoveRule) → SomeOf (BreaksBetween r) (map ends (drop l.one-index l.list)) → SomeOf (BreaksBetween r) (map ends l.list);
 }

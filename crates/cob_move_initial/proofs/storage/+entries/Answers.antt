@@ -4,7 +4,7 @@ use Rattle.std.proofs.lemmas.Slice.{take-put_mid}
 use Rattle.cob_copybook_tree.specs.Nodes.{node}
 use Rattle.cob_copybook_tree.specs.Lengths.{greatest_number, sum_of, element_length, whole_length}
 use Rattle.cob_layout.proofs.ForestLemmas.{left_is, left_end, redefines_of, element_small}
-use Rattle.cob_move_initial.specs.Begun.{IsBegun}
+use Rattle.cob_move_initial.specs.Begun.{AreBegun}
 use Rattle.cob_move_initial.specs.Ready.{HaveInitialStorage}
 use Rattle.cob_move_initial.proofs.InitialLemmas.{elements_repeated, own_first, shared_first}
 use Rattle.cob_move_initial.proofs.PartLemmas.{first_fits}
@@ -43,7 +43,7 @@ write_entries-loop-entry-preserved t c =
             ready = more;
             room = omega (arith, sum, taken, all, before.room, end);
             same = omega arith;
-            begun = λ behind is. rw (front, append_assoc) (before.begun (part ++ behind) (subst (λ f. IsBegun f (part ++ behind)) (sym now) (own_first (node n).top (node n).beneath _ part behind own w.write_elements.ensures.holds is)));
+            begun = λ behind is. rw (front, append_assoc) (before.begun (part ++ behind) (subst (λ f. AreBegun f (part ++ behind)) (sym now) (own_first (node n).top (node n).beneath _ part behind own w.write_elements.ensures.holds is)));
           }
       | write_entries-else-is_none w ↦
           let shared = ap is_some (redefines_of n) ∙ w.if-is_none.ensures in
@@ -52,14 +52,14 @@ write_entries-loop-entry-preserved t c =
             ready = more;
             room = rw (w.at-is, w.bytes-is) (omega (arith, sum, taken, before.room));
             same = rw w.bytes-is before.same;
-            begun = λ behind is. rw (w.at-is, w.bytes-is) (before.begun behind (subst (λ f. IsBegun f behind) (sym now) (shared_first (node n).top (node n).beneath _ behind shared is)));
+            begun = λ behind is. rw (w.at-is, w.bytes-is) (before.begun behind (subst (λ f. AreBegun f behind) (sym now) (shared_first (node n).top (node n).beneath _ behind shared is)));
           }
     ]
 
 pub write_entries-returns-clause-begun : goal.write_entries-returns-clause-begun
 write_entries-returns-clause-begun t c =
     let end = left_end c.args.entries.now c.loop-entry.entry-index c.loop-entry-test.false in
-    let is = c.loop-entry.invariant.begun [] (subst (λ f. IsBegun f []) (sym end) refl) in
+    let is = c.loop-entry.invariant.begun [] (subst (λ f. AreBegun f []) (sym end) refl) in
     let sum = ap (sum_of greatest_number) end in
     let all : take c.loop-entry.at c.loop-entry.bytes ≡ c.loop-entry.bytes = take_all _ _ (omega (arith, sum, c.loop-entry.invariant.room)) in
     rw (append-nil, all) at is

@@ -2,7 +2,7 @@ use Rattle.std.proofs.Common.{◌≡◌, ◌+◌, ℕ, List, ◌++◌, length, t
 use Rattle.cob_copybook_tree.specs.Nodes.{forest}
 use Rattle.cob_copybook_tree.specs.Lengths.{greatest_number, sum_of}
 use Rattle.cob_layout.proofs.ForestLemmas.{left}
-use Rattle.cob_move_initial.specs.Begun.{IsBegun}
+use Rattle.cob_move_initial.specs.Begun.{AreBegun}
 use Rattle.cob_move_initial.specs.Ready.{HaveInitialStorage}
 use Rattle.cob_move_initial.proofs.storage.+entries.Given as goal
 
@@ -13,5 +13,5 @@ invariant-write_entries-loop-entry l =
       ready : HaveInitialStorage rest;
       room : l.at + sum_of greatest_number rest ≡ length l.bytes;
       same : length l.bytes ≡ length l.fn.bytes;
-      begun : (behind : List ℕ) → IsBegun rest behind → IsBegun (forest l.entries) (take l.at l.bytes ++ behind);
+      begun : (behind : List ℕ) → AreBegun rest behind → AreBegun (forest l.entries) (take l.at l.bytes ++ behind);
     }
