@@ -5,6 +5,8 @@ ghost use Rattle.cob_decimal.specs.Decimal.{number_of as number_in};
 ghost use Rattle.cob_decimal.specs.Literals.{AreDigits, digits_in};
 ghost use Rattle.cob_copybook_entries.specs.Meaning.{IsIntegerText};
 
+use cob_decimal::are_digits;
+
 /// The number that a text of 1 to `most` digits spells.
 pub(crate) fn whole(text: &[u8], most: usize) -> Option<u32>
     requires { most ≤ 9 }

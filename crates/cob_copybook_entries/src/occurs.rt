@@ -12,8 +12,9 @@ ghost use Rattle.cob_copybook_entries.specs.Breaks.{IsTableFault};
 ghost use Rattle.cob_copybook_entries.specs.Short.{AreShort, HasShortQualifiers};
 
 use crate::name::name_of_text;
-use crate::number::{are_digits, whole};
+use crate::number::whole;
 use cob_copybook_clauses::{Count, OccursClause};
+use cob_decimal::are_digits;
 use cob_entry::{BookRule, Name, Occurs, Qualified};
 use cob_source::Token;
 use std::alloc::{AllocError, Global};
