@@ -1,0 +1,33 @@
+-- Whether a record that came is one of its layout.
+use Rattle.std.specs.Prelude.{◌≡◌, ◌≢◌, ◌⊎◌, ℕ, true, false, List, length, Ok, Err}
+use Rattle.cob_records.specs.declared.records.Form.{Form}
+use Rattle.cob_records.specs.declared.records.Form.TheVariants.{Fixed, Variable}
+use Rattle.cob_copybook_tree.specs.Forests.{Forest}
+use Rattle.cob_copybook_tree.specs.Nodes.{Resolved}
+use Rattle.cob_layout_places.specs.declared.counts.CountFault.{CountFault}
+use Rattle.cob_layout.specs.Counting.{CountsOf}
+use Rattle.cob_layout.specs.Storage.{IsCurrent, current_length, greatest_length}
+use Rattle.cob_stream.specs.declared.misfit.MeasureFault.{MeasureFault}
+use Rattle.cob_stream.specs.declared.misfit.MeasureFault.TheVariants.{Count, Length}
+
+-- A record that came is one of its layout: in form f it has the greatest length, and no count is looked at; in form v its own counts are valid,
+-- and it has the length that they give.
+abbrev pub IsSized : Form → Forest Resolved → List ℕ → Type 0
+IsSized Fixed tree input = length input ≡ greatest_length tree
+IsSized Variable tree input = IsCurrent tree input
+
+-- the first count of a record that isn't valid stands within it, at this offset
+abbrev pub IsMiscounted : Forest Resolved → List ℕ → ℕ → Type 0
+IsMiscounted tree input offset = (fault : CountFault) × CountsOf tree input (Err fault) × (fault.short ≡ false) × (offset ≡ fault.offset)
+
+-- the first count of a record that isn't valid ends past it, or all are valid and it has another length than they give
+abbrev pub IsMissized : Forest Resolved → List ℕ → Type 0
+IsMissized tree input =
+    ((fault : CountFault) × CountsOf tree input (Err fault) × (fault.short ≡ true))
+    ⊎ ((counts : List ℕ) × CountsOf tree input (Ok counts) × (length input ≢ current_length counts tree))
+
+-- A record of form v isn't one of its layout, for a count or for its length; a frame of form f can't hold another than one of the greatest length.
+abbrev pub IsMeasureFault : Form → Forest Resolved → List ℕ → MeasureFault → Type 0
+IsMeasureFault Fixed tree input why = ⊥
+IsMeasureFault Variable tree input (Count offset) = IsMiscounted tree input offset
+IsMeasureFault Variable tree input Length = IsMissized tree input
