@@ -1,30 +1,25 @@
 -- A run so far, one more record, and its end.
-use Rattle.std.proofs.Common.{◌≡◌, ℕ, ◌+◌, ◌-◌, ◌^◌, ◌<◌, ◌≤◌, List, [], ◌∷◌, ◌++◌, length, take, refl, sym, subst, ◌∙◌, ap, append_assoc, append-nil, arith, inl, inr, min, None, Some, Option, Ok, Err, Result}
-use Rattle.std.proofs.lemmas.Grind.{common_steps}
+use Rattle.std.proofs.Common.{◌≡◌, ℕ, ◌+◌, ◌-◌, ◌^◌, ◌<◌, List, [], ◌∷◌, ◌++◌, length, take, refl, sym, subst, ◌∙◌, ap, append_assoc, append-nil, arith, inl, inr, min, None, Some, Option, Ok, Err, Result}
 use Rattle.std.proofs.lemmas.List.Concat.{flat_map-append}
 use Rattle.std.proofs.Math.ListN.{length-append}
 use Rattle.std.specs.List.{AllByRecursion}
 use Rattle.std.specs.Io.KnownBytes.{Consumes, append_known}
 use Rattle.cob_records.specs.Device.{Told, Took}
-use Rattle.cob_records.specs.Frame.{Reads, Puts, framed, IsLength, IsRecord, frame_size, taken_of}
-use Rattle.cob_records.specs.declared.records.Form.{Form}
-use Rattle.cob_records.specs.declared.records.Form.TheVariants.{Fixed, Variable}
-use Rattle.cob_convert_record.specs.Conversion.{Conversion, in_length}
-use Rattle.cob_convert_record.specs.declared.fault.RunFault.{RunFault}
+use Rattle.cob_records.specs.Frame.{framed}
+use Rattle.cob_convert_record.specs.Conversion.{Conversion}
+use Rattle.cob_stream.specs.declared.fault.Reason.{Reason}
+use Rattle.cob_stream.specs.declared.fault.RunFault.{RunFault}
 use Rattle.cob_move_apply.specs.declared.stop.Stop.{Stop}
 use Rattle.cob_layout_places.specs.declared.operands.Side.{Side}
-use Rattle.cob_layout_places.specs.declared.operands.Side.TheVariants.{Out, In}
-use Rattle.cob_convert_record.specs.declared.fault.Cause.{Cause}
-use Rattle.cob_convert_record.specs.declared.fault.Cause.TheVariants.{Record}
+use Rattle.cob_layout_places.specs.declared.operands.Side.TheVariants.{Out}
+use Rattle.cob_stream.specs.declared.fault.Cause.{Cause}
+use Rattle.cob_stream.specs.declared.fault.Cause.TheVariants.{Record}
+use Rattle.cob_records.specs.declared.records.Form.{Form}
 use Rattle.cob_records.specs.declared.records.RecordFault.{RecordFault}
-use Rattle.cob_records.specs.declared.records.RecordFault.TheVariants.{Truncated, Descriptor, Spanned, Length, ReadFailed, WriteFailed, TookNothing}
-use Rattle.cob_convert_record.specs.declared.misfit.MeasureFault.{MeasureFault}
-use Rattle.cob_convert_record.specs.Sizes.{IsSized, IsMeasureFault}
+use Rattle.cob_stream.specs.Input.{IsJudged, ReadsRecord}
+use Rattle.cob_stream.specs.Output.{WritesRecord}
 use Rattle.cob_convert_record.specs.Becoming.{Becomes, StopsAt}
-use Rattle.cob_copybook_tree.specs.Forests.{Forest}
-use Rattle.cob_copybook_tree.specs.Nodes.{Resolved}
-use Rattle.cob_layout.specs.Storage.{IsStorage}
-use Rattle.cob_convert.specs.Run.{Ran, Ends, Remains, Reason, InRead, InLayout, InConversion, InWrite, offset_from, refusal_from, IsConverted, cause_from, frames_in, frames_out, most_records}
+use Rattle.cob_convert.specs.Run.{Ran, Ends, Remains, InRead, InLayout, InConversion, InWrite, IsConverted, cause_from, frames_in, frames_out, most_records}
 
 -- n records came, were converted and written; `written` counts their frames' bytes
 pub record Carried (conversion : Conversion) (n written : ℕ) (r0 r w0 w : Option (List ℕ)) : Type 0 where
@@ -75,32 +70,28 @@ each_more : (conversion : Conversion) (pairs : List (List ℕ × List ℕ)) (pai
 each_more conversion [] pair each one = (one, tt)
 each_more conversion (p ∷ pairs) pair each one = (each.0, each_more conversion pairs pair each.1 one)
 
-pub length-framed : (form : Form) (body : List ℕ) → length (framed form body) ≡ frame_size form (length body)
-length-framed Fixed body = refl
-length-framed Variable body = grind arith
-
 -- one more record
-pub step : (conversion : Conversion) (n written size count made : ℕ) (slot room : List ℕ) (r0 r1 r2 w0 w1 w2 : Option (List ℕ))
+pub step : (conversion : Conversion) (n written total count made : ℕ) (slot room : List ℕ) (r0 r1 r2 w0 w1 w2 : Option (List ℕ))
     → Carried conversion n written r0 r1 w0 w1
-    → Told r1 r2 (Reads conversion.in_form (in_length conversion) slot (Ok (Some count))) → IsRecord conversion.in_form (in_length conversion) (take count slot)
-    → IsSized conversion.in_form conversion.records.input (take count slot) → Becomes conversion (take count slot) (take made room)
-    → Took w1 w2 (Puts (framed conversion.out_form (take made room)) (Ok tt))
-    → size ≡ length (framed conversion.out_form (take made room))
-    → Carried conversion (n + 1) (min (written + size) (2 ^ 64 - 1)) r0 r2 w0 w2
-step conversion n written size count made slot room r0 r1 r2 w0 w1 w2 so_far read whole fits converts (part, is, put) sized =
+    → Told r1 r2 (ReadsRecord conversion.in_form conversion.records.input slot (Ok (Some count))) → IsJudged conversion.in_form conversion.records.input slot count
+    → Becomes conversion (take count slot) (take made room)
+    → Took w1 w2 (WritesRecord conversion.out_form (take made room) (Ok tt) written total)
+    → Carried conversion (n + 1) total r0 r2 w0 w2
+step conversion n written total count made slot room r0 r1 r2 w0 w1 w2 so_far read judged converts (part, writes, put) =
     let pair : List ℕ × List ℕ = (take count slot, take made room) in
     let ins : frames_in conversion (so_far.pairs ++ pair ∷ []) ≡ frames_in conversion so_far.pairs ++ framed conversion.in_form (take count slot)
     = flat_map-append (λ (p : List ℕ × List ℕ). framed conversion.in_form p.0) so_far.pairs (pair ∷ []) ∙ ap (λ xs. frames_in conversion so_far.pairs ++ xs) (append-nil (framed conversion.in_form (take count slot))) in
     let outs : frames_out conversion (so_far.pairs ++ pair ∷ []) ≡ frames_out conversion so_far.pairs ++ framed conversion.out_form (take made room)
     = flat_map-append (λ (p : List ℕ × List ℕ). framed conversion.out_form p.1) so_far.pairs (pair ∷ []) ∙ ap (λ xs. frames_out conversion so_far.pairs ++ xs) (append-nil (framed conversion.out_form (take made room))) in
+    let size : length part ≡ length (framed conversion.out_form (take made room)) = ap length writes.puts in
     record {
       pairs = so_far.pairs ++ pair ∷ [];
-      each = each_more conversion so_far.pairs pair so_far.each (record { whole = whole; sized = fits; converts = converts });
+      each = each_more conversion so_far.pairs pair so_far.each (record { whole = judged.whole; sized = judged.sized; converts = converts });
       count = omega (arith, length-append so_far.pairs (pair ∷ []), so_far.count);
-      sum = rw outs (omega (arith, length-append (frames_out conversion so_far.pairs) (framed conversion.out_form (take made room)), so_far.sum, sized));
-      consumed = consumes_from _ r0 r2 (told_through _ r0 r1 r2 _ _ so_far.consumed read (λ left rest p. rw (ins, p.2) (sym (append_assoc _ _ rest))));
+      sum = rw outs (omega (arith, length-append (frames_out conversion so_far.pairs) (framed conversion.out_form (take made room)), so_far.sum, writes.counts, size));
+      consumed = consumes_from _ r0 r2 (told_through _ r0 r1 r2 _ _ so_far.consumed read (λ left rest p. rw (ins, p.1) (sym (append_assoc _ _ rest))));
       appended = append_twice (frames_out conversion so_far.pairs) part w0 w1 w2 so_far.appended put
-          ∙ ap (λ xs. append_known w0 xs) (ap (λ xs. frames_out conversion so_far.pairs ++ xs) is ∙ sym outs);
+          ∙ ap (λ xs. append_known w0 xs) (ap (λ xs. frames_out conversion so_far.pairs ++ xs) writes.puts ∙ sym outs);
     }
 
 -- the number of records and the written bytes, counted from the list of records
@@ -135,69 +126,55 @@ finish conversion n written answer part r0 r1 r2 w0 w1 w2 P so_far read put f =
       ends = ends_at conversion n written (length so_far.pairs) (length (frames_out conversion so_far.pairs)) (remains left rest part) answer so_far.count so_far.sum (f left rest p);
     })
 
-pub whole_of : (form : Form) (greatest count : ℕ) (slot : List ℕ) → IsLength form greatest count → length slot ≡ greatest
-    → IsRecord form greatest (take count slot)
-whole_of Fixed greatest count slot is room = grind (arith, common_steps)
-whole_of Variable greatest count slot (low, high) room =
-    let size : length (take count slot) ≡ count = grind (arith, common_steps) in
-    rw size (low, high)
-
-pub sized_of : (form : Form) (size made : ℕ) (room : List ℕ) → size ≡ frame_size form made → made ≤ length room
-    → size ≡ length (framed form (take made room))
-sized_of form size made room e h =
-    let same : length (take made room) ≡ made = grind (arith, common_steps) in
-    rw (length-framed form (take made room), same) e
-
--- a record of its layout is a storage of it
-pub storage_of_sized : (form : Form) (t : Forest Resolved) (input : List ℕ) → IsSized form t input → IsStorage t input
-storage_of_sized Fixed t input sized = inl sized
-storage_of_sized Variable t input sized = inr sized
-
 -- a frame that was put in one form was put in the same
-pub put_in : (form same : Form) (before now : Option (List ℕ)) (body : List ℕ) (answer : Result (Unit {0}) RecordFault) → form ≡ same
-    → Took before now (Puts (framed form body) answer) → Took before now (Puts (framed same body) answer)
-put_in form same before now body answer equal took = subst (λ (f : Form). Took before now (Puts (framed f body) answer)) equal took
+pub put_in : (form same : Form) (before now : Option (List ℕ)) (body : List ℕ) (answer : Result (Unit {0}) RecordFault) (written total : ℕ) → form ≡ same
+    → Took before now (WritesRecord form body answer written total) → Took before now (WritesRecord same body answer written total)
+put_in form same before now body answer written total equal took = subst (λ (f : Form). Took before now (WritesRecord f body answer written total)) equal took
 
--- what was refused says nothing of the caller's slice
-refused_reading : (form : Form) (greatest : ℕ) (slot left rest : List ℕ) (fault : RecordFault) → Reads form greatest slot (Err fault) left rest → Reads form greatest [] (Err fault) left rest
-refused_reading form greatest slot left rest (Truncated seen) reads = reads
-refused_reading form greatest slot left rest Descriptor reads = reads
-refused_reading form greatest slot left rest Spanned reads = reads
-refused_reading form greatest slot left rest Length reads = reads
-refused_reading form greatest slot left rest ReadFailed reads = reads
-refused_reading form greatest slot left rest (WriteFailed taken) reads = absurd reads
-refused_reading form greatest slot left rest (TookNothing taken) reads = absurd reads
+-- the fault of the record behind so many others
+abbrev pub fault_behind : ℕ → Reason → ℕ → RunFault
+fault_behind n why written = record { number = n + 1; side = why.side; offset = why.offset; cause = why.cause; written = written }
 
--- a run ends where a frame can't be read
-pub read_exit : (conversion : Conversion) (n written : ℕ) (fault : RecordFault) (slot : List ℕ) (r0 r1 r2 w0 w1 : Option (List ℕ))
-    → Carried conversion n written r0 r1 w0 w1 → Told r1 r2 (Reads conversion.in_form (in_length conversion) slot (Err fault)) → n < most_records
-    → Told r0 r2 (λ bytes rest. Ran conversion (Err (record { number = n + 1; side = In; offset = 0; cause = Record fault; written = written })) bytes rest w0 w1)
-read_exit conversion n written fault slot r0 r1 r2 w0 w1 so_far read low =
-    finish conversion n written (Err (record { number = n + 1; side = In; offset = 0; cause = Record fault; written = written })) []
-    r0 r1 r2 w0 w1 w1 (Reads conversion.in_form (in_length conversion) slot (Err fault)) so_far read (append_none w1)
+-- a run ends where the next record can't be read, or isn't one of the layout
+pub input_exit : (conversion : Conversion) (n written : ℕ) (why : Reason) (slot : List ℕ) (r0 r1 r2 w0 w1 : Option (List ℕ))
+    → Carried conversion n written r0 r1 w0 w1 → Told r1 r2 (ReadsRecord conversion.in_form conversion.records.input slot (Err why)) → n < most_records
+    → Told r0 r2 (λ bytes rest. Ran conversion (Err (fault_behind n why written)) bytes rest w0 w1)
+input_exit conversion n written why slot r0 r1 r2 w0 w1 so_far read low =
+    finish conversion n written (Err (fault_behind n why written)) []
+    r0 r1 r2 w0 w1 w1 (ReadsRecord conversion.in_form conversion.records.input slot (Err why)) so_far read (append_none w1)
     (λ left rest p. record {
       number = refl;
       written = omega (arith, so_far.sum);
       stops = inr (
         low,
-        InRead (record {
-          fault = fault;
-          reads = refused_reading conversion.in_form (in_length conversion) slot left rest fault p;
-          nothing = refl;
-          reason = refl;
-        }),
+        elim p [
+          | inl unread ↦ InRead (record {
+            fault = unread.fault;
+            reads = unread.reads;
+            nothing = refl;
+            reason = ap (λ (r : Reason). reason_at r.side r.offset r.cause) unread.reason;
+          })
+          | inr unfit ↦ InLayout (record {
+            input = unfit.input;
+            misfit = unfit.misfit;
+            came = record { whole = unfit.whole; frame = unfit.frame };
+            misfits = unfit.misfits;
+            nothing = refl;
+            reason = ap (λ (r : Reason). reason_at r.side r.offset r.cause) unfit.reason;
+          })
+        ],
       );
     })
 
 -- a run ends where a record's conversion stops
-pub stop_exit : (conversion : Conversion) (n written count : ℕ) (cause : Cause) (stop : Stop) (slot : List ℕ) (r0 r1 r2 w0 w1 : Option (List ℕ))
+pub stop_exit : (conversion : Conversion) (n written count : ℕ) (why : Reason) (stop : Stop) (slot : List ℕ) (r0 r1 r2 w0 w1 : Option (List ℕ))
     → Carried conversion n written r0 r1 w0 w1
-    → Told r1 r2 (Reads conversion.in_form (in_length conversion) slot (Ok (Some count))) → IsRecord conversion.in_form (in_length conversion) (take count slot)
-    → IsSized conversion.in_form conversion.records.input (take count slot) → StopsAt conversion (take count slot) stop → cause ≡ cause_from stop.cause → n < most_records
-    → Told r0 r2 (λ bytes rest. Ran conversion (Err (record { number = n + 1; side = stop.side; offset = stop.offset; cause = cause; written = written })) bytes rest w0 w1)
-stop_exit conversion n written count cause stop slot r0 r1 r2 w0 w1 so_far read whole fits stops e low =
-    rw e (finish conversion n written (Err (record { number = n + 1; side = stop.side; offset = stop.offset; cause = cause_from stop.cause; written = written })) []
-    r0 r1 r2 w0 w1 w1 (Reads conversion.in_form (in_length conversion) slot (Ok (Some count))) so_far read (append_none w1)
+    → Told r1 r2 (ReadsRecord conversion.in_form conversion.records.input slot (Ok (Some count))) → IsJudged conversion.in_form conversion.records.input slot count
+    → StopsAt conversion (take count slot) stop → why ≡ reason_at stop.side stop.offset (cause_from stop.cause) → n < most_records
+    → Told r0 r2 (λ bytes rest. Ran conversion (Err (fault_behind n why written)) bytes rest w0 w1)
+stop_exit conversion n written count why stop slot r0 r1 r2 w0 w1 so_far read judged stops is low =
+    finish conversion n written (Err (fault_behind n why written)) []
+    r0 r1 r2 w0 w1 w1 (ReadsRecord conversion.in_form conversion.records.input slot (Ok (Some count))) so_far read (append_none w1)
     (λ left rest p. record {
       number = refl;
       written = omega (arith, so_far.sum);
@@ -206,69 +183,37 @@ stop_exit conversion n written count cause stop slot r0 r1 r2 w0 w1 so_far read 
         InConversion (record {
           input = take count slot;
           stop = stop;
-          came = record { whole = whole; frame = p.2 };
-          sized = fits;
+          came = record { whole = judged.whole; frame = p.1 };
+          sized = judged.sized;
           stops = stops;
           nothing = refl;
-          reason = refl;
+          reason = ap (λ (r : Reason). reason_at r.side r.offset r.cause) is;
         }),
       );
-    }))
-
--- a run ends where a record isn't one of the layout
-pub layout_exit : (conversion : Conversion) (n written count offset : ℕ) (cause : Cause) (why : MeasureFault) (slot : List ℕ) (r0 r1 r2 w0 w1 : Option (List ℕ))
-    → Carried conversion n written r0 r1 w0 w1
-    → Told r1 r2 (Reads conversion.in_form (in_length conversion) slot (Ok (Some count))) → IsRecord conversion.in_form (in_length conversion) (take count slot)
-    → IsMeasureFault conversion.in_form conversion.records.input (take count slot) why → offset ≡ offset_from why → cause ≡ refusal_from why → n < most_records
-    → Told r0 r2 (λ bytes rest. Ran conversion (Err (record { number = n + 1; side = In; offset = offset; cause = cause; written = written })) bytes rest w0 w1)
-layout_exit conversion n written count offset cause why slot r0 r1 r2 w0 w1 so_far read whole misfit at e low =
-    rw e (finish conversion n written (Err (record { number = n + 1; side = In; offset = offset; cause = refusal_from why; written = written })) []
-    r0 r1 r2 w0 w1 w1 (Reads conversion.in_form (in_length conversion) slot (Ok (Some count))) so_far read (append_none w1)
-    (λ left rest p. record {
-      number = refl;
-      written = omega (arith, so_far.sum);
-      stops = inr (
-        low,
-        InLayout (record {
-          input = take count slot;
-          misfit = why;
-          came = record { whole = whole; frame = p.2 };
-          misfits = misfit;
-          nothing = refl;
-          reason = ap (λ (o : ℕ). reason_at In o (refusal_from why)) at;
-        }),
-      );
-    }))
-
--- as many bytes of a frame went out as the fault counts
-put_size : (frame part : List ℕ) (fault : RecordFault) → Puts frame (Err fault) part → length part ≡ taken_of fault
-put_size frame part (WriteFailed taken) (low, e) = rw e (grind (arith, common_steps))
-put_size frame part (TookNothing taken) (low, e) = rw e (grind (arith, common_steps))
-put_size frame part _ p = absurd p
+    })
 
 -- a run ends where a frame can't be written
 pub write_exit : (conversion : Conversion) (n written total count made : ℕ) (fault : RecordFault) (slot room : List ℕ) (r0 r1 r2 w0 w1 w2 : Option (List ℕ))
     → Carried conversion n written r0 r1 w0 w1
-    → Told r1 r2 (Reads conversion.in_form (in_length conversion) slot (Ok (Some count))) → IsRecord conversion.in_form (in_length conversion) (take count slot)
-    → IsSized conversion.in_form conversion.records.input (take count slot) → Becomes conversion (take count slot) (take made room) → Took w1 w2 (Puts (framed conversion.out_form (take made room)) (Err fault))
-    → total ≡ min (written + taken_of fault) (2 ^ 64 - 1) → n < most_records
-    → Told r0 r2 (λ bytes rest. Ran conversion (Err (record { number = n + 1; side = Out; offset = 0; cause = Record fault; written = total })) bytes rest w0 w2)
-write_exit conversion n written total count made fault slot room r0 r1 r2 w0 w1 w2 so_far read whole fits converts (part, puts, put) sum low =
-    let size : length part ≡ taken_of fault = put_size (framed conversion.out_form (take made room)) part fault puts in
-    finish conversion n written (Err (record { number = n + 1; side = Out; offset = 0; cause = Record fault; written = total })) part
-    r0 r1 r2 w0 w1 w2 (Reads conversion.in_form (in_length conversion) slot (Ok (Some count))) so_far read put
+    → Told r1 r2 (ReadsRecord conversion.in_form conversion.records.input slot (Ok (Some count))) → IsJudged conversion.in_form conversion.records.input slot count
+    → Becomes conversion (take count slot) (take made room)
+    → Took w1 w2 (WritesRecord conversion.out_form (take made room) (Err fault) written total) → n < most_records
+    → Told r0 r2 (λ bytes rest. Ran conversion (Err (fault_behind n (reason_at Out 0 (Record fault)) total)) bytes rest w0 w2)
+write_exit conversion n written total count made fault slot room r0 r1 r2 w0 w1 w2 so_far read judged converts (part, writes, put) low =
+    finish conversion n written (Err (fault_behind n (reason_at Out 0 (Record fault)) total)) part
+    r0 r1 r2 w0 w1 w2 (ReadsRecord conversion.in_form conversion.records.input slot (Ok (Some count))) so_far read put
     (λ left rest p. record {
       number = refl;
-      written = omega (arith, sum, size);
+      written = omega (arith, writes.counts);
       stops = inr (
         low,
         InWrite (record {
           input = take count slot;
           written = take made room;
           fault = fault;
-          converted = record { whole = whole; sized = fits; converts = converts };
-          frame = p.2;
-          puts = puts;
+          converted = record { whole = judged.whole; sized = judged.sized; converts = converts };
+          frame = p.1;
+          puts = writes.puts;
           reason = refl;
         }),
       );

@@ -4,11 +4,13 @@ use Rattle.std.specs.Io.KnownBytes.{append_known}
 use Rattle.cob_records.specs.Device.{Told, counted}
 use Rattle.cob_records.specs.Frame.{Puts, framed, is_read_failure, is_write_fault}
 use Rattle.cob_convert_record.specs.Conversion.{Conversion}
-use Rattle.cob_convert_record.specs.declared.fault.Cause.TheVariants.{Record}
+use Rattle.cob_stream.specs.declared.fault.Cause.TheVariants.{Record}
 use Rattle.cob_records.specs.declared.records.RecordFault.{RecordFault}
 use Rattle.cob_records.specs.declared.records.RecordFault.TheVariants.{WriteFailed, TookNothing}
-use Rattle.cob_convert_record.specs.declared.fault.RunFault.{RunFault}
-use Rattle.cob_convert.specs.Run.{Ran, Ends, Reason, Remains, RecordStops, WriteStops, InRead, InLayout, InConversion, InWrite, frames_out, is_read_stop, is_write_stop, reason_of}
+use Rattle.cob_stream.specs.declared.fault.Reason.{Reason}
+use Rattle.cob_stream.specs.declared.fault.RunFault.{RunFault}
+use Rattle.cob_stream.specs.Reasons.{reason_of}
+use Rattle.cob_convert.specs.Run.{Ran, Ends, Remains, RecordStops, WriteStops, InRead, InLayout, InConversion, InWrite, frames_out, is_read_stop, is_write_stop}
 use Rattle.cob_convert.specs.Converted.{Writes}
 
 pub not_raised : (failed : Bool) (old new : ℕ) → new ≡ counted failed old → new ≡ old → failed ≡ false

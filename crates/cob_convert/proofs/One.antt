@@ -11,12 +11,14 @@ use Rattle.cob_convert_record.specs.Laws.{ConversionsAreDecided}
 use Rattle.cob_move_apply.specs.declared.stop.Stop.{Stop}
 use Rattle.cob_layout_places.specs.declared.operands.Side.TheVariants.{In}
 use Rattle.cob_convert_record.specs.Conversion.{Conversion, in_length}
-use Rattle.cob_convert_record.specs.declared.misfit.MeasureFault.{MeasureFault}
-use Rattle.cob_convert_record.specs.declared.fault.Cause.TheVariants.{Record}
-use Rattle.cob_convert_record.specs.declared.fault.RunFault.{RunFault}
-use Rattle.cob_convert_record.specs.Sizes.{IsSized, IsMeasureFault}
+use Rattle.cob_stream.specs.declared.misfit.MeasureFault.{MeasureFault}
+use Rattle.cob_stream.specs.declared.fault.Cause.TheVariants.{Record}
+use Rattle.cob_stream.specs.declared.fault.Reason.{Reason}
+use Rattle.cob_stream.specs.declared.fault.RunFault.{RunFault}
+use Rattle.cob_stream.specs.Reasons.{offset_from, reason_of, refusal_from}
+use Rattle.cob_stream.specs.Sizes.{IsSized, IsMeasureFault}
 use Rattle.cob_convert_record.specs.Becoming.{Becomes, StopsAt}
-use Rattle.cob_convert.specs.Run.{Came, Ends, Reason, Remains, RecordStops, StopsFor, InRead, InLayout, InConversion, InWrite, IsConverted, cause_from, offset_from, reason_of, refusal_from, frames_in, frames_out, most_records, is_read_stop, is_write_stop}
+use Rattle.cob_convert.specs.Run.{Came, Ends, Remains, RecordStops, StopsFor, InRead, InLayout, InConversion, InWrite, IsConverted, cause_from, frames_in, frames_out, most_records, is_read_stop, is_write_stop}
 use Rattle.cob_convert.proofs.Carried.{reason_at, remains}
 use Rattle.cob_convert.proofs.Headline.{not_in_write, read_works}
 use Rattle.cob_convert.specs.Unique.{HasBytes, ConversionIsOne}

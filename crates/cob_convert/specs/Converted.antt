@@ -3,7 +3,7 @@ use Rattle.std.specs.Prelude.{◌≡◌, ℕ, false, List, [], ◌++◌, length,
 use Rattle.std.specs.List.{AllByRecursion}
 use Rattle.cob_records.specs.Device.{Took}
 use Rattle.cob_convert_record.specs.Conversion.{Conversion}
-use Rattle.cob_convert_record.specs.declared.fault.RunFault.{RunFault}
+use Rattle.cob_stream.specs.declared.fault.RunFault.{RunFault}
 use Rattle.cob_convert.specs.Run.{IsConverted, Ends, frames_in, frames_out, is_read_stop, is_write_stop}
 
 -- These bytes are the frames of records, one after another, up to a clean end, a stop or the limit, where the rest is still to

@@ -3,20 +3,19 @@ use Rattle.std.specs.Prelude.{◌≡◌, ℕ, ◌+◌, ◌-◌, ◌^◌, ◌<◌
 use Rattle.std.specs.List.{AllByRecursion}
 use Rattle.std.specs.Io.KnownBytes.{append_known}
 use Rattle.cob_records.specs.declared.records.RecordFault.{RecordFault}
-use Rattle.cob_records.specs.declared.records.RecordFault.TheVariants.{Length}
-use Rattle.cob_records.specs.Frame.{Reads, Puts, framed, IsRecord, is_read_failure, is_write_error, is_write_fault}
+use Rattle.cob_records.specs.Frame.{Reads, Puts, framed, IsRecord}
 use Rattle.cob_convert_record.specs.Conversion.{Conversion, in_length}
 use Rattle.cob_move_apply.specs.declared.stop.Stop.{Stop}
-use Rattle.cob_layout_places.specs.declared.operands.Side.{Side}
 use Rattle.cob_layout_places.specs.declared.operands.Side.TheVariants.{In, Out}
 use Rattle.cob_move_apply.specs.declared.stop.StopCause.{StopCause}
-use Rattle.cob_convert_record.specs.declared.fault.Cause.{Cause}
-use Rattle.cob_convert_record.specs.declared.fault.Cause.TheVariants.{NoValue, Count, Subscript, Limit, Record}
+use Rattle.cob_stream.specs.declared.fault.Cause.{Cause}
+use Rattle.cob_stream.specs.declared.fault.Cause.TheVariants.{NoValue, Count, Subscript, Limit, Record}
 use Rattle.cob_move_apply.specs.declared.stop.StopCause.TheVariants.{NoValue as StopNoValue, Count as StopCount, Subscript as StopSubscript}
-use Rattle.cob_convert_record.specs.declared.fault.RunFault.{RunFault}
-use Rattle.cob_convert_record.specs.declared.misfit.MeasureFault.{MeasureFault}
-use Rattle.cob_convert_record.specs.declared.misfit.MeasureFault.TheVariants.{Count as Uncounted, Length as Unfitting}
-use Rattle.cob_convert_record.specs.Sizes.{IsSized, IsMeasureFault}
+use Rattle.cob_stream.specs.declared.fault.Reason.{Reason}
+use Rattle.cob_stream.specs.declared.fault.RunFault.{RunFault}
+use Rattle.cob_stream.specs.Reasons.{is_error_cause, is_read_cause, is_write_cause, offset_from, reason_of, refusal_from}
+use Rattle.cob_stream.specs.declared.misfit.MeasureFault.{MeasureFault}
+use Rattle.cob_stream.specs.Sizes.{IsSized, IsMeasureFault}
 use Rattle.cob_convert_record.specs.Becoming.{Becomes, StopsAt}
 
 -- a record that came, and what it became
@@ -42,26 +41,6 @@ abbrev pub cause_from : StopCause → Cause
 cause_from StopNoValue = NoValue
 cause_from StopCount = Count
 cause_from StopSubscript = Subscript
-
--- the cause of a misfit: its count, or its length as a fault of the record
-abbrev pub refusal_from : MeasureFault → Cause
-refusal_from (Uncounted offset) = Count
-refusal_from Unfitting = Record Length
-
--- where a misfit stands in its record: at its count, or at the front
-abbrev pub offset_from : MeasureFault → ℕ
-offset_from (Uncounted offset) = offset
-offset_from Unfitting = 0
-
--- where in a record a run stops, and why
-pub record Reason : Type 0 where
-  pub side : Side
-  pub offset : ℕ
-  pub cause : Cause
-
--- the reason that a fault tells
-abbrev pub reason_of : RunFault → Reason
-reason_of fault = record { side = fault.side; offset = fault.offset; cause = fault.cause }
 
 -- The bytes at the end of a run: those that were left behind the records that were converted, those of them that are still to come, and the part
 -- of a frame that went out without the rest of it.
@@ -162,26 +141,14 @@ pub record Ran (conversion : Conversion) (answer : Result ℕ RunFault) (bytes r
 -- the answer is that a read failed
 abbrev pub is_read_stop : Result ℕ RunFault → Bool
 is_read_stop (Ok number) = false
-is_read_stop (Err fault) = read_failed fault.cause
-  where
-    read_failed : Cause → Bool
-    read_failed (Record fault) = is_read_failure (Err fault)
-    read_failed _ = false
+is_read_stop (Err fault) = is_read_cause fault.cause
 
 -- the answer is that a write failed or took nothing
 abbrev pub is_write_stop : Result ℕ RunFault → Bool
 is_write_stop (Ok number) = false
-is_write_stop (Err fault) = write_failed fault.cause
-  where
-    write_failed : Cause → Bool
-    write_failed (Record fault) = is_write_fault fault
-    write_failed _ = false
+is_write_stop (Err fault) = is_write_cause fault.cause
 
 -- the answer is that a write failed, and not that one took nothing
 abbrev pub is_write_error_stop : Result ℕ RunFault → Bool
 is_write_error_stop (Ok number) = false
-is_write_error_stop (Err fault) = write_failed fault.cause
-  where
-    write_failed : Cause → Bool
-    write_failed (Record fault) = is_write_error (Err fault)
-    write_failed _ = false
+is_write_error_stop (Err fault) = is_error_cause fault.cause

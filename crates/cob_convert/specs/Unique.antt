@@ -5,7 +5,7 @@ use Rattle.cob_copybook_tree.specs.Forests.{Forest}
 use Rattle.cob_copybook_tree.specs.Nodes.{Resolved}
 use Rattle.cob_layout.specs.Storage.{greatest_length}
 use Rattle.cob_convert_record.specs.Conversion.{Conversion}
-use Rattle.cob_convert_record.specs.declared.fault.RunFault.{RunFault}
+use Rattle.cob_stream.specs.declared.fault.RunFault.{RunFault}
 use Rattle.cob_convert.specs.Converted.{Converted}
 
 -- a record has from 1 to 32,752 bytes

@@ -12,9 +12,10 @@ ghost use Rattle.cob_convert.specs.Means.{Means, IsMovesRefusal, IsPrepareRefusa
 use crate::books;
 use crate::fault::PrepareFault;
 use crate::run::run_over;
-use cob_convert_record::{Conversion, Room, RunFault};
+use cob_convert_record::{Conversion, Room};
 use cob_move::{Book, Layout, Paragraph};
 use cob_records::{Form, Sink, Source};
+use cob_stream::RunFault;
 use std::alloc::{AllocError, Global};
 use std::marker::Model;
 
@@ -161,7 +162,7 @@ impl Converter {
     }
 
     /// Converts the records of a source, one after another, up to its end or the first stop, and answers how
-    /// many it converted. It takes no memory. After a stop the converter is as `prepare` left it.
+    /// many it converted. It asks for no memory, which tests show. After a stop the converter is as `prepare` left it.
     pub fn run<R: Source, W: Sink>(&mut self, source: &mut R, sink: &mut W) -> Result<u64, RunFault>
         // Where no call of an end failed and the source tells its bytes: what is written is the conversion of what came.
         ensures headline { R.failures source.new ≡ R.failures source.old

@@ -14,11 +14,12 @@
 //!   specs/Converted.antt. Where the sink does not tell its bytes, it still says the answer.
 //! - Where a call failed, the records before are written, and the answer names the end that failed (`ran`, `reads`, `writes`, `errors`).
 //!   Nothing past the frame of the record that stopped was read.
-//! - A run takes no memory, and leaves the converter as `prepare` made it (`same`).
+//! - A run asks for no memory, which tests show, and leaves the converter as `prepare` made it (`same`).
 //! - Bytes have one conversion: [`conversion_is_one`].
 //!
-//! It stands on `cob_records` for the frames, on `cob_copybook` and `cob_layout` for the records, on `cob_move` for the paragraph, on
-//! `cob_convert_record` for what becomes of one record, and on `thiserror` for what faults print.
+//! It stands on `cob_stream` for a record that comes in, one that goes out and what stops a run, on `cob_records` for the frames, on
+//! `cob_copybook` and `cob_layout` for the records, on `cob_move` for the paragraph, on `cob_convert_record` for what becomes of one record, and
+//! on `thiserror` for what faults print.
 #![tactic(auto)]
 
 mod books;
@@ -27,8 +28,8 @@ mod fault;
 mod laws;
 mod run;
 
-pub use cob_convert_record::{Cause, RunFault, Side};
 pub use cob_move::{Book, BookFault, BookRule, Layout, MoveFault, MoveRule, Paragraph, Role};
+pub use cob_stream::{Cause, RunFault, Side};
 pub use converter::Converter;
 pub use fault::PrepareFault;
 pub use laws::conversion_is_one;

@@ -4,9 +4,9 @@ use Rattle.cob_convert.specs.declared.fault.PrepareFault.{PrepareFault}
 use Rattle.cob_convert.specs.declared.fault.PrepareFault.TheVariants as prepare
 use Rattle.cob_job.specs.declared.jobs.Status.{Status}
 use Rattle.cob_job.specs.declared.jobs.Status.TheVariants as status
-use Rattle.cob_convert_record.specs.declared.fault.Cause.{Cause}
-use Rattle.cob_convert_record.specs.declared.fault.Cause.TheVariants as cause
-use Rattle.cob_convert_record.specs.declared.fault.RunFault.{RunFault}
+use Rattle.cob_stream.specs.declared.fault.Cause.{Cause}
+use Rattle.cob_stream.specs.declared.fault.Cause.TheVariants as cause
+use Rattle.cob_stream.specs.declared.fault.RunFault.{RunFault}
 use Rattle.cob_convert_show.specs.declared.records.ShowFault.{ShowFault}
 use Rattle.cob_convert_show.specs.declared.records.ShowFault.TheVariants as listing
 use Rattle.cob_entry.specs.declared.fault.BookFault.{BookFault}

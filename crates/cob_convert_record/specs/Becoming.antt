@@ -1,12 +1,10 @@
 -- What becomes of one record.
-use Rattle.std.specs.Prelude.{◌≡◌, ◌⊎◌, ℕ, List, Ok, Err}
-use Rattle.cob_records.specs.declared.records.Form.{Form}
-use Rattle.cob_records.specs.declared.records.Form.TheVariants.{Fixed, Variable}
+use Rattle.std.specs.Prelude.{◌≡◌, ◌⊎◌, ℕ, List, Err}
 use Rattle.cob_copybook_tree.specs.Forests.{Forest}
 use Rattle.cob_copybook_tree.specs.Nodes.{Resolved}
 use Rattle.cob_layout_places.specs.declared.counts.CountFault.{CountFault}
 use Rattle.cob_layout.specs.Counting.{CountsOf}
-use Rattle.cob_layout.specs.Storage.{IsCurrentPart}
+use Rattle.cob_stream.specs.Output.{IsOutputOf}
 use Rattle.cob_move_initial.specs.Initial.{IsInitial}
 use Rattle.cob_layout_places.specs.declared.operands.Side.TheVariants.{Out}
 use Rattle.cob_convert_record.specs.Conversion.{Conversion}
@@ -14,11 +12,6 @@ use Rattle.cob_move_apply.specs.declared.stop.Stop.{Stop}
 use Rattle.cob_move_apply.specs.declared.stop.StopCause.TheVariants.{Count}
 use Rattle.cob_move_apply.specs.Located.{stop_at}
 use Rattle.cob_move_apply.specs.Applied.{Applied, done, stopped}
-
--- What is written of an output storage, whose counts are all valid: in form f the whole of it, in form v its current part.
-abbrev pub IsOutputOf : Form → Forest Resolved → List ℕ → List ℕ → Type 0
-IsOutputOf Fixed tree storage written = ((counts : List ℕ) × CountsOf tree storage (Ok counts)) × (written ≡ storage)
-IsOutputOf Variable tree storage written = IsCurrentPart tree storage written
 
 -- An input record becomes what is written: the output record's storage goes from its initial values through all moves, and is written.
 pub record Becomes (conversion : Conversion) (input written : List ℕ) : Type 0 where

@@ -1,20 +1,17 @@
 //! The conversion of one record.
 
-ghost use Rattle.std.specs.Prelude.{◌≡◌, ◌<◌, ◌≤◌, ℕ, List, length, min, take, Err, IfOk, IfErr, OnOk};
+ghost use Rattle.std.specs.Prelude.{◌≡◌, ◌<◌, ◌≤◌, length, min, take, IfOk, IfErr, IfSome, OnOk};
 ghost use Rattle.cob_limits.specs.Limits.{longest_record};
 ghost use Rattle.cob_layout.specs.Storage.{greatest_length};
-ghost use Rattle.cob_copybook_tree.specs.Forests.{Forest, entries_in};
-ghost use Rattle.cob_copybook_tree.specs.Nodes.{Resolved};
-ghost use Rattle.cob_layout.specs.Counting.{CountsOf};
-ghost use Rattle.cob_convert_record.specs.Becoming.{IsCountStop, IsOutputOf};
-ghost use Rattle.cob_convert_record.specs.Sizes.{IsMeasureFault, IsSized};
-ghost use Rattle.cob_records.specs.declared.records.Form.TheVariants.{Variable};
+ghost use Rattle.cob_copybook_tree.specs.Forests.{entries_in};
+ghost use Rattle.cob_stream.specs.Output.{IsOutputOf};
+ghost use Rattle.cob_convert_record.specs.Becoming.{IsCountStop};
 
-use crate::misfit::MeasureFault;
 use crate::room::Room;
-use cob_move_apply::{Book, CountFault, Counts, Layout, Moves, Side, Stop, StopCause};
+use cob_move_apply::{Book, Counts, Layout, Moves, Side, Stop, StopCause};
 use cob_move_initial::initial;
-use cob_records::Form;
+use cob_records::{Form, Source};
+use cob_stream::{MeasureFault, Reason, measure, read_record, written_length};
 use std::alloc::{AllocError, Global};
 use std::marker::Model;
 
@@ -48,43 +45,12 @@ impl Model for Conversion {
     ghost invariant = { λ c. ArePrepared (record { input = c.input; output = c.output }) c.moves × IsInitial c.output c.image.items × (length c.image.items ≡ greatest_length c.output) };
 }
 
-/// The fault of a record of form v whose counts give none.
-fn measure_fault_of(fault: CountFault) -> MeasureFault
-    ensures { (tree : Forest Resolved) (input : List ℕ)
-        → CountsOf tree input (Err fault) → IsMeasureFault Variable tree input result }
-{
-    if fault.short {
-        MeasureFault::Length
-    } else {
-        MeasureFault::Count {
-            offset: fault.offset,
-        }
-    }
-}
-
-/// Whether a record has the length that its own counts give.
-fn measure_current(layout: &Layout, input: &[u8], counts: &mut Counts) -> Result<(), MeasureFault>
-    requires room { length counts.old ≡ entries_in layout.now }
-    ensures sized { OnOk result (IsSized Variable layout.now input.now) }
-    ensures misfit { IfErr result (λ why. IsMeasureFault Variable layout.now input.now why) }
-    ensures room { length counts.new ≡ length counts.old }
-{
-    if let Err(fault) = layout.counts_of(input, counts) {
-        return Err(measure_fault_of(fault));
-    }
-    if input.len() == usize::from(layout.length(counts)) {
-        Ok(())
-    } else {
-        Err(MeasureFault::Length)
-    }
-}
-
-/// How many bytes of an output storage are written.
+/// How many bytes of the output record's storage are written.
 ///
 /// # Errors
 ///
 /// The first count of the storage that isn't valid.
-fn written_length(
+fn output_length(
     layout: &Layout,
     form: Form,
     storage: &[u8],
@@ -99,19 +65,14 @@ fn written_length(
     ensures stops { IfErr result (λ stop. IsCountStop layout.now storage.now stop) }
     ensures room { length counts.new ≡ length counts.old }
 {
-    if let Err(fault) = layout.counts_of(storage, counts) {
-        return Err(Stop {
+    match written_length(layout, form, storage, counts) {
+        Ok(made) => Ok(made),
+        Err(fault) => Err(Stop {
             side: Side::Out,
             offset: fault.offset,
             cause: StopCause::Count,
-        });
+        }),
     }
-    let greatest = layout.greatest();
-    let made = match form {
-        Form::Fixed => greatest,
-        Form::Variable => layout.length(counts),
-    };
-    Ok(usize::from(made))
 }
 
 impl Conversion {
@@ -120,7 +81,10 @@ impl Conversion {
     ghost use Rattle.cob_layout.specs.Storage.{IsStorage};
     ghost use Rattle.cob_move_initial.specs.Initial.{IsInitial};
     ghost use Rattle.cob_convert_record.specs.Conversion.{in_length, out_length};
-    ghost use Rattle.cob_convert_record.specs.Sizes.{IsSized, IsMeasureFault};
+    ghost use Rattle.cob_records.specs.Device.{Told, counted};
+    ghost use Rattle.cob_stream.specs.Input.{IsJudged, ReadsRecord};
+    ghost use Rattle.cob_stream.specs.Reasons.{IsInputReason, is_read_cause, is_refused_for};
+    ghost use Rattle.cob_stream.specs.Sizes.{IsSized, IsMeasureFault};
     ghost use Rattle.cob_convert_record.specs.Becoming.{Becomes, StopsAt};
     ghost use Rattle.cob_convert_record.specs.Rooms.{capacity_for};
 
@@ -205,7 +169,38 @@ impl Conversion {
         self.moves.single_moves()
     }
 
-    /// Whether a record that came in a frame is one of the input layout. In form f no count is looked at. It takes no memory.
+    /// Reads the next input record into the front of the slice, judges it by the input layout, and answers how many bytes it has, or `None`
+    /// where no byte is left. It asks for no memory, which tests show.
+    ///
+    /// # Errors
+    ///
+    /// The fault of a frame that can't be read; in form v a count of the record that isn't valid, or a length other than that which its counts
+    /// give.
+    pub fn next_input<R: Source>(
+        &self,
+        source: &mut R,
+        slot: &mut [u8],
+        room: &mut Room,
+    ) -> Result<Option<usize>, Reason>
+        requires slot { length slot.old ≡ in_length self.now }
+        requires room { room.old ≡ capacity_for self.now.records }
+        // Where the source tells its bytes: which of them were read, and what they are.
+        ensures reads { Told (R.coming source.old) (R.coming source.new)
+            (ReadsRecord self.now.in_form self.now.records.input slot.new result) }
+        // At any source: what is answered is a record of the input, or the reason of one that comes in.
+        ensures judged { IfOk result (λ found. IfSome found
+            (IsJudged self.now.in_form self.now.records.input slot.new)) }
+        ensures reason { IfErr result IsInputReason }
+        // A read failed exactly where that is the reason.
+        ensures cause { R.failures source.new
+            ≡ counted (is_refused_for is_read_cause result) (R.failures source.old) }
+        ensures room { room.new ≡ room.old }
+    {
+        read_record(source, &self.input, self.in_form, slot, &mut room.in_counts)
+    }
+
+    /// Whether a record that came in a frame is one of the input layout. In form f no count is looked at.
+    /// It asks for no memory, which tests show.
     ///
     /// # Errors
     ///
@@ -218,23 +213,19 @@ impl Conversion {
             (λ why. IsMeasureFault self.now.in_form self.now.records.input input.now why) }
         ensures room { room.new ≡ room.old }
     {
-        match self.in_form {
-            Form::Fixed => Ok(()),
-            Form::Variable => measure_current(&self.input, input, &mut room.in_counts),
-        }
+        measure(&self.input, self.in_form, input, &mut room.in_counts)
     }
 
     /// Begins an output record: its storage holds its initial values, and nothing of a record before.
     fn begin(&self, output: &mut [u8])
         requires { length output.old ≡ out_length self.now }
-        ensures begins { IsInitial self.now.records.output output.new }
-        ensures length { length output.new ≡ length output.old }
+        ensures { IsInitial self.now.records.output output.new }
     {
         output.copy_from_slice(self.image.as_slice());
     }
 
     /// Makes the output record of an input record: from the initial storage, by each move in turn. The answer is how many bytes of the storage
-    /// are written. It takes no memory.
+    /// are written. It asks for no memory, which tests show.
     ///
     /// # Errors
     ///
@@ -247,11 +238,10 @@ impl Conversion {
             (λ made. (0 < made) × (made ≤ length output.new) × (made ≤ longest_record)) }
         ensures converts { IfOk result (λ made. Becomes self.now input.now (take made output.new)) }
         ensures stops { IfErr result (λ stop. StopsAt self.now input.now stop) }
-        ensures length { length output.new ≡ length output.old }
         ensures room { room.new ≡ room.old }
     {
         self.begin(output);
         self.moves.apply(&self.input, &self.output, input, output, &mut room.scratch)?;
-        written_length(&self.output, self.out_form, output, &mut room.out_counts)
+        output_length(&self.output, self.out_form, output, &mut room.out_counts)
     }
 }

@@ -1,8 +1,8 @@
 -- Which end failed where records are shown.
 use Rattle.std.specs.Prelude.{◌≡◌, ℕ, ◌<◌, Bool, false, Ok, Err, Result}
 use Rattle.cob_records.specs.Frame.{is_read_failure, is_write_error, is_write_fault}
-use Rattle.cob_convert_record.specs.declared.fault.Cause.{Cause}
-use Rattle.cob_convert_record.specs.declared.fault.Cause.TheVariants.{Count, Limit, Record}
+use Rattle.cob_stream.specs.declared.fault.Cause.{Cause}
+use Rattle.cob_stream.specs.declared.fault.Cause.TheVariants.{Count, Limit, Record}
 use Rattle.cob_convert_show.specs.declared.records.ShowFault.{ShowFault}
 use Rattle.cob_convert_show.specs.declared.records.ShowFault.TheVariants.{Memory, Run}
 use Rattle.cob_convert_show.specs.declared.records.Stop.{Stop}

@@ -9,8 +9,7 @@ ghost use Rattle.cob_records.specs.Frame.{is_write_error, is_write_fault};
 use crate::text::{put, put_behind_space, put_number};
 use crate::values::put_value;
 use arrayvec::ArrayVec;
-use cob_convert_record::{Item, Kind, Layout, Name, Node, Place, field, is_table};
-use cob_layout::Places;
+use cob_layout::{Item, Kind, Layout, Name, Node, Place, Places, field, is_table};
 use cob_limits::MAX_SUBSCRIPTS;
 use cob_records::{RecordFault, Sink};
 

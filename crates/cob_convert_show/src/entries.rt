@@ -6,7 +6,7 @@ ghost use Rattle.cob_records.specs.Frame.{is_write_error, is_write_fault, taken_
 
 use crate::elements::Subscripts;
 use crate::text::{put, put_behind_space};
-use cob_convert_record::{
+use cob_layout::{
     Book, Item, Kind, Layout, Name, Node, Place, ResolvedOccurs, Sign, Usage, is_table,
 };
 use cob_picture::Category;

@@ -23,6 +23,6 @@ mod records;
 mod text;
 mod values;
 
-pub use cob_convert_record::{Book, BookRule, Layout, Role};
+pub use cob_layout::{Book, BookRule, Layout, Role};
 pub use entries::layout_text;
 pub use records::{ShowFault, show};

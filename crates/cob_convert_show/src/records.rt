@@ -10,9 +10,9 @@ ghost use Rattle.cob_convert_show.specs.declared.records.ShowFault.TheVariants.{
 
 use crate::elements::{Contents, Tables, put_items};
 use crate::text::{put, put_number};
-use cob_convert_record::{Book, Cause, CountFault, Layout, Node, RunFault, Side};
-use cob_layout::Places;
+use cob_layout::{Book, CountFault, Layout, Node, Places};
 use cob_records::{Form, RecordFault, Sink, Source, next_record};
+use cob_stream::{Cause, RunFault, Side};
 use std::alloc::{AllocError, Global};
 
 /// Why not all records were shown.

@@ -11,8 +11,8 @@ ghost use Rattle.cob_records.specs.Frame.{is_write_error, is_write_fault};
 
 use crate::text::put;
 use arrayvec::ArrayVec;
-use cob_convert_record::{Item, is_number_item, read_number};
 use cob_cp037::decode_byte;
+use cob_layout::{Item, is_number_item, read_number};
 use cob_records::{RecordFault, Sink};
 
 /// The quotation mark of code page 037.

@@ -8,7 +8,7 @@
 //!
 //! How a job is cut at its marks, what else it prints, and its status, is shown by tests.
 //!
-//! It stands on `cob_convert` for the conversion, on `cob_convert_record` for what stops a run, on `cob_records` for ends, on `cob_source`
+//! It stands on `cob_convert` for the conversion, on `cob_stream` for what stops a run, on `cob_records` for ends, on `cob_source`
 //! for what the lines of a text are, on `arrayvec` for lines without memory, on `memchr` for the ends of lines and on `thiserror` for what
 //! faults print.
 #![tactic(auto)]

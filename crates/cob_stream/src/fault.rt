@@ -1,6 +1,10 @@
-//! Where and why a run stops.
+//! Where and why a record stops a run.
 
-use cob_move_apply::Side;
+ghost use Rattle.std.specs.Prelude.{◌≡◌};
+ghost use Rattle.cob_stream.specs.Reasons.{IsInputReason, frame_reason, misfit_reason};
+
+use crate::misfit::MeasureFault;
+use cob_layout_places::Side;
 use cob_records::RecordFault;
 use std::fmt;
 
@@ -19,6 +23,15 @@ pub enum Cause {
     Record(RecordFault),
 }
 
+/// Where in a record a run stops: on which side, and at which byte of the record, its descriptor apart (0 where a frame
+/// is at fault); and why.
+#[derive(Clone, Copy, Debug, PartialEq, Eq)]
+pub struct Reason {
+    pub side: Side,
+    pub offset: u32,
+    pub cause: Cause,
+}
+
 /// A run that stopped: at which record, counted from 1; on which side, and at which byte of the record, its
 /// descriptor apart (0 where a frame is at fault); why; and how many bytes the sink took in this run, up to
 /// the greatest `u64`.
@@ -29,6 +42,35 @@ pub struct RunFault {
     pub offset: u32,
     pub cause: Cause,
     pub written: u64,
+}
+
+impl Reason {
+    /// The reason of a frame that can't be read.
+    pub(crate) fn of_frame(fault: RecordFault) -> Reason
+        ensures { result ≡ frame_reason fault }
+    {
+        Reason {
+            side: Side::In,
+            offset: 0,
+            cause: Cause::Record(fault),
+        }
+    }
+
+    /// The reason of a record that isn't one of its layout.
+    pub(crate) fn of_misfit(why: MeasureFault) -> Reason
+        ensures reason { result ≡ misfit_reason why }
+        ensures input { IsInputReason result }
+    {
+        let (offset, cause) = match why {
+            MeasureFault::Count { offset } => (offset, Cause::Count),
+            MeasureFault::Length => (0, Cause::Record(RecordFault::Length)),
+        };
+        Reason {
+            side: Side::In,
+            offset,
+            cause,
+        }
+    }
 }
 
 impl fmt::Display for Cause {

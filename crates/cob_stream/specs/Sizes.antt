@@ -7,8 +7,8 @@ use Rattle.cob_copybook_tree.specs.Nodes.{Resolved}
 use Rattle.cob_layout_places.specs.declared.counts.CountFault.{CountFault}
 use Rattle.cob_layout.specs.Counting.{CountsOf}
 use Rattle.cob_layout.specs.Storage.{IsCurrent, current_length, greatest_length}
-use Rattle.cob_convert_record.specs.declared.misfit.MeasureFault.{MeasureFault}
-use Rattle.cob_convert_record.specs.declared.misfit.MeasureFault.TheVariants.{Count, Length}
+use Rattle.cob_stream.specs.declared.misfit.MeasureFault.{MeasureFault}
+use Rattle.cob_stream.specs.declared.misfit.MeasureFault.TheVariants.{Count, Length}
 
 -- A record that came is one of its layout: in form f it has the greatest length, and no count is looked at; in form v its own counts are valid,
 -- and it has the length that they give.

@@ -1,0 +1,78 @@
+//! Whether a record that came is one of its layout.
+
+ghost use Rattle.std.specs.Prelude.{◌≡◌, ℕ, List, length, Err, IfErr, OnOk};
+ghost use Rattle.cob_copybook_tree.specs.Forests.{Forest, entries_in};
+ghost use Rattle.cob_copybook_tree.specs.Nodes.{Resolved};
+ghost use Rattle.cob_layout.specs.Counting.{CountsOf};
+ghost use Rattle.cob_layout.specs.Storage.{greatest_length};
+ghost use Rattle.cob_records.specs.Frame.{IsRecord};
+ghost use Rattle.cob_records.specs.declared.records.Form.TheVariants.{Variable};
+ghost use Rattle.cob_stream.specs.Sizes.{IsMeasureFault, IsSized};
+
+use cob_layout::{Counts, Layout};
+use cob_layout_places::CountFault;
+use cob_records::Form;
+
+/// Why a record that came whole isn't one of the input layout.
+#[derive(Clone, Copy, Debug, PartialEq, Eq)]
+pub enum MeasureFault {
+    /// A count that isn't valid, with the offset of its item.
+    Count { offset: u32 },
+    /// A length other than the layout's under the record's own counts.
+    Length,
+}
+
+/// The fault of a record of form v whose counts give none.
+fn measure_fault_of(fault: CountFault) -> MeasureFault
+    ensures { (tree : Forest Resolved) (input : List ℕ)
+        → CountsOf tree input (Err fault) → IsMeasureFault Variable tree input result }
+{
+    if fault.short {
+        MeasureFault::Length
+    } else {
+        MeasureFault::Count {
+            offset: fault.offset,
+        }
+    }
+}
+
+/// Whether a record has the length that its own counts give.
+fn measure_current(layout: &Layout, input: &[u8], counts: &mut Counts) -> Result<(), MeasureFault>
+    requires room { length counts.old ≡ entries_in layout.now }
+    ensures sized { OnOk result (IsSized Variable layout.now input.now) }
+    ensures misfit { IfErr result (λ why. IsMeasureFault Variable layout.now input.now why) }
+    ensures room { length counts.new ≡ length counts.old }
+{
+    if let Err(fault) = layout.counts_of(input, counts) {
+        return Err(measure_fault_of(fault));
+    }
+    if input.len() == usize::from(layout.length(counts)) {
+        Ok(())
+    } else {
+        Err(MeasureFault::Length)
+    }
+}
+
+/// Whether a record that came in a frame is one of its layout. In form f no count is looked at. The counts are those of the record
+/// where they were taken.
+///
+/// # Errors
+///
+/// In form v a count of the record that isn't valid, or a length other than that which its counts give.
+pub fn measure(
+    layout: &Layout,
+    form: Form,
+    input: &[u8],
+    counts: &mut Counts,
+) -> Result<(), MeasureFault>
+    requires record { IsRecord form (greatest_length layout.now) input.now }
+    requires room { length counts.old ≡ entries_in layout.now }
+    ensures sized { OnOk result (IsSized form layout.now input.now) }
+    ensures misfit { IfErr result (λ why. IsMeasureFault form layout.now input.now why) }
+    ensures room { length counts.new ≡ length counts.old }
+{
+    match form {
+        Form::Fixed => Ok(()),
+        Form::Variable => measure_current(layout, input, counts),
+    }
+}

@@ -1,0 +1,54 @@
+//! Reading a record and judging it.
+
+ghost use Rattle.std.specs.Prelude.{◌≡◌, length, IfErr, IfOk, IfSome};
+ghost use Rattle.cob_copybook_tree.specs.Forests.{entries_in};
+ghost use Rattle.cob_layout.specs.Storage.{greatest_length};
+ghost use Rattle.cob_records.specs.Device.{Told, counted};
+ghost use Rattle.cob_stream.specs.Input.{IsJudged, ReadsRecord};
+ghost use Rattle.cob_stream.specs.Reasons.{IsInputReason, is_read_cause, is_refused_for};
+
+use crate::fault::Reason;
+use crate::misfit::measure;
+use cob_layout::{Counts, Layout};
+use cob_records::{Form, Source, next_record};
+
+/// Reads the next record into the front of the slice, judges it by its layout, and answers how many bytes it has, or `None` where no
+/// byte is left. The slice has room for a record of the greatest length.
+///
+/// # Errors
+///
+/// The fault of a frame that can't be read, at the front of the record. In form v the first count that isn't valid, at its item, or
+/// [`RecordFault::Length`](cob_records::RecordFault::Length) where the record has another length than its counts give.
+pub fn read_record<R: Source>(
+    source: &mut R,
+    layout: &Layout,
+    form: Form,
+    slot: &mut [u8],
+    counts: &mut Counts,
+) -> Result<Option<usize>, Reason>
+    requires slot { length slot.old ≡ greatest_length layout.now }
+    requires room { length counts.old ≡ entries_in layout.now }
+
+    // Where the source tells its bytes: which of them were read, and what they are.
+    ensures reads { Told (R.coming source.old) (R.coming source.new)
+        (ReadsRecord form layout.now slot.new result) }
+
+    // At any source: what is answered is a record of the layout, or the reason of one that comes in.
+    ensures judged { IfOk result (λ found. IfSome found (IsJudged form layout.now slot.new)) }
+    ensures reason { IfErr result IsInputReason }
+
+    // A read failed exactly where that is the reason.
+    ensures cause { R.failures source.new
+        ≡ counted (is_refused_for is_read_cause result) (R.failures source.old) }
+    ensures room { length counts.new ≡ length counts.old }
+{
+    let count = match next_record(source, form, layout.greatest(), slot) {
+        Ok(None) => return Ok(None),
+        Ok(Some(count)) => count,
+        Err(fault) => return Err(Reason::of_frame(fault)),
+    };
+    match measure(layout, form, &slot[..count], counts) {
+        Ok(()) => Ok(Some(count)),
+        Err(why) => Err(Reason::of_misfit(why)),
+    }
+}
