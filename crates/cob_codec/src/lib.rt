@@ -8,7 +8,8 @@
 //! represent is the one that it gives (`only`), so that it answers None exactly where they represent none; `store` writes the
 //! one stored form (`bytes`). The words for these are in specs/: `IsZoned`, `IsSignedSeparately`, `IsPacked` and `IsBinary` relate the bytes
 //! to a sign and digits, whose magnitude is the sum of each digit times its power of ten; `zoned_form`, `separate_form`,
-//! `packed_form` and `binary_form` are the bytes that are written. `Binary::read_whole` is the number of all bytes (`IsWholeBinary`).
+//! `packed_form` and `binary_form` are the bytes that are written. `Binary::read_whole` is the number of all bytes (`IsWholeBinary`); a
+//! [`Reading`] says which of the two readings of binary items is meant.
 //! `bytes_represent_one_number`, `stored_numbers_read_back` and `whole_reading_agrees` are laws over these words; code that is
 //! generic over [`Storage`] has the same laws by `Storage::laws`.
 //!
@@ -18,6 +19,7 @@
 mod binary;
 mod laws;
 mod packed;
+mod reading;
 mod separate;
 mod shape;
 mod sign;
@@ -27,6 +29,7 @@ mod zoned;
 pub use crate::binary::Binary;
 pub use crate::laws::{bytes_represent_one_number, stored_numbers_read_back, whole_reading_agrees};
 pub use crate::packed::Packed;
+pub use crate::reading::Reading;
 pub use crate::separate::Separate;
 pub use crate::shape::Shape;
 pub use crate::storage::Storage;
