@@ -8,6 +8,8 @@ use Rattle.cob_entry.specs.declared.kinds.Sign.{Sign}
 use Rattle.cob_copybook_tree.specs.declared.node.Item.{Item}
 use Rattle.cob_copybook_tree.specs.Lengths.{item_size, stored_size}
 use Rattle.cob_codec.specs.Sign.{IsHeld}
+use Rattle.cob_codec.specs.declared.reading.Reading.{Reading}
+use Rattle.cob_codec.specs.declared.reading.Reading.TheVariants.{Pictured, Whole}
 use Rattle.std.specs.Prelude.{if◌then◌else◌}
 use Rattle.cob_codec.proofs.ZonedLaws as zoned
 use Rattle.cob_codec.proofs.SeparateLaws as separate
@@ -15,7 +17,7 @@ use Rattle.cob_codec.proofs.PackedLaws as packed
 use Rattle.cob_codec.proofs.BinaryLaws as binary
 use Rattle.cob_copybook_tree.specs.declared.form.Form.{Form}
 use Rattle.cob_copybook_tree.specs.declared.form.Form.TheVariants.{Zoned, Separate, Packed, Binary}
-use Rattle.cob_copybook_tree.specs.Items.{IsNumberItem, Represents, stored_form, RepresentsAs, OneItemNumber, ItemReadsBack, HoldsNumbers, TakesPicture, written_as, form_of, form_by, display_form, is_leading, size_as}
+use Rattle.cob_copybook_tree.specs.Items.{IsNumberItem, Represents, stored_form, RepresentsAs, SentAs, OneItemNumber, OneSentNumber, ItemReadsBack, HoldsNumbers, TakesPicture, written_as, form_of, form_by, display_form, is_leading, size_as}
 
 one_as : (f : Form) (leading : Bool) (p : PlainPicture) (bytes : List ℕ) (a b : Bool) (ds es : List ℕ)
     → RepresentsAs f leading p bytes a ds → RepresentsAs f leading p bytes b es → (a ≡ b) × (ds ≡ es)
@@ -26,6 +28,17 @@ one_as Binary leading p bytes a b ds es x y = binary.one_number (digits p.positi
 
 pub one_number : OneItemNumber
 one_number i bytes a b ds es x y = one_as (form_of i) (is_leading i.sign) i.picture bytes a b ds es x y
+
+one_sent_as : (reading : Reading) (f : Form) (leading : Bool) (p : PlainPicture) (bytes : List ℕ) (a b : Bool) (ds es : List ℕ)
+    → SentAs reading f leading p bytes a ds → SentAs reading f leading p bytes b es → (a ≡ b) × (ds ≡ es)
+one_sent_as Pictured f leading p bytes a b ds es x y = one_as f leading p bytes a b ds es x y
+one_sent_as Whole Zoned leading p bytes a b ds es x y = one_as Zoned leading p bytes a b ds es x y
+one_sent_as Whole Separate leading p bytes a b ds es x y = one_as Separate leading p bytes a b ds es x y
+one_sent_as Whole Packed leading p bytes a b ds es x y = one_as Packed leading p bytes a b ds es x y
+one_sent_as Whole Binary leading p bytes a b ds es x y = binary.one_whole (digits p.positions) (signed p.positions) bytes a b ds es x y
+
+pub one_sent : OneSentNumber
+one_sent reading i bytes a b ds es x y = one_sent_as reading (form_of i) (is_leading i.sign) i.picture bytes a b ds es x y
 
 reads_back_as : (f : Form) (leading : Bool) (p : PlainPicture) (negative : Bool) (ds : List ℕ) → TakesPicture f p → 0 < digits p.positions → IsHeld (digits p.positions) (signed p.positions) negative ds
     → RepresentsAs f leading p (written_as f leading p negative ds) negative ds

@@ -13,7 +13,9 @@ use Rattle.cob_codec.specs.Sign.{IsHeld}
 use Rattle.cob_codec.specs.Zoned.{IsZoned, zoned_form}
 use Rattle.cob_codec.specs.Separate.{IsSignedSeparately, separate_form}
 use Rattle.cob_codec.specs.Packed.{IsPacked, packed_form}
-use Rattle.cob_codec.specs.Binary.{IsBinary, binary_form, binary_length}
+use Rattle.cob_codec.specs.Binary.{IsBinary, IsWholeBinary, binary_form, binary_length}
+use Rattle.cob_codec.specs.declared.reading.Reading.{Reading}
+use Rattle.cob_codec.specs.declared.reading.Reading.TheVariants.{Pictured, Whole}
 use Rattle.cob_copybook_tree.specs.declared.form.Form.{Form}
 use Rattle.cob_copybook_tree.specs.declared.form.Form.TheVariants.{Zoned, Separate, Packed, Binary}
 
@@ -52,6 +54,19 @@ RepresentsAs Binary leading p bytes negative ds = IsBinary (digits p.positions) 
 -- the bytes of the item represent the number of these digits, negative or not, at the scale of its picture
 abbrev pub Represents : Item → List ℕ → Bool → List ℕ → Type 0
 Represents i bytes negative ds = RepresentsAs (form_of i) (is_leading i.sign) i.picture bytes negative ds
+
+-- bytes of this kind represent the number of these digits where they are sent by a reading: whole, binary bytes represent the number of all of
+-- them; all else represents what it does anyhow
+abbrev pub SentAs : Reading → Form → Bool → PlainPicture → List ℕ → Bool → List ℕ → Type 0
+SentAs Pictured form leading p bytes negative ds = RepresentsAs form leading p bytes negative ds
+SentAs Whole Zoned leading p bytes negative ds = RepresentsAs Zoned leading p bytes negative ds
+SentAs Whole Separate leading p bytes negative ds = RepresentsAs Separate leading p bytes negative ds
+SentAs Whole Packed leading p bytes negative ds = RepresentsAs Packed leading p bytes negative ds
+SentAs Whole Binary leading p bytes negative ds = IsWholeBinary (digits p.positions) (signed p.positions) bytes negative ds
+
+-- the bytes of the item, sent by this reading, represent the number of these digits, negative or not, at the scale of its picture
+abbrev pub IsSentBy : Reading → Item → List ℕ → Bool → List ℕ → Type 0
+IsSentBy reading i bytes negative ds = SentAs reading (form_of i) (is_leading i.sign) i.picture bytes negative ds
 
 -- the bytes of this kind that are written for a number
 abbrev pub written_as : Form → Bool → PlainPicture → Bool → List ℕ → List ℕ
@@ -92,6 +107,11 @@ IsStorable i = MatchBool (is_number i) (IsNumberItem i) (item_size i ≡ size i.
 -- the bytes of an item represent at most one number
 abbrev pub OneItemNumber : Type 0
 OneItemNumber = (i : Item) (bytes : List ℕ) (a b : Bool) (ds es : List ℕ) → Represents i bytes a ds → Represents i bytes b es → (a ≡ b) × (ds ≡ es)
+
+-- the bytes of an item that is sent represent at most one number under a reading
+abbrev pub OneSentNumber : Type 0
+OneSentNumber = (reading : Reading) (i : Item) (bytes : List ℕ) (a b : Bool) (ds es : List ℕ)
+    → IsSentBy reading i bytes a ds → IsSentBy reading i bytes b es → (a ≡ b) × (ds ≡ es)
 
 -- what was stored for a number that the item can hold represents this number
 abbrev pub ItemReadsBack : Type 0

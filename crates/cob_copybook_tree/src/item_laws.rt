@@ -1,8 +1,13 @@
-ghost use Rattle.cob_copybook_tree.specs.Items.{HoldsNumbers, OneItemNumber, ItemReadsBack};
+ghost use Rattle.cob_copybook_tree.specs.Items.{HoldsNumbers, OneItemNumber, OneSentNumber, ItemReadsBack};
 
 /// The bytes of an item represent at most one number.
 pub fn one_number()
     ensures { OneItemNumber }
+{}
+
+/// The bytes of an item that is sent represent at most one number under a reading.
+pub fn one_sent_number()
+    ensures { OneSentNumber }
 {}
 
 /// What was stored for a number reads back.

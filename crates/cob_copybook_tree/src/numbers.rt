@@ -4,11 +4,12 @@ ghost use Rattle.cob_picture.specs.Counts.{digits, scale, signed};
 ghost use Rattle.cob_picture.specs.declared.category.Category.TheVariants.{Numeric};
 ghost use Rattle.cob_copybook_tree.specs.Lengths.{item_size};
 ghost use Rattle.cob_copybook_tree.specs.Resolving.{is_numeric};
-ghost use Rattle.cob_copybook_tree.specs.Items.{form_of, is_leading, size_as, IsNumberItem, Represents, stored_form};
+ghost use Rattle.cob_copybook_tree.specs.Items.{form_of, is_leading, size_as, IsNumberItem, IsSentBy, Represents, stored_form};
+ghost use Rattle.cob_codec.specs.declared.reading.Reading.TheVariants.{Whole};
 
 use crate::Item;
 use crate::form::{Form, form_of, is_leading};
-use cob_codec::{Binary, Packed, Separate, Shape, Storage, Zoned};
+use cob_codec::{Binary, Packed, Reading, Separate, Shape, Storage, Zoned};
 use cob_decimal::Number;
 
 /// How the number of an item lies in its bytes.
@@ -43,6 +44,41 @@ pub fn read_number(item: &Item, bytes: &[u8]) -> Option<Number>
         Form::Separate => Separate::read(&shape, bytes),
         Form::Packed => Packed::read(&shape, bytes),
         Form::Binary => Binary::read(&shape, bytes),
+    }
+}
+
+/// The number of all bytes of a binary item, and of another item the number that its bytes represent.
+fn read_whole(item: &Item, bytes: &[u8]) -> Option<Number>
+    requires number { IsNumberItem item.now }
+    requires long { length bytes.now ≡ item_size item.now }
+    ensures found { IfSome result (λ v. IsSentBy Whole item.now bytes.now v.negative v.digits) }
+    ensures scale { IfSome result (λ v. v.scale ≡ scale item.now.picture.positions) }
+    ensures only { (negative : Bool) (digits : List ℕ)
+        → IsSentBy Whole item.now bytes.now negative digits
+        → IsSomeAnd result (λ v. (v.negative ≡ negative) × (v.digits ≡ digits)) }
+{
+    match form_of(item) {
+        Form::Zoned => read_number(item, bytes),
+        Form::Separate => read_number(item, bytes),
+        Form::Packed => read_number(item, bytes),
+        Form::Binary => Some(Binary::read_whole(&shape_of(item), bytes)),
+    }
+}
+
+/// The number that the bytes of an item that is sent represent by a reading, at its picture's scale. Of a binary item that is read whole it has
+/// 5, 10 or 20 digits, by its 2, 4 or 8 bytes; else it has exactly its picture's digits. None exactly where the bytes represent no number.
+pub fn read_sent(reading: Reading, item: &Item, bytes: &[u8]) -> Option<Number>
+    requires number { IsNumberItem item.now }
+    requires long { length bytes.now ≡ item_size item.now }
+    ensures found { IfSome result (λ v. IsSentBy reading item.now bytes.now v.negative v.digits) }
+    ensures scale { IfSome result (λ v. v.scale ≡ scale item.now.picture.positions) }
+    ensures only { (negative : Bool) (digits : List ℕ)
+        → IsSentBy reading item.now bytes.now negative digits
+        → IsSomeAnd result (λ v. (v.negative ≡ negative) × (v.digits ≡ digits)) }
+{
+    match reading {
+        Reading::Pictured => read_number(item, bytes),
+        Reading::Whole => read_whole(item, bytes),
     }
 }
 
