@@ -12,6 +12,7 @@ ghost use Rattle.cob_records.specs.declared.records.Form.TheVariants.{Variable};
 
 use crate::misfit::MeasureFault;
 use crate::room::Room;
+use cob_codec::Reading;
 use cob_move_apply::{Book, CountFault, Counts, Layout, Moves, Side, Stop, StopCause};
 use cob_move_initial::initial;
 use cob_records::Form;
@@ -119,7 +120,7 @@ impl Conversion {
     ghost use Rattle.cob_move_apply.specs.Prepared.{ArePrepared, most_moves_told, moves_of, single_moves};
     ghost use Rattle.cob_layout.specs.Storage.{IsStorage};
     ghost use Rattle.cob_move_initial.specs.Initial.{IsInitial};
-    ghost use Rattle.cob_convert_record.specs.Conversion.{in_length, out_length};
+    ghost use Rattle.cob_convert_record.specs.Conversion.{conversion_by, in_length, out_length};
     ghost use Rattle.cob_convert_record.specs.Sizes.{IsSized, IsMeasureFault};
     ghost use Rattle.cob_convert_record.specs.Becoming.{Becomes, StopsAt};
     ghost use Rattle.cob_convert_record.specs.Rooms.{capacity_for};
@@ -157,6 +158,20 @@ impl Conversion {
             moves,
             image,
         })
+    }
+
+    /// The same conversion, with the binary senders of its moves read so. It takes no memory.
+    pub fn with_reading(self, reading: Reading) -> Conversion
+        ensures { result ≡ conversion_by reading self }
+    {
+        Conversion {
+            in_form: self.in_form,
+            out_form: self.out_form,
+            input: self.input,
+            output: self.output,
+            moves: self.moves.with_reading(reading),
+            image: self.image,
+        }
     }
 
     /// The form in which records come.
