@@ -1,10 +1,14 @@
 -- What the parser says of a command, and of what it found, in the words of this crate.
-use Rattle.std.proofs.Common.{rules, ◌≡◌, ◌&&◌, ◌==◌, arith, length, map, eqb-true, Bool, List, [], ◌∷◌, Option, Some, None, option_map, true, false, refl, sym, ap, ap₂, true≢false}
+use Rattle.std.proofs.Common.{rules, codes, subst, ◌∙◌, ◌≡◌, ◌&&◌, ◌==◌, arith, length, map, eqb-true, Bool, List, [], ◌∷◌, Option, Some, None, option_map, true, false, refl, sym, ap, ap₂, true≢false}
 use Rattle.std.specs.Prelude.{IsSome, not, is_some, unwrap_or}
 use Rattle.clap.specs.Words.{Row, Text, app_of}
 use Rattle.clap.specs.declared.builder.command.Command.{Command}
 use Rattle.clap.specs.declared.builder.command.Command.TheViews.{out-Command}
-use Rattle.cob_convert_line.specs.Lines.{IsCommandLineOf}
+use Rattle.cob_convert_line.specs.Lines.{HaveForms, IsCommandLineOf, IsFaultIn, LacksAForm, LacksForm, LacksReading, Look, form_by_letter, letter_of}
+use Rattle.cob_convert_line.specs.declared.fault.LineFault.{LineFault}
+use Rattle.cob_convert_line.specs.declared.fault.LineFault.TheVariants as fault
+use Rattle.cob_records.specs.declared.records.Form.{Form}
+use Rattle.cob_records.specs.declared.records.Form.TheVariants.{Fixed, Variable}
 use Rattle.cob_convert_line.specs.declared.line.Line.TheVariants as line
 
 third_is_false : (a b c d : Bool) → (a && (not b && (not c && d))) ≡ true → c ≡ false
@@ -43,3 +47,24 @@ none_said text (word ∷ words) e = absurd (omega (arith, eqb-true _ _ e))
 pub some_said : {X : Type 0} (text : X → Text) (words : List X) → (length words == 0) ≡ false → map text words ≡ [] → ⊥
 some_said text [] e none = true≢false e
 some_said text (word ∷ words) e none = absurd (omega (arith, ap length none))
+
+-- an option that names a form does not lack one
+has_form : (look : Look) (name : Text) (f : Form) → look name ≡ Some (letter_of f) → LacksForm look name → ⊥
+has_form look name f named (letter, is, none) = true≢false (sym (ap is_some (sym none ∙ (ap form_by_letter same ∙ back f))))
+  where
+    back : (f : Form) → form_by_letter (letter_of f) ≡ Some f
+    back Fixed = refl
+    back Variable = refl
+
+    same : letter ≡ letter_of f
+    same = ap (λ o. unwrap_or o letter) (sym is ∙ named)
+
+pub have_forms : (look : Look) (f g : Form) → look (codes "in-form") ≡ Some (letter_of f) → look (codes "out-form") ≡ Some (letter_of g) → HaveForms look
+have_forms look f g from to = (has_form look (codes "in-form") f from, has_form look (codes "out-form") g to)
+
+-- what a fault is of an option that names no form, or no reading
+pub of_form : (look : Look) (f : LineFault) → f ≡ fault.Form → LacksAForm look → IsFaultIn look f
+of_form look f is lacks = subst (IsFaultIn look) (sym is) lacks
+
+pub of_reading : (look : Look) (f : LineFault) → f ≡ fault.Reading → HaveForms look → LacksReading look → IsFaultIn look f
+of_reading look f is have lacks = subst (IsFaultIn look) (sym is) (have, lacks)

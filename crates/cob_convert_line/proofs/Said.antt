@@ -36,6 +36,7 @@ convert_said given said h = record {
   output = sym (look_is convert_options given (codes "out") refl) ∙ h.output;
   in_form = sym (look_is convert_options given (codes "in-form") refl) ∙ h.in_form;
   out_form = sym (look_is convert_options given (codes "out-form") refl) ∙ h.out_form;
+  reading = sym (look_is convert_options given (codes "binary") refl) ∙ h.reading;
   atomic = sym (ap flag_read (look_is convert_options given (codes "atomic") refl)) ∙ h.atomic;
   progress = sym (ap flag_read (look_is convert_options given (codes "progress") refl)) ∙ h.progress;
 }
@@ -109,8 +110,8 @@ is_given (Some u) v e = (u, refl)
 convert_back : (given : Given) (said : ConvertLine) → IsConvert (taken convert_options given) said
     → AreNames convert_options × AreThere convert_options given × IsConvert (λ id. first_of id (rows_of_given convert_options given)) said
 convert_back given said h = (
-  ((refl, refl), ((refl, refl), ((refl, refl), ((refl, refl), ((refl, refl), ((refl, refl), ((refl, refl), ((refl, refl), ((refl, refl), ((refl, refl), tt)))))))))),
-  (is_given _ _ h.in_book, (is_given _ _ h.out_book, (is_given _ _ h.moves, (is_given _ _ h.input, (is_given _ _ h.output, (tt, (tt, (tt, (tt, (tt, tt)))))))))),
+  ((refl, refl), ((refl, refl), ((refl, refl), ((refl, refl), ((refl, refl), ((refl, refl), ((refl, refl), ((refl, refl), ((refl, refl), ((refl, refl), ((refl, refl), tt))))))))))),
+  (is_given _ _ h.in_book, (is_given _ _ h.out_book, (is_given _ _ h.moves, (is_given _ _ h.input, (is_given _ _ h.output, (tt, (tt, (tt, (tt, (tt, (tt, tt))))))))))),
   record {
     in_book = look_is convert_options given (codes "in-book") refl ∙ h.in_book;
     out_book = look_is convert_options given (codes "out-book") refl ∙ h.out_book;
@@ -119,6 +120,7 @@ convert_back given said h = (
     output = look_is convert_options given (codes "out") refl ∙ h.output;
     in_form = look_is convert_options given (codes "in-form") refl ∙ h.in_form;
     out_form = look_is convert_options given (codes "out-form") refl ∙ h.out_form;
+    reading = look_is convert_options given (codes "binary") refl ∙ h.reading;
     atomic = ap flag_read (look_is convert_options given (codes "atomic") refl) ∙ h.atomic;
     progress = ap flag_read (look_is convert_options given (codes "progress") refl) ∙ h.progress;
   },

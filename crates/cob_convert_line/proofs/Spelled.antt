@@ -11,9 +11,9 @@ use Rattle.clap.specs.declared.error.Error.{Error}
 use Rattle.clap.specs.declared.error.kind.ErrorKind.{ErrorKind}
 use Rattle.clap.specs.declared.error.kind.ErrorKind.TheVariants as kind
 use Rattle.cob_convert_line.specs.declared.fault.LineFault.{LineFault}
-use Rattle.cob_convert_line.specs.declared.fault.LineFault.TheVariants.{Form, Memory, Words}
-use Rattle.cob_convert_line.specs.Options.{AreThere, Given, Options, default_of, found_at}
-use Rattle.cob_convert_line.specs.Lines.{AreNamed, IsComplete, IsFaultOf, IsFormName, LacksAForm, Spells, check_options, commands, convert_options, fault_by_kind, layout_options, show_options, words_fault}
+use Rattle.cob_convert_line.specs.declared.fault.LineFault.TheVariants.{Form, Memory, NotText, Reading, Words}
+use Rattle.cob_convert_line.specs.Options.{AreThere, Given, Options, default_of, found_at, taken}
+use Rattle.cob_convert_line.specs.Lines.{AreNamed, HaveForms, IsComplete, IsFaultIn, IsFaultOf, IsFormName, LacksAForm, LacksForm, LacksReading, Spells, check_options, commands, convert_options, fault_by_kind, layout_options, show_options, words_fault}
 use Rattle.cob_convert_line.specs.Program.{program_app}
 use Rattle.cob_convert_line.proofs.Level.{defaults_in, level_complete, level_sound, level_there, look_is, rows_of_given, value_in}
 use Rattle.cob_convert_line.proofs.Turns.{not_nil}
@@ -36,7 +36,7 @@ each_found P (o ∷ cs) w os all is = go (bytes_eq o.0 w) refl is (each_found P 
 -- the options of a command have names
 names_of : (w : Text) (os : Options) → found_at w commands ≡ Some os → AreNames os
 names_of w os is = each_found AreNames commands w os (
-  ((refl, refl), ((refl, refl), ((refl, refl), ((refl, refl), ((refl, refl), ((refl, refl), ((refl, refl), ((refl, refl), ((refl, refl), ((refl, refl), tt)))))))))),
+  ((refl, refl), ((refl, refl), ((refl, refl), ((refl, refl), ((refl, refl), ((refl, refl), ((refl, refl), ((refl, refl), ((refl, refl), ((refl, refl), ((refl, refl), tt))))))))))),
   (
     ((refl, refl), ((refl, refl), ((refl, refl), ((refl, refl), tt)))),
     (
@@ -111,7 +111,13 @@ convert_names given h = let os = convert_options in (
         given_names os given (codes "in") refl h.1.1.1.0,
         (
           given_names os given (codes "out") refl h.1.1.1.1.0,
-          (default_names os given (codes "in-form") (codes "f") refl refl, (default_names os given (codes "out-form") (codes "f") refl refl, (tt, (tt, (tt, tt))))),
+          (
+            default_names os given (codes "in-form") (codes "f") refl refl,
+            (
+              default_names os given (codes "out-form") (codes "f") refl refl,
+              (default_names os given (codes "binary") (codes "pictured") refl refl, (tt, (tt, (tt, tt)))),
+            ),
+          ),
         ),
       ),
     ),
@@ -146,21 +152,57 @@ by_name os a b d name (inl e) = subst (λ n. value_in (defaults_in n os) ≡ def
 by_name os a b d name (inr (inl e)) = subst (λ n. value_in (defaults_in n os) ≡ default_of (found_at n os)) (sym e) b
 by_name os a b d name (inr (inr e)) = subst (λ n. value_in (defaults_in n os) ≡ default_of (found_at n os)) (sym e) d
 
-pub form_fault : (words : List Text) (name : Text) (rows : List Row) (fault : LineFault) → Found words name rows → fault ≡ Form → LacksAForm (λ id. first_of id rows)
+forms_of : (name : Text) (os : Options) → found_at name commands ≡ Some os → HasForms os
+forms_of name os known = each_found HasForms commands name os (
+  by_name convert_options refl refl refl,
+  (
+    by_name check_options refl refl refl,
+    (
+      by_name layout_options refl refl refl,
+      (by_name show_options refl refl refl, tt),
+    ),
+  ),
+) known
+
+-- so has the option for a reading
+abbrev HasReading : Options → Type 0
+HasReading os = value_in (defaults_in (codes "binary") os) ≡ default_of (found_at (codes "binary") os)
+
+reading_of : (name : Text) (os : Options) → found_at name commands ≡ Some os → HasReading os
+reading_of name os known = each_found HasReading commands name os (refl, (refl, (refl, (refl, tt)))) known
+
+-- what is found in rows is what the words name
+row_is : (words : List Text) (name : Text) (rows : List Row) (f : Found words name rows) (option : Text)
+    → value_in (defaults_in option f.os) ≡ default_of (found_at option f.os) → first_of option rows ≡ taken f.os f.given option
+row_is words name rows f option default = ap (first_of option) f.same ∙ look_is f.os f.given option default
+
+form_fault : (words : List Text) (name : Text) (rows : List Row) → Found words name rows → LacksAForm (λ id. first_of id rows) → IsFaultOf words Form
+form_fault words name rows f (option, form, (letter, named, none)) =
+    (f.os, f.given, f.spells, (option, form, (letter, sym (row_is words name rows f option (forms_of name f.os f.known option form)) ∙ named, none)))
+
+form_stays : (words : List Text) (name : Text) (rows : List Row) (f : Found words name rows) (option : Text) → IsFormName option
+    → (LacksForm (λ id. first_of id rows) option → ⊥) → LacksForm (taken f.os f.given) option → ⊥
+form_stays words name rows f option form fine (letter, named, none) =
+    fine (letter, row_is words name rows f option (forms_of name f.os f.known option form) ∙ named, none)
+
+reading_fault : (words : List Text) (name : Text) (rows : List Row) → Found words name rows → HaveForms (λ id. first_of id rows) → LacksReading (λ id. first_of id rows)
+    → IsFaultOf words Reading
+reading_fault words name rows f have (word, named, none) = (
+  f.os,
+  f.given,
+  f.spells,
+  (form_stays words name rows f (codes "in-form") (inr (inl refl)) have.0, form_stays words name rows f (codes "out-form") (inr (inr refl)) have.1),
+  (word, sym (row_is words name rows f (codes "binary") (reading_of name f.os f.known)) ∙ named, none),
+)
+
+-- what an option names that is none is a fault of the words
+pub option_fault : (words : List Text) (name : Text) (rows : List Row) (fault : LineFault) → Found words name rows → IsFaultIn (λ id. first_of id rows) fault
     → (fault ≡ Memory) ⊎ IsFaultOf words fault
-form_fault words name rows fault f is (option, form, (letter, named, none)) =
-    let forms = each_found HasForms commands name f.os (
-      by_name convert_options refl refl refl,
-      (
-        by_name check_options refl refl refl,
-        (
-          by_name layout_options refl refl refl,
-          (by_name show_options refl refl refl, tt),
-        ),
-      ),
-    ) f.known in
-    let look = sym (look_is f.os f.given option (forms option form)) ∙ (ap (first_of option) (sym f.same) ∙ named) in
-    inr (subst (IsFaultOf words) (sym is) (f.os, f.given, f.spells, (option, form, (letter, look, none))))
+option_fault words name rows (Words error) f h = absurd h
+option_fault words name rows Form f h = inr (form_fault words name rows f h)
+option_fault words name rows Reading f h = inr (reading_fault words name rows f h.0 h.1)
+option_fault words name rows NotText f h = absurd h
+option_fault words name rows Memory f h = absurd h
 
 -- a parser's error is want of memory, or is told as a fault of the words
 by_kind : (k : ErrorKind) (error : Error) → (fault_by_kind k error ≡ Memory) ⊎ (fault_by_kind k error ≡ Words error)

@@ -6,6 +6,8 @@ use Rattle.clap.specs.Words.{IsAmong, Text, fault_of, kind_of}
 use Rattle.clap.specs.declared.error.Error.{Error}
 use Rattle.clap.specs.declared.error.kind.ErrorKind.{ErrorKind}
 use Rattle.clap.specs.declared.error.kind.ErrorKind.TheVariants as kind
+use Rattle.cob_codec.specs.declared.reading.Reading.{Reading}
+use Rattle.cob_codec.specs.declared.reading.Reading.TheVariants.{Pictured, Whole}
 use Rattle.cob_records.specs.declared.records.Form.{Form}
 use Rattle.cob_records.specs.declared.records.Form.TheVariants.{Fixed, Variable}
 use Rattle.cob_convert_line.specs.Options.{Alone, AreOptions, AreThere, Default, Given, Kind, Options, Request, Required, found_at, taken}
@@ -49,6 +51,16 @@ abbrev pub form_by_letter : Text → Option Form
 form_by_letter letter = if bytes_eq letter (codes "f") then Some Fixed
     else (if bytes_eq letter (codes "v") then Some Variable else None)
 
+-- the word of a reading of binary items
+abbrev pub word_of : Reading → Text
+word_of Pictured = codes "pictured"
+word_of Whole = codes "whole"
+
+-- the reading of a word
+abbrev pub reading_by_word : Text → Option Reading
+reading_by_word word = if bytes_eq word (codes "pictured") then Some Pictured
+    else (if bytes_eq word (codes "whole") then Some Whole else None)
+
 -- what options name, by the name of each
 abbrev pub Look : Type 0
 Look = Text → Option Text
@@ -57,7 +69,7 @@ Look = Text → Option Text
 abbrev pub is_flagged : Text → Look → Bool
 is_flagged name look = option_map_or (λ value. bytes_eq value (codes "true")) (look name) false
 
--- The options of `convert` name the line's files, its forms and its flags.
+-- The options of `convert` name the line's files, its forms, its reading and its flags.
 pub record IsConvert (look : Look) (line : ConvertLine) : Type 0 where
   pub in_book : look (codes "in-book") ≡ Some line.in_book.now
   pub out_book : look (codes "out-book") ≡ Some line.out_book.now
@@ -66,6 +78,7 @@ pub record IsConvert (look : Look) (line : ConvertLine) : Type 0 where
   pub output : look (codes "out") ≡ Some line.output.now
   pub in_form : look (codes "in-form") ≡ Some (letter_of line.in_form)
   pub out_form : look (codes "out-form") ≡ Some (letter_of line.out_form)
+  pub reading : look (codes "binary") ≡ Some (word_of line.reading)
   pub atomic : is_flagged (codes "atomic") look ≡ line.atomic
   pub progress : is_flagged (codes "progress") look ≡ line.progress
 
@@ -102,7 +115,7 @@ check_options = (codes "in-book", Required) ∷ (codes "out-book", Required) ∷
 abbrev pub convert_options : Options
 convert_options = (codes "in-book", Required) ∷ (codes "out-book", Required) ∷ (codes "moves", Required) ∷ (codes "in", Required) ∷ (codes "out", Required)
     ∷ (codes "in-form", Default (codes "f")) ∷ (codes "out-form", Default (codes "f"))
-    ∷ (codes "atomic", Alone) ∷ (codes "progress", Alone) ∷ (codes "help", Request) ∷ []
+    ∷ (codes "binary", Default (codes "pictured")) ∷ (codes "atomic", Alone) ∷ (codes "progress", Alone) ∷ (codes "help", Request) ∷ []
 
 -- the option of `layout`
 abbrev pub layout_options : Options
@@ -140,11 +153,29 @@ LacksForm look name = (letter : Text) × (look name ≡ Some letter) × (form_by
 abbrev pub LacksAForm : Look → Type 0
 LacksAForm look = (name : Text) × IsFormName name × LacksForm look name
 
+-- the options for the two forms of `convert` have letters of forms
+abbrev pub HaveForms : Look → Type 0
+HaveForms look = (LacksForm look (codes "in-form") → ⊥) × (LacksForm look (codes "out-form") → ⊥)
+
+-- the option for the reading of binary items has a word that is none of a reading
+abbrev pub LacksReading : Look → Type 0
+LacksReading look = (word : Text) × (look (codes "binary") ≡ Some word) × (reading_by_word word ≡ None)
+
+-- an option names what is none: a form, or where the forms are some, a reading
+abbrev pub IsFaultIn : Look → LineFault → Type 0
+IsFaultIn look (fault.Words error) = ⊥
+IsFaultIn look fault.Form = LacksAForm look
+IsFaultIn look fault.Reading = HaveForms look × LacksReading look
+IsFaultIn look fault.NotText = ⊥
+IsFaultIn look fault.Memory = ⊥
+
 -- The fault of words that are no command line, by the first rule that they break: they spell no command with its options, and the parser says
--- what they are in place of that; or an option has a letter that is none of a form.
+-- what they are in place of that; or an option has a letter that is none of a form; or a word that is none of a reading.
 abbrev pub IsFaultOf : List Text → LineFault → Type 0
 IsFaultOf words (fault.Words error) = ((options : Options) (given : Given) → Spells words options given → ⊥) × IsAmong (kind_of error) (fault_of program_app words)
 IsFaultOf words fault.Form = (options : Options) × (given : Given) × Spells words options given × LacksAForm (taken options given)
+IsFaultOf words fault.Reading = (options : Options) × (given : Given) × Spells words options given
+    × HaveForms (taken options given) × LacksReading (taken options given)
 IsFaultOf words fault.NotText = ⊥
 IsFaultOf words fault.Memory = ⊥
 

@@ -17,6 +17,9 @@ pub enum LineFault {
     /// A form of records that is neither f nor v.
     #[error("bad form")]
     Form,
+    /// A reading of binary items that is neither pictured nor whole.
+    #[error("bad reading")]
+    Reading,
     /// A word is no text in UTF-8, so that no option can take it.
     #[error("a word is not text in UTF-8")]
     NotText,
@@ -51,7 +54,7 @@ impl LineFault {
     {
         match self {
             LineFault::Words(error) => !error.use_stderr(),
-            LineFault::Form | LineFault::NotText | LineFault::Memory => false,
+            LineFault::Form | LineFault::Reading | LineFault::NotText | LineFault::Memory => false,
         }
     }
 

@@ -1,3 +1,4 @@
+use cob_codec::Reading;
 use cob_records::Form;
 
 /// What the words ask for.
@@ -32,6 +33,8 @@ pub struct ConvertLine<'a> {
     pub in_form: Form,
     /// How the records of the output stand.
     pub out_form: Form,
+    /// How binary items are read that are sent.
+    pub reading: Reading,
     /// Whether the output is put in its place only when all is converted.
     pub atomic: bool,
     /// Whether it tells on standard error how far it is.

@@ -1,12 +1,16 @@
 ghost use Rattle.std.specs.Prelude.{◌≡◌, IfOk, codes, false};
 ghost use Rattle.clap.specs.Words.{app_of, new_app, rule_of};
-ghost use Rattle.cob_convert_line.specs.Program.{alone_rule, check_app, convert_app, form_rule, layout_app, program_app, required_rule, show_app, with_texts_app};
+ghost use Rattle.cob_convert_line.specs.Program.{alone_rule, check_app, convert_app, form_rule, layout_app, program_app, reading_rule, required_rule, show_app, with_texts_app};
 
 use clap::{Arg, ArgAction, Command};
 use std::alloc::{AllocError, Global};
 
 /// What `--version` prints after the program's name: its version, and the toolchain that proved and built it.
 const VERSION: &str = "1.0.0\nrattle-kit-13f logic dac8208d650f15bf";
+
+// What `--binary` names.
+const BINARY_HELP: &str =
+    "How binary senders are read: pictured, as far as the\ndigits of their picture hold them, or whole, as the\nnumber of all their bytes";
 
 // What `--atomic` and `--progress` do.
 const ATOMIC_HELP: &str = "Write OUT.part first, and rename it when all is done";
@@ -86,6 +90,18 @@ fn form<'a>(alloc: Global, name: &'a str, help: &'a str) -> Arg<'a>
         .help(help)
 }
 
+// The option that names a reading of binary items.
+fn reading<'a>(alloc: Global, name: &'a str, help: &'a str) -> Arg<'a>
+    ensures rule { rule_of result ≡ reading_rule name.entry.now }
+    ensures local { result.global ≡ false }
+{
+    Arg::new(alloc, name)
+        .long(name)
+        .value_name("READING")
+        .default_value("pictured")
+        .help(help)
+}
+
 // An option that stands alone.
 fn alone<'a>(alloc: Global, name: &'a str, help: &'a str) -> Arg<'a>
     ensures rule { rule_of result ≡ alone_rule name.entry.now }
@@ -138,6 +154,7 @@ fn convert<'a>(alloc: Global) -> Result<Command<'a>, AllocError>
             "How the input's records stand: f of fixed length,\nv with a descriptor word before each",
         ))?
         .arg(form(alloc, "out-form", "How the output's records stand: f or v"))?
+        .arg(reading(alloc, "binary", BINARY_HELP))?
         .arg(alone(alloc, "atomic", ATOMIC_HELP))?
         .arg(alone(alloc, "progress", PROGRESS_HELP))
 }

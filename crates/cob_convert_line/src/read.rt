@@ -1,12 +1,13 @@
-ghost use Rattle.std.specs.Prelude.{◌≡◌, ◌⊎◌, IfErr, IfOk, Some, is_some, map, true};
+ghost use Rattle.std.specs.Prelude.{◌≡◌, ◌⊎◌, IfErr, IfOk, Some, codes, is_some, map, true};
 ghost use Rattle.clap.specs.Words.{first_of, found_of, rows_of};
-ghost use Rattle.cob_convert_line.specs.Lines.{AreNamed, IsCheck, IsCommand, IsCommandLineOf, IsComplete, IsConvert, IsFaultOf, IsLayout, IsShow, LacksAForm, LacksForm, check_options, convert_options, form_by_letter, is_flagged, layout_options, letter_of, show_options};
+ghost use Rattle.cob_convert_line.specs.Lines.{AreNamed, IsCheck, IsCommand, IsCommandLineOf, IsComplete, IsConvert, IsFaultIn, IsFaultOf, IsLayout, IsShow, LacksForm, LacksReading, check_options, convert_options, form_by_letter, is_flagged, layout_options, letter_of, reading_by_word, show_options, word_of};
 ghost use Rattle.cob_convert_line.specs.declared.fault.LineFault.TheVariants.{Memory};
 
 use crate::fault::LineFault;
 use crate::line::{CheckLine, ConvertLine, LayoutLine, Line, ShowLine};
 use crate::program::program;
 use clap::ArgMatches;
+use cob_codec::Reading;
 use cob_records::Form;
 use std::alloc::Global;
 use std::convert::AsStr;
@@ -18,6 +19,17 @@ fn form_named(letter: &str) -> Option<Form>
     match letter {
         "f" => Some(Form::Fixed),
         "v" => Some(Form::Variable),
+        _ => None,
+    }
+}
+
+// The reading that a word names.
+fn reading_named(word: &str) -> Option<Reading>
+    ensures { result ≡ reading_by_word word.now }
+{
+    match word {
+        "pictured" => Some(Reading::Pictured),
+        "whole" => Some(Reading::Whole),
         _ => None,
     }
 }
@@ -43,6 +55,19 @@ fn form(options: &ArgMatches<'_>, name: &str) -> Result<Form, LineFault>
     form_named(named(options, name)).ok_or(LineFault::Form)
 }
 
+// The reading of binary items that its option names, which has a value.
+fn reading(options: &ArgMatches<'_>) -> Result<Reading, LineFault>
+    requires { is_some (first_of (codes "binary") (rows_of (found_of options.now))) ≡ true }
+    ensures named { IfOk result (λ reading.
+        first_of (codes "binary") (rows_of (found_of options.now)) ≡ Some (word_of reading)) }
+    ensures lacks { IfErr result (λ _. (reading : Reading)
+        → first_of (codes "binary") (rows_of (found_of options.now)) ≡ Some (word_of reading) → ⊥) }
+    ensures fault { IfErr result (λ fault. (fault ≡ LineFault.Reading)
+        × LacksReading (λ id. first_of id (rows_of (found_of options.now)))) }
+{
+    reading_named(named(options, "binary")).ok_or(LineFault::Reading)
+}
+
 // Whether a flag was given.
 fn flag(options: &ArgMatches<'_>, name: &str) -> bool
     ensures { result ≡ is_flagged name.now (λ id. first_of id (rows_of (found_of options.now))) }
@@ -58,8 +83,8 @@ fn convert_line<'a>(options: &ArgMatches<'a>) -> Result<ConvertLine<'a>, LineFau
     ensures options { IfOk result (IsConvert (λ id. first_of id (rows_of (found_of options.now)))) }
     ensures lacks { IfErr result (λ _. (line : ConvertLine)
         → IsConvert (λ id. first_of id (rows_of (found_of options.now))) line → ⊥) }
-    ensures fault { IfErr result (λ fault. (fault ≡ LineFault.Form)
-        × LacksAForm (λ id. first_of id (rows_of (found_of options.now)))) }
+    ensures fault { IfErr result
+        (IsFaultIn (λ id. first_of id (rows_of (found_of options.now)))) }
 {
     Ok(ConvertLine {
         in_book: named(options, "in-book"),
@@ -69,6 +94,7 @@ fn convert_line<'a>(options: &ArgMatches<'a>) -> Result<ConvertLine<'a>, LineFau
         output: named(options, "out"),
         in_form: form(options, "in-form")?,
         out_form: form(options, "out-form")?,
+        reading: reading(options)?,
         atomic: flag(options, "atomic"),
         progress: flag(options, "progress"),
     })
@@ -99,8 +125,8 @@ fn show_line<'a>(options: &ArgMatches<'a>) -> Result<ShowLine<'a>, LineFault>
     ensures options { IfOk result (IsShow (λ id. first_of id (rows_of (found_of options.now)))) }
     ensures lacks { IfErr result (λ _. (line : ShowLine)
         → IsShow (λ id. first_of id (rows_of (found_of options.now))) line → ⊥) }
-    ensures fault { IfErr result (λ fault. (fault ≡ LineFault.Form)
-        × LacksAForm (λ id. first_of id (rows_of (found_of options.now)))) }
+    ensures fault { IfErr result
+        (IsFaultIn (λ id. first_of id (rows_of (found_of options.now)))) }
 {
     Ok(ShowLine {
         book: named(options, "book"),
@@ -117,8 +143,8 @@ fn command_line<'a>(name: &str, options: &ArgMatches<'a>) -> Result<Line<'a>, Li
         (λ id. first_of id (rows_of (found_of options.now)))) }
     ensures lacks { IfErr result (λ _. (line : Line)
         → IsCommand name.now (λ id. first_of id (rows_of (found_of options.now))) line → ⊥) }
-    ensures fault { IfErr result (λ fault. (fault ≡ LineFault.Form)
-        × LacksAForm (λ id. first_of id (rows_of (found_of options.now)))) }
+    ensures fault { IfErr result
+        (IsFaultIn (λ id. first_of id (rows_of (found_of options.now)))) }
 {
     match name {
         "convert" => Ok(Line::Convert(convert_line(options)?)),
@@ -134,7 +160,7 @@ fn command_line<'a>(name: &str, options: &ArgMatches<'a>) -> Result<Line<'a>, Li
 /// # Errors
 ///
 /// [`LineFault::Words`] where the words are wrong or ask for help or the version, [`LineFault::Form`] where an option for a form names neither
-/// f nor v, [`LineFault::Memory`].
+/// f nor v, [`LineFault::Reading`] where the one for binary items names neither reading and the forms are some, [`LineFault::Memory`].
 pub fn line_of<'a, S: AsStr>(alloc: Global, words: &'a [S]) -> Result<Line<'a>, LineFault>
     ensures options { IfOk result (IsCommandLineOf (map S.text words.entry.now)) }
     ensures refused { IfErr result (λ fault. (fault ≡ Memory)

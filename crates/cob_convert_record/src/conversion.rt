@@ -8,6 +8,7 @@ ghost use Rattle.cob_stream.specs.Output.{IsOutputOf};
 ghost use Rattle.cob_convert_record.specs.Becoming.{IsCountStop};
 
 use crate::room::Room;
+use cob_codec::Reading;
 use cob_move_apply::{Book, Counts, Layout, Moves, Side, Stop, StopCause};
 use cob_move_initial::initial;
 use cob_records::{Form, Source};
@@ -80,7 +81,7 @@ impl Conversion {
     ghost use Rattle.cob_move_apply.specs.Prepared.{ArePrepared, most_moves_told, moves_of, single_moves};
     ghost use Rattle.cob_layout.specs.Storage.{IsStorage};
     ghost use Rattle.cob_move_initial.specs.Initial.{IsInitial};
-    ghost use Rattle.cob_convert_record.specs.Conversion.{in_length, out_length};
+    ghost use Rattle.cob_convert_record.specs.Conversion.{conversion_by, in_length, out_length};
     ghost use Rattle.cob_records.specs.Device.{Told, counted};
     ghost use Rattle.cob_stream.specs.Input.{IsJudged, ReadsRecord};
     ghost use Rattle.cob_stream.specs.Reasons.{IsInputReason, is_read_cause, is_refused_for};
@@ -121,6 +122,20 @@ impl Conversion {
             moves,
             image,
         })
+    }
+
+    /// The same conversion, with the binary senders of its moves read so. It takes no memory.
+    pub fn with_reading(self, reading: Reading) -> Conversion
+        ensures { result ≡ conversion_by reading self }
+    {
+        Conversion {
+            in_form: self.in_form,
+            out_form: self.out_form,
+            input: self.input,
+            output: self.output,
+            moves: self.moves.with_reading(reading),
+            image: self.image,
+        }
     }
 
     /// The form in which records come.

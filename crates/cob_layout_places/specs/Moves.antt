@@ -1,6 +1,8 @@
 -- Moves between two records.
 use Rattle.std.specs.Prelude.{◌≡◌, ℕ, List, [], ◌∷◌, map, Option, Some, None}
 use Rattle.std.specs.List.{AllByRecursion, flat_map}
+use Rattle.cob_codec.specs.declared.reading.Reading.{Reading}
+use Rattle.cob_codec.specs.declared.reading.Reading.TheVariants.{Pictured}
 use Rattle.cob_entry.specs.Described.{PlainValue, plain_value}
 use Rattle.cob_copybook_tree.specs.declared.node.Kind.{Kind}
 use Rattle.cob_copybook_tree.specs.declared.node.Kind.TheVariants.{Group}
@@ -20,9 +22,9 @@ use Rattle.cob_layout_places.specs.declared.operands.PairMoves.{PairMoves}
 use Rattle.cob_layout_places.specs.declared.operands.StatementMoves.{StatementMoves}
 use Rattle.cob_layout_places.specs.declared.operands.StatementMoves.TheVariants.{Single, Pairs}
 
--- what is moved: an entry of one of the records, or a literal or figurative constant
+-- what is moved: an entry of one of the records, and how it is read where it is a binary item; or a literal or figurative constant
 pub data Sender : Type 0 where
-  Entry : Side → Operand → Sender
+  Entry : Side → Reading → Operand → Sender
   Literal : PlainValue → Sender
 
 -- a sender and its receivers, which are entries of the output record
@@ -49,34 +51,63 @@ or_group (Some kind) = kind
 abbrev pub operand_in : Forest Resolved → Ref → Operand
 operand_in tree r = record { entry = r; kind = or_group (kind_in r.node tree) }
 
--- what the code's value stands for between two records
+-- what the code's value stands for between two records, its binary item read so
+abbrev pub sender_by : Reading → Records → code.Sender → Sender
+sender_by reading records (code_sender.Entry side entry) = Entry side reading (operand_in (record_of records side) entry)
+sender_by reading records (code_sender.Constant value) = Literal (plain_value value)
+
+-- the same, read as its picture says
 abbrev pub sender : Records → code.Sender → Sender
-sender records (code_sender.Entry side entry) = Entry side (operand_in (record_of records side) entry)
-sender records (code_sender.Constant value) = Literal (plain_value value)
+sender records s = sender_by Pictured records s
 
 -- the same of a move of the code
+abbrev pub move_by : Reading → Records → code_move.Move → Move
+move_by reading records m = record { sender = sender_by reading records m.sender; receivers = map (operand_in records.output) m.receivers.items }
+
+-- the same, read as its picture says
 abbrev pub move : Records → code_move.Move → Move
-move records m = record { sender = sender records m.sender; receivers = map (operand_in records.output) m.receivers.items }
+move records m = move_by Pictured records m
 
 -- the entry with this number, with the subscripts of a group
 abbrev pub entry_below : Ref → ℕ → Ref
 entry_below group number = record { node = number; subscripts = group.subscripts }
 
--- the move of a pair of two groups, by the numbers of its entries
-abbrev pub numbered_move : Records → PairMoves → NumberedPair → Move
-numbered_move records g p = record {
-  sender = Entry g.side (operand_in (record_of records g.side) (entry_below g.from p.from));
+-- the move of a pair of two groups, by the numbers of its entries, its sender read so
+abbrev pub numbered_move_by : Reading → Records → PairMoves → NumberedPair → Move
+numbered_move_by reading records g p = record {
+  sender = Entry g.side reading (operand_in (record_of records g.side) (entry_below g.from p.from));
   receivers = operand_in records.output (entry_below g.to p.to) ∷ [];
 }
 
--- the moves of one statement
-abbrev pub statement_moves : Records → StatementMoves → List Move
-statement_moves records (Single m) = move records m ∷ []
-statement_moves records (Pairs g) = map (numbered_move records g) g.pairs.items
+-- the same, read as its picture says
+abbrev pub numbered_move : Records → PairMoves → NumberedPair → Move
+numbered_move records g p = numbered_move_by Pictured records g p
 
--- the moves of statements, one statement's behind another's
+-- the moves of one statement, their senders read so
+abbrev pub statement_moves_by : Reading → Records → StatementMoves → List Move
+statement_moves_by reading records (Single m) = move_by reading records m ∷ []
+statement_moves_by reading records (Pairs g) = map (numbered_move_by reading records g) g.pairs.items
+
+-- the same, read as their pictures say
+abbrev pub statement_moves : Records → StatementMoves → List Move
+statement_moves records s = statement_moves_by Pictured records s
+
+-- the moves of statements, one statement's behind another's, their senders read so
+abbrev pub moves_by : Reading → Records → List StatementMoves → List Move
+moves_by reading records ss = flat_map (statement_moves_by reading records) ss
+
+-- the same, read as their pictures say, which is what the text of a paragraph means
 abbrev pub moves : Records → List StatementMoves → List Move
-moves records ss = flat_map (statement_moves records) ss
+moves records ss = moves_by Pictured records ss
+
+-- the sender, its binary item read so
+abbrev pub sent_by : Reading → Sender → Sender
+sent_by reading (Entry side other o) = Entry side reading o
+sent_by reading (Literal c) = Literal c
+
+-- the same move, its sender read so
+abbrev pub read_by : Reading → Move → Move
+read_by reading m = record { sender = sent_by reading m.sender; receivers = m.receivers }
 
 -- an operand refers to an entry of the record, with a subscript for each of its tables, and is of the kind that the record says
 pub record IsOperand (tree : Forest Resolved) (o : Operand) : Type 0 where
@@ -85,7 +116,7 @@ pub record IsOperand (tree : Forest Resolved) (o : Operand) : Type 0 where
 
 -- a sender is an operand of its side's record, or a constant
 abbrev pub IsSender : Records → Sender → Type 0
-IsSender records (Entry side o) = IsOperand (record_of records side) o
+IsSender records (Entry side reading o) = IsOperand (record_of records side) o
 IsSender records (Literal c) = Unit {0}
 
 -- sender and receivers of a move are operands of their records

@@ -2,6 +2,7 @@
 use Rattle.std.proofs.Common.{◌≡◌, ℕ, ◌+◌, ◌<◌, Bool, true, false, List, [], ◌∷◌, ◌++◌, length, get_or, map, drop, refl, sym, ap, subst, ◌∙◌, inl, inr, ◌⊎◌, append_assoc}
 use Rattle.std.specs.List.{AllByRecursion}
 use Rattle.std.specs.Prelude.{◌||◌}
+use Rattle.cob_codec.specs.declared.reading.Reading.TheVariants.{Pictured}
 use Rattle.cob_copybook_tree.specs.Forests.{Forest}
 use Rattle.cob_copybook_tree.specs.Nodes.{Resolved}
 use Rattle.cob_layout_places.specs.declared.operands.Side.{Side}
@@ -96,7 +97,7 @@ same_move r v g p side from to is =
     ∙ ap (λ (x : Operand). moved g.side (operand_below g.from p.from) x) received
   where
     moved : Side → Operand → Operand → Move
-    moved s a b = record { sender = Entry s a; receivers = b ∷ [] }
+    moved s a b = record { sender = Entry s Pictured a; receivers = b ∷ [] }
 
 pub same_moves : (r : Records) (v : PairMoves) (g : TwoGroups) (ps : List Pair) → v.side ≡ g.side → v.from ≡ g.from.entry → v.to ≡ g.to.entry
     → AreMoves r (map (pair_move g) ps) → map (numbered_move r v) (map numbered ps) ≡ map (pair_move g) ps

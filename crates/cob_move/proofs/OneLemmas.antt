@@ -1,5 +1,6 @@
 -- A statement has one meaning at most.
 use Rattle.std.proofs.Common.{◌≡◌, List, [], ◌∷◌, ◌++◌, map, sym, ap, ◌∙◌}
+use Rattle.cob_codec.specs.declared.reading.Reading.TheVariants.{Pictured}
 use Rattle.cob_entry.specs.Described.{PlainValue}
 use Rattle.cob_move_apply.proofs.EntryOneList.{one_constant}
 use Rattle.cob_layout_places.specs.declared.operands.Side.{Side}
@@ -16,7 +17,7 @@ use Rattle.cob_move.specs.MeaningLaws.{OneMeaning, OneMeant}
 pub one_sender : OneNamed → (all : List Candidate) (s : WrittenSender) (m n : Sender) → IsSenderOf all s m → IsSenderOf all s n → m ≡ n
 one_sender law all (SentReference r) m n (s, o, h, e) (t, p, k, f) =
     let same : (s ≡ t) × (o ≡ p) = law all r s t o p h k in
-    e ∙ ap (λ (x : Side). Entry x o) same.0 ∙ ap (λ (x : Operand). Entry t x) same.1 ∙ sym f
+    e ∙ ap (λ (x : Side). Entry x Pictured o) same.0 ∙ ap (λ (x : Operand). Entry t Pictured x) same.1 ∙ sym f
 one_sender law all (SentConstant w) m n (c, h, e) (d, k, f) = e ∙ ap (λ (x : PlainValue). Literal x) (one_constant w c d h k) ∙ sym f
 
 one_receivers : OneNamed → (all : List Candidate) (ws : List WrittenReference) (os ps : List Operand) → AreReceiversOf all ws os → AreReceiversOf all ws ps → os ≡ ps

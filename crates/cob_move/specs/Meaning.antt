@@ -1,6 +1,7 @@
 -- What a statement means between two records: its moves.
 use Rattle.std.specs.Prelude.{◌≡◌, ◌||◌, false, List, [], ◌∷◌, ◌++◌, map}
 use Rattle.std.specs.List.{AllByRecursion}
+use Rattle.cob_codec.specs.declared.reading.Reading.TheVariants.{Pictured}
 use Rattle.cob_entry.specs.Described.{PlainValue}
 use Rattle.cob_copybook_entries.specs.Meaning.{IsConstantOf}
 use Rattle.cob_copybook_tree.specs.Forests.{Forest}
@@ -21,12 +22,12 @@ use Rattle.cob_move_pairs.specs.Pairs.{AreOnce, Pair, is_elementary}
 
 -- What the table of categories asks of a sender: what its entry describes, or its constant.
 abbrev pub kind_of_sender : Sender → SenderKind
-kind_of_sender (Entry side o) = EntryOf o.kind
+kind_of_sender (Entry side reading o) = EntryOf o.kind
 kind_of_sender (Literal c) = LiteralOf c
 
--- A sender means the operand that its reference names, or the constant that its literal means.
+-- A sender means the operand that its reference names, read as its picture says, or the constant that its literal means.
 abbrev pub IsSenderOf : List Candidate → WrittenSender → Sender → Type 0
-IsSenderOf all (SentReference r) s = (side : Side) × (o : Operand) × NamesOperand all r side o × (s ≡ Entry side o)
+IsSenderOf all (SentReference r) s = (side : Side) × (o : Operand) × NamesOperand all r side o × (s ≡ Entry side Pictured o)
 IsSenderOf all (SentConstant w) s = (c : PlainValue) × IsConstantOf w c × (s ≡ Literal c)
 
 -- Receivers mean the operands of the output record that their references name, in the order in which they are written.
@@ -57,7 +58,7 @@ pairs_of input output g =
 
 -- The move of a pair: its entries have the subscripts of the groups.
 abbrev pub pair_move : TwoGroups → Pair → Move
-pair_move g p = record { sender = Entry g.side (operand_below g.from p.from); receivers = operand_below g.to p.to ∷ [] }
+pair_move g p = record { sender = Entry g.side Pictured (operand_below g.from p.from); receivers = operand_below g.to p.to ∷ [] }
 
 -- MOVE CORRESPONDING means one move for each pair of its groups, in the order of the sending group: no entry is in two pairs, and each move is allowed.
 pub record AreMovesOf (all : List Candidate) (input output : Forest Resolved) (from to : WrittenReference) (ms : List Move) : Type 0 where

@@ -8,7 +8,8 @@
 //!   moves, in their order. They are ready for these records (`ready`). A text that is a paragraph is read, memory aside
 //!   (`only`), and a refusal names a rule that is broken, with its line (`fault`; `IsRefusalOf`): by the text, by its words, or by one of its
 //!   statements. A text says its moves in one way ([`one_paragraph`]), and then breaks no rule ([`paragraph_breaks_no_rule`]).
-//! - [`Paragraph::moves`] counts single moves, each of a sender to one of its receivers.
+//! - [`Paragraph::with_reading`] are the same moves with their binary senders read otherwise (`read_by` of cob_layout_places); a text means them
+//!   read as their pictures say. [`Paragraph::moves`] counts single moves, each of a sender to one of its receivers.
 //! - [`apply`] carries the moves out on one record (`applied`; `Applied` of cob_move_apply), and [`pairs`] answers the pairs of CORRESPONDING.
 //! - [`initial`], the storage of a record before the first move, is that of cob_move_initial, with its law [`one_initial`].
 //!
@@ -45,7 +46,7 @@ mod single;
 
 pub use cob_move_apply::{
     Book, BookFault, BookRule, CountFault, Counts, Figurative, Layout, Node, Place, PlaceFault,
-    Ref, Role, Scratch, Stop, StopCause, Text, Value, field, field_mut, tables, times_of,
+    Reading, Ref, Role, Scratch, Stop, StopCause, Text, Value, field, field_mut, tables, times_of,
 };
 pub use cob_move_initial::{initial, one_initial, write_group};
 pub use cob_move_pairs::pairs;

@@ -6,14 +6,14 @@ ghost use Rattle.cob_layout.specs.Storage.{IsStorage, greatest_length};
 ghost use Rattle.cob_move_apply.specs.Applied.{Applied, ending};
 ghost use Rattle.cob_move_apply.specs.Told.{most_moves_told, single_moves};
 ghost use Rattle.cob_move_apply.specs.Room.{room_of};
-ghost use Rattle.cob_layout_places.specs.Moves.{Move as Meant, Records, moves};
+ghost use Rattle.cob_layout_places.specs.Moves.{Move as Meant, Records, moves, read_by};
 ghost use Rattle.cob_move_statements.specs.declared.fault.MoveRule.TheVariants.{Memory};
 ghost use Rattle.cob_move.specs.Paragraphs.{IsParagraphOf, IsReadyFor, IsRefusalOf, moves_in};
 
 use crate::laws::{one_paragraph, paragraph_breaks_no_rule};
 use crate::meaning::all_meant;
 use crate::meaning_laws::meant_are_moves;
-use cob_move_apply::{Layout, Moves, Scratch, StatementMoves, Stop};
+use cob_move_apply::{Layout, Moves, Reading, Scratch, StatementMoves, Stop};
 use cob_move_statements::{MoveFault, statements};
 use cob_source::paragraph_tokens;
 use std::alloc::Global;
@@ -80,6 +80,18 @@ impl Paragraph {
         let meant = meant_moves(alloc, input, output, text)?;
         let moves = Moves::new(alloc, meant, input, output)?;
         Ok(Paragraph { moves })
+    }
+
+    /// The same paragraph, with its binary senders read so: a paragraph that is read from a text reads them as their pictures say. It takes no
+    /// memory.
+    pub fn with_reading(self, reading: Reading) -> Paragraph
+        ensures moves { (r : Records)
+            → moves_in r result ≡ map (read_by reading) (moves_in r self) }
+        ensures ready { (r : Records) → IsReadyFor r self → IsReadyFor r result }
+    {
+        Paragraph {
+            moves: self.moves.with_reading(reading),
+        }
     }
 
     /// The number of single moves, each of a sender to one of its receivers. More than a u32 holds come as the greatest u32.

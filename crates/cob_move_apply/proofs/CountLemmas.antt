@@ -1,11 +1,12 @@
 -- How many operands and how many single moves there are.
 use Rattle.std.proofs.Common.{◌≡◌, ℕ, ◌+◌, ◌*◌, ◌<◌, ◌≤◌, List, [], ◌∷◌, ◌++◌, length, get_or, drop, map, min, refl, sym, ap, ◌∙◌, arith}
 use Rattle.std.proofs.lemmas.List.{length-map}
+use Rattle.cob_codec.specs.declared.reading.Reading.{Reading}
 use Rattle.cob_layout_places.specs.declared.operands.Move as code_move
 use Rattle.cob_layout_places.specs.declared.operands.PairMoves.{PairMoves}
 use Rattle.cob_layout_places.specs.declared.operands.StatementMoves.{StatementMoves}
 use Rattle.cob_layout_places.specs.declared.operands.NumberedPair.{NumberedPair}
-use Rattle.cob_layout_places.specs.Moves.{Move, Records, move, moves, numbered_move, operand_in, statement_moves}
+use Rattle.cob_layout_places.specs.Moves.{Move, Records, move, move_by, moves_by, numbered_move, numbered_move_by, operand_in, statement_moves_by}
 use Rattle.cob_move_apply.specs.Placed.{operands}
 use Rattle.cob_move_apply.specs.Told.{single_moves}
 use Rattle.cob_move_apply.proofs.StatementLemmas.{cut_statement, none_left}
@@ -19,12 +20,12 @@ pub pairs_operands : (r : Records) (g : PairMoves) (ps : List NumberedPair) → 
 pairs_operands r g [] = refl
 pairs_operands r g (p ∷ ps) = omega (arith, pairs_operands r g ps)
 
-pub single_alone : (r : Records) (m : code_move.Move) → single_moves (move r m ∷ []) ≡ length m.receivers.items
-single_alone r m = omega (arith, length-map m.receivers.items (operand_in r.output))
+pub single_alone : (x : Reading) (r : Records) (m : code_move.Move) → single_moves (move_by x r m ∷ []) ≡ length m.receivers.items
+single_alone x r m = omega (arith, length-map m.receivers.items (operand_in r.output))
 
-pub pairs_alone : (r : Records) (g : PairMoves) (ps : List NumberedPair) → single_moves (map (numbered_move r g) ps) ≡ length ps
-pairs_alone r g [] = refl
-pairs_alone r g (p ∷ ps) = omega (arith, pairs_alone r g ps)
+pub pairs_alone : (x : Reading) (r : Records) (g : PairMoves) (ps : List NumberedPair) → single_moves (map (numbered_move_by x r g) ps) ≡ length ps
+pairs_alone x r g [] = refl
+pairs_alone x r g (p ∷ ps) = omega (arith, pairs_alone x r g ps)
 
 -- ---- of statements, one behind another
 
@@ -33,27 +34,27 @@ single_append [] ys = omega arith
 single_append (x ∷ xs) ys = omega (arith, single_append xs ys)
 
 -- the single moves of the statements from place i on
-abbrev pub from : Records → List StatementMoves → ℕ → ℕ
-from r ss i = single_moves (moves r (drop i ss))
+abbrev pub from : Reading → Records → List StatementMoves → ℕ → ℕ
+from x r ss i = single_moves (moves_by x r (drop i ss))
 
-from_next : (r : Records) (ss : List StatementMoves) (i : ℕ) (s : StatementMoves) → i < length ss → s ≡ get_or ss i s
-    → from r ss i ≡ single_moves (statement_moves r s) + from r ss (i + 1)
-from_next r ss i s lt is = ap single_moves (cut_statement r ss i s lt is) ∙ single_append (statement_moves r s) (moves r (drop (i + 1) ss))
+from_next : (x : Reading) (r : Records) (ss : List StatementMoves) (i : ℕ) (s : StatementMoves) → i < length ss → s ≡ get_or ss i s
+    → from x r ss i ≡ single_moves (statement_moves_by x r s) + from x r ss (i + 1)
+from_next x r ss i s lt is = ap single_moves (cut_statement x r ss i s lt is) ∙ single_append (statement_moves_by x r s) (moves_by x r (drop (i + 1) ss))
 
 past_greatest : (c n rest total most greatest : ℕ) → most ≤ greatest → min (c + (n + rest)) most ≡ min total most
     → min (min (c + n) greatest + rest) most ≡ min total most
 past_greatest c n rest total most greatest le h = omega (arith, le, h)
 
-pub counted_on : (r : Records) (ss : List StatementMoves) (i : ℕ) (s : StatementMoves) (c n new total most greatest : ℕ) → i < length ss → s ≡ get_or ss i s
-    → n ≡ single_moves (statement_moves r s) → most ≤ greatest → new ≡ min (c + n) greatest → min (c + from r ss i) most ≡ min total most
-    → min (new + from r ss (i + 1)) most ≡ min total most
-counted_on r ss i s c n new total most greatest lt is size le sum h =
-    ap (λ k. min (k + from r ss (i + 1)) most) sum
-    ∙ past_greatest c n (from r ss (i + 1)) total most greatest le
-    (ap (λ k. min (c + (k + from r ss (i + 1))) most) size ∙ sym (ap (λ k. min (c + k) most) (from_next r ss i s lt is)) ∙ h)
+pub counted_on : (x : Reading) (r : Records) (ss : List StatementMoves) (i : ℕ) (s : StatementMoves) (c n new total most greatest : ℕ) → i < length ss → s ≡ get_or ss i s
+    → n ≡ single_moves (statement_moves_by x r s) → most ≤ greatest → new ≡ min (c + n) greatest → min (c + from x r ss i) most ≡ min total most
+    → min (new + from x r ss (i + 1)) most ≡ min total most
+counted_on x r ss i s c n new total most greatest lt is size le sum h =
+    ap (λ k. min (k + from x r ss (i + 1)) most) sum
+    ∙ past_greatest c n (from x r ss (i + 1)) total most greatest le
+    (ap (λ k. min (c + (k + from x r ss (i + 1))) most) size ∙ sym (ap (λ k. min (c + k) most) (from_next x r ss i s lt is)) ∙ h)
 
-pub counted_all : (r : Records) (ss : List StatementMoves) (i c result total most : ℕ) → length ss ≤ i → result ≡ min c most → min (c + from r ss i) most ≡ min total most
+pub counted_all : (x : Reading) (r : Records) (ss : List StatementMoves) (i c result total most : ℕ) → length ss ≤ i → result ≡ min c most → min (c + from x r ss i) most ≡ min total most
     → result ≡ min total most
-counted_all r ss i c result total most past is h =
-    let none : from r ss i ≡ 0 = ap single_moves (none_left r ss i past) in
+counted_all x r ss i c result total most past is h =
+    let none : from x r ss i ≡ 0 = ap single_moves (none_left x r ss i past) in
     omega (arith, is, none, h)

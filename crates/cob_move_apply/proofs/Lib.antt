@@ -6,5 +6,6 @@ pub mod OneLemmas
 pub mod StatementLemmas
 pub mod SeenLemmas
 pub mod CountLemmas
+pub mod ReadingLemmas
 pub use Rattle.cob_layout.proofs.EntryNoRule
 pub use Rattle.cob_layout.proofs.EntryOneList

@@ -1,6 +1,7 @@
 -- Moves end in one way.
 use Rattle.std.proofs.Common.{◌≡◌, ℕ, Bool, true, false, List, [], ◌∷◌, sym, ap, subst, ◌∙◌, inl, inr, Ok, Err, Some, None, Result}
 use Rattle.std.specs.Prelude.{option_map}
+use Rattle.cob_codec.specs.declared.reading.Reading.{Reading}
 use Rattle.cob_copybook_tree.specs.Forests.{Forest}
 use Rattle.cob_copybook_tree.specs.Nodes.{Resolved}
 use Rattle.cob_layout.specs.declared.fields.Place.{Place}
@@ -72,16 +73,17 @@ one_stop law side t receiving o bytes p q (inr (c, f, n, at, x)) (inr (d, g, m, 
 
 -- ---- the sender
 
-one_taken : OneOfNeeded → (side : Side) (t : Forest Resolved) (o : Operand) (bytes : List ℕ) (a b : Result Content Stop) → EntryGives side t o bytes a → EntryGives side t o bytes b → a ≡ b
-one_taken law side t o bytes (Ok a) (Ok b) (p, x, e) (q, y, f) =
+one_taken : OneOfNeeded → (side : Side) (r : Reading) (t : Forest Resolved) (o : Operand) (bytes : List ℕ) (a b : Result Content Stop)
+    → EntryGives side r t o bytes a → EntryGives side r t o bytes b → a ≡ b
+one_taken law side r t o bytes (Ok a) (Ok b) (p, x, e) (q, y, f) =
     let same : p ≡ q = one_place law side t false o bytes p q x y in
-    ap (λ k. Ok k) (e ∙ ap (content_at side o bytes) same ∙ sym f)
-one_taken law side t o bytes (Ok a) (Err b) (p, x, e) y = absurd (not_both law side t false o bytes p b x y)
-one_taken law side t o bytes (Err a) (Ok b) x (q, y, f) = absurd (not_both law side t false o bytes q a y x)
-one_taken law side t o bytes (Err a) (Err b) x y = ap (λ k. Err k) (one_stop law side t false o bytes a b x y)
+    ap (λ k. Ok k) (e ∙ ap (content_at side r o bytes) same ∙ sym f)
+one_taken law side r t o bytes (Ok a) (Err b) (p, x, e) y = absurd (not_both law side t false o bytes p b x y)
+one_taken law side r t o bytes (Err a) (Ok b) x (q, y, f) = absurd (not_both law side t false o bytes q a y x)
+one_taken law side r t o bytes (Err a) (Err b) x y = ap (λ k. Err k) (one_stop law side t false o bytes a b x y)
 
 one_given : OneOfNeeded → (r : Records) (s : Sender) (input output : List ℕ) (a b : Result Content Stop) → Gives r s input output a → Gives r s input output b → a ≡ b
-one_given law r (Entry side o) input output a b x y = one_taken law side (record_of r side) o (storage_of side input output) a b x y
+one_given law r (Entry side reading o) input output a b x y = one_taken law side reading (record_of r side) o (storage_of side input output) a b x y
 one_given law r (Literal c) input output a b x y = x ∙ sym y
 
 -- ---- a receiver

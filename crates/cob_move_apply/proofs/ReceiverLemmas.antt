@@ -3,6 +3,7 @@ use Rattle.std.proofs.Common.{◌≡◌, ℕ, ◌+◌, ◌-◌, ◌<◌, ◌≤�
 use Rattle.std.proofs.lemmas.List.{drop_all, length-take, length-drop}
 use Rattle.std.proofs.Math.Seq.{take-append_seam}
 use borrow.Rule.Slice.PartMut.{put_mid}
+use Rattle.cob_codec.specs.declared.reading.Reading.{Reading}
 use Rattle.cob_copybook_tree.specs.declared.node.Kind.{Kind}
 use Rattle.cob_copybook_tree.specs.Forests.{Forest}
 use Rattle.cob_copybook_tree.specs.Nodes.{Resolved}
@@ -75,22 +76,22 @@ pub front_is : (n : ℕ) (written rest : List ℕ) → n ≡ length written → 
 front_is n written rest size = ap (λ k. take k (written ++ rest)) size ∙ take-append_seam written rest
 
 -- the sender's place is missing
-pub stops_first : (r : Records) (side : Side) (o : Operand) (os : List Operand) (input before : List ℕ) (stop : Stop)
+pub stops_first : (r : Records) (side : Side) (x : Reading) (o : Operand) (os : List Operand) (input before : List ℕ) (stop : Stop)
     → Located side (record_of r side) false o (storage_of side input before) (Err stop)
-    → IsMoved r (record { sender = Entry side o; receivers = os }) input before (stopped stop before)
-stops_first r side o os input before stop at = inr (stop, at, refl)
+    → IsMoved r (record { sender = Entry side x o; receivers = os }) input before (stopped stop before)
+stops_first r side x o os input before stop at = inr (stop, at, refl)
 
 -- the sender's bytes were taken, and the receivers got them
-pub moved : (r : Records) (side : Side) (o : Operand) (os : List Operand) (input before bytes : List ℕ) (p : Place) (end : Ending)
+pub moved : (r : Records) (side : Side) (x : Reading) (o : Operand) (os : List Operand) (input before bytes : List ℕ) (p : Place) (end : Ending)
     → Located side (record_of r side) false o (storage_of side input before) (Ok p) → bytes ≡ field_of p (storage_of side input before)
-    → AllGet r.output (record { sent = sent.Entry o.kind bytes; side = side; offset = p.offset }) os before end
-    → IsMoved r (record { sender = Entry side o; receivers = os }) input before end
-moved r side o os input before bytes p end at taken h =
-    let content : List ℕ → Content = λ (x : List ℕ). record { sent = sent.Entry o.kind x; side = side; offset = p.offset } in
+    → AllGet r.output (record { sent = sent.Entry o.kind bytes x; side = side; offset = p.offset }) os before end
+    → IsMoved r (record { sender = Entry side x o; receivers = os }) input before end
+moved r side x o os input before bytes p end at taken h =
+    let content : List ℕ → Content = λ (taken : List ℕ). record { sent = sent.Entry o.kind taken x; side = side; offset = p.offset } in
     inl (
       content (field_of p (storage_of side input before)),
       (p, at, refl),
-      subst (λ (x : List ℕ). AllGet r.output (content x) os before end) taken h,
+      subst (λ (xs : List ℕ). AllGet r.output (content xs) os before end) taken h,
     )
 
 -- a move is known by its sender and its receivers

@@ -1,5 +1,6 @@
 -- Entries of a record, and what they describe.
-use Rattle.std.proofs.Common.{◌≡◌, ◌<◌, ℕ, List, [], ◌∷◌, map, ap, subst, sym, arith, Option, Some, None}
+use Rattle.std.proofs.Common.{◌≡◌, ◌<◌, ℕ, List, [], ◌∷◌, map, ap, subst, arith, Option, Some, None}
+use Rattle.cob_codec.specs.declared.reading.Reading.{Reading}
 use Rattle.cob_copybook_tree.specs.declared.node.Kind.{Kind}
 use Rattle.cob_copybook_tree.specs.Forests.{Forest, entries_in}
 use Rattle.cob_copybook_tree.specs.Nodes.{Resolved}
@@ -10,7 +11,7 @@ use Rattle.cob_layout.proofs.ReferenceLemmas.{has_below, refers_has}
 use Rattle.cob_layout_places.specs.declared.operands.Operand.{Operand}
 use Rattle.cob_layout_places.specs.declared.operands.PairMoves.{PairMoves}
 use Rattle.cob_layout_places.specs.declared.operands.NumberedPair.{NumberedPair}
-use Rattle.cob_layout_places.specs.Moves.{Entry, IsOperand, Records, entry_below, numbered_move, operand_in, or_group, record_of}
+use Rattle.cob_layout_places.specs.Moves.{Entry, IsOperand, Records, entry_below, numbered_move_by, operand_in, or_group, record_of}
 use Rattle.cob_move_apply.specs.Applied.{Ending, IsMoved}
 
 -- the entry of an operand is one of the record's
@@ -29,11 +30,11 @@ pub seen : (tree : Forest Resolved) (r : Ref) (k : Kind) → kind_in r.node tree
 seen tree r k is = ap (λ (x : Kind). the_operand r x) (some_kind (kind_in r.node tree) k is)
 
 -- the move of a pair is known by the entries of its two numbers
-pub pair_moved : (r : Records) (g : PairMoves) (pair : NumberedPair) (from to : Ref) (tos : List Ref) (input before : List ℕ) (end : Ending) → from ≡ entry_below g.from pair.from
+pub pair_moved : (x : Reading) (r : Records) (g : PairMoves) (pair : NumberedPair) (from to : Ref) (tos : List Ref) (input before : List ℕ) (end : Ending) → from ≡ entry_below g.from pair.from
     → to ≡ entry_below g.to pair.to → tos ≡ to ∷ []
-    → IsMoved r (record { sender = Entry g.side (operand_in (record_of r g.side) from); receivers = map (operand_in r.output) tos }) input before end
-    → IsMoved r (numbered_move r g pair) input before end
-pair_moved r g pair from to tos input before end sent received one h =
-    subst (λ (f : Ref). IsMoved r (record { sender = Entry g.side (operand_in (record_of r g.side) f); receivers = operand_in r.output (entry_below g.to pair.to) ∷ [] }) input before end) sent
-    (subst (λ (t : Ref). IsMoved r (record { sender = Entry g.side (operand_in (record_of r g.side) from); receivers = operand_in r.output t ∷ [] }) input before end) received
-    (subst (λ (ts : List Ref). IsMoved r (record { sender = Entry g.side (operand_in (record_of r g.side) from); receivers = map (operand_in r.output) ts }) input before end) one h))
+    → IsMoved r (record { sender = Entry g.side x (operand_in (record_of r g.side) from); receivers = map (operand_in r.output) tos }) input before end
+    → IsMoved r (numbered_move_by x r g pair) input before end
+pair_moved x r g pair from to tos input before end sent received one h =
+    subst (λ (f : Ref). IsMoved r (record { sender = Entry g.side x (operand_in (record_of r g.side) f); receivers = operand_in r.output (entry_below g.to pair.to) ∷ [] }) input before end) sent
+    (subst (λ (t : Ref). IsMoved r (record { sender = Entry g.side x (operand_in (record_of r g.side) from); receivers = operand_in r.output t ∷ [] }) input before end) received
+    (subst (λ (ts : List Ref). IsMoved r (record { sender = Entry g.side x (operand_in (record_of r g.side) from); receivers = map (operand_in r.output) ts }) input before end) one h))

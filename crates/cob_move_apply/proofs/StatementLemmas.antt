@@ -2,9 +2,10 @@
 use Rattle.std.proofs.Common.{◌≡◌, ℕ, ◌+◌, ◌<◌, ◌≤◌, List, [], ◌∷◌, ◌++◌, length, get_or, take, drop, refl, sym, ap, subst, ◌∙◌, arith, append_assoc, append-nil, inl, inr, Some, None, Ok, Err, Result}
 use Rattle.std.proofs.lemmas.List.{drop_all, length-append}
 use Rattle.std.proofs.Math.Seq.{take-append_seam, drop-append_seam}
-use Rattle.std.specs.List.{AllByRecursion}
+use Rattle.cob_codec.specs.declared.reading.Reading.{Reading}
+use Rattle.cob_codec.specs.declared.reading.Reading.TheVariants.{Pictured}
 use Rattle.cob_layout_places.specs.declared.operands.StatementMoves.{StatementMoves}
-use Rattle.cob_layout_places.specs.Moves.{AreMoves, IsMove, Move, Records, moves, statement_moves}
+use Rattle.cob_layout_places.specs.Moves.{AreMoves, Move, Records, moves, moves_by, statement_moves, statement_moves_by}
 use Rattle.cob_move_apply.specs.declared.basis.Basis.{Basis}
 use Rattle.cob_move_apply.specs.declared.stop.Stop.{Stop}
 use Rattle.cob_move_apply.specs.Applied.{Applied, Ending, IsMoved, done, ending, stopped}
@@ -13,12 +14,12 @@ use Rattle.cob_move_apply.proofs.BasisLemmas.{of_move}
 use Rattle.cob_move_apply.proofs.ListLemmas.{next}
 
 -- the moves of a statement, and behind them those of the statements behind it
-pub cut_statement : (r : Records) (ss : List StatementMoves) (i : ℕ) (s : StatementMoves) → i < length ss → s ≡ get_or ss i s
-    → moves r (drop i ss) ≡ statement_moves r s ++ moves r (drop (i + 1) ss)
-cut_statement r ss i s lt is = ap (λ (xs : List StatementMoves). moves r xs) (next ss i s lt is)
+pub cut_statement : (x : Reading) (r : Records) (ss : List StatementMoves) (i : ℕ) (s : StatementMoves) → i < length ss → s ≡ get_or ss i s
+    → moves_by x r (drop i ss) ≡ statement_moves_by x r s ++ moves_by x r (drop (i + 1) ss)
+cut_statement x r ss i s lt is = ap (λ (xs : List StatementMoves). moves_by x r xs) (next ss i s lt is)
 
-pub none_left : (r : Records) (ss : List StatementMoves) (i : ℕ) → length ss ≤ i → moves r (drop i ss) ≡ []
-none_left r ss i past = ap (λ (xs : List StatementMoves). moves r xs) (drop_all i ss past)
+pub none_left : (x : Reading) (r : Records) (ss : List StatementMoves) (i : ℕ) → length ss ≤ i → moves_by x r (drop i ss) ≡ []
+none_left x r ss i past = ap (λ (xs : List StatementMoves). moves_by x r xs) (drop_all i ss past)
 
 -- ---- they are moves between the records
 
@@ -33,12 +34,12 @@ back_moves r (x ∷ xs) ys h = back_moves r xs ys h.1
 pub moves_first : (r : Records) (ss : List StatementMoves) (i : ℕ) (s : StatementMoves) → i < length ss → s ≡ get_or ss i s
     → AreMoves r (moves r (drop i ss)) → AreMoves r (statement_moves r s)
 moves_first r ss i s lt is h =
-    front_moves r (statement_moves r s) (moves r (drop (i + 1) ss)) (subst (λ (xs : List Move). AreMoves r xs) (cut_statement r ss i s lt is) h)
+    front_moves r (statement_moves r s) (moves r (drop (i + 1) ss)) (subst (λ (xs : List Move). AreMoves r xs) (cut_statement Pictured r ss i s lt is) h)
 
 pub moves_left : (r : Records) (ss : List StatementMoves) (i : ℕ) (s : StatementMoves) → i < length ss → s ≡ get_or ss i s
     → AreMoves r (moves r (drop i ss)) → AreMoves r (moves r (drop (i + 1) ss))
 moves_left r ss i s lt is h =
-    back_moves r (statement_moves r s) (moves r (drop (i + 1) ss)) (subst (λ (xs : List Move). AreMoves r xs) (cut_statement r ss i s lt is) h)
+    back_moves r (statement_moves r s) (moves r (drop (i + 1) ss)) (subst (λ (xs : List Move). AreMoves r xs) (cut_statement Pictured r ss i s lt is) h)
 
 -- ---- bases of moves behind one another
 
@@ -119,13 +120,13 @@ pub statements_more : (r : Records) (ss : List StatementMoves) (i : ℕ) (s : St
     → NotedMoves r (statement_moves r s) now new → StatementsTo r ss i now → StatementsTo r ss (i + 1) new
 statements_more r ss i s now new lt is (own, added, placed) so rest h =
     subst (λ (xs : List Basis). ArePlacedMoves r (moves r ss) xs) (sym (ap (λ (xs : List Basis). xs ++ rest) added ∙ append_assoc now own rest))
-    (so (own ++ rest) (subst (λ (xs : List Move). ArePlacedMoves r xs (own ++ rest)) (sym (cut_statement r ss i s lt is))
+    (so (own ++ rest) (subst (λ (xs : List Move). ArePlacedMoves r xs (own ++ rest)) (sym (cut_statement Pictured r ss i s lt is))
     (placed_both r (statement_moves r s) (moves r (drop (i + 1) ss)) own rest placed h)))
 
 pub statements_all : (r : Records) (ss : List StatementMoves) (i : ℕ) (now : List Basis) → length ss ≤ i → StatementsTo r ss i now → ArePlacedMoves r (moves r ss) now
 statements_all r ss i now past so =
     subst (λ (xs : List Basis). ArePlacedMoves r (moves r ss) xs) (append-nil now)
-    (so [] (subst (λ (xs : List Move). ArePlacedMoves r xs []) (sym (none_left r ss i past)) refl))
+    (so [] (subst (λ (xs : List Move). ArePlacedMoves r xs []) (sym (none_left Pictured r ss i past)) refl))
 
 -- ---- carrying them out
 
@@ -153,31 +154,31 @@ pub stopped_single : (r : Records) (m : Move) (input before after : List ℕ) (s
 stopped_single r m input before after stop h = inr (stop, after, h, refl)
 
 -- whatever the statements from place i on make of the storage now, all make of the storage before
-abbrev pub StatementsFrom : Records → List StatementMoves → ℕ → List ℕ → List ℕ → List ℕ → Type 0
-StatementsFrom r ss i input before now = (end : Ending) → Applied r (moves r (drop i ss)) input now end → Applied r (moves r ss) input before end
+abbrev pub StatementsFrom : Reading → Records → List StatementMoves → ℕ → List ℕ → List ℕ → List ℕ → Type 0
+StatementsFrom x r ss i input before now = (end : Ending) → Applied r (moves_by x r (drop i ss)) input now end → Applied r (moves_by x r ss) input before end
 
-pub made_more : (r : Records) (ss : List StatementMoves) (i : ℕ) (s : StatementMoves) (input before now after : List ℕ) → i < length ss → s ≡ get_or ss i s
-    → StatementsFrom r ss i input before now → Applied r (statement_moves r s) input now (done after) → StatementsFrom r ss (i + 1) input before after
-made_more r ss i s input before now after lt is so h end rest =
-    so end (subst (λ (xs : List Move). Applied r xs input now end) (sym (cut_statement r ss i s lt is))
-    (applied_both r (statement_moves r s) (moves r (drop (i + 1) ss)) input now after end h rest))
+pub made_more : (x : Reading) (r : Records) (ss : List StatementMoves) (i : ℕ) (s : StatementMoves) (input before now after : List ℕ) → i < length ss → s ≡ get_or ss i s
+    → StatementsFrom x r ss i input before now → Applied r (statement_moves_by x r s) input now (done after) → StatementsFrom x r ss (i + 1) input before after
+made_more x r ss i s input before now after lt is so h end rest =
+    so end (subst (λ (xs : List Move). Applied r xs input now end) (sym (cut_statement x r ss i s lt is))
+    (applied_both r (statement_moves_by x r s) (moves_by x r (drop (i + 1) ss)) input now after end h rest))
 
-pub made_stops : (r : Records) (ss : List StatementMoves) (i : ℕ) (s : StatementMoves) (input before now after : List ℕ) (stop : Stop) → i < length ss → s ≡ get_or ss i s
-    → StatementsFrom r ss i input before now → Applied r (statement_moves r s) input now (stopped stop after) → Applied r (moves r ss) input before (stopped stop after)
-made_stops r ss i s input before now after stop lt is so h =
-    so (stopped stop after) (subst (λ (xs : List Move). Applied r xs input now (stopped stop after)) (sym (cut_statement r ss i s lt is))
-    (applied_stop r (statement_moves r s) (moves r (drop (i + 1) ss)) input now after stop h))
+pub made_stops : (x : Reading) (r : Records) (ss : List StatementMoves) (i : ℕ) (s : StatementMoves) (input before now after : List ℕ) (stop : Stop) → i < length ss → s ≡ get_or ss i s
+    → StatementsFrom x r ss i input before now → Applied r (statement_moves_by x r s) input now (stopped stop after) → Applied r (moves_by x r ss) input before (stopped stop after)
+made_stops x r ss i s input before now after stop lt is so h =
+    so (stopped stop after) (subst (λ (xs : List Move). Applied r xs input now (stopped stop after)) (sym (cut_statement x r ss i s lt is))
+    (applied_stop r (statement_moves_by x r s) (moves_by x r (drop (i + 1) ss)) input now after stop h))
 
-pub made_all : (r : Records) (ss : List StatementMoves) (i : ℕ) (input before now : List ℕ) → length ss ≤ i → StatementsFrom r ss i input before now
-    → Applied r (moves r ss) input before (done now)
-made_all r ss i input before now past so =
-    so (done now) (subst (λ (xs : List Move). Applied r xs input now (done now)) (sym (none_left r ss i past)) refl)
+pub made_all : (x : Reading) (r : Records) (ss : List StatementMoves) (i : ℕ) (input before now : List ℕ) → length ss ≤ i → StatementsFrom x r ss i input before now
+    → Applied r (moves_by x r ss) input before (done now)
+made_all x r ss i input before now past so =
+    so (done now) (subst (λ (xs : List Move). Applied r xs input now (done now)) (sym (none_left x r ss i past)) refl)
 
 -- ---- the bases of a statement, cut from the front
 
 pub placed_cut : (r : Records) (ss : List StatementMoves) (i : ℕ) (s : StatementMoves) (bs : List Basis) → i < length ss → s ≡ get_or ss i s
     → ArePlacedMoves r (moves r (drop i ss)) bs → ArePlacedMoves r (statement_moves r s ++ moves r (drop (i + 1) ss)) bs
-placed_cut r ss i s bs lt is h = subst (λ (xs : List Move). ArePlacedMoves r xs bs) (cut_statement r ss i s lt is) h
+placed_cut r ss i s bs lt is h = subst (λ (xs : List Move). ArePlacedMoves r xs bs) (cut_statement Pictured r ss i s lt is) h
 
 pub applied_alone : {A : Type 0} (r : Records) (m : Move) (input before after : List ℕ) (answer : Result A Stop) → IsMoved r m input before (ending answer after)
     → Applied r (m ∷ []) input before (ending answer after)

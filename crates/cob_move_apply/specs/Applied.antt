@@ -1,5 +1,6 @@
 -- What moves make of the output record's storage, one after another, and where they stop.
 use Rattle.std.specs.Prelude.{◌≡◌, ◌⊎◌, ℕ, List, [], ◌∷◌, Option, Some, None, true, false, Ok, Err, Result}
+use Rattle.cob_codec.specs.declared.reading.Reading.{Reading}
 use Rattle.cob_copybook_tree.specs.Forests.{Forest}
 use Rattle.cob_copybook_tree.specs.Nodes.{Resolved}
 use Rattle.cob_layout.specs.declared.fields.Place.{Place}
@@ -21,14 +22,15 @@ pub record Content : Type 0 where
   pub side : Side
   pub offset : ℕ
 
--- the content of an entry that stands there
-abbrev pub content_at : Side → Operand → List ℕ → Place → Content
-content_at side o bytes p = record { sent = sent.Entry o.kind (field_of p bytes); side = side; offset = p.offset }
+-- the content of an entry that stands there, read so
+abbrev pub content_at : Side → Reading → Operand → List ℕ → Place → Content
+content_at side reading o bytes p = record { sent = sent.Entry o.kind (field_of p bytes) reading; side = side; offset = p.offset }
 
 -- an entry gives the bytes of its place, or stops where it has none
-abbrev pub EntryGives : Side → Forest Resolved → Operand → List ℕ → Result Content Stop → Type 0
-EntryGives side tree o bytes (Ok content) = (p : Place) × Located side tree false o bytes (Ok p) × (content ≡ content_at side o bytes p)
-EntryGives side tree o bytes (Err stop) = Located side tree false o bytes (Err stop)
+abbrev pub EntryGives : Side → Reading → Forest Resolved → Operand → List ℕ → Result Content Stop → Type 0
+EntryGives side reading tree o bytes (Ok content) =
+    (p : Place) × Located side tree false o bytes (Ok p) × (content ≡ content_at side reading o bytes p)
+EntryGives side reading tree o bytes (Err stop) = Located side tree false o bytes (Err stop)
 
 -- the storage of a side
 abbrev pub storage_of : Side → List ℕ → List ℕ → List ℕ
@@ -37,7 +39,7 @@ storage_of Out input output = output
 
 -- what a sender gives as its move begins, or the first thing missing
 abbrev pub Gives : Records → Sender → List ℕ → List ℕ → Result Content Stop → Type 0
-Gives r (Entry side o) input output g = EntryGives side (record_of r side) o (storage_of side input output) g
+Gives r (Entry side reading o) input output g = EntryGives side reading (record_of r side) o (storage_of side input output) g
 Gives r (Literal c) input output g = g ≡ Ok (record { sent = sent.Literal c; side = Out; offset = 0 })
 
 -- A receiver gets it: at its place in the output record's storage as it then is, the bytes become what it receives, and all others stay. First

@@ -38,7 +38,7 @@ pub record IsPlaced (tree : Forest Resolved) (receiving : Bool) (o : Operand) (b
 
 -- so is a sender; a constant has no place
 abbrev pub IsPlacedSender : Records → Sender → Basis → Type 0
-IsPlacedSender r (Entry side o) b = IsPlaced (record_of r side) false o b
+IsPlacedSender r (Entry side reading o) b = IsPlaced (record_of r side) false o b
 IsPlacedSender r (Literal c) b = Unit {0}
 
 -- receivers, and what the place of each rests on, in their order

@@ -5,7 +5,7 @@ ghost use Rattle.cob_layout.specs.Sound.{IsSound};
 ghost use Rattle.cob_layout.specs.Storage.{greatest_length, IsStorage};
 ghost use Rattle.cob_move_apply.specs.Applied.{Applied, ending};
 ghost use Rattle.cob_move_apply.specs.Placed.{ArePlacedMoves};
-ghost use Rattle.cob_layout_places.specs.Moves.{moves, statement_moves};
+ghost use Rattle.cob_layout_places.specs.Moves.{moves, moves_by, statement_moves, statement_moves_by};
 ghost use Rattle.cob_move_apply.specs.Surveyed.{HasSpace, IsWorkspace, records};
 
 use crate::basis::Basis;
@@ -36,8 +36,9 @@ fn make_moves(
     requires input { IsStorage layouts.now.input.now input.now }
     requires output { length output.old ≡ greatest_length layouts.now.output.now }
     requires space { IsWorkspace (records layouts.now) input.now output.old space.old }
-    ensures applied { Applied (records layouts.now) (statement_moves (records layouts.now) one.now)
-        input.now output.old (ending result output.new) }
+    ensures applied { Applied (records layouts.now)
+        (statement_moves_by layouts.now.reading (records layouts.now) one.now) input.now output.old
+        (ending result output.new) }
     ensures space { IsWorkspace (records layouts.now) input.now output.new space.new }
 {
     match one {
@@ -68,8 +69,9 @@ pub(crate) fn apply_in(
     requires input { IsStorage layouts.now.input.now input.now }
     requires output { length output.old ≡ greatest_length layouts.now.output.now }
     requires space { HasSpace (records layouts.now) space.old }
-    ensures applied { Applied (records layouts.now) (moves (records layouts.now) given.now)
-        input.now output.old (ending result output.new) }
+    ensures applied { Applied (records layouts.now)
+        (moves_by layouts.now.reading (records layouts.now) given.now) input.now output.old
+        (ending result output.new) }
     ensures space { HasSpace (records layouts.now) space.new }
 {
     space.forget();

@@ -1,8 +1,9 @@
 //! Moves that are ready to be carried out.
 
-ghost use Rattle.std.specs.Prelude.{◌≡◌, length, min, IfOk};
+ghost use Rattle.std.specs.Prelude.{◌≡◌, length, map, min, IfOk};
+ghost use Rattle.cob_codec.specs.declared.reading.Reading.{Reading as Read};
 ghost use Rattle.cob_layout.specs.Storage.{greatest_length, IsStorage};
-ghost use Rattle.cob_layout_places.specs.Moves.{AreMoves, Records, moves, statement_moves};
+ghost use Rattle.cob_layout_places.specs.Moves.{AreMoves, Records, moves, read_by, statement_moves_by};
 ghost use Rattle.cob_move_apply.specs.Applied.{Applied, ending};
 ghost use Rattle.cob_move_apply.specs.Told.{most_moves_told, single_moves};
 ghost use Rattle.cob_move_apply.specs.Room.{room_of};
@@ -13,6 +14,7 @@ use crate::preparation::bases_of;
 use crate::scratch::Scratch;
 use crate::stop::Stop;
 use crate::workspace::Layouts;
+use cob_codec::Reading;
 use cob_layout::{Layout, records_are_sound};
 use cob_layout_places::StatementMoves;
 use std::alloc::{AllocError, Global};
@@ -30,7 +32,8 @@ fn at_most_u32(count: usize) -> u32
 
 /// How many single moves the moves of a statement are.
 fn single_moves_in(one: &StatementMoves) -> usize
-    ensures { (r : Records) → result ≡ single_moves (statement_moves r one.now) }
+    ensures { (reading : Read) (r : Records)
+        → result ≡ single_moves (statement_moves_by reading r one.now) }
 {
     match one {
         StatementMoves::Single(single) => single.receivers.len(),
@@ -44,12 +47,15 @@ pub struct Moves {
     pub(crate) statements: Vec<StatementMoves>,
     /// What the places of the operands rest on, one move's behind another's.
     pub(crate) bases: Vec<Basis>,
+    /// How binary items are read that are sent.
+    pub(crate) reading: Reading,
 }
 
 impl Moves {
     ghost use Rattle.cob_move_apply.specs.Prepared.{ArePrepared, moves_of};
 
-    /// Moves between the records of these layouts, made ready: a place that is the same in every storage is found here.
+    /// Moves between the records of these layouts, made ready: a place that is the same in every storage is found here. Their binary senders are
+    /// read as their pictures say.
     ///
     /// # Errors
     ///
@@ -71,7 +77,20 @@ impl Moves {
         Ok(Moves {
             statements: given,
             bases,
+            reading: Reading::Pictured,
         })
+    }
+
+    /// The same moves, with their binary senders read so. It takes no memory.
+    pub fn with_reading(self, reading: Reading) -> Moves
+        ensures moves { (r : Records) → moves_of r result ≡ map (read_by reading) (moves_of r self) }
+        ensures prepared { (r : Records) → ArePrepared r self → ArePrepared r result }
+    {
+        Moves {
+            statements: self.statements,
+            bases: self.bases,
+            reading,
+        }
     }
 
     /// How many single moves these are: each is a sender with one of its receivers. More than a u32 holds come as the greatest u32.
@@ -118,6 +137,7 @@ impl Moves {
         let layouts = Layouts {
             input: input_layout,
             output: output_layout,
+            reading: self.reading,
         };
         apply_in(
             self.statements.as_slice(),

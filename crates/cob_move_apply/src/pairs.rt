@@ -4,7 +4,7 @@ ghost use Rattle.std.specs.Prelude.{◌≡◌, List, length, map, ◌≤◌};
 ghost use Rattle.cob_limits.specs.Limits.{most_dimensions};
 ghost use Rattle.cob_layout.specs.Sound.{IsSound};
 ghost use Rattle.cob_layout.specs.Storage.{greatest_length, IsStorage};
-ghost use Rattle.cob_layout_places.specs.Moves.{entry_below, numbered_move};
+ghost use Rattle.cob_layout_places.specs.Moves.{entry_below, numbered_move, numbered_move_by};
 ghost use Rattle.cob_move_apply.specs.Applied.{Applied, IsMoved, ending};
 ghost use Rattle.cob_move_apply.specs.Placed.{ArePlacedMoves, IsPlacedMove};
 ghost use Rattle.cob_move_apply.specs.Surveyed.{IsWorkspace, records};
@@ -63,8 +63,8 @@ fn make_pair_move(
     requires output { length output.old ≡ greatest_length layouts.now.output.now }
     requires space { IsWorkspace (records layouts.now) input.now output.old space.old }
     ensures moved { IsMoved (records layouts.now)
-        (numbered_move (records layouts.now) group.now pair.now) input.now output.old
-        (ending result output.new) }
+        (numbered_move_by layouts.now.reading (records layouts.now) group.now pair.now) input.now
+        output.old (ending result output.new) }
     ensures space { IsWorkspace (records layouts.now) input.now output.new space.new }
 {
     let from = entry_below(&group.from, pair.from);
@@ -103,8 +103,8 @@ pub(crate) fn make_pair_moves(
     requires output { length output.old ≡ greatest_length layouts.now.output.now }
     requires space { IsWorkspace (records layouts.now) input.now output.old space.old }
     ensures applied { Applied (records layouts.now)
-        (map (numbered_move (records layouts.now) group.now) group.now.pairs.items) input.now
-        output.old (ending result output.new) }
+        (map (numbered_move_by layouts.now.reading (records layouts.now) group.now)
+        group.now.pairs.items) input.now output.old (ending result output.new) }
     ensures space { IsWorkspace (records layouts.now) input.now output.new space.new }
 {
     let mut rest = bases;

@@ -4,7 +4,7 @@ ghost use Rattle.std.specs.Prelude.{◌≡◌, ◌+◌, ◌≤◌, ℕ, List, le
 ghost use Rattle.cob_layout.specs.Fields.{field_of};
 ghost use Rattle.cob_layout.specs.Sound.{IsSound};
 ghost use Rattle.cob_layout.specs.Storage.{greatest_length, IsStorage};
-ghost use Rattle.cob_layout_places.specs.Moves.{Entry, move};
+ghost use Rattle.cob_layout_places.specs.Moves.{Entry, move, move_by};
 ghost use Rattle.cob_layout_places.specs.declared.operands.Side.TheVariants.{In, Out};
 ghost use Rattle.cob_move_apply.specs.Applied.{IsMoved, ending};
 ghost use Rattle.cob_move_apply.specs.Placed.{ArePlacedReceivers, IsPlaced, IsPlacedMove, IsPlacedSender};
@@ -54,7 +54,7 @@ fn move_from_input(
     requires space { IsWorkspace (records layouts.now) input.now output.old space.old }
     ensures moved { IsMoved (records layouts.now)
         (record {
-          sender = Entry In (operand_of sender.now);
+          sender = Entry In layouts.now.reading (operand_of sender.now);
           receivers = receivers_in layouts.now.output.now receivers.now;
         })
         input.now output.old (ending result output.new) }
@@ -72,6 +72,7 @@ fn move_from_input(
         sent: Sent::Entry {
             kind: sender.kind,
             bytes: field(input, place),
+            reading: layouts.reading,
         },
         side: Side::In,
         offset: place.offset,
@@ -101,7 +102,7 @@ fn move_within_output(
     requires space { IsWorkspace (records layouts.now) input.now output.old space.old }
     ensures moved { IsMoved (records layouts.now)
         (record {
-          sender = Entry Out (operand_of sender.now);
+          sender = Entry Out layouts.now.reading (operand_of sender.now);
           receivers = receivers_in layouts.now.output.now receivers.now;
         })
         input.now output.old (ending result output.new) }
@@ -118,6 +119,7 @@ fn move_within_output(
         sent: Sent::Entry {
             kind: sender.kind,
             bytes: &space.content.as_slice()[..place.length as usize],
+            reading: layouts.reading,
         },
         side: Side::Out,
         offset: place.offset,
@@ -141,14 +143,14 @@ pub(crate) fn move_entry(
     requires in_sound { IsSound layouts.now.input.now }
     requires out_sound { IsSound layouts.now.output.now }
     requires sender { IsPlacedSender (records layouts.now)
-        (entry_sent (records layouts.now) sent.now) sent.now.basis }
+        (entry_sent layouts.now.reading (records layouts.now) sent.now) sent.now.basis }
     requires receivers { ArePlacedReceivers layouts.now.output.now
         (receivers_in layouts.now.output.now receivers.now) receivers.now.bases.now }
     requires input { IsStorage layouts.now.input.now input.now }
     requires output { length output.old ≡ greatest_length layouts.now.output.now }
     requires space { IsWorkspace (records layouts.now) input.now output.old space.old }
     ensures moved { IsMoved (records layouts.now) (record {
-      sender = entry_sent (records layouts.now) sent.now;
+      sender = entry_sent layouts.now.reading (records layouts.now) sent.now;
       receivers = receivers_in layouts.now.output.now receivers.now;
     })
         input.now output.old (ending result output.new) }
@@ -186,8 +188,9 @@ pub(crate) fn make_move(
     requires input { IsStorage layouts.now.input.now input.now }
     requires output { length output.old ≡ greatest_length layouts.now.output.now }
     requires space { IsWorkspace (records layouts.now) input.now output.old space.old }
-    ensures moved { IsMoved (records layouts.now) (move (records layouts.now) one.now) input.now
-        output.old (ending result output.new) }
+    ensures moved { IsMoved (records layouts.now)
+        (move_by layouts.now.reading (records layouts.now) one.now) input.now output.old
+        (ending result output.new) }
     ensures space { IsWorkspace (records layouts.now) input.now output.new space.new }
 {
     let receivers = PlacedReceivers {

@@ -1,6 +1,7 @@
 -- A receiver gets one thing.
 use Rattle.std.proofs.Common.{◌≡◌, ℕ, Bool, true, false, ◌&&◌, nat_lt, List, refl, sym, ap, subst, ◌∙◌, Option, Some, None}
 use Rattle.std.specs.Prelude.{MatchBool, ℤ}
+use Rattle.cob_codec.specs.declared.reading.Reading.{Reading}
 use Rattle.cob_decimal.specs.Decimal.{number_of}
 use Rattle.cob_decimal.specs.Laws.{OneList}
 use Rattle.cob_picture.specs.Counts as counts
@@ -18,7 +19,7 @@ use Rattle.cob_copybook_tree.specs.declared.node.Kind.{Kind}
 use Rattle.cob_copybook_tree.specs.declared.node.Kind.TheVariants.{Group, Item as ItemKind}
 use Rattle.cob_copybook_tree.specs.declared.node.Item.{Item}
 use Rattle.cob_copybook_tree.specs.Resolving.{is_number}
-use Rattle.cob_copybook_tree.specs.Items.{OneItemNumber, stored_form}
+use Rattle.cob_copybook_tree.specs.Items.{OneSentNumber, stored_form}
 use Rattle.cob_move_receive.proofs.CharacterLemmas as characters
 use Rattle.cob_move_receive.specs.Sent.{Sent, Entry, Literal, Amount}
 use Rattle.cob_move_receive.specs.Characters.{GivesConstant, GivesDigits, GivesCharacters, Placement, FromLeft, FromRight, Among, Arranged, padded, repeated, placement, numerals_to_point}
@@ -29,7 +30,7 @@ use Rattle.cob_move_receive.specs.Received.{GetsNumber, GetsCharacters, ItemGets
 pub record Laws : Type 0 where
   pub list : OneList
   pub code : TableIsOneToOne
-  pub number : OneItemNumber
+  pub number : OneSentNumber
   pub value : OneEditedNumber
   pub text : OneEditedText
   pub spelling : OneSpelling
@@ -50,17 +51,17 @@ one_given law (Quoted t) n a b p q = characters.one_text law t a b p q
 one_given law (Figure f) n a b p q = p ∙ sym q
 one_given law (Repeated t) n a b p q = p.2 ∙ ap (λ coded. padded n (repeated n coded)) (characters.one_text law t p.0 q.0 p.1 q.1) ∙ sym q.2
 
-one_digits : OneItemNumber → (i : Item) (bytes a b : List ℕ) → GivesDigits i bytes a → GivesDigits i bytes b → a ≡ b
-one_digits law i bytes a b (m, ds, p, x) (n, es, q, y) =
-    let same = law i bytes m n ds es p q in
+one_digits : OneSentNumber → (reading : Reading) (i : Item) (bytes a b : List ℕ) → GivesDigits reading i bytes a → GivesDigits reading i bytes b → a ≡ b
+one_digits law reading i bytes a b (m, ds, p, x) (n, es, q, y) =
+    let same = law reading i bytes m n ds es p q in
     x ∙ ap (λ (d : List ℕ). numerals_to_point d (counts.scale i.picture.positions)) same.1 ∙ sym y
 
 one_text : Laws → (s : Sent) (to : Kind) (n : ℕ) (a b : List ℕ) → GivesCharacters s to n a → GivesCharacters s to n b → a ≡ b
 one_text law (Literal c) to n a b p q = one_given law.code c n a b p q
-one_text law (Entry Group bytes) to n a b p q = p ∙ sym q
-one_text law (Entry (ItemKind i) bytes) Group n a b p q = p ∙ sym q
-one_text law (Entry (ItemKind i) bytes) (ItemKind r) n a b p q =
-    one_of (is_number i) (GivesDigits i bytes) (λ t. t ≡ bytes) a b (one_digits law.number i bytes a b) (λ x y. x ∙ sym y) p q
+one_text law (Entry Group bytes reading) to n a b p q = p ∙ sym q
+one_text law (Entry (ItemKind i) bytes reading) Group n a b p q = p ∙ sym q
+one_text law (Entry (ItemKind i) bytes reading) (ItemKind r) n a b p q =
+    one_of (is_number i) (GivesDigits reading i bytes) (λ t. t ≡ bytes) a b (one_digits law.number reading i bytes a b) (λ x y. x ∙ sym y) p q
 
 one_stands : OneSpelling → (p : Placement) (n : ℕ) (text a b : List ℕ) → Arranged p n text a → Arranged p n text b → a ≡ b
 one_stands law FromLeft n text a b x y = x ∙ sym y
@@ -90,9 +91,9 @@ one_as law Alphanumeric i bytes v w x y = x.value ∙ sym y.value
 one_as law Alphabetic i bytes v w x y = absurd x
 one_as law AlphanumericEdited i bytes v w x y = absurd x
 
-one_in : OneItemNumber → (i : Item) (bytes : List ℕ) (v w : Amount) → IsNumberIn i bytes v → IsNumberIn i bytes w → v ≡ w
-one_in law i bytes v w x y =
-    let same = law i bytes v.negative w.negative v.digits w.digits x.represents y.represents in
+one_in : OneSentNumber → (reading : Reading) (i : Item) (bytes : List ℕ) (v w : Amount) → IsNumberIn reading i bytes v → IsNumberIn reading i bytes w → v ≡ w
+one_in law reading i bytes v w x y =
+    let same = law reading i bytes v.negative w.negative v.digits w.digits x.represents y.represents in
     same_amount v w same.0 same.1 (x.point ∙ sym y.point)
 
 one_figure : (f : Figurative) (v w : Amount) → FigureGives f v → FigureGives f w → v ≡ w
@@ -109,9 +110,9 @@ one_constant (Figure f) v w x y = one_figure f v w x y
 one_constant (Repeated t) v w x y = absurd x
 
 one_amount : Laws → (s : Sent) (v w : Amount) → GivesNumber s v → GivesNumber s w → v ≡ w
-one_amount law (Entry Group bytes) v w x y = absurd x
-one_amount law (Entry (ItemKind i) bytes) v w x y =
-    one_of (is_number i) (IsNumberIn i bytes) (GivesUnder i.picture.category i bytes) v w (one_in law.number i bytes v w) (one_as law.value i.picture.category i bytes v w) x y
+one_amount law (Entry Group bytes reading) v w x y = absurd x
+one_amount law (Entry (ItemKind i) bytes reading) v w x y =
+    one_of (is_number i) (IsNumberIn reading i bytes) (GivesUnder i.picture.category i bytes) v w (one_in law.number reading i bytes v w) (one_as law.value i.picture.category i bytes v w) x y
 one_amount law (Literal c) v w x y = one_constant c v w x y
 
 one_stored : OneList → (i : Item) (v : Amount) (a b : List ℕ) → HoldsAligned i v a → HoldsAligned i v b → a ≡ b
@@ -138,6 +139,6 @@ one_item law s i n a b x y = one_of (shows_number i.picture.category) (GetsNumbe
 
 pub one_received : Laws → OneReceived
 one_received law s Group n a b x y = one_got law s Group n a b x y
-one_received law (Entry Group bytes) (ItemKind i) n a b x y = one_got law (Entry Group bytes) (ItemKind i) n a b x y
-one_received law (Entry (ItemKind f) bytes) (ItemKind i) n a b x y = one_item law (Entry (ItemKind f) bytes) i n a b x y
+one_received law (Entry Group bytes reading) (ItemKind i) n a b x y = one_got law (Entry Group bytes reading) (ItemKind i) n a b x y
+one_received law (Entry (ItemKind f) bytes reading) (ItemKind i) n a b x y = one_item law (Entry (ItemKind f) bytes reading) i n a b x y
 one_received law (Literal c) (ItemKind i) n a b x y = one_item law (Literal c) i n a b x y

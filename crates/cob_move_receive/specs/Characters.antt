@@ -5,6 +5,7 @@ use Rattle.cob_picture.specs.Counts.{scale}
 use Rattle.cob_picture.specs.declared.category.Category.{Category}
 use Rattle.cob_picture.specs.declared.category.Category.TheVariants.{Alphabetic, Numeric, Alphanumeric, AlphanumericEdited, NumericEdited}
 use Rattle.cob_picture.specs.declared.position.Position.{Position}
+use Rattle.cob_codec.specs.declared.reading.Reading.{Reading}
 use Rattle.cob_cp037.specs.Table.{IsCoded, HasCode}
 use Rattle.cob_edit.specs.Characters.{HasCharacters}
 use Rattle.cob_entry.specs.declared.kinds.Figurative.{Figurative}
@@ -15,7 +16,7 @@ use Rattle.cob_copybook_tree.specs.declared.node.Kind.{Kind}
 use Rattle.cob_copybook_tree.specs.declared.node.Kind.TheVariants.{Group, Item as ItemKind}
 use Rattle.cob_copybook_tree.specs.declared.node.Item.{Item}
 use Rattle.cob_copybook_tree.specs.Resolving.{is_number}
-use Rattle.cob_copybook_tree.specs.Items.{Represents}
+use Rattle.cob_copybook_tree.specs.Items.{IsSentBy}
 use Rattle.cob_move_receive.specs.Sent.{Sent, Entry, Literal}
 
 -- the byte of a character: its own in code page 037, and a space for one that has none there, as no literal of a copybook has
@@ -53,10 +54,10 @@ numerals ds = map (λ d. d + 0xF0) ds
 abbrev pub numerals_to_point : List ℕ → ℤ → List ℕ
 numerals_to_point ds scale = numerals ds ++ replicate (zeros_of scale) 0xF0
 
--- the item's bytes represent a number, and these are its digits
-abbrev pub GivesDigits : Item → List ℕ → List ℕ → Type 0
-GivesDigits i bytes text =
-    (negative : Bool) × (digits : List ℕ) × Represents i bytes negative digits × (text ≡ numerals_to_point digits (scale i.picture.positions))
+-- the item's bytes, read so, represent a number, and these are its digits
+abbrev pub GivesDigits : Reading → Item → List ℕ → List ℕ → Type 0
+GivesDigits reading i bytes text =
+    (negative : Bool) × (digits : List ℕ) × IsSentBy reading i bytes negative digits × (text ≡ numerals_to_point digits (scale i.picture.positions))
 
 -- The characters of a constant for a receiver of n bytes: the digits of a number as they are written, the characters of a literal, and a
 -- figurative constant, or ALL and a literal, repeated to the receiver's size.
@@ -77,9 +78,10 @@ IsRepeated (constant.Repeated characters) = Unit {0}
 -- interpreted; else a number gives its digits, and another item, edited or not, its bytes.
 abbrev pub GivesCharacters : Sent → Kind → ℕ → List ℕ → Type 0
 GivesCharacters (Literal c) to n text = GivesConstant c n text
-GivesCharacters (Entry Group bytes) to n text = text ≡ bytes
-GivesCharacters (Entry (ItemKind i) bytes) Group n text = text ≡ bytes
-GivesCharacters (Entry (ItemKind i) bytes) (ItemKind r) n text = MatchBool (is_number i) (GivesDigits i bytes text) (text ≡ bytes)
+GivesCharacters (Entry Group bytes reading) to n text = text ≡ bytes
+GivesCharacters (Entry (ItemKind i) bytes reading) Group n text = text ≡ bytes
+GivesCharacters (Entry (ItemKind i) bytes reading) (ItemKind r) n text =
+    MatchBool (is_number i) (GivesDigits reading i bytes text) (text ≡ bytes)
 
 -- the category of characters with insertions between them
 abbrev pub has_insertions : Category → Bool
@@ -115,8 +117,8 @@ placement_in i = placement_under i.picture.category i
 -- of what a sender gives to a receiver; where a group is on either side, from the left, whatever JUSTIFIED says
 abbrev pub placement : Sent → Kind → Placement
 placement s Group = FromLeft
-placement (Entry Group bytes) (ItemKind r) = FromLeft
-placement (Entry (ItemKind i) bytes) (ItemKind r) = placement_in r
+placement (Entry Group bytes reading) (ItemKind r) = FromLeft
+placement (Entry (ItemKind i) bytes reading) (ItemKind r) = placement_in r
 placement (Literal c) (ItemKind r) = placement_in r
 
 -- n bytes of characters: right aligned, cut at the left, padded with spaces

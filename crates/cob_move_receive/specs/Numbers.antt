@@ -2,6 +2,7 @@
 use Rattle.std.specs.Prelude.{◌≡◌, ℕ, ◌-◌, ◌<◌, ◌≤◌, pos, Bool, true, false, ◌&&◌, nat_lt, nat_le, List, [], length, map, MatchBool}
 use Rattle.std.specs.List.{AllByRecursion}
 use Rattle.cob_limits.specs.Limits.{most_digits}
+use Rattle.cob_codec.specs.declared.reading.Reading.{Reading}
 use Rattle.cob_decimal.specs.Decimal.{IsDigits, number_of, aligned}
 use Rattle.cob_decimal.specs.Literals.{AreDigits, digits_in}
 use Rattle.cob_picture.specs.Counts.{scale}
@@ -16,7 +17,7 @@ use Rattle.cob_entry.specs.Described as constant
 use Rattle.cob_copybook_tree.specs.declared.node.Kind.TheVariants.{Group, Item as ItemKind}
 use Rattle.cob_copybook_tree.specs.declared.node.Item.{Item}
 use Rattle.cob_copybook_tree.specs.Resolving.{is_number}
-use Rattle.cob_copybook_tree.specs.Items.{Represents, stored_form}
+use Rattle.cob_copybook_tree.specs.Items.{IsSentBy, stored_form}
 use Rattle.cob_move_receive.specs.Sent.{Sent, Entry, Literal, Amount}
 
 -- a whole number that isn't negative
@@ -42,9 +43,9 @@ pub record IsReadAs (bytes : List ℕ) (v : Amount) : Type 0 where
   pub numerals : AreNumerals bytes
   pub value : v ≡ whole_number (digits_of bytes)
 
--- the bytes of a number's item represent this number, at the scale of its picture
-pub record IsNumberIn (i : Item) (bytes : List ℕ) (v : Amount) : Type 0 where
-  pub represents : Represents i bytes v.negative v.digits
+-- the bytes of a number's item, read so, represent this number, at the scale of its picture
+pub record IsNumberIn (reading : Reading) (i : Item) (bytes : List ℕ) (v : Amount) : Type 0 where
+  pub represents : IsSentBy reading i bytes v.negative v.digits
   pub point : v.scale ≡ scale i.picture.positions
 
 -- the bytes of a numeric edited item are the text of this number
@@ -61,9 +62,9 @@ GivesUnder Alphanumeric i bytes v = IsReadAs bytes v
 GivesUnder Alphabetic i bytes v = ⊥
 GivesUnder AlphanumericEdited i bytes v = ⊥
 
--- the number that an item's bytes give
-abbrev pub ItemGives : Item → List ℕ → Amount → Type 0
-ItemGives i bytes v = MatchBool (is_number i) (IsNumberIn i bytes v) (GivesUnder i.picture.category i bytes v)
+-- the number that an item's bytes give, read so
+abbrev pub ItemGives : Reading → Item → List ℕ → Amount → Type 0
+ItemGives reading i bytes v = MatchBool (is_number i) (IsNumberIn reading i bytes v) (GivesUnder i.picture.category i bytes v)
 
 -- a quoted literal of 1 to 31 digits is an unsigned whole number
 pub record IsDigitText (text : List ℕ) (v : Amount) : Type 0 where
@@ -89,8 +90,8 @@ ConstantGives (constant.Repeated text) v = ⊥
 
 -- the number that a sender gives
 abbrev pub GivesNumber : Sent → Amount → Type 0
-GivesNumber (Entry Group bytes) v = ⊥
-GivesNumber (Entry (ItemKind i) bytes) v = ItemGives i bytes v
+GivesNumber (Entry Group bytes reading) v = ⊥
+GivesNumber (Entry (ItemKind i) bytes reading) v = ItemGives reading i bytes v
 GivesNumber (Literal c) v = ConstantGives c v
 
 -- The item's bytes are what this number leaves in it: its digits aligned by the point, and a minus only where the item has a sign and something

@@ -24,16 +24,16 @@ ItemGets s i n outcome = MatchBool (shows_number i.picture.category) (GetsNumber
 
 -- a group is the sender
 abbrev pub is_group : Sent → Bool
-is_group (Entry Group bytes) = true
-is_group (Entry (ItemKind i) bytes) = false
+is_group (Entry Group bytes reading) = true
+is_group (Entry (ItemKind i) bytes reading) = false
 is_group (Literal c) = false
 
 -- What a receiver of n bytes holds after a move from this sender: its bytes, or none where the sender's bytes represent no value that it
 -- asks for. Where a group is on either side, the sender's bytes are copied.
 abbrev pub Received : Sent → Kind → ℕ → Option (List ℕ) → Type 0
 Received s Group n outcome = GetsCharacters s Group n outcome
-Received (Entry Group bytes) (ItemKind i) n outcome = GetsCharacters (Entry Group bytes) (ItemKind i) n outcome
-Received (Entry (ItemKind x) bytes) (ItemKind i) n outcome = ItemGets (Entry (ItemKind x) bytes) i n outcome
+Received (Entry Group bytes reading) (ItemKind i) n outcome = GetsCharacters (Entry Group bytes reading) (ItemKind i) n outcome
+Received (Entry (ItemKind x) bytes reading) (ItemKind i) n outcome = ItemGets (Entry (ItemKind x) bytes reading) i n outcome
 Received (Literal c) (ItemKind i) n outcome = ItemGets (Literal c) i n outcome
 
 -- the bytes where there was a value

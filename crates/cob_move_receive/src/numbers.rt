@@ -13,7 +13,8 @@ ghost use Rattle.cob_move_receive.specs.Sent.{Amount, amount, sent, IsComplete};
 ghost use Rattle.cob_move_receive.specs.Numbers.{whole_number, digits_of, is_numeral, AreNumerals, ConstantGives, FigureGives, GivesNumber, HoldsAmount, IsDigitText, IsReadAs, IsUnedited, ItemGives};
 
 use crate::sent::Sent;
-use cob_copybook_tree::{Figurative, Item, Kind, Value, is_number, read_number, store_number};
+use cob_codec::Reading;
+use cob_copybook_tree::{Figurative, Item, Kind, Value, is_number, read_sent, store_number};
 use cob_decimal::{Digits, Number, are_digits};
 use cob_edit::{deedit, edit};
 use cob_limits::MAX_DIGITS;
@@ -75,16 +76,16 @@ fn unedited(item: &Item, bytes: &[u8]) -> Option<Number>
     deedit(&item.picture, item.blank, bytes)
 }
 
-/// The number that an item's bytes represent.
-fn item_gives(item: &Item, bytes: &[u8]) -> Option<Number>
+/// The number that an item's bytes represent, read so.
+fn item_gives(reading: Reading, item: &Item, bytes: &[u8]) -> Option<Number>
     requires storable { IsStorable item.now }
     requires long { length bytes.now ≡ item_size item.now }
-    ensures found { IfSome result (λ n. ItemGives item.now bytes.now (amount n)) }
+    ensures found { IfSome result (λ n. ItemGives reading item.now bytes.now (amount n)) }
     ensures only { (v : Amount)
-        → ItemGives item.now bytes.now v → IsSomeAnd result (λ n. amount n ≡ v) }
+        → ItemGives reading item.now bytes.now v → IsSomeAnd result (λ n. amount n ≡ v) }
 {
     if is_number(item) {
-        return read_number(item, bytes);
+        return read_sent(reading, item, bytes);
     }
     match item.picture.category() {
         Category::Numeric | Category::NumericEdited => unedited(item, bytes),
@@ -152,9 +153,13 @@ pub(crate) fn number_given(given: &Sent<'_>) -> Option<Number>
 {
     match given {
         Sent::Constant(value) => constant_gives(value),
-        Sent::Entry { kind, bytes } => match kind {
+        Sent::Entry {
+            kind,
+            bytes,
+            reading,
+        } => match kind {
             Kind::Group => None,
-            Kind::Item(item) => item_gives(item, bytes),
+            Kind::Item(item) => item_gives(*reading, item, bytes),
         },
     }
 }

@@ -15,7 +15,8 @@ use crate::constants::{constant_in, constant_left};
 use crate::numbers::{hold, number_given};
 use crate::numerals::numerals_to_point;
 use crate::sent::Sent;
-use cob_copybook_tree::{Item, Kind, is_number, read_number};
+use cob_codec::Reading;
+use cob_copybook_tree::{Item, Kind, is_number, read_sent};
 use cob_picture::Category;
 
 /// Writes what a group holds after the move of a sender to it, into all its bytes: the sender's bytes, from the left.
@@ -30,12 +31,12 @@ pub fn receive_in_group(given: &Sent<'_>, bytes: &mut [u8])
 
 /// Writes what an item of characters gets of another item: its bytes, and of a number its digits. False where a number's bytes represent
 /// none.
-fn receive_item(from: &Item, source: &[u8], item: &Item, bytes: &mut [u8]) -> bool
+fn receive_item(from: &Item, source: &[u8], reading: Reading, item: &Item, bytes: &mut [u8]) -> bool
     requires from { IsStorable from.now }
     requires source { length source.now ≡ item_size from.now }
     requires storable { IsStorable item.now }
     requires long { length bytes.old ≡ item_size item.now }
-    ensures gets { GetsCharacters (Entry (ItemKind from.now) source.now)
+    ensures gets { GetsCharacters (Entry (ItemKind from.now) source.now reading)
         (ItemKind item.now) (length bytes.old) (outcome result bytes.new) }
     ensures same { result ≡ false → bytes.new ≡ bytes.old }
 {
@@ -43,7 +44,7 @@ fn receive_item(from: &Item, source: &[u8], item: &Item, bytes: &mut [u8]) -> bo
         put(item, source, bytes);
         return true;
     }
-    match read_number(from, source) {
+    match read_sent(reading, from, source) {
         Some(number) => {
             put(item, numerals_to_point(&number).as_slice(), bytes);
             true
@@ -69,12 +70,13 @@ fn receive_text(given: &Sent<'_>, item: &Item, bytes: &mut [u8]) -> bool
         Sent::Entry {
             kind,
             bytes: source,
+            reading,
         } => match kind {
             Kind::Group => {
                 put_left(source, bytes);
                 true
             }
-            Kind::Item(from) => receive_item(from, source, item, bytes),
+            Kind::Item(from) => receive_item(from, source, *reading, item, bytes),
         },
     }
 }

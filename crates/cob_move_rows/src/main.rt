@@ -1,7 +1,7 @@
 //! Answers tables of rows about single moves: what a receiver holds after a move, that there is no value, or the rule that refuses it.
 //!
-//! A row `entry` has the sender's entries, parted by bars, its bytes in hexadecimal digits, and the receiver's entries. A row `constant`
-//! has a literal or a figurative constant, and the receiver's entries. An item and a group each stand as a record of their own.
+//! A row `entry` has the sender's entries, parted by bars, its bytes in hexadecimal digits, and the receiver's entries. A row `whole` is the
+//! same, with a binary sender read whole. A row `constant` has a literal or a figurative constant, and the receiver's entries. An item and a group each stand as a record of their own.
 #![tactic(auto)]
 
 ghost use Rattle.std.specs.Prelude.{length, IsTrue};
@@ -11,6 +11,7 @@ ghost use Rattle.cob_move_receive.specs.Sent.{sent, Occupies, IsComplete};
 mod constants;
 
 use crate::constants::constant_of;
+use cob_codec::Reading;
 use cob_copybook::{Book, Role};
 use cob_copybook_tree::{Item, Kind, is_number, is_number_item};
 use cob_entry::BookRule;
@@ -107,8 +108,13 @@ fn push_move(
     Ok(push_received(from, given, to, &mut bytes, out)?)
 }
 
-/// Writes what comes of the move of an entry.
-fn move_entry(alloc: Global, row: &Row, out: &mut String) -> Result<(), RowFault> {
+/// Writes what comes of the move of an entry that is read so.
+fn move_entry(
+    alloc: Global,
+    reading: Reading,
+    row: &Row,
+    out: &mut String,
+) -> Result<(), RowFault> {
     let book = book_of(alloc, row, 1)?;
     let bytes = row.bytes(alloc, 2)?;
     let kind = &book.root().kind;
@@ -118,6 +124,7 @@ fn move_entry(alloc: Global, row: &Row, out: &mut String) -> Result<(), RowFault
     let given = Sent::Entry {
         kind,
         bytes: bytes.as_slice(),
+        reading,
     };
     push_move(alloc, &SenderKind::Entry(kind), &given, row, 3, out)
 }
@@ -141,7 +148,8 @@ struct MoveRows;
 impl Family for MoveRows {
     fn answer(alloc: Global, _table: &str, row: &Row, out: &mut String) -> Result<(), RowFault> {
         match row.field(0)?.as_bytes() {
-            b"entry" => move_entry(alloc, row, out),
+            b"entry" => move_entry(alloc, Reading::Pictured, row, out),
+            b"whole" => move_entry(alloc, Reading::Whole, row, out),
             b"constant" => move_constant(alloc, row, out),
             _ => Err(RowFault::BadRow),
         }

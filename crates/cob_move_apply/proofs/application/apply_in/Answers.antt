@@ -1,4 +1,4 @@
-use Rattle.std.proofs.Common.{◌≡◌, ◌+◌, ◌∙◌, drop, refl, sym, subst, List}
+use Rattle.std.proofs.Common.{◌+◌, ◌∙◌, drop, refl, sym, subst, List}
 use Rattle.std.proofs.lemmas.Result.{err_from_is_err_and}
 use Rattle.cob_layout_places.specs.Moves.{Records, moves, statement_moves}
 use Rattle.cob_move_apply.specs.declared.basis.Basis.{Basis}
@@ -31,7 +31,7 @@ make_moves-requires-clause-placed c =
 pub loop-one-preserved : goal.loop-one-preserved
 loop-one-preserved c =
     let r : Records = records c.args.layouts.now in record {
-      applied = made_more r c.args.given.now c.loop-one.one-index c.one-item.result c.args.input.now c.args.output.now c.loop-one.output c.make_moves.new.output
+      applied = made_more c.args.layouts.now.reading r c.args.given.now c.loop-one.one-index c.one-item.result c.args.input.now c.args.output.now c.loop-one.output c.make_moves.new.output
           c.loop-one-test.true c.one-item.is c.loop-one.invariant.applied c.in_ok-make_moves.ensures.applied;
       left = subst (λ (xs : List Basis). ArePlacedMoves r (moves r (drop (c.loop-one.one-index + 1) c.args.given.now)) xs) (sym c.split_at.ensures.back)
           (behind_for r (statement_moves r c.one-item.result) (moves r (drop (c.loop-one.one-index + 1) c.args.given.now)) c.loop-one.rest.now c.operands_in.result (c.operands_in.ensures r)
@@ -44,9 +44,9 @@ pub returns-in_err-make_moves-clause-applied : goal.returns-in_err-make_moves-cl
 returns-in_err-make_moves-clause-applied c =
     let p = err_from_is_err_and c.from_residual.result c.from_residual.ensures.1 in
     rw (p.1, p.2)
-    (made_stops (records c.args.layouts.now) c.args.given.now c.loop-one.one-index c.one-item.result c.args.input.now c.args.output.now c.loop-one.output c.make_moves.new.output
+    (made_stops c.args.layouts.now.reading (records c.args.layouts.now) c.args.given.now c.loop-one.one-index c.one-item.result c.args.input.now c.args.output.now c.loop-one.output c.make_moves.new.output
     c.in_err-make_moves.field-0.0 c.loop-one-test.true c.one-item.is c.loop-one.invariant.applied c.in_err-make_moves.ensures.applied)
 
 pub returns-clause-applied : goal.returns-clause-applied
 returns-clause-applied c =
-    made_all (records c.args.layouts.now) c.args.given.now c.loop-one.one-index c.args.input.now c.args.output.now c.loop-one.output c.loop-one-test.false c.loop-one.invariant.applied
+    made_all c.args.layouts.now.reading (records c.args.layouts.now) c.args.given.now c.loop-one.one-index c.args.input.now c.args.output.now c.loop-one.output c.loop-one-test.false c.loop-one.invariant.applied

@@ -5,5 +5,5 @@ use Rattle.cob_move_apply.proofs.pairs.make_pair_move.Goals as goal
 
 pub returns-clause-moved : goal.returns-clause-moved
 returns-clause-moved c =
-    pair_moved (records c.args.layouts.now) c.args.group.now c.args.pair.now c.entry_below-from.result c.entry_below-to.result c.from_ref-entries.result.now c.args.input.now c.args.output.now
+    pair_moved c.args.layouts.now.reading (records c.args.layouts.now) c.args.group.now c.args.pair.now c.entry_below-from.result c.entry_below-to.result c.from_ref-entries.result.now c.args.input.now c.args.output.now
     (ending c.move_entry.result c.move_entry.new.output) c.entry_below-from.ensures c.entry_below-to.ensures c.from_ref-entries.ensures.value c.move_entry.ensures.moved

@@ -24,11 +24,11 @@ pub returns-in_err-place-clause-moved : goal.returns-in_err-place-clause-moved
 returns-in_err-place-clause-moved c =
     let p = err_from_is_err_and c.from_residual.result c.from_residual.ensures.1 in
     rw (p.1, p.2)
-    (stops_first (records c.args.layouts.now) In (operand_of c.args.sender.now) (receivers_in c.args.layouts.now.output.now c.args.receivers.now) c.args.input.now c.args.output.now
+    (stops_first (records c.args.layouts.now) In c.args.layouts.now.reading (operand_of c.args.sender.now) (receivers_in c.args.layouts.now.output.now c.args.receivers.now) c.args.input.now c.args.output.now
     c.in_err-place.field-0.0 c.in_err-place.ensures.located)
 
 pub returns-clause-moved : goal.returns-clause-moved
 returns-clause-moved c =
-    moved (records c.args.layouts.now) In (operand_of c.args.sender.now) (receivers_in c.args.layouts.now.output.now c.args.receivers.now) c.args.input.now c.args.output.now c.field.result.now
+    moved (records c.args.layouts.now) In c.args.layouts.now.reading (operand_of c.args.sender.now) (receivers_in c.args.layouts.now.output.now c.args.receivers.now) c.args.input.now c.args.output.now c.field.result.now
     c.in_ok-place.place (ending c.receive_all.result c.receive_all.new.output)
     c.in_ok-place.ensures.located c.field.ensures c.receive_all.ensures.get
