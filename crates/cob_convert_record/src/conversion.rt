@@ -1,6 +1,6 @@
 //! The conversion of one record.
 
-ghost use Rattle.std.specs.Prelude.{◌≡◌, ◌<◌, ◌≤◌, length, min, take, IfOk, IfErr, IfSome, OnOk};
+ghost use Rattle.std.specs.Prelude.{◌≡◌, ◌<◌, ◌≤◌, false, length, min, take, IfOk, IfErr, IfSome, OnOk};
 ghost use Rattle.cob_limits.specs.Limits.{longest_record};
 ghost use Rattle.cob_layout.specs.Storage.{greatest_length};
 ghost use Rattle.cob_copybook_tree.specs.Forests.{entries_in};
@@ -83,8 +83,8 @@ impl Conversion {
     ghost use Rattle.cob_move_initial.specs.Initial.{IsInitial};
     ghost use Rattle.cob_convert_record.specs.Conversion.{conversion_by, in_length, out_length};
     ghost use Rattle.cob_records.specs.Device.{Told, counted};
-    ghost use Rattle.cob_stream.specs.Input.{IsJudged, ReadsRecord};
-    ghost use Rattle.cob_stream.specs.Reasons.{IsInputReason, is_read_cause, is_refused_for};
+    ghost use Rattle.cob_stream.specs.Input.{IsInputReason, IsJudged, ReadsRecord};
+    ghost use Rattle.cob_stream.specs.Reasons.{is_read_cause, is_refused_for, is_write_cause};
     ghost use Rattle.cob_stream.specs.Sizes.{IsSized, IsMeasureFault};
     ghost use Rattle.cob_convert_record.specs.Becoming.{Becomes, StopsAt};
     ghost use Rattle.cob_convert_record.specs.Rooms.{capacity_for};
@@ -202,10 +202,13 @@ impl Conversion {
         // Where the source tells its bytes: which of them were read, and what they are.
         ensures reads { Told (R.coming source.old) (R.coming source.new)
             (ReadsRecord self.now.in_form self.now.records.input slot.new result) }
-        // At any source: what is answered is a record of the input, or the reason of one that comes in.
+        // At any source: what is answered is a record of the input that stands in the slice, or why the next one is refused, which is no
+        // fault of writing.
         ensures judged { IfOk result (λ found. IfSome found
             (IsJudged self.now.in_form self.now.records.input slot.new)) }
-        ensures reason { IfErr result IsInputReason }
+        ensures reason { IfErr result
+            (IsInputReason self.now.in_form self.now.records.input slot.new) }
+        ensures kind { IfErr result (λ why. is_write_cause why.cause ≡ false) }
         // A read failed exactly where that is the reason.
         ensures cause { R.failures source.new
             ≡ counted (is_refused_for is_read_cause result) (R.failures source.old) }

@@ -1,5 +1,5 @@
 -- Where in a record a run stops, and why; and which end failed there.
-use Rattle.std.specs.Prelude.{◌≡◌, ℕ, Bool, false, Option, Ok, Err, Result}
+use Rattle.std.specs.Prelude.{ℕ, Bool, false, Option, Ok, Err, Result}
 use Rattle.cob_records.specs.declared.records.RecordFault.{RecordFault}
 use Rattle.cob_records.specs.declared.records.RecordFault.TheVariants.{Length}
 use Rattle.cob_records.specs.Frame.{is_read_failure, is_write_error, is_write_fault}
@@ -47,16 +47,6 @@ offset_from Unfitting = 0
 -- the reason of a record that isn't one of its layout
 abbrev pub misfit_reason : MeasureFault → Reason
 misfit_reason why = record { side = In; offset = offset_from why; cause = refusal_from why }
-
--- What stops a run at a record that comes in: a count, or at the front of the record a fault of its frame or of its length, which is none of writing.
-abbrev pub StopsInput : ℕ → Cause → Type 0
-StopsInput offset Count = Unit {0}
-StopsInput offset (Record fault) = (offset ≡ 0) × (is_write_fault fault ≡ false)
-StopsInput offset _ = ⊥
-
--- the reason is that of a record that comes in
-abbrev pub IsInputReason : Reason → Type 0
-IsInputReason why = (why.side ≡ In) × StopsInput why.offset why.cause
 
 -- the next record is refused, for a cause of this kind
 abbrev pub is_refused_for : (Cause → Bool) → Result (Option ℕ) Reason → Bool

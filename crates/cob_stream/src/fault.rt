@@ -1,7 +1,7 @@
 //! Where and why a record stops a run.
 
-ghost use Rattle.std.specs.Prelude.{◌≡◌};
-ghost use Rattle.cob_stream.specs.Reasons.{IsInputReason, frame_reason, misfit_reason};
+ghost use Rattle.std.specs.Prelude.{◌≡◌, false};
+ghost use Rattle.cob_stream.specs.Reasons.{frame_reason, is_write_cause, misfit_reason};
 
 use crate::misfit::MeasureFault;
 use cob_layout_places::Side;
@@ -59,7 +59,7 @@ impl Reason {
     /// The reason of a record that isn't one of its layout.
     pub(crate) fn of_misfit(why: MeasureFault) -> Reason
         ensures reason { result ≡ misfit_reason why }
-        ensures input { IsInputReason result }
+        ensures kind { is_write_cause result.cause ≡ false }
     {
         let (offset, cause) = match why {
             MeasureFault::Count { offset } => (offset, Cause::Count),

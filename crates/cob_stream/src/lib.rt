@@ -11,8 +11,8 @@
 //! - [`read_record`] reads the next frame and measures the record in it. Where the source tells its bytes, the clause `reads` has the whole answer
 //!   (`ReadsRecord` of specs/Input.antt): no byte was left; a record of the layout came, and just its frame was read; its frame can't be read, of
 //!   which as much was read as `Reads` of cob_records says; or a whole frame came whose record isn't one of the layout. At any source what is
-//!   answered is a record of the layout (`judged`), or the reason of one that comes in (`reason`), and a read failed exactly where that is the
-//!   reason (`cause`).
+//!   answered is a record of the layout that stands in the slice (`judged`), or a frame that can't be read or a misfit of the record that stands
+//!   there (`reason`), and a read failed exactly where that is the reason (`cause`).
 //! - [`written_length`] says how many bytes of an output storage are written: all of them in form f, its current part in form v, where in both
 //!   forms every count is valid (`written`, by `IsOutputOf` of specs/Output.antt); else it names the first that isn't (`faulty`).
 //! - [`write_record`] writes a record in its frame, and counts the bytes of it that the sink took (`frame`, by `WritesRecord`); a write failed or

@@ -1,11 +1,11 @@
 //! Reading a record and judging it.
 
-ghost use Rattle.std.specs.Prelude.{◌≡◌, length, IfErr, IfOk, IfSome};
+ghost use Rattle.std.specs.Prelude.{◌≡◌, false, length, IfErr, IfOk, IfSome};
 ghost use Rattle.cob_copybook_tree.specs.Forests.{entries_in};
 ghost use Rattle.cob_layout.specs.Storage.{greatest_length};
 ghost use Rattle.cob_records.specs.Device.{Told, counted};
-ghost use Rattle.cob_stream.specs.Input.{IsJudged, ReadsRecord};
-ghost use Rattle.cob_stream.specs.Reasons.{IsInputReason, is_read_cause, is_refused_for};
+ghost use Rattle.cob_stream.specs.Input.{IsInputReason, IsJudged, ReadsRecord};
+ghost use Rattle.cob_stream.specs.Reasons.{is_read_cause, is_refused_for, is_write_cause};
 
 use crate::fault::Reason;
 use crate::misfit::measure;
@@ -33,9 +33,11 @@ pub fn read_record<R: Source>(
     ensures reads { Told (R.coming source.old) (R.coming source.new)
         (ReadsRecord form layout.now slot.new result) }
 
-    // At any source: what is answered is a record of the layout, or the reason of one that comes in.
+    // At any source: what is answered is a record of the layout that stands in the slice, or why the next one is refused, which is
+    // no fault of writing.
     ensures judged { IfOk result (λ found. IfSome found (IsJudged form layout.now slot.new)) }
-    ensures reason { IfErr result IsInputReason }
+    ensures reason { IfErr result (IsInputReason form layout.now slot.new) }
+    ensures kind { IfErr result (λ why. is_write_cause why.cause ≡ false) }
 
     // A read failed exactly where that is the reason.
     ensures cause { R.failures source.new
