@@ -58,11 +58,7 @@ impl<'a> Names<'a> {
     /// # Errors
     ///
     /// Memory for a list was refused.
-    pub fn of(
-        alloc: Global,
-        input: &'a Layout,
-        output: &'a Layout,
-    ) -> Result<Names<'a>, AllocError>
+    pub fn of(alloc: Global, input: &'a Layout, output: &'a Layout) -> Result<Names<'a>, AllocError>
         ensures { IfOk result (λ names. entries_named names ≡ all_entries input.now output.now) }
     {
         records_are_sound();
