@@ -1,7 +1,7 @@
-ghost use Rattle.std.specs.Prelude.{◌≡◌, ◌≤◌, ◌<◌, ◌+◌, ◌^◌, ◌++◌, ℕ, List, length, take, drop, vec_len, IfOk, is_err};
+ghost use Rattle.std.specs.Prelude.{◌≡◌, ◌≤◌, ◌<◌, ◌+◌, ◌^◌, ◌++◌, ℕ, List, length, take, drop, vec_len, IfOk, IfErr, is_err};
 ghost use Rattle.std.specs.Io.KnownBytes.{IsAtEnd};
 ghost use Rattle.cob_records.specs.Device.{counted};
-ghost use Rattle.cob_convert_files.specs.Texts.{IsReadOf, IsWhole, is_failed_read};
+ghost use Rattle.cob_convert_files.specs.Texts.{IsReadOf, IsReadingFault, IsWhole, is_failed_read};
 ghost use Rattle.cob_convert_files.specs.declared.texts.TextFault.TheVariants.{Memory, NotRead};
 
 use cob_limits::MAX_TEXT_BYTES;
@@ -65,6 +65,7 @@ fn read_piece<S: Source>(source: &mut S, bytes: &mut Vec<u8>) -> Result<usize, T
         × IsReadOf (S.coming source.old) (S.coming source.new) piece) }
     ensures now { IfOk result (λ now. (now ≡ vec_len bytes.new) × (now ≤ vec_len bytes.old + 65536)) }
     ensures end { IfOk result (λ now. now ≡ vec_len bytes.old → IsAtEnd (S.coming source.new)) }
+    ensures kind { IfErr result IsReadingFault }
     ensures cause { S.failures source.new ≡ counted (is_failed_read result) (S.failures source.old) }
 {
     let before = bytes.len();
@@ -90,6 +91,7 @@ pub fn read_whole<S: Source>(
     ensures whole { IfOk result (λ text. IsWhole most (S.coming source.new) text.items) }
     // An endless source is left soon.
     ensures bound { IfOk result (λ text. vec_len text ≤ most + 65536) }
+    ensures kind { IfErr result IsReadingFault }
     ensures cause { S.failures source.new ≡ counted (is_failed_read result) (S.failures source.old) }
 {
     let mut bytes = Vec::new(alloc);

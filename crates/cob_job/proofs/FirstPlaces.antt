@@ -9,6 +9,7 @@ use Rattle.std.proofs.lemmas.List.{drop_more, take_all, length-drop, take-append
 use Rattle.memchr.specs.Find.{IsFirstByte, is_byte}
 use Rattle.cob_source.specs.Lines.{lines, cut_return, FeedFirst}
 use Rattle.cob_job.specs.JobData.{line_digits, is_no_space}
+use Rattle.cob_job.specs.Marks.{behind_line}
 use Rattle.std.proofs.lemmas.List.Elements.{filter-append}
 use Rattle.cob_source.proofs.LineLemmas.{first_line, lines-last}
 
@@ -37,6 +38,26 @@ line_before text line at (none, is) e =
 pub line_without : (text : List ℕ) → 0 < length text → IsFirstByte (is_byte 10) text None → lines text ≡ text ∷ []
 line_without [] some none = absurd (omega (arith, some))
 line_without (b ∷ bs) some none = lines-last b bs (none_in 10 (b ∷ bs) none)
+
+behind_skip : (n : ℕ) (text : List ℕ) (b : ℕ) (more : List ℕ) → AllByRecursion (λ x. x ≢ 10) (take n text) → drop n text ≡ b ∷ more → (b == 10) ≡ true → behind_line text ≡ more
+behind_skip zero text b more w e is = rw (e, is) refl
+behind_skip (suc n) [] b more w e is = absurd (omega (arith, ap (length {A = ℕ}) e))
+behind_skip (suc n) (x ∷ xs) b more w e is = let ne : (x == 10) ≡ false = ne_eqb x 10 w.0 in rw ne (behind_skip n xs b more w.1 e is)
+
+-- what follows the first line feed
+pub rest_before : (text : List ℕ) (at : ℕ) → IsFirstByte (is_byte 10) text (Some at) → take (length text - (at + 1)) (drop (at + 1) text) ≡ behind_line text
+rest_before text at (none, is) =
+    let split : drop at text ≡ slice_index text at ∷ drop (at + 1) text = drop_more text at 0 none.high in
+    let all : take (length text - (at + 1)) (drop (at + 1) text) ≡ drop (at + 1) text = take_all (length text - (at + 1)) (drop (at + 1) text) (omega (arith, length-drop (at + 1) text)) in
+    all ∙ sym (behind_skip at text (slice_index text at) (drop (at + 1) text) (none_among 10 at text (λ j low. none.before j (omega arith) low)) split is)
+
+behind_none : (text : List ℕ) → AllByRecursion (λ x. x ≢ 10) text → behind_line text ≡ []
+behind_none [] w = refl
+behind_none (x ∷ xs) w = let ne : (x == 10) ≡ false = ne_eqb x 10 w.0 in rw ne (behind_none xs w.1)
+
+-- nothing follows, where there is no line feed
+pub rest_without : (text : List ℕ) → IsFirstByte (is_byte 10) text None → [] ≡ behind_line text
+rest_without text none = sym (behind_none text (none_in 10 text none))
 
 -- what is no space of bytes among which no space stands
 no_spaces : (xs : List ℕ) → AllByRecursion (λ x. x ≢ 32) xs → line_digits xs ≡ xs

@@ -1,10 +1,11 @@
-ghost use Rattle.std.specs.Prelude.{◌≡◌, ◌<◌, ◌+◌, ◌∷◌, length};
+ghost use Rattle.std.specs.Prelude.{◌≡◌, ◌<◌, ◌+◌, ◌∷◌, [], true, false, length, codes, IfOk, IfErr, IfSome, IfNone, OnOk, IsOkAnd, ◌⊎◌};
 ghost use Rattle.cob_source.specs.Lines.{lines, cut_return};
+ghost use Rattle.cob_job.specs.Marks.{IsJobOf, IsNextLine, IsNoJob, IsOtherLine, IsPartBefore, Parts, behind_line, first_line_of, is_part_end, mark_by};
 
 use cob_records::Form;
 use memchr::memchr;
 
-/// The parts of a job: three texts, the form of the records on each side, and the input's data, in digits.
+/// The parts of a job: three texts, the form of the records on each side, and the digits of the input's data.
 #[derive(Drop)]
 pub struct JobText<'a> {
     pub in_form: Form,
@@ -12,7 +13,7 @@ pub struct JobText<'a> {
     pub in_book: &'a [u8],
     pub out_book: &'a [u8],
     pub moves: &'a [u8],
-    pub data: &'a [u8],
+    pub digits: &'a [u8],
     /// The number of the data's first line, from 1.
     pub data_line: u32,
 }
@@ -30,6 +31,7 @@ pub fn split_line(text: &[u8]) -> (&[u8], &[u8])
     requires { 0 < length text.now }
     ensures line { lines text.now ≡ result.0.now ∷ lines result.1.now }
     ensures shorter { length result.1.now < length text.now }
+    ensures rest { result.1.now ≡ behind_line text.now }
 {
     match memchr(b'\n', text) {
         Some(at) => (without_return(&text[..at]), &text[at + 1..]),
@@ -47,9 +49,32 @@ fn without_return(line: &[u8]) -> &[u8]
     if *last == b'\r' { front } else { line }
 }
 
+/// Whether a line is the wanted one.
+fn is_line(line: &[u8], wanted: &[u8]) -> bool
+    ensures yes { result ≡ true → line.now ≡ wanted.now }
+    ensures must { line.now ≡ wanted.now → result ≡ true }
+{
+    *line == *wanted
+}
+
+/// Whether a part ends here: at a mark, or where the text does.
+fn part_ends(text: &[u8]) -> bool
+    ensures value { result ≡ is_part_end text.now }
+    ensures some { result ≡ false → 0 < length text.now }
+{
+    match text.split_first() {
+        Some((first, _)) => *first == b'=',
+        None => true,
+    }
+}
+
 impl<'a> Lines<'a> {
     /// Took the next line, if there is one.
-    fn next(&mut self) -> Option<&'a [u8]> {
+    fn next(&mut self) -> Option<&'a [u8]>
+        ensures some { IfSome result (λ line. IsNextLine self.old.rest.now self.old.number
+            line.now self.new.rest.now self.new.number) }
+        ensures none { IfNone result (self.old.rest.now ≡ []) }
+    {
         if self.rest.is_empty() {
             return None;
         }
@@ -60,9 +85,12 @@ impl<'a> Lines<'a> {
     }
 
     /// Took the lines up to the next mark, or to the end.
-    fn part(&mut self) -> &'a [u8] {
+    fn part(&mut self) -> &'a [u8]
+        ensures { IsPartBefore self.old.rest.now self.old.number
+            result.now self.new.rest.now self.new.number }
+    {
         let whole = self.rest;
-        while !self.rest.is_empty() && self.rest[0] != b'=' {
+        while !part_ends(self.rest) {
             let (_, rest) = split_line(self.rest);
             self.rest = rest;
             self.number = self.number.saturating_add(1);
@@ -71,30 +99,47 @@ impl<'a> Lines<'a> {
     }
 
     /// Took a line that is to be a mark; where it is another, its number is the fault, and where none is left, 0.
-    fn mark(&mut self, wanted: &[u8]) -> Result<(), u32> {
+    fn mark(&mut self, wanted: &[u8]) -> Result<(), u32>
+        ensures ok { OnOk result (IsNextLine self.old.rest.now self.old.number
+            wanted.now self.new.rest.now self.new.number) }
+        ensures err { IfErr result (λ fault. IsOtherLine (λ line. line ≡ wanted.now)
+            self.old.rest.now self.old.number fault) }
+    {
         let number = self.number;
         match self.next() {
             None => Err(0),
-            Some(line) if *line == *wanted => Ok(()),
+            Some(line) if is_line(line, wanted) => Ok(()),
             Some(_) => Err(number),
         }
     }
 
     /// Took a mark that ends in a record form.
-    fn form_mark(&mut self, fixed: &[u8], variable: &[u8]) -> Result<Form, u32> {
+    fn form_mark(&mut self, fixed: &[u8], variable: &[u8]) -> Result<Form, u32>
+        ensures ok { IfOk result (λ form. IsNextLine self.old.rest.now self.old.number
+            (mark_by fixed.now variable.now form) self.new.rest.now self.new.number) }
+        ensures err { IfErr result (λ fault. IsOtherLine (λ line. (line ≡ fixed.now) ⊎ (line ≡ variable.now))
+            self.old.rest.now self.old.number fault) }
+    {
         let number = self.number;
         match self.next() {
             None => Err(0),
-            Some(line) if *line == *fixed => Ok(Form::Fixed),
-            Some(line) if *line == *variable => Ok(Form::Variable),
+            Some(line) if is_line(line, fixed) => Ok(Form::Fixed),
+            Some(line) if is_line(line, variable) => Ok(Form::Variable),
             Some(_) => Err(number),
         }
     }
 }
 
 impl<'a> JobText<'a> {
+    ghost use Rattle.cob_job.specs.Parts.{parts_of};
+
     /// Cuts a job at its marks. The fault is the number of the first bad line, or 0 where a mark lacks.
-    pub fn read(text: &'a [u8]) -> Result<JobText<'a>, u32> {
+    pub fn read(text: &'a [u8]) -> Result<JobText<'a>, u32>
+        ensures found { IfOk result (λ job. IsJobOf text.now (parts_of job)) }
+        ensures number { IfOk result (λ job. job.data_line ≡ first_line_of text.now job.digits.now) }
+        ensures only { (parts : Parts) → IsJobOf text.now parts → IsOkAnd result (λ job. parts_of job ≡ parts) }
+        ensures refused { IfErr result (λ line. IsNoJob text.now line) }
+    {
         let mut lines = Lines {
             rest: text,
             number: 1,
@@ -112,7 +157,7 @@ impl<'a> JobText<'a> {
             in_book,
             out_book,
             moves,
-            data: lines.rest,
+            digits: lines.rest,
             data_line: lines.number,
         })
     }

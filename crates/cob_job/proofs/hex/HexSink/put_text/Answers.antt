@@ -1,17 +1,27 @@
-use Rattle.std.proofs.Common.{arith, Ok, Err}
-use Rattle.std.proofs.lemmas.Result.{err_from_is_err_and}
-use Rattle.cob_job.proofs.Digits.{puts_text}
+use Rattle.std.proofs.Common.{◌/◌, ◌%◌, ◌+◌, take, length, refl, arith}
+use Rattle.cob_job.proofs.Digits.{grows, puts_text, says_more, taken_within}
+use Rattle.cob_job.specs.Printed.{with_due}
 use Rattle.cob_job.proofs.hex.HexSink.put_text.Goals as goal
 
-pub returns-in_err-count-clause-text : goal.returns-in_err-count-clause-text
-returns-in_err-count-clause-text g c =
-    let took = rw c.write_text.ensures at c.in_err-count.ensures.text in
-    let p = err_from_is_err_and c.from_residual.result c.from_residual.ensures.1 in
-    rw p.1 (puts_text c.args.bytes.now c.min-size.result (Err c.in_err-count.field-0.0) (g.W.Sink.taken c.args.self.now.inner.now) (g.W.Sink.taken c.put_pairs.new.sink)
-    (omega arith) took)
+pub invariant_of-self-2-clause-text : goal.invariant_of-self-2-clause-text
+invariant_of-self-2-clause-text g c =
+    (grows g.K.Opening.before (with_due (g.W.Sink.taken c.args.self.now.inner) c.args.self.now.due) (with_due (g.W.Sink.taken c.write.new.self) c.digit_due-self.result)
+    (take (c.in_ok-went.went / 2 + c.in_ok-went.went % 2) c.args.bytes.now) c.args.self.now.text
+    (puts_text c.args.bytes.now c.write_text.new.text c.min-size.result c.in_ok-went.went (c.in_ok-went.went / 2 + c.in_ok-went.went % 2) c.digit_due-self.result
+    c.args.self.now.due (g.W.Sink.taken c.args.self.now.inner) (g.W.Sink.taken c.write.new.self) (omega arith) c.write_text.ensures c.in_ok-went.ensures.count refl
+    c.digit_due-self.ensures.pair c.in_ok-went.ensures.bytes c.requires.due)).0
+
+pub invariant_of-self-2-clause-said : goal.invariant_of-self-2-clause-said
+invariant_of-self-2-clause-said g c =
+    says_more c.args.self.now.begun (c.in_ok-went.went / 2 + c.in_ok-went.went % 2) g.K.Opening.before
+    (with_due (g.W.Sink.taken c.args.self.now.inner) c.args.self.now.due) (with_due (g.W.Sink.taken c.write.new.self) c.digit_due-self.result)
+    c.args.bytes.now c.args.self.now.said (taken_within c.args.bytes.now c.write_text.new.text c.min-size.result c.in_ok-went.went (omega arith) c.write_text.ensures c.in_ok-went.ensures.count) c.args.self.now.text
+    (puts_text c.args.bytes.now c.write_text.new.text c.min-size.result c.in_ok-went.went (c.in_ok-went.went / 2 + c.in_ok-went.went % 2) c.digit_due-self.result
+    c.args.self.now.due (g.W.Sink.taken c.args.self.now.inner) (g.W.Sink.taken c.write.new.self) (omega arith) c.write_text.ensures c.in_ok-went.ensures.count refl
+    c.digit_due-self.ensures.pair c.in_ok-went.ensures.bytes c.requires.due)
 
 pub returns-clause-text : goal.returns-clause-text
 returns-clause-text g c =
-    let took = rw c.write_text.ensures at c.in_ok-count.ensures.text in
-    puts_text c.args.bytes.now c.min-size.result (Ok c.in_ok-count.count) (g.W.Sink.taken c.args.self.now.inner.now) (g.W.Sink.taken c.put_pairs.new.sink)
-    (omega arith) took
+    puts_text c.args.bytes.now c.write_text.new.text c.min-size.result c.in_ok-went.went (c.in_ok-went.went / 2 + c.in_ok-went.went % 2) c.digit_due-self.result
+    c.args.self.now.due (g.W.Sink.taken c.args.self.now.inner) (g.W.Sink.taken c.write.new.self) (omega arith) c.write_text.ensures c.in_ok-went.ensures.count refl
+    c.digit_due-self.ensures.pair c.in_ok-went.ensures.bytes c.requires.due
