@@ -6,8 +6,8 @@ use crate::job_data::DataFault;
 use crate::jobs::Status;
 use cob_convert::PrepareFault;
 use cob_convert_files::TextFault;
-use cob_stream::{Cause, RunFault};
 use cob_records::RecordFault;
+use cob_stream::{Cause, RunFault};
 use std::alloc::AllocError;
 use thiserror::Error;
 
