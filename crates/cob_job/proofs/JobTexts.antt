@@ -1,5 +1,5 @@
 -- A reader's way through the text of a job: what it finds is what the text is made of, and what it refuses is no job.
-use Rattle.std.proofs.Common.{◌≡◌, ℕ, zero, suc, ◌+◌, ◌-◌, ◌^◌, ◌<◌, ◌≤◌, min, Bool, true, false, List, [], ◌∷◌, ◌++◌, length, take, refl, sym, ap, subst, ◌∙◌, arith, inl, inr}
+use Rattle.std.proofs.Common.{◌≡◌, ℕ, suc, ◌+◌, ◌-◌, ◌^◌, ◌<◌, true, List, [], ◌∷◌, ◌++◌, length, take, refl, sym, ap, subst, ◌∙◌, arith, inl, inr}
 use Rattle.std.specs.Prelude.{◌⊎◌}
 use Rattle.std.proofs.lemmas.List.{append_assoc, append-nil, append_cancel_right}
 use Rattle.std.proofs.Math.ListN.{length-append}
@@ -9,8 +9,8 @@ use Rattle.cob_records.specs.declared.records.Form.TheVariants.{Fixed, Variable}
 use Rattle.cob_source.specs.Lines.{lines, led_by}
 use Rattle.std.proofs.lemmas.Bool.{eqb-true}
 use Rattle.cob_job.specs.JobData.{line_number_behind}
-use Rattle.cob_job.specs.Marks.{in_mark, out_mark, moves_mark, data_mark, begins_mark, HoldNoMark, IsLineEnd, IsEndBefore, has_whole_lines, IsPart, IsSection, Parts, IsJobOf, IsMarkBehind, BeginsJob, LacksMark, IsFirstBadMark, IsNoJob, first_line_of, behind_line, from_mark, IsNextLine, IsOtherLine, IsPartBefore, mark_by}
-use Rattle.cob_job.proofs.MarkLemmas.{Bytes, heads, tails, not_none, no_lines, first_line, lines-append, before_mark, parted, ends_at_mark, no_mark_before, mark_behind}
+use Rattle.cob_job.specs.Marks.{in_mark, out_mark, moves_mark, data_mark, begins_mark, IsLineEnd, IsEndBefore, has_whole_lines, IsPart, IsSection, Parts, IsJobOf, IsMarkBehind, BeginsJob, IsNoJob, first_line_of, behind_line, from_mark, IsNextLine, IsOtherLine, IsPartBefore}
+use Rattle.cob_job.proofs.MarkLemmas.{Bytes, heads, not_none, first_line, lines-append, before_mark, parted, ends_at_mark, no_mark_before, mark_behind}
 
 -- ---- what is read
 

@@ -1,11 +1,9 @@
 -- A job's text at its marks: lines with their ends, parts, and what a reader finds.
-use Rattle.std.proofs.Common.{◌≡◌, ◌≢◌, ℕ, ◌+◌, ◌-◌, ◌^◌, ◌<◌, ◌≤◌, min, Bool, true, false, List, [], ◌∷◌, ◌++◌, length, refl, sym, ap, ◌∙◌, arith, inl, inr}
+use Rattle.std.proofs.Common.{◌≡◌, ℕ, Bool, true, false, List, [], ◌∷◌, ◌++◌, length, refl, sym, ap, ◌∙◌, arith, inl, inr}
 use Rattle.std.specs.Prelude.{◌==◌, ◌&&◌, ◌⊎◌, if◌then◌else◌}
-use Rattle.std.specs.List.{AllByRecursion}
 use Rattle.std.proofs.lemmas.Bool.{eqb-true, both_ways, and_parts}
-use Rattle.std.proofs.lemmas.List.{append_assoc, append-nil}
 use Rattle.cob_source.specs.Lines.{lines, led_by, feed_first}
-use Rattle.cob_job.specs.Marks.{begins_mark, HoldNoMark, IsLineEnd, IsEndBefore, ends_in_feed, behind_line, from_mark, is_part_end}
+use Rattle.cob_job.specs.Marks.{begins_mark, HoldNoMark, IsEndBefore, ends_in_feed, behind_line, from_mark, is_part_end}
 
 abbrev pub Bytes : Type 0
 Bytes = List ℕ

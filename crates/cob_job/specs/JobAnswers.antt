@@ -11,7 +11,7 @@ use Rattle.cob_convert_record.specs.Conversion.{Conversion}
 use Rattle.cob_stream.specs.declared.fault.RunFault.{RunFault}
 use Rattle.cob_convert.specs.declared.fault.PrepareFault.{PrepareFault}
 use Rattle.cob_convert.specs.Means.{Means, IsPrepareRefusal}
-use Rattle.cob_convert.specs.Run.{Ran, is_read_stop, is_write_stop}
+use Rattle.cob_convert.specs.Run.{Ran, is_write_stop}
 use Rattle.cob_convert.specs.Converted.{Converted}
 use Rattle.cob_job.specs.declared.job_data.DataFault.{DataFault}
 use Rattle.cob_job.specs.declared.fault.JobFault.{JobFault}
@@ -110,6 +110,7 @@ pub record SinkState : Type 0 where
   pub taken : Option (List ℕ)
   pub failed : ℕ
 
+-- a sink that tells this, and so many of whose calls have failed
 abbrev pub sink_state : Option (List ℕ) → ℕ → SinkState
 sink_state taken failed = record { taken = taken; failed = failed }
 
@@ -135,6 +136,7 @@ pub record JobEnds : Type 0 where
   pub taken : Option (List ℕ)
   pub writes_failed : ℕ
 
+-- the ends of a job that tell this, and so many of whose calls have failed
 abbrev pub job_ends : Option (List ℕ) → ℕ → Option (List ℕ) → ℕ → JobEnds
 job_ends coming reads_failed taken writes_failed = record { coming = coming; reads_failed = reads_failed; taken = taken; writes_failed = writes_failed }
 

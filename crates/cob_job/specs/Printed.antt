@@ -1,5 +1,5 @@
 -- Bytes that are printed as their text behind what was printed before, where the last byte's low digit may still be due.
-use Rattle.std.specs.Prelude.{◌≡◌, ℕ, ◌+◌, ◌-◌, ◌*◌, nat_lt, if◌then◌else◌, Bool, true, ◌==◌, ◌&&◌, not, List, [], ◌∷◌, length, drop, None, Some, Option, Ok, Err, Result}
+use Rattle.std.specs.Prelude.{◌≡◌, ℕ, ◌+◌, ◌-◌, ◌*◌, nat_lt, if◌then◌else◌, Bool, true, not, List, [], ◌∷◌, length, drop, None, Some, Option, Ok, Err, Result}
 use Rattle.std.specs.Io.KnownBytes.{append_known}
 use Rattle.cob_records.specs.declared.device.DeviceFault.{DeviceFault}
 use Rattle.cob_records.specs.Hex.{hex_text}

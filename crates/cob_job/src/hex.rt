@@ -62,7 +62,8 @@ fn write_text(bytes: &[u8], text: &mut [u8])
 fn digit_due(text: &[u8], went: usize) -> Option<u8>
     requires even { length text.now % 2 ≡ 0 }
     requires within { went ≤ length text.now }
-    ensures pair { take went text.now ++ due_text result ≡ take (2 * (went / 2 + went % 2)) text.now }
+    ensures pair { take went text.now ++ due_text result
+        ≡ take (2 * (went / 2 + went % 2)) text.now }
     ensures none { went ≡ 0 → result ≡ None }
 {
     if went % 2 == 0 {

@@ -117,7 +117,8 @@ impl<'a> Lines<'a> {
     fn form_mark(&mut self, fixed: &[u8], variable: &[u8]) -> Result<Form, u32>
         ensures ok { IfOk result (λ form. IsNextLine self.old.rest.now self.old.number
             (mark_by fixed.now variable.now form) self.new.rest.now self.new.number) }
-        ensures err { IfErr result (λ fault. IsOtherLine (λ line. (line ≡ fixed.now) ⊎ (line ≡ variable.now))
+        ensures err { IfErr result (λ fault. IsOtherLine
+            (λ line. (line ≡ fixed.now) ⊎ (line ≡ variable.now))
             self.old.rest.now self.old.number fault) }
     {
         let number = self.number;
@@ -136,8 +137,10 @@ impl<'a> JobText<'a> {
     /// Cuts a job at its marks. The fault is the number of the first bad line, or 0 where a mark lacks.
     pub fn read(text: &'a [u8]) -> Result<JobText<'a>, u32>
         ensures found { IfOk result (λ job. IsJobOf text.now (parts_of job)) }
-        ensures number { IfOk result (λ job. job.data_line ≡ first_line_of text.now job.digits.now) }
-        ensures only { (parts : Parts) → IsJobOf text.now parts → IsOkAnd result (λ job. parts_of job ≡ parts) }
+        ensures number { IfOk result
+            (λ job. job.data_line ≡ first_line_of text.now job.digits.now) }
+        ensures only { (parts : Parts) → IsJobOf text.now parts
+            → IsOkAnd result (λ job. parts_of job ≡ parts) }
         ensures refused { IfErr result (λ line. IsNoJob text.now line) }
     {
         let mut lines = Lines {

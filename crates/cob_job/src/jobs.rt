@@ -70,7 +70,8 @@ impl Status {
 
 /// Reads a job whole, or past its greatest length.
 fn read_job<R: Source>(alloc: Global, source: &mut R) -> Result<Vec<u8>, JobFault>
-    ensures bytes { IfOk result (λ text. IsReadOf (R.coming source.old) (R.coming source.new) text.items) }
+    ensures bytes { IfOk result
+        (λ text. IsReadOf (R.coming source.old) (R.coming source.new) text.items) }
     ensures whole { IfOk result (λ text. IsWhole longest_job (R.coming source.new) text.items) }
     ensures kind { IfErr result (λ fault. IsUnreadFault fault) }
     ensures cause { R.failures source.new ≡ counted (is_unread result) (R.failures source.old) }
@@ -205,8 +206,10 @@ fn end_job<W: Sink>(
 
 /// Reads a job, does it, and prints its output as digits.
 fn print_answer<R: Source, W: Sink>(alloc: Global, source: &mut R, sink: W) -> Printing<W>
-    ensures { PrintsAnswer (job_ends (R.coming source.old) (R.failures source.old) (W.taken sink) (W.failures sink))
-        (job_ends (R.coming source.new) (R.failures source.new) (W.taken result.sink) (W.failures result.sink))
+    ensures { PrintsAnswer
+        (job_ends (R.coming source.old) (R.failures source.old) (W.taken sink) (W.failures sink))
+        (job_ends (R.coming source.new) (R.failures source.new)
+        (W.taken result.sink) (W.failures result.sink))
         result.answer result.due result.begun }
 {
     match read_job(alloc, source) {
@@ -224,8 +227,11 @@ fn print_answer<R: Source, W: Sink>(alloc: Global, source: &mut R, sink: W) -> P
 /// hexadecimal digits, where there are some, and then `done` with the number of records, or what went wrong.
 /// The answer is the program's status, and the sink.
 pub fn job_into<R: Source, W: Sink>(alloc: Global, source: &mut R, sink: W) -> (u8, W)
-    ensures { IsDone (job_ends (R.coming source.old) (R.failures source.old) (W.taken sink) (W.failures sink))
-        (job_ends (R.coming source.new) (R.failures source.new) (W.taken result.1) (W.failures result.1)) result.0 }
+    ensures { IsDone
+        (job_ends (R.coming source.old) (R.failures source.old) (W.taken sink) (W.failures sink))
+        (job_ends (R.coming source.new) (R.failures source.new)
+        (W.taken result.1) (W.failures result.1))
+        result.0 }
 {
     let printing = print_answer(alloc, source, sink);
     let Printing {
@@ -240,7 +246,9 @@ pub fn job_into<R: Source, W: Sink>(alloc: Global, source: &mut R, sink: W) -> (
 
 /// Does a job with a sink that is lent, as [`job_into`] does with one that it hands back. The answer is the program's status.
 pub fn job<R: Source, W: Sink>(alloc: Global, source: &mut R, sink: &mut W) -> u8
-    ensures { EndsWith (job_ends (R.coming source.old) (R.failures source.old) (W.taken sink.old) (W.failures sink.old))
+    ensures { EndsWith
+        (job_ends (R.coming source.old) (R.failures source.old)
+        (W.taken sink.old) (W.failures sink.old))
         (R.coming source.new) (R.failures source.new) result }
 {
     let (code, _) = job_into(alloc, source, sink);

@@ -1,4 +1,4 @@
-use Rattle.std.proofs.Common.{◌/◌, ◌%◌, ◌+◌, take, length, refl, arith}
+use Rattle.std.proofs.Common.{◌/◌, ◌%◌, ◌+◌, take, refl, arith}
 use Rattle.cob_job.proofs.Digits.{grows, puts_text, says_more, taken_within}
 use Rattle.cob_job.specs.Printed.{with_due}
 use Rattle.cob_job.proofs.hex.HexSink.put_text.Goals as goal

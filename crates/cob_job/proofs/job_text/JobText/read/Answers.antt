@@ -1,7 +1,7 @@
-use Rattle.std.proofs.Common.{◌≡◌, ℕ, List, arith, refl, codes}
+use Rattle.std.proofs.Common.{◌≡◌, arith, refl}
 use Rattle.std.proofs.lemmas.Result.{err_from_is_err_and}
-use Rattle.cob_job.specs.Marks.{IsMarkBehind, in_mark, out_mark, moves_mark, data_mark}
-use Rattle.cob_job.proofs.JobTexts.{Reached, reach, reach_first, refuse, in_is_mark, out_is_mark, job_found, after_in, after_out, after_moves, after_mark, no_other_out, no_other_moves, no_other_data, one_in_form, one_out_form, same_parts}
+use Rattle.cob_job.specs.Marks.{IsMarkBehind, moves_mark, data_mark}
+use Rattle.cob_job.proofs.JobTexts.{reach, reach_first, refuse, in_is_mark, out_is_mark, job_found, after_in, after_out, after_moves, after_mark, no_other_out, no_other_moves, no_other_data, one_in_form, one_out_form, same_parts}
 use Rattle.cob_job.proofs.job_text.JobText.read.Goals as goal
 
 pub returns-in_err-out_form-clause-only : goal.returns-in_err-out_form-clause-only

@@ -1,6 +1,5 @@
 use Rattle.std.proofs.Common.{◌≡◌, ◌-◌, length, take, true, false, refl, sym, ap, ◌∙◌, arith, List, ℕ, rules}
-use Rattle.cob_source.specs.Lines.{lines}
-use Rattle.cob_job.specs.Marks.{from_mark, is_part_end}
+use Rattle.cob_job.specs.Marks.{is_part_end}
 use Rattle.cob_job.proofs.MarkLemmas.{past_line, at_end}
 use Rattle.cob_job.proofs.JobTexts.{part_before}
 use Rattle.cob_job.proofs.job_text.Lines.part.Goals as goal

@@ -1,4 +1,4 @@
-use Rattle.std.proofs.Common.{◌≡◌, ◌-◌, ◌^◌, ◌<◌, ◌≤◌, length, true, List, ℕ}
+use Rattle.std.proofs.Common.{◌≡◌, ◌-◌, ◌^◌, ◌<◌, ◌≤◌, length, true}
 use Rattle.cob_source.specs.Lines.{lines}
 use Rattle.cob_job.specs.JobData.{line_number_behind}
 use Rattle.cob_job.specs.Marks.{from_mark}
