@@ -1,0 +1,2 @@
+pub mod ElementLemmas
+pub mod RecordLemmas

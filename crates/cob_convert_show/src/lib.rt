@@ -19,6 +19,7 @@
 
 mod elements;
 mod entries;
+mod named;
 mod records;
 mod text;
 mod values;

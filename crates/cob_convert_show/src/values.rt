@@ -1,7 +1,7 @@
 //! The values of items.
 
-ghost use Rattle.std.specs.Prelude.{◌≡◌, ◌≤◌, ◌<◌, length, IfErr, IfSome, IfNone, Some, None, is_err, true, false, Bool, List, [], ◌∷◌, ℕ};
-ghost use Rattle.cob_records.specs.Hex.{digit_character};
+ghost use Rattle.std.specs.Prelude.{◌≡◌, ◌≤◌, ◌<◌, ◌+◌, ◌++◌, length, IfErr, IfSome, IfNone, Some, None, is_err, true, false, Bool, List, [], ◌∷◌, ℕ};
+ghost use Rattle.cob_records.specs.Hex.{digit_character, byte_text};
 ghost use Rattle.cob_copybook_tree.specs.Lengths.{item_size};
 ghost use Rattle.cob_cp037.specs.Table.{IsCoded};
 ghost use Rattle.cob_copybook_tree.specs.Items.{IsNumberItem, Represents};
@@ -9,7 +9,7 @@ ghost use Rattle.cob_convert_show.specs.Values.{IsNumberShown, is_escaped, escap
 ghost use Rattle.cob_records.specs.Device.{counted};
 ghost use Rattle.cob_records.specs.Frame.{is_write_error, is_write_fault};
 
-use crate::text::put;
+use crate::text::{Line, push_text, put};
 use arrayvec::ArrayVec;
 use cob_convert_record::{Item, is_number_item, read_number};
 use cob_cp037::decode_byte;
@@ -89,48 +89,122 @@ fn number_text(item: &Item, bytes: &[u8]) -> Option<ArrayVec<u8, 64>>
     Some(text)
 }
 
-/// Writes bytes as characters, in quotation marks.
-fn put_characters<W: Sink>(sink: &mut W, sent: &mut u64, bytes: &[u8]) -> Result<(), RecordFault>
+/// Adds how a byte is shown among characters.
+fn push_byte(line: &mut Line, byte: u8)
+    requires { length line.old.items + 4 ≤ 256 }
+    ensures long { length line.new.items ≤ length line.old.items + 4 }
+{
+    push_text(line, shown_byte(byte).as_slice());
+}
+
+/// Adds the hexadecimal digits of a byte.
+fn push_digits(line: &mut Line, byte: u8)
+    requires { length line.old.items + 2 ≤ 256 }
+    ensures { line.new.items ≡ line.old.items ++ byte_text byte }
+{
+    line.push(digit(byte / 16));
+    line.push(digit(byte % 16));
+}
+
+/// Writes what a line holds where there is no room left for a further byte as it is shown and for the end of the line.
+fn make_room<W: Sink>(sink: &mut W, sent: &mut u64, line: &mut Line) -> Result<(), RecordFault>
+    ensures room { length line.new.items + 6 ≤ 256 }
     ensures kind { IfErr result (λ fault. is_write_fault fault ≡ true) }
     ensures cause { W.failures sink.new ≡ counted (is_err result) (W.failures sink.old) }
     ensures errors { W.errors sink.new ≡ counted (is_write_error result) (W.errors sink.old) }
 {
-    put(sink, sent, b"\"")?;
-    for byte in bytes {
-        put(sink, sent, shown_byte(*byte).as_slice())?;
+    if line.remaining_capacity() >= 6 {
+        return Ok(());
     }
-    put(sink, sent, b"\"")
+    let answer = put(sink, sent, line.as_slice());
+    line.clear();
+    answer
 }
 
-/// Writes bytes that represent no number: a question mark and their hexadecimal digits.
-fn put_unknown<W: Sink>(sink: &mut W, sent: &mut u64, bytes: &[u8]) -> Result<(), RecordFault>
-    ensures kind { IfErr result (λ fault. is_write_fault fault ≡ true) }
-    ensures cause { W.failures sink.new ≡ counted (is_err result) (W.failures sink.old) }
-    ensures errors { W.errors sink.new ≡ counted (is_write_error result) (W.errors sink.old) }
-{
-    put(sink, sent, b"?")?;
-    for byte in bytes {
-        put(sink, sent, &[digit(*byte / 16), digit(*byte % 16)])?;
-    }
-    Ok(())
-}
-
-/// Writes the value of an item with these bytes: a number, `?` and the bytes of a number item that represent none, or characters.
-pub(crate) fn put_value<W: Sink>(
+/// Ends a line whose value is that of bytes as characters, in quotation marks, and writes it.
+fn put_characters<W: Sink>(
     sink: &mut W,
     sent: &mut u64,
+    line: &mut Line,
+    bytes: &[u8],
+) -> Result<(), RecordFault>
+    requires { length line.old.items + 6 ≤ 256 }
+    ensures kind { IfErr result (λ fault. is_write_fault fault ≡ true) }
+    ensures cause { W.failures sink.new ≡ counted (is_err result) (W.failures sink.old) }
+    ensures errors { W.errors sink.new ≡ counted (is_write_error result) (W.errors sink.old) }
+{
+    line.push(b'"');
+    for byte in bytes {
+        make_room(sink, sent, line)?;
+        push_byte(line, *byte);
+    }
+    line.push(b'"');
+    line.push(b'\n');
+    put(sink, sent, line.as_slice())
+}
+
+/// Ends a line whose value is that of bytes that represent no number, a question mark and their hexadecimal digits, and writes it.
+fn put_unknown<W: Sink>(
+    sink: &mut W,
+    sent: &mut u64,
+    line: &mut Line,
+    bytes: &[u8],
+) -> Result<(), RecordFault>
+    requires { length line.old.items + 6 ≤ 256 }
+    ensures kind { IfErr result (λ fault. is_write_fault fault ≡ true) }
+    ensures cause { W.failures sink.new ≡ counted (is_err result) (W.failures sink.old) }
+    ensures errors { W.errors sink.new ≡ counted (is_write_error result) (W.errors sink.old) }
+{
+    line.push(b'?');
+    for byte in bytes {
+        make_room(sink, sent, line)?;
+        push_digits(line, *byte);
+    }
+    line.push(b'\n');
+    put(sink, sent, line.as_slice())
+}
+
+/// Ends a line whose value is that of a number item, and writes it.
+fn put_number<W: Sink>(
+    sink: &mut W,
+    sent: &mut u64,
+    line: &mut Line,
     item: &Item,
     bytes: &[u8],
 ) -> Result<(), RecordFault>
+    requires room { length line.old.items + 66 ≤ 256 }
+    requires number { IsNumberItem item.now }
+    requires long { length bytes.now ≡ item_size item.now }
     ensures kind { IfErr result (λ fault. is_write_fault fault ≡ true) }
     ensures cause { W.failures sink.new ≡ counted (is_err result) (W.failures sink.old) }
     ensures errors { W.errors sink.new ≡ counted (is_write_error result) (W.errors sink.old) }
 {
-    if !is_number_item(item) || bytes.len() != usize::from(item.size()) {
-        return put_characters(sink, sent, bytes);
-    }
-    match number_text(item, bytes) {
-        Some(text) => put(sink, sent, text.as_slice()),
-        None => put_unknown(sink, sent, bytes),
+    let Some(text) = number_text(item, bytes) else {
+        return put_unknown(sink, sent, line, bytes);
+    };
+    push_text(line, text.as_slice());
+    line.push(b'\n');
+    put(sink, sent, line.as_slice())
+}
+
+/// Ends a line with the value of an item of these bytes, and writes it: a number, `?` and the bytes of a number item that represent none,
+/// or characters.
+pub(crate) fn put_value<W: Sink>(
+    sink: &mut W,
+    sent: &mut u64,
+    line: &mut Line,
+    item: &Item,
+    bytes: &[u8],
+) -> Result<(), RecordFault>
+    requires room { length line.old.items + 66 ≤ 256 }
+    requires long { length bytes.now ≡ item_size item.now }
+    ensures kind { IfErr result (λ fault. is_write_fault fault ≡ true) }
+    ensures cause { W.failures sink.new ≡ counted (is_err result) (W.failures sink.old) }
+    ensures errors { W.errors sink.new ≡ counted (is_write_error result) (W.errors sink.old) }
+{
+    if is_number_item(item) {
+        put_number(sink, sent, line, item, bytes)
+    } else {
+        put_characters(sink, sent, line, bytes)
     }
 }

@@ -30,7 +30,8 @@
 //! - [`Layout::places_of`] takes all counts of a record's bytes and where its entries stand under them, in one walk and with no memory, into
 //!   [`Places`] that [`Layout::new_places`] made (`ok`), or answers the first fault (`err`). In them [`Layout::place_in`] finds a reference by
 //!   its number and its subscripts alone, with the answer of [`Layout::place`] under these counts (`value`, `current`, `fits`), and
-//!   [`Layout::length_in`] is that of [`Layout::length`]. [`Layout::fixed_place`] does so for a reference that reads no count (`fixed`,
+//!   [`Layout::length_in`] is that of [`Layout::length`]; [`Places::spots`] are where the first elements of all entries stand, and
+//!   [`Layout::greatest_spots`] those under the greatest counts. [`Layout::fixed_place`] does so for a reference that reads no count (`fixed`,
 //!   `value`, `none`), and [`Layout::spares_none`] says whether a reference is spared none (`must`, `only`), so that all counts give it its
 //!   place. [`Layout::keeps_counts`] says whether a place meets the item of no count (`must`, `only`); where it meets none, its bytes may change
 //!   and the counts stay (`keeps`).
@@ -72,7 +73,7 @@ pub use cob_copybook::{
     Text, Usage, Value, ValueClause, element_length, is_number, value_of, whole_length,
 };
 pub use cob_layout_places::{
-    CountFault, Ref, is_number_item, is_table, read_number, tables, times_of,
+    CountFault, Ref, Spot, is_number_item, is_table, read_number, tables, times_of,
 };
 pub use counts::Counts;
 pub use fields::{Place, field, field_mut};

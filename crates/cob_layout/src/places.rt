@@ -44,6 +44,15 @@ impl Model for Places {
     ghost invariant = { λ p. length p.spots.items ≡ length p.counts.items };
 }
 
+impl Places {
+    /// Where the first element of each entry stands and how often the entry occurs, by the numbers of the entries.
+    pub fn spots(&self) -> &[Spot]
+        ensures { result.now ≡ self.now.spots }
+    {
+        &self.spots
+    }
+}
+
 impl Layout {
     /// The element of a reference under the counts whose spots these are.
     fn element(&self, reference: &Ref, spots: &[Spot]) -> Found
@@ -137,6 +146,13 @@ impl Layout {
         places_end_in_length();
         let _ = self.greatest();
         placed(self.element(reference, &places.spots))
+    }
+
+    /// Where the first element of each entry stands where each table has its greatest number of elements, by the numbers of the entries.
+    pub fn greatest_spots(&self) -> &[Spot]
+        ensures { result.now ≡ spots_of (times (greatest_counts self.now)) self.now 0 0 }
+    {
+        &self.spots
     }
 
     /// The record's length in bytes under the counts of these places.
