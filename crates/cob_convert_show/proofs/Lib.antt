@@ -1,2 +1,5 @@
 pub mod ElementLemmas
 pub mod RecordLemmas
+pub mod SentLemmas
+pub mod PieceLemmas
+pub mod TurnLemmas

@@ -1,3 +1,5 @@
 pub mod Records
 pub mod Values
 pub mod Elements
+pub mod Sent
+pub mod Lines

@@ -1,12 +1,14 @@
 //! The lines of the elements of a record's items.
 
-ghost use Rattle.std.specs.Prelude.{◌≡◌, ◌≤◌, ◌+◌, [], length, map, IfOk, IfErr, is_err, true};
+ghost use Rattle.std.specs.Prelude.{◌≡◌, ◌≤◌, ◌+◌, ◌++◌, [], length, map, IfOk, IfErr, is_err, true};
 ghost use Rattle.cob_limits.specs.Limits.{longest_name, most_dimensions};
-ghost use Rattle.cob_records.specs.Device.{counted};
+ghost use Rattle.cob_records.specs.Device.{counted, Took};
 ghost use Rattle.cob_records.specs.Frame.{is_write_error, is_write_fault};
 ghost use Rattle.cob_copybook_tree.specs.Lengths.{item_size};
 ghost use Rattle.cob_layout.specs.Ways.{spot_at};
-ghost use Rattle.cob_convert_show.specs.Elements.{AllStand, IsLaidOut, ItemsStand, Stands, StandsAt, named, printed};
+ghost use Rattle.cob_convert_show.specs.Elements.{AllStand, IsLaidOut, ItemsStand, Stands, StandsAt, named, printed, times_of};
+ghost use Rattle.cob_convert_show.specs.Lines.{AreElementLines, AreItemLines, BeginElementLines, BeginItemLines, IsElementLine, front_text, further_text, subscripts_text};
+ghost use Rattle.cob_convert_show.specs.Sent.{BeginsOne, Sends};
 
 use crate::named::Named;
 use crate::text::{Line, push_number, push_text};
@@ -24,10 +26,24 @@ pub(crate) struct Contents<'a> {
     pub(crate) bytes: &'a [u8],
 }
 
+/// Adds further subscripts, each behind a comma.
+fn push_further(line: &mut Line, subscripts: &[u32])
+    requires many { length subscripts.now ≤ 6 }
+    requires room { length line.old.items ≤ 41 }
+    ensures text { line.new.items ≡ line.old.items ++ further_text subscripts.now }
+    ensures long { length line.new.items ≤ length line.old.items + 66 }
+{
+    for subscript in subscripts {
+        line.push(b',');
+        push_number(line, *subscript);
+    }
+}
+
 /// Adds subscripts in brackets, parted by commas, where there are some.
 fn push_subscripts(line: &mut Line, subscripts: &[u32])
     requires many { length subscripts.now ≤ most_dimensions }
     requires room { length line.old.items ≤ longest_name }
+    ensures text { line.new.items ≡ line.old.items ++ subscripts_text subscripts.now }
     ensures long { length line.new.items ≤ length line.old.items + 78 }
 {
     let Some((first, others)) = subscripts.split_first() else {
@@ -35,10 +51,7 @@ fn push_subscripts(line: &mut Line, subscripts: &[u32])
     };
     line.push(b'(');
     push_number(line, *first);
-    for subscript in others {
-        line.push(b',');
-        push_number(line, *subscript);
-    }
+    push_further(line, others);
     line.push(b')');
 }
 
@@ -46,6 +59,7 @@ fn push_subscripts(line: &mut Line, subscripts: &[u32])
 fn front_of(name: &[u8], subscripts: &[u32], offset: u32) -> Line
     requires name { length name.now ≤ longest_name }
     requires many { length subscripts.now ≤ most_dimensions }
+    ensures text { result.items ≡ front_text name.now subscripts.now offset }
     ensures long { length result.items ≤ 120 }
 {
     let mut line = ArrayVec::new();
@@ -86,6 +100,10 @@ fn put_element<W: Sink>(
     requires laid { IsLaidOut (printed contents) }
     requires node { reference.now.node ≡ item.now.number }
     requires stands { Stands (printed contents) (named item.now) reference.now.subscripts.items }
+    ensures lines { Took (W.taken sink.old) (W.taken sink.new)
+        (Sends (IsElementLine (printed contents.entry) (named item.now) reference.now.subscripts.items)
+        (BeginsOne (IsElementLine (printed contents.entry) (named item.now)
+        reference.now.subscripts.items)) sent.old sent.new result) }
     ensures kind { IfErr result (λ fault. is_write_fault fault ≡ true) }
     ensures cause { W.failures sink.new ≡ counted (is_err result) (W.failures sink.old) }
     ensures errors { W.errors sink.new ≡ counted (is_write_error result) (W.errors sink.old) }
@@ -130,6 +148,12 @@ fn put_elements<W: Sink>(
     requires room { length reference.old.subscripts.items + length tables.now ≤ most_dimensions }
     requires stand { AllStand (printed contents) (named item.now) tables.now
         reference.old.subscripts.items }
+    ensures lines { Took (W.taken sink.old) (W.taken sink.new)
+        (Sends (AreElementLines (printed contents.entry) (named item.now)
+        (times_of (printed contents.entry) tables.now) reference.old.subscripts.items)
+        (BeginElementLines (printed contents.entry) (named item.now)
+        (times_of (printed contents.entry) tables.now) reference.old.subscripts.items)
+        sent.old sent.new result) }
     ensures kind { IfErr result (λ fault. is_write_fault fault ≡ true) }
     ensures cause { W.failures sink.new ≡ counted (is_err result) (W.failures sink.old) }
     ensures errors { W.errors sink.new ≡ counted (is_write_error result) (W.errors sink.old) }
@@ -140,8 +164,8 @@ fn put_elements<W: Sink>(
     let Some((table, inner)) = tables.split_first() else {
         return put_element(sink, sent, contents, item, reference);
     };
-    for subscript in 1..=times_in(contents.places, *table) {
-        reference.subscripts.push(subscript);
+    for earlier in 0..times_in(contents.places, *table) {
+        reference.subscripts.push(earlier + 1);
         put_elements(sink, sent, contents, item, inner, reference)?;
         reference.subscripts.pop();
     }
@@ -157,6 +181,10 @@ pub(crate) fn put_items<W: Sink>(
 ) -> Result<(), RecordFault>
     requires laid { IsLaidOut (printed contents) }
     requires stand { ItemsStand (printed contents) (map named items.now) }
+    ensures lines { Took (W.taken sink.old) (W.taken sink.new)
+        (Sends (AreItemLines (printed contents.entry) (map named items.now))
+        (BeginItemLines (printed contents.entry) (map named items.now))
+        sent.old sent.new result) }
     ensures kind { IfErr result (λ fault. is_write_fault fault ≡ true) }
     ensures cause { W.failures sink.new ≡ counted (is_err result) (W.failures sink.old) }
     ensures errors { W.errors sink.new ≡ counted (is_write_error result) (W.errors sink.old) }

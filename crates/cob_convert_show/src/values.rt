@@ -5,8 +5,10 @@ ghost use Rattle.cob_records.specs.Hex.{digit_character, byte_text};
 ghost use Rattle.cob_copybook_tree.specs.Lengths.{item_size};
 ghost use Rattle.cob_cp037.specs.Table.{IsCoded};
 ghost use Rattle.cob_copybook_tree.specs.Items.{IsNumberItem, Represents};
-ghost use Rattle.cob_convert_show.specs.Values.{IsNumberShown, is_escaped, escaped};
-ghost use Rattle.cob_records.specs.Device.{counted};
+ghost use Rattle.cob_convert_show.specs.Values.{IsNumberShown, IsNoNumber, IsByteShown, IsPiece, ArePieces, AreQuoted, AreUnknown, IsNumberValue, IsValueShown, is_escaped, escaped};
+ghost use Rattle.cob_convert_show.specs.Lines.{IsLineOf};
+ghost use Rattle.cob_convert_show.specs.Sent.{BeginsOne, IsAddedTo, IsBeginning, IsBehind, Sends};
+ghost use Rattle.cob_records.specs.Device.{counted, Took};
 ghost use Rattle.cob_records.specs.Frame.{is_write_error, is_write_fault};
 
 use crate::text::{Line, push_text, put};
@@ -45,6 +47,7 @@ fn plain_character(byte: u8) -> Option<u8>
     ensures found { IfSome result (λ character. IsCoded character byte) }
     ensures only { (character : ℕ) → IsCoded character byte → is_escaped byte ≡ false
         → result ≡ Some character }
+    ensures plain { IfSome result (λ _. is_escaped byte ≡ false) }
     ensures mark { is_escaped byte ≡ true → result ≡ None }
 {
     if is_escaped(byte) {
@@ -61,6 +64,8 @@ fn shown_byte(byte: u8) -> ArrayVec<u8, 4>
     ensures mark { is_escaped byte ≡ true → result.items ≡ escaped byte }
     ensures none { ((character : ℕ) → IsCoded character byte → ⊥)
         → result.items ≡ escaped byte }
+    ensures shown { IsByteShown byte result.items }
+    ensures long { length result.items ≤ 4 }
 {
     let mut text = ArrayVec::new();
     match plain_character(byte) {
@@ -89,25 +94,42 @@ fn number_text(item: &Item, bytes: &[u8]) -> Option<ArrayVec<u8, 64>>
     Some(text)
 }
 
-/// Adds how a byte is shown among characters.
-fn push_byte(line: &mut Line, byte: u8)
-    requires { length line.old.items + 4 ≤ 256 }
-    ensures long { length line.new.items ≤ length line.old.items + 4 }
-{
-    push_text(line, shown_byte(byte).as_slice());
+/// How bytes are written.
+#[derive(Clone, Copy, Debug, PartialEq, Eq)]
+pub(crate) enum Notation {
+    /// Among characters.
+    Characters,
+    /// By their hexadecimal digits.
+    Digits,
 }
 
-/// Adds the hexadecimal digits of a byte.
-fn push_digits(line: &mut Line, byte: u8)
-    requires { length line.old.items + 2 ≤ 256 }
-    ensures { line.new.items ≡ line.old.items ++ byte_text byte }
+/// The hexadecimal digits of a byte.
+fn digits_of(byte: u8) -> ArrayVec<u8, 4>
+    ensures digits { result.items ≡ byte_text byte }
+    ensures long { length result.items ≤ 4 }
 {
-    line.push(digit(byte / 16));
-    line.push(digit(byte % 16));
+    let mut text = ArrayVec::new();
+    text.push(digit(byte / 16));
+    text.push(digit(byte % 16));
+    text
 }
 
-/// Writes what a line holds where there is no room left for a further byte as it is shown and for the end of the line.
+/// How a byte is written.
+fn piece_of(notation: Notation, byte: u8) -> ArrayVec<u8, 4>
+    ensures piece { IsPiece notation byte result.items }
+    ensures long { length result.items ≤ 4 }
+{
+    match notation {
+        Notation::Characters => shown_byte(byte),
+        Notation::Digits => digits_of(byte),
+    }
+}
+
+/// Writes what a line holds where there is no room left in it for a further byte and for its end.
 fn make_room<W: Sink>(sink: &mut W, sent: &mut u64, line: &mut Line) -> Result<(), RecordFault>
+    ensures lines { Took (W.taken sink.old) (W.taken sink.new)
+        (Sends (λ part. part ++ line.new.items ≡ line.old.items)
+        (λ part. IsBeginning part line.old.items) sent.old sent.new result) }
     ensures room { length line.new.items + 6 ≤ 256 }
     ensures kind { IfErr result (λ fault. is_write_fault fault ≡ true) }
     ensures cause { W.failures sink.new ≡ counted (is_err result) (W.failures sink.old) }
@@ -121,6 +143,31 @@ fn make_room<W: Sink>(sink: &mut W, sent: &mut u64, line: &mut Line) -> Result<(
     answer
 }
 
+/// Adds bytes to a line, and writes what it holds where there is no room in it.
+fn put_pieces<W: Sink>(
+    sink: &mut W,
+    sent: &mut u64,
+    line: &mut Line,
+    notation: Notation,
+    bytes: &[u8],
+) -> Result<(), RecordFault>
+    requires { length line.old.items + 2 ≤ 256 }
+    ensures lines { Took (W.taken sink.old) (W.taken sink.new)
+        (Sends (IsAddedTo line.old.items line.new.items (ArePieces notation bytes.now))
+        (BeginsOne (IsBehind line.old.items (ArePieces notation bytes.now)))
+        sent.old sent.new result) }
+    ensures room { length line.new.items + 2 ≤ 256 }
+    ensures kind { IfErr result (λ fault. is_write_fault fault ≡ true) }
+    ensures cause { W.failures sink.new ≡ counted (is_err result) (W.failures sink.old) }
+    ensures errors { W.errors sink.new ≡ counted (is_write_error result) (W.errors sink.old) }
+{
+    for byte in bytes {
+        make_room(sink, sent, line)?;
+        push_text(line, piece_of(notation, *byte).as_slice());
+    }
+    Ok(())
+}
+
 /// Ends a line whose value is that of bytes as characters, in quotation marks, and writes it.
 fn put_characters<W: Sink>(
     sink: &mut W,
@@ -128,16 +175,16 @@ fn put_characters<W: Sink>(
     line: &mut Line,
     bytes: &[u8],
 ) -> Result<(), RecordFault>
-    requires { length line.old.items + 6 ≤ 256 }
+    requires { length line.old.items + 66 ≤ 256 }
+    ensures lines { Took (W.taken sink.old) (W.taken sink.new)
+        (Sends (IsLineOf line.old.items (AreQuoted bytes.now))
+        (BeginsOne (IsLineOf line.old.items (AreQuoted bytes.now))) sent.old sent.new result) }
     ensures kind { IfErr result (λ fault. is_write_fault fault ≡ true) }
     ensures cause { W.failures sink.new ≡ counted (is_err result) (W.failures sink.old) }
     ensures errors { W.errors sink.new ≡ counted (is_write_error result) (W.errors sink.old) }
 {
     line.push(b'"');
-    for byte in bytes {
-        make_room(sink, sent, line)?;
-        push_byte(line, *byte);
-    }
+    put_pieces(sink, sent, line, Notation::Characters, bytes)?;
     line.push(b'"');
     line.push(b'\n');
     put(sink, sent, line.as_slice())
@@ -150,16 +197,16 @@ fn put_unknown<W: Sink>(
     line: &mut Line,
     bytes: &[u8],
 ) -> Result<(), RecordFault>
-    requires { length line.old.items + 6 ≤ 256 }
+    requires { length line.old.items + 66 ≤ 256 }
+    ensures lines { Took (W.taken sink.old) (W.taken sink.new)
+        (Sends (IsLineOf line.old.items (AreUnknown bytes.now))
+        (BeginsOne (IsLineOf line.old.items (AreUnknown bytes.now))) sent.old sent.new result) }
     ensures kind { IfErr result (λ fault. is_write_fault fault ≡ true) }
     ensures cause { W.failures sink.new ≡ counted (is_err result) (W.failures sink.old) }
     ensures errors { W.errors sink.new ≡ counted (is_write_error result) (W.errors sink.old) }
 {
     line.push(b'?');
-    for byte in bytes {
-        make_room(sink, sent, line)?;
-        push_digits(line, *byte);
-    }
+    put_pieces(sink, sent, line, Notation::Digits, bytes)?;
     line.push(b'\n');
     put(sink, sent, line.as_slice())
 }
@@ -175,6 +222,10 @@ fn put_number<W: Sink>(
     requires room { length line.old.items + 66 ≤ 256 }
     requires number { IsNumberItem item.now }
     requires long { length bytes.now ≡ item_size item.now }
+    ensures lines { Took (W.taken sink.old) (W.taken sink.new)
+        (Sends (IsLineOf line.old.items (IsNumberValue item.now bytes.now))
+        (BeginsOne (IsLineOf line.old.items (IsNumberValue item.now bytes.now)))
+        sent.old sent.new result) }
     ensures kind { IfErr result (λ fault. is_write_fault fault ≡ true) }
     ensures cause { W.failures sink.new ≡ counted (is_err result) (W.failures sink.old) }
     ensures errors { W.errors sink.new ≡ counted (is_write_error result) (W.errors sink.old) }
@@ -198,6 +249,10 @@ pub(crate) fn put_value<W: Sink>(
 ) -> Result<(), RecordFault>
     requires room { length line.old.items + 66 ≤ 256 }
     requires long { length bytes.now ≡ item_size item.now }
+    ensures lines { Took (W.taken sink.old) (W.taken sink.new)
+        (Sends (IsLineOf line.old.items (IsValueShown item.now bytes.now))
+        (BeginsOne (IsLineOf line.old.items (IsValueShown item.now bytes.now)))
+        sent.old sent.new result) }
     ensures kind { IfErr result (λ fault. is_write_fault fault ≡ true) }
     ensures cause { W.failures sink.new ≡ counted (is_err result) (W.failures sink.old) }
     ensures errors { W.errors sink.new ≡ counted (is_write_error result) (W.errors sink.old) }
