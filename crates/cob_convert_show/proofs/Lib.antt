@@ -3,3 +3,4 @@ pub mod RecordLemmas
 pub mod SentLemmas
 pub mod PieceLemmas
 pub mod TurnLemmas
+pub mod ItemLemmas

@@ -25,9 +25,9 @@ found_by pair pairs byte true is further = inl (pair.0, inl (refl, equal byte pa
     equal a b h = grind (arith, nat_tests)
 found_by pair pairs byte false is (inl found) = inl (found.0, inr found.1)
 found_by pair pairs byte false is (inr none) = inr (λ c found. elim found [
-      | inl here ↦ differs byte pair.1 is here.1
-      | inr there ↦ none c there
-    ])
+  | inl here ↦ differs byte pair.1 is here.1
+  | inr there ↦ none c there
+])
   where
     differs : (a b : ℕ) → (a == b) ≡ false → a ≡ b → ⊥
     differs a b h e = grind (arith, nat_tests)
@@ -40,9 +40,9 @@ shown_there : (byte : ℕ) (b : Bool) → is_escaped byte ≡ b → (pairs : Lis
     → ((c : ℕ) → IsCoded c byte → IsPairOf pairs c byte) → (text : List ℕ) × IsPiece Characters byte text
 shown_there byte true is pairs to from = (escaped byte, inr (λ c coded. is, refl))
 shown_there byte false is pairs to from = elim (found_or_not pairs byte) [
-    | inl found ↦ (found.0 ∷ [], inl (found.0, to found.0 found.1, is, refl))
-    | inr none ↦ (escaped byte, inr (λ c coded. absurd (none c (from c coded)), refl))
-  ]
+  | inl found ↦ (found.0 ∷ [], inl (found.0, to found.0 found.1, is, refl))
+  | inr none ↦ (escaped byte, inr (λ c coded. absurd (none c (from c coded)), refl))
+]
 
 piece_there : (notation : Notation) (byte : ℕ) → (text : List ℕ) × IsPiece notation byte text
 piece_there Characters byte = shown_there byte (is_escaped byte) refl table (λ c found. record { in_table = found }) (λ c coded. coded.in_table)
@@ -161,6 +161,7 @@ end_line front begun tail now text are is other before between after answer w0 w
   where
     whole : p ++ text ≡ front ++ (ends.value added ++ 10 ∷ [])
     whole = ap (λ (xs : List ℕ). p ++ xs) at ∙ sym (append_assoc p now tail) ∙ ap (λ (xs : List ℕ). xs ++ tail) out ∙ sym (ends.whole added)
+
     by_answer : (answer : Result (Unit {0}) RecordFault) → Wrote (λ part. part ≡ text) (λ part. IsBeginning part text) answer q
         → Wrote (IsLineOf front is) (BeginsOne (IsLineOf front is)) answer (p ++ q)
     by_answer (Ok done) same = (ends.value added, ends.so added so, ap (λ (xs : List ℕ). p ++ xs) same ∙ whole)

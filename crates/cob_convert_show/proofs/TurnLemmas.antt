@@ -1,9 +1,10 @@
 -- Lines of elements and of items, one behind another.
-use Rattle.std.proofs.Common.{◌≡◌, ℕ, zero, suc, ◌+◌, ◌<◌, ◌≤◌, List, [], ◌∷◌, ◌++◌, length, map, drop, get_or, Option, refl, sym, ap, subst, ◌∙◌, append_assoc, append-nil, arith, inl, inr, Ok, Err, Result}
-use Rattle.std.proofs.lemmas.List.{drop_all, drop_more}
+use Rattle.std.proofs.Common.{◌≡◌, ℕ, zero, suc, ◌+◌, ◌-◌, ◌<◌, ◌≤◌, List, [], ◌∷◌, ◌++◌, length, map, take, drop, get_or, Option, refl, sym, ap, subst, ◌∙◌, append_assoc, append-nil, arith, inl, inr, Ok, Err, Result}
+use Rattle.std.proofs.lemmas.List.{drop_all, drop_more, length-append}
 use Rattle.std.specs.Io.KnownBytes.{append_known}
 use Rattle.cob_layout.specs.declared.fields.Place.{Place}
 use Rattle.cob_layout.specs.Fields.{field_of}
+use Rattle.cob_layout.specs.Ways.{spot_at}
 use Rattle.cob_records.specs.declared.records.RecordFault.{RecordFault}
 use Rattle.cob_records.specs.Device.{Took}
 use Rattle.cob_convert_show.specs.declared.named.Named.{Named}
@@ -120,8 +121,65 @@ all_items r all left other before sent w0 w so_far none = (
   so_far.took,
 )
 
-pub items_left : (items : List Named) (i : ℕ) (d : Named) → i < length items → map named (drop i items) ≡ named (get_or items i d) ∷ map named (drop (i + 1) items)
-items_left items i d low = ap (map named) (drop_more items i d low)
+pub items_left : (items : List Named) (i : ℕ) (n : Named) → i < length items → n ≡ get_or items i n → map named (drop i items) ≡ named n ∷ map named (drop (i + 1) items)
+items_left items i n low is = ap (map named) (drop_more items i n low) ∙ ap (λ (m : Named). named m ∷ map named (drop (i + 1) items)) (sym is)
 
 pub no_items_left : (items : List Named) (i : ℕ) → length items ≤ i → map named (drop i items) ≡ []
 no_items_left items i end = ap (map named) (drop_all i items end)
+
+-- ---- the tables of an item
+
+-- where no table is left, the lines are that of the element
+pub alone_sends : (r : Printed) (x : NamedItem) (tables subscripts : List ℕ) (before after : ℕ) (answer : Result (Unit {0}) RecordFault) (w0 w1 : Option (List ℕ)) → length tables ≡ 0
+    → Took w0 w1 (Sends (IsElementLine r x subscripts) (BeginsOne (IsElementLine r x subscripts)) before after answer)
+    → Took w0 w1 (Sends (AreElementLines r x (times_of r tables) subscripts) (BeginElementLines r x (times_of r tables) subscripts) before after answer)
+alone_sends r x [] subscripts before after answer w0 w1 none took = took
+alone_sends r x (t ∷ tables) subscripts before after answer w0 w1 none took = absurd (omega (arith, none))
+
+-- and else those of the elements of the first table in turn
+abbrev pub inner_lines : Printed → NamedItem → List ℕ → List ℕ → ℕ → List ℕ → Type 0
+inner_lines r x inner subscripts s lines = AreElementLines r x (times_of r inner) (subscripts ++ s ∷ []) lines
+
+abbrev pub inner_begun : Printed → NamedItem → List ℕ → List ℕ → ℕ → List ℕ → Type 0
+inner_begun r x inner subscripts s part = BeginElementLines r x (times_of r inner) (subscripts ++ s ∷ []) part
+
+pub table_sends : (r : Printed) (x : NamedItem) (tables inner subscripts : List ℕ) (table n before after : ℕ) (answer : Result (Unit {0}) RecordFault) (w0 w1 : Option (List ℕ))
+    → tables ≡ table ∷ inner → n ≡ (spot_at r.places.spots table).times
+    → Took w0 w1 (Sends (AreInTurn (inner_lines r x inner subscripts) n) (AreBegunInTurn (inner_lines r x inner subscripts) (inner_begun r x inner subscripts) n) before after answer)
+    → Took w0 w1 (Sends (AreElementLines r x (times_of r tables) subscripts) (BeginElementLines r x (times_of r tables) subscripts) before after answer)
+table_sends r x tables inner subscripts table n before after answer w0 w1 cut often took =
+    subst (λ (ts : List ℕ). Took w0 w1 (Sends (AreElementLines r x (times_of r ts) subscripts) (BeginElementLines r x (times_of r ts) subscripts) before after answer)) (sym cut)
+    (subst (λ (m : ℕ). Took w0 w1 (Sends (AreElementLines r x (m ∷ times_of r inner) subscripts) (BeginElementLines r x (m ∷ times_of r inner) subscripts) before after answer)) often took)
+
+-- the lines under the subscripts of a reference, where these are one more than the outer ones
+pub under_next : (r : Printed) (x : NamedItem) (inner outer now pushed : List ℕ) (k before after : ℕ) (answer : Result (Unit {0}) RecordFault) (w0 w1 : Option (List ℕ))
+    → now ≡ outer → pushed ≡ now ++ (k + 1) ∷ []
+    → Took w0 w1 (Sends (AreElementLines r x (times_of r inner) pushed) (BeginElementLines r x (times_of r inner) pushed) before after answer)
+    → Took w0 w1 (Sends (inner_lines r x inner outer (suc k)) (inner_begun r x inner outer (suc k)) before after answer)
+under_next r x inner outer now pushed k before after answer w0 w1 same push took =
+    let next : k + 1 ≡ suc k = omega arith in
+    let is : pushed ≡ outer ++ suc k ∷ [] = push ∙ ap (λ (xs : List ℕ). xs ++ (k + 1) ∷ []) same ∙ ap (λ (m : ℕ). outer ++ m ∷ []) next in
+    subst (λ (ss : List ℕ). Took w0 w1 (Sends (AreElementLines r x (times_of r inner) ss) (BeginElementLines r x (times_of r inner) ss) before after answer)) is took
+
+-- the lines under no subscript yet, of the tables of an item
+pub fresh_sends : (r : Printed) (x : NamedItem) (tables now : List ℕ) (before after : ℕ) (answer : Result (Unit {0}) RecordFault) (w0 w1 : Option (List ℕ))
+    → tables ≡ x.tables → now ≡ []
+    → Took w0 w1 (Sends (AreElementLines r x (times_of r tables) now) (BeginElementLines r x (times_of r tables) now) before after answer)
+    → Took w0 w1 (Sends (AreElementLines r x (times_of r x.tables) []) (BeginElementLines r x (times_of r x.tables) []) before after answer)
+fresh_sends r x tables now before after answer w0 w1 of none took =
+    subst (λ (ts : List ℕ). Took w0 w1 (Sends (AreElementLines r x (times_of r ts) []) (BeginElementLines r x (times_of r ts) []) before after answer)) of
+    (subst (λ (ss : List ℕ). Took w0 w1 (Sends (AreElementLines r x (times_of r tables) ss) (BeginElementLines r x (times_of r tables) ss) before after answer)) none took)
+
+front_taken : (xs ys : List ℕ) → take (length xs) (xs ++ ys) ≡ xs
+front_taken [] ys = refl
+front_taken (x ∷ xs) ys = ap (λ (zs : List ℕ). x ∷ zs) (front_taken xs ys)
+
+one_less : (outer : List ℕ) (k : ℕ) → take (length (outer ++ k ∷ []) - 1) (outer ++ k ∷ []) ≡ outer
+one_less outer k =
+    let long : length (outer ++ k ∷ []) - 1 ≡ length outer = omega (arith, length-append outer (k ∷ [])) in
+    ap (λ (n : ℕ). take n (outer ++ k ∷ [])) long ∙ front_taken outer (k ∷ [])
+
+-- a subscript that was added and taken away leaves those before it
+pub popped : (outer before pushed old new : List ℕ) (k : ℕ) → before ≡ outer → pushed ≡ before ++ k ∷ [] → old ≡ pushed → new ≡ take (length old - 1) old → new ≡ outer
+popped outer before pushed old new k same push is left =
+    left ∙ ap (λ (xs : List ℕ). take (length xs - 1) xs) (is ∙ push ∙ ap (λ (xs : List ℕ). xs ++ k ∷ []) same) ∙ one_less outer k

@@ -2,7 +2,7 @@
 use Rattle.std.specs.Prelude.{◌≡◌, ℕ, zero, suc, ◌+◌, ◌<◌, ◌⊎◌, List, [], ◌∷◌, ◌++◌, codes, decimal}
 use Rattle.cob_layout.specs.declared.fields.Place.{Place}
 use Rattle.cob_layout.specs.Fields.{field_of}
-use Rattle.cob_convert_show.specs.Elements.{NamedItem, Printed, StandsAt, times_of}
+use Rattle.cob_convert_show.specs.Elements.{NamedItem, Printed, StandsAt, named_in, times_of}
 use Rattle.cob_convert_show.specs.Sent.{BeginsOne, IsBeginning}
 use Rattle.cob_convert_show.specs.Values.{IsValueShown}
 
@@ -70,12 +70,12 @@ BeginItemLines r (x ∷ xs) part =
 abbrev pub number_line : ℕ → List ℕ
 number_line number = codes "record " ++ (decimal number ++ 10 ∷ [])
 
--- the lines of a record: its number, and the lines of its items
-abbrev pub AreRecordLines : Printed → List NamedItem → ℕ → List ℕ → Type 0
-AreRecordLines r xs number text = (lines : List ℕ) × AreItemLines r xs lines × (text ≡ number_line number ++ lines)
+-- the lines of a record: its number, and the lines of its named elementary items
+abbrev pub AreRecordLines : Printed → ℕ → List ℕ → Type 0
+AreRecordLines r number text = (lines : List ℕ) × AreItemLines r (named_in [] r.tree) lines × (text ≡ number_line number ++ lines)
 
 -- a beginning of these lines
-abbrev pub BeginRecordLines : Printed → List NamedItem → ℕ → List ℕ → Type 0
-BeginRecordLines r xs number part =
+abbrev pub BeginRecordLines : Printed → ℕ → List ℕ → Type 0
+BeginRecordLines r number part =
     IsBeginning part (number_line number)
-    ⊎ ((lines : List ℕ) × BeginItemLines r xs lines × (part ≡ number_line number ++ lines))
+    ⊎ ((lines : List ℕ) × BeginItemLines r (named_in [] r.tree) lines × (part ≡ number_line number ++ lines))

@@ -1,6 +1,6 @@
 //! The entries of a record.
 
-ghost use Rattle.std.specs.Prelude.{◌≡◌, ◌≤◌, ◌+◌, length, IfErr, is_err, true, Err};
+ghost use Rattle.std.specs.Prelude.{◌≡◌, ◌<◌, ◌≤◌, ◌+◌, length, IfErr, is_err, true, Err};
 ghost use Rattle.cob_records.specs.Device.{counted};
 ghost use Rattle.cob_records.specs.Frame.{is_write_error, is_write_fault, taken_of};
 
@@ -144,6 +144,7 @@ fn push_occurs(line: &mut Line, root: &Node, occurs: ResolvedOccurs)
 
 /// The line of an entry.
 fn line_of(spots: &[Spot], root: &Node, entry: &Node) -> Line
+    ensures some { 0 < length result.items }
     ensures long { length result.items ≤ 180 }
 {
     let mut line = ArrayVec::new();

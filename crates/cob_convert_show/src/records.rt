@@ -4,8 +4,10 @@ ghost use Rattle.std.specs.Prelude.{◌≡◌, ◌≤◌, [], length, map, IfErr
 ghost use Rattle.cob_copybook_tree.specs.Lengths.{greatest_number, sum_of};
 ghost use Rattle.cob_layout.specs.Standing.{AreSomePlaces, IsRoomFor};
 ghost use Rattle.cob_layout.specs.Storage.{current_length};
-ghost use Rattle.cob_convert_show.specs.Elements.{named, named_in};
-ghost use Rattle.cob_records.specs.Device.{counted};
+ghost use Rattle.cob_convert_show.specs.Elements.{named, named_in, printed};
+ghost use Rattle.cob_convert_show.specs.Lines.{AreRecordLines, BeginRecordLines, number_line};
+ghost use Rattle.cob_convert_show.specs.Sent.{IsBeginning, Sends};
+ghost use Rattle.cob_records.specs.Device.{counted, Took};
 ghost use Rattle.cob_records.specs.Frame.{is_write_error, is_write_fault};
 ghost use Rattle.cob_convert_show.specs.Records.{is_read_cause, is_write_cause, is_error_cause, stopped_by, refused_by, HoldsRecord, IsFitting, IsStop, IsShowFault};
 ghost use Rattle.cob_convert_show.specs.declared.records.ShowFault.TheVariants.{Memory, Run};
@@ -133,6 +135,9 @@ fn read_record<R: Source>(
 
 /// Writes the line with the number of a record.
 fn put_record_number<W: Sink>(sink: &mut W, sent: &mut u64, number: u64) -> Result<(), RecordFault>
+    ensures lines { Took (W.taken sink.old) (W.taken sink.new)
+        (Sends (λ part. part ≡ number_line number) (λ part. IsBeginning part (number_line number))
+        sent.old sent.new result) }
     ensures kind { IfErr result (λ fault. is_write_fault fault ≡ true) }
     ensures cause { W.failures sink.new ≡ counted (is_err result) (W.failures sink.old) }
     ensures errors { W.errors sink.new ≡ counted (is_write_error result) (W.errors sink.old) }
@@ -156,6 +161,9 @@ fn put_lines<W: Sink>(
     requires items { map named items.now ≡ named_in [] contents.layout.now }
     requires record { HoldsRecord contents.layout.now contents.places.now
         (length contents.bytes.now) }
+    ensures lines { Took (W.taken sink.old) (W.taken sink.new)
+        (Sends (AreRecordLines (printed contents.entry) number)
+        (BeginRecordLines (printed contents.entry) number) sent.old sent.new result) }
     ensures kind { IfErr result (λ fault. is_write_fault fault ≡ true) }
     ensures cause { W.failures sink.new ≡ counted (is_err result) (W.failures sink.old) }
     ensures errors { W.errors sink.new ≡ counted (is_write_error result) (W.errors sink.old) }
