@@ -4,3 +4,4 @@ pub mod SentLemmas
 pub mod PieceLemmas
 pub mod TurnLemmas
 pub mod ItemLemmas
+pub mod RunLemmas

@@ -3,3 +3,4 @@ pub mod Values
 pub mod Elements
 pub mod Sent
 pub mod Lines
+pub mod Runs

@@ -1,14 +1,15 @@
 //! The records of a file.
 
-ghost use Rattle.std.specs.Prelude.{◌≡◌, ◌≤◌, [], length, map, IfErr, IfOk, IfSome, IsFalse, IsTrue, Err, is_err, true, false};
+ghost use Rattle.std.specs.Prelude.{◌≡◌, ◌≤◌, [], length, map, take, IfErr, IfOk, IfSome, IsFalse, IsTrue, Err, is_err, true, false};
 ghost use Rattle.cob_copybook_tree.specs.Lengths.{greatest_number, sum_of};
 ghost use Rattle.cob_layout.specs.Standing.{AreSomePlaces, IsRoomFor};
-ghost use Rattle.cob_layout.specs.Storage.{current_length};
+ghost use Rattle.cob_layout.specs.Storage.{current_length, greatest_length};
 ghost use Rattle.cob_convert_show.specs.Elements.{named, named_in, printed};
 ghost use Rattle.cob_convert_show.specs.Lines.{AreRecordLines, BeginRecordLines, number_line};
+ghost use Rattle.cob_convert_show.specs.Runs.{IsLegible, ReadsNext, Shows, stop_of};
 ghost use Rattle.cob_convert_show.specs.Sent.{IsBeginning, Sends};
-ghost use Rattle.cob_records.specs.Device.{counted, Took};
-ghost use Rattle.cob_records.specs.Frame.{is_write_error, is_write_fault};
+ghost use Rattle.cob_records.specs.Device.{counted, Told, Took};
+ghost use Rattle.cob_records.specs.Frame.{IsRecord, is_write_error, is_write_fault};
 ghost use Rattle.cob_convert_show.specs.Records.{is_read_cause, is_write_cause, is_error_cause, stopped_by, refused_by, HoldsRecord, IsFitting, IsStop, IsShowFault};
 ghost use Rattle.cob_convert_show.specs.declared.records.ShowFault.TheVariants.{Memory, Run};
 
@@ -60,7 +61,7 @@ struct Stop {
 
 /// The stop at a frame that cannot be read, or that is not one of the layout.
 fn frame_stop(fault: RecordFault) -> Stop
-    ensures cause { result.cause ≡ Cause.Record fault }
+    ensures cause { result ≡ record { offset = 0; cause = Cause.Record fault } }
     ensures stop { IsStop result.offset result.cause }
 {
     Stop {
@@ -71,6 +72,7 @@ fn frame_stop(fault: RecordFault) -> Stop
 
 /// The stop at a count that isn't valid, or whose item ends past the record.
 fn count_stop(fault: CountFault) -> Stop
+    ensures value { result ≡ stop_of fault }
     ensures stop { IsStop result.offset result.cause }
     ensures read { is_read_cause result.cause ≡ false }
     ensures wrote { is_write_cause result.cause ≡ false }
@@ -113,6 +115,12 @@ fn read_record<R: Source>(
     ensures room { IsRoomFor layout.now places.new }
     ensures record { IfOk result (λ found. IfSome found (λ count. (count ≤ length bytes.new)
         × HoldsRecord layout.now places.new count)) }
+    ensures whole { IfOk result (λ found. IfSome found
+        (λ count. IsRecord form (greatest_length layout.now) (take count bytes.new))) }
+    ensures legible { IfOk result (λ found. IfSome found
+        (λ count. IsLegible form layout.now (take count bytes.new) places.new)) }
+    ensures next { Told (R.coming source.old) (R.coming source.new)
+        (ReadsNext form layout.now bytes.new result) }
     ensures stop { IfErr result (λ stop. IsStop stop.offset stop.cause) }
     ensures wrote { IfErr result (λ stop. is_write_cause stop.cause ≡ false) }
     ensures errors { IfErr result (λ stop. is_error_cause stop.cause ≡ false) }
@@ -205,6 +213,8 @@ fn show_records<R: Source, W: Sink>(
     requires items { map named shown.items.now ≡ named_in [] shown.layout.now }
     requires bytes { length bytes.old ≡ sum_of greatest_number shown.layout.now }
     requires room { IsRoomFor shown.layout.now places.old }
+    ensures shows { Told (R.coming source.old) (R.coming source.new) (λ bytes rest. Shows shown.entry.form
+        shown.entry.layout.now result bytes rest (W.taken sink.old) (W.taken sink.new)) }
     ensures fault { IfErr result IsShowFault }
     ensures record { result ≡ Err Memory → ⊥ }
     ensures reads { R.failures source.new ≡ counted
@@ -267,6 +277,9 @@ pub fn show<R: Source, W: Sink>(
     sink: &mut W,
 ) -> Result<u64, ShowFault>
     requires { book.now ≡ layout.now }
+    // What came, what was written of it, and how it ended, where the source tells its bytes.
+    ensures shows { Told (R.coming source.old) (R.coming source.new) (λ bytes rest. Shows form
+        layout.now result bytes rest (W.taken sink.old) (W.taken sink.new)) }
     // A stop names a record, and is one of a count, of a frame, or of the number of records.
     ensures fault { IfErr result IsShowFault }
     // Where memory is refused nothing was read or written.
