@@ -1,5 +1,5 @@
 -- The elements of the named elementary items of a record stand where places say.
-use Rattle.std.proofs.Common.{◌≡◌, ℕ, ◌+◌, ◌-◌, ◌*◌, ◌<◌, ◌≤◌, ◌&&◌, nat_le, Bool, true, false, List, [], ◌∷◌, ◌++◌, length, map, get_or, Option, Some, None, refl, sym, ap, subst, ◌∙◌, arith, inl, inr, append-nil, append_assoc, Ok}
+use Rattle.std.proofs.Common.{◌≡◌, ℕ, ◌+◌, ◌-◌, ◌*◌, ◌≤◌, ◌&&◌, nat_le, Bool, true, List, [], ◌∷◌, ◌++◌, length, map, get_or, Option, Some, None, refl, sym, ap, subst, ◌∙◌, arith, inl, inr, append-nil, append_assoc, Ok}
 use Rattle.std.specs.Prelude.{option_map}
 use Rattle.std.specs.List.{AllByRecursion}
 use Rattle.std.proofs.lemmas.Bool.Decides.{nat_tests}
@@ -17,14 +17,13 @@ use Rattle.cob_layout_places.specs.Lengths.{times, AreWithin}
 use Rattle.cob_layout_places.specs.Places.{place_of, begins, is_table, later}
 use Rattle.cob_layout_places.specs.References.{IsSubscripted, Refers}
 use Rattle.cob_layout_places.proofs.ForestLemmas.{within_always}
-use Rattle.cob_layout.specs.declared.fields.Place.{Place}
 use Rattle.cob_layout.specs.Laws.{EndInLength}
 use Rattle.cob_layout.specs.Placed.{placed}
 use Rattle.cob_layout.specs.Sound.{IsSound, RecordsAreSound}
 use Rattle.cob_layout.specs.Ways.{Held, held_in, own_table, spot_at, moved, first_element}
 use Rattle.cob_layout.proofs.SpotLaw.{AreSpots, AreHeld, are_spots, nowhere, stands_moved}
 use Rattle.cob_layout.proofs.WayLaw.{held_alone}
-use Rattle.cob_convert_show.specs.Elements.{NamedItem, Printed, AllStand, AreSubscripts, IsLaidOut, ItemsStand, Stands, named_in, own_item, own_of, times_of}
+use Rattle.cob_convert_show.specs.Elements.{NamedItem, Printed, AllStand, AreSubscripts, IsLaidOut, ItemsStand, Stands, named_in, own_item, own_of}
 
 -- ---- lists of which each has a fact
 

@@ -1,5 +1,5 @@
 -- The lines of a record: its number, and those of its items.
-use Rattle.std.proofs.Common.{◌≡◌, ℕ, ◌<◌, List, [], ◌++◌, length, Option, refl, ap, subst, ◌∙◌, inl, inr, Ok, Err, Result}
+use Rattle.std.proofs.Common.{◌≡◌, ℕ, List, [], ◌++◌, Option, ap, subst, inl, inr, Ok, Err, Result}
 use Rattle.cob_records.specs.declared.records.RecordFault.{RecordFault}
 use Rattle.cob_records.specs.Device.{Took}
 use Rattle.cob_convert_show.specs.Elements.{NamedItem, Printed, named_in}

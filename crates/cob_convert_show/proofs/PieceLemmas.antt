@@ -1,5 +1,5 @@
 -- Bytes that are written one behind another, and the lines that they end.
-use Rattle.std.proofs.Common.{◌≡◌, ℕ, ◌+◌, ◌-◌, ◌^◌, ◌<◌, ◌≤◌, ◌==◌, ◌⊎◌, min, Bool, true, false, List, [], ◌∷◌, ◌++◌, length, drop, get_or, Option, refl, sym, ap, subst, ◌∙◌, append_assoc, append-nil, arith, inl, inr, Ok, Err, Result}
+use Rattle.std.proofs.Common.{◌≡◌, ℕ, ◌+◌, ◌<◌, ◌≤◌, ◌==◌, ◌⊎◌, Bool, true, false, List, [], ◌∷◌, ◌++◌, length, drop, get_or, Option, refl, sym, ap, subst, ◌∙◌, append_assoc, append-nil, arith, inl, inr, Ok, Err, Result}
 use Rattle.std.proofs.lemmas.Bool.Decides.{nat_tests}
 use Rattle.std.proofs.lemmas.List.{length-append, drop_all, drop_more}
 use Rattle.std.specs.Io.KnownBytes.{append_known}
@@ -12,7 +12,7 @@ use Rattle.cob_convert_show.specs.declared.values.Notation.TheVariants.{Characte
 use Rattle.cob_convert_show.specs.Lines.{IsLineOf}
 use Rattle.cob_convert_show.specs.Sent.{Adds, BeginsOne, IsAddedTo, IsBeginning, IsBehind, Sends, Wrote}
 use Rattle.cob_convert_show.specs.Values.{ArePieces, AreQuoted, AreUnknown, IsPiece, escaped, is_escaped}
-use Rattle.cob_convert_show.proofs.SentLemmas.{append_none, append_twice, begins_within, none_sent, sent_twice, took_as}
+use Rattle.cob_convert_show.proofs.SentLemmas.{append_none, append_twice, begins_within, none_sent, sent_twice}
 
 -- ---- each byte has a piece
 

@@ -17,14 +17,13 @@ use Rattle.cob_records.specs.declared.records.RecordFault.{RecordFault}
 use Rattle.cob_records.specs.declared.records.RecordFault.TheVariants.{Truncated, Descriptor, Spanned, Length, ReadFailed, WriteFailed, TookNothing}
 use Rattle.cob_records.specs.Device.{Told, Took}
 use Rattle.cob_records.specs.Frame.{Reads, IsLength, IsRecord, framed}
-use Rattle.cob_convert_record.specs.declared.fault.Cause.{Cause}
 use Rattle.cob_convert_record.specs.declared.fault.Cause.TheVariants.{Limit, Record}
 use Rattle.cob_convert_show.specs.declared.records.ShowFault.{ShowFault}
 use Rattle.cob_convert_show.specs.declared.records.ShowFault.TheVariants.{Memory, Run}
 use Rattle.cob_convert_show.specs.declared.records.Stop.{Stop}
 use Rattle.cob_convert_show.specs.Lines.{AreRecordLines, BeginRecordLines}
 use Rattle.cob_convert_show.specs.Records.{IsFitting}
-use Rattle.cob_convert_show.specs.Runs.{AreListed, EndsShow, IsLegible, IsListed, ReadsNext, Shows, StopsReading, frames_of, lines_of, most_shown, stop_of}
+use Rattle.cob_convert_show.specs.Runs.{AreListed, EndsShow, IsLegible, IsListed, ReadsNext, Shows, frames_of, lines_of, most_shown, stop_of}
 use Rattle.cob_convert_show.specs.Sent.{Sends}
 use Rattle.cob_convert_show.proofs.RecordLemmas.{own_places}
 use Rattle.cob_convert_show.proofs.SentLemmas.{append_none, append_twice}

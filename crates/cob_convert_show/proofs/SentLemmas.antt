@@ -1,13 +1,13 @@
 -- What a sink took, call behind call.
-use Rattle.std.proofs.Common.{◌≡◌, ℕ, ◌+◌, ◌-◌, ◌^◌, ◌<◌, ◌≤◌, min, List, [], ◌∷◌, ◌++◌, length, take, drop, Option, Some, None, refl, sym, ap, ◌∙◌, append_assoc, append-nil, arith, subst, Ok, Err, Result}
+use Rattle.std.proofs.Common.{◌≡◌, ℕ, ◌+◌, ◌-◌, ◌^◌, ◌<◌, min, List, [], ◌++◌, length, take, drop, Option, Some, None, refl, sym, ap, ◌∙◌, append_assoc, append-nil, arith, subst, Ok, Err, Result}
 use Rattle.std.proofs.lemmas.Grind.{common_steps}
 use Rattle.std.proofs.lemmas.List.{length-append, take-append-drop}
 use Rattle.std.specs.Io.KnownBytes.{append_known}
 use Rattle.cob_records.specs.declared.records.RecordFault.{RecordFault}
 use Rattle.cob_records.specs.declared.records.RecordFault.TheVariants.{WriteFailed, TookNothing}
-use Rattle.cob_records.specs.Device.{Took, greatest_count}
+use Rattle.cob_records.specs.Device.{Took}
 use Rattle.cob_records.specs.Frame.{Puts}
-use Rattle.cob_convert_show.specs.Sent.{Adds, BeginsOne, IsBeginning, Sends, Wrote, sent_after, taken_by}
+use Rattle.cob_convert_show.specs.Sent.{Adds, BeginsOne, IsBeginning, Sends, Wrote, taken_by}
 
 pub append_none : (w : Option (List ℕ)) → w ≡ append_known w []
 append_none None = refl

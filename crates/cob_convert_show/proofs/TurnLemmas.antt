@@ -1,5 +1,5 @@
 -- Lines of elements and of items, one behind another.
-use Rattle.std.proofs.Common.{◌≡◌, ℕ, zero, suc, ◌+◌, ◌-◌, ◌<◌, ◌≤◌, List, [], ◌∷◌, ◌++◌, length, map, take, drop, get_or, Option, refl, sym, ap, subst, ◌∙◌, append_assoc, append-nil, arith, inl, inr, Ok, Err, Result}
+use Rattle.std.proofs.Common.{◌≡◌, ℕ, suc, ◌+◌, ◌-◌, ◌<◌, ◌≤◌, List, [], ◌∷◌, ◌++◌, length, map, take, drop, get_or, Option, refl, sym, ap, subst, ◌∙◌, append_assoc, append-nil, arith, inl, inr, Ok, Err, Result}
 use Rattle.std.proofs.lemmas.List.{drop_all, drop_more, length-append}
 use Rattle.std.specs.Io.KnownBytes.{append_known}
 use Rattle.cob_layout.specs.declared.fields.Place.{Place}
@@ -10,7 +10,7 @@ use Rattle.cob_records.specs.Device.{Took}
 use Rattle.cob_convert_show.specs.declared.named.Named.{Named}
 use Rattle.cob_convert_show.specs.Elements.{NamedItem, Printed, StandsAt, named, times_of}
 use Rattle.cob_convert_show.specs.Lines.{AreBegunInTurn, AreElementLines, AreInTurn, AreItemLines, BeginElementLines, BeginItemLines, IsElementLine, IsLineOf, front_text}
-use Rattle.cob_convert_show.specs.Sent.{Adds, BeginsOne, IsBeginning, Sends}
+use Rattle.cob_convert_show.specs.Sent.{Adds, BeginsOne, Sends}
 use Rattle.cob_convert_show.specs.Values.{IsValueShown}
 use Rattle.cob_convert_show.proofs.SentLemmas.{append_none, append_twice, none_sent, sent_twice}
 use Rattle.cob_convert_show.proofs.PieceLemmas.{sends_as, begins_as}

@@ -259,7 +259,7 @@ fn items_of(alloc: Global, book: &Book) -> Result<Vec<Named>, AllocError>
 
 /// Reads records, and writes for each a line with its number, and then a line for each element of each named elementary item, in
 /// the order of the entries, the last subscript the fastest: its name with its subscripts, its offset and its value. The answer is
-/// the number of records. The layout is that of the book. What was written may wait in the sink: the caller flushes it.
+/// the number of records. The layout has to be that of the book. What was written may wait in the sink: the caller flushes it.
 ///
 /// A value is a number as text, or `?` and the bytes in hexadecimal digits where they represent no number; or it is characters in
 /// quotation marks, where a byte that has no character, or is a quotation mark or a backslash, is `\x` and its two digits.

@@ -108,10 +108,10 @@ fn digits_of(byte: u8) -> ArrayVec<u8, 4>
     ensures digits { result.items ≡ byte_text byte }
     ensures long { length result.items ≤ 4 }
 {
-    let mut text = ArrayVec::new();
-    text.push(digit(byte / 16));
-    text.push(digit(byte % 16));
-    text
+    let mut digits = ArrayVec::new();
+    digits.push(digit(byte / 16));
+    digits.push(digit(byte % 16));
+    digits
 }
 
 /// How a byte is written.

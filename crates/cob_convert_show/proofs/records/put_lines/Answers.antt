@@ -1,7 +1,6 @@
-use Rattle.std.proofs.Common.{[], ◌++◌, subst, sym, Err, inl, inr, ◌≡◌, map}
+use Rattle.std.proofs.Common.{subst, sym, map}
 use Rattle.std.proofs.lemmas.Result.{err_from_is_err_and}
-use Rattle.cob_convert_show.specs.Elements.{ItemsStand, named, named_in, printed}
-use Rattle.cob_convert_show.specs.Lines.{AreRecordLines}
+use Rattle.cob_convert_show.specs.Elements.{ItemsStand, named, printed}
 use Rattle.cob_convert_show.proofs.ElementLemmas.{items_stand}
 use Rattle.cob_convert_show.proofs.ItemLemmas.{cut_number, number_and_items}
 use Rattle.cob_convert_show.proofs.records.put_lines.Goals as goal

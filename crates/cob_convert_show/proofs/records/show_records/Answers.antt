@@ -1,4 +1,4 @@
-use Rattle.std.proofs.Common.{rules, arith, ◌≡◌, ◌+◌, ◌∙◌, ℕ, ap, take, Ok, Err, Result}
+use Rattle.std.proofs.Common.{rules, arith, ◌≡◌, ◌+◌, ◌∙◌, ℕ, ap, take, Err}
 use Rattle.cob_layout_places.specs.declared.operands.Side.TheVariants.{In}
 use Rattle.cob_convert_record.specs.declared.fault.Cause.TheVariants.{Limit}
 use Rattle.cob_convert_show.specs.declared.records.ShowFault.{ShowFault}

@@ -1,4 +1,3 @@
-use Rattle.std.proofs.Common.{rules}
 use Rattle.cob_convert_show.proofs.SentLemmas.{put_sends}
 use Rattle.cob_convert_show.proofs.text.put.Goals as goal
 

@@ -1,4 +1,4 @@
-use Rattle.std.proofs.Common.{[], ◌∷◌, ◌∙◌}
+use Rattle.std.proofs.Common.{[], ◌∷◌}
 use Rattle.std.proofs.lemmas.Result.{err_from_is_err_and}
 use Rattle.cob_convert_show.specs.declared.values.Notation.TheVariants.{Characters}
 use Rattle.cob_convert_show.specs.Sent.{BeginsOne, IsAddedTo, IsBehind}
