@@ -1,26 +1,16 @@
--- Which end failed where records are shown.
-use Rattle.std.specs.Prelude.{◌≡◌, ℕ, ◌<◌, Bool, false, Ok, Err, Result}
-use Rattle.cob_records.specs.Frame.{is_read_failure, is_write_error, is_write_fault}
+-- Which records are shown, and what stops them.
+use Rattle.std.specs.Prelude.{◌≡◌, ℕ, ◌<◌, ◌≤◌, Bool, false, Option, Ok, Err, Result}
+use Rattle.cob_records.specs.declared.records.Form.{Form}
+use Rattle.cob_records.specs.declared.records.Form.TheVariants.{Fixed, Variable}
 use Rattle.cob_stream.specs.declared.fault.Cause.{Cause}
 use Rattle.cob_stream.specs.declared.fault.Cause.TheVariants.{Count, Limit, Record}
+use Rattle.cob_copybook_tree.specs.Forests.{Forest}
+use Rattle.cob_copybook_tree.specs.Nodes.{Resolved}
+use Rattle.cob_layout.specs.Standing.{Standing, ArePlaces}
+use Rattle.cob_layout.specs.Storage.{current_length}
 use Rattle.cob_convert_show.specs.declared.records.ShowFault.{ShowFault}
 use Rattle.cob_convert_show.specs.declared.records.ShowFault.TheVariants.{Memory, Run}
 use Rattle.cob_convert_show.specs.declared.records.Stop.{Stop}
-
--- the cause is that a read failed
-abbrev pub is_read_cause : Cause → Bool
-is_read_cause (Record fault) = is_read_failure (Err fault)
-is_read_cause _ = false
-
--- the cause is that a write failed or took nothing
-abbrev pub is_write_cause : Cause → Bool
-is_write_cause (Record fault) = is_write_fault fault
-is_write_cause _ = false
-
--- the cause is that a write failed, and not that one took nothing
-abbrev pub is_error_cause : Cause → Bool
-is_error_cause (Record fault) = is_write_error (Err fault)
-is_error_cause _ = false
 
 -- a record stopped it, for a cause of this kind
 abbrev pub stopped_by : (Cause → Bool) → Result ℕ ShowFault → Bool
@@ -29,7 +19,7 @@ stopped_by is (Err Memory) = false
 stopped_by is (Err (Run fault)) = is fault.cause
 
 -- the next record is not shown, for a cause of this kind
-abbrev pub refused_by : (Cause → Bool) → Result Bool Stop → Bool
+abbrev pub refused_by : (Cause → Bool) → Result (Option ℕ) Stop → Bool
 refused_by is (Ok found) = false
 refused_by is (Err stop) = is stop.cause
 
@@ -44,3 +34,12 @@ IsStop offset _ = ⊥
 abbrev pub IsShowFault : ShowFault → Type 0
 IsShowFault Memory = Unit {0}
 IsShowFault (Run fault) = (0 < fault.number) × IsStop fault.offset fault.cause
+
+-- a frame whose record has so many bytes may hold one that has so many by its counts: in form f it is as long as at most, whatever they say
+abbrev pub IsFitting : Form → ℕ → ℕ → Type 0
+IsFitting Fixed current count = Unit {0}
+IsFitting Variable current count = count ≡ current
+
+-- the entries of a record stand so under its counts, and so many bytes hold it
+abbrev pub HoldsRecord : Forest Resolved → Standing → ℕ → Type 0
+HoldsRecord tree s count = ArePlaces tree s.counts s × (current_length s.counts tree ≤ count)

@@ -1,32 +1,21 @@
-//! The elements of a record that items have, and their places.
+//! The lines of the elements of a record's items.
 
-ghost use Rattle.std.specs.Prelude.{◌≡◌, ◌≤◌, ◌+◌, length, IfErr, IfSome, is_err, true};
-ghost use Rattle.cob_copybook_tree.specs.Lengths.{greatest_number, sum_of};
-ghost use Rattle.cob_layout.specs.Standing.{AreSomePlaces};
-ghost use Rattle.cob_records.specs.Device.{counted};
+ghost use Rattle.std.specs.Prelude.{◌≡◌, ◌≤◌, ◌+◌, ◌++◌, [], length, map, IfOk, IfErr, is_err, true};
+ghost use Rattle.cob_limits.specs.Limits.{longest_name, most_dimensions};
+ghost use Rattle.cob_records.specs.Device.{counted, Took};
 ghost use Rattle.cob_records.specs.Frame.{is_write_error, is_write_fault};
+ghost use Rattle.cob_copybook_tree.specs.Lengths.{item_size};
+ghost use Rattle.cob_layout.specs.Ways.{spot_at};
+ghost use Rattle.cob_convert_show.specs.Elements.{AllStand, IsLaidOut, ItemsStand, Stands, StandsAt, named, printed, times_of};
+ghost use Rattle.cob_convert_show.specs.Lines.{AreElementLines, AreItemLines, BeginElementLines, BeginItemLines, IsElementLine, front_text, further_text, subscripts_text};
+ghost use Rattle.cob_convert_show.specs.Sent.{BeginsOne, Sends};
 
-use crate::text::{put, put_behind_space, put_number};
+use crate::named::Named;
+use crate::text::{Line, push_number, push_text};
 use crate::values::put_value;
 use arrayvec::ArrayVec;
-use cob_layout::{Item, Kind, Layout, Name, Node, Place, Places, field, is_table};
-use cob_limits::MAX_SUBSCRIPTS;
+use cob_layout::{Layout, Place, Places, Ref, field};
 use cob_records::{RecordFault, Sink};
-
-/// The subscripts of an element, those of the outermost table first.
-pub(crate) type Subscripts = ArrayVec<u32, MAX_SUBSCRIPTS>;
-
-/// A table that holds an item, or that it is.
-#[derive(Clone, Copy, Default)]
-pub(crate) struct Table {
-    /// The number of its entry.
-    number: usize,
-    /// The greatest number of its elements.
-    most: u32,
-}
-
-/// Tables one in another, the outermost first.
-pub(crate) type Tables = ArrayVec<Table, MAX_SUBSCRIPTS>;
 
 /// What a record holds: its layout, where its entries stand, and its bytes.
 #[derive(Clone, Copy)]
@@ -36,154 +25,182 @@ pub(crate) struct Contents<'a> {
     pub(crate) bytes: &'a [u8],
 }
 
-/// The place of an element of the entry with this number, where there is one among these places.
-fn place_of(layout: &Layout, places: &Places, number: usize, subscripts: &[u32]) -> Option<Place>
-    requires { AreSomePlaces layout.now places.now }
-    ensures { IfSome result (λ p. p.offset + p.length ≤ sum_of greatest_number layout.now) }
+/// Adds further subscripts, each behind a comma.
+fn push_further(line: &mut Line, subscripts: &[u32])
+    requires many { length subscripts.now ≤ 6 }
+    requires room { length line.old.items ≤ 41 }
+    ensures text { line.new.items ≡ line.old.items ++ further_text subscripts.now }
+    ensures long { length line.new.items ≤ length line.old.items + 66 }
 {
-    let reference = layout.reference(number, subscripts)?;
-    layout.place_in(&reference, places).ok()
+    for subscript in subscripts {
+        line.push(b',');
+        push_number(line, *subscript);
+    }
 }
 
-/// A named elementary item.
-#[derive(Clone, Copy)]
-struct Named<'a> {
-    number: usize,
-    name: &'a Name,
-    item: &'a Item,
-}
-
-/// Writes subscripts in brackets, parted by commas, where there are some.
-fn put_subscripts<W: Sink>(
-    sink: &mut W,
-    sent: &mut u64,
-    subscripts: &[u32],
-) -> Result<(), RecordFault>
-    ensures kind { IfErr result (λ fault. is_write_fault fault ≡ true) }
-    ensures cause { W.failures sink.new ≡ counted (is_err result) (W.failures sink.old) }
-    ensures errors { W.errors sink.new ≡ counted (is_write_error result) (W.errors sink.old) }
+/// Adds subscripts in brackets, parted by commas, where there are some.
+fn push_subscripts(line: &mut Line, subscripts: &[u32])
+    requires many { length subscripts.now ≤ most_dimensions }
+    requires room { length line.old.items ≤ longest_name }
+    ensures text { line.new.items ≡ line.old.items ++ subscripts_text subscripts.now }
+    ensures long { length line.new.items ≤ length line.old.items + 78 }
 {
     let Some((first, others)) = subscripts.split_first() else {
-        return Ok(());
+        return;
     };
-    put(sink, sent, b"(")?;
-    put_number(sink, sent, u64::from(*first))?;
-    for subscript in others {
-        put(sink, sent, b",")?;
-        put_number(sink, sent, u64::from(*subscript))?;
-    }
-    put(sink, sent, b")")
+    line.push(b'(');
+    push_number(line, *first);
+    push_further(line, others);
+    line.push(b')');
 }
 
-/// Writes the line of one element of an item, where there is such an element: its name with its subscripts, its offset and its
-/// value.
+/// The front of the line of an element: its name with its subscripts, and its offset.
+fn front_of(name: &[u8], subscripts: &[u32], offset: u32) -> Line
+    requires name { length name.now ≤ longest_name }
+    requires many { length subscripts.now ≤ most_dimensions }
+    ensures text { result.items ≡ front_text name.now subscripts.now offset }
+    ensures long { length result.items ≤ 120 }
+{
+    let mut line = ArrayVec::new();
+    push_text(&mut line, name);
+    push_subscripts(&mut line, subscripts);
+    line.push(b' ');
+    push_number(&mut line, offset);
+    line.push(b' ');
+    line
+}
+
+/// The place of an element that is there.
+fn place_of(contents: Contents, item: &Named, reference: &Ref) -> Place
+    requires laid { IsLaidOut (printed contents) }
+    requires node { reference.now.node ≡ item.now.number }
+    requires stands { Stands (printed contents) (named item.now) reference.now.subscripts.items }
+    ensures at { StandsAt (printed contents.entry) (named item.now) reference.now.subscripts.items result }
+    ensures within { result.offset + result.length ≤ length contents.entry.bytes.now }
+    ensures sized { result.length ≡ item_size item.now.item }
+{
+    match contents.layout.place_in(reference, contents.places) {
+        Ok(place) => place,
+        Err(fault) => Place {
+            offset: fault.offset,
+            length: 0,
+        },
+    }
+}
+
+/// Writes the line of an element of an item: its name with its subscripts, its offset and its value.
 fn put_element<W: Sink>(
     sink: &mut W,
     sent: &mut u64,
     contents: Contents,
-    named: Named,
-    subscripts: &[u32],
+    item: &Named,
+    reference: &Ref,
 ) -> Result<(), RecordFault>
-    requires bytes { length contents.bytes.now ≡ sum_of greatest_number contents.layout.now }
-    requires stands { AreSomePlaces contents.layout.now contents.places.now }
+    requires laid { IsLaidOut (printed contents) }
+    requires node { reference.now.node ≡ item.now.number }
+    requires stands { Stands (printed contents) (named item.now) reference.now.subscripts.items }
+    ensures lines { Took (W.taken sink.old) (W.taken sink.new)
+        (Sends (IsElementLine (printed contents.entry) (named item.now) reference.now.subscripts.items)
+        (BeginsOne (IsElementLine (printed contents.entry) (named item.now)
+        reference.now.subscripts.items)) sent.old sent.new result) }
     ensures kind { IfErr result (λ fault. is_write_fault fault ≡ true) }
     ensures cause { W.failures sink.new ≡ counted (is_err result) (W.failures sink.old) }
     ensures errors { W.errors sink.new ≡ counted (is_write_error result) (W.errors sink.old) }
 {
-    let Some(place) = place_of(contents.layout, contents.places, named.number, subscripts) else {
-        return Ok(());
-    };
-    put(sink, sent, named.name.as_bytes())?;
-    put_subscripts(sink, sent, subscripts)?;
-    put_behind_space(sink, sent, place.offset)?;
-    put(sink, sent, b" ")?;
-    put_value(sink, sent, named.item, field(contents.bytes, place))?;
-    put(sink, sent, b"\n")
+    let place = place_of(contents, item, reference);
+    let mut line = front_of(
+        item.name.as_bytes(),
+        reference.subscripts.as_slice(),
+        place.offset,
+    );
+    put_value(
+        sink,
+        sent,
+        &mut line,
+        &item.item,
+        field(contents.bytes, place),
+    )
 }
 
-/// Writes the lines of the elements of an item, the last subscript the fastest: those with the subscripts that are handed in for the
-/// tables outside, and each one of the tables that are left.
+/// How often a table occurs.
+fn times_in(places: &Places, table: usize) -> u32
+    ensures { result ≡ (spot_at places.now.spots table).times }
+{
+    match places.spots().get(table) {
+        Some(spot) => spot.times,
+        None => 0,
+    }
+}
+
+/// Writes the lines of the elements of an item, the last subscript the fastest: those under the subscripts of the reference, which are those
+/// of the tables outside, and each one of the tables that are left.
 fn put_elements<W: Sink>(
     sink: &mut W,
     sent: &mut u64,
     contents: Contents,
-    named: Named,
-    tables: &[Table],
-    subscripts: &mut Subscripts,
+    item: &Named,
+    tables: &[usize],
+    reference: &mut Ref,
 ) -> Result<(), RecordFault>
-    requires bytes { length contents.bytes.now ≡ sum_of greatest_number contents.layout.now }
-    requires stands { AreSomePlaces contents.layout.now contents.places.now }
+    requires laid { IsLaidOut (printed contents) }
+    requires node { reference.old.node ≡ item.now.number }
+    requires room { length reference.old.subscripts.items + length tables.now ≤ most_dimensions }
+    requires stand { AllStand (printed contents) (named item.now) tables.now
+        reference.old.subscripts.items }
+    ensures lines { Took (W.taken sink.old) (W.taken sink.new)
+        (Sends (AreElementLines (printed contents.entry) (named item.now)
+        (times_of (printed contents.entry) tables.now) reference.old.subscripts.items)
+        (BeginElementLines (printed contents.entry) (named item.now)
+        (times_of (printed contents.entry) tables.now) reference.old.subscripts.items)
+        sent.old sent.new result) }
     ensures kind { IfErr result (λ fault. is_write_fault fault ≡ true) }
     ensures cause { W.failures sink.new ≡ counted (is_err result) (W.failures sink.old) }
     ensures errors { W.errors sink.new ≡ counted (is_write_error result) (W.errors sink.old) }
+    ensures node { IfOk result (λ _. reference.new.node ≡ reference.old.node) }
+    ensures same { IfOk result
+        (λ _. reference.new.subscripts.items ≡ reference.old.subscripts.items) }
 {
     let Some((table, inner)) = tables.split_first() else {
-        return put_element(sink, sent, contents, named, subscripts.as_slice());
+        return put_element(sink, sent, contents, item, reference);
     };
-    for subscript in 1..=table.most {
-        if subscripts.try_push(subscript).is_err() {
-            return Ok(());
-        }
-        if place_of(
-            contents.layout,
-            contents.places,
-            table.number,
-            subscripts.as_slice(),
-        )
-        .is_none()
-        {
-            subscripts.pop();
-            return Ok(());
-        }
-        put_elements(sink, sent, contents, named, inner, subscripts)?;
-        subscripts.pop();
+    for earlier in 0..times_in(contents.places, *table) {
+        reference.subscripts.push(earlier + 1);
+        put_elements(sink, sent, contents, item, inner, reference)?;
+        reference.subscripts.pop();
     }
     Ok(())
 }
 
-/// Writes the lines of the named elementary items among an entry and those beneath it. The tables are those that hold it.
+/// Writes the lines of the elements of items, one item behind another.
 pub(crate) fn put_items<W: Sink>(
     sink: &mut W,
     sent: &mut u64,
     contents: Contents,
-    entry: &Node,
-    tables: &mut Tables,
+    items: &[Named],
 ) -> Result<(), RecordFault>
-    requires bytes { length contents.bytes.now ≡ sum_of greatest_number contents.layout.now }
-    requires stands { AreSomePlaces contents.layout.now contents.places.now }
+    requires laid { IsLaidOut (printed contents) }
+    requires stand { ItemsStand (printed contents) (map named items.now) }
+    ensures lines { Took (W.taken sink.old) (W.taken sink.new)
+        (Sends (AreItemLines (printed contents.entry) (map named items.now))
+        (BeginItemLines (printed contents.entry) (map named items.now))
+        sent.old sent.new result) }
     ensures kind { IfErr result (λ fault. is_write_fault fault ≡ true) }
     ensures cause { W.failures sink.new ≡ counted (is_err result) (W.failures sink.old) }
     ensures errors { W.errors sink.new ≡ counted (is_write_error result) (W.errors sink.old) }
 {
-    let table = is_table(entry.occurs);
-    let own = Table {
-        number: entry.number,
-        most: entry.occurs.most(),
-    };
-    if table && tables.try_push(own).is_err() {
-        return Ok(());
-    }
-    if let (Kind::Item(item), Some(name)) = (&entry.kind, &entry.name) {
-        let named = Named {
-            number: entry.number,
-            name,
-            item,
+    for item in items {
+        let mut reference = Ref {
+            node: item.number,
+            subscripts: ArrayVec::new(),
         };
-        let mut subscripts = Subscripts::new();
         put_elements(
             sink,
             sent,
             contents,
-            named,
-            tables.as_slice(),
-            &mut subscripts,
+            item,
+            item.tables.as_slice(),
+            &mut reference,
         )?;
-    }
-    for child in entry.children.iter() {
-        put_items(sink, sent, contents, child, tables)?;
-    }
-    if table {
-        tables.pop();
     }
     Ok(())
 }

@@ -1,14 +1,12 @@
 //! The entries of a record.
 
-ghost use Rattle.std.specs.Prelude.{◌≡◌, ◌≤◌, length, IfErr, is_err, true, Err};
+ghost use Rattle.std.specs.Prelude.{◌≡◌, ◌<◌, ◌≤◌, ◌+◌, length, IfErr, is_err, true, Err};
 ghost use Rattle.cob_records.specs.Device.{counted};
 ghost use Rattle.cob_records.specs.Frame.{is_write_error, is_write_fault, taken_of};
 
-use crate::elements::Subscripts;
-use crate::text::{put, put_behind_space};
-use cob_layout::{
-    Book, Item, Kind, Layout, Name, Node, Place, ResolvedOccurs, Sign, Usage, is_table,
-};
+use crate::text::{Line, push_number, push_text, put};
+use arrayvec::ArrayVec;
+use cob_layout::{Book, Item, Kind, Layout, Name, Node, ResolvedOccurs, Sign, Spot, Usage};
 use cob_picture::Category;
 use cob_records::{RecordFault, Sink};
 
@@ -51,130 +49,129 @@ fn name_text(name: &Option<Name>) -> &[u8]
     }
 }
 
-/// The entry with this number, among this one and those beneath it.
+/// The entry with this number, among this one and those beneath it, whose numbers follow on its own.
 fn entry_with(entry: &Node, number: usize) -> Option<&Node> {
     if entry.number == number {
         return Some(entry);
     }
+    let mut at = 0;
     for child in entry.children.iter() {
-        if let Some(found) = entry_with(child, number) {
-            return Some(found);
+        at += 1;
+        let next = match entry.children.get(at) {
+            Some(next) => next.number,
+            None => usize::MAX,
+        };
+        if number < next {
+            return entry_with(child, number);
         }
     }
     None
 }
 
-/// Writes level and name of an entry.
-fn put_name<W: Sink>(sink: &mut W, sent: &mut u64, entry: &Node) -> Result<(), RecordFault>
-    ensures kind { IfErr result (λ fault. is_write_fault fault ≡ true) }
-    ensures cause { W.failures sink.new ≡ counted (is_err result) (W.failures sink.old) }
-    ensures errors { W.errors sink.new ≡ counted (is_write_error result) (W.errors sink.old) }
+/// The name of the entry with this number.
+fn name_of(root: &Node, number: usize) -> &[u8]
+    ensures { length result.now ≤ 30 }
 {
-    let level = [b'0' + entry.level / 10 % 10, b'0' + entry.level % 10, b' '];
-    put(sink, sent, &level)?;
-    put(sink, sent, name_text(&entry.name))
+    match entry_with(root, number) {
+        Some(entry) => name_text(&entry.name),
+        None => b"",
+    }
 }
 
-/// Writes which entry it redefines, where it does.
-fn put_redefined<W: Sink>(
-    sink: &mut W,
-    sent: &mut u64,
-    redefines: &Option<Name>,
-) -> Result<(), RecordFault>
-    ensures kind { IfErr result (λ fault. is_write_fault fault ≡ true) }
-    ensures cause { W.failures sink.new ≡ counted (is_err result) (W.failures sink.old) }
-    ensures errors { W.errors sink.new ≡ counted (is_write_error result) (W.errors sink.old) }
+/// Adds a space and a number.
+fn push_behind_space(line: &mut Line, number: u32)
+    requires { length line.old.items + 11 ≤ 256 }
+    ensures long { length line.new.items ≤ length line.old.items + 11 }
+{
+    line.push(b' ');
+    push_number(line, number);
+}
+
+/// Adds level and name of an entry.
+fn push_name(line: &mut Line, entry: &Node)
+    requires { length line.old.items + 33 ≤ 256 }
+    ensures long { length line.new.items ≤ length line.old.items + 33 }
+{
+    line.push(b'0' + entry.level / 10 % 10);
+    line.push(b'0' + entry.level % 10);
+    line.push(b' ');
+    push_text(line, name_text(&entry.name));
+}
+
+/// Adds where the first element of an entry stands, and how long it is.
+fn push_place(line: &mut Line, spots: &[Spot], number: usize)
+    requires { length line.old.items + 22 ≤ 256 }
+    ensures long { length line.new.items ≤ length line.old.items + 22 }
+{
+    if let Some(spot) = spots.get(number) {
+        push_behind_space(line, spot.offset);
+        push_behind_space(line, spot.length);
+    }
+}
+
+/// Adds which entry it redefines, where it does.
+fn push_redefined(line: &mut Line, redefines: &Option<Name>)
+    requires { length line.old.items + 41 ≤ 256 }
+    ensures long { length line.new.items ≤ length line.old.items + 41 }
 {
     if let Some(name) = redefines {
-        put(sink, sent, b" redefines ")?;
-        put(sink, sent, name.as_bytes())?;
+        push_text(line, b" redefines ");
+        push_text(line, name.as_bytes());
     }
-    Ok(())
 }
 
-/// Writes how often it occurs, where it is a table: so many times, or from a least to a greatest number by the item that counts.
-fn put_occurs<W: Sink>(
-    sink: &mut W,
-    sent: &mut u64,
-    root: &Node,
-    occurs: ResolvedOccurs,
-) -> Result<(), RecordFault>
-    ensures kind { IfErr result (λ fault. is_write_fault fault ≡ true) }
-    ensures cause { W.failures sink.new ≡ counted (is_err result) (W.failures sink.old) }
-    ensures errors { W.errors sink.new ≡ counted (is_write_error result) (W.errors sink.old) }
+/// Adds how often it occurs, where it is a table: so many times, or from a least to a greatest number by the item that counts.
+fn push_occurs(line: &mut Line, root: &Node, occurs: ResolvedOccurs)
+    requires { length line.old.items + 63 ≤ 256 }
+    ensures long { length line.new.items ≤ length line.old.items + 63 }
 {
     match occurs {
-        ResolvedOccurs::Once => Ok(()),
+        ResolvedOccurs::Once => {}
         ResolvedOccurs::Fixed(times) => {
-            put(sink, sent, b" occurs")?;
-            put_behind_space(sink, sent, times)
+            push_text(line, b" occurs");
+            push_behind_space(line, times);
         }
         ResolvedOccurs::Varying { least, most, count } => {
-            put(sink, sent, b" occurs")?;
-            put_behind_space(sink, sent, least)?;
-            put_behind_space(sink, sent, most)?;
-            put(sink, sent, b" on ")?;
-            match entry_with(root, count) {
-                Some(counting) => put(sink, sent, name_text(&counting.name)),
-                None => Ok(()),
-            }
+            push_text(line, b" occurs");
+            push_behind_space(line, least);
+            push_behind_space(line, most);
+            push_text(line, b" on ");
+            push_text(line, name_of(root, count));
         }
     }
 }
 
-/// Writes the line of an entry whose first element has this place.
-fn put_entry<W: Sink>(
-    sink: &mut W,
-    sent: &mut u64,
-    root: &Node,
-    entry: &Node,
-    place: Place,
-) -> Result<(), RecordFault>
-    ensures kind { IfErr result (λ fault. is_write_fault fault ≡ true) }
-    ensures cause { W.failures sink.new ≡ counted (is_err result) (W.failures sink.old) }
-    ensures errors { W.errors sink.new ≡ counted (is_write_error result) (W.errors sink.old) }
+/// The line of an entry.
+fn line_of(spots: &[Spot], root: &Node, entry: &Node) -> Line
+    ensures some { 0 < length result.items }
+    ensures long { length result.items ≤ 180 }
 {
-    put_name(sink, sent, entry)?;
-    put_behind_space(sink, sent, place.offset)?;
-    put_behind_space(sink, sent, place.length)?;
-    put(sink, sent, b" ")?;
-    put(sink, sent, kind_word(&entry.kind).as_bytes())?;
-    put_redefined(sink, sent, &entry.redefines)?;
-    put_occurs(sink, sent, root, entry.occurs)?;
-    put(sink, sent, b"\n")
+    let mut line = ArrayVec::new();
+    push_name(&mut line, entry);
+    push_place(&mut line, spots, entry.number);
+    line.push(b' ');
+    push_text(&mut line, kind_word(&entry.kind).as_bytes());
+    push_redefined(&mut line, &entry.redefines);
+    push_occurs(&mut line, root, entry.occurs);
+    line.push(b'\n');
+    line
 }
 
-/// The place of an element of the entry with this number, where each table has its greatest number of elements.
-fn place_of(layout: &Layout, number: usize, subscripts: &[u32]) -> Option<Place> {
-    let reference = layout.reference(number, subscripts)?;
-    layout.place(&reference, layout.greatest_counts()).ok()
-}
-
-/// Writes the lines of an entry and of those beneath it. The tables that hold it have the subscripts that are handed in.
+/// Writes the lines of an entry and of those beneath it.
 fn put_entries<W: Sink>(
     sink: &mut W,
     sent: &mut u64,
-    layout: &Layout,
+    spots: &[Spot],
     root: &Node,
     entry: &Node,
-    first: &mut Subscripts,
 ) -> Result<(), RecordFault>
     ensures kind { IfErr result (λ fault. is_write_fault fault ≡ true) }
     ensures cause { W.failures sink.new ≡ counted (is_err result) (W.failures sink.old) }
     ensures errors { W.errors sink.new ≡ counted (is_write_error result) (W.errors sink.old) }
 {
-    let table = is_table(entry.occurs);
-    if table && first.try_push(1).is_err() {
-        return Ok(());
-    }
-    if let Some(place) = place_of(layout, entry.number, first.as_slice()) {
-        put_entry(sink, sent, root, entry, place)?;
-    }
+    put(sink, sent, line_of(spots, root, entry).as_slice())?;
     for child in entry.children.iter() {
-        put_entries(sink, sent, layout, root, child, first)?;
-    }
-    if table {
-        first.pop();
+        put_entries(sink, sent, spots, root, child)?;
     }
     Ok(())
 }
@@ -211,7 +208,7 @@ pub fn layout_text<W: Sink>(book: &Book, layout: &Layout, sink: &mut W) -> Resul
 {
     let root = book.root();
     let mut sent = 0;
-    match put_entries(sink, &mut sent, layout, root, root, &mut Subscripts::new()) {
+    match put_entries(sink, &mut sent, layout.greatest_spots(), root, root) {
         Ok(()) => Ok(()),
         Err(fault) => Err(fault_after(fault, sent)),
     }

@@ -1,18 +1,26 @@
 //! The records of a file.
 
-ghost use Rattle.std.specs.Prelude.{◌≡◌, length, IfErr, IfOk, Err, is_err, true, false};
+ghost use Rattle.std.specs.Prelude.{◌≡◌, ◌≤◌, [], length, map, take, IfErr, IfOk, IfSome, IsFalse, IsTrue, Err, is_err, true, false};
+ghost use Rattle.cob_stream.specs.Reasons.{is_read_cause, is_write_cause, is_error_cause};
 ghost use Rattle.cob_copybook_tree.specs.Lengths.{greatest_number, sum_of};
 ghost use Rattle.cob_layout.specs.Standing.{AreSomePlaces, IsRoomFor};
-ghost use Rattle.cob_records.specs.Device.{counted};
-ghost use Rattle.cob_records.specs.Frame.{is_write_error, is_write_fault};
-ghost use Rattle.cob_convert_show.specs.Records.{is_read_cause, is_write_cause, is_error_cause, stopped_by, refused_by, IsStop, IsShowFault};
+ghost use Rattle.cob_layout.specs.Storage.{current_length, greatest_length};
+ghost use Rattle.cob_convert_show.specs.Elements.{named, named_in, printed};
+ghost use Rattle.cob_convert_show.specs.Lines.{AreRecordLines, BeginRecordLines, number_line};
+ghost use Rattle.cob_convert_show.specs.Runs.{IsLegible, ReadsNext, Shows, stop_of};
+ghost use Rattle.cob_convert_show.specs.Sent.{IsBeginning, Sends};
+ghost use Rattle.cob_records.specs.Device.{counted, Told, Took};
+ghost use Rattle.cob_records.specs.Frame.{IsRecord, is_write_error, is_write_fault};
+ghost use Rattle.cob_convert_show.specs.Records.{stopped_by, refused_by, HoldsRecord, IsFitting, IsStop, IsShowFault};
 ghost use Rattle.cob_convert_show.specs.declared.records.ShowFault.TheVariants.{Memory, Run};
 
-use crate::elements::{Contents, Tables, put_items};
-use crate::text::{put, put_number};
-use cob_layout::{Book, CountFault, Layout, Node, Places};
+use crate::elements::{Contents, put_items};
+use crate::named::{Named, named_items};
+use crate::text::{Line, push_text, put};
+use cob_layout::{Book, CountFault, Layout, Places, places_end_in_length, records_are_sound};
 use cob_records::{Form, RecordFault, Sink, Source, next_record};
 use cob_stream::{Cause, RunFault, Side};
+use itoa::Buffer;
 use std::alloc::{AllocError, Global};
 
 /// Why not all records were shown.
@@ -38,9 +46,9 @@ const LIMIT: u64 = u64::MAX - 1;
 /// What the records are that are shown.
 #[derive(Clone, Copy)]
 struct Shown<'a> {
-    /// Their description.
-    root: &'a Node,
     layout: &'a Layout,
+    /// Their named elementary items.
+    items: &'a [Named],
     /// How they stand in their stream.
     form: Form,
 }
@@ -54,7 +62,7 @@ struct Stop {
 
 /// The stop at a frame that cannot be read, or that is not one of the layout.
 fn frame_stop(fault: RecordFault) -> Stop
-    ensures cause { result.cause ≡ Cause.Record fault }
+    ensures cause { result ≡ record { offset = 0; cause = Cause.Record fault } }
     ensures stop { IsStop result.offset result.cause }
 {
     Stop {
@@ -65,6 +73,7 @@ fn frame_stop(fault: RecordFault) -> Stop
 
 /// The stop at a count that isn't valid, or whose item ends past the record.
 fn count_stop(fault: CountFault) -> Stop
+    ensures value { result ≡ stop_of fault }
     ensures stop { IsStop result.offset result.cause }
     ensures read { is_read_cause result.cause ≡ false }
     ensures wrote { is_write_cause result.cause ≡ false }
@@ -79,18 +88,40 @@ fn count_stop(fault: CountFault) -> Stop
     }
 }
 
-/// Reads the next record and its places, and says whether there was one. It is as long as its counts say, and in form f as at most.
+/// Whether a record that came whole has the length that its counts say: in form f it is as long as at most, whatever they say.
+fn is_fitting(layout: &Layout, form: Form, places: &Places, count: usize) -> bool
+    requires stands { AreSomePlaces layout.now places.now }
+    ensures must { IsTrue result
+        → IsFitting form (current_length places.now.counts layout.now) count }
+    ensures only { IsFalse result
+        → IsFitting form (current_length places.now.counts layout.now) count → ⊥ }
+{
+    match form {
+        Form::Fixed => true,
+        Form::Variable => count == usize::from(layout.length_in(places)),
+    }
+}
+
+/// Reads the next record and its places, and says how many bytes it has, where there was one. It is as long as its counts say, and in form f
+/// as at most.
 fn read_record<R: Source>(
     layout: &Layout,
     form: Form,
     source: &mut R,
     bytes: &mut [u8],
     places: &mut Places,
-) -> Result<bool, Stop>
+) -> Result<Option<usize>, Stop>
     requires bytes { length bytes.old ≡ sum_of greatest_number layout.now }
     requires room { IsRoomFor layout.now places.old }
     ensures room { IsRoomFor layout.now places.new }
-    ensures stands { IfOk result (λ found. found ≡ true → AreSomePlaces layout.now places.new) }
+    ensures record { IfOk result (λ found. IfSome found (λ count. (count ≤ length bytes.new)
+        × HoldsRecord layout.now places.new count)) }
+    ensures whole { IfOk result (λ found. IfSome found
+        (λ count. IsRecord form (greatest_length layout.now) (take count bytes.new))) }
+    ensures legible { IfOk result (λ found. IfSome found
+        (λ count. IsLegible form layout.now (take count bytes.new) places.new)) }
+    ensures next { Told (R.coming source.old) (R.coming source.new)
+        (ReadsNext form layout.now bytes.new result) }
     ensures stop { IfErr result (λ stop. IsStop stop.offset stop.cause) }
     ensures wrote { IfErr result (λ stop. is_write_cause stop.cause ≡ false) }
     ensures errors { IfErr result (λ stop. is_error_cause stop.cause ≡ false) }
@@ -98,17 +129,34 @@ fn read_record<R: Source>(
         (refused_by is_read_cause result) (R.failures source.old) }
 {
     let count = match next_record(source, form, layout.greatest(), bytes) {
-        Ok(None) => return Ok(false),
+        Ok(None) => return Ok(None),
         Ok(Some(count)) => count,
         Err(fault) => return Err(frame_stop(fault)),
     };
     if let Err(fault) = layout.places_of(&bytes[..count], places) {
         return Err(count_stop(fault));
     }
-    if form == Form::Variable && count != usize::from(layout.length_in(places)) {
+    if !is_fitting(layout, form, places, count) {
         return Err(frame_stop(RecordFault::Length));
     }
-    Ok(true)
+    Ok(Some(count))
+}
+
+/// Writes the line with the number of a record.
+fn put_record_number<W: Sink>(sink: &mut W, sent: &mut u64, number: u64) -> Result<(), RecordFault>
+    ensures lines { Took (W.taken sink.old) (W.taken sink.new)
+        (Sends (λ part. part ≡ number_line number) (λ part. IsBeginning part (number_line number))
+        sent.old sent.new result) }
+    ensures kind { IfErr result (λ fault. is_write_fault fault ≡ true) }
+    ensures cause { W.failures sink.new ≡ counted (is_err result) (W.failures sink.old) }
+    ensures errors { W.errors sink.new ≡ counted (is_write_error result) (W.errors sink.old) }
+{
+    let mut buffer = Buffer::new();
+    let mut line = Line::new();
+    push_text(&mut line, b"record ");
+    push_text(&mut line, buffer.format(number).as_bytes());
+    line.push(b'\n');
+    put(sink, sent, line.as_slice())
 }
 
 /// Writes the lines of a record, the one with its number first.
@@ -117,18 +165,23 @@ fn put_lines<W: Sink>(
     sent: &mut u64,
     number: u64,
     contents: Contents,
-    root: &Node,
+    items: &[Named],
 ) -> Result<(), RecordFault>
-    requires bytes { length contents.bytes.now ≡ sum_of greatest_number contents.layout.now }
-    requires stands { AreSomePlaces contents.layout.now contents.places.now }
+    requires items { map named items.now ≡ named_in [] contents.layout.now }
+    requires record { HoldsRecord contents.layout.now contents.places.now
+        (length contents.bytes.now) }
+    ensures lines { Took (W.taken sink.old) (W.taken sink.new)
+        (Sends (AreRecordLines (printed contents.entry) number)
+        (BeginRecordLines (printed contents.entry) number) sent.old sent.new result) }
     ensures kind { IfErr result (λ fault. is_write_fault fault ≡ true) }
     ensures cause { W.failures sink.new ≡ counted (is_err result) (W.failures sink.old) }
     ensures errors { W.errors sink.new ≡ counted (is_write_error result) (W.errors sink.old) }
 {
-    put(sink, sent, b"record ")?;
-    put_number(sink, sent, number)?;
-    put(sink, sent, b"\n")?;
-    put_items(sink, sent, contents, root, &mut Tables::new())
+    records_are_sound();
+    places_end_in_length();
+    let _ = contents.layout.greatest();
+    put_record_number(sink, sent, number)?;
+    put_items(sink, sent, contents, items)
 }
 
 /// The fault of a record that stopped it.
@@ -158,8 +211,11 @@ fn show_records<R: Source, W: Sink>(
     source: &mut R,
     sink: &mut W,
 ) -> Result<u64, ShowFault>
+    requires items { map named shown.items.now ≡ named_in [] shown.layout.now }
     requires bytes { length bytes.old ≡ sum_of greatest_number shown.layout.now }
     requires room { IsRoomFor shown.layout.now places.old }
+    ensures shows { Told (R.coming source.old) (R.coming source.new) (λ bytes rest. Shows shown.entry.form
+        shown.entry.layout.now result bytes rest (W.taken sink.old) (W.taken sink.new)) }
     ensures fault { IfErr result IsShowFault }
     ensures record { result ≡ Err Memory → ⊥ }
     ensures reads { R.failures source.new ≡ counted
@@ -171,28 +227,40 @@ fn show_records<R: Source, W: Sink>(
 {
     let mut written: u64 = 0;
     for done in 0..LIMIT {
-        match read_record(shown.layout, shown.form, source, bytes, places) {
-            Ok(false) => return Ok(done),
-            Ok(true) => {}
+        let count = match read_record(shown.layout, shown.form, source, bytes, places) {
+            Ok(None) => return Ok(done),
+            Ok(Some(count)) => count,
             Err(Stop { offset, cause }) => {
                 return Err(stop_at(done + 1, Side::In, offset, cause, written));
             }
-        }
+        };
         let contents = Contents {
             layout: shown.layout,
             places,
-            bytes,
+            bytes: &bytes[..count],
         };
-        if let Err(fault) = put_lines(sink, &mut written, done + 1, contents, shown.root) {
+        if let Err(fault) = put_lines(sink, &mut written, done + 1, contents, shown.items) {
             return Err(stop_at(done + 1, Side::Out, 0, Cause::Record(fault), written));
         }
     }
     Err(stop_at(LIMIT + 1, Side::In, 0, Cause::Limit, written))
 }
 
+/// The named elementary items of a book.
+///
+/// # Errors
+///
+/// Where no memory is left.
+fn items_of(alloc: Global, book: &Book) -> Result<Vec<Named>, AllocError>
+    ensures { IfOk result (λ items. map named items.items ≡ named_in [] book.now) }
+{
+    records_are_sound();
+    named_items(alloc, book.root())
+}
+
 /// Reads records, and writes for each a line with its number, and then a line for each element of each named elementary item, in
 /// the order of the entries, the last subscript the fastest: its name with its subscripts, its offset and its value. The answer is
-/// the number of records. The layout is that of the book. What was written may wait in the sink: the caller flushes it.
+/// the number of records. The layout has to be that of the book. What was written may wait in the sink: the caller flushes it.
 ///
 /// A value is a number as text, or `?` and the bytes in hexadecimal digits where they represent no number; or it is characters in
 /// quotation marks, where a byte that has no character, or is a quotation mark or a backslash, is `\x` and its two digits.
@@ -209,6 +277,10 @@ pub fn show<R: Source, W: Sink>(
     source: &mut R,
     sink: &mut W,
 ) -> Result<u64, ShowFault>
+    requires { book.now ≡ layout.now }
+    // What came, what was written of it, and how it ended, where the source tells its bytes.
+    ensures shows { Told (R.coming source.old) (R.coming source.new) (λ bytes rest. Shows form
+        layout.now result bytes rest (W.taken sink.old) (W.taken sink.new)) }
     // A stop names a record, and is one of a count, of a frame, or of the number of records.
     ensures fault { IfErr result IsShowFault }
     // Where memory is refused nothing was read or written.
@@ -224,9 +296,10 @@ pub fn show<R: Source, W: Sink>(
 {
     let mut bytes = vec![in alloc; 0u8; usize::from(layout.greatest())]?;
     let mut places = layout.new_places(alloc)?;
+    let items = items_of(alloc, book)?;
     let shown = Shown {
-        root: book.root(),
         layout,
+        items: &items,
         form,
     };
     show_records(shown, &mut bytes, &mut places, source, sink)

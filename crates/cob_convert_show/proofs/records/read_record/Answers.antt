@@ -1,0 +1,42 @@
+-- A record that came whole with valid counts, as long as they say; else the stop.
+use Rattle.std.proofs.Common.{rules, refl}
+use Rattle.cob_convert_show.proofs.RecordLemmas.{holds_record, length_fits}
+use Rattle.cob_convert_show.proofs.RunLemmas.{legible_of, next_miscounted, next_refused, next_unfitting, next_whole, whole_of}
+use Rattle.cob_convert_show.proofs.records.read_record.Goals as goal
+
+pub returns-clause-record : goal.returns-clause-record
+returns-clause-record g c =
+    let size = rw c.in-Ok-Some.field-0-is at c.in-Ok-Some.ensures.size in (
+      length_fits c.args.form _ c.in-Ok-Some.count _ size (search rules),
+      holds_record c.args.form c.args.layout.now c.places_of.new.places _ c.in-Ok-Some.count c.in_default.ensures.ok (rw c.greatest.ensures.value at size) (c.if-not-is_fitting.ensures.must refl),
+    )
+
+pub returns-clause-whole : goal.returns-clause-whole
+returns-clause-whole g c =
+    let size = rw c.in-Ok-Some.field-0-is at c.in-Ok-Some.ensures.size in
+    whole_of c.args.form _ c.in-Ok-Some.count _ (rw c.greatest.ensures.value at size) (search rules)
+
+pub returns-clause-legible : goal.returns-clause-legible
+returns-clause-legible g c =
+    let size = rw c.in-Ok-Some.field-0-is at c.in-Ok-Some.ensures.size in
+    legible_of c.args.form c.args.layout.now c.places_of.new.places c.next_record.new.slot c.in-Ok-Some.count (length_fits c.args.form _ c.in-Ok-Some.count _ size (search rules))
+    c.in_default.ensures.ok (c.if-not-is_fitting.ensures.must refl)
+
+pub returns-clause-next : goal.returns-clause-next
+returns-clause-next g c =
+    next_whole c.args.form c.args.layout.now c.next_record.new.slot c.in-Ok-Some.count _ _ (rw (c.in-Ok-Some.field-0-is, c.greatest.ensures.value) at c.in-Ok-Some.ensures.frame)
+
+pub returns-in-Err-clause-next : goal.returns-in-Err-clause-next
+returns-in-Err-clause-next g c =
+    next_refused c.args.form c.args.layout.now c.next_record.new.slot c.in-Err.fault c.frame_stop.result _ _ c.frame_stop.ensures.cause (rw c.greatest.ensures.value at c.in-Err.ensures.frame)
+
+pub returns-in-Err-places_of-clause-next : goal.returns-in-Err-places_of-clause-next
+returns-in-Err-places_of-clause-next g c =
+    next_miscounted c.args.form c.args.layout.now c.next_record.new.slot c.in-Ok-Some.count c.in-Err-places_of.fault c.count_stop.result _ _ c.count_stop.ensures.value c.in-Err-places_of.ensures.err
+    (rw (c.in-Ok-Some.field-0-is, c.greatest.ensures.value) at c.in-Ok-Some.ensures.frame)
+
+pub returns-then-not-is_fitting-clause-next : goal.returns-then-not-is_fitting-clause-next
+returns-then-not-is_fitting-clause-next g c =
+    next_unfitting c.args.form c.args.layout.now c.places_of.new.places c.next_record.new.slot c.in-Ok-Some.count c.frame_stop-then-not-is_fitting.result _ _
+    c.frame_stop-then-not-is_fitting.ensures.cause c.in_default.ensures.ok (c.if-not-is_fitting.ensures.only refl)
+    (rw (c.in-Ok-Some.field-0-is, c.greatest.ensures.value) at c.in-Ok-Some.ensures.frame)

@@ -1,0 +1,6 @@
+use Rattle.cob_convert_show.proofs.SentLemmas.{put_sends}
+use Rattle.cob_convert_show.proofs.text.put.Goals as goal
+
+pub returns-clause-lines : goal.returns-clause-lines
+returns-clause-lines g c =
+    put_sends c.args.text.now c.put_record-answer.result _ _ c.args.sent.now _ c.put_record-answer.ensures.frame (rw c.taken_by.ensures at c.saturating_add.ensures)

@@ -1,0 +1,88 @@
+//! The named elementary items of a record.
+
+ghost use Rattle.std.specs.Prelude.{◌≡◌, ◌++◌, ◌+◌, ◌≤◌, [], length, map, IfOk};
+ghost use Rattle.cob_copybook_tree.specs.Nodes.{node, tree_of};
+ghost use Rattle.cob_limits.specs.Limits.{most_dimensions};
+ghost use Rattle.cob_layout.specs.Sound.{own_dimension, AreNested};
+ghost use Rattle.cob_layout.specs.Ways.{own_table};
+ghost use Rattle.cob_convert_show.specs.Elements.{named, named_in, own_of};
+
+use arrayvec::ArrayVec;
+use cob_layout::{Item, Kind, Name, Node, is_table};
+use cob_limits::MAX_SUBSCRIPTS;
+use std::alloc::{AllocError, Global};
+
+/// The numbers of tables, one within the other, the outermost first.
+pub(crate) type Tables = ArrayVec<usize, MAX_SUBSCRIPTS>;
+
+/// A named elementary item.
+#[derive(Debug, Drop)]
+pub(crate) struct Named {
+    /// The number of its entry.
+    pub(crate) number: usize,
+    pub(crate) name: Name,
+    pub(crate) item: Item,
+    /// The tables that hold it or that it is.
+    pub(crate) tables: Tables,
+}
+
+/// These tables, and the entry itself where it is one.
+fn with_own(over: &[usize], entry: &Node) -> Tables
+    requires { length over.now + own_dimension (node entry.now).top.occurs ≤ most_dimensions }
+    ensures { result.items
+        ≡ over.now ++ own_table (node entry.now).top.occurs (node entry.now).top.number }
+{
+    let mut tables = ArrayVec::new();
+    for table in over {
+        tables.push(*table);
+    }
+    if is_table(entry.occurs) {
+        tables.push(entry.number);
+    }
+    tables
+}
+
+/// Adds an entry where it is a named elementary item; it stands in these tables.
+fn push_own(entry: &Node, over: &[usize], items: &mut Vec<Named>) -> Result<(), AllocError>
+    requires { length over.now + own_dimension (node entry.now).top.occurs ≤ most_dimensions }
+    ensures { IfOk result (λ _. map named items.new.items
+        ≡ map named items.old.items ++ own_of over.now (node entry.now).top) }
+{
+    if let (Kind::Item(item), Some(name)) = (&entry.kind, &entry.name) {
+        items.push(Named {
+            number: entry.number,
+            name: name.clone(),
+            item: item.clone(),
+            tables: with_own(over, entry),
+        })?;
+    }
+    Ok(())
+}
+
+/// Adds the named elementary items among an entry, which stands in these tables, and those beneath it, in their order.
+fn push_named(entry: &Node, over: &[usize], items: &mut Vec<Named>) -> Result<(), AllocError>
+    requires { AreNested (length over.now) (tree_of entry.now) }
+    ensures { IfOk result (λ _. map named items.new.items
+        ≡ map named items.old.items ++ named_in over.now (tree_of entry.now)) }
+{
+    let within = with_own(over, entry);
+    push_own(entry, over, items)?;
+    for child in entry.children.iter() {
+        push_named(child, within.as_slice(), items)?;
+    }
+    Ok(())
+}
+
+/// The named elementary items of a record, in the order of its entries.
+///
+/// # Errors
+///
+/// Where no memory is left.
+pub(crate) fn named_items(alloc: Global, root: &Node) -> Result<Vec<Named>, AllocError>
+    requires { AreNested 0 (tree_of root.now) }
+    ensures { IfOk result (λ items. map named items.items ≡ named_in [] (tree_of root.now)) }
+{
+    let mut items = Vec::new(alloc);
+    push_named(root, &[], &mut items)?;
+    Ok(items)
+}
