@@ -1,12 +1,13 @@
 -- What three texts mean, and why they are refused.
-use Rattle.std.specs.Prelude.{ℕ, List}
+use Rattle.std.specs.Prelude.{◌≡◌, ℕ, List}
+use Rattle.cob_codec.specs.declared.reading.Reading.{Reading}
 use Rattle.cob_copybook_tree.specs.Forests.{Forest}
 use Rattle.cob_copybook_tree.specs.Nodes.{Resolved}
 use Rattle.cob_copybook.specs.declared.role.Role.{Role}
 use Rattle.cob_copybook.specs.declared.role.Role.TheVariants.{In, Out}
 use Rattle.cob_copybook.specs.Books.{IsBookOf, IsBookRefusal, IsMemory}
 use Rattle.cob_entry.specs.declared.fault.BookFault.{BookFault}
-use Rattle.cob_convert_record.specs.Conversion.{Conversion}
+use Rattle.cob_convert_record.specs.Conversion.{Conversion, conversion_by}
 use Rattle.cob_move.specs.Paragraphs.{IsParagraphOf, IsRefusalOf}
 use Rattle.cob_move_statements.specs.declared.fault.MoveFault.{MoveFault}
 use Rattle.cob_move_statements.specs.declared.fault.MoveRule.{MoveRule}
@@ -19,6 +20,11 @@ pub record Means (in_book out_book moves : List ℕ) (conversion : Conversion) :
   pub input : IsBookOf In in_book conversion.records.input
   pub output : IsBookOf Out out_book conversion.records.output
   pub paragraph : IsParagraphOf moves conversion.records.input conversion.records.output conversion.moves
+
+-- The texts say this conversion with its binary senders read so: they say one, and it is the same with the senders of its moves read so.
+abbrev pub MeansBy : Reading → List ℕ → List ℕ → List ℕ → Conversion → Type 0
+MeansBy reading in_book out_book moves conversion =
+    (said : Conversion) × Means in_book out_book moves said × (conversion ≡ conversion_by reading said)
 
 -- the text is a book
 abbrev pub IsBook : Role → List ℕ → Type 0

@@ -3,15 +3,16 @@ ghost use Rattle.cob_move_apply.specs.Prepared.{most_moves_told, single_moves};
 ghost use Rattle.cob_records.specs.Device.{counted, Told};
 ghost use Rattle.cob_move.specs.Paragraphs.{IsParagraphOf};
 ghost use Rattle.cob_limits.specs.Limits.{longest_record};
-ghost use Rattle.cob_convert_record.specs.Conversion.{in_length, out_length, Conversion as Meant};
+ghost use Rattle.cob_convert_record.specs.Conversion.{conversion_by, in_length, out_length, Conversion as Meant};
 ghost use Rattle.cob_layout_places.specs.Moves.{Move};
 ghost use Rattle.cob_convert.specs.declared.fault.PrepareFault.TheVariants.{Memory};
 ghost use Rattle.cob_convert.specs.Unique.{HasBytes};
-ghost use Rattle.cob_convert.specs.Means.{Means, IsMovesRefusal, IsPrepareRefusal};
+ghost use Rattle.cob_convert.specs.Means.{Means, MeansBy, IsMovesRefusal, IsPrepareRefusal};
 
 use crate::books;
 use crate::fault::PrepareFault;
 use crate::run::run_over;
+use cob_codec::Reading;
 use cob_convert_record::{Conversion, Room};
 use cob_move::{Book, Layout, Paragraph};
 use cob_records::{Form, Sink, Source};
@@ -134,6 +135,51 @@ impl Converter {
         let output = books::out_book(alloc, out_book)?;
         let conversion = conversion_of(alloc, in_form, out_form, &input, &output, moves)?;
         Ok(Converter::of(alloc, conversion)?)
+    }
+
+    /// The same converter, with the binary senders of its moves read so.
+    fn with_reading(self, reading: Reading) -> Converter
+        ensures { result ≡ conversion_by reading self }
+    {
+        Converter {
+            conversion: self.conversion.with_reading(reading),
+            input: self.input,
+            output: self.output,
+            room: self.room,
+        }
+    }
+
+    /// Makes a converter as [`Converter::prepare`] does, whose binary senders are read so: as their pictures say, or as the numbers of all
+    /// their bytes.
+    ///
+    /// # Errors
+    /// Those of [`Converter::prepare`].
+    pub fn prepare_with(
+        alloc: Global,
+        in_book: &[u8],
+        out_book: &[u8],
+        moves: &[u8],
+        in_form: Form,
+        out_form: Form,
+        reading: Reading,
+    ) -> Result<Converter, PrepareFault>
+        // What is prepared is what the texts mean by this reading, with the forms that were handed in.
+        ensures means { IfOk result
+            (λ made. MeansBy reading in_book.now out_book.now moves.now made) }
+        ensures forms { IfOk result
+            (λ made. (made.in_form ≡ in_form) × (made.out_form ≡ out_form)) }
+        // Records of both sides have from 1 to 32,752 bytes.
+        ensures records { IfOk result
+            (λ made. HasBytes made.records.input × HasBytes made.records.output) }
+        // Three texts that say a conversion are prepared, memory aside.
+        ensures only { (c : Meant) → Means in_book.now out_book.now moves.now c
+            → IfErr result (λ fault. fault ≡ Memory) }
+        // A refusal names a text, and a rule that it breaks.
+        ensures refused { IfErr result
+            (λ fault. IsPrepareRefusal fault in_book.now out_book.now moves.now) }
+    {
+        let pictured = Converter::prepare(alloc, in_book, out_book, moves, in_form, out_form)?;
+        Ok(pictured.with_reading(reading))
     }
 
     /// How many bytes an input record has at most.

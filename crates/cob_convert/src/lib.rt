@@ -6,7 +6,7 @@
 //!
 //! What is promised:
 //!
-//! - What is prepared is what the texts mean (`means`), with the record forms that were handed in (`forms`); a refusal names a text, and the
+//! - What is prepared is what the texts mean (`means`; by [`Converter::prepare_with`] with their binary senders read so), with the record forms that were handed in (`forms`); a refusal names a text, and the
 //!   rule that it breaks (`refused`). Want of memory is never told as a fault of a text.
 //! - Where the source tells its bytes and no call of an end failed, what a run writes is, record by record, the framed storage that the
 //!   moves give from the initial values and the values that the input's bytes represent; and a run that stops names the first record
@@ -28,6 +28,7 @@ mod fault;
 mod laws;
 mod run;
 
+pub use cob_codec::Reading;
 pub use cob_move::{Book, BookFault, BookRule, Layout, MoveFault, MoveRule, Paragraph, Role};
 pub use cob_stream::{Cause, RunFault, Side};
 pub use converter::Converter;

@@ -1,5 +1,6 @@
 use crate::fault::CommandFault;
 use crate::texts::Texts;
+use cob_codec::Reading;
 use cob_convert_line::CheckLine;
 use cob_records::Form;
 use std::fmt;
@@ -41,7 +42,7 @@ pub fn check<R: AllocGlobal + Files>(
         out_book: line.out_book,
         moves: line.moves,
     };
-    let converter = texts.prepared(rt, Form::Fixed, Form::Fixed)?;
+    let converter = texts.prepared(rt, Form::Fixed, Form::Fixed, Reading::Pictured)?;
     Ok(Checked {
         input: converter.in_length(),
         output: converter.out_length(),

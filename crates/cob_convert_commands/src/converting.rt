@@ -172,7 +172,7 @@ pub fn convert<R: AllocGlobal + Files + Input + Print + Eprint + Clock>(
         out_book: line.out_book,
         moves: line.moves,
     };
-    let mut converter = texts.prepared(rt, line.in_form, line.out_form)?;
+    let mut converter = texts.prepared(rt, line.in_form, line.out_form, line.reading)?;
     if line.atomic {
         convert_beside(rt, line, &mut converter)
     } else {

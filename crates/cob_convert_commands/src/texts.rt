@@ -1,4 +1,5 @@
 use crate::fault::{CommandFault, FileName};
+use cob_codec::Reading;
 use cob_convert::Converter;
 use cob_convert_files::{FileIdentity, loses, read_text};
 use cob_records::Form;
@@ -25,7 +26,7 @@ pub struct Texts<'a> {
 }
 
 impl Texts<'_> {
-    /// Reads the three texts of a conversion, and prepares it.
+    /// Reads the three texts of a conversion, and prepares it, its binary senders read so.
     ///
     /// # Errors
     ///
@@ -35,10 +36,19 @@ impl Texts<'_> {
         rt: &R,
         in_form: Form,
         out_form: Form,
+        reading: Reading,
     ) -> Result<Converter, CommandFault> {
         let in_book = text_of(rt, self.in_book, FileName::InBook)?;
         let out_book = text_of(rt, self.out_book, FileName::OutBook)?;
         let moves = text_of(rt, self.moves, FileName::Moves)?;
-        Ok(Converter::prepare(rt.alloc(), &in_book, &out_book, &moves, in_form, out_form)?)
+        Ok(Converter::prepare_with(
+            rt.alloc(),
+            &in_book,
+            &out_book,
+            &moves,
+            in_form,
+            out_form,
+            reading,
+        )?)
     }
 }
