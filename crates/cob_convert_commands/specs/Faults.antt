@@ -2,6 +2,7 @@
 use Rattle.std.specs.Prelude.{◌≡◌, ◌⊎◌, ◌==◌, ◌||◌, ◌-◌, nat_le, ℕ, Bool, true, false, Result, Ok, Err, ⊤, if◌then◌else◌}
 use Rattle.cob_convert.specs.declared.fault.PrepareFault.{PrepareFault}
 use Rattle.cob_convert.specs.declared.fault.PrepareFault.TheVariants as prepare
+use Rattle.cob_job.specs.Jobs.{status_of_stop}
 use Rattle.cob_job.specs.declared.jobs.Status.{Status}
 use Rattle.cob_job.specs.declared.jobs.Status.TheVariants as status
 use Rattle.cob_stream.specs.declared.fault.Cause.{Cause}
@@ -20,7 +21,7 @@ use Rattle.cob_convert_files.specs.declared.outputs.PlaceFault.TheVariants as pl
 use Rattle.cob_records.specs.declared.device.DeviceFault.{DeviceFault}
 use Rattle.cob_records.specs.declared.files.OpenFault.{OpenFault}
 use Rattle.cob_records.specs.declared.files.OpenFault.TheVariants as opening
-use Rattle.cob_records.specs.declared.records.RecordFault.TheVariants.{ReadFailed, WriteFailed, TookNothing}
+use Rattle.cob_records.specs.declared.records.RecordFault.TheVariants.{WriteFailed, TookNothing}
 use Rattle.cob_convert_commands.specs.declared.fault.FileName.{FileName}
 use Rattle.cob_convert_commands.specs.declared.fault.CommandFault.{CommandFault}
 use Rattle.cob_convert_commands.specs.declared.fault.CommandFault.TheVariants as fault
@@ -61,13 +62,6 @@ abbrev pub show_fault : ShowFault → CommandFault
 show_fault listing.Memory = fault.Memory
 show_fault (listing.Run stopped) = show_fault_by stopped.cause stopped
 
--- a read or a write that failed is a device's, all else that stops a run is a record's
-abbrev pub status_of_stop : Cause → Status
-status_of_stop (cause.Record ReadFailed) = status.Device
-status_of_stop (cause.Record (WriteFailed taken)) = status.Device
-status_of_stop (cause.Record (TookNothing taken)) = status.Device
-status_of_stop stopped = status.Stopped
-
 -- The status of each fault: a file that is not opened or not read is a device's.
 abbrev pub status_of : CommandFault → Status
 status_of (fault.CannotOpen name) = status.Device
@@ -106,11 +100,6 @@ abbrev pub placed_run : ℕ → Result ⊤ PlaceFault → Result ℕ CommandFaul
 placed_run done (Ok placed) = Ok done
 placed_run done (Err place.NotSynced) = Err (unflushed_fault (Ok done))
 placed_run done (Err place.NotRenamed) = Err fault.NotRenamed
-
--- The status of what is told by a line: a line that is not printed is a device's failure, whatever it tells.
-abbrev pub printed_status : {E : Type 0} → Result ⊤ E → Status → Status
-printed_status (Ok printed) told = told
-printed_status (Err failed) told = status.Device
 
 -- The status of a fault that was told: its own, or that of a device where it could not be told.
 abbrev pub IsToldStatus : CommandFault → Status → Type 0

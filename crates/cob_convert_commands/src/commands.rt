@@ -1,7 +1,8 @@
 ghost use Rattle.std.specs.Prelude.{◌≡◌, [], OnOk, Result};
 ghost use Rattle.std.specs.Io.Buffered.{writer_buffer};
 ghost use Rattle.cob_records.specs.Streams.{sink_writer};
-ghost use Rattle.cob_convert_commands.specs.Faults.{IsToldStatus, printed_status};
+ghost use Rattle.cob_job.specs.JobAnswers.{printed_status};
+ghost use Rattle.cob_convert_commands.specs.Faults.{IsToldStatus};
 
 use crate::checking::check;
 use crate::converting::convert;

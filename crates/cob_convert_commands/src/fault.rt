@@ -1,5 +1,5 @@
 ghost use Rattle.std.specs.Prelude.{◌≡◌};
-ghost use Rattle.cob_convert_commands.specs.Faults.{refused_book, show_fault, refused_text, status_of, status_of_stop, unopened_file, unread_text};
+ghost use Rattle.cob_convert_commands.specs.Faults.{refused_book, show_fault, refused_text, status_of, unopened_file, unread_text};
 ghost use Rattle.cob_convert_commands.specs.declared.fault.CommandFault.TheVariants.{Memory, Stopped};
 
 use cob_convert::{BookFault, BookRule, Cause, PrepareFault, RunFault};
@@ -134,20 +134,6 @@ impl From<ShowFault> for CommandFault {
     }
 }
 
-/// The status of a run that stopped for this cause: whether a record stopped it, or a device failed.
-fn stop_status(cause: Cause) -> Status
-    ensures { result ≡ status_of_stop cause }
-{
-    match cause {
-        Cause::Record(
-            RecordFault::ReadFailed
-            | RecordFault::WriteFailed { .. }
-            | RecordFault::TookNothing { .. },
-        ) => Status::Device,
-        _ => Status::Stopped,
-    }
-}
-
 impl CommandFault {
     /// How the program ends.
     pub fn status(self) -> Status
@@ -161,7 +147,7 @@ impl CommandFault {
             | CommandFault::Unprinted => Status::Device,
             CommandFault::Refused(_) | CommandFault::Book(_) => Status::Refused,
             CommandFault::OneFile(_) => Status::Malformed,
-            CommandFault::Stopped(fault) => stop_status(fault.cause),
+            CommandFault::Stopped(fault) => Status::of_stop(fault.cause),
             CommandFault::Memory => Status::Memory,
         }
     }
