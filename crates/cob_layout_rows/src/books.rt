@@ -1,25 +1,42 @@
 //! The records of rows, and references to their entries.
 
-ghost use Rattle.std.specs.Prelude.{IfOk};
-ghost use Rattle.cob_layout_places.specs.References.{Refers};
-
 use arrayvec::ArrayVec;
+use cob_copybook::{Book, BookFault, BookRule, Node, Role};
+use cob_layout::Layout;
+use cob_layout_places::Ref;
 use cob_limits::MAX_SUBSCRIPTS;
-use cob_move::{Book, BookRule, Layout, Node, Ref, Role};
 use cob_rows::{Row, RowFault};
 use std::alloc::Global;
 
 /// The subscripts of a reference.
 type Subscripts = ArrayVec<u32, MAX_SUBSCRIPTS>;
 
+/// Why a row has no book.
+fn row_fault(fault: BookFault) -> RowFault {
+    match fault.rule {
+        BookRule::Memory => RowFault::Memory,
+        _ => RowFault::BadRow,
+    }
+}
+
+/// The book of a text.
+fn read(alloc: Global, text: &[u8]) -> Result<Book, RowFault> {
+    match Book::read(alloc, Role::In, text) {
+        Ok(book) => Ok(book),
+        Err(fault) => Err(row_fault(fault)),
+    }
+}
+
 /// The book of a row: its second field.
 pub(crate) fn book_of(alloc: Global, row: &Row) -> Result<Book, RowFault> {
     let text = row.lines(alloc, 1)?;
-    match Book::read(alloc, Role::In, text.as_slice()) {
-        Ok(book) => Ok(book),
-        Err(fault) if fault.rule == BookRule::Memory => Err(RowFault::Memory),
-        Err(_) => Err(RowFault::BadRow),
-    }
+    read(alloc, text.as_slice())
+}
+
+/// The layout of a row's book.
+pub(crate) fn layout_of(alloc: Global, row: &Row) -> Result<Layout, RowFault> {
+    let book = book_of(alloc, row)?;
+    Ok(Layout::of(alloc, &book)?)
 }
 
 /// The first entry of this name, among this one and those beneath it.
@@ -62,16 +79,14 @@ fn parts_of(written: &str) -> Result<(&str, Subscripts), RowFault> {
     }
 }
 
-/// The reference to an entry of a record, as it is written.
-pub(crate) fn reference_of(book: &Book, layout: &Layout, written: &str) -> Result<Ref, RowFault>
-    ensures { IfOk result (λ r. Refers r.node r.subscripts.items layout.now) }
-{
+/// The reference that is written so, be it legal or not.
+pub(crate) fn reference_of(book: &Book, written: &str) -> Result<Ref, RowFault> {
     let (name, subscripts) = parts_of(written)?;
-    let Some(entry) = entry_named(book.root(), name) else {
-        return Err(RowFault::BadRow);
-    };
-    match layout.reference(entry.number, subscripts.as_slice()) {
-        Some(reference) => Ok(reference),
+    match entry_named(book.root(), name) {
+        Some(entry) => Ok(Ref {
+            node: entry.number,
+            subscripts,
+        }),
         None => Err(RowFault::BadRow),
     }
 }

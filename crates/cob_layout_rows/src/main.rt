@@ -17,13 +17,16 @@
 //! - `begin`, record: its bytes before the first move. `constant`, kind, characters, number of bytes: the bytes of the constant.
 #![tactic(auto)]
 
+mod asked;
 mod books;
 mod counted;
 mod layouts;
 mod places;
+mod refusal;
 mod storage;
 mod tables;
 
+use crate::refusal::Refusal;
 use cob_rows::{Family, Row, RowFault, print_rows};
 use std::alloc::Global;
 use std::io;
@@ -31,23 +34,39 @@ use std::io;
 /// The tables on layouts.
 struct LayoutRows;
 
+/// Writes the answer to a row's question about a record under counts.
+fn under_counts(alloc: Global, row: &Row, out: &mut String) -> Result<(), Refusal> {
+    match row.field(0)? {
+        "length" => layouts::length(alloc, row, out),
+        "length for" => layouts::length_for(alloc, row, out),
+        "place" => layouts::place(alloc, row, out),
+        "bytes" => layouts::bytes(alloc, row, out),
+        "kept" => layouts::kept(alloc, row, out),
+        _ => Err(Refusal::Row(RowFault::BadRow)),
+    }
+}
+
+/// Writes the answer to a row's question about a record under counts, or the fault of the count that isn't valid.
+fn push_under_counts(alloc: Global, row: &Row, out: &mut String) -> Result<(), RowFault> {
+    match under_counts(alloc, row, out) {
+        Ok(()) => Ok(()),
+        Err(Refusal::Count(fault)) => Ok(layouts::push_count_fault(out, fault)?),
+        Err(Refusal::Row(fault)) => Err(fault),
+    }
+}
+
 impl Family for LayoutRows {
     fn answer(alloc: Global, _table: &str, row: &Row, out: &mut String) -> Result<(), RowFault> {
-        match row.field(0)?.as_bytes() {
-            b"greatest" => layouts::greatest(alloc, row, out),
-            b"length" => layouts::length(alloc, row, out),
-            b"length for" => layouts::length_for(alloc, row, out),
-            b"place" => layouts::place(alloc, row, out),
-            b"bytes" => layouts::bytes(alloc, row, out),
-            b"kept" => layouts::kept(alloc, row, out),
-            b"tables" => tables::tables_in_order(alloc, row, out),
-            b"times" => tables::times(alloc, row, out),
-            b"read" => places::read(alloc, row, out),
-            b"write" => places::write(alloc, row, out),
-            b"fill" => places::fill(alloc, row, out),
-            b"begin" => storage::begin(alloc, row, out),
-            b"constant" => storage::constant(alloc, row, out),
-            _ => Err(RowFault::BadRow),
+        match row.field(0)? {
+            "greatest" => layouts::greatest(alloc, row, out),
+            "tables" => tables::tables_in_order(alloc, row, out),
+            "times" => tables::times(alloc, row, out),
+            "read" => places::read(alloc, row, out),
+            "write" => places::write(alloc, row, out),
+            "fill" => places::fill(alloc, row, out),
+            "begin" => storage::begin(alloc, row, out),
+            "constant" => storage::constant(alloc, row, out),
+            _ => push_under_counts(alloc, row, out),
         }
     }
 }

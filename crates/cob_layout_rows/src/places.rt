@@ -2,7 +2,7 @@
 
 ghost use Rattle.std.specs.Prelude.{◌≤◌, ◌+◌, IfOk};
 
-use cob_move::{Place, field, field_mut};
+use cob_layout::{Place, field, field_mut};
 use cob_rows::{Row, RowFault, push_digits};
 use std::alloc::Global;
 

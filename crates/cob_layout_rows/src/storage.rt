@@ -1,51 +1,58 @@
 //! What records hold before the first move.
 
 use crate::books::book_of;
+use cob_copybook::{Book, Figurative, Text, Value};
+use cob_layout::Layout;
 use cob_limits::MAX_LITERAL;
-use cob_move::{Figurative, Layout, Text, Value, initial, write_group};
+use cob_move_initial::{initial, write_group};
 use cob_rows::{Row, RowFault, push_digits};
-use std::alloc::Global;
+use std::alloc::{AllocError, Global};
 
 /// What stands in bytes before anything is written to them.
 const UNWRITTEN: u8 = 0xAA;
 
 /// The storage of a record before the first move.
-pub(crate) fn begin(alloc: Global, row: &Row, out: &mut String) -> Result<(), RowFault> {
-    let book = book_of(alloc, row)?;
-    let layout = Layout::of(alloc, &book)?;
+fn begun(alloc: Global, book: &Book) -> Result<Vec<u8>, AllocError> {
+    let layout = Layout::of(alloc, book)?;
     let mut bytes = vec![in alloc; UNWRITTEN; usize::from(layout.greatest())]?;
-    initial(&layout, &book, &mut bytes);
+    initial(&layout, book, &mut bytes);
+    Ok(bytes)
+}
+
+/// Writes the storage of a row's record before the first move.
+pub(crate) fn begin(alloc: Global, row: &Row, out: &mut String) -> Result<(), RowFault> {
+    let bytes = begun(alloc, &book_of(alloc, row)?)?;
     Ok(push_digits(out, bytes.as_slice())?)
 }
 
 /// The figurative constant of this name.
-fn figurative(name: &[u8]) -> Option<Figurative> {
+fn figurative(name: &str) -> Option<Figurative> {
     match name {
-        b"SPACE" => Some(Figurative::Space),
-        b"ZERO" => Some(Figurative::Zero),
-        b"HIGH-VALUE" => Some(Figurative::HighValue),
-        b"LOW-VALUE" => Some(Figurative::LowValue),
-        b"QUOTE" => Some(Figurative::Quote),
+        "SPACE" => Some(Figurative::Space),
+        "ZERO" => Some(Figurative::Zero),
+        "HIGH-VALUE" => Some(Figurative::HighValue),
+        "LOW-VALUE" => Some(Figurative::LowValue),
+        "QUOTE" => Some(Figurative::Quote),
         _ => None,
     }
 }
 
-/// The literal of these characters.
-fn text_of(characters: &[u8]) -> Result<Text, RowFault> {
+/// The literal of a field of characters.
+fn literal_of(alloc: Global, row: &Row, place: usize) -> Result<Text, RowFault> {
+    let characters = row.text(alloc, place)?;
     if characters.len() > MAX_LITERAL {
         return Err(RowFault::BadRow);
     }
-    Ok(Text::of(characters))
+    Ok(Text::of(characters.as_slice()))
 }
 
 /// The constant of a row: its second field says whether its third one is a `literal`, one behind `ALL`, or the name of a figurative
 /// constant.
 fn value_of(alloc: Global, row: &Row) -> Result<Value, RowFault> {
-    let written = row.text(alloc, 2)?;
-    match row.field(1)?.as_bytes() {
-        b"literal" => Ok(Value::Literal(text_of(written.as_slice())?)),
-        b"ALL" => Ok(Value::All(text_of(written.as_slice())?)),
-        b"figurative" => match figurative(written.as_slice()) {
+    match row.field(1)? {
+        "literal" => Ok(Value::Literal(literal_of(alloc, row, 2)?)),
+        "ALL" => Ok(Value::All(literal_of(alloc, row, 2)?)),
+        "figurative" => match figurative(row.field(2)?) {
             Some(figurative) => Ok(Value::Figurative(figurative)),
             None => Err(RowFault::BadRow),
         },

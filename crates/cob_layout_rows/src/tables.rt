@@ -1,24 +1,31 @@
 //! The tables of a record, and how often entries occur.
 
 use crate::books::{book_of, entry_named};
-use cob_move::{tables, times_of};
+use cob_layout_places::{Table, tables, times_of};
 use cob_rows::{Row, RowFault};
-use std::alloc::Global;
+use std::alloc::{AllocError, Global};
 use std::fmt::Write;
 
-/// The tables that vary, each by its entry's number, its least and greatest number of elements, and the number of its count's entry.
-pub(crate) fn tables_in_order(alloc: Global, row: &Row, out: &mut String) -> Result<(), RowFault> {
-    let book = book_of(alloc, row)?;
-    let mut between = "";
-    for table in tables(alloc, book.root())?.iter() {
-        let number = table.number;
-        let least = table.least;
-        let most = table.most;
-        let count = table.count;
-        write!(out, "{between}{number}: {least} to {most} by {count}")?;
-        between = ", ";
+/// Writes a table: its entry's number, its least and greatest number of elements, and the number of its count's entry.
+fn push_table(out: &mut String, table: &Table) -> Result<(), AllocError> {
+    write!(out, "{}: {} to ", table.number, table.least)?;
+    write!(out, "{} by {}", table.most, table.count)
+}
+
+/// Writes tables.
+fn push_tables(out: &mut String, tables: &[Table]) -> Result<(), AllocError> {
+    for table in tables {
+        out.push_str(if out.is_empty() { "" } else { ", " })?;
+        push_table(out, table)?;
     }
     Ok(())
+}
+
+/// The tables that vary.
+pub(crate) fn tables_in_order(alloc: Global, row: &Row, out: &mut String) -> Result<(), RowFault> {
+    let book = book_of(alloc, row)?;
+    let tables = tables(alloc, book.root())?;
+    Ok(push_tables(out, tables.as_slice())?)
 }
 
 /// The counts of a text, by the numbers of entries: spaces part them, and `none` says that there are none.
