@@ -1,4 +1,4 @@
-ghost use Rattle.std.specs.Prelude.{◌≡◌, [], OnOk};
+ghost use Rattle.std.specs.Prelude.{◌≡◌, [], IfOk, OnOk};
 ghost use Rattle.std.specs.Io.Buffered.{writer_buffer};
 ghost use Rattle.cob_records.specs.Streams.{sink_writer};
 
@@ -20,7 +20,9 @@ struct Listed {
 }
 
 /// Reads the copybook that `--book` names.
-fn read_book<R: AllocGlobal + Files>(rt: &R, path: &str) -> Result<Listed, CommandFault> {
+fn read_book<R: AllocGlobal + Files>(rt: &R, path: &str) -> Result<Listed, CommandFault>
+    ensures { IfOk result (λ listed. listed.book ≡ listed.layout) }
+{
     let text = text_of(rt, path, FileName::Book)?;
     let book = Book::read(rt.alloc(), Role::In, &text)?;
     let layout = Layout::of(rt.alloc(), &book)?;
@@ -66,7 +68,9 @@ fn shown<R: AllocGlobal + Files + Input + Print + Eprint + Clock>(
     listed: &Listed,
     mut source: FileSource<R::File, R::Reader>,
     sink: &mut FileSink<R::File, Printer<'_, R>>,
-) -> Result<u64, ShowFault> {
+) -> Result<u64, ShowFault>
+    requires { listed.now.book ≡ listed.now.layout }
+{
     let Listed { book, layout } = listed;
     if line.progress {
         let telling = telling(rt, line.input);
@@ -87,6 +91,7 @@ fn show_to_end<R: AllocGlobal + Files + Input + Print + Eprint + Clock>(
     source: FileSource<R::File, R::Reader>,
     sink: &mut FileSink<R::File, Printer<'_, R>>,
 ) -> Result<Result<u64, ShowFault>, DeviceFault>
+    requires { listed.now.book ≡ listed.now.layout }
     ensures { OnOk result (writer_buffer (sink_writer sink.new) ≡ []) }
 {
     let answer = shown(rt, line, listed, source, sink);
