@@ -1,5 +1,4 @@
 pub mod Carried
 pub mod Headline
 pub mod One
-pub mod Ready
 pub mod Refused

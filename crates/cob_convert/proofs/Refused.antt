@@ -1,5 +1,5 @@
 -- Refusals of texts, one after another.
-use Rattle.std.proofs.Common.{◌≡◌, ℕ, List, ap, refl}
+use Rattle.std.proofs.Common.{◌≡◌, ℕ, List, ap, refl, sym}
 use Rattle.cob_copybook_tree.specs.Forests.{Forest}
 use Rattle.cob_copybook_tree.specs.Nodes.{Resolved}
 use Rattle.cob_copybook.specs.Books.{IsBookOf}
@@ -46,3 +46,8 @@ refused_memory f is = ap (λ (r : MoveRule). moves_refusal_by r f) is
 pub paragraph_too : (moves : List ℕ) (input output a b : Forest Resolved) (ms : List Move) → input ≡ a → output ≡ b → IsParagraphOf moves a b ms
     → IsParagraphOf moves input output ms
 paragraph_too moves input output a b ms p q h = rw (p, q) h
+
+-- and what refuses it between them refuses it between the same
+pub refusal_too : (f : MoveFault) (moves : List ℕ) (a b input output : Forest Resolved) → a ≡ input → b ≡ output → IsRefusalOf f moves a b
+    → IsRefusalOf f moves input output
+refusal_too f moves a b input output p q h = rw (sym p, sym q) h

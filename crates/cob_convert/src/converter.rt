@@ -67,9 +67,9 @@ fn conversion_of(
     ensures refused { IfErr result
         (λ fault. IsMovesRefusal fault moves.now input.now output.now) }
 {
-    let paragraph = Paragraph::read(alloc, input, output, moves)?;
     let in_layout = Layout::of(alloc, input)?;
     let out_layout = Layout::of(alloc, output)?;
+    let paragraph = Paragraph::read(alloc, &in_layout, &out_layout, moves)?;
     Ok(Conversion::new(
         alloc,
         in_form,

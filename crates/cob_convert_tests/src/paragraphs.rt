@@ -1,21 +1,21 @@
 //! What is read of paragraphs: the longest text, and memory that is refused.
 
-use cob_convert::{Book, MoveFault, MoveRule, Paragraph, Role};
+use cob_convert::{Book, Layout, MoveFault, MoveRule, Paragraph, Role};
 use cob_rows::lines_of;
 use cob_source::SourceRule;
 use std::alloc::Global;
 use std::test::Fail;
 
-/// The book of entries that are parted by bars.
-fn book_of(alloc: Global, role: Role, entries: &str) -> Result<Book, Fail> {
+/// The layout of entries that are parted by bars.
+fn layout_of(alloc: Global, role: Role, entries: &str) -> Result<Layout, Fail> {
     let text = lines_of(alloc, entries)?;
-    Ok(Book::read(alloc, role, text.as_slice())?)
+    Ok(Layout::of(alloc, &Book::read(alloc, role, text.as_slice())?)?)
 }
 
 /// The fault of a paragraph that moves A to B, both of one character.
 fn fault_of(alloc: Global, moves: &[u8]) -> Result<Option<MoveFault>, Fail> {
-    let input = book_of(alloc, Role::In, "05 A PIC X.")?;
-    let output = book_of(alloc, Role::Out, "05 B PIC X.")?;
+    let input = layout_of(alloc, Role::In, "05 A PIC X.")?;
+    let output = layout_of(alloc, Role::Out, "05 B PIC X.")?;
     Ok(Paragraph::read(alloc, &input, &output, moves).err())
 }
 
@@ -51,8 +51,8 @@ fn reads_again_after_memory(rt: HostRuntime) -> Result<(), Fail> {
         rule: MoveRule::Memory,
         line: 0,
     };
-    let input = book_of(rt.alloc(), Role::In, "05 A PIC X.")?;
-    let output = book_of(rt.alloc(), Role::Out, "05 B PIC X.")?;
+    let input = layout_of(rt.alloc(), Role::In, "05 A PIC X.")?;
+    let output = layout_of(rt.alloc(), Role::Out, "05 B PIC X.")?;
     let first = Paragraph::read(rt.alloc(), &input, &output, MOVE).err();
     assert!(rt; first.is_none_or(|fault| fault == refused));
     let second = Paragraph::read(rt.alloc(), &input, &output, MOVE).err();

@@ -3,6 +3,7 @@
 ghost use Rattle.std.specs.Prelude.{◌≡◌, ◌<◌, ◌≤◌, ◌+◌, length, Ok, Err, Some, OnOk, IfNone, IfOk, IfErr, IfSome, OnErr, option_map};
 ghost use Rattle.cob_copybook_tree.specs.Forests.{entries_in};
 ghost use Rattle.cob_copybook_tree.specs.Lengths.{greatest_number, sum_of};
+ghost use Rattle.cob_copybook_tree.specs.Nodes.{tree_of};
 ghost use Rattle.cob_limits.specs.Limits.{longest_record};
 ghost use Rattle.cob_copybook.specs.Books.{IsRecordDescription};
 ghost use Rattle.cob_layout_places.specs.Lengths.{times};
@@ -123,6 +124,14 @@ impl Layout {
             spots,
             kinds,
         })
+    }
+
+    /// The record, with the entries beneath it.
+    pub fn root(&self) -> &Node
+        ensures tree { tree_of result.now ≡ self.now }
+        ensures record { IsRecordDescription self.now }
+    {
+        &self.root
     }
 
     /// The record's greatest length in bytes: 1 to 32,752.

@@ -37,9 +37,6 @@ meanings_all r all input output ss i now past before =
     (before [] (subst (λ (qs : List Statement). AreMeanings all input output (written_statements qs) []) (sym (drop_all i ss past)) refl))
 
 -- what statements mean where any entry of two records may be named
-pub meant_here : (all : List Candidate) (a b input output : Forest Resolved) (ss : List WrittenStatement) (xs : List StatementMoves) → all ≡ all_entries input output → a ≡ input → b ≡ output
-    → AreMeanings all a b ss (moves (record { input = a; output = b }) xs) → AreMeant input output ss (moves (record { input = input; output = output }) xs)
-meant_here all a b input output ss xs named in_is out_is h =
-    subst (λ (cs : List Candidate). AreMeanings cs input output ss (moves (record { input = input; output = output }) xs)) named
-    (subst (λ (y : Forest Resolved). AreMeanings all input y ss (moves (record { input = input; output = y }) xs)) out_is
-    (subst (λ (x : Forest Resolved). AreMeanings all x b ss (moves (record { input = x; output = b }) xs)) in_is h))
+pub meant_here : (all : List Candidate) (r : Records) (ss : List WrittenStatement) (xs : List StatementMoves) → all ≡ all_entries r.input r.output → AreMeanings all r.input r.output ss (moves r xs)
+    → AreMeant r.input r.output ss (moves r xs)
+meant_here all r ss xs named h = subst (λ (cs : List Candidate). AreMeanings cs r.input r.output ss (moves r xs)) named h

@@ -14,10 +14,7 @@ use Rattle.cob_move_statements.specs.Faults.{paragraph_fault_by}
 use Rattle.cob_move_statements.specs.Written.{WrittenStatement}
 use Rattle.cob_move_statements.specs.Statements.{IsLineOf, IsParagraph}
 use Rattle.cob_move_statements.specs.Laws.{OneListOfStatements}
-use Rattle.cob_layout_places.specs.declared.operands.StatementMoves.{StatementMoves}
-use Rattle.cob_move_apply.specs.declared.moves.Moves.{Moves}
-use Rattle.cob_move_apply.specs.Prepared.{ArePrepared}
-use Rattle.cob_layout_places.specs.Moves.{AreMoves, Move, moves}
+use Rattle.cob_layout_places.specs.Moves.{AreMoves, Move}
 use Rattle.cob_move.specs.Meaning.{AreMeant}
 use Rattle.cob_move.specs.MeaningLaws.{MeantAreMoves, MeantBreakNoRule, OneMeant}
 use Rattle.cob_move_references.specs.Candidates.{all_entries}
@@ -91,16 +88,3 @@ paragraph_breaks_no_rule words_one statements_one unbroken text input output ms 
 pub are_moves : MeantAreMoves → (text : List ℕ) (input output : Forest Resolved) (ms : List Move) → IsRecordDescription input → IsRecordDescription output → IsParagraphOf text input output ms
     → AreMoves (record { input = input; output = output }) ms
 are_moves law text input output ms in_record out_record p = law (record { input = input; output = output }) p.statements ms in_record out_record p.meant
-
--- they are moves between the records of layouts that are those of the books
-pub legal : MeantAreMoves → (text : List ℕ) (input output a b : Forest Resolved) (xs : List StatementMoves) → IsRecordDescription input → IsRecordDescription output → a ≡ input → b ≡ output
-    → IsParagraphOf text input output (moves (record { input = input; output = output }) xs) → AreMoves (record { input = a; output = b }) (moves (record { input = a; output = b }) xs)
-legal law text input output a b xs in_record out_record in_is out_is p =
-    subst (λ (x : Forest Resolved). AreMoves (record { input = x; output = b }) (moves (record { input = x; output = b }) xs)) (sym in_is)
-    (subst (λ (y : Forest Resolved). AreMoves (record { input = input; output = y }) (moves (record { input = input; output = y }) xs)) (sym out_is)
-    (are_moves law text input output (moves (record { input = input; output = output }) xs) in_record out_record p))
-
--- what is ready for the records of the layouts is ready for those of the books
-pub ready : (input output a b : Forest Resolved) (m : Moves) → a ≡ input → b ≡ output → ArePrepared (record { input = a; output = b }) m → ArePrepared (record { input = input; output = output }) m
-ready input output a b m in_is out_is h =
-    subst (λ (y : Forest Resolved). ArePrepared (record { input = input; output = y }) m) out_is (subst (λ (x : Forest Resolved). ArePrepared (record { input = x; output = b }) m) in_is h)

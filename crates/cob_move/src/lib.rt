@@ -3,9 +3,9 @@
 //!
 //! What is promised:
 //!
-//! - [`Paragraph::read`] reads a text between the records of two books. What it answers are the moves that the text says (clause `found`;
+//! - [`Paragraph::read`] reads a text between the records of two layouts. What it answers are the moves that the text says (clause `found`;
 //!   `IsParagraphOf` of specs/Paragraphs.antt): the words of the text, cut apart at brackets and commas, spell statements, and these mean the
-//!   moves, in their order. They are ready for the records of these books (`ready`). A text that is a paragraph is read, memory aside
+//!   moves, in their order. They are ready for these records (`ready`). A text that is a paragraph is read, memory aside
 //!   (`only`), and a refusal names a rule that is broken, with its line (`fault`; `IsRefusalOf`): by the text, by its words, or by one of its
 //!   statements. A text says its moves in one way ([`one_paragraph`]), and then breaks no rule ([`paragraph_breaks_no_rule`]).
 //! - [`Paragraph::moves`] counts single moves, each of a sender to one of its receivers.

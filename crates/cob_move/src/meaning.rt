@@ -23,7 +23,7 @@ use crate::corresponding::moves_of;
 use crate::entries::Entries;
 use crate::meaning_laws::{meant_break_no_rule, one_meant};
 use crate::single::move_of;
-use cob_move_apply::{Book, Layout, StatementMoves};
+use cob_move_apply::{Layout, StatementMoves};
 use cob_move_pairs::Correspondences;
 use cob_move_references::Names;
 use cob_move_statements::{Action, MoveFault, MoveRule, Statement};
@@ -119,14 +119,10 @@ fn meanings_of(
 /// The moves of statements between two records, and what refuses them.
 fn meant_between<'a>(
     alloc: Global,
-    input: &'a Book,
-    output: &'a Book,
-    in_layout: &'a Layout,
-    out_layout: &'a Layout,
+    input: &'a Layout,
+    output: &'a Layout,
     statements: &[Statement<'_>],
 ) -> Result<Vec<StatementMoves>, MoveFault>
-    requires in_layout { in_layout.now ≡ input.now }
-    requires out_layout { out_layout.now ≡ output.now }
     ensures found { IfOk result (λ v. AreMeant input.now output.now
         (written_statements statements.now)
         (moves (record { input = input.now; output = output.now }) v.items)) }
@@ -137,28 +133,24 @@ fn meant_between<'a>(
     let mut pairs = Correspondences::new(alloc, input.root(), output.root());
     let entries = Entries {
         names: &names,
-        input: in_layout,
-        output: out_layout,
+        input,
+        output,
     };
     let list = meanings_of(alloc, &entries, &mut pairs, statements)?;
     Ok(list)
 }
 
-/// The moves that statements mean between two records, one statement's behind another's. The layouts are those of the records.
+/// The moves that statements mean between two records, one statement's behind another's.
 ///
 /// # Errors
 ///
 /// A rule that a statement breaks, with its line; `Memory`, with line 0.
 pub fn all_meant(
     alloc: Global,
-    input: &Book,
-    output: &Book,
-    in_layout: &Layout,
-    out_layout: &Layout,
+    input: &Layout,
+    output: &Layout,
     statements: &[Statement<'_>],
 ) -> Result<Vec<StatementMoves>, MoveFault>
-    requires in_layout { in_layout.now ≡ input.now }
-    requires out_layout { out_layout.now ≡ output.now }
     // What is answered is what the statements mean.
     ensures found { IfOk result (λ v. AreMeant input.now output.now
         (written_statements statements.now)
@@ -174,6 +166,6 @@ pub fn all_meant(
 {
     one_meant();
     meant_break_no_rule();
-    let list = meant_between(alloc, input, output, in_layout, out_layout, statements)?;
+    let list = meant_between(alloc, input, output, statements)?;
     Ok(list)
 }

@@ -13,7 +13,7 @@ ghost use Rattle.cob_move.specs.Paragraphs.{IsParagraphOf, IsReadyFor, IsRefusal
 use crate::laws::{one_paragraph, paragraph_breaks_no_rule};
 use crate::meaning::all_meant;
 use crate::meaning_laws::meant_are_moves;
-use cob_move_apply::{Book, Layout, Moves, Scratch, StatementMoves, Stop};
+use cob_move_apply::{Layout, Moves, Scratch, StatementMoves, Stop};
 use cob_move_statements::{MoveFault, statements};
 use cob_source::paragraph_tokens;
 use std::alloc::Global;
@@ -24,40 +24,29 @@ pub struct Paragraph {
     moves: Moves,
 }
 
-/// The moves that a text says between the records of two books.
+/// The moves that a text says between two records.
 ///
 /// # Errors
 ///
 /// A rule that the text breaks, with its line.
 fn meant_moves(
     alloc: Global,
-    input: &Book,
-    output: &Book,
-    in_layout: &Layout,
-    out_layout: &Layout,
+    input: &Layout,
+    output: &Layout,
     text: &[u8],
 ) -> Result<Vec<StatementMoves>, MoveFault>
-    requires in_layout { in_layout.now ≡ input.now }
-    requires out_layout { out_layout.now ≡ output.now }
     ensures found { IfOk result (λ v. IsParagraphOf text.now input.now output.now
         (moves (record { input = input.now; output = output.now }) v.items)) }
     ensures fault { IfErr result (λ f. IsRefusalOf f text.now input.now output.now) }
 {
     let words = paragraph_tokens(alloc, text)?;
     let statements = statements(alloc, words.as_slice())?;
-    let meant = all_meant(
-        alloc,
-        input,
-        output,
-        in_layout,
-        out_layout,
-        statements.as_slice(),
-    )?;
+    let meant = all_meant(alloc, input, output, statements.as_slice())?;
     Ok(meant)
 }
 
 impl Paragraph {
-    /// The paragraph that a text is, between the records of two books: the words of the text are MOVE statements, and each means its
+    /// The paragraph that a text is, between the records of two layouts: the words of the text are MOVE statements, and each means its
     /// moves. (ANSI X3.23-1985, Nucleus: the MOVE statement.)
     ///
     /// # Errors
@@ -65,15 +54,15 @@ impl Paragraph {
     /// Want of memory, with line 0.
     pub fn read(
         alloc: Global,
-        input: &Book,
-        output: &Book,
+        input: &Layout,
+        output: &Layout,
         text: &[u8],
     ) -> Result<Paragraph, MoveFault>
         // What is read are the moves that the text says.
         ensures found { IfOk result
             (λ p. IsParagraphOf text.now input.now output.now
             (moves_in (record { input = input.now; output = output.now }) p)) }
-        // They are ready for the records of these books.
+        // They are ready for these records.
         ensures ready { IfOk result
             (λ p. IsReadyFor (record { input = input.now; output = output.now }) p) }
         // A text that is a paragraph is read, memory aside.
@@ -88,10 +77,8 @@ impl Paragraph {
         meant_are_moves();
         let _ = input.root();
         let _ = output.root();
-        let in_layout = Layout::of(alloc, input)?;
-        let out_layout = Layout::of(alloc, output)?;
-        let meant = meant_moves(alloc, input, output, &in_layout, &out_layout, text)?;
-        let moves = Moves::new(alloc, meant, &in_layout, &out_layout)?;
+        let meant = meant_moves(alloc, input, output, text)?;
+        let moves = Moves::new(alloc, meant, input, output)?;
         Ok(Paragraph { moves })
     }
 

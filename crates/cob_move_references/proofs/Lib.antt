@@ -1,3 +1,2 @@
-pub mod CandidateLemmas
 pub mod ReferenceLemmas
 pub mod SubscriptLemmas

@@ -2,7 +2,6 @@
 use Rattle.std.proofs.Common.{◌≡◌, ℕ, ◌+◌, ◌<◌, ◌≤◌, ◌==◌, Bool, true, false, List, [], ◌∷◌, ◌++◌, refl, sym, ap, subst, ◌∙◌, inl, inr, ◌⊎◌, arith, Option, Some, None, append_assoc, append-nil, length}
 use Rattle.std.specs.Prelude.{filter}
 use Rattle.std.proofs.lemmas.Bool.Decides.{nat_tests}
-use Rattle.cob_limits.specs.Limits.{most_dimensions}
 use Rattle.cob_copybook_tree.specs.Forests.{Forest, NoEntries, AnEntry, entries_in}
 use Rattle.cob_copybook_tree.specs.Lengths.{greatest_number}
 use Rattle.cob_copybook_tree.specs.Nodes.{Resolved}
@@ -21,7 +20,6 @@ use Rattle.cob_move_statements.specs.declared.fault.MoveRule.TheVariants as rule
 use Rattle.cob_move_statements.specs.Written.{WrittenReference}
 use Rattle.cob_move_references.specs.Candidates.{Candidate, all_entries, candidate, candidates, with_table}
 use Rattle.cob_move_references.specs.Laws.{NamedAreOperands}
-use Rattle.cob_move_references.specs.Listed.{AreShallow}
 use Rattle.cob_move_references.specs.References.{AreSubscriptsOf, BreaksName, BreaksReceiver, BreaksReference, operand, subscript_numbers}
 
 -- ---- entries of a list
@@ -45,15 +43,6 @@ among f (x ∷ xs) c h = kept f x xs c (f x) refl (among f xs c) h
 
 member : (name : List ℕ) (qs : List (List ℕ)) (all : List Candidate) (c : Candidate) → named name qs all ≡ c ∷ [] → IsOneOf c all
 member name qs all c is = among (λ x. is_named name qs x) all c (subst (IsOneOf c) (sym is) (inl refl))
-
--- it stands in no more tables than others
-shallow_one : (c : Candidate) (xs : List Candidate) → AreShallow xs → IsOneOf c xs → length c.entry.tables ≤ most_dimensions
-shallow_one c [] h o = absurd o
-shallow_one c (x ∷ xs) h (inl is) = subst (λ (y : Candidate). length y.entry.tables ≤ most_dimensions) is h.0
-shallow_one c (x ∷ xs) h (inr o) = shallow_one c xs h.1 o
-
-pub shallow : (name : List ℕ) (qs : List (List ℕ)) (all : List Candidate) (c : Candidate) → AreShallow all → named name qs all ≡ c ∷ [] → length c.entry.tables ≤ most_dimensions
-shallow name qs all c h is = shallow_one c all h (member name qs all c is)
 
 -- ---- subscripts as numbers
 

@@ -1,7 +1,4 @@
 -- The listed entries without where they lie in memory.
-use Rattle.std.specs.Prelude.{◌≤◌, List, length}
-use Rattle.std.specs.List.{AllByRecursion}
-use Rattle.cob_limits.specs.Limits.{most_dimensions}
 use Rattle.cob_copybook_tree.specs.declared.node.Node.TheViews.{out-Node}
 use Rattle.cob_copybook_names.specs.declared.bearer.Bearer.{Bearer as Listed}
 use Rattle.cob_copybook_names.specs.Listed.{bearer_by}
@@ -15,7 +12,3 @@ listed_record_entry e = record { side = e.side; number = (out-Node e.entry.now).
 -- A listed entry, with its names.
 abbrev pub candidate_of : Listed ListedEntry → Candidate
 candidate_of b = bearer_by listed_record_entry b
-
--- No entry stands in more tables than may stand within one another.
-abbrev pub AreShallow : List Candidate → Type 0
-AreShallow cs = AllByRecursion (λ (c : Candidate). length c.entry.tables ≤ most_dimensions) cs

@@ -1,11 +1,10 @@
 //! The directory of the entries of both records by name.
 
 ghost use Rattle.std.specs.Prelude.{◌≡◌, ◌∷◌, [], map, IfErr, IfOk};
-ghost use Rattle.std.proofs.Props.{props};
 ghost use Rattle.cob_copybook_clauses.specs.Written.{names_behind};
 ghost use Rattle.cob_source.specs.Tokens.{lexemes};
 ghost use Rattle.cob_copybook_names.specs.Naming.{named};
-ghost use Rattle.cob_move_references.specs.Listed.{AreShallow, candidate_of};
+ghost use Rattle.cob_move_references.specs.Listed.{candidate_of};
 ghost use Rattle.cob_move_references.specs.References.{BreaksName};
 
 use crate::candidate::RecordEntry;
@@ -21,8 +20,6 @@ use std::alloc::{AllocError, Global};
 #[derive(Drop)]
 pub struct Names<'a> {
     directory: Directory<'a, RecordEntry<'a>>,
-
-    ghost shallow: { AreShallow (map candidate_of directory.bearers.items) } by { Prim.hlevel props },
 }
 
 impl<'a> Names<'a> {
@@ -31,7 +28,6 @@ impl<'a> Names<'a> {
         alloc: Global,
         entries: Vec<Bearer<'a, RecordEntry<'a>>>,
     ) -> Result<Names<'a>, AllocError>
-        requires { AreShallow (map candidate_of entries.items) }
         ensures { IfOk result (λ names. map candidate_of names.directory.bearers.items
             ≡ map candidate_of entries.entry.items) }
     {

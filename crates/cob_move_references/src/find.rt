@@ -1,7 +1,6 @@
 //! What a written reference names.
 
-ghost use Rattle.std.specs.Prelude.{◌≡◌, ◌≤◌, length, IfErr, IfNone, IfOk, IfSome, IsOkAnd};
-ghost use Rattle.cob_limits.specs.Limits.{most_dimensions};
+ghost use Rattle.std.specs.Prelude.{◌≡◌, IfErr, IfNone, IfOk, IfSome, IsOkAnd};
 ghost use Rattle.cob_source.specs.Tokens.{lexemes};
 ghost use Rattle.cob_layout_places.specs.declared.operands.Operand.{Operand as SeenOperand};
 ghost use Rattle.cob_layout_places.specs.declared.operands.Side.{Side as SeenSide};
@@ -17,7 +16,7 @@ use crate::directory::Names;
 use crate::subscripts::read_subscripts;
 use arrayvec::ArrayVec;
 use cob_copybook_names::Bearer;
-use cob_layout::{Book, Ref, records_are_sound};
+use cob_layout::{Layout, Ref, records_are_sound};
 use cob_layout_places::{Operand, Side};
 use cob_move_statements::{MoveRule, Reference};
 use cob_source::Token;
@@ -32,7 +31,6 @@ pub struct Named {
 
 /// An entry with its subscripts, if they are those of its tables.
 fn operand_of(candidate: &Bearer<'_, RecordEntry<'_>>, written: &[Token]) -> Option<Operand>
-    requires room { length candidate.now.entry.tables.items ≤ most_dimensions }
     ensures found { IfSome result (λ o. o
         ≡ operand (candidate_of candidate.now) (subscript_numbers (word_texts (lexemes written.now)))) }
     ensures yes { IfSome result (λ o. AreSubscriptsOf
@@ -60,7 +58,7 @@ impl<'a> Names<'a> {
     /// # Errors
     ///
     /// Memory for a list was refused.
-    pub fn of(alloc: Global, input: &'a Book, output: &'a Book) -> Result<Names<'a>, AllocError>
+    pub fn of(alloc: Global, input: &'a Layout, output: &'a Layout) -> Result<Names<'a>, AllocError>
         ensures { IfOk result (λ names. entries_named names ≡ all_entries input.now output.now) }
     {
         records_are_sound();

@@ -7,7 +7,7 @@
 //! from the rules of COBOL.
 #![tactic(auto)]
 
-use cob_move::{Book, BookRule, MoveRule, Paragraph, Role};
+use cob_move::{Book, BookRule, Layout, MoveRule, Paragraph, Role};
 use cob_rows::{Family, Row, RowFault, print_rows};
 use std::alloc::Global;
 use std::fmt::Write;
@@ -16,11 +16,11 @@ use std::io;
 /// The tables on paragraphs.
 struct Paragraphs;
 
-/// The copybook of a row, which is a good one.
-fn book_of(alloc: Global, row: &Row, role: Role, place: usize) -> Result<Book, RowFault> {
+/// The layout of a row's copybook, which is a good one.
+fn layout_of(alloc: Global, row: &Row, role: Role, place: usize) -> Result<Layout, RowFault> {
     let text = row.lines(alloc, place)?;
     match Book::read(alloc, role, text.as_slice()) {
-        Ok(book) => Ok(book),
+        Ok(book) => Ok(Layout::of(alloc, &book)?),
         Err(fault) if fault.rule == BookRule::Memory => Err(RowFault::Memory),
         Err(_) => Err(RowFault::BadRow),
     }
@@ -37,8 +37,8 @@ fn text_of(alloc: Global, row: &Row) -> Result<Vec<u8>, RowFault> {
 
 impl Family for Paragraphs {
     fn answer(alloc: Global, _table: &str, row: &Row, out: &mut String) -> Result<(), RowFault> {
-        let input = book_of(alloc, row, Role::In, 1)?;
-        let output = book_of(alloc, row, Role::Out, 2)?;
+        let input = layout_of(alloc, row, Role::In, 1)?;
+        let output = layout_of(alloc, row, Role::Out, 2)?;
         let text = text_of(alloc, row)?;
         match Paragraph::read(alloc, &input, &output, text.as_slice()) {
             Ok(paragraph) => write!(out, "moves {}", paragraph.moves())?,

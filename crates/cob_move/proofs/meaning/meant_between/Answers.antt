@@ -5,5 +5,5 @@ use Rattle.cob_move.proofs.meaning.meant_between.Goals as goal
 
 pub returns-clause-found : goal.returns-clause-found
 returns-clause-found c =
-    meant_here (entries_named c.in_ok-names.names) c.args.in_layout.now c.args.out_layout.now c.args.input.now c.args.output.now (written_statements c.args.statements.now) c.in_ok-list.list.items
-    c.in_ok-names.ensures c.requires.in_layout c.requires.out_layout c.in_ok-list.ensures.found
+    meant_here (entries_named c.in_ok-names.names) (record { input = c.args.input.now; output = c.args.output.now }) (written_statements c.args.statements.now) c.in_ok-list.list.items
+    c.in_ok-names.ensures c.in_ok-list.ensures.found

@@ -1,7 +1,8 @@
-use Rattle.std.proofs.Common.{◌≡◌, ◌++◌, map}
+use Rattle.std.proofs.Common.{◌≡◌, ◌++◌, length, map}
 use Rattle.cob_copybook_tree.specs.Nodes.{tree_of}
 use Rattle.cob_copybook_names.specs.Listed.{texts}
-use Rattle.cob_layout.proofs.ForestLemmas.{left}
+use Rattle.cob_layout_places.proofs.ForestLemmas.{left}
+use Rattle.cob_layout.specs.Sound.{AreNested}
 use Rattle.cob_move_references.specs.Candidates.{candidates}
 use Rattle.cob_move_references.specs.Listed.{candidate_of}
 use Rattle.cob_move_references.proofs.candidate.+list_tree.Given as goal
@@ -11,5 +12,9 @@ decreases-list_tree l = goal.size-list_tree l
 
 abbrev pub invariant-loop-child : goal.invariant-loop-child
 invariant-loop-child l =
-    map candidate_of l.listed.items ++ candidates l.side (texts l.beneath.items) l.inner.items (left l.child-items l.child-index)
-    ≡ map candidate_of l.fn.listed.items ++ candidates l.side (texts l.above) l.holding (tree_of l.entry)
+    let rest = left l.child-items l.child-index in
+    record {
+      nested : AreNested (length l.inner.items) rest;
+      listed : map candidate_of l.listed.items ++ candidates l.side (texts l.beneath.items) l.inner.items rest
+          ≡ map candidate_of l.fn.listed.items ++ candidates l.side (texts l.above) l.holding (tree_of l.entry);
+    }

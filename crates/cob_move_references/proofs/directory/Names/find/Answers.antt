@@ -1,15 +1,6 @@
 use Rattle.std.proofs.Common.{refl}
-use Rattle.cob_move_references.specs.Directory.{entries_named}
 use Rattle.cob_move_references.specs.Listed.{candidate_of}
-use Rattle.cob_move_statements.specs.Written.{written_reference}
-use Rattle.cob_move_references.proofs.ReferenceLemmas.{shallow}
 use Rattle.cob_move_references.proofs.directory.Names.find.Goals as goal
-
-pub operand_of-requires : goal.operand_of-requires
-operand_of-requires c = record {
-  room = shallow (written_reference c.args.reference.now).name (written_reference c.args.reference.now).qualifiers (entries_named c.args.self.now) (candidate_of c.in_ok-candidate.candidate.now)
-      c.args.self.now.shallow c.in_ok-candidate.ensures.found;
-}
 
 pub returns-in-Some-clause-found : goal.returns-in-Some-clause-found
 returns-in-Some-clause-found c = record {
