@@ -1,11 +1,12 @@
 //! Layouts.
 
-ghost use Rattle.std.specs.Prelude.{◌≡◌, ◌<◌, ◌≤◌, ◌+◌, length, Ok, Err, Some, OnOk, IfNone, IfOk, IfErr, IfSome, OnErr, option_map};
+ghost use Rattle.std.specs.Prelude.{◌≡◌, ◌<◌, ◌≤◌, ◌+◌, [], length, Ok, Err, Some, OnOk, IsFalse, IfNone, IfOk, IfErr, IfSome, IsTrue, OnErr, option_map};
 ghost use Rattle.cob_copybook_tree.specs.Forests.{entries_in};
 ghost use Rattle.cob_copybook_tree.specs.Lengths.{greatest_number, sum_of};
 ghost use Rattle.cob_copybook_tree.specs.Nodes.{tree_of};
 ghost use Rattle.cob_limits.specs.Limits.{longest_record};
 ghost use Rattle.cob_copybook.specs.Books.{IsRecordDescription};
+ghost use Rattle.cob_layout_places.specs.Counts.{tables_of};
 ghost use Rattle.cob_layout_places.specs.Lengths.{times};
 ghost use Rattle.cob_layout_places.specs.Places.{place_of};
 ghost use Rattle.cob_layout_places.specs.Cover.{IsCovered};
@@ -132,6 +133,14 @@ impl Layout {
         ensures record { IsRecordDescription self.now }
     {
         &self.root
+    }
+
+    /// Whether the record has a table that varies.
+    pub fn varies(&self) -> bool
+        ensures yes { IsTrue result → 0 < length (tables_of self.now) }
+        ensures no { IsFalse result → tables_of self.now ≡ [] }
+    {
+        !self.tables.is_empty()
     }
 
     /// The record's greatest length in bytes: 1 to 32,752.

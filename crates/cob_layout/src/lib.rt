@@ -8,7 +8,7 @@
 //!
 //! What is promised:
 //!
-//! - [`Layout::of`]: its tree is the book's, and [`Layout::root`] gives it.
+//! - [`Layout::of`]: its tree is the book's, and [`Layout::root`] gives it; [`Layout::varies`] says whether it has a table that varies.
 //! - [`Layout::greatest`] is the record's length where each table has its greatest number of elements (`value`), from 1 byte (`least`) to 32,752
 //!   bytes (`most`); the tree is that of a well-formed record description (`record`), each item of which takes a byte (`bytes`).
 //! - [`Layout::greatest_counts`] and [`Layout::new_counts`] are the counts under which each table has that number (`value`), one for each

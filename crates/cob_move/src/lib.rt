@@ -8,7 +8,8 @@
 //!   moves, in their order. They are ready for these records (`ready`). A text that is a paragraph is read, memory aside
 //!   (`only`), and a refusal names a rule that is broken, with its line (`fault`; `IsRefusalOf`): by the text, by its words, or by one of its
 //!   statements. A text says its moves in one way ([`one_paragraph`]), and then breaks no rule ([`paragraph_breaks_no_rule`]).
-//! - [`Paragraph::moves`] counts single moves, each of a sender to one of its receivers.
+//! - [`Paragraph::moves`] counts single moves, each of a sender to one of its receivers, and [`Paragraph::steps`] what is left of them where
+//!   plain copies side by side are joined.
 //! - [`apply`] carries the moves out on one record (`applied`; `Applied` of cob_move_apply), and [`pairs`] answers the pairs of CORRESPONDING.
 //! - [`initial`], the storage of a record before the first move, is that of cob_move_initial, with its law [`one_initial`].
 //!

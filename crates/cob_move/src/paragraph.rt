@@ -4,6 +4,7 @@ ghost use Rattle.std.specs.Prelude.{◌≡◌, length, map, min, IfErr, IfOk, Li
 ghost use Rattle.cob_copybook.specs.Books.{IsRecordDescription};
 ghost use Rattle.cob_layout.specs.Storage.{IsStorage, greatest_length};
 ghost use Rattle.cob_move_apply.specs.Applied.{Applied, ending};
+ghost use Rattle.cob_move_apply.specs.Prepared.{steps_told};
 ghost use Rattle.cob_move_apply.specs.Told.{most_moves_told, single_moves};
 ghost use Rattle.cob_move_apply.specs.Room.{room_of};
 ghost use Rattle.cob_layout_places.specs.Moves.{Move as Meant, Records, moves};
@@ -87,6 +88,15 @@ impl Paragraph {
         ensures { (r : Records) → result ≡ min (single_moves (moves_in r self.now)) most_moves_told }
     {
         self.moves.single_moves()
+    }
+
+    /// The number of single moves that are left where plain copies that meet on both sides are joined to one: consecutive single moves of
+    /// entries of the input record, each as long as its receiver, whose bytes are copied as they are, between records without a table that
+    /// varies. More than a u32 holds come as the greatest u32.
+    pub fn steps(&self) -> u32
+        ensures { result ≡ min (steps_told self.now.moves) most_moves_told }
+    {
+        self.moves.steps()
     }
 
     /// The moves themselves.

@@ -1,23 +1,18 @@
--- How many operands and how many single moves there are.
-use Rattle.std.proofs.Common.{◌≡◌, ℕ, ◌+◌, ◌*◌, ◌<◌, ◌≤◌, List, [], ◌∷◌, ◌++◌, length, get_or, drop, map, min, refl, sym, ap, ◌∙◌, arith}
-use Rattle.std.proofs.lemmas.List.{length-map}
+-- How many single moves there are.
+use Rattle.std.proofs.Common.{◌≡◌, ℕ, ◌+◌, ◌*◌, ◌<◌, ◌≤◌, List, [], ◌∷◌, ◌++◌, length, get_or, take, drop, map, min, refl, sym, ap, ◌∙◌, arith}
+use Rattle.std.specs.Prelude.{sum_by}
+use Rattle.std.proofs.lemmas.List.{get_or-map, length-map, take_all, take_more}
+use Rattle.std.proofs.lemmas.List.Sums.{sum_by_push}
 use Rattle.cob_layout_places.specs.declared.operands.Move as code_move
 use Rattle.cob_layout_places.specs.declared.operands.PairMoves.{PairMoves}
 use Rattle.cob_layout_places.specs.declared.operands.StatementMoves.{StatementMoves}
 use Rattle.cob_layout_places.specs.declared.operands.NumberedPair.{NumberedPair}
 use Rattle.cob_layout_places.specs.Moves.{Move, Records, move, moves, numbered_move, operand_in, statement_moves}
-use Rattle.cob_move_apply.specs.Placed.{operands}
+use Rattle.cob_move_apply.specs.Steps.{receivers_in}
 use Rattle.cob_move_apply.specs.Told.{single_moves}
 use Rattle.cob_move_apply.proofs.StatementLemmas.{cut_statement, none_left}
 
 -- ---- of one statement
-
-pub single_operands : (r : Records) (m : code_move.Move) → operands (move r m ∷ []) ≡ length m.receivers.items + 1
-single_operands r m = omega (arith, length-map m.receivers.items (operand_in r.output))
-
-pub pairs_operands : (r : Records) (g : PairMoves) (ps : List NumberedPair) → operands (map (numbered_move r g) ps) ≡ length ps * 2
-pairs_operands r g [] = refl
-pairs_operands r g (p ∷ ps) = omega (arith, pairs_operands r g ps)
 
 pub single_alone : (r : Records) (m : code_move.Move) → single_moves (move r m ∷ []) ≡ length m.receivers.items
 single_alone r m = omega (arith, length-map m.receivers.items (operand_in r.output))
@@ -57,3 +52,22 @@ pub counted_all : (r : Records) (ss : List StatementMoves) (i c result total mos
 counted_all r ss i c result total most past is h =
     let none : from r ss i ≡ 0 = ap single_moves (none_left r ss i past) in
     omega (arith, is, none, h)
+
+-- ---- of steps, one behind another
+
+pub told_more : {A : Type 0} (f : A → ℕ) (xs : List A) (i : ℕ) (x : A) (c n new greatest : ℕ) → i < length xs → x ≡ get_or xs i x → c ≡ min (sum_by f (take i xs)) greatest → n ≡ f x
+    → new ≡ min (c + n) greatest → new ≡ min (sum_by f (take (i + 1) xs)) greatest
+told_more f xs i x c n new greatest lt is so size sum =
+    let more : sum_by f (take (i + 1) xs) ≡ sum_by f (take i xs) + f x =
+    ap (sum_by f) (take_more xs i x lt ∙ ap (λ y. take i xs ++ y ∷ []) (sym is)) ∙ sum_by_push f (take i xs) x in
+    omega (arith, so, size, sum, more)
+
+pub told_all : {A : Type 0} (f : A → ℕ) (xs : List A) (i : ℕ) (c result most greatest : ℕ) → length xs ≤ i → most ≤ greatest → c ≡ min (sum_by f (take i xs)) greatest → result ≡ min c most
+    → result ≡ min (sum_by f xs) most
+told_all f xs i c result most greatest past le so is =
+    let all : sum_by f (take i xs) ≡ sum_by f xs = ap (sum_by f) (take_all i xs past) in
+    omega (arith, le, so, is, all)
+
+-- how many receivers the statement with a number has
+pub receivers_there : (given : List StatementMoves) (i n : ℕ) (one : StatementMoves) → i < length given → one ≡ get_or given i one → n ≡ receivers_in one → n ≡ get_or (map receivers_in given) i 0
+receivers_there given i n one lt is size = size ∙ ap receivers_in is ∙ sym (get_or-map receivers_in given i one 0 lt)

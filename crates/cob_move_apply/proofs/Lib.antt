@@ -4,6 +4,9 @@ pub mod BasisLemmas
 pub mod ReceiverLemmas
 pub mod OneLemmas
 pub mod StatementLemmas
+pub mod CopyLemmas
+pub mod StepLemmas
+pub mod ApplicationLemmas
 pub mod SeenLemmas
 pub mod CountLemmas
 pub use Rattle.cob_layout.proofs.EntryNoRule

@@ -2,6 +2,8 @@ pub mod Located
 pub mod Applied
 pub mod Room
 pub mod Placed
+pub mod Copied
+pub mod Steps
 pub mod Seen
 pub mod Told
 pub mod Prepared

@@ -14,12 +14,18 @@
 //! A place that depends on counts is found by all counts of the storage, where the operand is spared none of them and all are valid: they are
 //! taken once, and again only behind a receiver whose place meets the item of a count. Else it is found by those that the operand needs.
 //!
+//! What is carried out are steps that stand for the moves (`AreSteps` of specs/Steps.antt). A move of an entry of the input record to one
+//! receiver as long as it, whose bytes are copied as they are (`copies_bytes` of cob_move_receive), is a copy where neither record has a table
+//! that varies; and copies behind one another, each of which begins on both sides where the one before ends, are one step.
+//! [`Moves::steps`] counts what is left of the single moves then.
+//!
 //! It stands on cob_move_operands for moves as data, on cob_layout for places and counts, on cob_move_receive for what one receiver gets, and
 //! on cob_layout for what holds of every record. [`Moves::apply`] takes no memory: its room is a [`Scratch`].
 #![tactic(auto)]
 
 mod application;
 mod basis;
+mod copies;
 mod laws;
 mod moves;
 mod pairs;
@@ -28,6 +34,8 @@ mod preparation;
 mod receivers;
 mod scratch;
 mod senders;
+mod step;
+mod steps;
 mod stop;
 mod survey;
 mod workspace;

@@ -6,11 +6,12 @@ ghost use Rattle.cob_layout_places.specs.Moves.{AreMoves, Records, moves, statem
 ghost use Rattle.cob_move_apply.specs.Applied.{Applied, ending};
 ghost use Rattle.cob_move_apply.specs.Told.{most_moves_told, single_moves};
 ghost use Rattle.cob_move_apply.specs.Room.{room_of};
+ghost use Rattle.cob_move_apply.specs.Steps.{left_by, receivers_in};
 
 use crate::application::apply_in;
-use crate::basis::Basis;
-use crate::preparation::bases_of;
 use crate::scratch::Scratch;
+use crate::step::{Step, Steps};
+use crate::steps::steps_of;
 use crate::stop::Stop;
 use crate::workspace::Layouts;
 use cob_layout::{Layout, records_are_sound};
@@ -38,16 +39,39 @@ fn single_moves_in(one: &StatementMoves) -> usize
     }
 }
 
+/// How many receivers one move of a statement has.
+fn receivers_in(one: &StatementMoves) -> usize
+    ensures { result ≡ receivers_in one.now }
+{
+    match one {
+        StatementMoves::Single(single) => single.receivers.len(),
+        StatementMoves::Pairs(_) => 1,
+    }
+}
+
+/// How many single moves a step leaves: a copy is one.
+fn left_by(given: &[StatementMoves], step: Step) -> usize
+    ensures { result ≡ left_by given.now step }
+{
+    match step {
+        Step::Move { statement, .. } => match given.get(statement) {
+            Some(one) => receivers_in(one),
+            None => 0,
+        },
+        Step::Copy(_) => 1,
+    }
+}
+
 /// Moves between two records, ready to be carried out.
 #[derive(Debug, Drop)]
 pub struct Moves {
     pub(crate) statements: Vec<StatementMoves>,
-    /// What the places of the operands rest on, one move's behind another's.
-    pub(crate) bases: Vec<Basis>,
+    /// What is carried out in their place.
+    pub(crate) steps: Steps,
 }
 
 impl Moves {
-    ghost use Rattle.cob_move_apply.specs.Prepared.{ArePrepared, moves_of};
+    ghost use Rattle.cob_move_apply.specs.Prepared.{ArePrepared, moves_of, steps_told};
 
     /// Moves between the records of these layouts, made ready: a place that is the same in every storage is found here.
     ///
@@ -67,10 +91,11 @@ impl Moves {
         ensures prepared { IfOk result
             (λ m. ArePrepared (record { input = input.now; output = output.now }) m) }
     {
-        let bases = bases_of(alloc, given.as_slice(), input, output)?;
+        let layouts = Layouts { input, output };
+        let steps = steps_of(alloc, given.as_slice(), &layouts)?;
         Ok(Moves {
             statements: given,
-            bases,
+            steps,
         })
     }
 
@@ -81,6 +106,17 @@ impl Moves {
         let mut count: usize = 0;
         for one in self.statements.iter() {
             count = count.saturating_add(single_moves_in(one));
+        }
+        at_most_u32(count)
+    }
+
+    /// How many single moves are left where those that were joined to one copy are one. More than a u32 holds come as the greatest u32.
+    pub fn steps(&self) -> u32
+        ensures { result ≡ min (steps_told self.now) most_moves_told }
+    {
+        let mut count: usize = 0;
+        for step in self.steps.list.iter() {
+            count = count.saturating_add(left_by(self.statements.as_slice(), *step));
         }
         at_most_u32(count)
     }
@@ -121,7 +157,7 @@ impl Moves {
         };
         apply_in(
             self.statements.as_slice(),
-            self.bases.as_slice(),
+            &self.steps,
             &layouts,
             input,
             output,

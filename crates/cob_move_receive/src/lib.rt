@@ -6,7 +6,8 @@
 //! (`gets`, `same`); [`receive_in_group`] and [`receive_in_item`] are the same where it is known which of the two receives. By that
 //! definition a group on either side copies bytes; characters stand from the left, from the right under JUSTIFIED, or between the
 //! insertions of an edited item; a whole number gives its digits to characters; and a number is aligned by the point and stored, or edited.
-//! A law says that there is one answer ([`one_received`]).
+//! A law says that there is one answer ([`one_received`]). [`copies_bytes`] says of which senders and receivers (`value`) one that is as long
+//! as the other gets its bytes as they are (`copies`; specs/Copying.antt).
 //!
 //! [`may_move`] is the table of categories that specs/Table.antt writes out (`allowed`). [`refusal_of`] gives a rule that the move of a
 //! sender to a receiver breaks, and none only where it breaks no rule (`broken`, `fine`); the rules are those of specs/Refusals.antt: a
@@ -21,6 +22,7 @@
 
 mod characters;
 mod constants;
+mod copying;
 mod laws;
 mod numbers;
 mod numerals;
@@ -29,6 +31,7 @@ mod refusals;
 mod sent;
 mod table;
 
+pub use copying::copies_bytes;
 pub use laws::one_received;
 pub use receiving::{receive, receive_in_group, receive_in_item};
 pub use refusals::{Refusal, refusal_of};

@@ -2,9 +2,9 @@
 //! and the pairs of CORRESPONDING.
 //!
 //! A row is the question, the copybook of the input record and that of the output record, both as entries that are parted by bars, one a
-//! line, and the paragraph: for `read` as lines that are parted by bars, from column 8 on; for `raw` as the whole text. The answer is the
-//! number of single moves, or the rule that the paragraph breaks with its line. What must be printed stands in `stdout`, worked out by hand
-//! from the rules of COBOL.
+//! line, and the paragraph: for `read` and `steps` as lines that are parted by bars, from column 8 on; for `raw` as the whole text. The answer
+//! is the number of single moves, for `steps` with how many are left where plain copies are joined, or the rule that the paragraph breaks with
+//! its line. What must be printed stands in `stdout`, worked out by hand from the rules of COBOL.
 #![tactic(auto)]
 
 use cob_move::{Book, BookRule, Layout, MoveRule, Paragraph, Role};
@@ -26,10 +26,19 @@ fn layout_of(alloc: Global, row: &Row, role: Role, place: usize) -> Result<Layou
     }
 }
 
+/// Prints the number of a paragraph's single moves, and for `steps` how many are left where plain copies are joined.
+fn push_counts(row: &Row, paragraph: &Paragraph, out: &mut String) -> Result<(), RowFault> {
+    write!(out, "moves {}", paragraph.moves())?;
+    if row.field(0)? == "steps" {
+        write!(out, " steps {}", paragraph.steps())?;
+    }
+    Ok(())
+}
+
 /// The paragraph of a row.
 fn text_of(alloc: Global, row: &Row) -> Result<Vec<u8>, RowFault> {
     match row.field(0)? {
-        "read" => row.lines(alloc, 3),
+        "read" | "steps" => row.lines(alloc, 3),
         "raw" => row.text(alloc, 3),
         _ => Err(RowFault::BadRow),
     }
@@ -41,7 +50,7 @@ impl Family for Paragraphs {
         let output = layout_of(alloc, row, Role::Out, 2)?;
         let text = text_of(alloc, row)?;
         match Paragraph::read(alloc, &input, &output, text.as_slice()) {
-            Ok(paragraph) => write!(out, "moves {}", paragraph.moves())?,
+            Ok(paragraph) => push_counts(row, &paragraph, out)?,
             Err(fault) if fault.rule == MoveRule::Memory => return Err(RowFault::Memory),
             Err(fault) => write!(out, "{fault}")?,
         }
