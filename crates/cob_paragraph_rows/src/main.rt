@@ -7,7 +7,7 @@
 //! from the rules of COBOL.
 #![tactic(auto)]
 
-use cob_move::{Book, BookRule, MoveRule, Paragraph, Role};
+use cob_move::{Book, BookFault, BookRule, MoveFault, MoveRule, Paragraph, Role};
 use cob_rows::{Family, Row, RowFault, print_rows};
 use std::alloc::Global;
 use std::fmt::Write;
@@ -16,14 +16,26 @@ use std::io;
 /// The tables on paragraphs.
 struct Paragraphs;
 
-/// The copybook of a row, which is a good one.
+/// Why a row has no copybook.
+fn row_fault(fault: BookFault) -> RowFault {
+    match fault.rule {
+        BookRule::Memory => RowFault::Memory,
+        _ => RowFault::BadRow,
+    }
+}
+
+/// The copybook of a text, which is a good one.
+fn read(alloc: Global, role: Role, text: &[u8]) -> Result<Book, RowFault> {
+    match Book::read(alloc, role, text) {
+        Ok(book) => Ok(book),
+        Err(fault) => Err(row_fault(fault)),
+    }
+}
+
+/// The copybook of a field.
 fn book_of(alloc: Global, row: &Row, role: Role, place: usize) -> Result<Book, RowFault> {
     let text = row.lines(alloc, place)?;
-    match Book::read(alloc, role, text.as_slice()) {
-        Ok(book) => Ok(book),
-        Err(fault) if fault.rule == BookRule::Memory => Err(RowFault::Memory),
-        Err(_) => Err(RowFault::BadRow),
-    }
+    read(alloc, role, text.as_slice())
 }
 
 /// The paragraph of a row.
@@ -35,17 +47,34 @@ fn text_of(alloc: Global, row: &Row) -> Result<Vec<u8>, RowFault> {
     }
 }
 
+/// Writes the rule that a paragraph breaks.
+fn push_fault(out: &mut String, fault: MoveFault) -> Result<(), RowFault> {
+    match fault.rule {
+        MoveRule::Memory => Err(RowFault::Memory),
+        _ => Ok(write!(out, "{fault}")?),
+    }
+}
+
+/// Writes the number of single moves of a paragraph, or the rule that it breaks.
+fn push_moves(
+    alloc: Global,
+    input: &Book,
+    output: &Book,
+    text: &[u8],
+    out: &mut String,
+) -> Result<(), RowFault> {
+    match Paragraph::read(alloc, input, output, text) {
+        Ok(paragraph) => Ok(write!(out, "moves {}", paragraph.moves())?),
+        Err(fault) => push_fault(out, fault),
+    }
+}
+
 impl Family for Paragraphs {
     fn answer(alloc: Global, _table: &str, row: &Row, out: &mut String) -> Result<(), RowFault> {
         let input = book_of(alloc, row, Role::In, 1)?;
         let output = book_of(alloc, row, Role::Out, 2)?;
         let text = text_of(alloc, row)?;
-        match Paragraph::read(alloc, &input, &output, text.as_slice()) {
-            Ok(paragraph) => write!(out, "moves {}", paragraph.moves())?,
-            Err(fault) if fault.rule == MoveRule::Memory => return Err(RowFault::Memory),
-            Err(fault) => write!(out, "{fault}")?,
-        }
-        Ok(())
+        push_moves(alloc, &input, &output, text.as_slice(), out)
     }
 }
 
