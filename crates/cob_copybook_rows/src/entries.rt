@@ -4,34 +4,41 @@ use crate::refusal::Refusal;
 use crate::texts::{entries_of, many_of, push_word};
 use arrayvec::ArrayVec;
 use cob_copybook_entries::name_of_text;
-use cob_entry::{Entry, Occurs, Value};
+use cob_decimal::Number;
+use cob_entry::{Entry, Name, Occurs, Qualified, Sign, Usage, Value};
+use cob_picture::Picture;
 use cob_rows::{Row, RowFault};
 use std::alloc::{AllocError, Global};
 use std::fmt::Write;
 
 /// Writes the answer to a row's question about a text.
 pub(crate) fn answer(alloc: Global, row: &Row, out: &mut String) -> Result<(), Refusal> {
-    match row.field(0)?.as_bytes() {
-        b"entries" => {
-            let text = row.lines(alloc, 1)?;
-            push_entries(out, &entries_of(alloc, text.as_slice())?)?;
-        }
-        b"text" => {
-            let text = row.text(alloc, 1)?;
-            push_entries(out, &entries_of(alloc, text.as_slice())?)?;
-        }
-        b"many" => {
-            let text = many_of(alloc, row)?;
-            let list = entries_of(alloc, text.as_slice())?;
-            write!(out, "{} entries", list.len())?;
-        }
-        b"name" => match name_of_text(row.field(1)?.as_bytes()) {
-            Some(name) => write!(out, "{name}")?,
-            None => out.push_str("none")?,
-        },
-        _ => return Err(Refusal::Row(RowFault::BadRow)),
+    match row.field(0)? {
+        "entries" => answer_to(alloc, row.lines(alloc, 1)?.as_slice(), out),
+        "text" => answer_to(alloc, row.text(alloc, 1)?.as_slice(), out),
+        "many" => answer_to_many(alloc, many_of(alloc, row)?.as_slice(), out),
+        "name" => Ok(push_own_name(out, row.field(1)?)?),
+        _ => Err(Refusal::Row(RowFault::BadRow)),
     }
-    Ok(())
+}
+
+/// Writes the entries of a text.
+fn answer_to(alloc: Global, text: &[u8], out: &mut String) -> Result<(), Refusal> {
+    Ok(push_entries(out, entries_of(alloc, text)?.as_slice())?)
+}
+
+/// Writes how many entries a text has.
+fn answer_to_many(alloc: Global, text: &[u8], out: &mut String) -> Result<(), Refusal> {
+    let list = entries_of(alloc, text)?;
+    Ok(write!(out, "{} entries", list.len())?)
+}
+
+/// Writes the name that a text is, or that it is none.
+fn push_own_name(out: &mut String, text: &str) -> Result<(), AllocError> {
+    match name_of_text(text.as_bytes()) {
+        Some(name) => write!(out, "{name}"),
+        None => out.push_str("none"),
+    }
 }
 
 /// Writes entries.
@@ -48,76 +55,105 @@ fn push_entries(out: &mut String, list: &[Entry]) -> Result<(), AllocError> {
 /// Writes an entry: line, level, name, and its clauses in one order.
 fn push_entry(out: &mut String, entry: &Entry) -> Result<(), AllocError> {
     write!(out, "{}:{}", entry.line, entry.level)?;
-    match &entry.name {
-        Some(name) => write!(out, " {name}")?,
-        None => out.push_str(" FILLER")?,
-    }
-    if let Some(name) = &entry.redefines {
-        write!(out, " redefines {name}")?;
-    }
-    push_kind(out, entry)?;
-    if let Some(occurs) = &entry.occurs {
-        push_occurs(out, occurs)?;
-    }
-    if let Some(value) = &entry.value {
-        push_value(out, value)?;
-    }
+    push_name(out, " ", &entry.name, " FILLER")?;
+    push_name(out, " redefines ", &entry.redefines, "")?;
+    push_picture(out, &entry.picture)?;
+    push_usage(out, entry.usage)?;
+    push_sign(out, entry.sign)?;
+    push_occurs(out, &entry.occurs)?;
+    push_value(out, &entry.value)?;
     out.push_str(if entry.justified { " justified" } else { "" })?;
     out.push_str(if entry.blank { " blank" } else { "" })
 }
 
-/// Writes what an entry says of an item: its picture, its usage and its sign.
-fn push_kind(out: &mut String, entry: &Entry) -> Result<(), AllocError> {
-    if let Some(picture) = &entry.picture {
-        let category = picture.category();
-        write!(out, " {category:?} {} bytes", picture.size())?;
+/// Writes a name behind a mark, or what stands for one that there isn't.
+fn push_name(
+    out: &mut String,
+    mark: &str,
+    name: &Option<Name>,
+    none: &str,
+) -> Result<(), AllocError> {
+    match name {
+        Some(name) => write!(out, "{mark}{name}"),
+        None => out.push_str(none),
     }
-    if let Some(usage) = entry.usage {
-        write!(out, " {usage:?}")?;
+}
+
+/// Writes a picture, if there is one.
+fn push_picture(out: &mut String, picture: &Option<Picture>) -> Result<(), AllocError> {
+    match picture {
+        Some(picture) => write!(out, " {:?} {} bytes", picture.category(), picture.size()),
+        None => Ok(()),
     }
-    if let Some(sign) = entry.sign {
-        out.push_str(if sign.leading {
-            " leading"
-        } else {
-            " trailing"
-        })?;
-        out.push_str(if sign.separate { " separate" } else { "" })?;
+}
+
+/// Writes a usage, if there is one.
+fn push_usage(out: &mut String, usage: Option<Usage>) -> Result<(), AllocError> {
+    match usage {
+        Some(usage) => write!(out, " {usage:?}"),
+        None => Ok(()),
+    }
+}
+
+/// Writes where a sign stands, if the entry says it.
+fn push_sign(out: &mut String, sign: Option<Sign>) -> Result<(), AllocError> {
+    let Some(sign) = sign else {
+        return Ok(());
+    };
+    out.push_str(if sign.leading {
+        " leading"
+    } else {
+        " trailing"
+    })?;
+    out.push_str(if sign.separate { " separate" } else { "" })
+}
+
+/// Writes a table that varies.
+fn push_varying(
+    out: &mut String,
+    least: u32,
+    most: u32,
+    count: &Qualified,
+) -> Result<(), AllocError> {
+    write!(out, " {least} to {most} by {}", count.name)?;
+    for name in &count.qualifiers {
+        write!(out, " of {name}")?;
     }
     Ok(())
 }
 
-/// Writes an OCCURS clause.
-fn push_occurs(out: &mut String, occurs: &Occurs) -> Result<(), AllocError> {
+/// Writes an OCCURS clause, if there is one.
+fn push_occurs(out: &mut String, occurs: &Option<Occurs>) -> Result<(), AllocError> {
     match occurs {
-        Occurs::Fixed(times) => write!(out, " {times} times")?,
-        Occurs::Varying { least, most, count } => {
-            write!(out, " {least} to {most} by {}", count.name)?;
-            for name in &count.qualifiers {
-                write!(out, " of {name}")?;
-            }
-        }
+        Some(Occurs::Fixed(times)) => write!(out, " {times} times"),
+        Some(Occurs::Varying { least, most, count }) => push_varying(out, *least, *most, count),
+        None => Ok(()),
     }
-    Ok(())
 }
 
-/// Writes a VALUE clause.
-fn push_value(out: &mut String, value: &Value) -> Result<(), AllocError> {
+/// Writes a number as text.
+fn push_number(out: &mut String, number: &Number) -> Result<(), AllocError> {
+    let mut text: ArrayVec<u8, 64> = ArrayVec::new();
+    number.write_text(&mut text);
+    push_word(out, text.as_slice())
+}
+
+/// Writes a VALUE clause, if there is one.
+fn push_value(out: &mut String, value: &Option<Value>) -> Result<(), AllocError> {
     match value {
-        Value::Number { signed, number } => {
-            let mut text: ArrayVec<u8, 64> = ArrayVec::new();
-            number.write_text(&mut text);
+        Some(Value::Number { signed, number }) => {
             out.push_str(if *signed { " value signed " } else { " value " })?;
-            push_word(out, text.as_slice())?;
+            push_number(out, number)
         }
-        Value::Literal(text) => {
+        Some(Value::Literal(text)) => {
             out.push_str(" value =")?;
-            push_word(out, text.as_bytes())?;
+            push_word(out, text.as_bytes())
         }
-        Value::Figurative(figurative) => write!(out, " value {figurative:?}")?,
-        Value::All(text) => {
+        Some(Value::Figurative(figurative)) => write!(out, " value {figurative:?}"),
+        Some(Value::All(text)) => {
             out.push_str(" value all =")?;
-            push_word(out, text.as_bytes())?;
+            push_word(out, text.as_bytes())
         }
+        None => Ok(()),
     }
-    Ok(())
 }

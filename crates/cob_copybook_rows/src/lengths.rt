@@ -12,18 +12,21 @@ use cob_rows::{Row, RowFault};
 use std::alloc::Global;
 use std::slice;
 
+/// Judges the lengths of a record.
+fn judge(root: &Node) -> Result<(), Refusal> {
+    if !are_possible(slice::from_ref(root)) {
+        return Err(Refusal::Row(RowFault::BadRow));
+    }
+    Ok(judge_lengths(root)?)
+}
+
 /// Writes the answer to a row's question about entries.
 pub(crate) fn answer(alloc: Global, row: &Row, out: &mut String) -> Result<(), Refusal> {
     if row.field(0)? != "fit" {
         return Err(Refusal::Row(RowFault::BadRow));
     }
-    let root = record_of(alloc, row)?;
-    if !are_possible(slice::from_ref(&root)) {
-        return Err(Refusal::Row(RowFault::BadRow));
-    }
-    judge_lengths(&root)?;
-    out.push_str("yes")?;
-    Ok(())
+    judge(&record_of(alloc, row)?)?;
+    Ok(out.push_str("yes")?)
 }
 
 /// Whether the entries occur at least once, and the items have none beneath them.

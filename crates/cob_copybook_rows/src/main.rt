@@ -31,14 +31,14 @@ struct Copybooks;
 /// # Errors
 /// That there is no answer, or a rule that the row's text breaks.
 fn answer(alloc: Global, table: &str, row: &Row, out: &mut String) -> Result<(), Refusal> {
-    match table.as_bytes() {
-        b"clauses" => clauses::answer(alloc, row, out),
-        b"entries" => entries::answer(alloc, row, out),
-        b"trees" => trees::answer(alloc, row, out),
-        b"rules" => rules::answer(alloc, row, out),
-        b"counts" => counts::answer(alloc, row, out),
-        b"lengths" => lengths::answer(alloc, row, out),
-        b"accepted" | b"refused" | b"books" => books::answer(alloc, row, out),
+    match table {
+        "clauses" => clauses::answer(alloc, row, out),
+        "entries" => entries::answer(alloc, row, out),
+        "trees" => trees::answer(alloc, row, out),
+        "rules" => rules::answer(alloc, row, out),
+        "counts" => counts::answer(alloc, row, out),
+        "lengths" => lengths::answer(alloc, row, out),
+        "accepted" | "refused" | "books" => books::answer(alloc, row, out),
         _ => Err(Refusal::Row(RowFault::BadRow)),
     }
 }

@@ -38,13 +38,27 @@ fn push_name(out: &mut String, node: &Node) -> Result<(), AllocError> {
     Ok(())
 }
 
+/// Writes the item of a node, if it is one, behind a mark.
+fn push_kind(out: &mut String, mark: &str, kind: &Kind) -> Result<(), AllocError> {
+    match kind {
+        Kind::Group => Ok(()),
+        Kind::Item(item) => {
+            out.push_str(mark)?;
+            push_item(out, item)
+        }
+    }
+}
+
+/// Writes a node as its number and level, its item, and how often it occurs.
+fn push_own(out: &mut String, node: &Node) -> Result<(), AllocError> {
+    write!(out, "{}:{}", node.number, node.level)?;
+    push_kind(out, "", &node.kind)?;
+    push_times(out, node.occurs)
+}
+
 /// Writes a node as its number and level, its item, how often it occurs, and those beneath it.
 pub(crate) fn push_tree(out: &mut String, node: &Node) -> Result<(), AllocError> {
-    write!(out, "{}:{}", node.number, node.level)?;
-    if let Kind::Item(item) = &node.kind {
-        push_item(out, item)?;
-    }
-    push_times(out, node.occurs)?;
+    push_own(out, node)?;
     for (place, child) in node.children.iter().enumerate() {
         out.push(if place == 0 { '(' } else { ' ' })?;
         push_tree(out, child)?;
@@ -62,20 +76,19 @@ pub(crate) fn push_names(out: &mut String, node: &Node) -> Result<(), AllocError
     out.push_str(if node.children.is_empty() { "" } else { "]" })
 }
 
-/// Writes a node and those beneath it, each by itself: its number, line, level and name, its item, and how often it occurs.
+/// Writes a node by itself: its number, line, level and name, its item, and how often it occurs.
+fn push_line(out: &mut String, node: &Node) -> Result<(), AllocError> {
+    write!(out, "{} line {}", node.number, node.line)?;
+    write!(out, " level {} ", node.level)?;
+    push_name(out, node)?;
+    push_kind(out, " ", &node.kind)?;
+    push_times(out, node.occurs)
+}
+
+/// Writes a node and those beneath it, each by itself.
 pub(crate) fn push_each(out: &mut String, node: &Node) -> Result<(), AllocError> {
     out.push_str(if out.is_empty() { "" } else { "; " })?;
-    write!(
-        out,
-        "{} line {} level {} ",
-        node.number, node.line, node.level
-    )?;
-    push_name(out, node)?;
-    if let Kind::Item(item) = &node.kind {
-        out.push(' ')?;
-        push_item(out, item)?;
-    }
-    push_times(out, node.occurs)?;
+    push_line(out, node)?;
     for child in node.children.iter() {
         push_each(out, child)?;
     }

@@ -5,7 +5,6 @@ use cob_rows::RowFault;
 use std::alloc::AllocError;
 
 /// Why a row's question isn't answered as it is asked.
-#[derive(Clone, Copy, Debug)]
 pub(crate) enum Refusal {
     /// The row has no answer.
     Row(RowFault),

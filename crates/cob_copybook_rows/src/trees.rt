@@ -19,14 +19,18 @@ use std::fmt::Write;
 /// Writes the answer to a row's question about entries.
 pub(crate) fn answer(alloc: Global, row: &Row, out: &mut String) -> Result<(), Refusal> {
     let root = record_of(alloc, row)?;
-    match row.field(0)?.as_bytes() {
-        b"tree" => push_tree(out, &root)?,
-        b"each" => push_each(out, &root)?,
-        b"lengths" => push_lengths(out, &root)?,
-        b"size" => push_size(out, &root)?,
-        _ => return Err(Refusal::Row(RowFault::BadRow)),
+    Ok(push_record(out, row.field(0)?, &root)?)
+}
+
+/// Writes what a question asks of a record.
+fn push_record(out: &mut String, question: &str, root: &Node) -> Result<(), RowFault> {
+    match question {
+        "tree" => Ok(push_tree(out, root)?),
+        "each" => Ok(push_each(out, root)?),
+        "lengths" => Ok(push_lengths(out, root)?),
+        "size" => push_size(out, root),
+        _ => Err(RowFault::BadRow),
     }
-    Ok(())
 }
 
 /// The numbers of a field, parted by spaces; a hyphen stands where there is none.
@@ -64,17 +68,24 @@ fn are_levels(entries: &[Entry]) -> bool
     true
 }
 
+/// The tree of entries.
+fn planted(alloc: Global, entries: Vec<Entry>) -> Result<Branch, Refusal>
+    ensures few { IfOk result (λ b. entries_in (forest_of (b ∷ [])) ≤ 65535) }
+{
+    if entries.len() > 65_535 || !are_levels(entries.as_slice()) {
+        return Err(Refusal::Row(RowFault::BadRow));
+    }
+    as_many_entries();
+    Ok(build_tree(alloc, entries)?)
+}
+
 /// The tree of a row's entries.
 pub(crate) fn tree_of(alloc: Global, row: &Row) -> Result<Branch, Refusal>
     ensures few { IfOk result (λ b. entries_in (forest_of (b ∷ [])) ≤ 65535) }
 {
     let text = row.lines(alloc, 1)?;
     let entries = entries_of(alloc, text.as_slice())?;
-    if entries.len() > 65_535 || !are_levels(entries.as_slice()) {
-        return Err(Refusal::Row(RowFault::BadRow));
-    }
-    as_many_entries();
-    Ok(build_tree(alloc, entries)?)
+    planted(alloc, entries)
 }
 
 /// The record of a row's entries, with what they inherit. A third field has the number of each entry's count, and a hyphen for one
@@ -93,11 +104,17 @@ fn push_size(out: &mut String, root: &Node) -> Result<(), RowFault> {
     }
 }
 
+/// Writes the lengths of one element of an entry and of all.
+fn push_both_lengths(out: &mut String, node: &Node) -> Result<(), AllocError> {
+    write!(out, "{}/{}", element_length(node), whole_length(node))
+}
+
 /// Writes the lengths of one element of the record and of all, and those of each entry right beneath it.
 fn push_lengths(out: &mut String, root: &Node) -> Result<(), AllocError> {
-    write!(out, "{}/{}", element_length(root), whole_length(root))?;
+    push_both_lengths(out, root)?;
     for child in root.children.iter() {
-        write!(out, " {}/{}", element_length(child), whole_length(child))?;
+        out.push(' ')?;
+        push_both_lengths(out, child)?;
     }
     Ok(())
 }

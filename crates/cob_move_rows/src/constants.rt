@@ -7,12 +7,12 @@ use cob_rows::RowFault;
 
 /// The figurative constant of this name.
 fn figurative(name: &str) -> Option<Figurative> {
-    match name.as_bytes() {
-        b"SPACE" => Some(Figurative::Space),
-        b"ZERO" => Some(Figurative::Zero),
-        b"HIGH-VALUE" => Some(Figurative::HighValue),
-        b"LOW-VALUE" => Some(Figurative::LowValue),
-        b"QUOTE" => Some(Figurative::Quote),
+    match name {
+        "SPACE" => Some(Figurative::Space),
+        "ZERO" => Some(Figurative::Zero),
+        "HIGH-VALUE" => Some(Figurative::HighValue),
+        "LOW-VALUE" => Some(Figurative::LowValue),
+        "QUOTE" => Some(Figurative::Quote),
         _ => None,
     }
 }

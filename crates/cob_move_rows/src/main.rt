@@ -14,7 +14,7 @@ use crate::constants::constant_of;
 use cob_codec::Reading;
 use cob_copybook::{Book, Role};
 use cob_copybook_tree::{Item, Kind, is_number, is_number_item};
-use cob_entry::BookRule;
+use cob_entry::{BookFault, BookRule};
 use cob_move_receive::{Refusal, SenderKind, Sent, receive, refusal_of};
 use cob_rows::{Family, Row, RowFault, print_rows, push_digits};
 use std::alloc::{AllocError, Global};
@@ -23,14 +23,26 @@ use std::io;
 /// What stands in a receiver's bytes before the move.
 const UNWRITTEN: u8 = 0xAA;
 
+/// Why a row has no book.
+fn row_fault(fault: BookFault) -> RowFault {
+    match fault.rule {
+        BookRule::Memory => RowFault::Memory,
+        _ => RowFault::BadRow,
+    }
+}
+
+/// The book of a text.
+fn read(alloc: Global, text: &[u8]) -> Result<Book, RowFault> {
+    match Book::read(alloc, Role::Out, text) {
+        Ok(book) => Ok(book),
+        Err(fault) => Err(row_fault(fault)),
+    }
+}
+
 /// The book of a field.
 fn book_of(alloc: Global, row: &Row, place: usize) -> Result<Book, RowFault> {
     let text = row.lines(alloc, place)?;
-    match Book::read(alloc, Role::Out, text.as_slice()) {
-        Ok(book) => Ok(book),
-        Err(fault) if fault.rule == BookRule::Memory => Err(RowFault::Memory),
-        Err(_) => Err(RowFault::BadRow),
-    }
+    read(alloc, text.as_slice())
 }
 
 /// Whether bytes can hold what an item describes.
@@ -63,9 +75,18 @@ fn rule_name(refusal: Refusal) -> &'static str {
     }
 }
 
-/// Writes what comes of the move of a sender to a receiver.
+/// Writes that there is no value, and whether the receiver is changed all the same.
+fn push_no_value(out: &mut String, bytes: &[u8]) -> Result<(), AllocError> {
+    out.push_str("no value")?;
+    if bytes.iter().all(|byte| *byte == UNWRITTEN) {
+        Ok(())
+    } else {
+        out.push_str(", and the receiver is changed")
+    }
+}
+
+/// Writes what a receiver holds after the move of a sender, or that there is no value.
 fn push_received(
-    from: &SenderKind<'_>,
     given: &Sent<'_>,
     to: &Kind,
     bytes: &mut [u8],
@@ -74,18 +95,40 @@ fn push_received(
     requires given { IsComplete (sent given.now) }
     requires receiver { Occupies to.now (length bytes.old) }
 {
-    if let Some(refusal) = refusal_of(from, to) {
-        return out.push_str(rule_name(refusal));
-    }
     if receive(given, to, bytes) {
-        return push_digits(out, bytes);
-    }
-    out.push_str("no value")?;
-    if bytes.iter().all(|byte| *byte == UNWRITTEN) {
-        Ok(())
+        push_digits(out, bytes)
     } else {
-        out.push_str(", and the receiver is changed")
+        push_no_value(out, bytes)
     }
+}
+
+/// The rule that refuses the move of a sender to a receiver, if one does.
+fn refusal_name(from: &SenderKind<'_>, to: &Kind) -> Option<&'static str> {
+    match refusal_of(from, to) {
+        Some(refusal) => Some(rule_name(refusal)),
+        None => None,
+    }
+}
+
+/// Writes what comes of the move of a sender to a receiver.
+fn push_outcome(
+    alloc: Global,
+    from: &SenderKind<'_>,
+    given: &Sent<'_>,
+    to: &Kind,
+    size: usize,
+    out: &mut String,
+) -> Result<(), RowFault>
+    requires { IsComplete (sent given.now) }
+{
+    if let Some(name) = refusal_name(from, to) {
+        return Ok(out.push_str(name)?);
+    }
+    if !has_bytes(to, size) {
+        return Err(RowFault::BadRow);
+    }
+    let mut bytes = vec![in alloc; UNWRITTEN; size]?;
+    Ok(push_received(given, to, &mut bytes, out)?)
 }
 
 /// Writes what comes of a move to the receiver of a field.
@@ -100,12 +143,8 @@ fn push_move(
     requires { IsComplete (sent given.now) }
 {
     let book = book_of(alloc, row, place)?;
-    let mut bytes = vec![in alloc; UNWRITTEN; usize::from(book.greatest())]?;
-    let to = &book.root().kind;
-    if !has_bytes(to, bytes.len()) {
-        return Err(RowFault::BadRow);
-    }
-    Ok(push_received(from, given, to, &mut bytes, out)?)
+    let size = usize::from(book.greatest());
+    push_outcome(alloc, from, given, &book.root().kind, size, out)
 }
 
 /// Writes what comes of the move of an entry that is read so.
@@ -147,10 +186,10 @@ struct MoveRows;
 
 impl Family for MoveRows {
     fn answer(alloc: Global, _table: &str, row: &Row, out: &mut String) -> Result<(), RowFault> {
-        match row.field(0)?.as_bytes() {
-            b"entry" => move_entry(alloc, Reading::Pictured, row, out),
-            b"whole" => move_entry(alloc, Reading::Whole, row, out),
-            b"constant" => move_constant(alloc, row, out),
+        match row.field(0)? {
+            "entry" => move_entry(alloc, Reading::Pictured, row, out),
+            "whole" => move_entry(alloc, Reading::Whole, row, out),
+            "constant" => move_constant(alloc, row, out),
             _ => Err(RowFault::BadRow),
         }
     }
