@@ -4,16 +4,13 @@ ghost use Rattle.cob_records.specs.Files.{buffer_size};
 ghost use Rattle.cob_records.specs.Streams.{sink_writer, sink_failures, sink_errors};
 ghost use Rattle.cob_convert_files.specs.Names.{name_of_part};
 
-use cob_records::{FileSink, OpenFault, Opened, WriteSink};
+use cob_records::{FileSink, OpenFault, Opened, WriteSink, create_sink};
 use std::alloc::{AllocError, Global};
 use std::fs::{OpenFile, OpenOptions};
-use std::io::{BufWriter, ErrorKind, Print, Printer};
+use std::io::{ErrorKind, Print, Printer};
 use std::os::unix::fs::{MetadataExt, OpenOptionsExt};
 use std::rt::Files;
 use std::{fs, io};
-
-/// How many bytes the buffer of an output holds.
-const BUFFER: usize = 65_536;
 
 /// The bits of a file's mode that say who may read and write it.
 const PERMISSIONS: u32 = 0o666;
@@ -48,8 +45,8 @@ fn replaceable<R: Files>(rt: &R, name: &str) -> Option<u32> {
 ///
 /// # Errors
 ///
-/// Where the output may not be replaced: it is a standard stream, a link, a folder, a pipe or a device, or may not be written; where there is a file of the name
-/// `part` already, or the system does not make it; where memory for the buffer is refused.
+/// Where the output may not be replaced: it is a standard stream, a link, a folder, a pipe or a device, or may not be written; where memory for the
+/// buffer is refused; where there is a file of the name `part` already, or the system does not make it. No part is made then.
 pub fn create_part<'a, R: AllocGlobal + Files + Print>(
     rt: &'a R,
     name: &str,
@@ -63,21 +60,19 @@ pub fn create_part<'a, R: AllocGlobal + Files + Print>(
     let Some(permissions) = replaceable(rt, name) else {
         return Err(OpenFault::NotOpened);
     };
+    // The buffer comes first, over standard output until the part is there, so that refused memory leaves no part.
+    let mut writer = create_sink(rt, "-")?.into_inner();
     let made = OpenOptions::new()
         .write(true)
         .create_new(true)
         .mode(permissions)
         .open(rt, part);
-    let Ok(file) = made else {
-        return Err(OpenFault::NotOpened);
-    };
-    match BufWriter::with_capacity(rt.alloc(), BUFFER, Opened::Named(file)) {
-        Ok(writer) => Ok(WriteSink::new(writer)),
-        Err(_) => {
-            // The empty file goes again. Where it stays, the answer is the same.
-            let _removed = rt.remove_file(part);
-            Err(OpenFault::Memory)
+    match made {
+        Ok(file) => {
+            *writer.get_mut() = Opened::Named(file);
+            Ok(WriteSink::new(writer))
         }
+        Err(_) => Err(OpenFault::NotOpened),
     }
 }
 

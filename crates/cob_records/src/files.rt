@@ -127,11 +127,12 @@ pub fn open_source<R: AllocGlobal + Files + Input>(
 }
 
 /// A sink over the file of this name, which is made, or emptied where it is there; or over standard output
-/// where the name is `-`.
+/// where the name is `-`. The buffer is made before the file is, so that refused memory leaves the file as it
+/// was.
 ///
 /// # Errors
 ///
-/// Where the system does not make the file, or memory for the buffer is refused.
+/// Where memory for the buffer is refused, or the system does not make the file.
 pub fn create_sink<'a, R: AllocGlobal + Files + Print>(
     rt: &'a R,
     name: &str,
@@ -143,16 +144,15 @@ pub fn create_sink<'a, R: AllocGlobal + Files + Print>(
     ensures which { IfOk result (λ sink.
         is_standard (writer_inner (sink_writer sink)) ≡ names_standard name.now) }
 {
-    let opened = if is_dash(name) {
-        Opened::Standard(io::writer(rt))
-    } else {
+    let stream = Opened::Standard(io::writer(rt));
+    let Ok(mut writer) = BufWriter::with_capacity(rt.alloc(), BUFFER, stream) else {
+        return Err(OpenFault::Memory);
+    };
+    if !is_dash(name) {
         match File::create(rt, name) {
-            Ok(file) => Opened::Named(file),
+            Ok(file) => *writer.get_mut() = Opened::Named(file),
             Err(_) => return Err(OpenFault::NotOpened),
         }
-    };
-    match BufWriter::with_capacity(rt.alloc(), BUFFER, opened) {
-        Ok(writer) => Ok(WriteSink::new(writer)),
-        Err(_) => Err(OpenFault::Memory),
     }
+    Ok(WriteSink::new(writer))
 }
