@@ -43,7 +43,8 @@ fn skip_names(words: &[Token]) -> &[Token]
 pub fn names_at(words: &[Token]) -> Option<&[Token]>
     ensures found { IfSome result
         (λ r. StandInFront AreNames (lexemes words.now) (lexemes r.now)) }
-    ensures only { EachCut AreNames (NotFirstWord WordClass.Plain) (lexemes words.now) (Leaves result) }
+    ensures only { EachCut AreNames (NotFirstWord WordClass.Plain)
+        (lexemes words.now) (Leaves result) }
 {
     let more = behind_name(words)?;
     Some(skip_names(more))
