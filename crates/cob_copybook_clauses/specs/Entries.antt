@@ -139,3 +139,7 @@ sentences (w ∷ ws) = sentence_before w.kind w (sentences ws)
 -- no Stop among the words
 abbrev pub HasNoStop : List Lexeme → Type 0
 HasNoStop ws = AllByRecursion (λ w. w.kind ≢ kind.Stop) ws
+
+-- a sentence without a Stop and a Stop stand in front, before these words
+abbrev pub FirstSentence : List Lexeme → List Lexeme → List Lexeme → Type 0
+FirstSentence sentence words more = (stop : Lexeme) × (stop.kind ≡ kind.Stop) × HasNoStop sentence × (words ≡ sentence ++ stop ∷ more)

@@ -13,7 +13,7 @@ ghost use Rattle.cob_copybook_clauses.specs.Clauses.{
   leading_of,
   usage_of,
 };
-ghost use Rattle.cob_copybook_clauses.specs.Reading.{ClauseFirst, Stands, clause_of, kind_at, clause_kind_of};
+ghost use Rattle.cob_copybook_clauses.specs.Reading.{ClauseFirst, EachCut, ReadsClause, Stands, StandInFront, clause_of, kind_at, clause_kind_of};
 ghost use Rattle.cob_copybook_clauses.specs.Written.{WrittenValue, WrittenOccurs};
 ghost use Rattle.cob_source.specs.Tokens.{Lexeme, lexemes};
 ghost use Rattle.std.specs.Prelude.{
@@ -108,9 +108,7 @@ fn leading_of(term: WordClass) -> Option<bool>
 fn redefines_at(words: &[Token]) -> Option<(WrittenClause<'_>, &[Token])>
     ensures found { IfSome result
         (λ r. Stands (clause_of r.0) (lexemes words.now) (lexemes r.1.now)) }
-    ensures only { (n : List ℕ) (ws more : List Lexeme)
-        → SaysClause (Redefines n) ws → ClauseFirst more → lexemes words.now ≡ ws ++ more
-        → IsSomeAnd result (λ r. (clause_of r.0 ≡ Redefines n) × (lexemes r.1.now ≡ more)) }
+    ensures only { (n : List ℕ) → ReadsClause (Redefines n) (lexemes words.now) result }
 {
     let more = behind(words, WordClass::Redefines)?;
     let (name, rest) = word_at(more)?;
@@ -121,9 +119,7 @@ fn redefines_at(words: &[Token]) -> Option<(WrittenClause<'_>, &[Token])>
 fn picture_at(words: &[Token]) -> Option<(WrittenClause<'_>, &[Token])>
     ensures found { IfSome result
         (λ r. Stands (clause_of r.0) (lexemes words.now) (lexemes r.1.now)) }
-    ensures only { (p : List ℕ) (ws more : List Lexeme)
-        → SaysClause (Picture p) ws → ClauseFirst more → lexemes words.now ≡ ws ++ more
-        → IsSomeAnd result (λ r. (clause_of r.0 ≡ Picture p) × (lexemes r.1.now ≡ more)) }
+    ensures only { (p : List ℕ) → ReadsClause (Picture p) (lexemes words.now) result }
 {
     let more = behind(words, WordClass::Picture)?;
     let (picture, rest) = other_word_at(skip(more, WordClass::Is), WordClass::Is)?;
@@ -134,9 +130,7 @@ fn picture_at(words: &[Token]) -> Option<(WrittenClause<'_>, &[Token])>
 fn usage_at(words: &[Token]) -> Option<(WrittenClause<'_>, &[Token])>
     ensures found { IfSome result
         (λ r. Stands (clause_of r.0) (lexemes words.now) (lexemes r.1.now)) }
-    ensures only { (u : Usage) (ws more : List Lexeme)
-        → SaysClause (Stored u) ws → ClauseFirst more → lexemes words.now ≡ ws ++ more
-        → IsSomeAnd result (λ r. (clause_of r.0 ≡ Stored u) × (lexemes r.1.now ≡ more)) }
+    ensures only { (u : Usage) → ReadsClause (Stored u) (lexemes words.now) result }
 {
     let (first, rest) = skip_prefix(words, WordClass::Usage).split_first()?;
     let usage = usage_of(word_class(first))?;
@@ -145,10 +139,10 @@ fn usage_at(words: &[Token]) -> Option<(WrittenClause<'_>, &[Token])>
 
 /// Whether SEPARATE stands in front, perhaps with CHARACTER, and what is behind it.
 fn separate_at(words: &[Token]) -> (bool, &[Token])
-    ensures found { (ws : List Lexeme)
-        × IsSeparatePhrase result.0 ws × (lexemes words.now ≡ ws ++ lexemes result.1.now) }
-    ensures only { (b : Bool) (ws more : List Lexeme) → IsSeparatePhrase b ws → ClauseFirst more
-        → lexemes words.now ≡ ws ++ more → (result.0 ≡ b) × (lexemes result.1.now ≡ more) }
+    ensures found { StandInFront
+        (IsSeparatePhrase result.0) (lexemes words.now) (lexemes result.1.now) }
+    ensures only { (b : Bool) → EachCut (IsSeparatePhrase b) ClauseFirst (lexemes words.now)
+        (λ more. (result.0 ≡ b) × (lexemes result.1.now ≡ more)) }
 {
     match behind(words, WordClass::Separate) {
         Some(more) => (true, skip(more, WordClass::Character)),
@@ -160,9 +154,7 @@ fn separate_at(words: &[Token]) -> (bool, &[Token])
 fn sign_at(words: &[Token]) -> Option<(WrittenClause<'_>, &[Token])>
     ensures found { IfSome result
         (λ r. Stands (clause_of r.0) (lexemes words.now) (lexemes r.1.now)) }
-    ensures only { (s : Sign) (ws more : List Lexeme)
-        → SaysClause (Signed s) ws → ClauseFirst more → lexemes words.now ≡ ws ++ more
-        → IsSomeAnd result (λ r. (clause_of r.0 ≡ Signed s) × (lexemes r.1.now ≡ more)) }
+    ensures only { (s : Sign) → ReadsClause (Signed s) (lexemes words.now) result }
 {
     let (first, more) = skip_prefix(words, WordClass::Sign).split_first()?;
     let leading = leading_of(word_class(first))?;
@@ -174,9 +166,7 @@ fn sign_at(words: &[Token]) -> Option<(WrittenClause<'_>, &[Token])>
 fn occurs_at(words: &[Token]) -> Option<(WrittenClause<'_>, &[Token])>
     ensures found { IfSome result
         (λ r. Stands (clause_of r.0) (lexemes words.now) (lexemes r.1.now)) }
-    ensures only { (t : WrittenOccurs) (ws more : List Lexeme)
-        → SaysClause (Occurs t) ws → ClauseFirst more → lexemes words.now ≡ ws ++ more
-        → IsSomeAnd result (λ r. (clause_of r.0 ≡ Occurs t) × (lexemes r.1.now ≡ more)) }
+    ensures only { (t : WrittenOccurs) → ReadsClause (Occurs t) (lexemes words.now) result }
 {
     let more = behind(words, WordClass::Occurs)?;
     let (table, rest) = table_at(more)?;
@@ -187,9 +177,7 @@ fn occurs_at(words: &[Token]) -> Option<(WrittenClause<'_>, &[Token])>
 fn value_at(words: &[Token]) -> Option<(WrittenClause<'_>, &[Token])>
     ensures found { IfSome result
         (λ r. Stands (clause_of r.0) (lexemes words.now) (lexemes r.1.now)) }
-    ensures only { (v : WrittenValue) (ws more : List Lexeme)
-        → SaysClause (Value v) ws → ClauseFirst more → lexemes words.now ≡ ws ++ more
-        → IsSomeAnd result (λ r. (clause_of r.0 ≡ Value v) × (lexemes r.1.now ≡ more)) }
+    ensures only { (v : WrittenValue) → ReadsClause (Value v) (lexemes words.now) result }
 {
     let more = behind(words, WordClass::Value)?;
     let (constant, rest) = constant_at(skip_is_or_are(more))?;
@@ -200,9 +188,7 @@ fn value_at(words: &[Token]) -> Option<(WrittenClause<'_>, &[Token])>
 fn justified_at(words: &[Token]) -> Option<(WrittenClause<'_>, &[Token])>
     ensures found { IfSome result
         (λ r. Stands (clause_of r.0) (lexemes words.now) (lexemes r.1.now)) }
-    ensures only { (ws more : List Lexeme)
-        → SaysClause Justified ws → ClauseFirst more → lexemes words.now ≡ ws ++ more
-        → IsSomeAnd result (λ r. (clause_of r.0 ≡ Justified) × (lexemes r.1.now ≡ more)) }
+    ensures only { ReadsClause Justified (lexemes words.now) result }
 {
     let more = behind(words, WordClass::Justified)?;
     Some((WrittenClause::Justified, skip(more, WordClass::Right)))
@@ -212,9 +198,7 @@ fn justified_at(words: &[Token]) -> Option<(WrittenClause<'_>, &[Token])>
 fn blank_at(words: &[Token]) -> Option<(WrittenClause<'_>, &[Token])>
     ensures found { IfSome result
         (λ r. Stands (clause_of r.0) (lexemes words.now) (lexemes r.1.now)) }
-    ensures only { (ws more : List Lexeme)
-        → SaysClause Blank ws → ClauseFirst more → lexemes words.now ≡ ws ++ more
-        → IsSomeAnd result (λ r. (clause_of r.0 ≡ Blank) × (lexemes r.1.now ≡ more)) }
+    ensures only { ReadsClause Blank (lexemes words.now) result }
 {
     let more = behind(words, WordClass::Blank)?;
     let rest = behind(skip(more, WordClass::When), WordClass::Zero)?;
@@ -234,9 +218,7 @@ fn kind_in_front(words: &[Token]) -> Option<ClauseKind>
 pub fn clause_at(words: &[Token]) -> Option<(WrittenClause<'_>, &[Token])>
     ensures found { IfSome result
         (λ r. Stands (clause_of r.0) (lexemes words.now) (lexemes r.1.now)) }
-    ensures only { (c : Clause) (ws more : List Lexeme)
-        → SaysClause c ws → ClauseFirst more → lexemes words.now ≡ ws ++ more
-        → IsSomeAnd result (λ r. (clause_of r.0 ≡ c) × (lexemes r.1.now ≡ more)) }
+    ensures only { (c : Clause) → ReadsClause c (lexemes words.now) result }
 {
     match kind_in_front(words)? {
         ClauseKind::Redefines => redefines_at(words),

@@ -1,4 +1,5 @@
 ghost use Rattle.cob_copybook_clauses.specs.Clauses.{IsConstant, figurative_of};
+ghost use Rattle.cob_copybook_clauses.specs.Reading.{Answers, AnswersText, StandInFront};
 ghost use Rattle.cob_copybook_clauses.specs.Terms.{word_class};
 ghost use Rattle.cob_copybook_clauses.specs.Written.{WrittenValue, written_value};
 ghost use Rattle.cob_source.specs.declared.token.Kind.TheVariants as kind;
@@ -31,7 +32,7 @@ fn figurative_at(words: &[Token]) -> Option<(Figurative, &[Token])>
         × (figurative_of (word_class w) ≡ Some r.0) × (lexemes words.now ≡ w ∷ lexemes r.1.now)) }
     ensures only { (f : Figurative) (w : Lexeme) (more : List Lexeme)
         → figurative_of (word_class w) ≡ Some f → lexemes words.now ≡ w ∷ more
-        → IsSomeAnd result (λ r. (r.0 ≡ f) × (lexemes r.1.now ≡ more)) }
+        → Answers (λ c. c) result f more }
 {
     let (first, more) = words.split_first()?;
     let figurative = figurative_of(word_class(first))?;
@@ -43,8 +44,7 @@ fn literal_at(words: &[Token]) -> Option<(&[u8], &[Token])>
     ensures found { IfSome result (λ r. (w : Lexeme) × (w.kind ≡ kind.Literal)
         × (w.text ≡ r.0.now) × (lexemes words.now ≡ w ∷ lexemes r.1.now)) }
     ensures only { (w : Lexeme) (more : List Lexeme)
-        → w.kind ≡ kind.Literal → lexemes words.now ≡ w ∷ more
-        → IsSomeAnd result (λ r. (r.0.now ≡ w.text) × (lexemes r.1.now ≡ more)) }
+        → w.kind ≡ kind.Literal → lexemes words.now ≡ w ∷ more → AnswersText result w.text more }
 {
     let (first, more) = words.split_first()?;
     if !is_literal(first) {
@@ -61,7 +61,7 @@ fn repeated_at(words: &[Token]) -> Option<(ValueClause<'_>, &[Token])>
         × (lexemes words.now ≡ ws ++ lexemes r.1.now)) }
     ensures only { (c : WrittenValue) (all : Lexeme) (ws more : List Lexeme)
         → word_class all ≡ WordClass.All → IsConstant c (all ∷ ws) → lexemes words.now ≡ ws ++ more
-        → IsSomeAnd result (λ r. (written_value r.0 ≡ c) × (lexemes r.1.now ≡ more)) }
+        → Answers written_value result c more }
 {
     if let Some((text, more)) = literal_at(words) {
         return Some((ValueClause::All(text), more));
@@ -72,11 +72,10 @@ fn repeated_at(words: &[Token]) -> Option<(ValueClause<'_>, &[Token])>
 
 /// The constant of a VALUE clause, and what is behind it.
 pub fn constant_at(words: &[Token]) -> Option<(ValueClause<'_>, &[Token])>
-    ensures found { IfSome result (λ r. (ws : List Lexeme)
-        × IsConstant (written_value r.0) ws × (lexemes words.now ≡ ws ++ lexemes r.1.now)) }
+    ensures found { IfSome result
+        (λ r. StandInFront (IsConstant (written_value r.0)) (lexemes words.now) (lexemes r.1.now)) }
     ensures only { (c : WrittenValue) (ws more : List Lexeme)
-        → IsConstant c ws → lexemes words.now ≡ ws ++ more
-        → IsSomeAnd result (λ r. (written_value r.0 ≡ c) × (lexemes r.1.now ≡ more)) }
+        → IsConstant c ws → lexemes words.now ≡ ws ++ more → Answers written_value result c more }
 {
     if let Some((text, more)) = free_at(words) {
         return Some((ValueClause::Word(text), more));

@@ -8,7 +8,7 @@ ghost use Rattle.cob_copybook_clauses.specs.Entries.{
   put,
   starts_clause,
 };
-ghost use Rattle.cob_copybook_clauses.specs.Reading.{ClauseFirst, clause_of};
+ghost use Rattle.cob_copybook_clauses.specs.Reading.{Answers, ClauseFirst, EachCut, HasPut, PutsClause, StandInFront, clause_of};
 ghost use Rattle.cob_copybook_clauses.specs.Terms.{word_class};
 ghost use Rattle.cob_copybook_clauses.specs.Written.{
   WrittenClauses,
@@ -57,11 +57,8 @@ fn bare() -> Clauses<'static>
 /// The clauses with a further one, unless they have it.
 fn with<'a>(clauses: Clauses<'a>, phrase: WrittenClause<'a>) -> Option<Clauses<'a>>
     ensures found { IfSome result
-        (λ f. IsAbsent (clause_of phrase.entry) (written_clauses clauses.entry)
-        × (written_clauses f ≡ put (clause_of phrase.entry) (written_clauses clauses.entry))) }
-    ensures only { IsAbsent (clause_of phrase.entry) (written_clauses clauses.entry)
-        → IsSomeAnd result
-        (λ f. written_clauses f ≡ put (clause_of phrase.entry) (written_clauses clauses.entry)) }
+        (λ f. HasPut (clause_of phrase.entry) (written_clauses clauses.entry) (written_clauses f)) }
+    ensures only { PutsClause (clause_of phrase.entry) (written_clauses clauses.entry) result }
 {
     let mut all = clauses;
     let twice = match phrase {
@@ -110,11 +107,10 @@ fn starts_clause(token: &Token) -> bool
 
 /// The name of an entry, which may be absent, and what is behind it; none for FILLER.
 fn name_at(words: &[Token]) -> Option<(Option<&[u8]>, &[Token])>
-    ensures found { IfSome result (λ r. (names : List Lexeme) × NamesEntry
-        (option_map (λ b. b.now) r.0) names × (lexemes words.now ≡ names ++ lexemes r.1.now)) }
-    ensures only { (name : Option (List ℕ)) (names more : List Lexeme)
-        → NamesEntry name names → ClauseFirst more → lexemes words.now ≡ names ++ more
-        → IsSomeAnd result (λ r. (option_map (λ b. b.now) r.0 ≡ name) × (lexemes r.1.now ≡ more)) }
+    ensures found { IfSome result (λ r. StandInFront (NamesEntry (option_map (λ b. b.now) r.0))
+        (lexemes words.now) (lexemes r.1.now)) }
+    ensures only { (name : Option (List ℕ)) → EachCut (NamesEntry name) ClauseFirst
+        (lexemes words.now) (Answers (option_map (λ b. b.now)) result name) }
 {
     let Some((first, more)) = words.split_first() else {
         return Some((None, words));

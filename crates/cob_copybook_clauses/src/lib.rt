@@ -14,8 +14,8 @@
 //!
 //! The definitions stand in `specs/`: `Terms` has the tables of reserved words, `Names` what a name is, `Written` an entry
 //! without where its texts lie in memory, `Clauses` the words of each clause, `Entries` those of an entry, of level 88 and
-//! of what is left out, and the sentences of a text. `Reading` holds what the readers of words say to one another; no
-//! public clause names it. The crate stands on `cob_source` for its tokens, and on `cob_entry` for usages, signs and
+//! of what is left out, and the sentences of a text. `Reading` holds what the readers of words, of statements too,
+//! say of the words that they leave. The crate stands on `cob_source` for its tokens, and on `cob_entry` for usages, signs and
 //! figurative constants.
 #![tactic(auto)]
 

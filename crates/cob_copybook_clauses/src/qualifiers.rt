@@ -1,5 +1,5 @@
 ghost use Rattle.cob_copybook_clauses.specs.Clauses.{AreNames, AreQualifiers, IsDependingOn, IsNameWord};
-ghost use Rattle.cob_copybook_clauses.specs.Reading.{NotFirstWord};
+ghost use Rattle.cob_copybook_clauses.specs.Reading.{Answers, EachCut, Leaves, NotFirstWord, SkipsQualifier, StandInFront};
 ghost use Rattle.cob_copybook_clauses.specs.Terms.{word_class};
 ghost use Rattle.cob_copybook_clauses.specs.Written.{WrittenName, written_name};
 ghost use Rattle.cob_source.specs.Tokens.{Lexeme, lexemes};
@@ -27,11 +27,10 @@ fn behind_name(words: &[Token]) -> Option<&[Token]>
 
 /// The words behind the names in front, if there are any.
 fn skip_names(words: &[Token]) -> &[Token]
-    ensures found { (names : List Lexeme)
-        × AllByRecursion IsNameWord names × (lexemes words.now ≡ names ++ lexemes result.now) }
-    ensures only { (names more : List Lexeme) → AllByRecursion IsNameWord names
-        → NotFirstWord WordClass.Plain more → lexemes words.now ≡ names ++ more
-        → lexemes result.now ≡ more }
+    ensures found { StandInFront
+        (AllByRecursion IsNameWord) (lexemes words.now) (lexemes result.now) }
+    ensures only { EachCut (AllByRecursion IsNameWord) (NotFirstWord WordClass.Plain)
+        (lexemes words.now) (λ more. lexemes result.now ≡ more) }
 {
     let mut rest = words;
     while let Some(more) = behind_name(rest) {
@@ -42,10 +41,10 @@ fn skip_names(words: &[Token]) -> &[Token]
 
 /// The words behind the names in front, of which there is one at least.
 pub fn names_at(words: &[Token]) -> Option<&[Token]>
-    ensures found { IfSome result (λ r. (names : List Lexeme)
-        × AreNames names × (lexemes words.now ≡ names ++ lexemes r.now)) }
-    ensures only { (names more : List Lexeme) → AreNames names → NotFirstWord WordClass.Plain more
-        → lexemes words.now ≡ names ++ more → IsSomeAnd result (λ r. lexemes r.now ≡ more) }
+    ensures found { IfSome result
+        (λ r. StandInFront AreNames (lexemes words.now) (lexemes r.now)) }
+    ensures only { EachCut AreNames (NotFirstWord WordClass.Plain)
+        (lexemes words.now) (Leaves result) }
 {
     let more = behind_name(words)?;
     Some(skip_names(more))
@@ -55,9 +54,7 @@ pub fn names_at(words: &[Token]) -> Option<&[Token]>
 fn behind_qualifier(words: &[Token]) -> Option<&[Token]>
     ensures found { IfSome result (λ r. (of name : Lexeme) × (word_class of ≡ WordClass.Of)
         × IsNameWord name × (lexemes words.now ≡ of ∷ (name ∷ lexemes r.now))) }
-    ensures only { (of name : Lexeme) (more : List Lexeme) → word_class of ≡ WordClass.Of
-        → IsNameWord name
-        → lexemes words.now ≡ of ∷ (name ∷ more) → IsSomeAnd result (λ r. lexemes r.now ≡ more) }
+    ensures only { SkipsQualifier (lexemes words.now) result }
 {
     let named = behind(words, WordClass::Of)?;
     let rest = behind_name(named)?;
@@ -90,11 +87,10 @@ fn front(words: &[Token], behind: usize) -> &[Token]
 
 /// DEPENDING ON and a name with its qualifiers, and what is behind them.
 pub fn count_at(words: &[Token]) -> Option<(Count<'_>, &[Token])>
-    ensures found { IfSome result (λ r. (ws : List Lexeme)
-        × IsDependingOn (written_name r.0) ws × (lexemes words.now ≡ ws ++ lexemes r.1.now)) }
-    ensures only { (name : WrittenName) (ws more : List Lexeme)
-        → IsDependingOn name ws → NotFirstWord WordClass.Of more → lexemes words.now ≡ ws ++ more
-        → IsSomeAnd result (λ r. (written_name r.0 ≡ name) × (lexemes r.1.now ≡ more)) }
+    ensures found { IfSome result
+        (λ r. StandInFront (IsDependingOn (written_name r.0)) (lexemes words.now) (lexemes r.1.now)) }
+    ensures only { (name : WrittenName) → EachCut (IsDependingOn name) (NotFirstWord WordClass.Of)
+        (lexemes words.now) (Answers written_name result name) }
 {
     let depending = behind(words, WordClass::Depending)?;
     let on = skip(depending, WordClass::On);

@@ -1,4 +1,5 @@
 ghost use Rattle.cob_copybook_clauses.specs.Entries.{
+  FirstSentence,
   HasNoStop,
   IsCondition,
   IsLeftOut,
@@ -59,8 +60,8 @@ fn sentence_len(tokens: &[Token]) -> usize
 
 /// The words up to the first Stop, and what stands behind it.
 pub fn sentence_at(tokens: &[Token]) -> Option<(&[Token], &[Token])>
-    ensures found { IfSome result (λ r. (stop : Lexeme) × (stop.kind ≡ kind.Stop) × HasNoStop
-        (lexemes r.0.now) × (lexemes tokens.now ≡ lexemes r.0.now ++ stop ∷ lexemes r.1.now)) }
+    ensures found { IfSome result
+        (λ r. FirstSentence (lexemes r.0.now) (lexemes tokens.now) (lexemes r.1.now)) }
     ensures none { IfNone result (HasNoStop (lexemes tokens.now)) }
 {
     let (sentence, rest) = tokens.split_at(sentence_len(tokens));

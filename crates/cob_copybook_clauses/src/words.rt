@@ -8,7 +8,7 @@ ghost use Rattle.cob_copybook_clauses.specs.Clauses.{
   IsWord,
   IsOptionalWord,
 };
-ghost use Rattle.cob_copybook_clauses.specs.Reading.{NotFirstWord};
+ghost use Rattle.cob_copybook_clauses.specs.Reading.{AnswersText, EachCut, EachCutNeither, NotFirstWord, StandInFront};
 ghost use Rattle.cob_copybook_clauses.specs.Terms.{word_class};
 ghost use Rattle.cob_source.specs.Tokens.{Lexeme, lexeme, lexemes};
 ghost use Rattle.std.specs.Prelude.{
@@ -73,10 +73,9 @@ pub fn behind(words: &[Token], term: WordClass) -> Option<&[Token]>
 
 /// The words without the optional one in front.
 pub fn skip(words: &[Token], term: WordClass) -> &[Token]
-    ensures found { (noise : List Lexeme)
-        × IsOptionalWord term noise × (lexemes words.now ≡ noise ++ lexemes result.now) }
-    ensures only { (noise more : List Lexeme) → IsOptionalWord term noise
-        → NotFirstWord term more → lexemes words.now ≡ noise ++ more → lexemes result.now ≡ more }
+    ensures found { StandInFront (IsOptionalWord term) (lexemes words.now) (lexemes result.now) }
+    ensures only { EachCut (IsOptionalWord term) (NotFirstWord term)
+        (lexemes words.now) (λ more. lexemes result.now ≡ more) }
 {
     match behind(words, term) {
         Some(more) => more,
@@ -86,11 +85,9 @@ pub fn skip(words: &[Token], term: WordClass) -> &[Token]
 
 /// The words without the first, if it is one of two.
 pub fn skip_is_or_are(words: &[Token]) -> &[Token]
-    ensures found { (noise : List Lexeme)
-        × IsOrAre noise × (lexemes words.now ≡ noise ++ lexemes result.now) }
-    ensures only { (noise more : List Lexeme) → IsOrAre noise → NotFirstWord WordClass.Is more
-        → NotFirstWord WordClass.Are more → lexemes words.now ≡ noise ++ more
-        → lexemes result.now ≡ more }
+    ensures found { StandInFront IsOrAre (lexemes words.now) (lexemes result.now) }
+    ensures only { EachCutNeither IsOrAre WordClass.Is WordClass.Are
+        (lexemes words.now) (λ more. lexemes result.now ≡ more) }
 {
     match behind(words, WordClass::Is) {
         Some(more) => more,
@@ -100,11 +97,9 @@ pub fn skip_is_or_are(words: &[Token]) -> &[Token]
 
 /// The words behind this one and IS, which may both be absent, but IS stands only behind it.
 pub fn skip_prefix(words: &[Token], term: WordClass) -> &[Token]
-    ensures found { (before : List Lexeme)
-        × IsPrefix term before × (lexemes words.now ≡ before ++ lexemes result.now) }
-    ensures only { (before more : List Lexeme) → IsPrefix term before → NotFirstWord term more
-        → NotFirstWord WordClass.Is more → lexemes words.now ≡ before ++ more
-        → lexemes result.now ≡ more }
+    ensures found { StandInFront (IsPrefix term) (lexemes words.now) (lexemes result.now) }
+    ensures only { EachCutNeither (IsPrefix term) term WordClass.Is
+        (lexemes words.now) (λ more. lexemes result.now ≡ more) }
 {
     match behind(words, term) {
         Some(more) => skip(more, WordClass::Is),
@@ -117,8 +112,7 @@ pub fn word_at(words: &[Token]) -> Option<(&[u8], &[Token])>
     ensures found { IfSome result
         (λ r. (w : Lexeme) × IsWord r.0.now w × (lexemes words.now ≡ w ∷ lexemes r.1.now)) }
     ensures only { (text : List ℕ) (w : Lexeme) (more : List Lexeme)
-        → IsWord text w → lexemes words.now ≡ w ∷ more
-        → IsSomeAnd result (λ r. (r.0.now ≡ text) × (lexemes r.1.now ≡ more)) }
+        → IsWord text w → lexemes words.now ≡ w ∷ more → AnswersText result text more }
 {
     let (first, more) = words.split_first()?;
     if !is_word(first) {
@@ -133,7 +127,7 @@ pub fn other_word_at(words: &[Token], term: WordClass) -> Option<(&[u8], &[Token
         × IsWord r.0.now w × (word_class w ≢ term) × (lexemes words.now ≡ w ∷ lexemes r.1.now)) }
     ensures only { (text : List ℕ) (w : Lexeme) (more : List Lexeme)
         → IsWord text w → word_class w ≢ term → lexemes words.now ≡ w ∷ more
-        → IsSomeAnd result (λ r. (r.0.now ≡ text) × (lexemes r.1.now ≡ more)) }
+        → AnswersText result text more }
 {
     let (first, more) = words.split_first()?;
     if !is_word(first) || is_term(first, term) {
@@ -147,8 +141,7 @@ pub fn free_at(words: &[Token]) -> Option<(&[u8], &[Token])>
     ensures found { IfSome result
         (λ r. (w : Lexeme) × IsFree r.0.now w × (lexemes words.now ≡ w ∷ lexemes r.1.now)) }
     ensures only { (text : List ℕ) (w : Lexeme) (more : List Lexeme)
-        → IsFree text w → lexemes words.now ≡ w ∷ more
-        → IsSomeAnd result (λ r. (r.0.now ≡ text) × (lexemes r.1.now ≡ more)) }
+        → IsFree text w → lexemes words.now ≡ w ∷ more → AnswersText result text more }
 {
     let (first, more) = words.split_first()?;
     if !is_term(first, WordClass::Plain) {

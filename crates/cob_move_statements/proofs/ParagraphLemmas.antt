@@ -16,6 +16,7 @@ use Rattle.cob_move_statements.specs.declared.fault.MoveRule.{MoveRule}
 use Rattle.cob_move_statements.specs.declared.fault.MoveRule.TheVariants as rule
 use Rattle.cob_move_statements.specs.Written.{WrittenAction, WrittenStatement}
 use Rattle.cob_move_statements.specs.Statements.{EndsReferences, FollowsStatements, EndsStatement, IsBody, IsEnd, IsHeading, IsLineIn, IsLineOf, IsParagraph, IsEndedStatement, IsPeriod, BreaksOff, NoName, NoPeriod, Several, StatementsStand, StatementStands, first_line}
+use Rattle.cob_move_statements.specs.Reading.{Refused}
 use Rattle.cob_move_statements.proofs.Runs.{IsRun, SoFar, begins, goes_on, ends_found, ends_only}
 
 pub same_statement : (x : WrittenStatement) (line : ℕ) (action : WrittenAction) → line ≡ x.line → action ≡ x.action → record { line = line; action = action } ≡ x
@@ -183,10 +184,6 @@ some_left ws b e is none =
     cc
 
 -- ---- refusals
-
--- for want of memory, or no statements are so
-abbrev Refused : (List WrittenStatement → Type 0) → MoveFault → Type 0
-Refused Is f = (f.rule ≡ rule.Memory) ⊎ ((f.rule ≡ rule.Grammar) × ((ss : List WrittenStatement) → Is ss → ⊥))
 
 by_memory : (Is : List WrittenStatement → Type 0) (f : MoveFault) (ss : List WrittenStatement) → Is ss → Refused Is f → f.rule ≡ rule.Memory
 by_memory Is f ss is (inl memory) = memory

@@ -1,4 +1,5 @@
 pub mod Faults
 pub mod Written
 pub mod Statements
+pub mod Reading
 pub mod Laws

@@ -9,6 +9,8 @@ ghost use Rattle.cob_move_statements.specs.Written.{
   written_action,
   written_reference,
 };
+ghost use Rattle.cob_copybook_clauses.specs.Reading.{EachCut, StandInFront};
+ghost use Rattle.cob_move_statements.specs.Reading.{AnswersBoth, OkAnswers};
 ghost use Rattle.cob_move_statements.specs.Statements.{EndsReferences, FitsReference, IsAction};
 
 use crate::parts::{Action, Reference};
@@ -20,14 +22,11 @@ use std::alloc::{AllocError, Global};
 
 /// CORRESPONDING in front, its two references, and what is behind them.
 fn corresponding_at(words: &[Token]) -> Option<(Reference<'_>, Reference<'_>, &[Token])>
-    ensures found { IfSome result (λ r. (ws : List Lexeme)
-        × IsAction (MoveCorresponding (written_reference r.0) (written_reference r.1)) ws
-        × (lexemes words.now ≡ ws ++ lexemes r.2.now)) }
-    ensures only { (from to : WrittenReference) (ws more : List Lexeme)
-        → IsAction (MoveCorresponding from to) ws → FitsReference more
-        → lexemes words.now ≡ ws ++ more
-        → IsSomeAnd result (λ r. (written_reference r.0 ≡ from) × (written_reference r.1 ≡ to)
-        × (lexemes r.2.now ≡ more)) }
+    ensures found { IfSome result (λ r. StandInFront
+        (IsAction (MoveCorresponding (written_reference r.0) (written_reference r.1)))
+        (lexemes words.now) (lexemes r.2.now)) }
+    ensures only { (from to : WrittenReference) → EachCut (IsAction (MoveCorresponding from to))
+        FitsReference (lexemes words.now) (AnswersBoth result from to) }
 {
     let sent = behind(words, WordClass::Corresponding)?;
     let (from, received) = reference_to_at(sent)?;
@@ -41,12 +40,11 @@ fn corresponding_at(words: &[Token]) -> Option<(Reference<'_>, Reference<'_>, &[
 ///
 /// Memory was refused.
 fn move_at(alloc: Global, words: &[Token]) -> Result<Option<(Action<'_>, &[Token])>, AllocError>
-    ensures found { IfOk result (λ o. IfSome o (λ r. (ws : List Lexeme)
-        × IsAction (written_action r.0) ws × (lexemes words.now ≡ ws ++ lexemes r.1.now))) }
-    ensures only { (s : WrittenSender) (rs : List WrittenReference) (ws more : List Lexeme)
-        → IsAction (MoveTo s rs) ws → EndsReferences more → lexemes words.now ≡ ws ++ more
-        → IfOk result (λ o. IsSomeAnd o (λ r. (written_action r.0 ≡ MoveTo s rs)
-        × (lexemes r.1.now ≡ more))) }
+    ensures found { IfOk result (λ o. IfSome o (λ r. StandInFront
+        (IsAction (written_action r.0)) (lexemes words.now) (lexemes r.1.now))) }
+    ensures only { (s : WrittenSender) (rs : List WrittenReference)
+        → EachCut (IsAction (MoveTo s rs)) EndsReferences (lexemes words.now)
+        (OkAnswers written_action result (MoveTo s rs)) }
 {
     let Some((sender, received)) = sender_to_at(words) else {
         return Ok(None);
@@ -67,12 +65,10 @@ pub fn action_at(
     alloc: Global,
     words: &[Token],
 ) -> Result<Option<(Action<'_>, &[Token])>, AllocError>
-    ensures found { IfOk result (λ o. IfSome o (λ r. (ws : List Lexeme)
-        × IsAction (written_action r.0) ws × (lexemes words.now ≡ ws ++ lexemes r.1.now))) }
-    ensures only { (x : WrittenAction) (ws more : List Lexeme) → IsAction x ws
-        → EndsReferences more → lexemes words.now ≡ ws ++ more
-        → IfOk result (λ o. IsSomeAnd o (λ r. (written_action r.0 ≡ x)
-        × (lexemes r.1.now ≡ more))) }
+    ensures found { IfOk result (λ o. IfSome o (λ r. StandInFront
+        (IsAction (written_action r.0)) (lexemes words.now) (lexemes r.1.now))) }
+    ensures only { (x : WrittenAction) → EachCut (IsAction x) EndsReferences (lexemes words.now)
+        (OkAnswers written_action result x) }
 {
     if let Some((from, to, more)) = corresponding_at(words) {
         return Ok(Some((Action::Corresponding { from, to }, more)));

@@ -18,6 +18,8 @@ ghost use Rattle.cob_copybook_clauses.specs.Terms.{word_class};
 ghost use Rattle.cob_copybook_clauses.specs.declared.term.WordClass.TheVariants as term;
 ghost use Rattle.cob_source.specs.Tokens.{Lexeme, lexeme, lexemes};
 ghost use Rattle.cob_move_statements.specs.Written.{WrittenStatement, written_statements, written_statement};
+ghost use Rattle.cob_copybook_clauses.specs.Reading.{Answers, EachCut, Leaves, StandInFront};
+ghost use Rattle.cob_move_statements.specs.Reading.{IsOrLacksMemory, OkAnswers, Refused};
 ghost use Rattle.cob_move_statements.specs.Statements.{
   EndsReferences,
   EndsStatement,
@@ -84,8 +86,7 @@ fn move_line_at(words: &[Token]) -> Option<(u32, &[Token])>
     ensures found { IfSome result (λ r. (w : Lexeme) × (word_class w ≡ term.Move) × (r.0 ≡ w.line)
         × (lexemes words.now ≡ w ∷ lexemes r.1.now)) }
     ensures only { (w : Lexeme) (more : List Lexeme) → word_class w ≡ term.Move
-        → lexemes words.now ≡ w ∷ more → IsSomeAnd result (λ r. (r.0 ≡ w.line)
-        × (lexemes r.1.now ≡ more)) }
+        → lexemes words.now ≡ w ∷ more → Answers (λ line. line) result w.line more }
 {
     let (first, more) = words.split_first()?;
     if !is_term(first, WordClass::Move) {
@@ -103,12 +104,10 @@ fn statement_at(
     alloc: Global,
     words: &[Token],
 ) -> Result<Option<(Statement<'_>, &[Token])>, AllocError>
-    ensures found { IfOk result (λ o. IfSome o (λ r. (ws : List Lexeme)
-        × IsStatement (written_statement r.0) ws × (lexemes words.now ≡ ws ++ lexemes r.1.now))) }
-    ensures only { (x : WrittenStatement) (ws more : List Lexeme) → IsStatement x ws
-        → EndsReferences more → lexemes words.now ≡ ws ++ more
-        → IfOk result (λ o. IsSomeAnd o (λ r. (written_statement r.0 ≡ x)
-        × (lexemes r.1.now ≡ more))) }
+    ensures found { IfOk result (λ o. IfSome o (λ r. StandInFront
+        (IsStatement (written_statement r.0)) (lexemes words.now) (lexemes r.1.now))) }
+    ensures only { (x : WrittenStatement) → EachCut (IsStatement x) EndsReferences
+        (lexemes words.now) (OkAnswers written_statement result x) }
 {
     let Some((line, moved)) = move_line_at(words) else {
         return Ok(None);
@@ -141,9 +140,7 @@ fn ended_statement_at(
     ensures found { IfOk result (λ o. IfSome o
         (λ r. StatementStands (written_statement r.0) (lexemes words.now) (lexemes r.1.now))) }
     ensures only { (x : WrittenStatement) (more : List Lexeme)
-        → StatementStands x (lexemes words.now) more
-        → IfOk result (λ o. IsSomeAnd o (λ r. (written_statement r.0 ≡ x)
-        × (lexemes r.1.now ≡ more))) }
+        → StatementStands x (lexemes words.now) more → OkAnswers written_statement result x more }
 {
     let Some((statement, more)) = statement_at(alloc, words)? else {
         return Ok(None);
@@ -179,8 +176,8 @@ fn ended_statements(alloc: Global, words: &[Token]) -> Result<Vec<Statement<'_>>
         (λ v. Several IsEndedStatement (written_statements v.items) (lexemes words.now)) }
     ensures only { (ss : List WrittenStatement) → Several IsEndedStatement ss (lexemes words.now)
         → IfOk result (λ v. written_statements v.items ≡ ss) }
-    ensures fault { IfErr result (λ f. (f.rule ≡ MoveRule.Memory) ⊎ ((f.rule ≡ MoveRule.Grammar)
-        × ((ss : List WrittenStatement) → Several IsEndedStatement ss (lexemes words.now) → ⊥))) }
+    ensures fault { IfErr result
+        (Refused (λ ss. Several IsEndedStatement ss (lexemes words.now))) }
     ensures line { IfErr result (λ f. IsLineIn f.rule f.line (lexemes words.now)) }
 {
     let mut statements = Vec::new(alloc);
@@ -200,7 +197,7 @@ fn heading_at(words: &[Token]) -> Option<&[Token]>
     ensures found { IfSome result (λ r. (name stop : Lexeme) × IsNameWord name × IsPeriod stop
         × (lexemes words.now ≡ name ∷ (stop ∷ lexemes r.now))) }
     ensures only { (name stop : Lexeme) (more : List Lexeme) → IsNameWord name → IsPeriod stop
-        → lexemes words.now ≡ name ∷ (stop ∷ more) → IsSomeAnd result (λ r. lexemes r.now ≡ more) }
+        → lexemes words.now ≡ name ∷ (stop ∷ more) → Leaves result more }
 {
     let (first, named) = words.split_first()?;
     if !is_name_word(first) {
@@ -233,11 +230,9 @@ pub fn statements(alloc: Global, words: &[Token]) -> Result<Vec<Statement<'_>>, 
         (λ v. IsParagraph (lexemes words.now) (written_statements v.items)) }
     // The words of a paragraph are read, memory aside, and mean nothing else.
     ensures only { (ss : List WrittenStatement) → IsParagraph (lexemes words.now) ss
-        → IfOk result (λ v. written_statements v.items ≡ ss)
-        × IfErr result (λ f. f.rule ≡ MoveRule.Memory) }
+        → IsOrLacksMemory (λ v. written_statements v.items ≡ ss) result }
     // A refusal is for want of memory, or the words are no paragraph.
-    ensures fault { IfErr result (λ f. (f.rule ≡ MoveRule.Memory) ⊎ ((f.rule ≡ MoveRule.Grammar)
-        × ((ss : List WrittenStatement) → IsParagraph (lexemes words.now) ss → ⊥))) }
+    ensures fault { IfErr result (Refused (IsParagraph (lexemes words.now))) }
     // It names the line where no statement begins, 1 where no word is left there, and 0 for memory.
     ensures line { IfErr result (λ f. IsLineOf f.rule f.line (lexemes words.now)) }
 {

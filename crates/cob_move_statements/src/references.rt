@@ -1,7 +1,7 @@
 ghost use Rattle.std.specs.Prelude.{◌≡◌, List, ℕ, ◌∷◌, ◌++◌, IfOk, IfSome, IsSomeAnd};
 ghost use Rattle.cob_source.specs.Tokens.{Lexeme, lexemes};
 ghost use Rattle.cob_copybook_clauses.specs.Clauses.{IsNameWord};
-ghost use Rattle.cob_copybook_clauses.specs.Reading.{NotFirstWord};
+ghost use Rattle.cob_copybook_clauses.specs.Reading.{Answers, AnswersText, EachCutNeither, StandInFront};
 ghost use Rattle.cob_copybook_clauses.specs.declared.term.WordClass.TheVariants as term;
 ghost use Rattle.cob_move_statements.specs.Written.{WrittenReference, written_reference, written_references};
 ghost use Rattle.cob_move_statements.specs.Statements.{EndsReferences, IsReference, Several};
@@ -17,7 +17,7 @@ fn name_at(words: &[Token]) -> Option<(&[u8], &[Token])>
     ensures found { IfSome result (λ r. (w : Lexeme) × IsNameWord w × (w.text ≡ r.0.now)
         × (lexemes words.now ≡ w ∷ lexemes r.1.now)) }
     ensures only { (w : Lexeme) (more : List Lexeme) → IsNameWord w → lexemes words.now ≡ w ∷ more
-        → IsSomeAnd result (λ r. (r.0.now ≡ w.text) × (lexemes r.1.now ≡ more)) }
+        → AnswersText result w.text more }
 {
     let (first, more) = words.split_first()?;
     if !is_name_word(first) {
@@ -28,12 +28,10 @@ fn name_at(words: &[Token]) -> Option<(&[u8], &[Token])>
 
 /// The reference in front, and what is behind it.
 pub fn reference_at(words: &[Token]) -> Option<(Reference<'_>, &[Token])>
-    ensures found { IfSome result (λ r. (ws : List Lexeme)
-        × IsReference (written_reference r.0) ws × (lexemes words.now ≡ ws ++ lexemes r.1.now)) }
-    ensures only { (x : WrittenReference) (ws more : List Lexeme) → IsReference x ws
-        → NotFirstWord term.Of more → NotFirstWord term.OpenBracket more
-        → lexemes words.now ≡ ws ++ more
-        → IsSomeAnd result (λ r. (written_reference r.0 ≡ x) × (lexemes r.1.now ≡ more)) }
+    ensures found { IfSome result
+        (λ r. StandInFront (IsReference (written_reference r.0)) (lexemes words.now) (lexemes r.1.now)) }
+    ensures only { (x : WrittenReference) → EachCutNeither (IsReference x) term.Of term.OpenBracket
+        (lexemes words.now) (Answers written_reference result x) }
 {
     let (name, named) = name_at(words)?;
     let (qualifiers, rest) = qualifiers_at(named);
@@ -57,9 +55,8 @@ pub fn references_at<'a>(
     alloc: Global,
     words: &'a [Token],
 ) -> Result<(Vec<Reference<'a>>, &'a [Token]), AllocError>
-    ensures found { IfOk result (λ r. (ws : List Lexeme)
-        × Several IsReference (written_references r.0.items) ws
-        × (lexemes words.now ≡ ws ++ lexemes r.1.now)) }
+    ensures found { IfOk result (λ r. StandInFront
+        (Several IsReference (written_references r.0.items)) (lexemes words.now) (lexemes r.1.now)) }
     ensures only { (xs : List WrittenReference) (ws more : List Lexeme)
         → Several IsReference xs ws → EndsReferences more → lexemes words.now ≡ ws ++ more
         → IfOk result (λ r. (written_references r.0.items ≡ xs) × (lexemes r.1.now ≡ more)) }

@@ -1,6 +1,7 @@
 ghost use Rattle.std.specs.Prelude.{◌≡◌, List, ◌∷◌, ◌++◌, IfSome, IsFalse, IsSomeAnd, IsTrue, false};
 ghost use Rattle.cob_source.specs.Tokens.{Lexeme, lexemes};
-ghost use Rattle.cob_copybook_clauses.specs.Reading.{NotFirstWord};
+ghost use Rattle.cob_copybook_clauses.specs.Reading.{Answers, EachCutNeither, StandInFront};
+ghost use Rattle.cob_move_statements.specs.Reading.{EachCutAtTo, StandBeforeTo};
 ghost use Rattle.cob_copybook_clauses.specs.Terms.{word_class};
 ghost use Rattle.cob_copybook_clauses.specs.declared.term.WordClass.TheVariants as term;
 ghost use Rattle.cob_copybook_clauses.specs.Written.{written_value};
@@ -27,12 +28,10 @@ fn begins_with_name(words: &[Token]) -> bool
 /// The entry in front that is sent, and what is behind it.
 fn sent_entry_at(words: &[Token]) -> Option<(StatementSender<'_>, &[Token])>
     requires { NameFirst (lexemes words.now) }
-    ensures found { IfSome result (λ r. (ws : List Lexeme)
-        × IsWrittenSender (written_sender r.0) ws × (lexemes words.now ≡ ws ++ lexemes r.1.now)) }
-    ensures only { (x : WrittenSender) (ws more : List Lexeme) → IsWrittenSender x ws
-        → NotFirstWord term.Of more → NotFirstWord term.OpenBracket more
-        → lexemes words.now ≡ ws ++ more
-        → IsSomeAnd result (λ r. (written_sender r.0 ≡ x) × (lexemes r.1.now ≡ more)) }
+    ensures found { IfSome result
+        (λ r. StandInFront (IsWrittenSender (written_sender r.0)) (lexemes words.now) (lexemes r.1.now)) }
+    ensures only { (x : WrittenSender) → EachCutNeither (IsWrittenSender x) term.Of term.OpenBracket
+        (lexemes words.now) (Answers written_sender result x) }
 {
     let (reference, more) = reference_at(words)?;
     Some((StatementSender::Reference(reference), more))
@@ -52,12 +51,10 @@ fn is_literal_or_figurative(constant: &ValueClause<'_>) -> bool
 /// The constant in front that is sent, and what is behind it.
 fn sent_constant_at(words: &[Token]) -> Option<(StatementSender<'_>, &[Token])>
     requires { NoName (lexemes words.now) }
-    ensures found { IfSome result (λ r. (ws : List Lexeme)
-        × IsWrittenSender (written_sender r.0) ws × (lexemes words.now ≡ ws ++ lexemes r.1.now)) }
-    ensures only { (x : WrittenSender) (ws more : List Lexeme) → IsWrittenSender x ws
-        → NotFirstWord term.Of more → NotFirstWord term.OpenBracket more
-        → lexemes words.now ≡ ws ++ more
-        → IsSomeAnd result (λ r. (written_sender r.0 ≡ x) × (lexemes r.1.now ≡ more)) }
+    ensures found { IfSome result
+        (λ r. StandInFront (IsWrittenSender (written_sender r.0)) (lexemes words.now) (lexemes r.1.now)) }
+    ensures only { (x : WrittenSender) → EachCutNeither (IsWrittenSender x) term.Of term.OpenBracket
+        (lexemes words.now) (Answers written_sender result x) }
 {
     let (constant, more) = constant_at(words)?;
     if !is_literal_or_figurative(&constant) {
@@ -68,12 +65,10 @@ fn sent_constant_at(words: &[Token]) -> Option<(StatementSender<'_>, &[Token])>
 
 /// The sender in front, and what is behind it.
 pub fn sender_at(words: &[Token]) -> Option<(StatementSender<'_>, &[Token])>
-    ensures found { IfSome result (λ r. (ws : List Lexeme)
-        × IsWrittenSender (written_sender r.0) ws × (lexemes words.now ≡ ws ++ lexemes r.1.now)) }
-    ensures only { (x : WrittenSender) (ws more : List Lexeme) → IsWrittenSender x ws
-        → NotFirstWord term.Of more → NotFirstWord term.OpenBracket more
-        → lexemes words.now ≡ ws ++ more
-        → IsSomeAnd result (λ r. (written_sender r.0 ≡ x) × (lexemes r.1.now ≡ more)) }
+    ensures found { IfSome result
+        (λ r. StandInFront (IsWrittenSender (written_sender r.0)) (lexemes words.now) (lexemes r.1.now)) }
+    ensures only { (x : WrittenSender) → EachCutNeither (IsWrittenSender x) term.Of term.OpenBracket
+        (lexemes words.now) (Answers written_sender result x) }
 {
     if begins_with_name(words) {
         sent_entry_at(words)
@@ -84,12 +79,10 @@ pub fn sender_at(words: &[Token]) -> Option<(StatementSender<'_>, &[Token])>
 
 /// The sender in front of TO, and what is behind TO.
 pub fn sender_to_at(words: &[Token]) -> Option<(StatementSender<'_>, &[Token])>
-    ensures found { IfSome result (λ r. (ws : List Lexeme) × (to : Lexeme)
-        × IsWrittenSender (written_sender r.0) ws × (word_class to ≡ term.To)
-        × (lexemes words.now ≡ ws ++ to ∷ lexemes r.1.now)) }
-    ensures only { (x : WrittenSender) (ws more : List Lexeme) (to : Lexeme)
-        → IsWrittenSender x ws → word_class to ≡ term.To → lexemes words.now ≡ ws ++ to ∷ more
-        → IsSomeAnd result (λ r. (written_sender r.0 ≡ x) × (lexemes r.1.now ≡ more)) }
+    ensures found { IfSome result (λ r. StandBeforeTo
+        (IsWrittenSender (written_sender r.0)) (lexemes words.now) (lexemes r.1.now)) }
+    ensures only { (x : WrittenSender) → EachCutAtTo (IsWrittenSender x)
+        (lexemes words.now) (Answers written_sender result x) }
 {
     let (sender, rest) = sender_at(words)?;
     let more = behind(rest, WordClass::To)?;
@@ -98,12 +91,10 @@ pub fn sender_to_at(words: &[Token]) -> Option<(StatementSender<'_>, &[Token])>
 
 /// The reference in front of TO, and what is behind TO.
 pub fn reference_to_at(words: &[Token]) -> Option<(Reference<'_>, &[Token])>
-    ensures found { IfSome result (λ r. (ws : List Lexeme) × (to : Lexeme)
-        × IsReference (written_reference r.0) ws × (word_class to ≡ term.To)
-        × (lexemes words.now ≡ ws ++ to ∷ lexemes r.1.now)) }
-    ensures only { (x : WrittenReference) (ws more : List Lexeme) (to : Lexeme) → IsReference x ws
-        → word_class to ≡ term.To → lexemes words.now ≡ ws ++ to ∷ more
-        → IsSomeAnd result (λ r. (written_reference r.0 ≡ x) × (lexemes r.1.now ≡ more)) }
+    ensures found { IfSome result (λ r. StandBeforeTo
+        (IsReference (written_reference r.0)) (lexemes words.now) (lexemes r.1.now)) }
+    ensures only { (x : WrittenReference) → EachCutAtTo (IsReference x)
+        (lexemes words.now) (Answers written_reference result x) }
 {
     let (reference, rest) = reference_at(words)?;
     let more = behind(rest, WordClass::To)?;

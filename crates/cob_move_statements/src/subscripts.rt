@@ -5,7 +5,8 @@ ghost use Rattle.cob_source.specs.Tokens.{Lexeme, lexeme, lexemes};
 ghost use Rattle.cob_copybook_clauses.specs.declared.term.WordClass.TheVariants as term;
 ghost use Rattle.cob_move_statements.specs.Written.{word_texts};
 ghost use Rattle.cob_move_statements.specs.Statements.{AreSubscripts, IsBracketed, IsNumeral};
-ghost use Rattle.cob_copybook_clauses.specs.Reading.{NotFirstWord};
+ghost use Rattle.cob_copybook_clauses.specs.Reading.{Answers, EachCut, NotFirstWord, StandInFront};
+ghost use Rattle.cob_move_statements.specs.Reading.{BracketsInFront, Splits};
 
 use cob_copybook_clauses::{WordClass, behind, is_term};
 use cob_decimal::are_digits;
@@ -47,8 +48,7 @@ fn numerals_at(words: &[Token]) -> (&[Token], &[Token])
     ensures are { AllByRecursion IsNumeral (lexemes result.0.now) }
     ensures found { lexemes words.now ≡ lexemes result.0.now ++ lexemes result.1.now }
     ensures only { (ns more : List Lexeme) → AllByRecursion IsNumeral ns
-        → NotFirstWord term.Plain more → lexemes words.now ≡ ns ++ more
-        → (lexemes result.0.now ≡ ns) × (lexemes result.1.now ≡ more) }
+        → NotFirstWord term.Plain more → lexemes words.now ≡ ns ++ more → Splits result ns more }
 {
     let mut rest = words;
     while let Some(more) = behind_numeral(rest) {
@@ -59,12 +59,11 @@ fn numerals_at(words: &[Token]) -> (&[Token], &[Token])
 
 /// The words between the brackets in front, and what is behind them.
 fn bracketed_at(words: &[Token]) -> Option<(&[Token], &[Token])>
-    ensures found { IfSome result (λ r. (before after : Lexeme)
-        × IsBracketed before after (lexemes r.0.now)
-        × (lexemes words.now ≡ before ∷ (lexemes r.0.now ++ after ∷ lexemes r.1.now))) }
+    ensures found { IfSome result
+        (λ r. BracketsInFront (lexemes r.0.now) (lexemes words.now) (lexemes r.1.now)) }
     ensures only { (before after : Lexeme) (ns more : List Lexeme) → IsBracketed before after ns
         → lexemes words.now ≡ before ∷ (ns ++ after ∷ more)
-        → IsSomeAnd result (λ r. (lexemes r.0.now ≡ ns) × (lexemes r.1.now ≡ more)) }
+        → Answers (λ r. lexemes r.now) result ns more }
 {
     let inside = behind(words, WordClass::OpenBracket)?;
     let (numbers, rest) = numerals_at(inside);
@@ -77,12 +76,10 @@ fn bracketed_at(words: &[Token]) -> Option<(&[Token], &[Token])>
 
 /// The subscripts in front, or none, and what is behind them.
 pub fn subscripts_at(words: &[Token]) -> Option<(&[Token], &[Token])>
-    ensures found { IfSome result (λ r. (ws : List Lexeme)
-        × AreSubscripts (word_texts (lexemes r.0.now)) ws
-        × (lexemes words.now ≡ ws ++ lexemes r.1.now)) }
-    ensures only { (ts : List (List ℕ)) (ws more : List Lexeme) → AreSubscripts ts ws
-        → NotFirstWord term.OpenBracket more → lexemes words.now ≡ ws ++ more
-        → IsSomeAnd result (λ r. (word_texts (lexemes r.0.now) ≡ ts) × (lexemes r.1.now ≡ more)) }
+    ensures found { IfSome result (λ r. StandInFront
+        (AreSubscripts (word_texts (lexemes r.0.now))) (lexemes words.now) (lexemes r.1.now)) }
+    ensures only { (ts : List (List ℕ)) → EachCut (AreSubscripts ts) (NotFirstWord term.OpenBracket)
+        (lexemes words.now) (Answers (λ r. word_texts (lexemes r.now)) result ts) }
 {
     match words.split_first() {
         Some((first, _)) if is_term(first, WordClass::OpenBracket) => bracketed_at(words),
