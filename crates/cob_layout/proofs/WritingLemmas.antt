@@ -7,7 +7,7 @@ use Rattle.cob_layout.specs.declared.fields.Place.{Place}
 use Rattle.cob_layout.specs.Fields.{with_field}
 use Rattle.cob_layout_places.specs.declared.places.Found.{Found}
 use Rattle.cob_layout_places.specs.declared.varying.Table.{Table}
-use Rattle.cob_layout_places.specs.Counts.{tables_of, part_of, IsCounted, IsCountValue}
+use Rattle.cob_layout_places.specs.Counts.{tables_of, IsCounted, IsCountValue}
 use Rattle.cob_layout.specs.Counting.{greatest_counts}
 use Rattle.cob_layout.specs.Sound.{IsSound}
 use Rattle.cob_layout.specs.Kept.{IsIn, IsStoredCount, counted, StandsApart, WritesKeep}

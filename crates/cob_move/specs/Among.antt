@@ -2,7 +2,7 @@
 use Rattle.std.specs.Prelude.{◌≡◌, List, map, Result, IfErr, IfOk}
 use Rattle.std.specs.List.{AllByRecursion}
 use Rattle.cob_copybook_tree.specs.Forests.{Forest}
-use Rattle.cob_copybook_tree.specs.Nodes.{Resolved, tree_of}
+use Rattle.cob_copybook_tree.specs.Nodes.{Resolved}
 use Rattle.cob_layout_places.specs.declared.operands.Side.{Side}
 use Rattle.cob_layout_places.specs.declared.operands.Sender as code
 use Rattle.cob_layout_places.specs.declared.operands.Move as code_move
@@ -17,6 +17,7 @@ use Rattle.cob_move_statements.specs.declared.fault.MoveRule.TheVariants as rule
 use Rattle.cob_move_statements.specs.declared.parts.Reference.{Reference}
 use Rattle.cob_move_statements.specs.Written.{WrittenReference, WrittenSender, WrittenAction, WrittenStatement, MoveCorresponding, written_reference}
 use Rattle.cob_move_pairs.specs.declared.correspondences.Correspondences.{Correspondences}
+use Rattle.cob_move_pairs.specs.Found.{pairs_between}
 use Rattle.cob_move_pairs.specs.Pairs.{Pair}
 use Rattle.cob_move_references.specs.Candidates.{Candidate}
 use Rattle.cob_move_references.specs.Directory.{entries_named}
@@ -25,7 +26,7 @@ use Rattle.cob_move.specs.declared.corresponding.TwoGroups.{TwoGroups}
 use Rattle.cob_move.specs.declared.entries.Entries.{Entries}
 use Rattle.cob_move.specs.Between.{numbered}
 use Rattle.cob_move.specs.Entries.{records_of}
-use Rattle.cob_move.specs.Meaning.{AreMeanings, AreMeant, AreMovesOf, AreReceiversOf, IsMeaning, IsMoveOf, IsSenderOf, kind_of_sender, pairs_of}
+use Rattle.cob_move.specs.Meaning.{AreMeanings, AreMeant, AreMovesOf, AreReceiversOf, IsMeaning, IsMoveOf, IsSenderOf, kind_of_sender}
 use Rattle.cob_move.specs.Refusals.{BreaksOn, BreaksReceipt, BreaksStatement, SomeBroken}
 
 -- the entries that may be named
@@ -94,7 +95,7 @@ written_corresponding from to = MoveCorresponding (written_reference from) (writ
 
 -- the pairs of two groups of the records that are paired
 abbrev pub pairs_in : Correspondences → TwoGroups → List Pair
-pairs_in c g = pairs_of (tree_of c.input.now) (tree_of c.output.now) g
+pairs_in c g = pairs_between c g.side g.from.entry.node g.to.entry.node
 
 -- the moves are those of these pairs, below the entries of the groups
 abbrev pub KeepsPairs : TwoGroups → List Pair → PairMoves → Type 0

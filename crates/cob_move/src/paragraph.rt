@@ -96,7 +96,8 @@ impl Paragraph {
 
     /// The number of single moves, each of a sender to one of its receivers. More than a u32 holds come as the greatest u32.
     pub fn moves(&self) -> u32
-        ensures { (r : Records) → result ≡ min (single_moves (moves_in r self.now)) most_moves_told }
+        ensures { (r : Records)
+            → result ≡ min (single_moves (moves_in r self.now)) most_moves_told }
     {
         self.moves.single_moves()
     }
