@@ -1,4 +1,4 @@
-use Rattle.std.proofs.Common.{inl, map, refl}
+use Rattle.std.proofs.Common.{map, refl}
 use Rattle.std.proofs.lemmas.Result.{err_from_is_err_and}
 use Rattle.cob_move.specs.Between.{numbers_of}
 use Rattle.cob_move.specs.Refusals.{BreaksBetween}
