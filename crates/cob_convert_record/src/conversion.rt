@@ -12,7 +12,7 @@ use cob_codec::Reading;
 use cob_move_apply::{Book, Counts, Layout, Moves, Side, Stop, StopCause};
 use cob_move_initial::initial;
 use cob_records::{Form, Source};
-use cob_stream::{MeasureFault, Reason, measure, read_record, written_length};
+use cob_stream::{Reason, read_record, written_length};
 use std::alloc::{AllocError, Global};
 use std::marker::Model;
 
@@ -215,23 +215,6 @@ impl Conversion {
         ensures room { room.new ≡ room.old }
     {
         read_record(source, &self.input, self.in_form, slot, &mut room.in_counts)
-    }
-
-    /// Whether a record that came in a frame is one of the input layout. In form f no count is looked at.
-    /// It asks for no memory, which tests show.
-    ///
-    /// # Errors
-    ///
-    /// In form v a count of the record that isn't valid, or a length other than that which its counts give.
-    pub fn measure(&self, input: &[u8], room: &mut Room) -> Result<(), MeasureFault>
-        requires record { IsRecord self.now.in_form (in_length self.now) input.now }
-        requires room { room.old ≡ capacity_for self.now.records }
-        ensures sized { OnOk result (IsSized self.now.in_form self.now.records.input input.now) }
-        ensures misfit { IfErr result
-            (λ why. IsMeasureFault self.now.in_form self.now.records.input input.now why) }
-        ensures room { room.new ≡ room.old }
-    {
-        measure(&self.input, self.in_form, input, &mut room.in_counts)
     }
 
     /// Begins an output record: its storage holds its initial values, and nothing of a record before.

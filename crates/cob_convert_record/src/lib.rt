@@ -5,8 +5,8 @@
 //! output record begins from. What is promised:
 //!
 //! - [`Conversion::new`] keeps what it is given (its clause).
-//! - [`Conversion::next_input`] reads the next record that comes in and judges it by the input layout (`reads`, `judged`, `reason`, `cause`), and
-//!   [`Conversion::measure`] judges one that came whole (`sized`, `misfit`): both as `cob_stream` says it, in the form in which records come.
+//! - [`Conversion::next_input`] reads the next record that comes in and judges it by the input layout (`reads`, `judged`, `reason`, `cause`), as
+//!   `cob_stream` says it, in the form in which records come.
 //! - [`Conversion::convert`] makes the output record: its storage goes from the initial values through all moves, and then every count of the
 //!   output is valid; what is written is the whole storage in form f, and its current part in form v (`converts`, by `Becomes` of
 //!   specs/Becoming.antt). Nothing of an earlier record is left in it. It stops at the first move that stops, or behind all moves at the first

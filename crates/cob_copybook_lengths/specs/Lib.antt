@@ -3,3 +3,4 @@ pub mod Fitting
 pub mod Rules
 pub mod Short
 pub mod Values
+pub mod Greatest

@@ -7,6 +7,7 @@ ghost use Rattle.cob_copybook_tree.specs.Nodes.{node, forest};
 ghost use Rattle.cob_copybook_tree.specs.Lengths.{greatest_number, sum_of, whole_length};
 ghost use Rattle.cob_limits.specs.Limits.{longest_record};
 ghost use Rattle.cob_copybook_lengths.specs.Areas.{hold_varying, is_varying, Bears, FitsArea, MayFollow, AreAreas, ArePossible};
+ghost use Rattle.cob_copybook_lengths.specs.Greatest.{greatest_whole};
 ghost use Rattle.cob_copybook_lengths.specs.Short.{IsShortArea};
 
 use cob_copybook_tree::{Name, Node, ResolvedOccurs, whole_length};
@@ -63,19 +64,16 @@ fn bears(area: &[Node], name: &Name, level: u8) -> bool
 
 /// Whether an entry, with all its occurrences, is no longer than the first of an area.
 fn is_no_longer(entry: &Node, first: &Node) -> bool
-    requires { whole_length greatest_number (node first.now).top (node first.now).beneath ≤
-        longest_record }
-    ensures { IsTrue result ↔ (whole_length greatest_number (node entry.now).top
-        (node entry.now).beneath ≤ whole_length greatest_number (node first.now).top
-        (node first.now).beneath) }
+    requires { greatest_whole (node first.now) ≤ longest_record }
+    ensures { IsTrue result ↔ (greatest_whole (node entry.now)
+        ≤ greatest_whole (node first.now)) }
 {
     whole_length(entry) <= whole_length(first)
 }
 
 /// Whether an entry may redefine the area that the other one began.
 fn fits_area(first: &Node, entry: &Node) -> bool
-    requires { whole_length greatest_number (node first.now).top (node first.now).beneath ≤
-        longest_record }
+    requires { greatest_whole (node first.now) ≤ longest_record }
     ensures yes { IsTrue result → FitsArea (node first.now) (node entry.now) }
     ensures must { FitsArea (node first.now) (node entry.now) → IsTrue result }
 {

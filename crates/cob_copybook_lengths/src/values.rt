@@ -5,7 +5,8 @@ ghost use Rattle.std.specs.Option.{IsNone, is_some};
 ghost use Rattle.cob_entry.specs.Described.{plain_value};
 ghost use Rattle.cob_copybook_tree.specs.Nodes.{node, forest};
 ghost use Rattle.cob_copybook_tree.specs.Lengths.{greatest_number, element_length};
-ghost use Rattle.cob_copybook_lengths.specs.Values.{IsNumericValue, IsCharacterValue, IsValueFor, MayHaveValue, AreValues};
+ghost use Rattle.cob_copybook_lengths.specs.Values.{IsNumericValue, IsCharacterValue, MayHaveValue, AreValues};
+ghost use Rattle.cob_copybook_lengths.specs.Greatest.{TakesValue};
 
 use crate::fitting::fits_number;
 use cob_copybook_tree::{Figurative, Kind, Node, Value, element_length, is_number};
@@ -40,10 +41,8 @@ fn is_character_value(entry: &Node, value: &Value) -> bool
 
 /// Whether an entry takes the value.
 fn is_value_for(entry: &Node, value: &Value) -> bool
-    ensures yes { IsTrue result → IsValueFor (node entry.now).top.kind
-        (element_length greatest_number (node entry.now).top (node entry.now).beneath) (plain_value value.now) }
-    ensures must { IsValueFor (node entry.now).top.kind (element_length greatest_number
-        (node entry.now).top (node entry.now).beneath) (plain_value value.now) → IsTrue result }
+    ensures yes { IsTrue result → TakesValue (node entry.now) (plain_value value.now) }
+    ensures must { TakesValue (node entry.now) (plain_value value.now) → IsTrue result }
 {
     match &entry.kind {
         Kind::Item(item) if is_number(item) => is_numeric_value(&item.picture, value),

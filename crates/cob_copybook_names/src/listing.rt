@@ -4,7 +4,8 @@ ghost use Rattle.cob_copybook_tree.specs.Forests.{flat, entries_in};
 ghost use Rattle.cob_copybook_tree.specs.Branches.{forest_of};
 ghost use Rattle.cob_copybook_names.specs.Listed.{texts};
 ghost use Rattle.cob_copybook_names.specs.Naming.{with_name};
-ghost use Rattle.cob_copybook_names.specs.Entries.{bearer_at, bearer_of, bearers, entry_of};
+ghost use Rattle.cob_copybook_names.specs.Entries.{bearer_at, bearers, entry_of};
+ghost use Rattle.cob_copybook_names.specs.Listing.{ListsBearers};
 
 use crate::bearer::{Bearer, name_of, names_beneath};
 use cob_copybook_tree::{Branch, Entry};
@@ -39,8 +40,8 @@ fn list_entry<'a>(
         (λ v. texts v.items ≡ with_name (plain_entry entry.now).name (texts above.now)) }
     ensures length { OnOk result (length listed.new.items ≡ length listed.old.items + 1) }
     ensures bearers { OnOk result
-        (map bearer_of listed.new.items ≡ map bearer_of listed.old.items ++ bearer_at
-        (texts above.now) in_table (length listed.old.items) (plain_entry entry.now) ∷ []) }
+        (ListsBearers listed.old.items listed.new.items (bearer_at
+        (texts above.now) in_table (length listed.old.items) (plain_entry entry.now) ∷ [])) }
     ensures entries { OnOk result (map
         entry_of listed.new.items ≡ map entry_of listed.old.items ++ plain_entry entry.now ∷ []) }
 {
@@ -76,8 +77,8 @@ pub fn list_bearers<'a>(
     requires { length listed.old.items + entries_in (forest_of branches.now) ≤ 65535 }
     ensures length { OnOk result
         (length listed.new.items ≡ length listed.old.items + entries_in (forest_of branches.now)) }
-    ensures bearers { OnOk result (map bearer_of listed.new.items ≡ map bearer_of listed.old.items
-        ++ bearers (texts above.now) in_table (length listed.old.items) (forest_of branches.now)) }
+    ensures bearers { OnOk result (ListsBearers listed.old.items listed.new.items (bearers
+        (texts above.now) in_table (length listed.old.items) (forest_of branches.now))) }
     ensures entries { OnOk result (map entry_of
         listed.new.items ≡ map entry_of listed.old.items ++ flat (forest_of branches.now)) }
 {

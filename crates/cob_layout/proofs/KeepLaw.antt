@@ -18,7 +18,7 @@ use Rattle.cob_layout_places.specs.declared.varying.Table.{Table}
 use Rattle.cob_layout_places.specs.Lengths.{times}
 use Rattle.cob_layout_places.specs.Places.{place_of, also, begins, is_table, is_there, later, skipped}
 use Rattle.cob_layout_places.specs.Cover.{AreNumbered}
-use Rattle.cob_layout_places.specs.Counts.{tables_of, part_of, Taken}
+use Rattle.cob_layout_places.specs.Counts.{tables_of, bytes_at, Taken}
 use Rattle.cob_layout_places.specs.Needs.{Has}
 use Rattle.cob_layout_places.specs.Agree.{AgreeOnCounts, OnePlace, SameCounts}
 use Rattle.cob_layout_places.specs.Spots.{spots_of}
@@ -131,7 +131,7 @@ agree place t a field p spots d n m (x ∷ xs) c s are fits long among rise apar
     let stands : place_of (times c) x.count t 0 0 [] ≡ Some (first_element spots x.count) = here ∙ first in (
       λ found at.
           (let is : first_element spots x.count ≡ found = some_is (first_element spots x.count) found (place_of (times c) x.count t 0 0 []) stands at in
-          subst (λ (g : Found). part_of g a ≡ part_of g (with_field a p field)) is
+          subst (λ (g : Found). bytes_at g.offset g.length a ≡ bytes_at g.offset g.length (with_field a p field)) is
           (beside (spot_at spots x.count).offset (spot_at spots x.count).length p a field fits long apart.0)),
       λ v counted.
           (let same : taken.0 ≡ v = same_ok taken.0 v (one_counted t a x c (Ok taken.0) (Ok v) taken.1 counted) in

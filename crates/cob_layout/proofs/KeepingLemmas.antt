@@ -1,12 +1,11 @@
 -- Tables taken one after another, some of whose counts are kept.
-use Rattle.std.proofs.Common.{◌≡◌, ℕ, ◌+◌, ◌<◌, ◌≤◌, min, Bool, true, false, List, [], ◌∷◌, length, get_or, drop, Option, Some, None, refl, sym, ap, subst, ◌∙◌, arith, inl, inr, Ok, Err, Result}
+use Rattle.std.proofs.Common.{◌≡◌, ℕ, ◌+◌, ◌<◌, ◌≤◌, min, Bool, true, false, List, length, get_or, drop, Option, Some, None, refl, sym, ap, subst, arith, inl, inr, Ok, Err, Result}
 use Rattle.std.specs.Prelude.{MatchBool, slice_set}
 use Rattle.std.proofs.lemmas.List.{drop_all, drop_more}
 use Rattle.cob_copybook_tree.specs.Forests.{Forest}
 use Rattle.cob_copybook_tree.specs.Nodes.{Resolved}
 use Rattle.cob_layout_places.specs.declared.counts.CountFault.{CountFault}
 use Rattle.cob_layout_places.specs.declared.varying.Table.{Table}
-use Rattle.cob_layout_places.specs.Counts.{IsCounted}
 use Rattle.cob_layout.specs.Kept.{IsReadOne, TakenAnew, TakenBy, first_kept, others_kept}
 
 -- whatever the tables from place i on come to now, all come to from the counts before; m counts were read so far

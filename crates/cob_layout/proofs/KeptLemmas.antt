@@ -1,7 +1,6 @@
 -- Kept counts are those that are needed.
-use Rattle.std.proofs.Common.{◌≡◌, ◌⊎◌, ℕ, ◌+◌, ◌<◌, ◌≤◌, ◌&&◌, not, nat_lt, Bool, true, false, List, [], ◌∷◌, length, Option, Some, None, refl, sym, ap, subst, ◌∙◌, arith, inl, inr, Ok, Err, Result}
+use Rattle.std.proofs.Common.{◌≡◌, ◌⊎◌, ℕ, ◌+◌, ◌<◌, ◌≤◌, Bool, true, false, List, [], ◌∷◌, length, Option, Some, None, refl, sym, ap, subst, ◌∙◌, arith, inl, inr, Ok, Err, Result}
 use Rattle.std.specs.Prelude.{MatchBool, if◌then◌else◌, slice_index, slice_set}
-use Rattle.std.proofs.lemmas.Bool.{cases_lt}
 use Rattle.std.proofs.lemmas.Bool.Decides.{nat_tests}
 use Rattle.std.proofs.lemmas.List.{length-set}
 use Rattle.cob_copybook_tree.specs.Forests.{Forest, entries_in}
@@ -9,7 +8,7 @@ use Rattle.cob_copybook_tree.specs.Nodes.{Resolved}
 use Rattle.cob_layout_places.specs.declared.counts.CountFault.{CountFault}
 use Rattle.cob_layout_places.specs.declared.varying.Table.{Table}
 use Rattle.cob_layout_places.specs.Counts.{tables_of, IsCounted, Taken}
-use Rattle.cob_layout_places.specs.Needs.{Has, Needs, is_needed, is_read, keep}
+use Rattle.cob_layout_places.specs.Needs.{is_needed, is_read, keep}
 use Rattle.cob_layout_places.specs.Agree.{OnePlace}
 use Rattle.cob_layout_places.proofs.CountLemmas.{one_counted}
 use Rattle.cob_layout.specs.Counting.{greatest_counts}

@@ -1,16 +1,13 @@
 -- A place that meets the item of no kept count: its bytes change, and these counts stay.
-use Rattle.std.proofs.Common.{◌≡◌, ◌⊎◌, ℕ, ◌+◌, ◌<◌, ◌≤◌, List, [], length, Some, sym, subst, ◌∙◌, arith, Ok}
+use Rattle.std.proofs.Common.{◌≡◌, ◌⊎◌, ℕ, ◌+◌, ◌≤◌, List, length, subst, arith, Ok}
 use Rattle.std.specs.Prelude.{slice_index}
 use Rattle.cob_copybook_tree.specs.Forests.{Forest}
 use Rattle.cob_copybook_tree.specs.Nodes.{Resolved}
 use Rattle.cob_layout.specs.declared.fields.Place.{Place}
 use Rattle.cob_layout.specs.Fields.{with_field}
-use Rattle.cob_layout_places.specs.declared.places.Found.{Found}
 use Rattle.cob_layout_places.specs.declared.varying.Table.{Table}
-use Rattle.cob_layout_places.specs.Counts.{tables_of, part_of, IsCounted, IsCountValue}
-use Rattle.cob_layout.specs.Counting.{greatest_counts}
-use Rattle.cob_layout.specs.Sound.{IsSound}
-use Rattle.cob_layout.specs.Kept.{IsIn, IsStoredCount, counted, StandsApart, WritesKeep}
+use Rattle.cob_layout_places.specs.Counts.{IsCounted, IsCountValue}
+use Rattle.cob_layout.specs.Kept.{counted, WritesKeep}
 use Rattle.cob_layout.proofs.KeepLaw.{as_many_with, beside}
 use Rattle.cob_layout.proofs.NeedLemmas.{known}
 

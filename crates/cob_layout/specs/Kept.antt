@@ -1,5 +1,5 @@
 -- Counts of a storage that are kept.
-use Rattle.std.specs.Prelude.{◌≡◌, ◌⊎◌, ℕ, ◌+◌, ◌≤◌, Bool, true, false, MatchBool, MatchOption, List, [], ◌∷◌, Option, Some, None, Ok, Err, Result, length, if◌then◌else◌, slice_index, slice_set}
+use Rattle.std.specs.Prelude.{◌≡◌, ◌⊎◌, ℕ, ◌+◌, ◌≤◌, Bool, MatchBool, List, [], ◌∷◌, Option, Some, None, Ok, Err, Result, length, if◌then◌else◌, slice_index, slice_set}
 use Rattle.cob_copybook_tree.specs.Forests.{Forest}
 use Rattle.cob_copybook_tree.specs.Nodes.{Resolved}
 use Rattle.cob_layout_places.specs.declared.counts.CountFault.{CountFault}

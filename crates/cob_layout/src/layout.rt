@@ -7,11 +7,10 @@ ghost use Rattle.cob_copybook_tree.specs.Nodes.{tree_of};
 ghost use Rattle.cob_limits.specs.Limits.{longest_record};
 ghost use Rattle.cob_copybook.specs.Books.{IsRecordDescription};
 ghost use Rattle.cob_layout_places.specs.Lengths.{times};
-ghost use Rattle.cob_layout_places.specs.Places.{place_of};
 ghost use Rattle.cob_layout_places.specs.Cover.{IsCovered};
 ghost use Rattle.cob_copybook.specs.Bytes.{TakeBytes};
 ghost use Rattle.cob_layout_places.specs.References.{Refers};
-ghost use Rattle.cob_layout.specs.Placed.{placed};
+ghost use Rattle.cob_layout.specs.Placed.{placed, placed_under};
 ghost use Rattle.cob_layout.specs.Counting.{greatest_counts, AreGreatest, CountsOf, NeededOf};
 
 use crate::copy::copied;
@@ -207,8 +206,7 @@ impl Layout {
     /// A subscript is past the number of elements that its table has under these counts.
     pub fn place(&self, reference: &Ref, counts: &Counts) -> Result<Place, PlaceFault>
         requires refers { Refers reference.now.node reference.now.subscripts.items self.now }
-        ensures value { option_map placed (place_of (times counts.now) reference.now.node
-            self.now 0 0 reference.now.subscripts.items) ≡ Some result }
+        ensures value { placed_under counts.now self.now reference.now ≡ Some result }
         // An element that is there ends within the record's length under the same counts.
         ensures current { IfOk result
             (λ p. p.offset + p.length ≤ sum_of (times counts.now) self.now) }

@@ -3,11 +3,10 @@
 ghost use Rattle.std.specs.Prelude.{◌≡◌, ◌<◌, ◌≤◌, ◌+◌, ℕ, List, Ok, Err, Some, OnOk, IfOk, IfErr, IfNone, IfSome, IsFalse, IsTrue, option_map};
 ghost use Rattle.cob_copybook_tree.specs.Lengths.{greatest_number, sum_of};
 ghost use Rattle.cob_layout_places.specs.Lengths.{times};
-ghost use Rattle.cob_layout_places.specs.Places.{place_of};
 ghost use Rattle.cob_layout_places.specs.Needs.{Has};
 ghost use Rattle.cob_layout_places.specs.References.{Refers};
 ghost use Rattle.cob_layout_places.specs.Spots.{spots_of};
-ghost use Rattle.cob_layout.specs.Placed.{placed};
+ghost use Rattle.cob_layout.specs.Placed.{element_under, placed_under};
 ghost use Rattle.cob_layout.specs.Counting.{greatest_counts, CountsOf, ReadsNone};
 ghost use Rattle.cob_layout.specs.Standing.{ArePlaces, IsRoomFor, KeepsCounts, MeetsNoCount, SparesNone, AreSomePlaces, StandsIn};
 
@@ -60,8 +59,7 @@ impl Layout {
         requires spots { (counts : List ℕ)
             × (spots.now ≡ spots_of (times counts) self.now 0 0) }
         ensures { (counts : List ℕ) → spots.now ≡ spots_of (times counts) self.now 0 0
-            → place_of (times counts) reference.now.node self.now 0 0 reference.now.subscripts.items
-            ≡ Some result }
+            → element_under counts self.now reference.now ≡ Some result }
     {
         places_end_in_record();
         let tables = tables_at(&self.ways, reference.node);
@@ -136,8 +134,7 @@ impl Layout {
         requires refers { Refers reference.now.node reference.now.subscripts.items self.now }
         requires stands { AreSomePlaces self.now places.now }
         ensures value { (counts : List ℕ) → ArePlaces self.now counts places.now
-            → option_map placed (place_of (times counts) reference.now.node self.now 0 0
-            reference.now.subscripts.items) ≡ Some result }
+            → placed_under counts self.now reference.now ≡ Some result }
         // An element that is there ends within the record's length under the same counts.
         ensures current { IfOk result (λ p. (counts : List ℕ) → ArePlaces self.now counts places.now
             → p.offset + p.length ≤ sum_of (times counts) self.now) }
@@ -173,9 +170,8 @@ impl Layout {
     pub fn fixed_place(&self, reference: &Ref, receiving: bool) -> Option<Place>
         requires refers { Refers reference.now.node reference.now.subscripts.items self.now }
         ensures fixed { IfSome result (λ p. ReadsNone self.now reference.now.node receiving) }
-        ensures value { IfSome result (λ p. option_map placed (place_of (times (greatest_counts
-            self.now)) reference.now.node self.now 0 0 reference.now.subscripts.items)
-            ≡ Some (Ok p)) }
+        ensures value { IfSome result (λ p. placed_under
+            (greatest_counts self.now) self.now reference.now ≡ Some (Ok p)) }
         ensures fits { IfSome result
             (λ p. p.offset + p.length ≤ sum_of greatest_number self.now) }
         ensures none { IfNone result (ReadsNone self.now reference.now.node receiving → ⊥) }

@@ -10,14 +10,14 @@ use Rattle.cob_layout_places.specs.declared.places.Found.{Found}
 use Rattle.cob_layout_places.specs.declared.varying.Table.{Table}
 use Rattle.cob_layout_places.specs.Lengths.{times, times_by}
 use Rattle.cob_layout_places.specs.Cover.{AreNumbered}
-use Rattle.cob_layout_places.specs.Counts.{part_of, IsCountValue, IsFaulty, SaysOfTable, IsCounted}
+use Rattle.cob_layout_places.specs.Counts.{bytes_at, IsCountValue, IsFaulty, SaysOfTable, IsCounted}
 use Rattle.cob_layout_places.specs.Agree.{AgreeOnCounts, SameCounts}
 
-same_faulty : (s : Bool) (i : Item) (x : Table) (f : Found) (a b : List ℕ) → length a ≡ length b → part_of f a ≡ part_of f b → IsFaulty s i x f a → IsFaulty s i x f b
+same_faulty : (s : Bool) (i : Item) (x : Table) (f : Found) (a b : List ℕ) → length a ≡ length b → bytes_at f.offset f.length a ≡ bytes_at f.offset f.length b → IsFaulty s i x f a → IsFaulty s i x f b
 same_faulty true i x f a b n p h = omega (arith, n, h)
 same_faulty false i x f a b n p h = (omega (arith, n, h.0), λ v is. h.1 v (subst (λ (q : List ℕ). IsCountValue i x q v) (sym p) is))
 
-same_says : (i : Item) (x : Table) (f : Found) (a b : List ℕ) (r : Result ℕ CountFault) → length a ≡ length b → part_of f a ≡ part_of f b → SaysOfTable i x f a r → SaysOfTable i x f b r
+same_says : (i : Item) (x : Table) (f : Found) (a b : List ℕ) (r : Result ℕ CountFault) → length a ≡ length b → bytes_at f.offset f.length a ≡ bytes_at f.offset f.length b → SaysOfTable i x f a r → SaysOfTable i x f b r
 same_says i x f a b (Ok v) n p h = (omega (arith, n, h.0), subst (λ (q : List ℕ). IsCountValue i x q v) p h.1)
 same_says i x f a b (Err e) n p h = (h.0, same_faulty e.short i x f a b n p h.1)
 

@@ -16,7 +16,7 @@ use Rattle.cob_layout_places.specs.declared.places.Found.{Found}
 use Rattle.cob_layout_places.specs.declared.varying.Table.{Table}
 use Rattle.cob_layout_places.specs.Lengths.{times}
 use Rattle.cob_layout_places.specs.Places.{place_of, or_else, choose, also}
-use Rattle.cob_layout_places.specs.Counts.{kind_in, part_of, IsCountValue, IsFaulty, SaysOfTable, IsCounted, Taken, OneOutcome}
+use Rattle.cob_layout_places.specs.Counts.{kind_in, bytes_at, IsCountValue, IsFaulty, SaysOfTable, IsCounted, Taken, OneOutcome}
 
 -- ---- digits
 
@@ -99,12 +99,12 @@ same_short false false i x f bytes h k = refl
 same_short true false i x f bytes h k = absurd (omega (arith, h, k.0))
 same_short false true i x f bytes h k = absurd (omega (arith, h.0, k))
 
-fault_or_number : (s : Bool) (i : Item) (x : Table) (f : Found) (bytes : List ℕ) (v : ℕ) → IsFaulty s i x f bytes → f.offset + f.length ≤ length bytes → IsCountValue i x (part_of f bytes) v → ⊥
+fault_or_number : (s : Bool) (i : Item) (x : Table) (f : Found) (bytes : List ℕ) (v : ℕ) → IsFaulty s i x f bytes → f.offset + f.length ≤ length bytes → IsCountValue i x (bytes_at f.offset f.length bytes) v → ⊥
 fault_or_number true i x f bytes v h l c = omega (arith, h, l)
 fault_or_number false i x f bytes v h l c = h.1 v c
 
 one_saying : (i : Item) (x : Table) (f : Found) (bytes : List ℕ) (r s : Result ℕ CountFault) → SaysOfTable i x f bytes r → SaysOfTable i x f bytes s → r ≡ s
-one_saying i x f bytes (Ok v) (Ok w) a b = ap Ok (one_count i x (part_of f bytes) v w a.1 b.1)
+one_saying i x f bytes (Ok v) (Ok w) a b = ap Ok (one_count i x (bytes_at f.offset f.length bytes) v w a.1 b.1)
 one_saying i x f bytes (Err e) (Err g) a b = ap Err (same_fault e g (a.0 ∙ sym b.0) (same_short e.short g.short i x f bytes a.1 b.1))
 one_saying i x f bytes (Ok v) (Err g) a b = absurd (fault_or_number g.short i x f bytes v b.1 a.0 a.1)
 one_saying i x f bytes (Err e) (Ok w) a b = absurd (fault_or_number e.short i x f bytes w a.1 b.0 b.1)

@@ -9,13 +9,13 @@ use Rattle.cob_layout_places.specs.Lengths.{times}
 use Rattle.cob_layout_places.specs.Places.{place_of}
 use Rattle.cob_layout_places.specs.Cover.{AreNumbered}
 use Rattle.cob_layout_places.specs.Needs.{Has, Needs}
-use Rattle.cob_layout_places.specs.Counts.{part_of, IsCounted, Taken}
+use Rattle.cob_layout_places.specs.Counts.{bytes_at, IsCounted, Taken}
 
 -- the storages have the same bytes where the counts of these tables stand, as far as they are read
 abbrev pub AgreeOnCounts : Forest Resolved → List ℕ → List ℕ → List Table → List ℕ → Type 0
 AgreeOnCounts tree a b [] c = Unit {0}
 AgreeOnCounts tree a b (x ∷ xs) c =
-    ((found : Found) → place_of (times c) x.count tree 0 0 [] ≡ Some found → part_of found a ≡ part_of found b)
+    ((found : Found) → place_of (times c) x.count tree 0 0 [] ≡ Some found → bytes_at found.offset found.length a ≡ bytes_at found.offset found.length b)
     × ((v : ℕ) → IsCounted tree a x c (Ok v) → AgreeOnCounts tree a b xs (slice_set c x.number v))
 
 -- storages of one length that agree so have the same counts, or the same fault

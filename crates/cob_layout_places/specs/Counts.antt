@@ -48,9 +48,9 @@ AreCountable tree xs = AllByRecursion (IsCountable tree) xs
 abbrev pub AreNumberedBelow : ℕ → List Table → Type 0
 AreNumberedBelow n xs = AllByRecursion (λ (x : Table). x.number < n) xs
 
--- the bytes of a place
-abbrev pub part_of : Found → List ℕ → List ℕ
-part_of f bytes = take f.length (drop f.offset bytes)
+-- so many bytes of a storage, from an offset on
+abbrev pub bytes_at : ℕ → ℕ → List ℕ → List ℕ
+bytes_at offset long bytes = take long (drop offset bytes)
 
 -- These bytes of a table's count give this number: they represent it, and it is from the table's least to its greatest one. What is below zero
 -- is none; minus zero is zero.
@@ -64,11 +64,11 @@ pub record IsCountValue (i : Item) (x : Table) (part : List ℕ) (v : ℕ) : Typ
 -- the count's item ends past the bytes; or it doesn't, and gives no number
 abbrev pub IsFaulty : Bool → Item → Table → Found → List ℕ → Type 0
 IsFaulty true i x f bytes = length bytes < f.offset + f.length
-IsFaulty false i x f bytes = (f.offset + f.length ≤ length bytes) × ((v : ℕ) → IsCountValue i x (part_of f bytes) v → ⊥)
+IsFaulty false i x f bytes = (f.offset + f.length ≤ length bytes) × ((v : ℕ) → IsCountValue i x (bytes_at f.offset f.length bytes) v → ⊥)
 
 -- what the bytes say of a table whose count stands there: a number, or a fault of the count's place
 abbrev pub SaysOfTable : Item → Table → Found → List ℕ → Result ℕ CountFault → Type 0
-SaysOfTable i x f bytes (Ok v) = (f.offset + f.length ≤ length bytes) × IsCountValue i x (part_of f bytes) v
+SaysOfTable i x f bytes (Ok v) = (f.offset + f.length ≤ length bytes) × IsCountValue i x (bytes_at f.offset f.length bytes) v
 SaysOfTable i x f bytes (Err e) = (e.offset ≡ f.offset) × IsFaulty e.short i x f bytes
 
 -- what the bytes say of a table whose count's place follows from the counts so far
@@ -78,6 +78,10 @@ pub record IsCounted (tree : Forest Resolved) (bytes : List ℕ) (x : Table) (c 
   pub found : Found
   pub stands : place_of (times c) x.count tree 0 0 [] ≡ Some found
   pub says : SaysOfTable item x found bytes r
+
+-- wherever counts let the table's count stand there, the bytes say this of the table
+abbrev pub IsCountedThere : Forest Resolved → List ℕ → Table → Found → Result ℕ CountFault → Type 0
+IsCountedThere tree bytes x f r = (counts : List ℕ) → place_of (times counts) x.count tree 0 0 [] ≡ Some f → IsCounted tree bytes x counts r
 
 -- What the bytes say of these tables, one behind another, from these counts on: the counts with each table's number in its place, or the fault of
 -- the first table that has one. The place of a count follows from the counts of the tables before.

@@ -1,10 +1,12 @@
 -- Which counts the place of an entry needs.
-use Rattle.std.specs.Prelude.{◌≡◌, ◌⊎◌, ℕ, ◌+◌, ◌<◌, Bool, true, false, ◌==◌, ◌||◌, ◌&&◌, not, nat_le, nat_lt, if◌then◌else◌, List, [], ◌∷◌, slice_set, ◌↔◌}
+use Rattle.std.specs.Prelude.{◌≡◌, ◌⊎◌, ℕ, ◌+◌, ◌<◌, Bool, true, false, ◌==◌, ◌||◌, ◌&&◌, not, nat_le, nat_lt, if◌then◌else◌, List, [], ◌∷◌, Result, slice_set, ◌↔◌}
 use Rattle.cob_copybook_tree.specs.Forests.{Forest, NoEntries, AnEntry, entries_in}
 use Rattle.cob_copybook_tree.specs.Nodes.{Resolved}
 use Rattle.cob_layout_places.specs.declared.varying.Table.{Table}
 use Rattle.cob_layout_places.specs.Places.{is_table}
 use Rattle.cob_layout_places.specs.Cover.{AreNumbered}
+use Rattle.cob_layout_places.specs.Counts.{Taken}
+use Rattle.cob_layout_places.specs.declared.counts.CountFault.{CountFault}
 
 -- one of the entries has this number
 abbrev pub Has : ℕ → Forest Resolved → Type 0
@@ -67,3 +69,7 @@ greatest (x ∷ xs) c = greatest xs (slice_set c x.number x.most)
 abbrev pub NeedsAreRead : Type 0
 NeedsAreRead = (tree : Forest Resolved) (r : ℕ) (receiving : Bool) (x : Table) → AreNumbered 0 tree → Has r tree → Has x.number tree → Has x.count tree
     → (is_read tree r receiving x ≡ true) ↔ (Needs r x.number tree × (receiving ≡ true → IsSpared r x tree → ⊥))
+
+-- The counts that the place of an entry needs are taken, from those that are the greatest of their tables.
+abbrev pub TakesNeeded : Forest Resolved → List ℕ → ℕ → Bool → List Table → List ℕ → Result (List ℕ) CountFault → Type 0
+TakesNeeded tree bytes r receiving xs c outcome = Taken tree bytes (needed_tables tree r receiving xs) (greatest xs c) outcome

@@ -7,7 +7,7 @@ ghost use Rattle.cob_copybook_tree.specs.Lengths.{item_size};
 ghost use Rattle.cob_copybook_tree.specs.Items.{IsNumberItem};
 ghost use Rattle.cob_layout_places.specs.Lengths.{times, EntryFits};
 ghost use Rattle.cob_layout_places.specs.Places.{place_of};
-ghost use Rattle.cob_layout_places.specs.Counts.{AreCountable, AreNumberedBelow, IsCountValue, IsCountable, IsCounted, kind_in, SaysOfTable, Taken};
+ghost use Rattle.cob_layout_places.specs.Counts.{AreCountable, AreNumberedBelow, IsCountValue, IsCountable, IsCounted, IsCountedThere, kind_in, SaysOfTable, Taken};
 
 use crate::places::{Found, seek};
 use crate::varying::{Table, kind_with};
@@ -108,12 +108,10 @@ pub fn count_there(root: &Node, table: Table, found: Found, bytes: &[u8]) -> Res
     requires countable { IsCountable (tree_of root.now) table }
     requires stands { (counts : List ℕ)
         × (place_of (times counts) table.count (tree_of root.now) 0 0 [] ≡ Some found) }
-    ensures ok { IfOk result (λ v. (counts : List ℕ)
-        → place_of (times counts) table.count (tree_of root.now) 0 0 [] ≡ Some found
-        → IsCounted (tree_of root.now) bytes.now table counts (Ok v)) }
-    ensures err { IfErr result (λ e. (counts : List ℕ)
-        → place_of (times counts) table.count (tree_of root.now) 0 0 [] ≡ Some found
-        → IsCounted (tree_of root.now) bytes.now table counts (Err e)) }
+    ensures ok { IfOk result (λ v. IsCountedThere
+        (tree_of root.now) bytes.now table found (Ok v)) }
+    ensures err { IfErr result (λ e. IsCountedThere
+        (tree_of root.now) bytes.now table found (Err e)) }
 {
     match item_with(root, table.count) {
         Some(item) => count_at(item, table, found, bytes),

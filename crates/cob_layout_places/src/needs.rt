@@ -5,7 +5,7 @@ ghost use Rattle.cob_layout_places.specs.Lengths.{EntryFits};
 ghost use Rattle.cob_layout_places.specs.Places.{is_table};
 ghost use Rattle.cob_layout_places.specs.Cover.{AreNumbered};
 ghost use Rattle.cob_layout_places.specs.Counts.{AreCountable, AreNumberedBelow, Taken};
-ghost use Rattle.cob_layout_places.specs.Needs.{greatest, is_needed, needed_tables, number_behind};
+ghost use Rattle.cob_layout_places.specs.Needs.{TakesNeeded, greatest, is_needed, needed_tables, number_behind};
 
 use crate::counts::{CountFault, count_of};
 use crate::varying::Table;
@@ -95,10 +95,10 @@ pub fn take_needed(
     requires slots { AreNumberedBelow (length counts.old) tables.now }
     requires all { length counts.old ≡ entries_in (tree_of root.now) }
     requires there { number < length counts.old }
-    ensures ok { OnOk result (Taken (tree_of root.now) bytes.now (needed_tables (tree_of root.now)
-        number receiving tables.now) (greatest tables.now counts.old) (Ok counts.new)) }
-    ensures err { IfErr result (λ e. Taken (tree_of root.now) bytes.now (needed_tables
-        (tree_of root.now) number receiving tables.now) (greatest tables.now counts.old) (Err e)) }
+    ensures ok { OnOk result (TakesNeeded
+        (tree_of root.now) bytes.now number receiving tables.now counts.old (Ok counts.new)) }
+    ensures err { IfErr result (λ e. TakesNeeded
+        (tree_of root.now) bytes.now number receiving tables.now counts.old (Err e)) }
     ensures room { length counts.new ≡ length counts.old }
 {
     let end = counts.len();

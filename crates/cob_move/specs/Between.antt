@@ -5,11 +5,9 @@ use Rattle.cob_layout_places.specs.Moves.{Records}
 use Rattle.cob_copybook_tree.specs.Nodes.{tree_of}
 use Rattle.cob_move_receive.specs.Table.{Entry as EntryOf}
 use Rattle.cob_move_receive.specs.Refusals.{IsAllowed}
-use Rattle.cob_move_statements.specs.declared.fault.MoveRule.{MoveRule}
 use Rattle.cob_move_pairs.specs.declared.correspondences.Correspondences.{Correspondences}
-use Rattle.cob_move_pairs.specs.Between.{PairEnds}
+use Rattle.cob_move_pairs.specs.Between.{PairEnds, ends_of}
 use Rattle.cob_move_pairs.specs.Pairs.{Pair}
-use Rattle.cob_move.specs.Refusals.{BreaksMove}
 
 -- the pairs are those of groups of these records
 pub record ArePairsOf (r : Records) (pairs : Correspondences) : Type 0 where
@@ -22,12 +20,8 @@ numbers_of e = record { from = e.from.number; to = e.to.number }
 
 -- a pair of the definition by the numbers of its entries
 abbrev pub numbered : Pair → NumberedPair
-numbered p = record { from = p.from.number; to = p.to.number }
+numbered p = numbers_of (ends_of p)
 
 -- the move of a pair is one that the table of categories has
 abbrev pub MayMoveBetween : PairEnds → Type 0
 MayMoveBetween e = IsAllowed (EntryOf e.from.kind) e.to.kind
-
--- the move of a pair breaks the rule
-abbrev pub BreaksBetween : MoveRule → PairEnds → Type 0
-BreaksBetween r e = BreaksMove r (EntryOf e.from.kind) e.to.kind

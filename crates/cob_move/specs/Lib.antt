@@ -5,3 +5,4 @@ pub mod Laws
 pub mod Meaning
 pub mod Refusals
 pub mod MeaningLaws
+pub mod Among

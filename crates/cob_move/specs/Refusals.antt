@@ -18,6 +18,7 @@ use Rattle.cob_move_statements.specs.declared.fault.MoveFault.{MoveFault}
 use Rattle.cob_move_statements.specs.Written.{WrittenReference, WrittenSender, SentReference, SentConstant, WrittenAction, MoveTo, MoveCorresponding, WrittenStatement}
 use Rattle.cob_move_references.specs.Candidates.{Candidate, all_entries}
 use Rattle.cob_move_references.specs.References.{NamesOperand, BreaksReference, BreaksReceiver}
+use Rattle.cob_move_pairs.specs.Between.{PairEnds, ends_of}
 use Rattle.cob_move_pairs.specs.Pairs.{AreOnce, Pair, is_elementary}
 use Rattle.cob_move.specs.declared.corresponding.TwoGroups.{TwoGroups}
 use Rattle.cob_move.specs.Meaning.{IsSenderOf, AreGroupsOf, kind_of_sender, pairs_of}
@@ -77,9 +78,13 @@ BreaksSender rule.Ambiguous all s = SomeOf (BreaksReference rule.Ambiguous all) 
 BreaksSender rule.Subscripts all s = SomeOf (BreaksReference rule.Subscripts all) (sent_references s)
 BreaksSender other all s = ⊥
 
+-- The move between two entries breaks the rule.
+abbrev pub BreaksBetween : MoveRule → PairEnds → Type 0
+BreaksBetween r e = BreaksMove r (EntryOf e.from.kind) e.to.kind
+
 -- The move of a pair breaks the rule.
 abbrev pub BreaksPair : MoveRule → Pair → Type 0
-BreaksPair r p = BreaksMove r (EntryOf p.from.kind) p.to.kind
+BreaksPair r p = BreaksBetween r (ends_of p)
 
 -- One of the single moves of a statement breaks the rule.
 abbrev pub SomeBreak : MoveRule → List Candidate → Forest Resolved → Forest Resolved → WrittenAction → Type 0

@@ -2,24 +2,23 @@
 
 ghost use Rattle.std.specs.Prelude.{◌≡◌, ◌⊎◌, ◌||◌, map, IfErr, IfOk, OnOk};
 ghost use Rattle.std.specs.List.{AllByRecursion};
-ghost use Rattle.cob_copybook_tree.specs.Forests.{Forest};
-ghost use Rattle.cob_copybook_tree.specs.Nodes.{Resolved, tree_of};
-ghost use Rattle.cob_move.specs.Between.{MayMoveBetween, ArePairsOf, BreaksBetween, numbered, numbers_of};
+ghost use Rattle.cob_move.specs.Between.{MayMoveBetween, ArePairsOf, numbers_of};
 ghost use Rattle.cob_move.specs.Entries.{AllMayBeNamed, records_of};
-ghost use Rattle.cob_move.specs.Meaning.{
-  AreGroupsOf,
-  AreMovesOf,
-  IsAllowedMove,
-  pair_move,
-  pairs_of,
+ghost use Rattle.cob_move.specs.Meaning.{AreGroupsOf, IsAllowedMove, pair_move};
+ghost use Rattle.cob_move.specs.Among.{
+  AreMovesAmong,
+  BreaksAmong,
+  BreaksBetweenAny,
+  KeepsPairs,
+  pairs_in,
+  written_corresponding,
 };
-ghost use Rattle.cob_move.specs.Refusals.{BreaksPair, BreaksStatement, SomeOf};
-ghost use Rattle.cob_layout_places.specs.Moves.{numbered_move};
+ghost use Rattle.cob_move.specs.Refusals.{BreaksBetween, BreaksPair, SomeOf};
 ghost use Rattle.cob_move_pairs.specs.Between.{ends};
 ghost use Rattle.cob_move_pairs.specs.Pairing.{IsTwice};
 ghost use Rattle.cob_move_pairs.specs.Pairs.{AreOnce, is_elementary};
 ghost use Rattle.cob_move_references.specs.Directory.{entries_named};
-ghost use Rattle.cob_move_statements.specs.Written.{MoveCorresponding, written_reference};
+ghost use Rattle.cob_move_statements.specs.Written.{written_reference};
 
 use crate::entries::Entries;
 use crate::single::judge;
@@ -57,9 +56,8 @@ fn groups_of(
 ) -> Result<TwoGroups, MoveRule>
     ensures found { IfOk result (λ g. AreGroupsOf (entries_named names.now)
         (written_reference from.now) (written_reference to.now) g) }
-    ensures fault { IfErr result (λ r. (input output : Forest Resolved)
-        → BreaksStatement r (entries_named names.now) input output
-        (MoveCorresponding (written_reference from.now) (written_reference to.now))) }
+    ensures fault { IfErr result (λ r. BreaksBetweenAny r
+        (entries_named names.now) (written_corresponding from.now to.now)) }
 {
     let sending = names.find(from)?;
     let receiving = names.find_receiver(to)?;
@@ -117,17 +115,12 @@ fn moves_between(
     pairs: &mut Correspondences<'_>,
     groups: TwoGroups,
 ) -> Result<PairMoves, MoveRule>
-    ensures kept { IfOk result (λ v. (v.side ≡ groups.side) × (v.from ≡ groups.from.entry)
-        × (v.to ≡ groups.to.entry) × (v.pairs.items ≡ map numbered (pairs_of
-        (tree_of pairs.old.input.now) (tree_of pairs.old.output.now) groups))) }
-    ensures once { IfOk result (λ v. AreOnce (pairs_of
-        (tree_of pairs.old.input.now) (tree_of pairs.old.output.now) groups)) }
-    ensures allowed { IfOk result (λ v. AllByRecursion IsAllowedMove (map (pair_move groups)
-        (pairs_of (tree_of pairs.old.input.now) (tree_of pairs.old.output.now) groups))) }
-    ensures fault { IfErr result (λ r. IsTwice r (pairs_of
-        (tree_of pairs.old.input.now) (tree_of pairs.old.output.now) groups)
-        ⊎ SomeOf (BreaksPair r) (pairs_of
-        (tree_of pairs.old.input.now) (tree_of pairs.old.output.now) groups)) }
+    ensures kept { IfOk result (λ v. KeepsPairs groups (pairs_in pairs.old groups) v) }
+    ensures once { IfOk result (λ v. AreOnce (pairs_in pairs.old groups)) }
+    ensures allowed { IfOk result (λ v. AllByRecursion IsAllowedMove
+        (map (pair_move groups) (pairs_in pairs.old groups))) }
+    ensures fault { IfErr result (λ r. IsTwice r (pairs_in pairs.old groups)
+        ⊎ SomeOf (BreaksPair r) (pairs_in pairs.old groups)) }
     ensures input { pairs.new.input ≡ pairs.old.input }
     ensures output { pairs.new.output ≡ pairs.old.output }
 {
@@ -157,13 +150,10 @@ pub(crate) fn moves_of(
 ) -> Result<PairMoves, MoveRule>
     requires named { AllMayBeNamed entries.now }
     requires pairs { ArePairsOf (records_of entries.now) pairs.old }
-    ensures found { IfOk result (λ v. AreMovesOf (entries_named entries.now.names.now)
-        entries.now.input.now entries.now.output.now
-        (written_reference from.now) (written_reference to.now)
-        (map (numbered_move (records_of entries.now) v) v.pairs.items)) }
-    ensures fault { IfErr result (λ r. BreaksStatement r (entries_named entries.now.names.now)
-        entries.now.input.now entries.now.output.now
-        (MoveCorresponding (written_reference from.now) (written_reference to.now))) }
+    ensures found { IfOk result (λ v. AreMovesAmong entries.now
+        (written_reference from.now) (written_reference to.now) v) }
+    ensures fault { IfErr result (λ r. BreaksAmong r entries.now
+        (written_corresponding from.now to.now)) }
     ensures pairs { ArePairsOf (records_of entries.now) pairs.new }
 {
     named_are_operands();

@@ -4,8 +4,9 @@ ghost use Rattle.std.specs.Prelude.{◌≡◌, IfErr, IfOk};
 ghost use Rattle.cob_layout_places.specs.Moves.{IsOperand, operand_in, record_of};
 ghost use Rattle.cob_layout_places.specs.declared.operands.Side.TheVariants.{Out};
 ghost use Rattle.cob_move_references.specs.Directory.{entries_named};
-ghost use Rattle.cob_move_references.specs.References.{BreaksReceiver, BreaksReference, NamesOperand};
+ghost use Rattle.cob_move_references.specs.References.{BreaksReceiver, BreaksReference};
 ghost use Rattle.cob_move_statements.specs.Written.{written_reference};
+ghost use Rattle.cob_move.specs.Among.{NamesAmong};
 ghost use Rattle.cob_move.specs.Entries.{AllMayBeNamed, records_of};
 
 use cob_move_apply::{Kind, Layout, Ref, Side, records_are_sound};
@@ -57,9 +58,8 @@ impl Entries<'_, '_> {
     /// `Unknown`, `Ambiguous`, `Subscripts`.
     pub(crate) fn named(&self, reference: &Reference<'_>) -> Result<NamedEntry, MoveRule>
         requires named { AllMayBeNamed self.now }
-        ensures found { IfOk result (λ n. NamesOperand (entries_named self.now.names.now)
-            (written_reference reference.now) n.side
-            (operand_in (record_of (records_of self.now) n.side) n.entry)) }
+        ensures found { IfOk result (λ n. NamesAmong self.now
+            (written_reference reference.now) n.side n.entry) }
         ensures operand { IfOk result (λ n. IsOperand (record_of (records_of self.now) n.side)
             (operand_in (record_of (records_of self.now) n.side) n.entry)) }
         ensures fault { IfErr result (λ r. BreaksReference r (entries_named self.now.names.now)
@@ -82,8 +82,8 @@ impl Entries<'_, '_> {
     /// `Unknown`, `Ambiguous`, `Subscripts`, `Receiver`.
     pub(crate) fn named_receiver(&self, reference: &Reference<'_>) -> Result<Ref, MoveRule>
         requires named { AllMayBeNamed self.now }
-        ensures found { IfOk result (λ entry. NamesOperand (entries_named self.now.names.now)
-            (written_reference reference.now) Out (operand_in self.now.output.now entry)) }
+        ensures found { IfOk result (λ entry. NamesAmong self.now
+            (written_reference reference.now) Out entry) }
         ensures operand { IfOk result
             (λ entry. IsOperand self.now.output.now (operand_in self.now.output.now entry)) }
         ensures fault { IfErr result (λ r. BreaksReceiver r (entries_named self.now.names.now)

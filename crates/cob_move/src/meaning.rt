@@ -3,16 +3,18 @@
 ghost use Rattle.std.specs.Prelude.{◌≡◌, List, IfErr, IfOk};
 ghost use Rattle.cob_move.specs.Between.{ArePairsOf};
 ghost use Rattle.cob_move.specs.Entries.{AllMayBeNamed, records_of};
-ghost use Rattle.cob_move.specs.Meaning.{AreMeanings, AreMeant, IsMeaning};
-ghost use Rattle.cob_move.specs.Refusals.{
-  AreBroken,
-  BreaksOn,
-  BreaksStatement,
-  SomeBroken,
-  fault_on,
+ghost use Rattle.cob_move.specs.Among.{
+  AreMeaningsAmong,
+  BreaksAmong,
+  BreaksOnAmong,
+  HasOnlyMeant,
+  IsMeaningAmong,
+  SomeBrokenAmong,
+  both,
 };
-ghost use Rattle.cob_layout_places.specs.Moves.{Move as Meant, moves, statement_moves};
-ghost use Rattle.cob_move_references.specs.Directory.{entries_named};
+ghost use Rattle.cob_move.specs.Meaning.{AreMeant};
+ghost use Rattle.cob_move.specs.Refusals.{AreBroken, fault_on};
+ghost use Rattle.cob_layout_places.specs.Moves.{moves};
 ghost use Rattle.cob_move_statements.specs.Written.{
   written_action,
   written_statement,
@@ -42,11 +44,8 @@ fn meaning_of(
 ) -> Result<StatementMoves, MoveRule>
     requires named { AllMayBeNamed entries.now }
     requires pairs { ArePairsOf (records_of entries.now) pairs.old }
-    ensures found { IfOk result (λ v. IsMeaning (entries_named entries.now.names.now)
-        entries.now.input.now entries.now.output.now (written_action action.now)
-        (statement_moves (records_of entries.now) v)) }
-    ensures fault { IfErr result (λ r. BreaksStatement r (entries_named entries.now.names.now)
-        entries.now.input.now entries.now.output.now (written_action action.now)) }
+    ensures found { IfOk result (λ v. IsMeaningAmong entries.now (written_action action.now) v) }
+    ensures fault { IfErr result (λ r. BreaksAmong r entries.now (written_action action.now)) }
     ensures pairs { ArePairsOf (records_of entries.now) pairs.new }
 {
     match action {
@@ -80,11 +79,10 @@ fn statement_meaning(
 ) -> Result<StatementMoves, MoveFault>
     requires named { AllMayBeNamed entries.now }
     requires pairs { ArePairsOf (records_of entries.now) pairs.old }
-    ensures found { IfOk result (λ v. IsMeaning (entries_named entries.now.names.now)
-        entries.now.input.now entries.now.output.now (written_action statement.now.action)
-        (statement_moves (records_of entries.now) v)) }
-    ensures fault { IfErr result (λ f. BreaksOn f (entries_named entries.now.names.now)
-        entries.now.input.now entries.now.output.now (written_statement statement.now)) }
+    ensures found { IfOk result (λ v. IsMeaningAmong entries.now
+        (written_action statement.now.action) v) }
+    ensures fault { IfErr result (λ f. BreaksOnAmong f entries.now
+        (written_statement statement.now)) }
     ensures pairs { ArePairsOf (records_of entries.now) pairs.new }
 {
     match meaning_of(alloc, entries, pairs, &statement.action) {
@@ -102,11 +100,10 @@ fn meanings_of(
 ) -> Result<Vec<StatementMoves>, MoveFault>
     requires named { AllMayBeNamed entries.now }
     requires pairs { ArePairsOf (records_of entries.now) pairs.old }
-    ensures found { IfOk result (λ v. AreMeanings (entries_named entries.now.names.now)
-        entries.now.input.now entries.now.output.now (written_statements statements.now)
-        (moves (records_of entries.now) v.items)) }
-    ensures fault { IfErr result (λ f. SomeBroken f (entries_named entries.now.names.now)
-        entries.now.input.now entries.now.output.now (written_statements statements.now)) }
+    ensures found { IfOk result (λ v. AreMeaningsAmong entries.now
+        (written_statements statements.now) v.items) }
+    ensures fault { IfErr result (λ f. SomeBrokenAmong f entries.now
+        (written_statements statements.now)) }
 {
     let mut list = Vec::with_capacity(alloc, statements.len())?;
     for statement in statements {
@@ -124,8 +121,7 @@ fn meant_between<'a>(
     statements: &[Statement<'_>],
 ) -> Result<Vec<StatementMoves>, MoveFault>
     ensures found { IfOk result (λ v. AreMeant input.now output.now
-        (written_statements statements.now)
-        (moves (record { input = input.now; output = output.now }) v.items)) }
+        (written_statements statements.now) (moves (both input.now output.now) v.items)) }
     ensures fault { IfErr result (λ f. AreBroken f input.now output.now
         (written_statements statements.now)) }
 {
@@ -153,13 +149,10 @@ pub fn all_meant(
 ) -> Result<Vec<StatementMoves>, MoveFault>
     // What is answered is what the statements mean.
     ensures found { IfOk result (λ v. AreMeant input.now output.now
-        (written_statements statements.now)
-        (moves (record { input = input.now; output = output.now }) v.items)) }
+        (written_statements statements.now) (moves (both input.now output.now) v.items)) }
     // What statements mean is answered, memory aside.
-    ensures only { (ms : List Meant)
-        → AreMeant input.now output.now (written_statements statements.now) ms
-        → IfOk result (λ v. moves (record { input = input.now; output = output.now }) v.items ≡ ms)
-        × IfErr result (λ f. f ≡ record { rule = MoveRule.Memory; line = 0 }) }
+    ensures only { HasOnlyMeant (both input.now output.now)
+        (written_statements statements.now) (λ v. v.items) result }
     // A refusal names a rule that a statement breaks, with the statement's line.
     ensures fault { IfErr result (λ f. AreBroken f input.now output.now
         (written_statements statements.now)) }

@@ -7,7 +7,8 @@ ghost use Rattle.cob_move_apply.specs.Applied.{Applied, ending};
 ghost use Rattle.cob_move_apply.specs.Told.{most_moves_told, single_moves};
 ghost use Rattle.cob_move_apply.specs.Room.{room_of};
 ghost use Rattle.cob_layout_places.specs.Moves.{Move as Meant, Records, moves, read_by};
-ghost use Rattle.cob_move_statements.specs.declared.fault.MoveRule.TheVariants.{Memory};
+ghost use Rattle.cob_move_statements.specs.Reading.{IsOrLacksMemory};
+ghost use Rattle.cob_move.specs.Among.{both};
 ghost use Rattle.cob_move.specs.Paragraphs.{IsParagraphOf, IsReadyFor, IsRefusalOf, moves_in};
 
 use crate::laws::{one_paragraph, paragraph_breaks_no_rule};
@@ -36,7 +37,7 @@ fn meant_moves(
     text: &[u8],
 ) -> Result<Vec<StatementMoves>, MoveFault>
     ensures found { IfOk result (λ v. IsParagraphOf text.now input.now output.now
-        (moves (record { input = input.now; output = output.now }) v.items)) }
+        (moves (both input.now output.now) v.items)) }
     ensures fault { IfErr result (λ f. IsRefusalOf f text.now input.now output.now) }
 {
     let words = paragraph_tokens(alloc, text)?;
@@ -61,14 +62,13 @@ impl Paragraph {
         // What is read are the moves that the text says.
         ensures found { IfOk result
             (λ p. IsParagraphOf text.now input.now output.now
-            (moves_in (record { input = input.now; output = output.now }) p)) }
+            (moves_in (both input.now output.now) p)) }
         // They are ready for these records.
         ensures ready { IfOk result
-            (λ p. IsReadyFor (record { input = input.now; output = output.now }) p) }
+            (λ p. IsReadyFor (both input.now output.now) p) }
         // A text that is a paragraph is read, memory aside.
         ensures only { (ms : List Meant) → IsParagraphOf text.now input.now output.now ms
-            → IfOk result (λ p. moves_in (record { input = input.now; output = output.now }) p ≡ ms)
-            × IfErr result (λ f. f.rule ≡ Memory) }
+            → IsOrLacksMemory (λ p. moves_in (both input.now output.now) p ≡ ms) result }
         // A refusal names a rule that is broken.
         ensures fault { IfErr result (λ f. IsRefusalOf f text.now input.now output.now) }
     {
@@ -96,7 +96,8 @@ impl Paragraph {
 
     /// The number of single moves, each of a sender to one of its receivers. More than a u32 holds come as the greatest u32.
     pub fn moves(&self) -> u32
-        ensures { (r : Records) → result ≡ min (single_moves (moves_in r self.now)) most_moves_told }
+        ensures { (r : Records)
+            → result ≡ min (single_moves (moves_in r self.now)) most_moves_told }
     {
         self.moves.single_moves()
     }
@@ -126,13 +127,13 @@ pub fn apply(
     scratch: &mut Scratch,
 ) -> Result<(), Stop>
     requires ready { IsReadyFor
-        (record { input = in_layout.now; output = out_layout.now }) paragraph.now }
+        (both in_layout.now out_layout.now) paragraph.now }
     requires input { IsStorage in_layout.now input.now }
     requires output { length output.old ≡ greatest_length out_layout.now }
     requires room { scratch.old ≡ room_of
-        (record { input = in_layout.now; output = out_layout.now }) }
-    ensures applied { Applied (record { input = in_layout.now; output = out_layout.now })
-        (moves_in (record { input = in_layout.now; output = out_layout.now }) paragraph.now) input.now output.old (ending result output.new) }
+        (both in_layout.now out_layout.now) }
+    ensures applied { let r : Records = both in_layout.now out_layout.now in
+        Applied r (moves_in r paragraph.now) input.now output.old (ending result output.new) }
     ensures room { scratch.new ≡ scratch.old }
 {
     paragraph

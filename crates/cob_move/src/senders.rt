@@ -4,6 +4,7 @@ ghost use Rattle.std.specs.Prelude.{◌≡◌, List, IfErr, IfOk};
 ghost use Rattle.cob_copybook_clauses.specs.Written.{written_value};
 ghost use Rattle.cob_entry.specs.Described.{plain_value};
 ghost use Rattle.cob_copybook_entries.specs.Meaning.{IsConstantOf};
+ghost use Rattle.cob_move.specs.Among.{IsSenderAmong};
 ghost use Rattle.cob_move.specs.Meaning.{IsSenderOf};
 ghost use Rattle.cob_move.specs.Refusals.{BreaksSender};
 ghost use Rattle.cob_layout_places.specs.Moves.{IsSender, sender};
@@ -40,8 +41,8 @@ fn constant_of(written: &ValueClause<'_>) -> Result<Value, MoveRule>
 /// `Unknown`, `Ambiguous`, `Subscripts`.
 fn entry_of(entries: &Entries<'_, '_>, reference: &Reference<'_>) -> Result<Sender, MoveRule>
     requires named { AllMayBeNamed entries.now }
-    ensures found { IfOk result (λ s. IsSenderOf (entries_named entries.now.names.now)
-        (SentReference (written_reference reference.now)) (sender (records_of entries.now) s)) }
+    ensures found { IfOk result (λ s. IsSenderAmong entries.now
+        (SentReference (written_reference reference.now)) s) }
     ensures operand { IfOk result
         (λ s. IsSender (records_of entries.now) (sender (records_of entries.now) s)) }
     ensures fault { IfErr result (λ r. BreaksSender r (entries_named entries.now.names.now)

@@ -2,10 +2,17 @@
 
 ghost use Rattle.std.specs.Prelude.{◌≡◌, ◌⊎◌, List, [], ◌∷◌, map, IfErr, IfNone, IfOk, IfSome, OnOk};
 ghost use Rattle.std.specs.List.{AllByRecursion};
-ghost use Rattle.cob_copybook_tree.specs.Forests.{Forest};
-ghost use Rattle.cob_copybook_tree.specs.Nodes.{Resolved};
-ghost use Rattle.cob_move.specs.Meaning.{AreReceiversOf, IsMoveOf, kind_of_sender};
-ghost use Rattle.cob_move.specs.Refusals.{BreaksMove, BreaksReceipt, BreaksStatement, SomeOf};
+ghost use Rattle.cob_move.specs.Among.{
+  AreReceiversAmong,
+  BreaksBetweenAny,
+  BreaksReceiptAmong,
+  IsMoveAmong,
+  MayBeMovedToAll,
+  NamesAmong,
+  nameable,
+};
+ghost use Rattle.cob_move.specs.Meaning.{kind_of_sender};
+ghost use Rattle.cob_move.specs.Refusals.{BreaksMove, SomeOf};
 ghost use Rattle.cob_layout_places.specs.declared.operands.Side.TheVariants.{Out};
 ghost use Rattle.cob_layout_places.specs.Moves.{
   IsOperand,
@@ -17,8 +24,6 @@ ghost use Rattle.cob_layout_places.specs.Moves.{
 ghost use Rattle.cob_move.specs.Entries.{AllMayBeNamed, records_of};
 ghost use Rattle.cob_move_receive.specs.Refusals.{IsAllowed};
 ghost use Rattle.cob_move_receive.specs.Table.{sender_kind};
-ghost use Rattle.cob_move_references.specs.Directory.{entries_named};
-ghost use Rattle.cob_move_references.specs.References.{NamesOperand};
 ghost use Rattle.cob_move_statements.specs.Written.{
   MoveTo,
   written_reference,
@@ -73,13 +78,13 @@ fn receiver_of(
 ) -> Result<Ref, MoveRule>
     requires named { AllMayBeNamed entries.now }
     requires sender { IsSender (records_of entries.now) (sender (records_of entries.now) from.now) }
-    ensures found { IfOk result (λ o. NamesOperand (entries_named entries.now.names.now)
-        (written_reference reference.now) Out (operand_in entries.now.output.now o)) }
+    ensures found { IfOk result (λ o. NamesAmong entries.now
+        (written_reference reference.now) Out o) }
     ensures allowed { IfOk result
         (λ o. IsAllowed (kind_of_sender (sender (records_of entries.now) from.now))
         (operand_in entries.now.output.now o).kind) }
-    ensures fault { IfErr result (λ r. BreaksReceipt r (entries_named entries.now.names.now)
-        (sender (records_of entries.now) from.now) (written_reference reference.now)) }
+    ensures fault { IfErr result (λ r. BreaksReceiptAmong r entries.now from.now
+        (written_reference reference.now)) }
 {
     let entry = entries.named_receiver(reference)?;
     judge(
@@ -102,14 +107,12 @@ fn receivers_of(
 ) -> Result<Vec<Ref>, MoveRule>
     requires named { AllMayBeNamed entries.now }
     requires sender { IsSender (records_of entries.now) (sender (records_of entries.now) from.now) }
-    ensures found { IfOk result (λ v. AreReceiversOf (entries_named entries.now.names.now)
-        (written_references references.now) (map (operand_in entries.now.output.now) v.items)) }
-    ensures allowed { IfOk result (λ v.
-        AllByRecursion (λ o. IsAllowed (kind_of_sender (sender (records_of entries.now) from.now))
-        o.kind) (map (operand_in entries.now.output.now) v.items)) }
+    ensures found { IfOk result (λ v. AreReceiversAmong entries.now
+        (written_references references.now) v.items) }
+    ensures allowed { IfOk result (λ v. MayBeMovedToAll entries.now from.now v.items) }
     ensures fault { IfErr result (λ r. (r ≡ MoveRule.Memory)
-        ⊎ SomeOf (BreaksReceipt r (entries_named entries.now.names.now)
-        (sender (records_of entries.now) from.now)) (written_references references.now)) }
+        ⊎ SomeOf (BreaksReceiptAmong r entries.now from.now)
+        (written_references references.now)) }
 {
     let mut receivers = Vec::with_capacity(alloc, references.len())?;
     for reference in references {
@@ -131,11 +134,9 @@ pub(crate) fn move_of(
     references: &[Reference<'_>],
 ) -> Result<Move, MoveRule>
     requires named { AllMayBeNamed entries.now }
-    ensures found { IfOk result (λ m. IsMoveOf (entries_named entries.now.names.now)
-        (written_sender written.now) (written_references references.now)
-        (move (records_of entries.now) m)) }
-    ensures fault { IfErr result (λ r. (input output : Forest Resolved)
-        → BreaksStatement r (entries_named entries.now.names.now) input output
+    ensures found { IfOk result (λ m. IsMoveAmong entries.now
+        (written_sender written.now) (written_references references.now) m) }
+    ensures fault { IfErr result (λ r. BreaksBetweenAny r (nameable entries.now)
         (MoveTo (written_sender written.now) (written_references references.now))) }
 {
     let sender = sender_of(entries, written)?;

@@ -1,9 +1,8 @@
 //! The pairs of the groups of two records.
 
 ghost use Rattle.std.specs.Prelude.{◌≡◌, map, IfErr, OnOk};
-ghost use Rattle.cob_copybook_tree.specs.Nodes.{tree_of};
-ghost use Rattle.cob_move_pairs.specs.Between.{ends, ends_of, entries_of, pairs_below};
-ghost use Rattle.cob_move_pairs.specs.Found.{ArePairsFound};
+ghost use Rattle.cob_move_pairs.specs.Between.{ends, ends_of};
+ghost use Rattle.cob_move_pairs.specs.Found.{ArePairsFound, pairs_between};
 ghost use Rattle.cob_move_pairs.specs.Pairing.{IsTwice};
 ghost use Rattle.cob_move_pairs.specs.Pairs.{AreOnce};
 
@@ -44,9 +43,7 @@ impl<'a> Correspondences<'a> {
         to: usize,
     ) -> Result<(), MoveRule>
         ensures found { OnOk result (ArePairsFound self.new side from to) }
-        ensures fault { IfErr result (λ r. IsTwice r (pairs_below
-            (entries_of (tree_of self.old.input.now) (tree_of self.old.output.now) side)
-            (tree_of self.old.output.now) from to)) }
+        ensures fault { IfErr result (λ r. IsTwice r (pairs_between self.old side from to)) }
         ensures input { self.new.input ≡ self.old.input }
         ensures output { self.new.output ≡ self.old.output }
     {
@@ -59,12 +56,8 @@ impl<'a> Correspondences<'a> {
     /// The pairs of a group of one side's record and a group of the output record, in the order of the sending group. They were found.
     pub fn between(&self, side: Side, from: usize, to: usize) -> &[EntryPair<'a>]
         requires { ArePairsFound self.now side from to }
-        ensures pairs { map ends result.now ≡ map ends_of (pairs_below
-            (entries_of (tree_of self.now.input.now) (tree_of self.now.output.now) side)
-            (tree_of self.now.output.now) from to) }
-        ensures once { AreOnce (pairs_below
-            (entries_of (tree_of self.now.input.now) (tree_of self.now.output.now) side)
-            (tree_of self.now.output.now) from to) }
+        ensures pairs { map ends result.now ≡ map ends_of (pairs_between self.now side from to) }
+        ensures once { AreOnce (pairs_between self.now side from to) }
     {
         match side {
             Side::In => self.from_input.list(from, to),

@@ -1,5 +1,11 @@
 -- The entries that a directory finds by their names.
-use Rattle.std.specs.Prelude.{List, map}
+use Rattle.std.specs.Prelude.{◌≡◌, List, Result, map, IsOkAnd}
+use Rattle.cob_layout_places.specs.declared.operands.Operand.{Operand}
+use Rattle.cob_layout_places.specs.declared.operands.Side.{Side}
+use Rattle.cob_move_statements.specs.Written.{WrittenReference}
+use Rattle.cob_move_statements.specs.declared.fault.MoveRule.{MoveRule}
+use Rattle.cob_move_references.specs.declared.find.Named.{Named}
+use Rattle.cob_move_references.specs.References.{NamesOperand}
 use Rattle.cob_move_references.specs.declared.directory.Names.{Names}
 use Rattle.cob_move_references.specs.Candidates.{Candidate}
 use Rattle.cob_move_references.specs.Listed.{candidate_of}
@@ -7,3 +13,7 @@ use Rattle.cob_move_references.specs.Listed.{candidate_of}
 -- The entries that may be named.
 abbrev pub entries_named : Names → List Candidate
 entries_named names = map candidate_of names.directory.bearers.items
+
+-- What a reference names among these entries is found, and it is the answer.
+abbrev pub FindsOnly : List Candidate → WrittenReference → Result Named MoveRule → Type 0
+FindsOnly all w answer = (side : Side) (o : Operand) → NamesOperand all w side o → IsOkAnd answer (λ n. (n.side ≡ side) × (n.operand ≡ o))

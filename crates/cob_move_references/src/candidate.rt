@@ -9,7 +9,7 @@ ghost use Rattle.cob_layout.specs.Sound.{AreNested, own_dimension};
 ghost use Rattle.cob_layout_places.specs.Places.{is_table};
 ghost use Rattle.cob_limits.specs.Limits.{most_dimensions};
 ghost use Rattle.cob_move_references.specs.Candidates.{candidate, candidates, with_table};
-ghost use Rattle.cob_move_references.specs.Listed.{candidate_of};
+ghost use Rattle.cob_move_references.specs.Listed.{ListsMore};
 
 use arrayvec::ArrayVec;
 use cob_copybook_names::{Bearer, name_of, names_beneath};
@@ -58,8 +58,8 @@ fn list_entry<'a>(
 ) -> Result<(), AllocError>
     requires nested { length holding.now + own_dimension (out-Node entry.now).occurs
         ≤ most_dimensions }
-    ensures { OnOk result (map candidate_of listed.new.items ≡ map candidate_of listed.old.items
-        ++ candidate side (texts above.now) holding.now (resolved_entry (out-Node entry.now)) ∷ []) }
+    ensures { OnOk result (ListsMore listed.old.items listed.new.items
+        (candidate side (texts above.now) holding.now (resolved_entry (out-Node entry.now)) ∷ [])) }
 {
     let mut names = Vec::new(alloc);
     names.extend_from_slice(above)?;
@@ -91,8 +91,8 @@ pub(crate) fn list_tree<'a>(
     listed: &mut Vec<Bearer<'a, RecordEntry<'a>>>,
 ) -> Result<(), AllocError>
     requires nested { AreNested (length holding.now) (tree_of entry.now) }
-    ensures { OnOk result (map candidate_of listed.new.items ≡ map candidate_of listed.old.items
-        ++ candidates side (texts above.now) holding.now (tree_of entry.now)) }
+    ensures { OnOk result (ListsMore listed.old.items listed.new.items
+        (candidates side (texts above.now) holding.now (tree_of entry.now))) }
 {
     list_entry(alloc, side, above, holding, entry, listed)?;
     if entry.children.is_empty() {

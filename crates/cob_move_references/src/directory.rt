@@ -4,6 +4,7 @@ ghost use Rattle.std.specs.Prelude.{◌≡◌, ◌∷◌, [], map, IfErr, IfOk};
 ghost use Rattle.cob_copybook_clauses.specs.Written.{names_behind};
 ghost use Rattle.cob_source.specs.Tokens.{lexemes};
 ghost use Rattle.cob_copybook_names.specs.Naming.{named};
+ghost use Rattle.cob_move_references.specs.Directory.{entries_named};
 ghost use Rattle.cob_move_references.specs.Listed.{candidate_of};
 ghost use Rattle.cob_move_references.specs.References.{BreaksName};
 
@@ -42,9 +43,9 @@ impl<'a> Names<'a> {
         qualifiers: &[Token],
     ) -> Result<&Bearer<'a, RecordEntry<'a>>, MoveRule>
         ensures found { IfOk result (λ c. named name.now (names_behind (lexemes qualifiers.now))
-            (map candidate_of self.now.directory.bearers.items) ≡ candidate_of c.now ∷ []) }
-        ensures fault { IfErr result (λ rule. BreaksName rule (named name.now (names_behind
-            (lexemes qualifiers.now)) (map candidate_of self.now.directory.bearers.items))) }
+            (entries_named self.now) ≡ candidate_of c.now ∷ []) }
+        ensures fault { IfErr result (λ rule. BreaksName rule
+            (named name.now (names_behind (lexemes qualifiers.now)) (entries_named self.now))) }
     {
         let written = QualifierWords { words: qualifiers };
         match self.directory.only_named(name, written) {

@@ -3,11 +3,10 @@
 ghost use Rattle.std.specs.Prelude.{◌≡◌, IfErr, IfNone, IfOk, IfSome, IsOkAnd};
 ghost use Rattle.cob_source.specs.Tokens.{lexemes};
 ghost use Rattle.cob_layout_places.specs.declared.operands.Operand.{Operand as SeenOperand};
-ghost use Rattle.cob_layout_places.specs.declared.operands.Side.{Side as SeenSide};
 ghost use Rattle.cob_layout_places.specs.declared.operands.Side.TheVariants.{Out};
 ghost use Rattle.cob_move_statements.specs.Written.{word_texts, written_reference};
 ghost use Rattle.cob_move_references.specs.Candidates.{all_entries};
-ghost use Rattle.cob_move_references.specs.Directory.{entries_named};
+ghost use Rattle.cob_move_references.specs.Directory.{FindsOnly, entries_named};
 ghost use Rattle.cob_move_references.specs.Listed.{candidate_of};
 ghost use Rattle.cob_move_references.specs.References.{AreSubscriptsOf, BreaksReceiver, BreaksReference, NamesOperand, operand, subscript_numbers};
 
@@ -79,9 +78,7 @@ impl<'a> Names<'a> {
         ensures found { IfOk result (λ n. NamesOperand
             (entries_named self.now) (written_reference reference.now) n.side n.operand) }
         // What a reference names is found.
-        ensures only { (side : SeenSide) (o : SeenOperand)
-            → NamesOperand (entries_named self.now) (written_reference reference.now) side o
-            → IsOkAnd result (λ n. (n.side ≡ side) × (n.operand ≡ o)) }
+        ensures only { FindsOnly (entries_named self.now) (written_reference reference.now) result }
         // A refusal names a rule that is broken.
         ensures fault { IfErr result (λ rule. BreaksReference
             rule (entries_named self.now) (written_reference reference.now)) }

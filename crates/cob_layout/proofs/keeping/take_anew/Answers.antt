@@ -1,9 +1,8 @@
 use Rattle.std.proofs.Common.{◌+◌, ◌∙◌, None, sym, refl, arith}
 use Rattle.std.proofs.lemmas.Result.{err_from_is_err_and}
 use Rattle.cob_copybook_tree.specs.Nodes.{tree_of}
-use Rattle.cob_layout_places.specs.declared.varying.Table.{Table}
 use Rattle.cob_layout_places.specs.Needs.{is_needed}
-use Rattle.cob_layout.proofs.KeepingLemmas.{Counted, counted_all, counted_fault, counted_more, counted_none, counted_skips, same_counted}
+use Rattle.cob_layout.proofs.KeepingLemmas.{counted_all, counted_fault, counted_more, counted_none, counted_skips, same_counted}
 use Rattle.cob_layout.proofs.keeping.take_anew.Goals.{then-is_needed+in_ok-count, else-is_needed}
 use Rattle.cob_layout.proofs.keeping.take_anew.Goals as goal
 
