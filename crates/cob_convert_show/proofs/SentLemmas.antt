@@ -7,7 +7,7 @@ use Rattle.cob_records.specs.declared.records.RecordFault.{RecordFault}
 use Rattle.cob_records.specs.declared.records.RecordFault.TheVariants.{WriteFailed, TookNothing}
 use Rattle.cob_records.specs.Device.{Took}
 use Rattle.cob_records.specs.Frame.{Puts}
-use Rattle.cob_convert_show.specs.Sent.{Adds, BeginsOne, IsBeginning, Sends, Wrote, taken_by}
+use Rattle.cob_convert_show.specs.Sent.{CountsSent, BeginsOne, IsBeginning, Sends, Wrote, taken_by}
 
 pub append_none : (w : Option (List ℕ)) → w ≡ append_known w []
 append_none None = refl
@@ -27,12 +27,12 @@ pub took_both : (w0 w1 w2 : Option (List ℕ)) (P Q R : List ℕ → Type 0) →
 took_both w0 w1 w2 P Q R (p, is, at) (q, also, behind) f = (p ++ q, f p q is also, append_twice p q w0 w1 w2 at behind)
 
 -- what was sent, counted in two calls
-pub sent_twice : (before between after : ℕ) (p q : List ℕ) → Adds before between p → Adds between after q → Adds before after (p ++ q)
+pub sent_twice : (before between after : ℕ) (p q : List ℕ) → CountsSent before between p → CountsSent between after q → CountsSent before after (p ++ q)
 sent_twice before between after p q e f = λ low. let first = e low in
     let second = f (omega (arith, first)) in omega (arith, first, second, length-append p q)
 
 -- nothing was sent
-pub none_sent : (before : ℕ) → Adds before before []
+pub none_sent : (before : ℕ) → CountsSent before before []
 none_sent before = λ low. omega (arith, low)
 
 -- a part of a text went out, less than the whole

@@ -41,7 +41,7 @@ returns-in-Ok-None-clause-shows g c =
 
 pub returns-in-Err-clause-shows : goal.returns-in-Err-clause-shows
 returns-in-Err-clause-shows g c =
-    read_end c.args.shown.form c.args.shown.layout.now c.loop-done.done c.loop-done.written c.in-Err.field-0 c.read_record.new.bytes (Err c.stop_at.result) _ (g.R.Source.coming c.loop-done.source) _ _ _
+    read_end c.args.shown.form c.args.shown.layout.now c.loop-done.done c.loop-done.written c.in-Err.reason c.read_record.new.bytes (Err c.stop_at.result) _ (g.R.Source.coming c.loop-done.source) _ _ _
     c.loop-done.invariant.so_far (omega (arith, c.loop-done-test.true)) c.in-Err.ensures.next (ap (λ (f : ShowFault). Err f) c.stop_at.ensures)
 
 pub returns-in-Err-put_lines-clause-shows : goal.returns-in-Err-put_lines-clause-shows
