@@ -1,5 +1,5 @@
 -- Records that were shown so far, one more, and the end.
-use Rattle.std.proofs.Common.{◌≡◌, ℕ, ◌+◌, ◌-◌, ◌^◌, ◌<◌, ◌≤◌, min, List, [], ◌∷◌, ◌++◌, length, take, refl, sym, subst, ◌∙◌, ap, append_assoc, append-nil, arith, inl, inr, None, Some, Option, Ok, Err, Result}
+use Rattle.std.proofs.Common.{◌≡◌, ℕ, ◌+◌, ◌-◌, ◌^◌, ◌<◌, ◌≤◌, min, Bool, true, false, List, [], ◌∷◌, ◌++◌, length, take, refl, sym, subst, ◌∙◌, ap, append_assoc, append-nil, arith, inl, inr, None, Some, Option, Ok, Err, Result}
 use Rattle.std.proofs.lemmas.Grind.{common_steps}
 use Rattle.std.proofs.lemmas.List.Concat.{flat_map-append}
 use Rattle.std.proofs.lemmas.List.{length-append}
@@ -24,7 +24,7 @@ use Rattle.cob_convert_show.specs.declared.records.ShowFault.{ShowFault}
 use Rattle.cob_convert_show.specs.declared.records.ShowFault.TheVariants.{Memory, Run}
 use Rattle.cob_convert_show.specs.Lines.{AreRecordLines, BeginRecordLines}
 use Rattle.cob_convert_show.specs.Records.{IsFitting}
-use Rattle.cob_convert_show.specs.Runs.{AreRecordsShown, EndsShow, IsLegible, IsRecordShown, ReadsNext, Shows, frames_of, lines_of, most_shown, count_reason}
+use Rattle.cob_convert_show.specs.Runs.{AreRecordsShown, EndsShow, IsLegible, IsRecordShown, ReadsNext, Shows, StopsReading, frames_of, lines_of, most_shown, count_reason}
 use Rattle.cob_convert_show.specs.Sent.{Sends}
 use Rattle.cob_convert_show.proofs.RecordLemmas.{own_places}
 use Rattle.cob_convert_show.proofs.SentLemmas.{append_none, append_twice}
@@ -90,6 +90,16 @@ next_unfitting form tree s slot count why r0 r1 is stands other t = told_as r0 r
         is,
       ),
     ))
+
+-- what stops the reading of a record stands on the input's side
+reads_side : (form : Form) (tree : Forest Resolved) (why : Reason) (left rest : List ℕ) → StopsReading form tree why left rest → why.side ≡ In
+reads_side form tree why left rest (inl (fault, reads, is)) = ap (λ (r : Reason). r.side) is
+reads_side form tree why left rest (inr (input, comes, inl (fault, counts, is))) = ap (λ (r : Reason). r.side) is ∙ count_side fault.short fault.offset
+  where
+    count_side : (short : Bool) (offset : ℕ) → (count_reason (record { offset = offset; short = short })).side ≡ In
+    count_side true offset = refl
+    count_side false offset = refl
+reads_side form tree why left rest (inr (input, comes, inr (counts, are, unfit, is))) = ap (λ (r : Reason). r.side) is
 
 -- ---- the records so far
 
@@ -192,7 +202,7 @@ read_end form tree n written why slot answer r0 r1 r2 w0 w1 so_far low next is =
     subst (λ (a : Result ℕ ShowFault). Told r0 r2 (Shows form tree a w0 w1)) (sym is)
     (listed_ends form tree n written (Err (Run (record { number = n + 1; side = why.side; offset = why.offset; cause = why.cause; written = written }))) [] r0 r1 r2 w0 w1 w1
     (ReadsNext form tree slot (Err why)) so_far next (append_none w1)
-    (λ left rest p. (refl, omega (arith, so_far.sum), inr (inl (record { below = low; nothing = refl; side = refl; stops = p })))))
+    (λ left rest p. (refl, omega (arith, so_far.sum), inr (inl (record { below = low; nothing = refl; side = reads_side form tree why left rest p; stops = p })))))
 
 pub write_end : (form : Form) (tree : Forest Resolved) (n written after count : ℕ) (fault : RecordFault) (slot : List ℕ) (s : Standing) (is : List ℕ → Type 0) (answer : Result ℕ ShowFault) (r0 r1 r2 w0 w1 w2 : Option (List ℕ))
     → ListedSoFar form tree n written r0 r1 w0 w1 → n < most_shown → Told r1 r2 (ReadsNext form tree slot (Ok (Some count)))
