@@ -165,6 +165,10 @@ one_listed form tree n written after count slot s begun r0 r1 r2 w0 w1 w2 so_far
 
 -- ---- the end
 
+-- the fault of a record that stopped it, for this reason
+abbrev pub fault_for : ℕ → ℕ → Reason → ShowFault
+fault_for number written why = Run (record { number = number; side = why.side; offset = why.offset; cause = why.cause; written = written })
+
 ends_at : (form : Form) (tree : Forest Resolved) (n written count sent : ℕ) (left rest part : List ℕ) (answer : Result ℕ ShowFault) → count ≡ n → written ≡ min sent (2 ^ 64 - 1)
     → EndsShow form tree n written left rest part answer → EndsShow form tree count sent left rest part answer
 ends_at form tree n written count sent left rest part (Ok number) e s ends = rw e ends

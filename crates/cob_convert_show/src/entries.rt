@@ -1,6 +1,6 @@
 //! The entries of a record.
 
-ghost use Rattle.std.specs.Prelude.{◌≡◌, ◌<◌, ◌≤◌, ◌+◌, ◌-◌, ◌++◌, ℕ, length, nat_le, slice_index_or, codes, decimal, IfErr, is_err, true, Err};
+ghost use Rattle.std.specs.Prelude.{◌≡◌, ◌<◌, ◌≤◌, ◌+◌, ◌-◌, ◌++◌, ◌∷◌, ℕ, length, nat_le, slice_index_or, decimal, IfErr, is_err, true, Err};
 ghost use Rattle.cob_copybook_tree.specs.Items.{form_of};
 ghost use Rattle.cob_copybook_tree.specs.Nodes.{forest, node, tree_of};
 ghost use Rattle.cob_layout.specs.Ways.{spot_at};
