@@ -31,7 +31,7 @@ cut_text whole rest text left before sent after fault w0 w w1 so_far cut (p, (be
   so_far.part ++ p,
   (
     subst (λ (xs : List ℕ). IsBeginning (so_far.part ++ p) xs) (ap (λ (xs : List ℕ). so_far.part ++ xs) (sym cut) ∙ so_far.is)
-    (begins_within so_far.part p text left begun),
+        (begins_within so_far.part p text left begun),
     sent_twice before sent after so_far.part p so_far.sum sum,
   ),
   append_twice so_far.part p w0 w w1 so_far.took took,

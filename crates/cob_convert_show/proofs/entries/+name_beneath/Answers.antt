@@ -1,4 +1,4 @@
-use Rattle.std.proofs.Common.{rules, arith, ◌-◌, ◌<◌, ◌∙◌, ap, length}
+use Rattle.std.proofs.Common.{arith, ◌-◌, ◌<◌, ◌∙◌, ap, length}
 use Rattle.cob_copybook_tree.specs.declared.node.Node.TheViews.{out-Node}
 use Rattle.cob_convert_show.proofs.EntryLemmas.{fewer_beneath, no_step, numbered_beneath, other_number, step_name, step_numbered}
 use Rattle.cob_convert_show.proofs.entries.+name_beneath.Goals as goal
