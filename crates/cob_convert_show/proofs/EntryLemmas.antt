@@ -1,6 +1,6 @@
 -- The entries of a record: their lines, and the names behind their numbers.
-use Rattle.std.proofs.Common.{◌≡◌, ℕ, zero, suc, ◌+◌, ◌-◌, ◌<◌, ◌≤◌, ◌==◌, ◌⊎◌, Bool, true, false, cond, leb, List, [], ◌∷◌, ◌++◌, length, get_or, Option, None, Some, refl, sym, ap, subst, ◌∙◌, append_assoc, append-nil, arith, inl, inr}
-use Rattle.std.specs.Prelude.{find}
+use Rattle.std.proofs.Common.{◌≡◌, ℕ, zero, suc, ◌+◌, ◌-◌, ◌*◌, ◌<◌, ◌≤◌, ◌==◌, ◌⊎◌, Bool, true, false, cond, leb, List, [], ◌∷◌, ◌++◌, length, get_or, Option, None, Some, refl, sym, ap, subst, ◌∙◌, append_assoc, append-nil, arith, inl, inr, Err}
+use Rattle.std.specs.Prelude.{find, if◌then◌else◌}
 use Rattle.std.specs.Option.{option_or}
 use Rattle.std.specs.List.Sorted.{IsPartitionedBy}
 use Rattle.std.proofs.lemmas.List.Sorted.{IsPartitionedBy-leb}
@@ -10,10 +10,19 @@ use Rattle.std.proofs.lemmas.List.Concat.{flat_map-append}
 use Rattle.cob_copybook_tree.specs.declared.node.Node.{Node}
 use Rattle.cob_copybook_tree.specs.Forests.{Forest, NoEntries, AnEntry, Tree, entries_in, flat}
 use Rattle.cob_copybook_tree.specs.Nodes.{Resolved, forest, node, tree_of}
+use Rattle.cob_entry.specs.Described.{PlainEntry}
+use Rattle.cob_copybook.specs.declared.role.Role.{Role}
+use Rattle.cob_copybook.specs.Books.{IsRecordDescription, implied, with_record}
+use Rattle.cob_copybook.proofs.Books.{few_entries}
+use Rattle.cob_layout.proofs.Numbers.{same_entries}
 use Rattle.cob_layout_places.specs.Cover.{AreNumbered}
 use Rattle.cob_copybook_tree.specs.declared.node.Node.TheViews.{out-Node}
 use Rattle.cob_layout_places.proofs.ForestLemmas.{below, below_is, left, left_is, node_out}
-use Rattle.cob_convert_show.specs.Entries.{entry_line, found_name, lines_among, name_by_number}
+use Rattle.cob_records.specs.declared.records.RecordFault.{RecordFault}
+use Rattle.cob_records.specs.Device.{Took}
+use Rattle.cob_records.specs.Frame.{taken_of}
+use Rattle.cob_convert_show.specs.Entries.{ListsEntries, entry_line, found_name, lines_among, longest_line, name_by_number}
+use Rattle.cob_convert_show.specs.Sent.{IsBeginning, SendsText}
 
 -- ---- lines of entries, one behind another
 
@@ -218,3 +227,41 @@ pub fewer_beneath : (n child d : Node) (k : ℕ) → k < length (out-Node n).chi
 fewer_beneath n child d k low is =
     subst (λ (f : Forest Resolved). entries_in (node child).beneath < entries_in f) (sym (below_is n))
     (subst (λ (m : Node). entries_in (node m).beneath < entries_in (below n)) (sym is) (entries_fewer (out-Node n).children.items k d low))
+
+-- ---- how long the lines are
+
+-- a record has few entries
+few_behind : (role : Role) (ds : List PlainEntry) → length ds ≤ 2000 → length (with_record role ds) ≤ 2001
+few_behind role [] few = omega arith
+few_behind role (d ∷ ds) few = by_level (d.level == 1)
+  where
+    by_level : (b : Bool) → length (if b then d ∷ ds else implied role ∷ d ∷ ds) ≤ 2001
+    by_level true = omega (arith, few)
+    by_level false = omega (arith, few)
+
+pub record_few : (tree : Forest Resolved) → IsRecordDescription tree → entries_in tree ≤ 65535
+record_few tree (role, text, book) =
+    let few = few_behind role book.has.entries book.has.are_entries.few in
+    let written = few_entries book.entries book.is.written book.is.stands (omega (arith, few, ap (λ (ds : List PlainEntry). length ds) book.has.with)) in
+    let same = same_entries book.is.stored.counts 0 None None book.is.written in
+    omega (arith, written, same, ap (λ (f : Forest Resolved). entries_in f) book.is.stored.tree)
+
+-- of the entries side by side that are left, the next one with those beneath it, and those behind it
+pub entries_left : (children : List Node) (k : ℕ) (n : Node) → k < length children → n ≡ get_or children k n
+    → entries_in (left children k) ≡ entries_in (tree_of n) + entries_in (left children (k + 1))
+entries_left children k n low is =
+    let cut = ap (λ (f : Forest Resolved). entries_in f) (left_is children k n low is) in omega (arith, cut)
+
+-- an entry, and those beneath it
+pub entries_beneath : (n : Node) → entries_in (tree_of n) ≡ 1 + entries_in (below n)
+entries_beneath n = let inner = ap (λ (f : Forest Resolved). entries_in f) (below_is n) in omega (arith, inner)
+
+-- where the lines could not all be written, the bytes that went out were counted
+pub lists_part : (tree root : Forest Resolved) (fault told : RecordFault) (sent : ℕ) (w0 w1 : Option (List ℕ)) → root ≡ tree
+    → Took w0 w1 (SendsText (lines_among tree root) 0 sent (Err fault)) → sent ≤ 0 + longest_line * entries_in root → IsRecordDescription tree
+    → taken_of told ≡ sent → Took w0 w1 (ListsEntries tree (Err told))
+lists_part tree root fault told sent w0 w1 same (p, (begun, sum), took) few described counts =
+    let entries = record_few tree described in
+    let all = ap (λ (f : Forest Resolved). entries_in f) same in
+    let counted = sum (omega arith) in
+    (p, (subst (λ (f : Forest Resolved). IsBeginning p (lines_among tree f)) same begun, omega (arith, few, entries, all, counted, counts)), took)

@@ -1,5 +1,5 @@
 -- What a sink took, call behind call.
-use Rattle.std.proofs.Common.{◌≡◌, ℕ, ◌+◌, ◌-◌, ◌^◌, ◌<◌, min, List, [], ◌++◌, length, take, drop, Option, Some, None, refl, sym, ap, ◌∙◌, append_assoc, append-nil, arith, subst, Ok, Err, Result}
+use Rattle.std.proofs.Common.{◌≡◌, ℕ, ◌+◌, ◌-◌, ◌^◌, ◌<◌, ◌≤◌, min, List, [], ◌++◌, length, take, drop, Option, Some, None, refl, sym, ap, ◌∙◌, append_assoc, append-nil, arith, subst, Ok, Err, Result}
 use Rattle.std.proofs.lemmas.Grind.{common_steps}
 use Rattle.std.proofs.lemmas.List.{length-append, take-append-drop}
 use Rattle.std.specs.Io.KnownBytes.{append_known}
@@ -54,6 +54,13 @@ put_sends text (Err (TookNothing taken)) w0 w1 before after (part, is, at) sum =
     let begun = part_of text part taken is.0 is.1 in
     (part, (begun.0, λ low. omega (arith, sum, begun.1)), at)
 put_sends text (Err _) w0 w1 before after (part, is, at) sum = absurd is
+
+-- no more bytes went out than the text has
+pub put_few : (text : List ℕ) (answer : Result (Unit {0}) RecordFault) (w0 w1 : Option (List ℕ)) → Took w0 w1 (Puts text answer) → taken_by answer (length text) ≤ length text
+put_few text (Ok done) w0 w1 (part, is, at) = omega arith
+put_few text (Err (WriteFailed taken)) w0 w1 (part, is, at) = omega (arith, is.0)
+put_few text (Err (TookNothing taken)) w0 w1 (part, is, at) = omega (arith, is.0)
+put_few text (Err _) w0 w1 (part, is, at) = absurd is
 
 -- what is begun of a text is begun of the same behind a front and with more behind it
 pub begins_within : (front part text behind : List ℕ) → IsBeginning part text → IsBeginning (front ++ part) (front ++ (text ++ behind))

@@ -1,9 +1,8 @@
 -- The lines that are printed of the entries of a copybook.
-use Rattle.std.specs.Prelude.{◌≡◌, ℕ, ◌==◌, nat_lt, min, if◌then◌else◌, List, [], ◌∷◌, ◌++◌, length, find, flat_map, codes, decimal, Option, Some, None, Ok, Err, Result}
+use Rattle.std.specs.Prelude.{◌≡◌, ℕ, ◌==◌, nat_lt, if◌then◌else◌, List, [], ◌∷◌, ◌++◌, length, find, flat_map, codes, decimal, Option, Some, None, Ok, Err, Result}
 use Rattle.cob_picture.specs.declared.category.Category.{Category}
 use Rattle.cob_picture.specs.declared.category.Category.TheVariants.{Alphabetic, Numeric, Alphanumeric, AlphanumericEdited, NumericEdited}
 use Rattle.cob_records.specs.declared.records.RecordFault.{RecordFault}
-use Rattle.cob_records.specs.Device.{greatest_count}
 use Rattle.cob_records.specs.Frame.{taken_of}
 use Rattle.cob_copybook_tree.specs.declared.form.Form.{Form}
 use Rattle.cob_copybook_tree.specs.declared.form.Form.TheVariants.{Zoned, Separate, Packed, Binary}
@@ -92,6 +91,10 @@ entry_line tree e =
     level_text e.level ++ 32 ∷ (name_or_filler e.name ++ (spot_text (greatest_spot tree e.number)
     ++ 32 ∷ (kind_word e.kind ++ (redefines_text e.redefines ++ (occurs_text tree e.occurs ++ 10 ∷ [])))))
 
+-- the line of an entry has at most so many bytes
+abbrev pub longest_line : ℕ
+longest_line = 200
+
 -- the lines of some entries of a record, one for each in their order
 abbrev pub lines_among : Forest Resolved → Forest Resolved → List ℕ
 lines_among tree entries = flat_map (entry_line tree) (flat entries)
@@ -101,7 +104,7 @@ abbrev pub entry_lines : Forest Resolved → List ℕ
 entry_lines tree = lines_among tree tree
 
 -- What a call that lists the entries says of the part that the sink took: it is just their lines; or where the sink failed a beginning of them, and
--- the fault says how many bytes that has, up to the greatest count.
+-- the fault says how many bytes that has.
 abbrev pub ListsEntries : Forest Resolved → Result (Unit {0}) RecordFault → List ℕ → Type 0
 ListsEntries tree (Ok done) part = part ≡ entry_lines tree
-ListsEntries tree (Err fault) part = IsBeginning part (entry_lines tree) × (taken_of fault ≡ min (length part) greatest_count)
+ListsEntries tree (Err fault) part = IsBeginning part (entry_lines tree) × (taken_of fault ≡ length part)

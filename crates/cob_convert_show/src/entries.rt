@@ -1,6 +1,7 @@
 //! The entries of a record.
 
-ghost use Rattle.std.specs.Prelude.{◌≡◌, ◌<◌, ◌≤◌, ◌+◌, ◌-◌, ◌++◌, ◌∷◌, ℕ, length, nat_le, slice_index_or, decimal, IfErr, is_err, true, Err};
+ghost use Rattle.std.specs.Prelude.{◌≡◌, ◌<◌, ◌≤◌, ◌+◌, ◌-◌, ◌*◌, ◌++◌, ◌∷◌, ℕ, length, nat_le, slice_index_or, decimal, IfErr, is_err, true, Err};
+ghost use Rattle.cob_copybook_tree.specs.Forests.{entries_in};
 ghost use Rattle.cob_copybook_tree.specs.Items.{form_of};
 ghost use Rattle.cob_copybook_tree.specs.Nodes.{forest, node, tree_of};
 ghost use Rattle.cob_layout.specs.Ways.{spot_at};
@@ -8,7 +9,7 @@ ghost use Rattle.cob_layout_places.specs.Cover.{AreNumbered};
 ghost use Rattle.cob_limits.specs.Limits.{longest_name};
 ghost use Rattle.cob_records.specs.Device.{counted, Took};
 ghost use Rattle.cob_records.specs.Frame.{is_write_error, is_write_fault, taken_of};
-ghost use Rattle.cob_convert_show.specs.Entries.{ListsEntries, entry_line, form_word, greatest_spot, item_word, kind_word, level_text, lines_among, name_by_number, name_or_filler, occurs_text, redefines_text, spot_text};
+ghost use Rattle.cob_convert_show.specs.Entries.{ListsEntries, entry_line, form_word, greatest_spot, item_word, kind_word, level_text, lines_among, longest_line, name_by_number, name_or_filler, occurs_text, redefines_text, spot_text};
 ghost use Rattle.cob_convert_show.specs.Sent.{SendsText};
 
 use crate::text::{Line, push_number, push_text, put};
@@ -194,7 +195,7 @@ fn push_occurs(line: &mut Line, layout: &Layout, occurs: ResolvedOccurs)
 fn line_of(layout: &Layout, entry: &Node) -> Line
     ensures text { result.items ≡ entry_line layout.now (node entry.now).top }
     ensures some { 0 < length result.items }
-    ensures long { length result.items ≤ 200 }
+    ensures long { length result.items ≤ longest_line }
 {
     let mut line = ArrayVec::new();
     push_level(&mut line, entry.level);
@@ -218,6 +219,7 @@ fn put_entries<W: Sink>(
 ) -> Result<(), RecordFault>
     ensures lines { Took (W.taken sink.old) (W.taken sink.new)
         (SendsText (lines_among layout.now (tree_of entry.now)) sent.old sent.new result) }
+    ensures few { sent.new ≤ sent.old + longest_line * entries_in (tree_of entry.now) }
     ensures kind { IfErr result (λ fault. is_write_fault fault ≡ true) }
     ensures cause { W.failures sink.new ≡ counted (is_err result) (W.failures sink.old) }
     ensures errors { W.errors sink.new ≡ counted (is_write_error result) (W.errors sink.old) }

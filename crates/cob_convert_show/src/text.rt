@@ -34,6 +34,7 @@ pub(crate) fn put<W: Sink>(sink: &mut W, sent: &mut u64, text: &[u8]) -> Result<
     // The sink took the text, or where it failed a beginning that is less than the whole.
     ensures lines { Took (W.taken sink.old) (W.taken sink.new)
         (SendsText text.now sent.old sent.new result) }
+    ensures few { sent.new ≤ sent.old + length text.now }
     ensures kind { IfErr result (λ fault. is_write_fault fault ≡ true) }
     ensures cause { W.failures sink.new ≡ counted (is_err result) (W.failures sink.old) }
     ensures errors { W.errors sink.new ≡ counted (is_write_error result) (W.errors sink.old) }
