@@ -36,7 +36,7 @@ fn list_to_end<R: Files + Print>(
 ) -> Result<(), DeviceFault>
     ensures { OnOk result (writer_buffer (sink_writer sink.new) ≡ []) }
 {
-    match layout_text(&listed.book, &listed.layout, sink) {
+    match layout_text(&listed.layout, sink) {
         Ok(()) => sink.flush(),
         Err(_) => Err(DeviceFault),
     }

@@ -23,7 +23,7 @@ use Rattle.cob_layout.specs.Sound.{IsSound, RecordsAreSound}
 use Rattle.cob_layout.specs.Ways.{Held, held_in, own_table, spot_at, moved, first_element}
 use Rattle.cob_layout.proofs.SpotLaw.{AreSpots, AreHeld, are_spots, nowhere, stands_moved}
 use Rattle.cob_layout.proofs.WayLaw.{held_alone}
-use Rattle.cob_convert_show.specs.Elements.{NamedItem, Printed, AllStand, AreSubscripts, IsLaidOut, ItemsStand, Stands, named_in, own_item, own_of}
+use Rattle.cob_convert_show.specs.Elements.{NamedItem, Printed, AllStand, AreSubscriptsUpTo, IsLaidOut, ItemsStand, StandsWithin, named_in, own_item, own_of}
 
 -- ---- lists of which each has a fact
 
@@ -39,7 +39,7 @@ all_become P Q (x ∷ xs) f each = (f x each.0, all_become P Q xs f each.1)
 
 -- those of an entry of its own are legal ones
 own_legal : (spots : List Spot) (o : ResolvedOccurs) (n number : ℕ) (inner : List ℕ) → (spot_at spots number).times ≤ n
-    → AreSubscripts (map (λ t. (spot_at spots t).times) (own_table o number)) inner
+    → AreSubscriptsUpTo (map (λ t. (spot_at spots t).times) (own_table o number)) inner
     → IsSubscripted (is_table o) n inner × (later (is_table o) inner ≡ [])
 own_legal spots Once n number inner most legal = (tt, legal)
 own_legal spots (Fixed m) n number [] most legal = absurd legal
@@ -49,8 +49,8 @@ own_legal spots (Varying least m count) n number (s ∷ inner) most legal = ((le
 
 -- and those of one beneath it begin with them
 kid_legal : (spots : List Spot) (o : ResolvedOccurs) (n number : ℕ) (ts inner : List ℕ) → (spot_at spots number).times ≤ n
-    → AreSubscripts (map (λ t. (spot_at spots t).times) (own_table o number ++ ts)) inner
-    → IsSubscripted (is_table o) n inner × AreSubscripts (map (λ t. (spot_at spots t).times) ts) (later (is_table o) inner)
+    → AreSubscriptsUpTo (map (λ t. (spot_at spots t).times) (own_table o number ++ ts)) inner
+    → IsSubscripted (is_table o) n inner × AreSubscriptsUpTo (map (λ t. (spot_at spots t).times) ts) (later (is_table o) inner)
 kid_legal spots Once n number ts inner most legal = (tt, legal)
 kid_legal spots (Fixed m) n number ts [] most legal = absurd legal
 kid_legal spots (Fixed m) n number ts (s ∷ inner) most legal = ((legal.0, omega (arith, legal.1, most)), legal.2)
@@ -64,7 +64,7 @@ record Among (spots : List Spot) (all : List Held) (over : List ℕ) (f : Forest
   tables : List ℕ
   is : x.tables ≡ over ++ tables
   held : (d : Held) → (get_or all x.number d).tables ≡ x.tables
-  refers : (inner : List ℕ) → AreSubscripts (map (λ t. (spot_at spots t).times) tables) inner → Refers x.number inner f
+  refers : (inner : List ℕ) → AreSubscriptsUpTo (map (λ t. (spot_at spots t).times) tables) inner → Refers x.number inner f
   sized : (spot_at spots x.number).length ≡ item_size x.item
 
 own_among : (c : Resolved → ℕ) (spots : List Spot) (all : List Held) (over : List ℕ) (e : Resolved) (children more : Forest Resolved) (at area : ℕ)
@@ -131,7 +131,7 @@ among c spots all (AnEntry e children more) over at area sp hs within =
 -- ---- elements
 
 -- an element that subscripts name which are there is there
-moved_within : (spots : List Spot) (ts inner : List ℕ) (f : Found) → f.within ≡ true → AreSubscripts (map (λ t. (spot_at spots t).times) ts) inner
+moved_within : (spots : List Spot) (ts inner : List ℕ) (f : Found) → f.within ≡ true → AreSubscriptsUpTo (map (λ t. (spot_at spots t).times) ts) inner
     → (moved spots ts inner f).within ≡ true
 moved_within spots [] inner f there legal = there
 moved_within spots (t ∷ ts) [] f there legal = absurd legal
@@ -161,7 +161,7 @@ stand_of : EndInLength → (r : Printed) → IsRecordDescription r.tree → IsSo
 stand_of law r described sound laid long x one = λ inner legal.
     let counts = r.places.counts in
     let spots = r.places.spots in
-    let refers = one.refers inner (subst (λ (ts : List ℕ). AreSubscripts (map (λ t. (spot_at spots t).times) ts) inner) one.is legal) in
+    let refers = one.refers inner (subst (λ (ts : List ℕ). AreSubscriptsUpTo (map (λ t. (spot_at spots t).times) ts) inner) one.is legal) in
     let stands : place_of (times counts) x.number r.tree 0 0 inner ≡ Some (moved spots x.tables inner (first_element spots x.number)) =
     stands_moved (times counts) r.tree spots (held_in [] r.tree) x.number inner (record { tables = []; end = 0 }) sound.numbered laid.1 refl refers
     ∙ ap (λ (ts : List ℕ). Some (moved spots ts inner (first_element spots x.number))) (one.held (record { tables = []; end = 0 })) in
@@ -196,6 +196,6 @@ none_of [] none = refl
 none_of (t ∷ ts) none = absurd (omega (arith, none))
 
 -- where no table is left the element itself stands
-pub stands_alone : (r : Printed) (x : NamedItem) (tables subscripts : List ℕ) → length tables ≡ 0 → AllStand r x tables subscripts → Stands r x subscripts
+pub stands_alone : (r : Printed) (x : NamedItem) (tables subscripts : List ℕ) → length tables ≡ 0 → AllStand r x tables subscripts → StandsWithin r x subscripts
 stands_alone r x tables subscripts none all =
-    subst (λ (ss : List ℕ). Stands r x ss) (append-nil subscripts) (subst (λ (ts : List ℕ). AllStand r x ts subscripts) (none_of tables none) all [] refl)
+    subst (λ (ss : List ℕ). StandsWithin r x ss) (append-nil subscripts) (subst (λ (ts : List ℕ). AllStand r x ts subscripts) (none_of tables none) all [] refl)

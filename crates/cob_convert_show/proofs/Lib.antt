@@ -5,3 +5,5 @@ pub mod PieceLemmas
 pub mod TurnLemmas
 pub mod ItemLemmas
 pub mod RunLemmas
+pub mod TextLemmas
+pub mod EntryLemmas

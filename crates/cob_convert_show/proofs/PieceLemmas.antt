@@ -9,9 +9,9 @@ use Rattle.cob_records.specs.Device.{Took}
 use Rattle.cob_records.specs.Hex.{byte_text}
 use Rattle.cob_convert_show.specs.declared.values.Notation.{Notation}
 use Rattle.cob_convert_show.specs.declared.values.Notation.TheVariants.{Characters, Digits}
-use Rattle.cob_convert_show.specs.Lines.{IsLineOf}
-use Rattle.cob_convert_show.specs.Sent.{Adds, BeginsOne, IsAddedTo, IsBeginning, IsBehind, Sends, Wrote}
-use Rattle.cob_convert_show.specs.Values.{ArePieces, AreQuoted, AreUnknown, IsPiece, escaped, is_escaped}
+use Rattle.cob_convert_show.specs.Lines.{IsLineWith}
+use Rattle.cob_convert_show.specs.Sent.{CountsSent, BeginsOne, IsAddedTo, IsBeginning, IsBehindFront, Sends, Wrote}
+use Rattle.cob_convert_show.specs.Values.{ArePieces, AreQuoted, AreUnknown, IsBytePiece, escaped, is_escaped}
 use Rattle.cob_convert_show.proofs.SentLemmas.{append_none, append_twice, begins_within, none_sent, sent_twice}
 
 -- ---- each byte has a piece
@@ -37,14 +37,14 @@ found_or_not [] byte = inr (λ c found. found)
 found_or_not (pair ∷ pairs) byte = found_by pair pairs byte (byte == pair.1) refl (found_or_not pairs byte)
 
 shown_there : (byte : ℕ) (b : Bool) → is_escaped byte ≡ b → (pairs : List (ℕ × ℕ)) → ((c : ℕ) → IsPairOf pairs c byte → IsCoded c byte)
-    → ((c : ℕ) → IsCoded c byte → IsPairOf pairs c byte) → (text : List ℕ) × IsPiece Characters byte text
+    → ((c : ℕ) → IsCoded c byte → IsPairOf pairs c byte) → (text : List ℕ) × IsBytePiece Characters byte text
 shown_there byte true is pairs to from = (escaped byte, inr (λ c coded. is, refl))
 shown_there byte false is pairs to from = elim (found_or_not pairs byte) [
   | inl found ↦ (found.0 ∷ [], inl (found.0, to found.0 found.1, is, refl))
   | inr none ↦ (escaped byte, inr (λ c coded. absurd (none c (from c coded)), refl))
 ]
 
-piece_there : (notation : Notation) (byte : ℕ) → (text : List ℕ) × IsPiece notation byte text
+piece_there : (notation : Notation) (byte : ℕ) → (text : List ℕ) × IsBytePiece notation byte text
 piece_there Characters byte = shown_there byte (is_escaped byte) refl table (λ c found. record { in_table = found }) (λ c coded. coded.in_table)
 piece_there Digits byte = (byte_text byte, refl)
 
@@ -67,7 +67,7 @@ pub record PiecesSoFar (notation : Notation) (front now bytes : List ℕ) (i bef
   pub done : List ℕ
   pub pieces : (rest : List ℕ) → ArePieces notation (drop i bytes) rest → ArePieces notation bytes (done ++ rest)
   pub is : part ++ now ≡ front ++ done
-  pub sum : Adds before sent part
+  pub sum : CountsSent before sent part
   pub took : w ≡ append_known w0 part
 
 pub no_pieces : (notation : Notation) (front bytes : List ℕ) (before : ℕ) (w : Option (List ℕ)) → PiecesSoFar notation front front bytes 0 before before w w
@@ -83,7 +83,7 @@ no_pieces notation front bytes before w = record {
 pub one_piece : (notation : Notation) (front now left next piece bytes : List ℕ) (i byte before sent after : ℕ) (w0 w w1 : Option (List ℕ))
     → PiecesSoFar notation front now bytes i before sent w0 w
     → Took w w1 (Sends (λ part. part ++ left ≡ now) (λ part. IsBeginning part now) sent after (Ok tt))
-    → i < length bytes → IsPiece notation (get_or bytes i byte) piece → next ≡ left ++ piece
+    → i < length bytes → IsBytePiece notation (get_or bytes i byte) piece → next ≡ left ++ piece
     → PiecesSoFar notation front next bytes (i + 1) before after w0 w1
 one_piece notation front now left next piece bytes i byte before sent after w0 w w1 so_far (p, (out, sum), took) low is at = record {
   part = so_far.part ++ p;
@@ -107,7 +107,7 @@ all_pieces notation front now bytes i before sent w0 w begun so_far end =
 pub cut_pieces : (notation : Notation) (front now left bytes : List ℕ) (i before sent after : ℕ) (fault : RecordFault) (w0 w w1 : Option (List ℕ)) (is : List ℕ → Type 0)
     → PiecesSoFar notation front now bytes i before sent w0 w
     → Took w w1 (Sends (λ part. part ++ left ≡ now) (λ part. IsBeginning part now) sent after (Err fault))
-    → Took w0 w1 (Sends is (BeginsOne (IsBehind front (ArePieces notation bytes))) before after (Err fault))
+    → Took w0 w1 (Sends is (BeginsOne (IsBehindFront front (ArePieces notation bytes))) before after (Err fault))
 cut_pieces notation front now left bytes i before sent after fault w0 w w1 is so_far (p, (begun, sum), took) =
     let rest = pieces_there notation (drop i bytes) in
     let whole : so_far.part ++ (now ++ rest.0) ≡ front ++ (so_far.done ++ rest.0) =
@@ -133,8 +133,8 @@ pub record EndsLine (front begun tail : List ℕ) (are is : List ℕ → Type 0)
   pub whole : (added : List ℕ) → front ++ (value added ++ 10 ∷ []) ≡ (begun ++ added) ++ tail
 
 pub cut_line : (front begun tail : List ℕ) (are is other : List ℕ → Type 0) (before after : ℕ) (fault : RecordFault) (w0 w1 : Option (List ℕ)) → EndsLine front begun tail are is
-    → Took w0 w1 (Sends other (BeginsOne (IsBehind begun are)) before after (Err fault))
-    → Took w0 w1 (Sends (IsLineOf front is) (BeginsOne (IsLineOf front is)) before after (Err fault))
+    → Took w0 w1 (Sends other (BeginsOne (IsBehindFront begun are)) before after (Err fault))
+    → Took w0 w1 (Sends (IsLineWith front is) (BeginsOne (IsLineWith front is)) before after (Err fault))
 cut_line front begun tail are is other before after fault w0 w1 ends (p, ((text, (added, so, at), (rest, cut, some)), sum), took) = (
   p,
   (
@@ -152,7 +152,7 @@ pub end_line : (front begun tail now text : List ℕ) (are is other : List ℕ �
     → EndsLine front begun tail are is → text ≡ now ++ tail
     → Took w0 w1 (Sends (IsAddedTo begun now are) other before between (Ok tt))
     → Took w1 w2 (Sends (λ part. part ≡ text) (λ part. IsBeginning part text) between after answer)
-    → Took w0 w2 (Sends (IsLineOf front is) (BeginsOne (IsLineOf front is)) before after answer)
+    → Took w0 w2 (Sends (IsLineWith front is) (BeginsOne (IsLineWith front is)) before after answer)
 end_line front begun tail now text are is other before between after answer w0 w1 w2 ends at (p, ((added, so, out), sum), took) (q, (wrote, more), further) = (
   p ++ q,
   (by_answer answer wrote, sent_twice before between after p q sum more),
@@ -163,7 +163,7 @@ end_line front begun tail now text are is other before between after answer w0 w
     whole = ap (λ (xs : List ℕ). p ++ xs) at ∙ sym (append_assoc p now tail) ∙ ap (λ (xs : List ℕ). xs ++ tail) out ∙ sym (ends.whole added)
 
     by_answer : (answer : Result (Unit {0}) RecordFault) → Wrote (λ part. part ≡ text) (λ part. IsBeginning part text) answer q
-        → Wrote (IsLineOf front is) (BeginsOne (IsLineOf front is)) answer (p ++ q)
+        → Wrote (IsLineWith front is) (BeginsOne (IsLineWith front is)) answer (p ++ q)
     by_answer (Ok done) same = (ends.value added, ends.so added so, ap (λ (xs : List ℕ). p ++ xs) same ∙ whole)
     by_answer (Err fault) (rest, cut, some) = (
       front ++ (ends.value added ++ 10 ∷ []),
@@ -182,17 +182,17 @@ sends_as is so begun cut before after (Err fault) w0 w1 f h (p, (wrote, sum), to
 pub begins_as : (is so : List ℕ → Type 0) → ((text : List ℕ) → is text → so text) → (part : List ℕ) → BeginsOne is part → BeginsOne so part
 begins_as is so f part (text, one, begun) = (text, f text one, begun)
 
-pub line_as : (is so : List ℕ → Type 0) (front : List ℕ) → ((value : List ℕ) → is value → so value) → (line : List ℕ) → IsLineOf front is line → IsLineOf front so line
+pub line_as : (is so : List ℕ → Type 0) (front : List ℕ) → ((value : List ℕ) → is value → so value) → (line : List ℕ) → IsLineWith front is line → IsLineWith front so line
 line_as is so front f line (value, one, at) = (value, f value one, at)
 
 -- a line whose value is so is one whose value is also so
 pub lines_as : (is so : List ℕ → Type 0) (front : List ℕ) (before after : ℕ) (answer : Result (Unit {0}) RecordFault) (w0 w1 : Option (List ℕ))
     → ((value : List ℕ) → is value → so value)
-    → Took w0 w1 (Sends (IsLineOf front is) (BeginsOne (IsLineOf front is)) before after answer)
-    → Took w0 w1 (Sends (IsLineOf front so) (BeginsOne (IsLineOf front so)) before after answer)
+    → Took w0 w1 (Sends (IsLineWith front is) (BeginsOne (IsLineWith front is)) before after answer)
+    → Took w0 w1 (Sends (IsLineWith front so) (BeginsOne (IsLineWith front so)) before after answer)
 lines_as is so front before after answer w0 w1 f took =
-    sends_as (IsLineOf front is) (IsLineOf front so) (BeginsOne (IsLineOf front is)) (BeginsOne (IsLineOf front so)) before after answer w0 w1
-    (line_as is so front f) (begins_as (IsLineOf front is) (IsLineOf front so) (line_as is so front f)) took
+    sends_as (IsLineWith front is) (IsLineWith front so) (BeginsOne (IsLineWith front is)) (BeginsOne (IsLineWith front so)) before after answer w0 w1
+    (line_as is so front f) (begins_as (IsLineWith front is) (IsLineWith front so) (line_as is so front f)) took
 
 -- ---- the two lines whose values are pieces
 

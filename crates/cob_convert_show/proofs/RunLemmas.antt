@@ -1,5 +1,5 @@
 -- Records that were shown so far, one more, and the end.
-use Rattle.std.proofs.Common.{◌≡◌, ℕ, ◌+◌, ◌-◌, ◌^◌, ◌<◌, ◌≤◌, min, List, [], ◌∷◌, ◌++◌, length, take, refl, sym, subst, ◌∙◌, ap, append_assoc, append-nil, arith, inl, inr, None, Some, Option, Ok, Err, Result}
+use Rattle.std.proofs.Common.{◌≡◌, ℕ, ◌+◌, ◌-◌, ◌^◌, ◌<◌, ◌≤◌, min, Bool, true, false, List, [], ◌∷◌, ◌++◌, length, take, refl, sym, subst, ◌∙◌, ap, append_assoc, append-nil, arith, inl, inr, None, Some, Option, Ok, Err, Result}
 use Rattle.std.proofs.lemmas.Grind.{common_steps}
 use Rattle.std.proofs.lemmas.List.Concat.{flat_map-append}
 use Rattle.std.proofs.lemmas.List.{length-append}
@@ -18,12 +18,13 @@ use Rattle.cob_records.specs.declared.records.RecordFault.TheVariants.{Truncated
 use Rattle.cob_records.specs.Device.{Told, Took}
 use Rattle.cob_records.specs.Frame.{Reads, IsLength, IsRecord, framed}
 use Rattle.cob_stream.specs.declared.fault.Cause.TheVariants.{Limit, Record}
+use Rattle.cob_stream.specs.declared.fault.Reason.{Reason}
+use Rattle.cob_stream.specs.Reasons.{frame_reason}
 use Rattle.cob_convert_show.specs.declared.records.ShowFault.{ShowFault}
 use Rattle.cob_convert_show.specs.declared.records.ShowFault.TheVariants.{Memory, Run}
-use Rattle.cob_convert_show.specs.declared.records.Stop.{Stop}
 use Rattle.cob_convert_show.specs.Lines.{AreRecordLines, BeginRecordLines}
 use Rattle.cob_convert_show.specs.Records.{IsFitting}
-use Rattle.cob_convert_show.specs.Runs.{AreListed, EndsShow, IsLegible, IsListed, ReadsNext, Shows, frames_of, lines_of, most_shown, stop_of}
+use Rattle.cob_convert_show.specs.Runs.{AreRecordsShown, EndsShow, IsLegible, IsRecordShown, ReadsNext, Shows, StopsReading, frames_of, lines_of, most_shown, count_reason}
 use Rattle.cob_convert_show.specs.Sent.{Sends}
 use Rattle.cob_convert_show.proofs.RecordLemmas.{own_places}
 use Rattle.cob_convert_show.proofs.SentLemmas.{append_none, append_twice}
@@ -65,20 +66,20 @@ refused_reading form greatest slot left rest ReadFailed reads = reads
 refused_reading form greatest slot left rest (WriteFailed taken) reads = absurd reads
 refused_reading form greatest slot left rest (TookNothing taken) reads = absurd reads
 
-pub next_refused : (form : Form) (tree : Forest Resolved) (slot : List ℕ) (fault : RecordFault) (stop : Stop) (r0 r1 : Option (List ℕ)) → stop ≡ record { offset = 0; cause = Record fault }
-    → Told r0 r1 (Reads form (greatest_length tree) slot (Err fault)) → Told r0 r1 (ReadsNext form tree slot (Err stop))
-next_refused form tree slot fault stop r0 r1 is t = told_as r0 r1 (Reads form (greatest_length tree) slot (Err fault)) (ReadsNext form tree slot (Err stop)) t
+pub next_refused : (form : Form) (tree : Forest Resolved) (slot : List ℕ) (fault : RecordFault) (why : Reason) (r0 r1 : Option (List ℕ)) → why ≡ frame_reason fault
+    → Told r0 r1 (Reads form (greatest_length tree) slot (Err fault)) → Told r0 r1 (ReadsNext form tree slot (Err why))
+next_refused form tree slot fault why r0 r1 is t = told_as r0 r1 (Reads form (greatest_length tree) slot (Err fault)) (ReadsNext form tree slot (Err why)) t
     (λ left rest p. inl (fault, refused_reading form (greatest_length tree) slot left rest fault p, is))
 
-pub next_miscounted : (form : Form) (tree : Forest Resolved) (slot : List ℕ) (count : ℕ) (fault : CountFault) (stop : Stop) (r0 r1 : Option (List ℕ)) → stop ≡ stop_of fault
-    → CountsOf tree (take count slot) (Err fault) → Told r0 r1 (Reads form (greatest_length tree) slot (Ok (Some count))) → Told r0 r1 (ReadsNext form tree slot (Err stop))
-next_miscounted form tree slot count fault stop r0 r1 is counts t = told_as r0 r1 (Reads form (greatest_length tree) slot (Ok (Some count))) (ReadsNext form tree slot (Err stop)) t
+pub next_miscounted : (form : Form) (tree : Forest Resolved) (slot : List ℕ) (count : ℕ) (fault : CountFault) (why : Reason) (r0 r1 : Option (List ℕ)) → why ≡ count_reason fault
+    → CountsOf tree (take count slot) (Err fault) → Told r0 r1 (Reads form (greatest_length tree) slot (Ok (Some count))) → Told r0 r1 (ReadsNext form tree slot (Err why))
+next_miscounted form tree slot count fault why r0 r1 is counts t = told_as r0 r1 (Reads form (greatest_length tree) slot (Ok (Some count))) (ReadsNext form tree slot (Err why)) t
     (λ left rest p. inr (take count slot, (p.1, p.2), inl (fault, counts, is)))
 
-pub next_unfitting : (form : Form) (tree : Forest Resolved) (s : Standing) (slot : List ℕ) (count : ℕ) (stop : Stop) (r0 r1 : Option (List ℕ)) → stop ≡ record { offset = 0; cause = Record Length }
+pub next_unfitting : (form : Form) (tree : Forest Resolved) (s : Standing) (slot : List ℕ) (count : ℕ) (why : Reason) (r0 r1 : Option (List ℕ)) → why ≡ frame_reason Length
     → StandsIn tree (take count slot) s → (IsFitting form (current_length s.counts tree) count → ⊥)
-    → Told r0 r1 (Reads form (greatest_length tree) slot (Ok (Some count))) → Told r0 r1 (ReadsNext form tree slot (Err stop))
-next_unfitting form tree s slot count stop r0 r1 is stands other t = told_as r0 r1 (Reads form (greatest_length tree) slot (Ok (Some count))) (ReadsNext form tree slot (Err stop)) t
+    → Told r0 r1 (Reads form (greatest_length tree) slot (Ok (Some count))) → Told r0 r1 (ReadsNext form tree slot (Err why))
+next_unfitting form tree s slot count why r0 r1 is stands other t = told_as r0 r1 (Reads form (greatest_length tree) slot (Ok (Some count))) (ReadsNext form tree slot (Err why)) t
     (λ left rest p. inr (
       take count slot,
       (p.1, p.2),
@@ -90,12 +91,22 @@ next_unfitting form tree s slot count stop r0 r1 is stands other t = told_as r0 
       ),
     ))
 
+-- what stops the reading of a record stands on the input's side
+reads_side : (form : Form) (tree : Forest Resolved) (why : Reason) (left rest : List ℕ) → StopsReading form tree why left rest → why.side ≡ In
+reads_side form tree why left rest (inl (fault, reads, is)) = ap (λ (r : Reason). r.side) is
+reads_side form tree why left rest (inr (input, comes, inl (fault, counts, is))) = ap (λ (r : Reason). r.side) is ∙ count_side fault.short fault.offset
+  where
+    count_side : (short : Bool) (offset : ℕ) → (count_reason (record { offset = offset; short = short })).side ≡ In
+    count_side true offset = refl
+    count_side false offset = refl
+reads_side form tree why left rest (inr (input, comes, inr (counts, are, unfit, is))) = ap (λ (r : Reason). r.side) is
+
 -- ---- the records so far
 
 -- n records came and are legible, and their lines went out
 pub record ListedSoFar (form : Form) (tree : Forest Resolved) (n written : ℕ) (r0 r w0 w : Option (List ℕ)) : Type 0 where
   pub pairs : List (List ℕ × List ℕ)
-  pub each : AreListed form tree 0 pairs
+  pub each : AreRecordsShown form tree 0 pairs
   pub count : length pairs ≡ n
   pub sum : written ≡ min (length (lines_of pairs)) (2 ^ 64 - 1)
   pub consumed : Consumes r0 r (frames_of form pairs)
@@ -121,14 +132,14 @@ consumes_from a None r t = tt
 consumes_from a (Some xs) None t = absurd t
 consumes_from a (Some xs) (Some ys) t = t
 
-each_more : (form : Form) (tree : Forest Resolved) (m : ℕ) (pairs : List (List ℕ × List ℕ)) (pair : List ℕ × List ℕ) → AreListed form tree m pairs
-    → IsListed form tree (m + length pairs + 1) pair → AreListed form tree m (pairs ++ pair ∷ [])
+each_more : (form : Form) (tree : Forest Resolved) (m : ℕ) (pairs : List (List ℕ × List ℕ)) (pair : List ℕ × List ℕ) → AreRecordsShown form tree m pairs
+    → IsRecordShown form tree (m + length pairs + 1) pair → AreRecordsShown form tree m (pairs ++ pair ∷ [])
 each_more form tree m [] pair each one =
     let is : m + 0 + 1 ≡ m + 1 = omega arith in
-    (subst (λ (k : ℕ). IsListed form tree k pair) is one, tt)
+    (subst (λ (k : ℕ). IsRecordShown form tree k pair) is one, tt)
 each_more form tree m (p ∷ pairs) pair each one =
     let is : m + length (p ∷ pairs) + 1 ≡ m + 1 + length pairs + 1 = omega arith in
-    (each.0, each_more form tree (m + 1) pairs pair each.1 (subst (λ (k : ℕ). IsListed form tree k pair) is one))
+    (each.0, each_more form tree (m + 1) pairs pair each.1 (subst (λ (k : ℕ). IsRecordShown form tree k pair) is one))
 
 pub one_listed : (form : Form) (tree : Forest Resolved) (n written after count : ℕ) (slot : List ℕ) (s : Standing) (begun : List ℕ → Type 0) (r0 r1 r2 w0 w1 w2 : Option (List ℕ))
     → ListedSoFar form tree n written r0 r1 w0 w1 → Told r1 r2 (ReadsNext form tree slot (Ok (Some count)))
@@ -145,7 +156,7 @@ one_listed form tree n written after count slot s begun r0 r1 r2 w0 w1 w2 so_far
     let more = sum (omega (arith, so_far.sum)) in
     record {
       pairs = so_far.pairs ++ pair ∷ [];
-      each = each_more form tree 0 so_far.pairs pair so_far.each (subst (λ (k : ℕ). IsListed form tree k pair) number (record { whole = whole; places = s; legible = legible; lines = lines }));
+      each = each_more form tree 0 so_far.pairs pair so_far.each (subst (λ (k : ℕ). IsRecordShown form tree k pair) number (record { whole = whole; places = s; legible = legible; lines = lines }));
       count = omega (arith, length-append so_far.pairs (pair ∷ []), so_far.count);
       sum = rw outs (omega (arith, length-append (lines_of so_far.pairs) p, so_far.sum, more));
       consumed = consumes_from _ r0 r2 (told_through _ r0 r1 r2 _ _ so_far.consumed next (λ left rest is. rw (ins, is) (sym (append_assoc _ _ rest))));
@@ -153,6 +164,10 @@ one_listed form tree n written after count slot s begun r0 r1 r2 w0 w1 w2 so_far
     }
 
 -- ---- the end
+
+-- the fault of a record that stopped it, for this reason
+abbrev pub fault_for : ℕ → ℕ → Reason → ShowFault
+fault_for number written why = Run (record { number = number; side = why.side; offset = why.offset; cause = why.cause; written = written })
 
 ends_at : (form : Form) (tree : Forest Resolved) (n written count sent : ℕ) (left rest part : List ℕ) (answer : Result ℕ ShowFault) → count ≡ n → written ≡ min sent (2 ^ 64 - 1)
     → EndsShow form tree n written left rest part answer → EndsShow form tree count sent left rest part answer
@@ -164,9 +179,9 @@ ends_at form tree n written count sent left rest part (Err (Run fault)) e s ends
 pub listed_ends : (form : Form) (tree : Forest Resolved) (n written : ℕ) (answer : Result ℕ ShowFault) (part : List ℕ) (r0 r1 r2 w0 w1 w2 : Option (List ℕ)) (P : List ℕ → List ℕ → Type 0)
     → ListedSoFar form tree n written r0 r1 w0 w1 → Told r1 r2 P → w2 ≡ append_known w1 part
     → ((left rest : List ℕ) → P left rest → EndsShow form tree n written left rest part answer)
-    → Told r0 r2 (λ bytes rest. Shows form tree answer bytes rest w0 w2)
+    → Told r0 r2 (Shows form tree answer w0 w2)
 listed_ends form tree n written answer part r0 r1 r2 w0 w1 w2 P so_far next put f =
-    told_through (frames_of form so_far.pairs) r0 r1 r2 P (λ bytes rest. Shows form tree answer bytes rest w0 w2) so_far.consumed next
+    told_through (frames_of form so_far.pairs) r0 r1 r2 P (Shows form tree answer w0 w2) so_far.consumed next
     (λ left rest p. record {
       pairs = so_far.pairs;
       left = left;
@@ -178,29 +193,29 @@ listed_ends form tree n written answer part r0 r1 r2 w0 w1 w2 P so_far next put 
     })
 
 pub clean_end : (form : Form) (tree : Forest Resolved) (n written : ℕ) (slot : List ℕ) (r0 r1 r2 w0 w1 : Option (List ℕ)) → ListedSoFar form tree n written r0 r1 w0 w1 → n < most_shown
-    → Told r1 r2 (ReadsNext form tree slot (Ok None)) → Told r0 r2 (λ bytes rest. Shows form tree (Ok n) bytes rest w0 w1)
+    → Told r1 r2 (ReadsNext form tree slot (Ok None)) → Told r0 r2 (Shows form tree (Ok n) w0 w1)
 clean_end form tree n written slot r0 r1 r2 w0 w1 so_far low next =
     listed_ends form tree n written (Ok n) [] r0 r1 r2 w0 w1 w1 (ReadsNext form tree slot (Ok None)) so_far next (append_none w1)
     (λ left rest p. (refl, low, p.0, p.1, refl))
 
-pub read_end : (form : Form) (tree : Forest Resolved) (n written : ℕ) (stop : Stop) (slot : List ℕ) (answer : Result ℕ ShowFault) (r0 r1 r2 w0 w1 : Option (List ℕ)) → ListedSoFar form tree n written r0 r1 w0 w1 → n < most_shown
-    → Told r1 r2 (ReadsNext form tree slot (Err stop))
-    → answer ≡ Err (Run (record { number = n + 1; side = In; offset = stop.offset; cause = stop.cause; written = written }))
-    → Told r0 r2 (λ bytes rest. Shows form tree answer bytes rest w0 w1)
-read_end form tree n written stop slot answer r0 r1 r2 w0 w1 so_far low next is =
-    subst (λ (a : Result ℕ ShowFault). Told r0 r2 (λ bytes rest. Shows form tree a bytes rest w0 w1)) (sym is)
-    (listed_ends form tree n written (Err (Run (record { number = n + 1; side = In; offset = stop.offset; cause = stop.cause; written = written }))) [] r0 r1 r2 w0 w1 w1
-    (ReadsNext form tree slot (Err stop)) so_far next (append_none w1)
-    (λ left rest p. (refl, omega (arith, so_far.sum), inr (inl (record { below = low; nothing = refl; side = refl; stops = p })))))
+pub read_end : (form : Form) (tree : Forest Resolved) (n written : ℕ) (why : Reason) (slot : List ℕ) (answer : Result ℕ ShowFault) (r0 r1 r2 w0 w1 : Option (List ℕ)) → ListedSoFar form tree n written r0 r1 w0 w1 → n < most_shown
+    → Told r1 r2 (ReadsNext form tree slot (Err why))
+    → answer ≡ Err (Run (record { number = n + 1; side = why.side; offset = why.offset; cause = why.cause; written = written }))
+    → Told r0 r2 (Shows form tree answer w0 w1)
+read_end form tree n written why slot answer r0 r1 r2 w0 w1 so_far low next is =
+    subst (λ (a : Result ℕ ShowFault). Told r0 r2 (Shows form tree a w0 w1)) (sym is)
+    (listed_ends form tree n written (Err (Run (record { number = n + 1; side = why.side; offset = why.offset; cause = why.cause; written = written }))) [] r0 r1 r2 w0 w1 w1
+    (ReadsNext form tree slot (Err why)) so_far next (append_none w1)
+    (λ left rest p. (refl, omega (arith, so_far.sum), inr (inl (record { below = low; nothing = refl; side = reads_side form tree why left rest p; stops = p })))))
 
 pub write_end : (form : Form) (tree : Forest Resolved) (n written after count : ℕ) (fault : RecordFault) (slot : List ℕ) (s : Standing) (is : List ℕ → Type 0) (answer : Result ℕ ShowFault) (r0 r1 r2 w0 w1 w2 : Option (List ℕ))
     → ListedSoFar form tree n written r0 r1 w0 w1 → n < most_shown → Told r1 r2 (ReadsNext form tree slot (Ok (Some count)))
     → IsRecord form (greatest_length tree) (take count slot) → IsLegible form tree (take count slot) s
     → Took w1 w2 (Sends is (BeginRecordLines (record { tree = tree; places = s; bytes = take count slot }) (n + 1)) written after (Err fault))
     → answer ≡ Err (Run (record { number = n + 1; side = Out; offset = 0; cause = Record fault; written = after }))
-    → Told r0 r2 (λ bytes rest. Shows form tree answer bytes rest w0 w2)
+    → Told r0 r2 (Shows form tree answer w0 w2)
 write_end form tree n written after count fault slot s is answer r0 r1 r2 w0 w1 w2 so_far low next whole legible (p, (begun, sum), took) at =
-    subst (λ (a : Result ℕ ShowFault). Told r0 r2 (λ bytes rest. Shows form tree a bytes rest w0 w2)) (sym at)
+    subst (λ (a : Result ℕ ShowFault). Told r0 r2 (Shows form tree a w0 w2)) (sym at)
     (listed_ends form tree n written (Err (Run (record { number = n + 1; side = Out; offset = 0; cause = Record fault; written = after }))) p r0 r1 r2 w0 w1 w2
     (ReadsNext form tree slot (Ok (Some count))) so_far next took
     (λ left rest q. (
@@ -222,9 +237,9 @@ write_end form tree n written after count fault slot s is answer r0 r1 r2 w0 w1 
 
 pub limit_end : (form : Form) (tree : Forest Resolved) (n written : ℕ) (answer : Result ℕ ShowFault) (r0 r1 w0 w1 : Option (List ℕ)) → ListedSoFar form tree n written r0 r1 w0 w1 → n ≡ most_shown
     → answer ≡ Err (Run (record { number = n + 1; side = In; offset = 0; cause = Limit; written = written }))
-    → Told r0 r1 (λ bytes rest. Shows form tree answer bytes rest w0 w1)
+    → Told r0 r1 (Shows form tree answer w0 w1)
 limit_end form tree n written answer r0 r1 w0 w1 so_far end is =
-    subst (λ (a : Result ℕ ShowFault). Told r0 r1 (λ bytes rest. Shows form tree a bytes rest w0 w1)) (sym is)
+    subst (λ (a : Result ℕ ShowFault). Told r0 r1 (Shows form tree a w0 w1)) (sym is)
     (listed_ends form tree n written (Err (Run (record { number = n + 1; side = In; offset = 0; cause = Limit; written = written }))) [] r0 r1 r1 w0 w1 w1
     (λ left rest. rest ≡ left) so_far (unread r0 r1 (frames_of form so_far.pairs) so_far.consumed) (append_none w1)
     (λ left rest p. (refl, omega (arith, so_far.sum), inl (record { limit = end; unread = p; nothing = refl; side = refl; offset = refl; cause = refl }))))
@@ -234,7 +249,7 @@ limit_end form tree n written answer r0 r1 w0 w1 so_far end is =
     unread r0 (Some xs) a c = refl
 
 -- nothing was read or written
-pub unshown : (form : Form) (tree : Forest Resolved) (answer : Result ℕ ShowFault) (r w : Option (List ℕ)) → answer ≡ Err Memory → Told r r (λ bytes rest. Shows form tree answer bytes rest w w)
+pub unshown : (form : Form) (tree : Forest Resolved) (answer : Result ℕ ShowFault) (r w : Option (List ℕ)) → answer ≡ Err Memory → Told r r (Shows form tree answer w w)
 unshown form tree answer None w is = tt
 unshown form tree answer (Some xs) w is = record {
   pairs = [];

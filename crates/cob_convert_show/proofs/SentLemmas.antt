@@ -1,5 +1,5 @@
 -- What a sink took, call behind call.
-use Rattle.std.proofs.Common.{◌≡◌, ℕ, ◌+◌, ◌-◌, ◌^◌, ◌<◌, min, List, [], ◌++◌, length, take, drop, Option, Some, None, refl, sym, ap, ◌∙◌, append_assoc, append-nil, arith, subst, Ok, Err, Result}
+use Rattle.std.proofs.Common.{◌≡◌, ℕ, ◌+◌, ◌-◌, ◌^◌, ◌<◌, ◌≤◌, min, List, [], ◌++◌, length, take, drop, Option, Some, None, refl, sym, ap, ◌∙◌, append_assoc, append-nil, arith, subst, Ok, Err, Result}
 use Rattle.std.proofs.lemmas.Grind.{common_steps}
 use Rattle.std.proofs.lemmas.List.{length-append, take-append-drop}
 use Rattle.std.specs.Io.KnownBytes.{append_known}
@@ -7,7 +7,7 @@ use Rattle.cob_records.specs.declared.records.RecordFault.{RecordFault}
 use Rattle.cob_records.specs.declared.records.RecordFault.TheVariants.{WriteFailed, TookNothing}
 use Rattle.cob_records.specs.Device.{Took}
 use Rattle.cob_records.specs.Frame.{Puts}
-use Rattle.cob_convert_show.specs.Sent.{Adds, BeginsOne, IsBeginning, Sends, Wrote, taken_by}
+use Rattle.cob_convert_show.specs.Sent.{CountsSent, BeginsOne, IsBeginning, Sends, Wrote, taken_by}
 
 pub append_none : (w : Option (List ℕ)) → w ≡ append_known w []
 append_none None = refl
@@ -27,12 +27,12 @@ pub took_both : (w0 w1 w2 : Option (List ℕ)) (P Q R : List ℕ → Type 0) →
 took_both w0 w1 w2 P Q R (p, is, at) (q, also, behind) f = (p ++ q, f p q is also, append_twice p q w0 w1 w2 at behind)
 
 -- what was sent, counted in two calls
-pub sent_twice : (before between after : ℕ) (p q : List ℕ) → Adds before between p → Adds between after q → Adds before after (p ++ q)
+pub sent_twice : (before between after : ℕ) (p q : List ℕ) → CountsSent before between p → CountsSent between after q → CountsSent before after (p ++ q)
 sent_twice before between after p q e f = λ low. let first = e low in
     let second = f (omega (arith, first)) in omega (arith, first, second, length-append p q)
 
 -- nothing was sent
-pub none_sent : (before : ℕ) → Adds before before []
+pub none_sent : (before : ℕ) → CountsSent before before []
 none_sent before = λ low. omega (arith, low)
 
 -- a part of a text went out, less than the whole
@@ -54,6 +54,13 @@ put_sends text (Err (TookNothing taken)) w0 w1 before after (part, is, at) sum =
     let begun = part_of text part taken is.0 is.1 in
     (part, (begun.0, λ low. omega (arith, sum, begun.1)), at)
 put_sends text (Err _) w0 w1 before after (part, is, at) sum = absurd is
+
+-- no more bytes went out than the text has
+pub put_few : (text : List ℕ) (answer : Result (Unit {0}) RecordFault) (w0 w1 : Option (List ℕ)) → Took w0 w1 (Puts text answer) → taken_by answer (length text) ≤ length text
+put_few text (Ok done) w0 w1 (part, is, at) = omega arith
+put_few text (Err (WriteFailed taken)) w0 w1 (part, is, at) = omega (arith, is.0)
+put_few text (Err (TookNothing taken)) w0 w1 (part, is, at) = omega (arith, is.0)
+put_few text (Err _) w0 w1 (part, is, at) = absurd is
 
 -- what is begun of a text is begun of the same behind a front and with more behind it
 pub begins_within : (front part text behind : List ℕ) → IsBeginning part text → IsBeginning (front ++ part) (front ++ (text ++ behind))

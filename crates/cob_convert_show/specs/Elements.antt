@@ -40,8 +40,8 @@ named_in over (AnEntry e children more) =
     own_of over e ++ (named_in (over ++ own_table e.occurs e.number) children ++ named_in over more)
 
 -- a named elementary item, as it is kept
-abbrev pub named : Named → NamedItem
-named n = record { number = n.number; name = n.name; item = n.item; tables = n.tables.items }
+abbrev pub named_item : Named → NamedItem
+named_item n = record { number = n.number; name = n.name; item = n.item; tables = n.tables.items }
 
 -- a record that is printed: its entries, its counts and where the entries stand under them, and its bytes
 pub record Printed : Type 0 where
@@ -50,22 +50,22 @@ pub record Printed : Type 0 where
   pub bytes : List ℕ
 
 -- what is printed of these contents
-abbrev pub printed : Contents → Printed
-printed c = record { tree = c.layout.now; places = c.places.now; bytes = c.bytes.now }
+abbrev pub printed_record : Contents → Printed
+printed_record c = record { tree = c.layout.now; places = c.places.now; bytes = c.bytes.now }
 
 -- the entries stand so under the record's counts
 abbrev pub IsLaidOut : Printed → Type 0
 IsLaidOut r = ArePlaces r.tree r.places.counts r.places
 
 -- how often these tables occur in the record
-abbrev pub times_of : Printed → List ℕ → List ℕ
-times_of r tables = map (λ t. (spot_at r.places.spots t).times) tables
+abbrev pub table_times : Printed → List ℕ → List ℕ
+table_times r tables = map (λ t. (spot_at r.places.spots t).times) tables
 
 -- subscripts, one for each table, from 1 to as often as it occurs
-abbrev pub AreSubscripts : List ℕ → List ℕ → Type 0
-AreSubscripts [] subscripts = subscripts ≡ []
-AreSubscripts (n ∷ ns) [] = ⊥
-AreSubscripts (n ∷ ns) (s ∷ subscripts) = (0 < s) × (s ≤ n) × AreSubscripts ns subscripts
+abbrev pub AreSubscriptsUpTo : List ℕ → List ℕ → Type 0
+AreSubscriptsUpTo [] subscripts = subscripts ≡ []
+AreSubscriptsUpTo (n ∷ ns) [] = ⊥
+AreSubscriptsUpTo (n ∷ ns) (s ∷ subscripts) = (0 < s) × (s ≤ n) × AreSubscriptsUpTo ns subscripts
 
 -- the element of an item with these subscripts stands there, as long as the item is
 pub record StandsAt (r : Printed) (x : NamedItem) (subscripts : List ℕ) (place : Place) : Type 0 where
@@ -73,7 +73,7 @@ pub record StandsAt (r : Printed) (x : NamedItem) (subscripts : List ℕ) (place
   pub sized : place.length ≡ item_size x.item
 
 -- so it does within the record's bytes, and the reference is a legal one
-pub record Stands (r : Printed) (x : NamedItem) (subscripts : List ℕ) : Type 0 where
+pub record StandsWithin (r : Printed) (x : NamedItem) (subscripts : List ℕ) : Type 0 where
   pub refers : Refers x.number subscripts r.tree
   pub place : Place
   pub at : StandsAt r x subscripts place
@@ -82,7 +82,7 @@ pub record Stands (r : Printed) (x : NamedItem) (subscripts : List ℕ) : Type 0
 -- so it is of each element of the item under these subscripts and further ones, one for each of the tables that are left
 abbrev pub AllStand : Printed → NamedItem → List ℕ → List ℕ → Type 0
 AllStand r x tables subscripts =
-    (inner : List ℕ) → AreSubscripts (times_of r tables) inner → Stands r x (subscripts ++ inner)
+    (inner : List ℕ) → AreSubscriptsUpTo (table_times r tables) inner → StandsWithin r x (subscripts ++ inner)
 
 -- so it is of all elements of these items
 abbrev pub ItemsStand : Printed → List NamedItem → Type 0

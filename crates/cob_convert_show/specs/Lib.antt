@@ -4,3 +4,4 @@ pub mod Elements
 pub mod Sent
 pub mod Lines
 pub mod Runs
+pub mod Entries

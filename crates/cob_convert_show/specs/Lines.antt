@@ -1,9 +1,13 @@
 -- The lines that are printed of a record.
-use Rattle.std.specs.Prelude.{◌≡◌, ℕ, zero, suc, ◌<◌, ◌⊎◌, List, [], ◌∷◌, ◌++◌, codes, decimal}
+use Rattle.std.specs.Prelude.{◌≡◌, ℕ, zero, suc, ◌<◌, ◌⊎◌, List, [], ◌∷◌, ◌++◌, map, codes, decimal, Result}
 use Rattle.cob_layout.specs.declared.fields.Place.{Place}
 use Rattle.cob_layout.specs.Fields.{field_of}
-use Rattle.cob_convert_show.specs.Elements.{NamedItem, Printed, StandsAt, named_in, times_of}
-use Rattle.cob_convert_show.specs.Sent.{BeginsOne, IsBeginning}
+use Rattle.cob_layout_places.specs.declared.reference.Ref.{Ref}
+use Rattle.cob_records.specs.declared.records.RecordFault.{RecordFault}
+use Rattle.cob_convert_show.specs.declared.elements.Contents.{Contents}
+use Rattle.cob_convert_show.specs.declared.named.Named.{Named}
+use Rattle.cob_convert_show.specs.Elements.{NamedItem, Printed, StandsAt, named_in, named_item, printed_record, table_times}
+use Rattle.cob_convert_show.specs.Sent.{BeginsOne, IsBeginning, Sends, SendsOne}
 use Rattle.cob_convert_show.specs.Values.{IsValueShown}
 
 -- further subscripts, each behind a comma
@@ -21,14 +25,14 @@ abbrev pub front_text : List ℕ → List ℕ → ℕ → List ℕ
 front_text name subscripts offset = name ++ (subscripts_text subscripts ++ 32 ∷ (decimal offset ++ 32 ∷ []))
 
 -- a line with this front, and behind it a value that is so
-abbrev pub IsLineOf : List ℕ → (List ℕ → Type 0) → List ℕ → Type 0
-IsLineOf front is line = (value : List ℕ) × is value × (line ≡ front ++ (value ++ 10 ∷ []))
+abbrev pub IsLineWith : List ℕ → (List ℕ → Type 0) → List ℕ → Type 0
+IsLineWith front is line = (value : List ℕ) × is value × (line ≡ front ++ (value ++ 10 ∷ []))
 
 -- the line of an element of an item: its name with its subscripts, its offset, and its value
 abbrev pub IsElementLine : Printed → NamedItem → List ℕ → List ℕ → Type 0
 IsElementLine r x subscripts line =
     (place : Place) × StandsAt r x subscripts place
-    × IsLineOf (front_text x.name subscripts place.offset) (IsValueShown x.item (field_of place r.bytes)) line
+    × IsLineWith (front_text x.name subscripts place.offset) (IsValueShown x.item (field_of place r.bytes)) line
 
 -- so many texts one behind another, each so by its number from 1 on
 abbrev pub AreInTurn : (ℕ → List ℕ → Type 0) → ℕ → List ℕ → Type 0
@@ -57,14 +61,14 @@ BeginElementLines r x (n ∷ ns) subscripts part =
 abbrev pub AreItemLines : Printed → List NamedItem → List ℕ → Type 0
 AreItemLines r [] text = text ≡ []
 AreItemLines r (x ∷ xs) text =
-    (front : List ℕ) × (rest : List ℕ) × AreElementLines r x (times_of r x.tables) [] front × AreItemLines r xs rest × (text ≡ front ++ rest)
+    (front : List ℕ) × (rest : List ℕ) × AreElementLines r x (table_times r x.tables) [] front × AreItemLines r xs rest × (text ≡ front ++ rest)
 
 -- a beginning of these lines
 abbrev pub BeginItemLines : Printed → List NamedItem → List ℕ → Type 0
 BeginItemLines r [] part = ⊥
 BeginItemLines r (x ∷ xs) part =
-    BeginElementLines r x (times_of r x.tables) [] part
-    ⊎ ((front : List ℕ) × (rest : List ℕ) × AreElementLines r x (times_of r x.tables) [] front × BeginItemLines r xs rest × (part ≡ front ++ rest))
+    BeginElementLines r x (table_times r x.tables) [] part
+    ⊎ ((front : List ℕ) × (rest : List ℕ) × AreElementLines r x (table_times r x.tables) [] front × BeginItemLines r xs rest × (part ≡ front ++ rest))
 
 -- the line with the number of a record
 abbrev pub number_line : ℕ → List ℕ
@@ -79,3 +83,24 @@ abbrev pub BeginRecordLines : Printed → ℕ → List ℕ → Type 0
 BeginRecordLines r number part =
     IsBeginning part (number_line number)
     ⊎ ((lines : List ℕ) × BeginItemLines r (named_in [] r.tree) lines × (part ≡ number_line number ++ lines))
+
+-- the line of the element of an item that this reference names went out
+abbrev pub SendsElement : Contents → Named → Ref → ℕ → ℕ → Result (Unit {0}) RecordFault → List ℕ → Type 0
+SendsElement c x reference before after answer part =
+    SendsOne (IsElementLine (printed_record c) (named_item x) reference.subscripts.items) before after answer part
+
+-- the lines of the elements of an item went out: under the subscripts of the reference, which are those of its outer tables, those of each element
+-- of these tables, which are left
+abbrev pub SendsElements : Contents → Named → List ℕ → Ref → ℕ → ℕ → Result (Unit {0}) RecordFault → List ℕ → Type 0
+SendsElements c x tables reference before after answer part =
+    Sends (AreElementLines (printed_record c) (named_item x) (table_times (printed_record c) tables) reference.subscripts.items)
+    (BeginElementLines (printed_record c) (named_item x) (table_times (printed_record c) tables) reference.subscripts.items) before after answer part
+
+-- the lines of these items went out
+abbrev pub SendsItems : Contents → List Named → ℕ → ℕ → Result (Unit {0}) RecordFault → List ℕ → Type 0
+SendsItems c items before after answer part =
+    Sends (AreItemLines (printed_record c) (map named_item items)) (BeginItemLines (printed_record c) (map named_item items)) before after answer part
+
+-- the lines of a record went out
+abbrev pub SendsRecord : Printed → ℕ → ℕ → ℕ → Result (Unit {0}) RecordFault → List ℕ → Type 0
+SendsRecord r number before after answer part = Sends (AreRecordLines r number) (BeginRecordLines r number) before after answer part

@@ -1,5 +1,5 @@
 -- Which records are shown, and what stops them.
-use Rattle.std.specs.Prelude.{◌≡◌, ℕ, ◌<◌, ◌≤◌, Bool, false, Option, Ok, Err, Result}
+use Rattle.std.specs.Prelude.{◌≡◌, ℕ, ◌<◌, ◌≤◌, Bool, false, List, length, IfSome, Option, Ok, Err, Result}
 use Rattle.cob_records.specs.declared.records.Form.{Form}
 use Rattle.cob_records.specs.declared.records.Form.TheVariants.{Fixed, Variable}
 use Rattle.cob_stream.specs.declared.fault.Cause.{Cause}
@@ -10,18 +10,12 @@ use Rattle.cob_layout.specs.Standing.{Standing, ArePlaces}
 use Rattle.cob_layout.specs.Storage.{current_length}
 use Rattle.cob_convert_show.specs.declared.records.ShowFault.{ShowFault}
 use Rattle.cob_convert_show.specs.declared.records.ShowFault.TheVariants.{Memory, Run}
-use Rattle.cob_convert_show.specs.declared.records.Stop.{Stop}
 
 -- a record stopped it, for a cause of this kind
 abbrev pub stopped_by : (Cause → Bool) → Result ℕ ShowFault → Bool
 stopped_by is (Ok number) = false
 stopped_by is (Err Memory) = false
 stopped_by is (Err (Run fault)) = is fault.cause
-
--- the next record is not shown, for a cause of this kind
-abbrev pub refused_by : (Cause → Bool) → Result (Option ℕ) Stop → Bool
-refused_by is (Ok found) = false
-refused_by is (Err stop) = is stop.cause
 
 -- what stops a record: a count that is not valid, at its offset, or a frame, or the number of records, which have none
 abbrev pub IsStop : ℕ → Cause → Type 0
@@ -43,3 +37,7 @@ IsFitting Variable current count = count ≡ current
 -- the entries of a record stand so under its counts, and so many bytes hold it
 abbrev pub HoldsRecord : Forest Resolved → Standing → ℕ → Type 0
 HoldsRecord tree s count = ArePlaces tree s.counts s × (current_length s.counts tree ≤ count)
+
+-- so they do within a slice, if a record of so many bytes came into it
+abbrev pub HoldsAny : Forest Resolved → Standing → List ℕ → Option ℕ → Type 0
+HoldsAny tree s slot found = IfSome found (λ count. (count ≤ length slot) × HoldsRecord tree s count)

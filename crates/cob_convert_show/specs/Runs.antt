@@ -13,10 +13,11 @@ use Rattle.cob_records.specs.declared.records.RecordFault.{RecordFault}
 use Rattle.cob_records.specs.declared.records.RecordFault.TheVariants.{Length}
 use Rattle.cob_records.specs.Frame.{Reads, framed, IsRecord}
 use Rattle.cob_stream.specs.declared.fault.Cause.TheVariants.{Count, Limit, Record}
+use Rattle.cob_stream.specs.declared.fault.Reason.{Reason}
 use Rattle.cob_stream.specs.declared.fault.RunFault.{RunFault}
+use Rattle.cob_stream.specs.Reasons.{frame_reason, reason_of}
 use Rattle.cob_convert_show.specs.declared.records.ShowFault.{ShowFault}
 use Rattle.cob_convert_show.specs.declared.records.ShowFault.TheVariants.{Memory, Run}
-use Rattle.cob_convert_show.specs.declared.records.Stop.{Stop}
 use Rattle.cob_convert_show.specs.Lines.{AreRecordLines, BeginRecordLines}
 use Rattle.cob_convert_show.specs.Records.{IsFitting}
 
@@ -31,16 +32,16 @@ pub record IsLegible (form : Form) (tree : Forest Resolved) (input : List ℕ) (
   pub long : IsFitting form (current_length s.counts tree) (length input)
 
 -- a record that came whole, with the lines that are printed of it under its number
-pub record IsListed (form : Form) (tree : Forest Resolved) (number : ℕ) (pair : List ℕ × List ℕ) : Type 0 where
+pub record IsRecordShown (form : Form) (tree : Forest Resolved) (number : ℕ) (pair : List ℕ × List ℕ) : Type 0 where
   pub whole : IsRecord form (greatest_length tree) pair.0
   pub places : Standing
   pub legible : IsLegible form tree pair.0 places
   pub lines : AreRecordLines (record { tree = tree; places = places; bytes = pair.0 }) number pair.1
 
 -- such records one behind another, behind n others
-abbrev pub AreListed : Form → Forest Resolved → ℕ → List (List ℕ × List ℕ) → Type 0
-AreListed form tree n [] = Unit {0}
-AreListed form tree n (pair ∷ pairs) = IsListed form tree (n + 1) pair × AreListed form tree (n + 1) pairs
+abbrev pub AreRecordsShown : Form → Forest Resolved → ℕ → List (List ℕ × List ℕ) → Type 0
+AreRecordsShown form tree n [] = Unit {0}
+AreRecordsShown form tree n (pair ∷ pairs) = IsRecordShown form tree (n + 1) pair × AreRecordsShown form tree (n + 1) pairs
 
 -- the frames of the records that came
 abbrev pub frames_of : Form → List (List ℕ × List ℕ) → List ℕ
@@ -54,28 +55,28 @@ lines_of pairs = flat_map (λ pair. pair.1) pairs
 abbrev pub ComesWhole : Form → Forest Resolved → List ℕ → List ℕ → List ℕ → Type 0
 ComesWhole form tree input left rest = IsRecord form (greatest_length tree) input × (left ≡ framed form input ++ rest)
 
--- the stop for a count: at its offset, or for the record's length where the count's item ends past the record
-abbrev pub stop_of : CountFault → Stop
-stop_of fault = if fault.short then record { offset = 0; cause = Record Length } else record { offset = fault.offset; cause = Count }
+-- the reason of a count that isn't valid: at its offset, or for the record's length where the count's item ends past the record
+abbrev pub count_reason : CountFault → Reason
+count_reason fault = if fault.short then frame_reason Length else record { side = In; offset = fault.offset; cause = Count }
 
 -- a record that came whole isn't legible: for its first count that isn't valid, or for another length than its counts say
-abbrev pub IsIllegible : Form → Forest Resolved → List ℕ → Stop → Type 0
-IsIllegible form tree input stop =
-    ((fault : CountFault) × CountsOf tree input (Err fault) × (stop ≡ stop_of fault))
+abbrev pub IsIllegible : Form → Forest Resolved → List ℕ → Reason → Type 0
+IsIllegible form tree input why =
+    ((fault : CountFault) × CountsOf tree input (Err fault) × (why ≡ count_reason fault))
     ⊎ ((counts : List ℕ) × CountsOf tree input (Ok counts) × (IsFitting form (current_length counts tree) (length input) → ⊥)
-    × (stop ≡ record { offset = 0; cause = Record Length }))
+    × (why ≡ frame_reason Length))
 
--- the next record stops it: its frame can't be read, or came whole and isn't legible
-abbrev pub StopsReading : Form → Forest Resolved → Stop → List ℕ → List ℕ → Type 0
-StopsReading form tree stop left rest =
-    ((fault : RecordFault) × Reads form (greatest_length tree) [] (Err fault) left rest × (stop ≡ record { offset = 0; cause = Record fault }))
-    ⊎ ((input : List ℕ) × ComesWhole form tree input left rest × IsIllegible form tree input stop)
+-- the next record stops it, for this reason: its frame can't be read, or came whole and isn't legible
+abbrev pub StopsReading : Form → Forest Resolved → Reason → List ℕ → List ℕ → Type 0
+StopsReading form tree why left rest =
+    ((fault : RecordFault) × Reads form (greatest_length tree) [] (Err fault) left rest × (why ≡ frame_reason fault))
+    ⊎ ((input : List ℕ) × ComesWhole form tree input left rest × IsIllegible form tree input why)
 
 -- what the answer to a call that reads the next record says of the bytes that were to come
-abbrev pub ReadsNext : Form → Forest Resolved → List ℕ → Result (Option ℕ) Stop → List ℕ → List ℕ → Type 0
+abbrev pub ReadsNext : Form → Forest Resolved → List ℕ → Result (Option ℕ) Reason → List ℕ → List ℕ → Type 0
 ReadsNext form tree slot (Ok None) left rest = (left ≡ []) × (rest ≡ [])
 ReadsNext form tree slot (Ok (Some count)) left rest = left ≡ framed form (take count slot) ++ rest
-ReadsNext form tree slot (Err stop) left rest = StopsReading form tree stop left rest
+ReadsNext form tree slot (Err why) left rest = StopsReading form tree why left rest
 
 -- as many records as at most were shown, and nothing behind them was read
 pub record LimitEnds (n : ℕ) (left rest part : List ℕ) (fault : RunFault) : Type 0 where
@@ -86,12 +87,12 @@ pub record LimitEnds (n : ℕ) (left rest part : List ℕ) (fault : RunFault) : 
   pub offset : fault.offset ≡ 0
   pub cause : fault.cause ≡ Limit
 
--- the next record couldn't be read
+-- the next record couldn't be read, for the reason that the fault tells
 pub record ReadEnds (form : Form) (tree : Forest Resolved) (n : ℕ) (left rest part : List ℕ) (fault : RunFault) : Type 0 where
   pub below : n < most_shown
   pub nothing : part ≡ []
   pub side : fault.side ≡ In
-  pub stops : StopsReading form tree (record { offset = fault.offset; cause = fault.cause }) left rest
+  pub stops : StopsReading form tree (reason_of fault) left rest
 
 -- the next record came whole and is legible, and its lines couldn't all be written
 pub record WriteEnds (form : Form) (tree : Forest Resolved) (n : ℕ) (left rest part : List ℕ) (fault : RunFault) : Type 0 where
@@ -115,13 +116,13 @@ EndsShow form tree n sent left rest part (Err (Run fault)) =
     (fault.number ≡ n + 1) × (fault.written ≡ min (sent + length part) (2 ^ 64 - 1))
     × (LimitEnds n left rest part fault ⊎ (ReadEnds form tree n left rest part fault ⊎ WriteEnds form tree n left rest part fault))
 
--- Records that were shown from these bytes, up to the rest, with this answer, on a sink that told `before` and tells `now`: those that came whole
+-- Records that were shown with this answer, on a sink that told `before` and tells `now`, from these bytes, up to the rest: those that came whole
 -- and are legible up to the first that stops it, and just their lines, with a beginning of the next one's where the sink failed.
-pub record Shows (form : Form) (tree : Forest Resolved) (answer : Result ℕ ShowFault) (bytes rest : List ℕ) (before now : Option (List ℕ)) : Type 0 where
+pub record Shows (form : Form) (tree : Forest Resolved) (answer : Result ℕ ShowFault) (before now : Option (List ℕ)) (bytes rest : List ℕ) : Type 0 where
   pub pairs : List (List ℕ × List ℕ)
   pub left : List ℕ
   pub part : List ℕ
   pub frames : bytes ≡ frames_of form pairs ++ left
-  pub each : AreListed form tree 0 pairs
+  pub each : AreRecordsShown form tree 0 pairs
   pub output : now ≡ append_known before (lines_of pairs ++ part)
   pub ends : EndsShow form tree (length pairs) (length (lines_of pairs)) left rest part answer

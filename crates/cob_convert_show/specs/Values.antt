@@ -34,15 +34,15 @@ IsByteShown byte text =
     ⊎ (((character : ℕ) → IsCoded character byte → is_escaped byte ≡ true) × (text ≡ escaped byte))
 
 -- how a byte is written: among characters, or by its digits
-abbrev pub IsPiece : Notation → ℕ → List ℕ → Type 0
-IsPiece Characters byte text = IsByteShown byte text
-IsPiece Digits byte text = text ≡ byte_text byte
+abbrev pub IsBytePiece : Notation → ℕ → List ℕ → Type 0
+IsBytePiece Characters byte text = IsByteShown byte text
+IsBytePiece Digits byte text = text ≡ byte_text byte
 
 -- bytes so written, one behind another
 abbrev pub ArePieces : Notation → List ℕ → List ℕ → Type 0
 ArePieces notation [] text = text ≡ []
 ArePieces notation (byte ∷ bytes) text =
-    (first : List ℕ) × (rest : List ℕ) × IsPiece notation byte first × ArePieces notation bytes rest × (text ≡ first ++ rest)
+    (first : List ℕ) × (rest : List ℕ) × IsBytePiece notation byte first × ArePieces notation bytes rest × (text ≡ first ++ rest)
 
 -- bytes as characters, in quotation marks
 abbrev pub AreQuoted : List ℕ → List ℕ → Type 0

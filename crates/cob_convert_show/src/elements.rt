@@ -6,9 +6,8 @@ ghost use Rattle.cob_records.specs.Device.{counted, Took};
 ghost use Rattle.cob_records.specs.Frame.{is_write_error, is_write_fault};
 ghost use Rattle.cob_copybook_tree.specs.Lengths.{item_size};
 ghost use Rattle.cob_layout.specs.Ways.{spot_at};
-ghost use Rattle.cob_convert_show.specs.Elements.{AllStand, IsLaidOut, ItemsStand, Stands, StandsAt, named, printed, times_of};
-ghost use Rattle.cob_convert_show.specs.Lines.{AreElementLines, AreItemLines, BeginElementLines, BeginItemLines, IsElementLine, front_text, further_text, subscripts_text};
-ghost use Rattle.cob_convert_show.specs.Sent.{BeginsOne, Sends};
+ghost use Rattle.cob_convert_show.specs.Elements.{AllStand, IsLaidOut, ItemsStand, StandsAt, StandsWithin, named_item, printed_record};
+ghost use Rattle.cob_convert_show.specs.Lines.{SendsElement, SendsElements, SendsItems, front_text, further_text, subscripts_text};
 
 use crate::named::Named;
 use crate::text::{Line, push_number, push_text};
@@ -72,10 +71,12 @@ fn front_of(name: &[u8], subscripts: &[u32], offset: u32) -> Line
 
 /// The place of an element that is there.
 fn place_of(contents: Contents, item: &Named, reference: &Ref) -> Place
-    requires laid { IsLaidOut (printed contents) }
+    requires laid { IsLaidOut (printed_record contents) }
     requires node { reference.now.node ≡ item.now.number }
-    requires stands { Stands (printed contents) (named item.now) reference.now.subscripts.items }
-    ensures at { StandsAt (printed contents.entry) (named item.now) reference.now.subscripts.items result }
+    requires stands { StandsWithin (printed_record contents) (named_item item.now)
+        reference.now.subscripts.items }
+    ensures at { StandsAt (printed_record contents.entry) (named_item item.now)
+        reference.now.subscripts.items result }
     ensures within { result.offset + result.length ≤ length contents.entry.bytes.now }
     ensures sized { result.length ≡ item_size item.now.item }
 {
@@ -96,13 +97,12 @@ fn put_element<W: Sink>(
     item: &Named,
     reference: &Ref,
 ) -> Result<(), RecordFault>
-    requires laid { IsLaidOut (printed contents) }
+    requires laid { IsLaidOut (printed_record contents) }
     requires node { reference.now.node ≡ item.now.number }
-    requires stands { Stands (printed contents) (named item.now) reference.now.subscripts.items }
+    requires stands { StandsWithin (printed_record contents) (named_item item.now)
+        reference.now.subscripts.items }
     ensures lines { Took (W.taken sink.old) (W.taken sink.new)
-        (Sends (IsElementLine (printed contents.entry) (named item.now) reference.now.subscripts.items)
-        (BeginsOne (IsElementLine (printed contents.entry) (named item.now)
-        reference.now.subscripts.items)) sent.old sent.new result) }
+        (SendsElement contents.entry item.now reference.now sent.old sent.new result) }
     ensures kind { IfErr result (λ fault. is_write_fault fault ≡ true) }
     ensures cause { W.failures sink.new ≡ counted (is_err result) (W.failures sink.old) }
     ensures errors { W.errors sink.new ≡ counted (is_write_error result) (W.errors sink.old) }
@@ -142,16 +142,13 @@ fn put_elements<W: Sink>(
     tables: &[usize],
     reference: &mut Ref,
 ) -> Result<(), RecordFault>
-    requires laid { IsLaidOut (printed contents) }
+    requires laid { IsLaidOut (printed_record contents) }
     requires node { reference.old.node ≡ item.now.number }
     requires room { length reference.old.subscripts.items + length tables.now ≤ most_dimensions }
-    requires stand { AllStand (printed contents) (named item.now) tables.now
+    requires stand { AllStand (printed_record contents) (named_item item.now) tables.now
         reference.old.subscripts.items }
     ensures lines { Took (W.taken sink.old) (W.taken sink.new)
-        (Sends (AreElementLines (printed contents.entry) (named item.now)
-        (times_of (printed contents.entry) tables.now) reference.old.subscripts.items)
-        (BeginElementLines (printed contents.entry) (named item.now)
-        (times_of (printed contents.entry) tables.now) reference.old.subscripts.items)
+        (SendsElements contents.entry item.now tables.now reference.old
         sent.old sent.new result) }
     ensures kind { IfErr result (λ fault. is_write_fault fault ≡ true) }
     ensures cause { W.failures sink.new ≡ counted (is_err result) (W.failures sink.old) }
@@ -178,12 +175,10 @@ pub(crate) fn put_items<W: Sink>(
     contents: Contents,
     items: &[Named],
 ) -> Result<(), RecordFault>
-    requires laid { IsLaidOut (printed contents) }
-    requires stand { ItemsStand (printed contents) (map named items.now) }
+    requires laid { IsLaidOut (printed_record contents) }
+    requires stand { ItemsStand (printed_record contents) (map named_item items.now) }
     ensures lines { Took (W.taken sink.old) (W.taken sink.new)
-        (Sends (AreItemLines (printed contents.entry) (map named items.now))
-        (BeginItemLines (printed contents.entry) (map named items.now))
-        sent.old sent.new result) }
+        (SendsItems contents.entry items.now sent.old sent.new result) }
     ensures kind { IfErr result (λ fault. is_write_fault fault ≡ true) }
     ensures cause { W.failures sink.new ≡ counted (is_err result) (W.failures sink.old) }
     ensures errors { W.errors sink.new ≡ counted (is_write_error result) (W.errors sink.old) }

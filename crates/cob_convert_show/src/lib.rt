@@ -2,7 +2,8 @@
 //! before and after records are converted.
 //!
 //! - [`layout_text`] writes a line for each entry of a copybook: its level, name, offset and length, what it is, what it redefines
-//!   and how often it occurs. It asks for no memory.
+//!   and how often it occurs. It asks for no memory, and finds the name behind a table that varies in few steps, however many
+//!   entries there are.
 //! - [`show`] reads records and writes for each named elementary item, and for each of its occurrences, a line with its name,
 //!   offset and value. It asks for memory before the first record alone; that it asks for none later is shown by tests.
 //!
@@ -19,11 +20,21 @@
 //! - a fault is one of reading or of writing exactly where a call of that end failed (`reads`, `writes`, `errors`), a stop is one of a
 //!   count, of a frame or of the number of records (`fault`), and where memory is refused nothing was read or written (`memory`).
 //!
-//! Of [`layout_text`] that its fault is one of writing, exactly where a call failed (`cause`, `errors`); what its lines look like is
-//! shown by the rows of `cob_convert_show_rows`.
+//! What is promised of [`layout_text`]:
 //!
-//! It stands on `cob_layout` for places and counts, on `cob_copybook_tree` for the numbers of items, on `cob_cp037` for characters, on
-//! `cob_records` for the ends, on `cob_stream` for the stop of a run, and on `arrayvec` and `itoa` for texts without memory.
+//! - the sink took just the lines of the entries, one for each in their order, a parent before those beneath it; where it failed, a
+//!   beginning of these lines, and the fault has the number of bytes of it (`lists`, by `ListsEntries` of specs/Entries.antt);
+//! - the line of an entry is its level in two digits; its name, or FILLER; the offset and the length of its first element where each
+//!   table has its greatest number of elements (`spots_of` of cob_layout_places says where that stands); a word for what it is; behind
+//!   `redefines` the name of the entry that it redefines; and behind `occurs` how often it occurs, a table that varies from its least to
+//!   its greatest number `on` the name of the item that counts it (`entry_line`). The word is `group`; of a number its kind of storage,
+//!   `zoned`, `separate`, `packed` or `binary`; of another item its category, which BLANK WHEN ZERO makes `numeric-edited`
+//!   (`kind_word`);
+//! - a fault is one of writing (`kind`), exactly where a call of the sink failed (`cause`, `errors`).
+//!
+//! It stands on `cob_layout` for places and counts, on `cob_copybook_tree` for entries and the numbers of items, on `cob_picture` for
+//! the categories of pictures, on `cob_cp037` for characters, on `cob_records` for the ends, on `cob_stream` for the stop of a run, and
+//! on `arrayvec` and `itoa` for texts without memory.
 #![tactic(auto)]
 
 mod elements;

@@ -5,7 +5,7 @@ ghost use Rattle.cob_copybook_tree.specs.Nodes.{node, tree_of};
 ghost use Rattle.cob_limits.specs.Limits.{most_dimensions};
 ghost use Rattle.cob_layout.specs.Sound.{own_dimension, AreNested};
 ghost use Rattle.cob_layout.specs.Ways.{own_table};
-ghost use Rattle.cob_convert_show.specs.Elements.{named, named_in, own_of};
+ghost use Rattle.cob_convert_show.specs.Elements.{named_item, named_in, own_of};
 
 use arrayvec::ArrayVec;
 use cob_layout::{Item, Kind, Name, Node, is_table};
@@ -45,8 +45,8 @@ fn with_own(over: &[usize], entry: &Node) -> Tables
 /// Adds an entry where it is a named elementary item; it stands in these tables.
 fn push_own(entry: &Node, over: &[usize], items: &mut Vec<Named>) -> Result<(), AllocError>
     requires { length over.now + own_dimension (node entry.now).top.occurs ≤ most_dimensions }
-    ensures { IfOk result (λ _. map named items.new.items
-        ≡ map named items.old.items ++ own_of over.now (node entry.now).top) }
+    ensures { IfOk result (λ _. map named_item items.new.items
+        ≡ map named_item items.old.items ++ own_of over.now (node entry.now).top) }
 {
     if let (Kind::Item(item), Some(name)) = (&entry.kind, &entry.name) {
         items.push(Named {
@@ -62,8 +62,8 @@ fn push_own(entry: &Node, over: &[usize], items: &mut Vec<Named>) -> Result<(), 
 /// Adds the named elementary items among an entry, which stands in these tables, and those beneath it, in their order.
 fn push_named(entry: &Node, over: &[usize], items: &mut Vec<Named>) -> Result<(), AllocError>
     requires { AreNested (length over.now) (tree_of entry.now) }
-    ensures { IfOk result (λ _. map named items.new.items
-        ≡ map named items.old.items ++ named_in over.now (tree_of entry.now)) }
+    ensures { IfOk result (λ _. map named_item items.new.items
+        ≡ map named_item items.old.items ++ named_in over.now (tree_of entry.now)) }
 {
     let within = with_own(over, entry);
     push_own(entry, over, items)?;
@@ -80,7 +80,7 @@ fn push_named(entry: &Node, over: &[usize], items: &mut Vec<Named>) -> Result<()
 /// Where no memory is left.
 pub(crate) fn named_items(alloc: Global, root: &Node) -> Result<Vec<Named>, AllocError>
     requires { AreNested 0 (tree_of root.now) }
-    ensures { IfOk result (λ items. map named items.items ≡ named_in [] (tree_of root.now)) }
+    ensures { IfOk result (λ items. map named_item items.items ≡ named_in [] (tree_of root.now)) }
 {
     let mut items = Vec::new(alloc);
     push_named(root, &[], &mut items)?;

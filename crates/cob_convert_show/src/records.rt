@@ -1,25 +1,27 @@
 //! The records of a file.
 
 ghost use Rattle.std.specs.Prelude.{◌≡◌, ◌≤◌, [], length, map, take, IfErr, IfOk, IfSome, IsFalse, IsTrue, Err, is_err, true, false};
-ghost use Rattle.cob_stream.specs.Reasons.{is_read_cause, is_write_cause, is_error_cause};
+ghost use Rattle.cob_stream.specs.Reasons.{frame_reason, is_error_cause, is_read_cause, is_refused_for, is_write_cause};
 ghost use Rattle.cob_copybook_tree.specs.Lengths.{greatest_number, sum_of};
 ghost use Rattle.cob_layout.specs.Standing.{AreSomePlaces, IsRoomFor};
 ghost use Rattle.cob_layout.specs.Storage.{current_length, greatest_length};
-ghost use Rattle.cob_convert_show.specs.Elements.{named, named_in, printed};
-ghost use Rattle.cob_convert_show.specs.Lines.{AreRecordLines, BeginRecordLines, number_line};
-ghost use Rattle.cob_convert_show.specs.Runs.{IsLegible, ReadsNext, Shows, stop_of};
-ghost use Rattle.cob_convert_show.specs.Sent.{IsBeginning, Sends};
+ghost use Rattle.cob_convert_show.specs.Elements.{named_item, named_in, printed_record};
+ghost use Rattle.cob_convert_show.specs.Lines.{SendsRecord, number_line};
+ghost use Rattle.cob_convert_show.specs.Runs.{IsLegible, ReadsNext, Shows, count_reason};
+ghost use Rattle.cob_convert_show.specs.Sent.{SendsText};
 ghost use Rattle.cob_records.specs.Device.{counted, Told, Took};
 ghost use Rattle.cob_records.specs.Frame.{IsRecord, is_write_error, is_write_fault};
-ghost use Rattle.cob_convert_show.specs.Records.{stopped_by, refused_by, HoldsRecord, IsFitting, IsStop, IsShowFault};
+ghost use Rattle.cob_convert_show.specs.Records.{stopped_by, HoldsAny, HoldsRecord, IsFitting, IsStop, IsShowFault};
 ghost use Rattle.cob_convert_show.specs.declared.records.ShowFault.TheVariants.{Memory, Run};
+ghost use Rattle.cob_layout_places.specs.declared.operands.Side.TheVariants.{In, Out};
+ghost use Rattle.cob_stream.specs.declared.fault.Cause.TheVariants.{Limit, Record};
 
 use crate::elements::{Contents, put_items};
 use crate::named::{Named, named_items};
 use crate::text::{Line, push_text, put};
 use cob_layout::{Book, CountFault, Layout, Places, places_end_in_length, records_are_sound};
 use cob_records::{Form, RecordFault, Sink, Source, next_record};
-use cob_stream::{Cause, RunFault, Side};
+use cob_stream::{Cause, Reason, RunFault, Side};
 use itoa::Buffer;
 use std::alloc::{AllocError, Global};
 
@@ -53,36 +55,31 @@ struct Shown<'a> {
     form: Form,
 }
 
-/// Why a record is not shown.
-#[derive(Clone, Copy)]
-struct Stop {
-    offset: u32,
-    cause: Cause,
-}
-
-/// The stop at a frame that cannot be read, or that is not one of the layout.
-fn frame_stop(fault: RecordFault) -> Stop
-    ensures cause { result ≡ record { offset = 0; cause = Cause.Record fault } }
+/// The reason of a frame that cannot be read, or that is not one of the layout.
+fn frame_reason(fault: RecordFault) -> Reason
+    ensures value { result ≡ frame_reason fault }
     ensures stop { IsStop result.offset result.cause }
 {
-    Stop {
+    Reason {
+        side: Side::In,
         offset: 0,
         cause: Cause::Record(fault),
     }
 }
 
-/// The stop at a count that isn't valid, or whose item ends past the record.
-fn count_stop(fault: CountFault) -> Stop
-    ensures value { result ≡ stop_of fault }
+/// The reason of a count that isn't valid, or whose item ends past the record.
+fn count_reason(fault: CountFault) -> Reason
+    ensures value { result ≡ count_reason fault }
     ensures stop { IsStop result.offset result.cause }
     ensures read { is_read_cause result.cause ≡ false }
     ensures wrote { is_write_cause result.cause ≡ false }
     ensures errors { is_error_cause result.cause ≡ false }
 {
     if fault.short {
-        return frame_stop(RecordFault::Length);
+        return frame_reason(RecordFault::Length);
     }
-    Stop {
+    Reason {
+        side: Side::In,
         offset: fault.offset,
         cause: Cause::Count,
     }
@@ -110,34 +107,33 @@ fn read_record<R: Source>(
     source: &mut R,
     bytes: &mut [u8],
     places: &mut Places,
-) -> Result<Option<usize>, Stop>
+) -> Result<Option<usize>, Reason>
     requires bytes { length bytes.old ≡ sum_of greatest_number layout.now }
     requires room { IsRoomFor layout.now places.old }
     ensures room { IsRoomFor layout.now places.new }
-    ensures record { IfOk result (λ found. IfSome found (λ count. (count ≤ length bytes.new)
-        × HoldsRecord layout.now places.new count)) }
+    ensures record { IfOk result (HoldsAny layout.now places.new bytes.new) }
     ensures whole { IfOk result (λ found. IfSome found
         (λ count. IsRecord form (greatest_length layout.now) (take count bytes.new))) }
     ensures legible { IfOk result (λ found. IfSome found
         (λ count. IsLegible form layout.now (take count bytes.new) places.new)) }
     ensures next { Told (R.coming source.old) (R.coming source.new)
         (ReadsNext form layout.now bytes.new result) }
-    ensures stop { IfErr result (λ stop. IsStop stop.offset stop.cause) }
-    ensures wrote { IfErr result (λ stop. is_write_cause stop.cause ≡ false) }
-    ensures errors { IfErr result (λ stop. is_error_cause stop.cause ≡ false) }
+    ensures stop { IfErr result (λ why. IsStop why.offset why.cause) }
+    ensures wrote { IfErr result (λ why. is_write_cause why.cause ≡ false) }
+    ensures errors { IfErr result (λ why. is_error_cause why.cause ≡ false) }
     ensures reads { R.failures source.new ≡ counted
-        (refused_by is_read_cause result) (R.failures source.old) }
+        (is_refused_for is_read_cause result) (R.failures source.old) }
 {
     let count = match next_record(source, form, layout.greatest(), bytes) {
         Ok(None) => return Ok(None),
         Ok(Some(count)) => count,
-        Err(fault) => return Err(frame_stop(fault)),
+        Err(fault) => return Err(frame_reason(fault)),
     };
     if let Err(fault) = layout.places_of(&bytes[..count], places) {
-        return Err(count_stop(fault));
+        return Err(count_reason(fault));
     }
     if !is_fitting(layout, form, places, count) {
-        return Err(frame_stop(RecordFault::Length));
+        return Err(frame_reason(RecordFault::Length));
     }
     Ok(Some(count))
 }
@@ -145,8 +141,7 @@ fn read_record<R: Source>(
 /// Writes the line with the number of a record.
 fn put_record_number<W: Sink>(sink: &mut W, sent: &mut u64, number: u64) -> Result<(), RecordFault>
     ensures lines { Took (W.taken sink.old) (W.taken sink.new)
-        (Sends (λ part. part ≡ number_line number) (λ part. IsBeginning part (number_line number))
-        sent.old sent.new result) }
+        (SendsText (number_line number) sent.old sent.new result) }
     ensures kind { IfErr result (λ fault. is_write_fault fault ≡ true) }
     ensures cause { W.failures sink.new ≡ counted (is_err result) (W.failures sink.old) }
     ensures errors { W.errors sink.new ≡ counted (is_write_error result) (W.errors sink.old) }
@@ -167,12 +162,11 @@ fn put_lines<W: Sink>(
     contents: Contents,
     items: &[Named],
 ) -> Result<(), RecordFault>
-    requires items { map named items.now ≡ named_in [] contents.layout.now }
+    requires items { map named_item items.now ≡ named_in [] contents.layout.now }
     requires record { HoldsRecord contents.layout.now contents.places.now
         (length contents.bytes.now) }
     ensures lines { Took (W.taken sink.old) (W.taken sink.new)
-        (Sends (AreRecordLines (printed contents.entry) number)
-        (BeginRecordLines (printed contents.entry) number) sent.old sent.new result) }
+        (SendsRecord (printed_record contents.entry) number sent.old sent.new result) }
     ensures kind { IfErr result (λ fault. is_write_fault fault ≡ true) }
     ensures cause { W.failures sink.new ≡ counted (is_err result) (W.failures sink.old) }
     ensures errors { W.errors sink.new ≡ counted (is_write_error result) (W.errors sink.old) }
@@ -184,21 +178,43 @@ fn put_lines<W: Sink>(
     put_items(sink, sent, contents, items)
 }
 
-/// The fault of a record that stopped it.
-fn stop_at(number: u64, side: Side, offset: u32, cause: Cause, written: u64) -> ShowFault
+/// The reason of lines that cannot be written.
+fn line_reason(fault: RecordFault) -> Reason
+    ensures { result ≡ record { side = Out; offset = 0; cause = Record fault } }
+{
+    Reason {
+        side: Side::Out,
+        offset: 0,
+        cause: Cause::Record(fault),
+    }
+}
+
+/// The reason of records that are more than are shown.
+fn limit_reason() -> Reason
+    ensures { result ≡ record { side = In; offset = 0; cause = Limit } }
+{
+    Reason {
+        side: Side::In,
+        offset: 0,
+        cause: Cause::Limit,
+    }
+}
+
+/// The fault of a record that stopped it, for this reason.
+fn stop_at(number: u64, reason: Reason, written: u64) -> ShowFault
     ensures { result ≡ Run record {
       number = number;
-      side = side;
-      offset = offset;
-      cause = cause;
+      side = reason.side;
+      offset = reason.offset;
+      cause = reason.cause;
       written = written;
     } }
 {
     ShowFault::Run(RunFault {
         number,
-        side,
-        offset,
-        cause,
+        side: reason.side,
+        offset: reason.offset,
+        cause: reason.cause,
         written,
     })
 }
@@ -211,11 +227,11 @@ fn show_records<R: Source, W: Sink>(
     source: &mut R,
     sink: &mut W,
 ) -> Result<u64, ShowFault>
-    requires items { map named shown.items.now ≡ named_in [] shown.layout.now }
+    requires items { map named_item shown.items.now ≡ named_in [] shown.layout.now }
     requires bytes { length bytes.old ≡ sum_of greatest_number shown.layout.now }
     requires room { IsRoomFor shown.layout.now places.old }
-    ensures shows { Told (R.coming source.old) (R.coming source.new) (λ bytes rest. Shows shown.entry.form
-        shown.entry.layout.now result bytes rest (W.taken sink.old) (W.taken sink.new)) }
+    ensures shows { Told (R.coming source.old) (R.coming source.new) (Shows
+        shown.entry.form shown.entry.layout.now result (W.taken sink.old) (W.taken sink.new)) }
     ensures fault { IfErr result IsShowFault }
     ensures record { result ≡ Err Memory → ⊥ }
     ensures reads { R.failures source.new ≡ counted
@@ -230,9 +246,7 @@ fn show_records<R: Source, W: Sink>(
         let count = match read_record(shown.layout, shown.form, source, bytes, places) {
             Ok(None) => return Ok(done),
             Ok(Some(count)) => count,
-            Err(Stop { offset, cause }) => {
-                return Err(stop_at(done + 1, Side::In, offset, cause, written));
-            }
+            Err(reason) => return Err(stop_at(done + 1, reason, written)),
         };
         let contents = Contents {
             layout: shown.layout,
@@ -240,10 +254,10 @@ fn show_records<R: Source, W: Sink>(
             bytes: &bytes[..count],
         };
         if let Err(fault) = put_lines(sink, &mut written, done + 1, contents, shown.items) {
-            return Err(stop_at(done + 1, Side::Out, 0, Cause::Record(fault), written));
+            return Err(stop_at(done + 1, line_reason(fault), written));
         }
     }
-    Err(stop_at(LIMIT + 1, Side::In, 0, Cause::Limit, written))
+    Err(stop_at(LIMIT + 1, limit_reason(), written))
 }
 
 /// The named elementary items of a book.
@@ -252,7 +266,7 @@ fn show_records<R: Source, W: Sink>(
 ///
 /// Where no memory is left.
 fn items_of(alloc: Global, book: &Book) -> Result<Vec<Named>, AllocError>
-    ensures { IfOk result (λ items. map named items.items ≡ named_in [] book.now) }
+    ensures { IfOk result (λ items. map named_item items.items ≡ named_in [] book.now) }
 {
     records_are_sound();
     named_items(alloc, book.root())
@@ -279,8 +293,8 @@ pub fn show<R: Source, W: Sink>(
 ) -> Result<u64, ShowFault>
     requires { book.now ≡ layout.now }
     // What came, what was written of it, and how it ended, where the source tells its bytes.
-    ensures shows { Told (R.coming source.old) (R.coming source.new) (λ bytes rest. Shows form
-        layout.now result bytes rest (W.taken sink.old) (W.taken sink.new)) }
+    ensures shows { Told (R.coming source.old) (R.coming source.new)
+        (Shows form layout.now result (W.taken sink.old) (W.taken sink.new)) }
     // A stop names a record, and is one of a count, of a frame, or of the number of records.
     ensures fault { IfErr result IsShowFault }
     // Where memory is refused nothing was read or written.

@@ -4,7 +4,7 @@ ghost use Rattle.std.specs.Prelude.{◌≡◌, ◌<◌, ◌≤◌, ◌+◌, ◌+
 ghost use Rattle.cob_limits.specs.Limits.{longest_record};
 ghost use Rattle.cob_records.specs.Device.{counted, Took};
 ghost use Rattle.cob_records.specs.Frame.{is_write_error, is_write_fault};
-ghost use Rattle.cob_convert_show.specs.Sent.{IsBeginning, Sends, taken_by};
+ghost use Rattle.cob_convert_show.specs.Sent.{SendsText, taken_by};
 
 use arrayvec::ArrayVec;
 use cob_records::{Form, RecordFault, Sink, put_record};
@@ -32,8 +32,9 @@ pub(crate) fn put<W: Sink>(sink: &mut W, sent: &mut u64, text: &[u8]) -> Result<
     requires some { 0 < length text.now }
     requires most { length text.now ≤ longest_record }
     // The sink took the text, or where it failed a beginning that is less than the whole.
-    ensures lines { Took (W.taken sink.old) (W.taken sink.new) (Sends (λ part. part ≡ text.now)
-        (λ part. IsBeginning part text.now) sent.old sent.new result) }
+    ensures lines { Took (W.taken sink.old) (W.taken sink.new)
+        (SendsText text.now sent.old sent.new result) }
+    ensures few { sent.new ≤ sent.old + length text.now }
     ensures kind { IfErr result (λ fault. is_write_fault fault ≡ true) }
     ensures cause { W.failures sink.new ≡ counted (is_err result) (W.failures sink.old) }
     ensures errors { W.errors sink.new ≡ counted (is_write_error result) (W.errors sink.old) }

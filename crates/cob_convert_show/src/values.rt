@@ -5,9 +5,9 @@ ghost use Rattle.cob_records.specs.Hex.{digit_character, byte_text};
 ghost use Rattle.cob_copybook_tree.specs.Lengths.{item_size};
 ghost use Rattle.cob_cp037.specs.Table.{IsCoded};
 ghost use Rattle.cob_copybook_tree.specs.Items.{IsNumberItem, Represents};
-ghost use Rattle.cob_convert_show.specs.Values.{IsNumberShown, IsNoNumber, IsByteShown, IsPiece, ArePieces, AreQuoted, AreUnknown, IsNumberValue, IsValueShown, is_escaped, escaped};
-ghost use Rattle.cob_convert_show.specs.Lines.{IsLineOf};
-ghost use Rattle.cob_convert_show.specs.Sent.{BeginsOne, IsAddedTo, IsBeginning, IsBehind, Sends};
+ghost use Rattle.cob_convert_show.specs.Values.{IsNumberShown, IsNoNumber, IsByteShown, IsBytePiece, ArePieces, AreQuoted, AreUnknown, IsNumberValue, IsValueShown, is_escaped, escaped};
+ghost use Rattle.cob_convert_show.specs.Lines.{IsLineWith};
+ghost use Rattle.cob_convert_show.specs.Sent.{SendsAdded, SendsFront, SendsOne};
 ghost use Rattle.cob_records.specs.Device.{counted, Took};
 ghost use Rattle.cob_records.specs.Frame.{is_write_error, is_write_fault};
 
@@ -116,7 +116,7 @@ fn digits_of(byte: u8) -> ArrayVec<u8, 4>
 
 /// How a byte is written.
 fn piece_of(notation: Notation, byte: u8) -> ArrayVec<u8, 4>
-    ensures piece { IsPiece notation byte result.items }
+    ensures piece { IsBytePiece notation byte result.items }
     ensures long { length result.items ≤ 4 }
 {
     match notation {
@@ -128,8 +128,7 @@ fn piece_of(notation: Notation, byte: u8) -> ArrayVec<u8, 4>
 /// Writes what a line holds where there is no room left in it for a further byte and for its end.
 fn make_room<W: Sink>(sink: &mut W, sent: &mut u64, line: &mut Line) -> Result<(), RecordFault>
     ensures lines { Took (W.taken sink.old) (W.taken sink.new)
-        (Sends (λ part. part ++ line.new.items ≡ line.old.items)
-        (λ part. IsBeginning part line.old.items) sent.old sent.new result) }
+        (SendsFront line.old.items line.new.items sent.old sent.new result) }
     ensures room { length line.new.items + 6 ≤ 256 }
     ensures kind { IfErr result (λ fault. is_write_fault fault ≡ true) }
     ensures cause { W.failures sink.new ≡ counted (is_err result) (W.failures sink.old) }
@@ -153,8 +152,7 @@ fn put_pieces<W: Sink>(
 ) -> Result<(), RecordFault>
     requires { length line.old.items + 2 ≤ 256 }
     ensures lines { Took (W.taken sink.old) (W.taken sink.new)
-        (Sends (IsAddedTo line.old.items line.new.items (ArePieces notation bytes.now))
-        (BeginsOne (IsBehind line.old.items (ArePieces notation bytes.now)))
+        (SendsAdded line.old.items line.new.items (ArePieces notation bytes.now)
         sent.old sent.new result) }
     ensures room { length line.new.items + 2 ≤ 256 }
     ensures kind { IfErr result (λ fault. is_write_fault fault ≡ true) }
@@ -177,8 +175,7 @@ fn put_characters<W: Sink>(
 ) -> Result<(), RecordFault>
     requires { length line.old.items + 66 ≤ 256 }
     ensures lines { Took (W.taken sink.old) (W.taken sink.new)
-        (Sends (IsLineOf line.old.items (AreQuoted bytes.now))
-        (BeginsOne (IsLineOf line.old.items (AreQuoted bytes.now))) sent.old sent.new result) }
+        (SendsOne (IsLineWith line.old.items (AreQuoted bytes.now)) sent.old sent.new result) }
     ensures kind { IfErr result (λ fault. is_write_fault fault ≡ true) }
     ensures cause { W.failures sink.new ≡ counted (is_err result) (W.failures sink.old) }
     ensures errors { W.errors sink.new ≡ counted (is_write_error result) (W.errors sink.old) }
@@ -199,8 +196,7 @@ fn put_unknown<W: Sink>(
 ) -> Result<(), RecordFault>
     requires { length line.old.items + 66 ≤ 256 }
     ensures lines { Took (W.taken sink.old) (W.taken sink.new)
-        (Sends (IsLineOf line.old.items (AreUnknown bytes.now))
-        (BeginsOne (IsLineOf line.old.items (AreUnknown bytes.now))) sent.old sent.new result) }
+        (SendsOne (IsLineWith line.old.items (AreUnknown bytes.now)) sent.old sent.new result) }
     ensures kind { IfErr result (λ fault. is_write_fault fault ≡ true) }
     ensures cause { W.failures sink.new ≡ counted (is_err result) (W.failures sink.old) }
     ensures errors { W.errors sink.new ≡ counted (is_write_error result) (W.errors sink.old) }
@@ -223,8 +219,7 @@ fn put_number<W: Sink>(
     requires number { IsNumberItem item.now }
     requires long { length bytes.now ≡ item_size item.now }
     ensures lines { Took (W.taken sink.old) (W.taken sink.new)
-        (Sends (IsLineOf line.old.items (IsNumberValue item.now bytes.now))
-        (BeginsOne (IsLineOf line.old.items (IsNumberValue item.now bytes.now)))
+        (SendsOne (IsLineWith line.old.items (IsNumberValue item.now bytes.now))
         sent.old sent.new result) }
     ensures kind { IfErr result (λ fault. is_write_fault fault ≡ true) }
     ensures cause { W.failures sink.new ≡ counted (is_err result) (W.failures sink.old) }
@@ -250,8 +245,7 @@ pub(crate) fn put_value<W: Sink>(
     requires room { length line.old.items + 66 ≤ 256 }
     requires long { length bytes.now ≡ item_size item.now }
     ensures lines { Took (W.taken sink.old) (W.taken sink.new)
-        (Sends (IsLineOf line.old.items (IsValueShown item.now bytes.now))
-        (BeginsOne (IsLineOf line.old.items (IsValueShown item.now bytes.now)))
+        (SendsOne (IsLineWith line.old.items (IsValueShown item.now bytes.now))
         sent.old sent.new result) }
     ensures kind { IfErr result (λ fault. is_write_fault fault ≡ true) }
     ensures cause { W.failures sink.new ≡ counted (is_err result) (W.failures sink.old) }

@@ -4,6 +4,7 @@
 //! answer each bar is the end of a printed line.
 //!
 //! - `layout`, record: a line for each entry.
+//! - `part`, record, number of bytes: the same, where the output takes no more than so many, and then the fault with how many it took.
 //! - `show`, record, form `f` or `v`, bytes in hexadecimal digits: the lines of the records that the bytes hold, and then `done` and how many
 //!   there were, or the fault of the one that stopped.
 //! - `room`, with a number of bytes behind: the same, where the output takes no more than so many.
@@ -49,17 +50,17 @@ fn push_lines(out: &mut String, text: &[u8]) -> Result<(), AllocError> {
     Ok(())
 }
 
-/// The lines of a record's entries.
-fn layout(alloc: Global, row: &Row, out: &mut String) -> Result<(), RowFault> {
+/// The lines of a record's entries, of which the output takes so many bytes.
+fn layout(alloc: Global, row: &Row, room: usize, out: &mut String) -> Result<(), RowFault> {
     let book = book_of(alloc, row)?;
     let layout = Layout::of(alloc, &book)?;
-    let mut room = vec![in alloc; 0u8; ROOM]?;
+    let mut room = vec![in alloc; 0u8; room]?;
     let mut sink = MemSink::new(&mut room);
-    let answer = layout_text(&book, &layout, &mut sink);
+    let answer = layout_text(&layout, &mut sink);
     push_lines(out, sink.taken())?;
     match answer {
         Ok(()) => Ok(()),
-        Err(fault) => Ok(write!(out, "{fault}")?),
+        Err(fault) => Ok(write!(out, "{fault} after {}", fault.taken())?),
     }
 }
 
@@ -89,7 +90,8 @@ struct ShowRows;
 impl Family for ShowRows {
     fn answer(alloc: Global, _table: &str, row: &Row, out: &mut String) -> Result<(), RowFault> {
         match row.field(0)?.as_bytes() {
-            b"layout" => layout(alloc, row, out),
+            b"layout" => layout(alloc, row, ROOM, out),
+            b"part" => layout(alloc, row, row.number(2)?, out),
             b"show" => records(alloc, row, ROOM, out),
             b"room" => records(alloc, row, row.number(4)?, out),
             _ => Err(RowFault::BadRow),

@@ -1,7 +1,7 @@
 -- Where no table is left the element itself stands; else the elements of the first one follow in turn.
 use Rattle.std.proofs.Common.{rules, arith, suc, Ok, Err}
 use Rattle.std.proofs.lemmas.Result.{err_from_is_err_and}
-use Rattle.cob_convert_show.specs.Elements.{named, printed}
+use Rattle.cob_convert_show.specs.Elements.{named_item, printed_record}
 use Rattle.cob_convert_show.specs.Lines.{AreBegunInTurn, AreInTurn}
 use Rattle.cob_convert_show.proofs.ElementLemmas.{stands_alone}
 use Rattle.cob_convert_show.proofs.TurnLemmas.{all_turns, cut_turn, inner_begun, inner_lines, one_turn, popped, table_sends, under_next}
@@ -12,8 +12,8 @@ put_element-requires-clause-stands g n c = stands_alone _ _ c.args.tables.now _ 
 
 pub loop-earlier-preserved : goal.loop-earlier-preserved
 loop-earlier-preserved g n c =
-    let r = printed c.args.contents in
-    let x = named c.args.item.now in
+    let r = printed_record c.args.contents in
+    let x = named_item c.args.item.now in
     let inner = c.in-Some.inner.now in
     let outer = c.args.reference.now.subscripts.items in
     let k = c.loop-earlier.earlier in
@@ -32,8 +32,8 @@ loop-earlier-preserved g n c =
 
 pub returns-in_err-put_elements-clause-lines : goal.returns-in_err-put_elements-clause-lines
 returns-in_err-put_elements-clause-lines g n c =
-    let r = printed c.args.contents in
-    let x = named c.args.item.now in
+    let r = printed_record c.args.contents in
+    let x = named_item c.args.item.now in
     let inner = c.in-Some.inner.now in
     let outer = c.args.reference.now.subscripts.items in
     let k = c.loop-earlier.earlier in
@@ -51,8 +51,8 @@ returns-in_err-put_elements-clause-lines g n c =
 
 pub returns-clause-lines : goal.returns-clause-lines
 returns-clause-lines g n c =
-    let r = printed c.args.contents in
-    let x = named c.args.item.now in
+    let r = printed_record c.args.contents in
+    let x = named_item c.args.item.now in
     let inner = c.in-Some.inner.now in
     let outer = c.args.reference.now.subscripts.items in
     let times = c.times_in-earlier-end.result in

@@ -1,6 +1,6 @@
 -- The lines of the elements so far went out, and the reference is as it was.
 use Rattle.std.proofs.Common.{◌≡◌, ◌++◌, ◌∷◌, [], length}
-use Rattle.cob_convert_show.specs.Elements.{named, printed, times_of}
+use Rattle.cob_convert_show.specs.Elements.{named_item, printed_record, table_times}
 use Rattle.cob_convert_show.specs.Lines.{AreElementLines}
 use Rattle.cob_convert_show.proofs.TurnLemmas.{InTurnSoFar}
 use Rattle.cob_convert_show.proofs.elements.+put_elements.Given as goal
@@ -12,7 +12,7 @@ abbrev pub invariant-loop-earlier : goal.invariant-loop-earlier
 invariant-loop-earlier g l = record {
   node : l.reference.node ≡ l.fn.reference.node;
   same : l.reference.subscripts.items ≡ l.fn.reference.subscripts.items;
-  so_far : InTurnSoFar (λ s lines. AreElementLines (printed l.contents) (named l.item) (times_of (printed l.contents) l.inner) (l.fn.reference.subscripts.items ++ s ∷ []) lines)
+  so_far : InTurnSoFar (λ s lines. AreElementLines (printed_record l.contents) (named_item l.item) (table_times (printed_record l.contents) l.inner) (l.fn.reference.subscripts.items ++ s ∷ []) lines)
       l.earlier l.fn.sent l.sent (g.W.Sink.taken l.fn.sink) (g.W.Sink.taken l.sink);
   writes : g.W.Sink.failures l.sink ≡ g.W.Sink.failures l.fn.sink;
   errors : g.W.Sink.errors l.sink ≡ g.W.Sink.errors l.fn.sink;

@@ -28,15 +28,15 @@ returns-clause-next g c =
 
 pub returns-in-Err-clause-next : goal.returns-in-Err-clause-next
 returns-in-Err-clause-next g c =
-    next_refused c.args.form c.args.layout.now c.next_record.new.slot c.in-Err.fault c.frame_stop.result _ _ c.frame_stop.ensures.cause (rw c.greatest.ensures.value at c.in-Err.ensures.frame)
+    next_refused c.args.form c.args.layout.now c.next_record.new.slot c.in-Err.fault c.frame_reason.result _ _ c.frame_reason.ensures.value (rw c.greatest.ensures.value at c.in-Err.ensures.frame)
 
 pub returns-in-Err-places_of-clause-next : goal.returns-in-Err-places_of-clause-next
 returns-in-Err-places_of-clause-next g c =
-    next_miscounted c.args.form c.args.layout.now c.next_record.new.slot c.in-Ok-Some.count c.in-Err-places_of.fault c.count_stop.result _ _ c.count_stop.ensures.value c.in-Err-places_of.ensures.err
+    next_miscounted c.args.form c.args.layout.now c.next_record.new.slot c.in-Ok-Some.count c.in-Err-places_of.fault c.count_reason.result _ _ c.count_reason.ensures.value c.in-Err-places_of.ensures.err
     (rw (c.in-Ok-Some.field-0-is, c.greatest.ensures.value) at c.in-Ok-Some.ensures.frame)
 
 pub returns-then-not-is_fitting-clause-next : goal.returns-then-not-is_fitting-clause-next
 returns-then-not-is_fitting-clause-next g c =
-    next_unfitting c.args.form c.args.layout.now c.places_of.new.places c.next_record.new.slot c.in-Ok-Some.count c.frame_stop-then-not-is_fitting.result _ _
-    c.frame_stop-then-not-is_fitting.ensures.cause c.in_default.ensures.ok (c.if-not-is_fitting.ensures.only refl)
+    next_unfitting c.args.form c.args.layout.now c.places_of.new.places c.next_record.new.slot c.in-Ok-Some.count c.frame_reason-then-not-is_fitting.result _ _
+    c.frame_reason-then-not-is_fitting.ensures.value c.in_default.ensures.ok (c.if-not-is_fitting.ensures.only refl)
     (rw (c.in-Ok-Some.field-0-is, c.greatest.ensures.value) at c.in-Ok-Some.ensures.frame)

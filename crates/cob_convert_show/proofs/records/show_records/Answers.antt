@@ -5,7 +5,7 @@ use Rattle.cob_convert_show.specs.declared.records.ShowFault.{ShowFault}
 use Rattle.cob_convert_show.specs.declared.records.ShowFault.TheVariants.{Run}
 use Rattle.cob_convert_show.specs.Elements.{Printed}
 use Rattle.cob_convert_show.specs.Lines.{AreRecordLines, BeginRecordLines}
-use Rattle.cob_convert_show.proofs.RunLemmas.{none_listed, one_listed, clean_end, read_end, write_end, limit_end}
+use Rattle.cob_convert_show.proofs.RunLemmas.{fault_for, none_listed, one_listed, clean_end, read_end, write_end, limit_end}
 use Rattle.cob_convert_show.proofs.records.show_records.Goals as goal
 
 pub loop-done-init : goal.loop-done-init
@@ -41,7 +41,7 @@ returns-in-Ok-None-clause-shows g c =
 
 pub returns-in-Err-clause-shows : goal.returns-in-Err-clause-shows
 returns-in-Err-clause-shows g c =
-    read_end c.args.shown.form c.args.shown.layout.now c.loop-done.done c.loop-done.written c.in-Err.field-0 c.read_record.new.bytes (Err c.stop_at.result) _ (g.R.Source.coming c.loop-done.source) _ _ _
+    read_end c.args.shown.form c.args.shown.layout.now c.loop-done.done c.loop-done.written c.in-Err.reason c.read_record.new.bytes (Err c.stop_at.result) _ (g.R.Source.coming c.loop-done.source) _ _ _
     c.loop-done.invariant.so_far (omega (arith, c.loop-done-test.true)) c.in-Err.ensures.next (ap (λ (f : ShowFault). Err f) c.stop_at.ensures)
 
 pub returns-in-Err-put_lines-clause-shows : goal.returns-in-Err-put_lines-clause-shows
@@ -52,12 +52,12 @@ returns-in-Err-put_lines-clause-shows g c =
     let legible = rw c.in-Ok-Some.field-0-is at c.in-Ok-Some.ensures.legible in
     write_end c.args.shown.form c.args.shown.layout.now c.loop-done.done c.loop-done.written c.put_lines.new.sent c.in-Ok-Some.count c.in-Err-put_lines.fault c.read_record.new.bytes c.read_record.new.places
     (AreRecordLines r (c.loop-done.done + 1)) (Err c.stop_at-in-Err-put_lines.result) _ (g.R.Source.coming c.loop-done.source) _ _ (g.W.Sink.taken c.loop-done.sink) _ c.loop-done.invariant.so_far (omega (arith, c.loop-done-test.true)) next whole legible
-    c.in-Err-put_lines.ensures.lines (ap (λ (f : ShowFault). Err f) c.stop_at-in-Err-put_lines.ensures)
+    c.in-Err-put_lines.ensures.lines (ap (λ (f : ShowFault). Err f) (c.stop_at-in-Err-put_lines.ensures ∙ ap (fault_for (c.loop-done.done + 1) c.put_lines.new.sent) c.line_reason.ensures))
 
 pub returns-clause-shows : goal.returns-clause-shows
 returns-clause-shows g c =
     let end : c.loop-done.done ≡ 18446744073709551614 = omega (arith, c.loop-done-test.false, c.loop-done.auto.done-end) in
     let number : 18446744073709551615 ≡ c.loop-done.done + 1 = omega (arith, end) in
     limit_end c.args.shown.form c.args.shown.layout.now c.loop-done.done c.loop-done.written (Err c.stop_at-2.result) _ _ _ _ c.loop-done.invariant.so_far end
-    (ap (λ (f : ShowFault). Err f) c.stop_at-2.ensures
+    (ap (λ (f : ShowFault). Err f) (c.stop_at-2.ensures ∙ ap (fault_for 18446744073709551615 c.loop-done.written) c.limit_reason.ensures)
     ∙ ap (λ (n : ℕ). Err (Run (record { number = n; side = In; offset = 0; cause = Limit; written = c.loop-done.written }))) number)

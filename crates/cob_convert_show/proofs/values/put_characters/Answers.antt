@@ -1,7 +1,7 @@
 use Rattle.std.proofs.Common.{[], ◌∷◌}
 use Rattle.std.proofs.lemmas.Result.{err_from_is_err_and}
 use Rattle.cob_convert_show.specs.declared.values.Notation.TheVariants.{Characters}
-use Rattle.cob_convert_show.specs.Sent.{BeginsOne, IsAddedTo, IsBehind}
+use Rattle.cob_convert_show.specs.Sent.{BeginsOne, IsAddedTo, IsBehindFront}
 use Rattle.cob_convert_show.specs.Values.{ArePieces, AreQuoted}
 use Rattle.cob_convert_show.proofs.PieceLemmas.{cut_line, end_line, quoted_ends, two_behind}
 use Rattle.cob_convert_show.proofs.values.put_characters.Goals as goal
@@ -18,6 +18,6 @@ pub returns-clause-lines : goal.returns-clause-lines
 returns-clause-lines g c =
     let are = ArePieces Characters c.args.bytes.now in
     end_line c.args.line.now.items c.push.new.self.items (34 ∷ 10 ∷ []) c.put_pieces.new.line.items c.as_slice.result.now are (AreQuoted c.args.bytes.now)
-    (BeginsOne (IsBehind c.push.new.self.items are)) c.args.sent.now c.put_pieces.new.sent c.put.new.sent c.put.result _ _ _
+    (BeginsOne (IsBehindFront c.push.new.self.items are)) c.args.sent.now c.put_pieces.new.sent c.put.new.sent c.put.result _ _ _
     (quoted_ends c.args.line.now.items c.push.new.self.items c.args.bytes.now c.push.ensures.items)
     (two_behind c.put_pieces.new.line.items c.push-2.new.self.items c.push-3.new.self.items c.as_slice.result.now 34 10 c.push-2.ensures.items c.push-3.ensures.items c.as_slice.ensures.value) c.in_ok-put_pieces.ensures.lines c.put.ensures.lines

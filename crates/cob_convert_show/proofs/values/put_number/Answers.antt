@@ -1,5 +1,5 @@
 use Rattle.std.proofs.Common.{inl, inr}
-use Rattle.cob_convert_show.specs.Lines.{IsLineOf}
+use Rattle.cob_convert_show.specs.Lines.{IsLineWith}
 use Rattle.cob_convert_show.specs.Values.{AreUnknown, IsNumberValue}
 use Rattle.cob_convert_show.proofs.SentLemmas.{put_is}
 use Rattle.cob_convert_show.proofs.PieceLemmas.{lines_as, value_behind}
@@ -12,7 +12,7 @@ returns-in_default-clause-lines g c =
 
 pub returns-clause-lines : goal.returns-clause-lines
 returns-clause-lines g c =
-    put_is (IsLineOf c.args.line.now.items (IsNumberValue c.args.item.now c.args.bytes.now)) c.as_slice-2.result.now c.put.result _ _ c.args.sent.now c.put.new.sent (
+    put_is (IsLineWith c.args.line.now.items (IsNumberValue c.args.item.now c.args.bytes.now)) c.as_slice-2.result.now c.put.result _ _ c.args.sent.now c.put.new.sent (
       c.in-Some.text.items,
       inl c.in-Some.ensures.found,
       value_behind c.args.line.now.items c.push_text.new.line.items c.push.new.self.items c.as_slice-2.result.now c.in-Some.text.items (rw c.as_slice.ensures.value at c.push_text.ensures.text) c.push.ensures.items c.as_slice-2.ensures.value,

@@ -1,7 +1,7 @@
 use Rattle.std.proofs.Common.{[], ◌∷◌, ◌∙◌}
 use Rattle.std.proofs.lemmas.Result.{err_from_is_err_and}
 use Rattle.cob_convert_show.specs.declared.values.Notation.TheVariants.{Digits}
-use Rattle.cob_convert_show.specs.Sent.{BeginsOne, IsAddedTo, IsBehind}
+use Rattle.cob_convert_show.specs.Sent.{BeginsOne, IsAddedTo, IsBehindFront}
 use Rattle.cob_convert_show.specs.Values.{ArePieces, AreUnknown}
 use Rattle.cob_convert_show.proofs.PieceLemmas.{cut_line, end_line, unknown_ends}
 use Rattle.cob_convert_show.proofs.values.put_unknown.Goals as goal
@@ -18,6 +18,6 @@ pub returns-clause-lines : goal.returns-clause-lines
 returns-clause-lines g c =
     let are = ArePieces Digits c.args.bytes.now in
     end_line c.args.line.now.items c.push.new.self.items (10 ∷ []) c.put_pieces.new.line.items c.as_slice.result.now are (AreUnknown c.args.bytes.now)
-    (BeginsOne (IsBehind c.push.new.self.items are)) c.args.sent.now c.put_pieces.new.sent c.put.new.sent c.put.result _ _ _
+    (BeginsOne (IsBehindFront c.push.new.self.items are)) c.args.sent.now c.put_pieces.new.sent c.put.new.sent c.put.result _ _ _
     (unknown_ends c.args.line.now.items c.push.new.self.items c.args.bytes.now c.push.ensures.items)
     (c.as_slice.ensures.value ∙ c.push-2.ensures.items) c.in_ok-put_pieces.ensures.lines c.put.ensures.lines
