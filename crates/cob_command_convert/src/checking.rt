@@ -1,5 +1,7 @@
-use crate::fault::CommandFault;
-use crate::texts::Texts;
+ghost use Rattle.std.specs.Prelude.{IfErr};
+ghost use Rattle.cob_command_convert.specs.Ends.{MayEndCheck};
+
+use cob_command_faults::{CommandFault, Texts};
 use cob_codec::Reading;
 use cob_convert_line::CheckLine;
 use cob_records::Form;
@@ -36,7 +38,9 @@ impl fmt::Display for Checked {
 pub fn check<R: AllocGlobal + Files>(
     rt: &R,
     line: &CheckLine<'_>,
-) -> Result<Checked, CommandFault> {
+) -> Result<Checked, CommandFault>
+    ensures { IfErr result MayEndCheck }
+{
     let texts = Texts {
         in_book: line.in_book,
         out_book: line.out_book,

@@ -1,9 +1,10 @@
-ghost use Rattle.std.specs.Prelude.{IfNone, IfSome};
+ghost use Rattle.std.specs.Prelude.{IfErr, IfNone, IfSome};
 ghost use Rattle.cob_convert_files.specs.Identity.{Loses};
-ghost use Rattle.cob_convert_commands.specs.Inputs.{LosesNone, input_named};
+ghost use Rattle.cob_command_convert.specs.Inputs.{LosesNone, input_named};
+ghost use Rattle.cob_command_convert.specs.Ends.{LosesInput, NamesInput};
 
-use crate::fault::{CommandFault, FileName};
-use cob_convert_files::{FileIdentity, loses};
+use cob_command_faults::{CommandFault, FileName};
+use cob_convert_files::{FileIdentity, lead_to_one_file, loses};
 use cob_convert_line::ConvertLine;
 use std::rt::Files;
 
@@ -31,6 +32,7 @@ impl Inputs {
     fn lost_by(&self, output: Option<FileIdentity>) -> Option<FileName>
         ensures lost { IfSome result (λ name. Loses output (input_named self.now name)) }
         ensures none { IfNone result (LosesNone output self.now) }
+        ensures input { IfSome result NamesInput }
     {
         if loses(output, self.in_book) {
             Some(FileName::InBook)
@@ -55,9 +57,20 @@ pub fn judge_output<R: Files>(
     rt: &R,
     line: &ConvertLine<'_>,
     output: &str,
-) -> Result<(), CommandFault> {
+) -> Result<(), CommandFault>
+    ensures { IfErr result LosesInput }
+{
     match Inputs::of(rt, line).lost_by(FileIdentity::of_output(rt, output)) {
         Some(name) => Err(CommandFault::OneFile(name)),
         None => Ok(()),
     }
+}
+
+/// Whether what is written to a file goes to standard output, by whatever name.
+pub fn is_standard_output<R: Files>(rt: &R, name: &str) -> bool {
+    name == "-"
+        || lead_to_one_file(
+            FileIdentity::of_output(rt, name),
+            FileIdentity::of_output(rt, "-"),
+        )
 }

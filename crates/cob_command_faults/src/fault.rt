@@ -1,6 +1,7 @@
 ghost use Rattle.std.specs.Prelude.{◌≡◌};
-ghost use Rattle.cob_convert_commands.specs.Faults.{refused_book, show_fault, refused_text, status_of, unopened_file, unread_text};
-ghost use Rattle.cob_convert_commands.specs.declared.fault.CommandFault.TheVariants.{Memory, Stopped};
+ghost use Rattle.cob_command_faults.specs.Faults.{refused_book, show_fault, refused_text, status_of, unopened_file, unread_text};
+ghost use Rattle.cob_command_faults.specs.Texts.{LacksConverter, LacksFile, LacksLayout, LacksText, StopsListing};
+ghost use Rattle.cob_command_faults.specs.declared.fault.CommandFault.TheVariants.{Memory, Stopped};
 
 use cob_convert::{BookFault, BookRule, Cause, PrepareFault, RunFault};
 use cob_convert_files::TextFault;
@@ -86,7 +87,7 @@ impl From<AllocError> for CommandFault {
 }
 
 impl From<PrepareFault> for CommandFault {
-    ghost from_gives = { λ refused fault. fault ≡ refused_text refused };
+    ghost from_gives = { λ refused fault. (fault ≡ refused_text refused) × LacksConverter fault };
 
     fn from(fault: PrepareFault) -> CommandFault {
         match fault {
@@ -105,7 +106,7 @@ impl From<RunFault> for CommandFault {
 }
 
 impl From<BookFault> for CommandFault {
-    ghost from_gives = { λ refused fault. fault ≡ refused_book refused };
+    ghost from_gives = { λ refused fault. (fault ≡ refused_book refused) × LacksLayout fault };
 
     fn from(fault: BookFault) -> CommandFault {
         match fault.rule {
@@ -116,7 +117,7 @@ impl From<BookFault> for CommandFault {
 }
 
 impl From<ShowFault> for CommandFault {
-    ghost from_gives = { λ stopped fault. fault ≡ show_fault stopped };
+    ghost from_gives = { λ stopped fault. (fault ≡ show_fault stopped) × StopsListing fault };
 
     fn from(fault: ShowFault) -> CommandFault {
         match fault {
@@ -154,7 +155,8 @@ impl CommandFault {
 
     /// The fault of a text that was to be read.
     pub fn of_text(fault: TextFault, name: FileName) -> CommandFault
-        ensures { result ≡ unread_text fault name }
+        ensures told { result ≡ unread_text fault name }
+        ensures lacks { LacksText name result }
     {
         match fault {
             TextFault::NotOpened => CommandFault::CannotOpen(name),
@@ -165,7 +167,8 @@ impl CommandFault {
 
     /// The fault of a file that was to be opened or made.
     pub fn of_file(fault: OpenFault, name: FileName) -> CommandFault
-        ensures { result ≡ unopened_file fault name }
+        ensures told { result ≡ unopened_file fault name }
+        ensures lacks { LacksFile name result }
     {
         match fault {
             OpenFault::NotOpened => CommandFault::CannotOpen(name),

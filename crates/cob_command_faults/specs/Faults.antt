@@ -1,5 +1,4 @@
--- What a command is told to come to that is not done, and the status with which it ends.
-use Rattle.std.specs.Prelude.{◌≡◌, ◌⊎◌, ◌==◌, ◌||◌, ◌-◌, nat_le, ℕ, Bool, true, false, Result, Ok, Err, ⊤, if◌then◌else◌}
+-- What a command is told to come to that is not done, and the status of that.
 use Rattle.cob_convert.specs.declared.fault.PrepareFault.{PrepareFault}
 use Rattle.cob_convert.specs.declared.fault.PrepareFault.TheVariants as prepare
 use Rattle.cob_job.specs.Jobs.{status_of_stop}
@@ -16,15 +15,12 @@ use Rattle.cob_entry.specs.declared.fault.BookRule.TheVariants as rule
 use Rattle.cob_source.specs.declared.fault.SourceRule.TheVariants as source
 use Rattle.cob_convert_files.specs.declared.texts.TextFault.{TextFault}
 use Rattle.cob_convert_files.specs.declared.texts.TextFault.TheVariants as text
-use Rattle.cob_convert_files.specs.declared.outputs.PlaceFault.{PlaceFault}
-use Rattle.cob_convert_files.specs.declared.outputs.PlaceFault.TheVariants as place
-use Rattle.cob_records.specs.declared.device.DeviceFault.{DeviceFault}
 use Rattle.cob_records.specs.declared.files.OpenFault.{OpenFault}
 use Rattle.cob_records.specs.declared.files.OpenFault.TheVariants as opening
 use Rattle.cob_records.specs.declared.records.RecordFault.TheVariants.{WriteFailed, TookNothing}
-use Rattle.cob_convert_commands.specs.declared.fault.FileName.{FileName}
-use Rattle.cob_convert_commands.specs.declared.fault.CommandFault.{CommandFault}
-use Rattle.cob_convert_commands.specs.declared.fault.CommandFault.TheVariants as fault
+use Rattle.cob_command_faults.specs.declared.fault.FileName.{FileName}
+use Rattle.cob_command_faults.specs.declared.fault.CommandFault.{CommandFault}
+use Rattle.cob_command_faults.specs.declared.fault.CommandFault.TheVariants as fault
 
 -- what the refusal of a text is for a command: want of memory is told as that, and never as a fault of a text
 abbrev pub refused_text : PrepareFault → CommandFault
@@ -74,33 +70,3 @@ status_of (fault.Unflushed last) = status.Device
 status_of fault.NotRenamed = status.Device
 status_of fault.Unprinted = status.Device
 status_of fault.Memory = status.Memory
-
--- a write of the record failed
-abbrev pub stops_writing : Cause → Bool
-stops_writing (cause.Record (WriteFailed taken)) = true
-stops_writing (cause.Record (TookNothing taken)) = true
-stops_writing stop = false
-
--- What is told of a run whose last bytes were not handed to the device: a write that failed before; else that the last record that was put is not
--- written whole, also in the place of a stop; where none was put the output lacks none, and a stop is told.
-abbrev pub unflushed_fault : Result ℕ RunFault → CommandFault
-unflushed_fault (Ok done) = if done == 0 then fault.Unprinted else fault.Unflushed done
-unflushed_fault (Err stopped) = if nat_le stopped.number 1 || stops_writing stopped.cause
-    then fault.Stopped stopped else fault.Unflushed (stopped.number - 1)
-
--- what a run comes to behind the last flush of its output
-abbrev pub finished_run : Result ℕ RunFault → Result ⊤ DeviceFault → Result ℕ CommandFault
-finished_run (Ok done) (Ok flushed) = Ok done
-finished_run (Err stopped) (Ok flushed) = Err (fault.Stopped stopped)
-finished_run answer (Err failed) = Err (unflushed_fault answer)
-
--- What so many records that were handed over come to, behind what was done to put the output in its place: a part that is not on its device lacks
--- its last record, as an output that was not handed over does.
-abbrev pub placed_run : ℕ → Result ⊤ PlaceFault → Result ℕ CommandFault
-placed_run done (Ok placed) = Ok done
-placed_run done (Err place.NotSynced) = Err (unflushed_fault (Ok done))
-placed_run done (Err place.NotRenamed) = Err fault.NotRenamed
-
--- The status of a fault that was told: its own, or that of a device where it could not be told.
-abbrev pub IsToldStatus : CommandFault → Status → Type 0
-IsToldStatus told end = (end ≡ status_of told) ⊎ (end ≡ status.Device)

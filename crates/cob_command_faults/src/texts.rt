@@ -1,16 +1,25 @@
+ghost use Rattle.std.specs.Prelude.{IfErr};
+ghost use Rattle.cob_command_faults.specs.Texts.{LacksConverter, LacksText};
+
 use crate::fault::{CommandFault, FileName};
 use cob_codec::Reading;
 use cob_convert::Converter;
-use cob_convert_files::{FileIdentity, loses, read_text};
+use cob_convert_files::read_text;
 use cob_records::Form;
 use std::rt::Files;
 
 /// The text in the file that an option names.
+///
+/// # Errors
+///
+/// A file that is not opened or not read, want of memory.
 pub fn text_of<R: AllocGlobal + Files>(
     rt: &R,
     path: &str,
     name: FileName,
-) -> Result<Vec<u8>, CommandFault> {
+) -> Result<Vec<u8>, CommandFault>
+    ensures { IfErr result (LacksText name) }
+{
     match read_text(rt, path) {
         Ok(text) => Ok(text),
         Err(fault) => Err(CommandFault::of_text(fault, name)),
@@ -37,7 +46,9 @@ impl Texts<'_> {
         in_form: Form,
         out_form: Form,
         reading: Reading,
-    ) -> Result<Converter, CommandFault> {
+    ) -> Result<Converter, CommandFault>
+        ensures { IfErr result LacksConverter }
+    {
         let in_book = text_of(rt, self.in_book, FileName::InBook)?;
         let out_book = text_of(rt, self.out_book, FileName::OutBook)?;
         let moves = text_of(rt, self.moves, FileName::Moves)?;

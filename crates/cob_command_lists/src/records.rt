@@ -1,0 +1,112 @@
+ghost use Rattle.std.specs.Prelude.{◌≡◌, [], IfErr, OnOk};
+ghost use Rattle.std.specs.Io.Buffered.{writer_buffer};
+ghost use Rattle.cob_records.specs.Streams.{sink_writer};
+ghost use Rattle.cob_command_faults.specs.Texts.{LacksFile, StopsListing};
+ghost use Rattle.cob_command_faults.specs.declared.fault.FileName.TheVariants.{In};
+ghost use Rattle.cob_convert_show.specs.Records.{IsShowFault};
+ghost use Rattle.cob_command_lists.specs.Ends.{MayEndShow};
+
+use crate::copybook::{Listed, read_book};
+use cob_command_faults::{CommandFault, FileName, telling};
+use cob_convert_line::ShowLine;
+use cob_convert_show::{ShowFault, show};
+use cob_records::{
+    DeviceFault, FileSource, Form, Progress, Sink, Source, Telling, WriteSink, create_sink,
+    open_source,
+};
+use std::io::{BufWriter, Eprint, Input, Print, Write};
+use std::rt::{Clock, Files};
+
+/// How the listing tells how far it is, where the line asks for that.
+fn telling_of<R: Files>(rt: &R, line: &ShowLine<'_>) -> Option<Telling> {
+    if line.progress {
+        Some(telling(rt, line.input))
+    } else {
+        None
+    }
+}
+
+/// What a listing of records comes to, which tells on standard error how far it is where that is asked for.
+fn shown<R: AllocGlobal + Eprint + Clock, S: Source + Drop, K: Sink>(
+    rt: &R,
+    listed: &Listed,
+    form: Form,
+    telling: Option<Telling>,
+    mut source: S,
+    sink: &mut K,
+) -> Result<u64, ShowFault>
+    requires { listed.now.book ≡ listed.now.layout }
+    ensures { IfErr result IsShowFault }
+{
+    let Listed { book, layout } = listed;
+    let Some(telling) = telling else {
+        return show(rt.alloc(), book, layout, form, &mut source, sink);
+    };
+    let mut told = Progress::new(source, rt, form, layout.greatest(), telling);
+    let answer = show(rt.alloc(), book, layout, form, &mut told, sink);
+    told.finish();
+    answer
+}
+
+/// Lists records, and hands all of the list to the device, whatever the listing came to.
+fn show_to_end<R: AllocGlobal + Eprint + Clock, S: Source + Drop, W: Write + Drop>(
+    rt: &R,
+    listed: &Listed,
+    form: Form,
+    telling: Option<Telling>,
+    source: S,
+    sink: &mut WriteSink<BufWriter<W>>,
+) -> Result<Result<u64, ShowFault>, DeviceFault>
+    requires { listed.now.book ≡ listed.now.layout }
+    ensures { OnOk result (writer_buffer (sink_writer sink.new) ≡ []) }
+{
+    let answer = shown(rt, listed, form, telling, source, sink);
+    sink.flush()?;
+    Ok(answer)
+}
+
+/// The file with the records that are listed.
+fn records_of<R: AllocGlobal + Files + Input>(
+    rt: &R,
+    line: &ShowLine<'_>,
+) -> Result<FileSource<R::File, R::Reader>, CommandFault>
+    ensures { IfErr result (LacksFile In) }
+{
+    match open_source(rt, line.input) {
+        Ok(source) => Ok(source),
+        Err(fault) => Err(CommandFault::of_file(fault, FileName::In)),
+    }
+}
+
+/// What a listing of records comes to behind its last flush.
+fn listed_to(
+    ending: Result<Result<u64, ShowFault>, DeviceFault>,
+) -> Result<u64, CommandFault>
+    ensures { IfErr result StopsListing }
+{
+    match ending {
+        Ok(answer) => Ok(answer?),
+        Err(DeviceFault) => Err(CommandFault::Unprinted),
+    }
+}
+
+/// Prints the values of the records of the file that `--in` names on standard output, and answers how many records there were.
+///
+/// # Errors
+///
+/// A file that is not opened or not read, a copybook that is refused, a record that stops the listing, a line that is not printed, want of
+/// memory. The lines of the records before it are printed.
+pub fn list_records<R: AllocGlobal + Files + Input + Print + Eprint + Clock>(
+    rt: &R,
+    line: &ShowLine<'_>,
+) -> Result<u64, CommandFault>
+    ensures { IfErr result MayEndShow }
+{
+    let listed = read_book(rt, line.book)?;
+    let source = records_of(rt, line)?;
+    let Ok(mut sink) = create_sink(rt, "-") else {
+        return Err(CommandFault::Memory);
+    };
+    let telling = telling_of(rt, line);
+    listed_to(show_to_end(rt, &listed, line.form, telling, source, &mut sink))
+}
