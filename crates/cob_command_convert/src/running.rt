@@ -42,6 +42,7 @@ fn unflushed(answer: Result<u64, RunFault>) -> CommandFault
 }
 
 /// What a run comes to, and whether the last of what it wrote was handed to the device.
+#[derive(Clone, Copy)]
 pub struct Ending {
     answer: Result<u64, RunFault>,
     flushed: Result<(), DeviceFault>,

@@ -17,6 +17,7 @@ use std::io::{BufWriter, Eprint, Input, Print, Write};
 use std::rt::Files;
 
 /// What a job came to by its number, and whether the last of what it printed was handed to the device.
+#[derive(Clone, Copy)]
 struct JobEnding {
     code: u8,
     flushed: Result<(), DeviceFault>,
