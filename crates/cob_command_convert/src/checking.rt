@@ -1,11 +1,13 @@
 ghost use Rattle.std.specs.Prelude.{IfErr};
 ghost use Rattle.cob_command_convert.specs.Ends.{MayEndCheck};
 
-use cob_command_faults::{CommandFault, Texts};
+use cob_command_faults::{CommandFault, Texts, printed, tell_fault};
 use cob_codec::Reading;
 use cob_convert_line::CheckLine;
+use cob_job::Status;
 use cob_records::Form;
 use std::fmt;
+use std::io::{Eprint, Print};
 use std::rt::Files;
 
 /// What the three texts of a conversion come to.
@@ -52,4 +54,22 @@ pub fn check<R: AllocGlobal + Files>(
         output: converter.out_length(),
         moves: converter.moves(),
     })
+}
+
+/// Prints what the texts of a conversion come to, and answers how the check ends.
+fn tell_checked<R: Print + Eprint>(rt: &R, outcome: Result<Checked, CommandFault>) -> Status
+    ensures { EndsAs (status_of_outcome outcome) result }
+{
+    match outcome {
+        Ok(checked) => printed(println!(rt; "{checked}"), Status::Done),
+        Err(fault) => tell_fault(rt, fault),
+    }
+}
+
+/// Checks, prints what the texts come to or what is at fault, and answers how the program ends.
+#[tactic(auto, using(cob_command_faults::proofs::EndLemmas::ends_among))]
+pub fn do_check<R: AllocGlobal + Files + Print + Eprint>(rt: &R, line: &CheckLine<'_>) -> Status
+    ensures { EndsAmong MayEndCheck result }
+{
+    tell_checked(rt, check(rt, line))
 }

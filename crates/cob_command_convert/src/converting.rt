@@ -1,12 +1,15 @@
 ghost use Rattle.std.specs.Prelude.{◌≡◌, IfErr, true};
+ghost use Rattle.cob_command_faults.specs.Ends.{EndsAmong, EndsAs, status_of_outcome};
 ghost use Rattle.cob_command_convert.specs.Ends.{MayEndConvert};
 
 use crate::ends::{Ends, open_ends};
+use crate::inputs::is_standard_output;
 use crate::running::{placed, run_to_end};
-use cob_command_faults::{CommandFault, Texts, telling};
+use cob_command_faults::{CommandFault, Texts, printed, tell_fault, telling};
 use cob_convert::Converter;
 use cob_convert_files::{part_name, put_in_place};
 use cob_convert_line::ConvertLine;
+use cob_job::Status;
 use cob_records::Telling;
 use std::io::{Eprint, Input, Print};
 use std::rt::{Clock, Files};
@@ -75,4 +78,32 @@ pub fn convert<R: AllocGlobal + Files + Input + Print + Eprint + Clock>(
     } else {
         convert_into(rt, line, &mut converter)
     }
+}
+
+/// Prints what a conversion comes to, and answers how it ends: how many records there were, on standard error where the records themselves go to
+/// standard output; or its fault.
+fn tell_converted<R: Print + Eprint>(
+    rt: &R,
+    beside: bool,
+    outcome: Result<u64, CommandFault>,
+) -> Status
+    ensures { EndsAs (status_of_outcome outcome) result }
+{
+    match outcome {
+        Ok(done) if beside => printed(eprintln!(rt; "done {done}"), Status::Done),
+        Ok(done) => printed(println!(rt; "done {done}"), Status::Done),
+        Err(fault) => tell_fault(rt, fault),
+    }
+}
+
+/// Converts, prints how many records there were or what is at fault, and answers how the program ends.
+#[tactic(auto, using(cob_command_faults::proofs::EndLemmas::ends_among))]
+pub fn do_convert<R: AllocGlobal + Files + Input + Print + Eprint + Clock>(
+    rt: &R,
+    line: &ConvertLine<'_>,
+) -> Status
+    ensures { EndsAmong (MayEndConvert line.now.atomic) result }
+{
+    let beside = is_standard_output(rt, line.output);
+    tell_converted(rt, beside, convert(rt, line))
 }

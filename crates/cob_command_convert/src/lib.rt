@@ -20,12 +20,10 @@
 #![tactic(auto)]
 
 mod checking;
-mod commands;
 mod converting;
 mod ends;
 mod inputs;
 mod running;
 
-pub use checking::{Checked, check};
-pub use commands::{do_check, do_convert};
-pub use converting::convert;
+pub use checking::{Checked, check, do_check};
+pub use converting::{convert, do_convert};

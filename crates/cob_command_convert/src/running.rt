@@ -4,6 +4,7 @@ ghost use Rattle.cob_records.specs.Device.{counted};
 ghost use Rattle.cob_records.specs.Streams.{sink_writer};
 ghost use Rattle.cob_convert.specs.Run.{is_write_stop};
 ghost use Rattle.cob_command_convert.specs.Ends.{LacksPlace, StopsRun};
+ghost use Rattle.cob_command_convert.specs.Ran.{RanFrom};
 ghost use Rattle.cob_command_convert.specs.Finished.{finished_run, placed_run, stops_writing, unflushed_fault};
 
 use cob_command_faults::CommandFault;
@@ -74,7 +75,10 @@ fn answer_of<T: Eprint + Clock, S: Source + Drop, K: Sink>(
     mut source: S,
     sink: &mut K,
 ) -> Result<u64, RunFault>
-    ensures { K.failures sink.new ≡ counted (is_write_stop result) (K.failures sink.old) }
+    ensures ran { RanFrom converter.old result
+        (S.coming source) (K.taken sink.old) (K.taken sink.new) }
+    ensures writes { K.failures sink.new
+        ≡ counted (is_write_stop result) (K.failures sink.old) }
 {
     let Some(telling) = telling else {
         return converter.run(&mut source, sink);

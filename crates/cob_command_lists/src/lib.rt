@@ -11,11 +11,9 @@
 //! for the ends over files, and on `cob_job` for statuses.
 #![tactic(auto)]
 
-mod commands;
 mod copybook;
 mod entries;
 mod records;
 
-pub use commands::{do_layout, do_show};
-pub use entries::list_entries;
-pub use records::list_records;
+pub use entries::{do_layout, list_entries};
+pub use records::{do_show, list_records};

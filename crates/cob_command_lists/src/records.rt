@@ -4,12 +4,15 @@ ghost use Rattle.cob_records.specs.Streams.{sink_writer};
 ghost use Rattle.cob_command_faults.specs.Texts.{LacksFile, StopsListing};
 ghost use Rattle.cob_command_faults.specs.declared.fault.FileName.TheVariants.{In};
 ghost use Rattle.cob_convert_show.specs.Records.{IsShowFault};
+ghost use Rattle.cob_command_faults.specs.Ends.{EndsAmong, EndsAs, status_of_outcome};
 ghost use Rattle.cob_command_lists.specs.Ends.{MayEndShow};
+ghost use Rattle.cob_command_lists.specs.Listed.{ShowsFrom, listed_records};
 
 use crate::copybook::{Listed, read_book};
-use cob_command_faults::{CommandFault, FileName, telling};
+use cob_command_faults::{CommandFault, FileName, printed, tell_fault, telling};
 use cob_convert_line::ShowLine;
 use cob_convert_show::{ShowFault, show};
+use cob_job::Status;
 use cob_records::{
     DeviceFault, FileSource, Form, Progress, Sink, Source, Telling, WriteSink, create_sink,
     open_source,
@@ -36,7 +39,9 @@ fn shown<R: AllocGlobal + Eprint + Clock, S: Source + Drop, K: Sink>(
     sink: &mut K,
 ) -> Result<u64, ShowFault>
     requires { listed.now.book ≡ listed.now.layout }
-    ensures { IfErr result IsShowFault }
+    ensures shows { ShowsFrom form listed.now.layout result
+        (S.coming source) (K.taken sink.old) (K.taken sink.new) }
+    ensures fault { IfErr result IsShowFault }
 {
     let Listed { book, layout } = listed;
     let Some(telling) = telling else {
@@ -78,13 +83,12 @@ fn records_of<R: AllocGlobal + Files + Input>(
     }
 }
 
-/// What a listing of records comes to behind its last flush.
-fn listed_to(
-    ending: Result<Result<u64, ShowFault>, DeviceFault>,
-) -> Result<u64, CommandFault>
-    ensures { IfErr result StopsListing }
+/// What a listing of records comes to that was handed to the device, or was not.
+fn listed(handed: Result<Result<u64, ShowFault>, DeviceFault>) -> Result<u64, CommandFault>
+    ensures listed { result ≡ listed_records handed }
+    ensures stops { IfErr result StopsListing }
 {
-    match ending {
+    match handed {
         Ok(answer) => Ok(answer?),
         Err(DeviceFault) => Err(CommandFault::Unprinted),
     }
@@ -102,11 +106,32 @@ pub fn list_records<R: AllocGlobal + Files + Input + Print + Eprint + Clock>(
 ) -> Result<u64, CommandFault>
     ensures { IfErr result MayEndShow }
 {
-    let listed = read_book(rt, line.book)?;
+    let book = read_book(rt, line.book)?;
     let source = records_of(rt, line)?;
     let Ok(mut sink) = create_sink(rt, "-") else {
         return Err(CommandFault::Memory);
     };
     let telling = telling_of(rt, line);
-    listed_to(show_to_end(rt, &listed, line.form, telling, source, &mut sink))
+    listed(show_to_end(rt, &book, line.form, telling, source, &mut sink))
+}
+
+/// Prints how many records were listed or the fault of the listing, and answers how it ends.
+fn tell_shown<R: Print + Eprint>(rt: &R, outcome: Result<u64, CommandFault>) -> Status
+    ensures { EndsAs (status_of_outcome outcome) result }
+{
+    match outcome {
+        Ok(done) => printed(println!(rt; "done {done}"), Status::Done),
+        Err(fault) => tell_fault(rt, fault),
+    }
+}
+
+/// Lists the values of records, prints how many there were or what is at fault, and answers how the program ends.
+#[tactic(auto, using(cob_command_faults::proofs::EndLemmas::ends_among))]
+pub fn do_show<R: AllocGlobal + Files + Input + Print + Eprint + Clock>(
+    rt: &R,
+    line: &ShowLine<'_>,
+) -> Status
+    ensures { EndsAmong MayEndShow result }
+{
+    tell_shown(rt, list_records(rt, line))
 }
