@@ -1,8 +1,8 @@
 ghost use Rattle.std.specs.Prelude.{IfErr};
 ghost use Rattle.cob_command_convert.specs.Ends.{MayEndCheck};
 
-use cob_command_faults::{CommandFault, Texts, printed, tell_fault};
 use cob_codec::Reading;
+use cob_command_faults::{CommandFault, Texts, printed, tell_fault};
 use cob_convert_line::CheckLine;
 use cob_job::Status;
 use cob_records::Form;
@@ -37,10 +37,7 @@ impl fmt::Display for Checked {
 /// # Errors
 ///
 /// A file that is not opened or not read, a text that is refused, want of memory.
-pub fn check<R: AllocGlobal + Files>(
-    rt: &R,
-    line: &CheckLine<'_>,
-) -> Result<Checked, CommandFault>
+pub fn check<R: AllocGlobal + Files>(rt: &R, line: &CheckLine<'_>) -> Result<Checked, CommandFault>
     ensures { IfErr result MayEndCheck }
 {
     let texts = Texts {
