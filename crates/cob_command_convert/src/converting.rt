@@ -10,18 +10,8 @@ use cob_convert::Converter;
 use cob_convert_files::{part_name, put_in_place};
 use cob_convert_line::ConvertLine;
 use cob_job::Status;
-use cob_records::Telling;
 use std::io::{Eprint, Input, Print};
 use std::rt::{Clock, Files};
-
-/// How the run tells how far it is, where the line asks for that.
-fn telling_of<R: Files>(rt: &R, line: &ConvertLine<'_>) -> Option<Telling> {
-    if line.progress {
-        Some(telling(rt, line.input))
-    } else {
-        None
-    }
-}
 
 /// Converts into the output itself, which is made, or emptied where it is there.
 fn convert_into<R: AllocGlobal + Files + Input + Print + Eprint + Clock>(
@@ -32,7 +22,7 @@ fn convert_into<R: AllocGlobal + Files + Input + Print + Eprint + Clock>(
     ensures { IfErr result (MayEndConvert line.now.atomic) }
 {
     let Ends { source, mut sink } = open_ends(rt, line, None)?;
-    let telling = telling_of(rt, line);
+    let telling = telling(rt, line.input, line.progress);
     run_to_end(rt, line.in_form, telling, converter, source, &mut sink).finished()
 }
 
@@ -48,7 +38,7 @@ fn convert_beside<R: AllocGlobal + Files + Input + Print + Eprint + Clock>(
 {
     let part = part_name(rt.alloc(), line.output)?;
     let Ends { source, mut sink } = open_ends(rt, line, Some(&part))?;
-    let telling = telling_of(rt, line);
+    let telling = telling(rt, line.input, line.progress);
     let done = run_to_end(rt, line.in_form, telling, converter, source, &mut sink).finished()?;
     placed(done, put_in_place(rt, sink, &part, line.output))
 }

@@ -4,10 +4,10 @@ ghost use Rattle.cob_command_faults.specs.declared.fault.FileName.TheVariants.{O
 ghost use Rattle.cob_command_convert.specs.Ends.{LacksEnds};
 
 use crate::inputs::judge_output;
-use cob_command_faults::{CommandFault, FileName};
+use cob_command_faults::{CommandFault, FileName, opened};
 use cob_convert_files::create_part;
 use cob_convert_line::ConvertLine;
-use cob_records::{FileSink, FileSource, OpenFault, create_sink, open_source};
+use cob_records::{FileSink, FileSource, create_sink, open_source};
 use std::io::{Input, Print, Printer};
 use std::rt::Files;
 
@@ -33,16 +33,6 @@ fn judge_outputs<R: Files>(
     }
 }
 
-/// An end over a file that an option names, or the fault that it is not there.
-fn named<E>(end: Result<E, OpenFault>, option: FileName) -> Result<E, CommandFault>
-    ensures { IfErr result (LacksFile option) }
-{
-    match end {
-        Ok(end) => Ok(end),
-        Err(fault) => Err(CommandFault::of_file(fault, option)),
-    }
-}
-
 /// The output of a conversion, which is made, or emptied where it is there; or its part.
 fn output_of<'a, R: AllocGlobal + Files + Print>(
     rt: &'a R,
@@ -52,8 +42,8 @@ fn output_of<'a, R: AllocGlobal + Files + Print>(
     ensures { IfErr result (LacksFile Out) }
 {
     match part {
-        Some(part) => named(create_part(rt, line.output, part), FileName::Out),
-        None => named(create_sink(rt, line.output), FileName::Out),
+        Some(part) => opened(create_part(rt, line.output, part), FileName::Out),
+        None => opened(create_sink(rt, line.output), FileName::Out),
     }
 }
 
@@ -71,7 +61,7 @@ pub fn open_ends<'a, R: AllocGlobal + Files + Input + Print>(
     ensures { IfErr result LacksEnds }
 {
     judge_outputs(rt, line, part)?;
-    let source = named(open_source(rt, line.input), FileName::In)?;
+    let source = opened(open_source(rt, line.input), FileName::In)?;
     let sink = output_of(rt, line, part)?;
     Ok(Ends { source, sink })
 }

@@ -5,7 +5,7 @@
 //! - [`tell_fault`] prints such a line, and [`printed`] says how a command ends whose last line was printed or was not: as it came out, or as where a
 //!   device failed (`EndsAs` of specs/Ends.antt).
 //! - [`text_of`] reads the text in the file that an option names, and [`Texts`] the three texts of a conversion, in the order of the options; which
-//!   faults they can have is said by specs/Texts.antt.
+//!   faults they can have is said by specs/Texts.antt. [`opened`] names the option of a file that is not opened or not made.
 //! - [`telling`] says how a run tells how far it is, and [`asks_a_person`] whether a person may be waiting at standard input.
 //!
 //! Which words tell a fault, and what a terminal is, is shown by `cob_convert_commands_rows` and `tools/try_files`.
@@ -16,10 +16,12 @@
 
 mod ends;
 mod fault;
+mod opening;
 mod terminals;
 mod texts;
 
 pub use ends::{printed, tell_fault};
 pub use fault::{CommandFault, FileName};
+pub use opening::opened;
 pub use terminals::{asks_a_person, telling};
 pub use texts::{Texts, text_of};

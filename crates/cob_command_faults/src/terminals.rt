@@ -18,10 +18,14 @@ pub fn asks_a_person<R: Files>(rt: &R) -> bool {
     is_terminal(rt, "/dev/stdin")
 }
 
-/// How a run over the file of this name tells on standard error how far it is.
-pub fn telling<R: Files>(rt: &R, name: &str) -> Telling {
-    Telling {
-        size: size_of(rt, name),
-        rewrites: is_terminal(rt, "/dev/stderr"),
+/// How a run over the file of this name tells on standard error how far it is, where that is asked for.
+pub fn telling<R: Files>(rt: &R, name: &str, asked: bool) -> Option<Telling> {
+    if asked {
+        Some(Telling {
+            size: size_of(rt, name),
+            rewrites: is_terminal(rt, "/dev/stderr"),
+        })
+    } else {
+        None
     }
 }

@@ -1,33 +1,22 @@
 ghost use Rattle.std.specs.Prelude.{◌≡◌, [], IfErr, OnOk};
 ghost use Rattle.std.specs.Io.Buffered.{writer_buffer};
 ghost use Rattle.cob_records.specs.Streams.{sink_writer};
-ghost use Rattle.cob_command_faults.specs.Texts.{LacksFile, StopsListing};
-ghost use Rattle.cob_command_faults.specs.declared.fault.FileName.TheVariants.{In};
+ghost use Rattle.cob_command_faults.specs.Texts.{StopsListing};
 ghost use Rattle.cob_convert_show.specs.Records.{IsShowFault};
 ghost use Rattle.cob_command_faults.specs.Ends.{EndsAmong, EndsAs, status_of_outcome};
 ghost use Rattle.cob_command_lists.specs.Ends.{MayEndShow};
 ghost use Rattle.cob_command_lists.specs.Listed.{ShowsFrom, listed_records};
 
 use crate::copybook::{Listed, read_book};
-use cob_command_faults::{CommandFault, FileName, printed, tell_fault, telling};
+use cob_command_faults::{CommandFault, FileName, opened, printed, tell_fault, telling};
 use cob_convert_line::ShowLine;
 use cob_convert_show::{ShowFault, show};
 use cob_job::Status;
 use cob_records::{
-    DeviceFault, FileSource, Form, Progress, Sink, Source, Telling, WriteSink, create_sink,
-    open_source,
+    DeviceFault, Form, Progress, Sink, Source, Telling, WriteSink, create_sink, open_source,
 };
 use std::io::{BufWriter, Eprint, Input, Print, Write};
 use std::rt::{Clock, Files};
-
-/// How the listing tells how far it is, where the line asks for that.
-fn telling_of<R: Files>(rt: &R, line: &ShowLine<'_>) -> Option<Telling> {
-    if line.progress {
-        Some(telling(rt, line.input))
-    } else {
-        None
-    }
-}
 
 /// What a listing of records comes to, which tells on standard error how far it is where that is asked for.
 fn shown<R: AllocGlobal + Eprint + Clock, S: Source + Drop, K: Sink>(
@@ -70,19 +59,6 @@ fn show_to_end<R: AllocGlobal + Eprint + Clock, S: Source + Drop, W: Write + Dro
     Ok(answer)
 }
 
-/// The file with the records that are listed.
-fn records_of<R: AllocGlobal + Files + Input>(
-    rt: &R,
-    line: &ShowLine<'_>,
-) -> Result<FileSource<R::File, R::Reader>, CommandFault>
-    ensures { IfErr result (LacksFile In) }
-{
-    match open_source(rt, line.input) {
-        Ok(source) => Ok(source),
-        Err(fault) => Err(CommandFault::of_file(fault, FileName::In)),
-    }
-}
-
 /// What a listing of records comes to that was handed to the device, or was not.
 fn listed(handed: Result<Result<u64, ShowFault>, DeviceFault>) -> Result<u64, CommandFault>
     ensures listed { result ≡ listed_records handed }
@@ -107,11 +83,11 @@ pub fn list_records<R: AllocGlobal + Files + Input + Print + Eprint + Clock>(
     ensures { IfErr result MayEndShow }
 {
     let book = read_book(rt, line.book)?;
-    let source = records_of(rt, line)?;
+    let source = opened(open_source(rt, line.input), FileName::In)?;
     let Ok(mut sink) = create_sink(rt, "-") else {
         return Err(CommandFault::Memory);
     };
-    let telling = telling_of(rt, line);
+    let telling = telling(rt, line.input, line.progress);
     listed(show_to_end(rt, &book, line.form, telling, source, &mut sink))
 }
 
