@@ -47,8 +47,8 @@ fn output_of<'a, R: AllocGlobal + Files + Print>(
     }
 }
 
-/// Opens the ends of a conversion: the records that come, and then its output or the part that stands in for it. Neither is opened where the output or
-/// the part is a file that is read, and the output is not made where the records are not opened.
+/// Opens the ends of a conversion: the records that come, and then its output or the part that stands in for it. Neither is opened where the
+/// output or the part is a file that is read, and the output is not made where the records are not opened.
 ///
 /// # Errors
 ///

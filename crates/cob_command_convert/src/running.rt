@@ -90,8 +90,8 @@ fn answer_of<T: Eprint + Clock, S: Source + Drop, K: Sink>(
     answer
 }
 
-/// Runs to the end, and hands what the sink still holds to the device, whatever the run came to. It tells on standard error how far it is where that is
-/// asked for.
+/// Runs to the end, and hands what the sink still holds to the device, whatever the run came to. It tells on standard error how far it is where
+/// that is asked for.
 pub fn run_to_end<T: Eprint + Clock, S: Source + Drop, W: Write + Drop>(
     rt: &T,
     form: Form,

@@ -18,14 +18,14 @@ abbrev pub LacksFile : FileName → CommandFault → Type 0
 LacksFile option told = (told ≡ fault.CannotOpen option) ⊎ (told ≡ fault.Memory)
 
 -- A text of a conversion breaks a rule: want of memory is no text's fault.
-abbrev pub IsTextRefusal : CommandFault → Type 0
-IsTextRefusal (fault.Refused prepare.Memory) = ⊥
-IsTextRefusal (fault.Refused refused) = ⊤
-IsTextRefusal other = ⊥
+abbrev pub RefusesText : CommandFault → Type 0
+RefusesText (fault.Refused prepare.Memory) = ⊥
+RefusesText (fault.Refused refused) = ⊤
+RefusesText other = ⊥
 
 -- The three texts of a conversion come to no converter: one was not read, one is refused, or memory was.
 abbrev pub LacksConverter : CommandFault → Type 0
-LacksConverter told = LacksText name.InBook told ⊎ LacksText name.OutBook told ⊎ LacksText name.Moves told ⊎ IsTextRefusal told
+LacksConverter told = LacksText name.InBook told ⊎ LacksText name.OutBook told ⊎ LacksText name.Moves told ⊎ RefusesText told
 
 -- a rule of copybooks, which want of memory is not
 abbrev pub IsCopybookRule : BookRule → Type 0
@@ -33,13 +33,13 @@ IsCopybookRule rule.Memory = ⊥
 IsCopybookRule broken = ⊤
 
 -- the copybook of a listing breaks a rule
-abbrev pub IsListingRefusal : CommandFault → Type 0
-IsListingRefusal (fault.Book refused) = IsCopybookRule refused.rule
-IsListingRefusal other = ⊥
+abbrev pub RefusesCopybook : CommandFault → Type 0
+RefusesCopybook (fault.Book refused) = IsCopybookRule refused.rule
+RefusesCopybook other = ⊥
 
 -- The copybook of a listing comes to no layout: it was not read, it is refused, or memory was.
 abbrev pub LacksLayout : CommandFault → Type 0
-LacksLayout told = LacksText name.Book told ⊎ IsListingRefusal told
+LacksLayout told = LacksText name.Book told ⊎ RefusesCopybook told
 
 -- A listing of records is not done: a record stopped it, or a read of one failed; a line was not printed; or memory was refused.
 abbrev pub StopsListing : CommandFault → Type 0

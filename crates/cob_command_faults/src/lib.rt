@@ -1,7 +1,8 @@
 //! What may go wrong with a command of `cobconv`, and how a command ends.
 //!
-//! - [`CommandFault`] is why a command is not done: its words are those of the line that is told, and [`CommandFault::status`] is how the program ends
-//!   then. What the refusals of lower crates become is said by specs/Faults.antt, one definition for each: want of memory is told as that alone.
+//! - [`CommandFault`] is why a command is not done: its words are those of the line that is told, and [`CommandFault::status`] is how the program
+//!   ends then. What the refusals of lower crates become is said by specs/Faults.antt, one definition for each: want of memory is told as that
+//!   alone.
 //! - [`tell_fault`] prints such a line, and [`printed`] says how a command ends whose last line was printed or was not: as it came out, or as where a
 //!   device failed (`EndsAs` of specs/Ends.antt).
 //! - [`text_of`] reads the text in the file that an option names, and [`Texts`] the three texts of a conversion, in the order of the options; which

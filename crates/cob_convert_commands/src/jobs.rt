@@ -1,13 +1,14 @@
-ghost use Rattle.std.specs.Prelude.{◌≡◌, [], None, OnOk};
+ghost use Rattle.std.specs.Prelude.{◌≡◌, [], OnOk};
 ghost use Rattle.std.specs.Io.Buffered.{writer_buffer};
 ghost use Rattle.cob_records.specs.Streams.{sink_failures, sink_writer};
 ghost use Rattle.cob_job.specs.Jobs.{code_of};
-ghost use Rattle.cob_job.specs.JobAnswers.{EndsWith, job_ends, printed_status};
+ghost use Rattle.cob_job.specs.JobAnswers.{printed_status};
 ghost use Rattle.cob_job.specs.declared.jobs.Status.{Status};
 ghost use Rattle.cob_job.specs.declared.jobs.Status.TheVariants.{Memory};
 ghost use Rattle.cob_command_faults.specs.Ends.{EndsAs};
 ghost use Rattle.cob_convert_line.specs.declared.line.Line.TheVariants.{Job};
 ghost use Rattle.cob_convert_commands.specs.Commands.{IsEndOfLine};
+ghost use Rattle.cob_convert_commands.specs.Jobs.{EndsUntold};
 
 use cob_command_faults::{asks_a_person, printed};
 use cob_job::{Status, job};
@@ -42,8 +43,8 @@ fn job_to_end<S: Source, W: Write + Drop>(
     source: &mut S,
     sink: &mut WriteSink<BufWriter<W>>,
 ) -> JobEnding
-    ensures job { EndsWith
-        (job_ends (S.coming source.old) (S.failures source.old) None (sink_failures sink.old))
+    ensures job { EndsUntold
+        (S.coming source.old) (S.failures source.old) (sink_failures sink.old)
         (S.coming source.new) (S.failures source.new) result.code }
     ensures flushed { OnOk result.flushed (writer_buffer (sink_writer sink.new) ≡ []) }
 {
