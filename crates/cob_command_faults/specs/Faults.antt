@@ -12,7 +12,6 @@ use Rattle.cob_convert_show.specs.declared.records.ShowFault.TheVariants as list
 use Rattle.cob_entry.specs.declared.fault.BookFault.{BookFault}
 use Rattle.cob_entry.specs.declared.fault.BookRule.{BookRule}
 use Rattle.cob_entry.specs.declared.fault.BookRule.TheVariants as rule
-use Rattle.cob_source.specs.declared.fault.SourceRule.TheVariants as source
 use Rattle.cob_convert_files.specs.declared.texts.TextFault.{TextFault}
 use Rattle.cob_convert_files.specs.declared.texts.TextFault.TheVariants as text
 use Rattle.cob_records.specs.declared.files.OpenFault.{OpenFault}
