@@ -1,4 +1,5 @@
 ghost use Rattle.std.specs.Prelude.{IfErr};
+ghost use Rattle.cob_command_faults.specs.Ends.{EndsAmong, EndsAs, status_of_outcome};
 ghost use Rattle.cob_command_convert.specs.Ends.{MayEndCheck};
 
 use cob_codec::Reading;
@@ -64,7 +65,6 @@ fn tell_checked<R: Print + Eprint>(rt: &R, outcome: Result<Checked, CommandFault
 }
 
 /// Checks, prints what the texts come to or what is at fault, and answers how the program ends.
-#[tactic(auto, using(cob_command_faults::proofs::EndLemmas::ends_among))]
 pub fn do_check<R: AllocGlobal + Files + Print + Eprint>(rt: &R, line: &CheckLine<'_>) -> Status
     ensures { EndsAmong MayEndCheck result }
 {

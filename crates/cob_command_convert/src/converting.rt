@@ -87,7 +87,6 @@ fn tell_converted<R: Print + Eprint>(
 }
 
 /// Converts, prints how many records there were or what is at fault, and answers how the program ends.
-#[tactic(auto, using(cob_command_faults::proofs::EndLemmas::ends_among))]
 pub fn do_convert<R: AllocGlobal + Files + Input + Print + Eprint + Clock>(
     rt: &R,
     line: &ConvertLine<'_>,

@@ -80,14 +80,16 @@ fn answer_of<T: Eprint + Clock, S: Source + Drop, K: Sink>(
     ensures writes { K.failures sink.new
         ≡ counted (is_write_stop result) (K.failures sink.old) }
 {
-    let Some(telling) = telling else {
-        return converter.run(&mut source, sink);
-    };
-    let length = converter.in_length();
-    let mut told = Progress::new(source, rt, form, length, telling);
-    let answer = converter.run(&mut told, sink);
-    told.finish();
-    answer
+    match telling {
+        None => converter.run(&mut source, sink),
+        Some(telling) => {
+            let length = converter.in_length();
+            let mut told = Progress::new(source, rt, form, length, telling);
+            let answer = converter.run(&mut told, sink);
+            told.finish();
+            answer
+        }
+    }
 }
 
 /// Runs to the end, and hands what the sink still holds to the device, whatever the run came to. It tells on standard error how far it is where

@@ -66,7 +66,6 @@ fn tell_listed<R: Eprint>(rt: &R, outcome: Result<(), CommandFault>) -> Status
 }
 
 /// Lists the entries of a copybook, prints what is at fault, and answers how the program ends.
-#[tactic(auto, using(cob_command_faults::proofs::EndLemmas::ends_among))]
 pub fn do_layout<R: AllocGlobal + Files + Print + Eprint>(rt: &R, line: &LayoutLine<'_>) -> Status
     ensures { EndsAmong MayEndLayout result }
 {

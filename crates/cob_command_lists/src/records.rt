@@ -33,13 +33,15 @@ fn shown<R: AllocGlobal + Eprint + Clock, S: Source + Drop, K: Sink>(
     ensures fault { IfErr result IsShowFault }
 {
     let Listed { book, layout } = listed;
-    let Some(telling) = telling else {
-        return show(rt.alloc(), book, layout, form, &mut source, sink);
-    };
-    let mut told = Progress::new(source, rt, form, layout.greatest(), telling);
-    let answer = show(rt.alloc(), book, layout, form, &mut told, sink);
-    told.finish();
-    answer
+    match telling {
+        None => show(rt.alloc(), book, layout, form, &mut source, sink),
+        Some(telling) => {
+            let mut told = Progress::new(source, rt, form, layout.greatest(), telling);
+            let answer = show(rt.alloc(), book, layout, form, &mut told, sink);
+            told.finish();
+            answer
+        }
+    }
 }
 
 /// Lists records, and hands all of the list to the device, whatever the listing came to.
@@ -102,7 +104,6 @@ fn tell_shown<R: Print + Eprint>(rt: &R, outcome: Result<u64, CommandFault>) -> 
 }
 
 /// Lists the values of records, prints how many there were or what is at fault, and answers how the program ends.
-#[tactic(auto, using(cob_command_faults::proofs::EndLemmas::ends_among))]
 pub fn do_show<R: AllocGlobal + Files + Input + Print + Eprint + Clock>(
     rt: &R,
     line: &ShowLine<'_>,
