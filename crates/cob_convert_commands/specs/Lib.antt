@@ -1,2 +1,2 @@
-pub mod Faults
-pub mod Inputs
+pub mod Commands
+pub mod Jobs

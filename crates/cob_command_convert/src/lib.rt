@@ -1,0 +1,30 @@
+//! The commands `convert` and `check` of `cobconv`.
+//!
+//! [`do_convert`] and [`do_check`] carry them out, print what comes of them and answer how the program ends: by [`convert`] and [`check`], which
+//! do the work without printing. The files for texts are opened and read in the order of the options, and the texts are prepared before any file
+//! for records is opened; the output is made last, and not where it is one of the files that are read, by whatever name: so a text that is
+//! refused leaves no output, and nothing that is read is lost. With `--atomic` the output is as it was until all of the new one is on its device.
+//!
+//! What is promised:
+//!
+//! - which faults each command can have (`MayEndConvert`, `MayEndCheck` of specs/Ends.antt), and that it ends with the status of what it came to,
+//!   or as where a device failed if its last line was not printed (`EndsAmong` of `cob_command_faults`);
+//! - which of the files that are read an output would lose (`lost_by`, specs/Inputs.antt);
+//! - what is told of a run whose output could not be handed to the device whole, or not put in its place (`finished_run`, `placed_run` of
+//!   specs/Finished.antt), and that where a conversion ends otherwise than by a device that fails, nothing of what it wrote is still held.
+//!
+//! What files hold and what is printed is shown by the stored command lines of `cob_convert_commands_rows`.
+//!
+//! It stands on `cob_convert_line` for the command line, on `cob_command_faults` for faults and texts, on `cob_convert` for what is done, on
+//! `cob_convert_files` for identities of files and outputs that replace a file, on `cob_records` for the ends over files, on `cob_codec` for the reading
+//! of binary items, and on `cob_job` for statuses.
+#![tactic(auto)]
+
+mod checking;
+mod converting;
+mod ends;
+mod inputs;
+mod running;
+
+pub use checking::{Checked, check, do_check};
+pub use converting::{convert, do_convert};

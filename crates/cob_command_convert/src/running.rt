@@ -1,0 +1,126 @@
+ghost use Rattle.std.specs.Prelude.{◌≡◌, [], IfErr, OnOk};
+ghost use Rattle.std.specs.Io.Buffered.{writer_buffer};
+ghost use Rattle.cob_records.specs.Device.{counted};
+ghost use Rattle.cob_records.specs.Streams.{sink_writer};
+ghost use Rattle.cob_convert.specs.Run.{is_write_stop};
+ghost use Rattle.cob_command_convert.specs.Ends.{LacksPlace, StopsRun};
+ghost use Rattle.cob_command_convert.specs.Ran.{RanFrom};
+ghost use Rattle.cob_command_convert.specs.Finished.{finished_run, placed_run, stops_writing, unflushed_fault};
+
+use cob_command_faults::CommandFault;
+use cob_convert::{Cause, Converter, RunFault};
+use cob_convert_files::PlaceFault;
+use cob_records::{DeviceFault, Form, Progress, RecordFault, Sink, Source, Telling, WriteSink};
+use std::io::{BufWriter, Eprint, Write};
+use std::rt::Clock;
+
+/// Whether a write of the record failed that the fault names.
+fn is_failed_write(cause: Cause) -> bool
+    ensures { result ≡ stops_writing cause }
+{
+    matches!(
+        cause,
+        Cause::Record(RecordFault::WriteFailed { .. } | RecordFault::TookNothing { .. })
+    )
+}
+
+/// What is told of a run whose last bytes could not be handed to the device: a write that failed before, as it is; else that the last record that
+/// was put is not written whole, in the place of a stop behind it. Where no record was put the output lacks none, so that a stop is told as it is.
+fn unflushed(answer: Result<u64, RunFault>) -> CommandFault
+    ensures told { result ≡ unflushed_fault answer }
+    ensures stops { StopsRun result }
+{
+    match answer {
+        Ok(0) => CommandFault::Unprinted,
+        Ok(done) => CommandFault::Unflushed { last: done },
+        Err(fault) if fault.number <= 1 || is_failed_write(fault.cause) => {
+            CommandFault::Stopped(fault)
+        }
+        Err(fault) => CommandFault::Unflushed {
+            last: fault.number - 1,
+        },
+    }
+}
+
+/// What a run comes to, and whether the last of what it wrote was handed to the device.
+#[derive(Clone, Copy)]
+pub struct Ending {
+    answer: Result<u64, RunFault>,
+    flushed: Result<(), DeviceFault>,
+}
+
+impl Ending {
+    /// What a run comes to behind its last flush.
+    ///
+    /// # Errors
+    ///
+    /// A record or a device that stopped it, an output that was not handed over whole.
+    pub fn finished(self) -> Result<u64, CommandFault>
+        ensures finished { result ≡ finished_run self.answer self.flushed }
+        ensures stops { IfErr result StopsRun }
+    {
+        match self.flushed {
+            Ok(()) => Ok(self.answer?),
+            Err(DeviceFault) => Err(unflushed(self.answer)),
+        }
+    }
+}
+
+/// The answer of a run, which tells on standard error how far it is where that is asked for.
+fn answer_of<T: Eprint + Clock, S: Source + Drop, K: Sink>(
+    rt: &T,
+    form: Form,
+    telling: Option<Telling>,
+    converter: &mut Converter,
+    mut source: S,
+    sink: &mut K,
+) -> Result<u64, RunFault>
+    ensures ran { RanFrom converter.old result
+        (S.coming source) (K.taken sink.old) (K.taken sink.new) }
+    ensures writes { K.failures sink.new
+        ≡ counted (is_write_stop result) (K.failures sink.old) }
+{
+    match telling {
+        None => converter.run(&mut source, sink),
+        Some(telling) => {
+            let length = converter.in_length();
+            let mut told = Progress::new(source, rt, form, length, telling);
+            let answer = converter.run(&mut told, sink);
+            told.finish();
+            answer
+        }
+    }
+}
+
+/// Runs to the end, and hands what the sink still holds to the device, whatever the run came to. It tells on standard error how far it is where
+/// that is asked for.
+pub fn run_to_end<T: Eprint + Clock, S: Source + Drop, W: Write + Drop>(
+    rt: &T,
+    form: Form,
+    telling: Option<Telling>,
+    converter: &mut Converter,
+    source: S,
+    sink: &mut WriteSink<BufWriter<W>>,
+) -> Ending
+    ensures { OnOk result.flushed (writer_buffer (sink_writer sink.new) ≡ []) }
+{
+    let answer = answer_of(rt, form, telling, converter, source, sink);
+    let flushed = sink.flush();
+    Ending { answer, flushed }
+}
+
+/// What so many records come to behind what was done to put them in their place.
+///
+/// # Errors
+///
+/// An output that is not on its device, or was not renamed.
+pub fn placed(done: u64, place: Result<(), PlaceFault>) -> Result<u64, CommandFault>
+    ensures placed { result ≡ placed_run done place }
+    ensures lacks { IfErr result LacksPlace }
+{
+    match place {
+        Ok(()) => Ok(done),
+        Err(PlaceFault::NotSynced) => Err(unflushed(Ok(done))),
+        Err(PlaceFault::NotRenamed) => Err(CommandFault::NotRenamed),
+    }
+}

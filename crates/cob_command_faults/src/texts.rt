@@ -1,0 +1,65 @@
+ghost use Rattle.std.specs.Prelude.{IfErr};
+ghost use Rattle.cob_command_faults.specs.Texts.{LacksConverter, LacksText};
+
+use crate::fault::{CommandFault, FileName};
+use cob_codec::Reading;
+use cob_convert::Converter;
+use cob_convert_files::read_text;
+use cob_records::Form;
+use std::rt::Files;
+
+/// The text in the file that an option names.
+///
+/// # Errors
+///
+/// A file that is not opened or not read, want of memory.
+pub fn text_of<R: AllocGlobal + Files>(
+    rt: &R,
+    path: &str,
+    name: FileName,
+) -> Result<Vec<u8>, CommandFault>
+    ensures { IfErr result (LacksText name) }
+{
+    match read_text(rt, path) {
+        Ok(text) => Ok(text),
+        Err(fault) => Err(CommandFault::of_text(fault, name)),
+    }
+}
+
+/// The files of the three texts of a conversion.
+#[derive(Clone, Copy)]
+pub struct Texts<'a> {
+    pub in_book: &'a str,
+    pub out_book: &'a str,
+    pub moves: &'a str,
+}
+
+impl Texts<'_> {
+    /// Reads the three texts of a conversion, and prepares it, its binary senders read so.
+    ///
+    /// # Errors
+    ///
+    /// A file that is not opened or not read, a text that is refused, want of memory.
+    pub fn prepared<R: AllocGlobal + Files>(
+        self,
+        rt: &R,
+        in_form: Form,
+        out_form: Form,
+        reading: Reading,
+    ) -> Result<Converter, CommandFault>
+        ensures { IfErr result LacksConverter }
+    {
+        let in_book = text_of(rt, self.in_book, FileName::InBook)?;
+        let out_book = text_of(rt, self.out_book, FileName::OutBook)?;
+        let moves = text_of(rt, self.moves, FileName::Moves)?;
+        Ok(Converter::prepare_with(
+            rt.alloc(),
+            &in_book,
+            &out_book,
+            &moves,
+            in_form,
+            out_form,
+            reading,
+        )?)
+    }
+}

@@ -1,0 +1,14 @@
+-- Which faults the commands `layout` and `show` can have.
+use Rattle.std.specs.Prelude.{◌≡◌, ◌⊎◌}
+use Rattle.cob_command_faults.specs.declared.fault.FileName.TheVariants as name
+use Rattle.cob_command_faults.specs.declared.fault.CommandFault.{CommandFault}
+use Rattle.cob_command_faults.specs.declared.fault.CommandFault.TheVariants as fault
+use Rattle.cob_command_faults.specs.Texts.{LacksFile, LacksLayout, StopsListing}
+
+-- The faults that `layout` can have: of its copybook, or that a line could not be printed.
+abbrev pub MayEndLayout : CommandFault → Type 0
+MayEndLayout told = LacksLayout told ⊎ (told ≡ fault.Unprinted)
+
+-- The faults that `show` can have: of its copybook, of the file with the records, or what stops a listing of them.
+abbrev pub MayEndShow : CommandFault → Type 0
+MayEndShow told = LacksLayout told ⊎ LacksFile name.In told ⊎ StopsListing told

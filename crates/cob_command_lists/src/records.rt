@@ -1,0 +1,114 @@
+ghost use Rattle.std.specs.Prelude.{◌≡◌, [], IfErr, OnOk};
+ghost use Rattle.std.specs.Io.Buffered.{writer_buffer};
+ghost use Rattle.cob_records.specs.Streams.{sink_writer};
+ghost use Rattle.cob_command_faults.specs.Texts.{StopsListing};
+ghost use Rattle.cob_convert_show.specs.Records.{IsShowFault};
+ghost use Rattle.cob_command_faults.specs.Ends.{EndsAmong, EndsAs, status_of_outcome};
+ghost use Rattle.cob_command_lists.specs.Ends.{MayEndShow};
+ghost use Rattle.cob_command_lists.specs.Listed.{ShowsFrom, listed_records};
+
+use crate::copybook::{Listed, read_book};
+use cob_command_faults::{CommandFault, FileName, opened, printed, tell_fault, telling};
+use cob_convert_line::ShowLine;
+use cob_convert_show::{ShowFault, show};
+use cob_job::Status;
+use cob_records::{
+    DeviceFault, Form, Progress, Sink, Source, Telling, WriteSink, create_sink, open_source,
+};
+use std::io::{BufWriter, Eprint, Input, Print, Write};
+use std::rt::{Clock, Files};
+
+/// What a listing of records comes to, which tells on standard error how far it is where that is asked for.
+fn shown<R: AllocGlobal + Eprint + Clock, S: Source + Drop, K: Sink>(
+    rt: &R,
+    listed: &Listed,
+    form: Form,
+    telling: Option<Telling>,
+    mut source: S,
+    sink: &mut K,
+) -> Result<u64, ShowFault>
+    requires { listed.now.book ≡ listed.now.layout }
+    ensures shows { ShowsFrom form listed.now.layout result
+        (S.coming source) (K.taken sink.old) (K.taken sink.new) }
+    ensures fault { IfErr result IsShowFault }
+{
+    let Listed { book, layout } = listed;
+    match telling {
+        None => show(rt.alloc(), book, layout, form, &mut source, sink),
+        Some(telling) => {
+            let mut told = Progress::new(source, rt, form, layout.greatest(), telling);
+            let answer = show(rt.alloc(), book, layout, form, &mut told, sink);
+            told.finish();
+            answer
+        }
+    }
+}
+
+/// Lists records, and hands all of the list to the device, whatever the listing came to.
+fn show_to_end<R: AllocGlobal + Eprint + Clock, S: Source + Drop, W: Write + Drop>(
+    rt: &R,
+    listed: &Listed,
+    form: Form,
+    telling: Option<Telling>,
+    source: S,
+    sink: &mut WriteSink<BufWriter<W>>,
+) -> Result<Result<u64, ShowFault>, DeviceFault>
+    requires { listed.now.book ≡ listed.now.layout }
+    ensures { OnOk result (writer_buffer (sink_writer sink.new) ≡ []) }
+{
+    let answer = shown(rt, listed, form, telling, source, sink);
+    sink.flush()?;
+    Ok(answer)
+}
+
+/// What a listing of records comes to that was handed to the device, or was not.
+fn listed(handed: Result<Result<u64, ShowFault>, DeviceFault>) -> Result<u64, CommandFault>
+    ensures listed { result ≡ listed_records handed }
+    ensures stops { IfErr result StopsListing }
+{
+    match handed {
+        Ok(answer) => Ok(answer?),
+        Err(DeviceFault) => Err(CommandFault::Unprinted),
+    }
+}
+
+/// Prints the values of the records of the file that `--in` names on standard output, and answers how many records there were.
+///
+/// # Errors
+///
+/// A file that is not opened or not read, a copybook that is refused, a record that stops the listing, a line that is not printed, want of
+/// memory. The lines of the records before it are printed.
+pub fn list_records<R: AllocGlobal + Files + Input + Print + Eprint + Clock>(
+    rt: &R,
+    line: &ShowLine<'_>,
+) -> Result<u64, CommandFault>
+    ensures { IfErr result MayEndShow }
+{
+    let book = read_book(rt, line.book)?;
+    let source = opened(open_source(rt, line.input), FileName::In)?;
+    let Ok(mut sink) = create_sink(rt, "-") else {
+        return Err(CommandFault::Memory);
+    };
+    let telling = telling(rt, line.input, line.progress);
+    listed(show_to_end(rt, &book, line.form, telling, source, &mut sink))
+}
+
+/// Prints how many records were listed or the fault of the listing, and answers how it ends.
+fn tell_shown<R: Print + Eprint>(rt: &R, outcome: Result<u64, CommandFault>) -> Status
+    ensures { EndsAs (status_of_outcome outcome) result }
+{
+    match outcome {
+        Ok(done) => printed(println!(rt; "done {done}"), Status::Done),
+        Err(fault) => tell_fault(rt, fault),
+    }
+}
+
+/// Lists the values of records, prints how many there were or what is at fault, and answers how the program ends.
+pub fn do_show<R: AllocGlobal + Files + Input + Print + Eprint + Clock>(
+    rt: &R,
+    line: &ShowLine<'_>,
+) -> Status
+    ensures { EndsAmong MayEndShow result }
+{
+    tell_shown(rt, list_records(rt, line))
+}
