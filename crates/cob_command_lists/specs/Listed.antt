@@ -13,7 +13,7 @@ use Rattle.cob_command_faults.specs.declared.fault.CommandFault.TheVariants as f
 
 -- Records were listed from a source that told these bytes to come, and that is let go behind the listing.
 abbrev pub ShowsFrom : Form → Forest Resolved → Result ℕ ShowFault → Option (List ℕ) → Option (List ℕ) → Option (List ℕ) → Type 0
-ShowsFrom form tree answer coming before now = (left : Option (List ℕ)) × Told coming left (λ bytes rest. Shows form tree answer bytes rest before now)
+ShowsFrom form tree answer coming before now = (left : Option (List ℕ)) × Told coming left (Shows form tree answer before now)
 
 -- what a list of entries comes to: where it was not handed over, a line was not printed
 abbrev pub listed_entries : Result ⊤ DeviceFault → Result ⊤ CommandFault
