@@ -13,8 +13,8 @@
 mod named;
 
 pub use crate::named::{
-    ASTERISK, B, C, COMMA, CURRENCY, D, MINUS, NINE, PLUS, POINT, QUOTE, R, SLASH, SPACE, ZERO,
-    constants_are_the_bytes,
+    ASTERISK, COMMA, CURRENCY, LETTER_B, LETTER_C, LETTER_D, LETTER_R, MINUS, NINE, PLUS, POINT, QUOTE,
+    SLASH, SPACE, ZERO, constants_are_the_bytes,
 };
 
 ghost use Rattle.std.specs.Prelude.{◌≡◌, ◌<◌, ◌↔◌, ℕ, List, length, IsTrue, IfSome, Some};

@@ -54,16 +54,16 @@ pub const CURRENCY: u8 = 0x5B;
 pub const QUOTE: u8 = 0x7F;
 
 /// The letter B, of DB.
-pub const B: u8 = 0xC2;
+pub const LETTER_B: u8 = 0xC2;
 
 /// The letter C, of CR.
-pub const C: u8 = 0xC3;
+pub const LETTER_C: u8 = 0xC3;
 
 /// The letter D, of DB.
-pub const D: u8 = 0xC4;
+pub const LETTER_D: u8 = 0xC4;
 
 /// The letter R, of CR.
-pub const R: u8 = 0xD9;
+pub const LETTER_R: u8 = 0xD9;
 
 /// Each constant is the byte that has its name, and each named byte is that of its character in the table.
 pub fn constants_are_the_bytes()
@@ -78,9 +78,9 @@ pub fn constants_are_the_bytes()
     ensures asterisk { ASTERISK ≡ asterisk_byte }
     ensures currency { CURRENCY ≡ currency_byte }
     ensures quote { QUOTE ≡ quote_byte }
-    ensures b { B ≡ b_byte }
-    ensures c { C ≡ c_byte }
-    ensures d { D ≡ d_byte }
-    ensures r { R ≡ r_byte }
+    ensures b { LETTER_B ≡ b_byte }
+    ensures c { LETTER_C ≡ c_byte }
+    ensures d { LETTER_D ≡ d_byte }
+    ensures r { LETTER_R ≡ r_byte }
     ensures named { BytesAreNamed }
 {}
