@@ -28,6 +28,7 @@ pub(crate) fn storage_of(alloc: Global, tree: &Branch) -> Result<Node, BookFault
     ensures fault { IfErr result (λ f. IsStorageRefusal f.rule (forest_of (tree.now ∷ []))) }
     ensures memory { IfErr result (λ f. f.rule ≡ Memory → f.line ≡ 0) }
 {
+    // For `only`: a record whose lengths fit breaks no rule on lengths.
     breaks_no_rule();
     let counts = counts(alloc, tree)?;
     let record = resolve(alloc, tree, &counts)?;

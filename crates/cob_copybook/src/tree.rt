@@ -45,6 +45,7 @@ pub(crate) fn tree_of(alloc: Global, entries: Vec<Entry>) -> Result<Branch, Book
     ensures fault { IfErr result (λ f. IsTreeRefusal f.rule (map plain_entry entries.items)) }
     ensures memory { IfErr result (λ f. f.rule ≡ Memory → f.line ≡ 0) }
 {
+    // For `only`: entries stand for one tree, and one whose clauses agree breaks no rule on clauses.
     one_tree();
     breaks_no_rule();
     if let Some(line) = wrong_level(&entries) {

@@ -3,8 +3,8 @@
 ghost use Rattle.std.specs.Prelude.{◌≡◌, length, IsTrue, IfSome, Bool, ℕ, List};
 ghost use Rattle.cob_picture.specs.Positions.{shows_number};
 ghost use Rattle.cob_picture.specs.Counts.{size};
-ghost use Rattle.cob_edit.specs.Deedited.{AnswersPictured, HasText, IsNumberOf};
-ghost use Rattle.cob_edit.specs.Pictured.{IsEdited, IsInRange};
+ghost use Rattle.cob_edit.specs.Deedited.{IsNumberOf, ReadsNumber};
+ghost use Rattle.cob_edit.specs.Pictured.{IsEdited};
 
 use crate::positions::places_of;
 use crate::reading::read_text;
@@ -45,9 +45,7 @@ pub fn deedit(picture: &Picture, blank: bool, bytes: &[u8]) -> Option<Number>
     // What is read is in range, and the bytes are its text.
     ensures found { IfSome result (IsNumberOf picture.now blank bytes.now) }
     // Every number in range is read from its text.
-    ensures only { (negative : Bool) (digits : List ℕ) → IsInRange picture.now negative digits
-        → HasText picture.now blank negative digits bytes.now
-        → AnswersPictured picture.now result negative digits }
+    ensures only { ReadsNumber picture.now blank bytes.now result }
 {
     let places = places_of(picture);
     match read_text(places.as_slice(), blank, bytes) {

@@ -1,10 +1,10 @@
 -- The pairs of two groups as numbers, and why there are none.
-use Rattle.std.specs.Prelude.{◌≡◌, ℕ, Bool, true, false, ◌||◌, List, ◌++◌, map}
+use Rattle.std.specs.Prelude.{◌≡◌, ℕ, Bool, true, false, ◌||◌, List, map}
 use Rattle.cob_copybook_tree.specs.Forests.{Forest, NoEntries, AnEntry}
 use Rattle.cob_copybook_tree.specs.Nodes.{Resolved}
 use Rattle.cob_move_statements.specs.declared.fault.MoveRule.{MoveRule}
 use Rattle.cob_move_statements.specs.declared.fault.MoveRule.TheVariants as rule
-use Rattle.cob_move_pairs.specs.Pairs.{AreOnce, Pair, Subordinate, corresponding_pairs, is_elementary, pairs_from, receives, sends}
+use Rattle.cob_move_pairs.specs.Pairs.{AreOnce, Pair, Subordinate, corresponding_pairs, is_elementary, receives, sends}
 
 -- two entries as a pair
 abbrev pub paired : Subordinate → Subordinate → Pair
@@ -23,10 +23,6 @@ IsTwice r ps = ⊥
 -- neither entry of the pair is in one of these pairs on its side
 abbrev pub IsUnpaired : Pair → List Pair → Type 0
 IsUnpaired p ps = (sends p.from.number ps ≡ 0) × (receives p.to.number ps ≡ 0)
-
--- these pairs, and behind them those in which an entry sends to one of these
-abbrev pub with_pairs_from : List Subordinate → Subordinate → List Pair → List Pair
-with_pairs_from partners from ps = ps ++ pairs_from partners from
 
 -- an entry with those beneath it is no group
 abbrev pub is_elementary_entry : Forest Resolved → Bool

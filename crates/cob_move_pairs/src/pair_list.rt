@@ -1,9 +1,9 @@
 //! Pairs, no entry in two of them.
 
 ghost use Rattle.std.specs.Prelude.{◌≡◌, ℕ, nat_lt, true, false, List, [], ◌∷◌, ◌++◌, IfErr, OnOk};
-ghost use Rattle.cob_move_pairs.specs.Listed.{pair, pairs, subordinate, subordinates_listed};
+ghost use Rattle.cob_move_pairs.specs.Listed.{pair, pairs, with_pairs_from};
 ghost use Rattle.cob_move_pairs.specs.Numbers.{has};
-ghost use Rattle.cob_move_pairs.specs.Pairing.{IsTwice, IsUnpaired, with_pairs_from};
+ghost use Rattle.cob_move_pairs.specs.Pairing.{IsTwice, IsUnpaired};
 ghost use Rattle.cob_move_pairs.specs.Pairs.{AreOnce, receives, sends};
 
 use crate::number_set::NumberSet;
@@ -80,11 +80,9 @@ impl<'b, 'a> PairList<'b, 'a> {
         partners: &'b Partners<'a>,
     ) -> Result<(), MoveRule>
         ensures added { OnOk result (pairs self.new.list.items
-            ≡ with_pairs_from (subordinates_listed partners.now.entries.items)
-            (subordinate from.now) (pairs self.old.list.items)) }
+            ≡ with_pairs_from partners.now.entries.items from.now self.old.list.items) }
         ensures fault { IfErr result (λ r. IsTwice r
-            (with_pairs_from (subordinates_listed partners.now.entries.items)
-            (subordinate from.now) (pairs self.old.list.items))) }
+            (with_pairs_from partners.now.entries.items from.now self.old.list.items)) }
     {
         match partners.partner_of(from)? {
             Some(to) => self.add(Pair { from, to }),

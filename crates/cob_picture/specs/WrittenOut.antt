@@ -1,5 +1,5 @@
 -- A picture's text as symbols and repeats.
-use Rattle.std.specs.Prelude.{◌≡◌, ◌≢◌, ℕ, ◌+◌, ◌-◌, ◌*◌, ◌<◌, ◌≤◌, ◌⊎◌, min, List, [], ◌∷◌, ◌++◌, length, replicate, Option, IsSomeAnd}
+use Rattle.std.specs.Prelude.{◌≡◌, ◌≢◌, ℕ, ◌+◌, ◌-◌, ◌*◌, ◌<◌, ◌≤◌, ◌⊎◌, min, List, [], ◌∷◌, ◌++◌, length, replicate, Option, Result, IsSomeAnd, IsOkAnd}
 use denote.Ref.{Bor}
 use Rattle.std.specs.List.{fold, flat_map, AllByRecursion}
 use Rattle.cob_picture.specs.declared.TheConstants.{MANY}
@@ -40,9 +40,14 @@ BeginsWithRepeat text count rest =
     × (text ≡ closed digits ++ rest)
     × (count ≡ min (repeat_number digits) MANY)
 
--- The answer is the repeat that these digits spell, or 40,000 where that is more, and this rest.
-abbrev pub AnswersRepeat : Option (ℕ × Bor (List ℕ)) → List ℕ → List ℕ → Type 0
-AnswersRepeat answer digits rest = IsSomeAnd answer (λ r. (r.0 ≡ min (repeat_number digits) MANY) × (r.1.now ≡ rest))
+-- Where a repeat stands first, above 0 and closed by a bracket, it is answered, or 40,000 where it is more, and what is behind it.
+abbrev pub ReadsRepeat : List ℕ → Option (ℕ × Bor (List ℕ)) → Type 0
+ReadsRepeat text answer =
+    (digits more : List ℕ)
+    → AllByRecursion IsDigit digits
+    → 0 < repeat_number digits
+    → text ≡ closed digits ++ more
+    → IsSomeAnd answer (λ r. (r.0 ≡ min (repeat_number digits) MANY) × (r.1.now ≡ more))
 
 -- the characters of an item
 abbrev pub spelling : SpelledSymbol → List ℕ
@@ -87,6 +92,15 @@ Ready (i ∷ j ∷ items) rest = Ready (j ∷ items) rest
 abbrev pub BeginsWithItem : List ℕ → Run → List ℕ → Type 0
 BeginsWithItem text run rest =
     (item : SpelledSymbol) × IsItem item × (text ≡ spelling item ++ rest) × Ready (item ∷ []) rest × (run ≡ run_of item)
+
+-- Where an item stands first, and no bracket opens behind it, its run is answered, and what is behind it.
+abbrev pub ReadsItem : List ℕ → Result (Run × Bor (List ℕ)) PictureFault → Type 0
+ReadsItem text answer =
+    (item : SpelledSymbol) (more : List ℕ)
+    → IsItem item
+    → NotOpen more
+    → text ≡ spelling item ++ more
+    → IsOkAnd answer (λ r. (r.0 ≡ run_of item) × (r.1.now ≡ more))
 
 -- the text spells the items
 pub record SpellsItems (text : List ℕ) (items : List SpelledSymbol) : Type 0 where
