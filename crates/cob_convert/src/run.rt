@@ -83,6 +83,7 @@ pub fn run_over<R: Source, W: Sink>(
     // The room that the converter keeps is as large as it was.
     ensures room { room.new ≡ room.old }
 {
+    // For `ran`: what is read as one of the layout's records holds a record of it.
     sized_are_storages();
     let out_form = conversion.out_form();
     let mut written: u64 = 0;

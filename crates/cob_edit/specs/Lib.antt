@@ -4,3 +4,4 @@ pub mod Editing
 pub mod Pictured
 pub mod Places
 pub mod Regions
+pub mod Deedited

@@ -9,6 +9,7 @@ ghost use Rattle.cob_edit.specs.Editing.{region_start, region_end, place_at, hid
 
 use crate::place::Place;
 use crate::region::{Region, cut_of, region_of};
+use cob_cp037::{ASTERISK, POINT, SPACE, ZERO};
 
 /// What a place of the region holds before the cut.
 fn hidden(first: &Place, negative: bool, at_cut: bool) -> u8
@@ -17,7 +18,7 @@ fn hidden(first: &Place, negative: bool, at_cut: bool) -> u8
     match first {
         Place::Suppressed(fill) => fill.byte(),
         Place::First(mark) if at_cut => mark.byte(negative),
-        _ => 0x40,
+        _ => SPACE,
     }
 }
 
@@ -28,9 +29,9 @@ fn shown(place: &Place, negative: bool, digit: u8) -> Option<u8>
 {
     match place {
         Place::Inserted(byte) => Some(*byte),
-        Place::Point => Some(0x4B),
-        Place::Digit | Place::Suppressed(_) | Place::Floating => Some(digit + 0xF0),
-        Place::First(_) => Some(0x40),
+        Place::Point => Some(POINT),
+        Place::Digit | Place::Suppressed(_) | Place::Floating => Some(digit + ZERO),
+        Place::First(_) => Some(SPACE),
         Place::Fixed(mark) => Some(mark.byte(negative)),
         Place::AssumedPoint => None,
     }
@@ -126,8 +127,8 @@ fn empty_cell(stars: bool, place: &Place) -> Option<u8>
 {
     match place {
         Place::AssumedPoint => None,
-        Place::Point => Some(if stars { 0x4B } else { 0x40 }),
-        _ => Some(if stars { 0x5C } else { 0x40 }),
+        Place::Point => Some(if stars { POINT } else { SPACE }),
+        _ => Some(if stars { ASTERISK } else { SPACE }),
     }
 }
 

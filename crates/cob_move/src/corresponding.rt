@@ -156,9 +156,11 @@ pub(crate) fn moves_of(
         (written_corresponding from.now to.now)) }
     ensures pairs { ArePairsOf (records_of entries.now) pairs.new }
 {
+    // For `found` and `fault`: what references name, and what is in pairs below it, are operands,
     named_are_operands();
     subordinates_are_operands();
     records_are_sound();
+    // of records whose descriptions are sound.
     let _ = entries.input.greatest();
     let _ = entries.output.greatest();
     let groups = groups_of(entries.names, from, to)?;

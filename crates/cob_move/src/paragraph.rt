@@ -72,9 +72,12 @@ impl Paragraph {
         // A refusal names a rule that is broken.
         ensures fault { IfErr result (λ f. IsRefusalOf f text.now input.now output.now) }
     {
+        // For `only`: a text is one paragraph, and a paragraph breaks no rule.
         one_paragraph();
         paragraph_breaks_no_rule();
+        // For what `Moves::new` asks: what statements mean are moves between the records,
         meant_are_moves();
+        // and both layouts are those of record descriptions.
         let _ = input.root();
         let _ = output.root();
         let meant = meant_moves(alloc, input, output, text)?;

@@ -53,6 +53,14 @@ pub record Counts (form : Form) (greatest : ℕ) (at : Place) (records count : �
 abbrev pub HasPassed : List ℕ → Passed → Type 0
 HasPassed bytes passed = Counts passed.form passed.greatest passed.place passed.records passed.bytes bytes
 
+-- this part passes behind whatever had passed before
+abbrev pub Passes : List ℕ → Passed → Passed → Type 0
+Passes part before now = (bytes : List ℕ) → HasPassed bytes before → HasPassed (bytes ++ part) now
+
+-- this part leads from where the next byte stands to this place
+abbrev pub LeadsTo : Passed → Place → List ℕ → Type 0
+LeadsTo passed at part = (rest : List ℕ) → IsAt passed.form passed.greatest passed.place rest → IsAt passed.form passed.greatest at (rest ++ part)
+
 -- how many percent of the size these bytes are, and never more than all
 abbrev pub percent_of : ℕ → ℕ → ℕ
 percent_of bytes size = min (bytes * 100 / size) 100

@@ -20,7 +20,7 @@ pub(crate) struct Passed {
 }
 
 impl Passed {
-    ghost use Rattle.cob_records.specs.Progress.{HasPassed, IsAt, IsReportOf};
+    ghost use Rattle.cob_records.specs.Progress.{HasPassed, IsReportOf, LeadsTo, Passes};
     ghost use Rattle.cob_records.specs.declared.place.Place.TheVariants.{Record};
 
     /// What has passed of a stream before its first byte.
@@ -45,9 +45,7 @@ impl Passed {
         requires { is_place place ≡ true }
         ensures count { result ≡ count }
         ensures passed { (bytes part : List ℕ) → HasPassed bytes self.old → length part ≡ count
-            → ((rest : List ℕ) → IsAt self.old.form self.old.greatest self.old.place rest
-            → IsAt self.old.form self.old.greatest place (rest ++ part))
-            → HasPassed (bytes ++ part) self.new }
+            → LeadsTo self.old place part → HasPassed (bytes ++ part) self.new }
         ensures form { self.new.form ≡ self.old.form }
         ensures greatest { self.new.greatest ≡ self.old.greatest }
     {
@@ -75,8 +73,7 @@ impl Passed {
         requires { 0 < length piece.now }
         ensures some { 0 < result }
         ensures within { result ≤ length piece.now }
-        ensures passed { (bytes : List ℕ) → HasPassed bytes self.old
-            → HasPassed (bytes ++ take result piece.now) self.new }
+        ensures passed { Passes (take result piece.now) self.old self.new }
         ensures form { self.new.form ≡ self.old.form }
         ensures greatest { self.new.greatest ≡ self.old.greatest }
     {
@@ -98,8 +95,7 @@ impl Passed {
 
     /// The piece passes.
     pub(crate) fn add(&mut self, piece: &[u8])
-        ensures passed { (bytes : List ℕ) → HasPassed bytes self.old
-            → HasPassed (bytes ++ piece.now) self.new }
+        ensures passed { Passes piece.now self.old self.new }
         ensures form { self.new.form ≡ self.old.form }
         ensures greatest { self.new.greatest ≡ self.old.greatest }
     {

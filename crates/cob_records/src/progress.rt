@@ -3,7 +3,7 @@ ghost use Rattle.std.specs.Io.KnownBytes.{IsAtEnd, prepend_known};
 ghost use Rattle.std.specs.Time.{instant_nanos};
 ghost use Rattle.cob_limits.specs.Limits.{longest_record};
 ghost use Rattle.cob_records.specs.Device.{counted};
-ghost use Rattle.cob_records.specs.Progress.{HasPassed, is_due, told_from};
+ghost use Rattle.cob_records.specs.Progress.{HasPassed, Passes, is_due, told_from};
 
 use crate::device::{DeviceFault, Source};
 use crate::passed::Passed;
@@ -140,8 +140,8 @@ impl<R: Source, T: Clock + Eprint> Source for Progress<'_, R, T> {
             ≡ counted (is_err result) (R.failures (progress_inner self.old)) }
 
         // What it gave has passed, and nothing else.
-        ensures passed { IfOk result (λ n. (bytes : List ℕ) → HasPassed bytes (progress_passed self.old)
-            → HasPassed (bytes ++ take n piece.new) (progress_passed self.new)) }
+        ensures passed { IfOk result (λ n.
+            Passes (take n piece.new) (progress_passed self.old) (progress_passed self.new)) }
         ensures still { OnErr result (progress_passed self.new ≡ progress_passed self.old) }
     {
         let count = self.inner.read(piece)?;
