@@ -3,6 +3,7 @@ ghost use Rattle.cob_source.specs.Lines.{lines, cut_return};
 ghost use Rattle.cob_job.specs.Marks.{IsJobOf, IsNextLine, IsNoJob, IsOtherLine, IsPartBefore, Parts, behind_line, first_line_of, is_part_end, mark_by};
 
 use cob_records::Form;
+use cob_source::without_return;
 use memchr::memchr;
 
 /// The parts of a job: three texts, the form of the records on each side, and the digits of the input's data.
@@ -37,16 +38,6 @@ pub fn split_line(text: &[u8]) -> (&[u8], &[u8])
         Some(at) => (without_return(&text[..at]), &text[at + 1..]),
         None => (text, &[]),
     }
-}
-
-/// A line without the carriage return at its end.
-fn without_return(line: &[u8]) -> &[u8]
-    ensures { result.now ≡ cut_return line.now }
-{
-    let Some((last, front)) = line.split_last() else {
-        return line;
-    };
-    if *last == b'\r' { front } else { line }
 }
 
 /// Whether a line is the wanted one.
