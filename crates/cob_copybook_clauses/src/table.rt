@@ -4,7 +4,6 @@ ghost use Rattle.cob_copybook_clauses.specs.Clauses.{
   IsFree,
   IsLeast,
   IsTable,
-  IsVaried,
   IsOptionalWord,
 };
 ghost use Rattle.cob_copybook_clauses.specs.Reading.{

@@ -7,7 +7,7 @@ ghost use Rattle.cob_copybook_clauses.specs.Written.{names_behind, written_name,
 ghost use Rattle.cob_entry.specs.declared.fault.BookRule.TheVariants as rule;
 ghost use Rattle.cob_entry.specs.Described.{PlainOccurs, plain_occurs};
 ghost use Rattle.cob_copybook_entries.specs.Meaning.{IsLeastOf, IsQualifiedOf, IsRange, AreNumbers, IsOccursOf};
-ghost use Rattle.cob_copybook_entries.specs.Books.{BreaksNumber, BreaksTable};
+ghost use Rattle.cob_copybook_entries.specs.Books.{BreaksNumber};
 ghost use Rattle.cob_copybook_entries.specs.Breaks.{IsNumbersFault, IsTableFault};
 ghost use Rattle.cob_copybook_entries.specs.Short.{AreShort, HasShortQualifiers};
 

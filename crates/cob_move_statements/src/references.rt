@@ -1,4 +1,4 @@
-ghost use Rattle.std.specs.Prelude.{◌≡◌, List, ℕ, ◌∷◌, ◌++◌, IfOk, IfSome, IsSomeAnd};
+ghost use Rattle.std.specs.Prelude.{◌≡◌, List, ℕ, ◌∷◌, IfOk, IfSome, IsSomeAnd};
 ghost use Rattle.cob_source.specs.Tokens.{Lexeme, lexemes};
 ghost use Rattle.cob_copybook_clauses.specs.Clauses.{IsNameWord};
 ghost use Rattle.cob_copybook_clauses.specs.Reading.{Answers, AnswersText, EachCut, EachCutNeither, StandInFront};
