@@ -20,11 +20,15 @@ pub struct Inputs {
 impl Inputs {
     /// The files that the options of a conversion name for reading.
     fn of<R: Files>(rt: &R, line: &ConvertLine<'_>) -> Inputs {
+        let in_book = FileIdentity::of(rt, line.in_book);
+        let out_book = FileIdentity::of(rt, line.out_book);
+        let moves = FileIdentity::of(rt, line.moves);
+        let records = FileIdentity::of_input(rt, line.input);
         Inputs {
-            in_book: FileIdentity::of(rt, line.in_book),
-            out_book: FileIdentity::of(rt, line.out_book),
-            moves: FileIdentity::of(rt, line.moves),
-            records: FileIdentity::of_input(rt, line.input),
+            in_book,
+            out_book,
+            moves,
+            records,
         }
     }
 
