@@ -1,7 +1,6 @@
 -- What the readers of statements say of what they answer, and of the words that they leave.
 use Rattle.std.specs.Prelude.{◌≡◌, ◌⊎◌, List, ◌∷◌, ◌++◌, Option, Result, IfErr, IfOk, IsSomeAnd}
 use denote.Ref.{Bor}
-use Rattle.std_alloc.specs.declared.vec.Vec.{Vec}
 use Rattle.cob_source.specs.Tokens.{Lexeme, lexemes}
 use Rattle.cob_source.specs.declared.token.Token.{Token}
 use Rattle.cob_copybook_clauses.specs.declared.term.WordClass.TheVariants as term
@@ -10,7 +9,7 @@ use Rattle.cob_copybook_clauses.specs.Reading.{Answers}
 use Rattle.cob_move_statements.specs.declared.parts.Reference.{Reference}
 use Rattle.cob_move_statements.specs.declared.fault.MoveFault.{MoveFault}
 use Rattle.cob_move_statements.specs.declared.fault.MoveRule.TheVariants as rule
-use Rattle.cob_move_statements.specs.Written.{WrittenReference, WrittenStatement, written_reference, written_references}
+use Rattle.cob_move_statements.specs.Written.{WrittenReference, WrittenStatement, written_reference}
 use Rattle.cob_move_statements.specs.Statements.{IsBracketed}
 
 -- words of a kind and TO stand in front, before these
@@ -33,9 +32,9 @@ Splits answer own more = (lexemes answer.0.now ≡ own) × (lexemes answer.1.now
 abbrev pub AnswersBoth : Option (Reference × Reference × Bor (List Token)) → WrittenReference → WrittenReference → List Lexeme → Type 0
 AnswersBoth answer from to more = IsSomeAnd answer (λ r. (written_reference r.0 ≡ from) × (written_reference r.1 ≡ to) × (lexemes r.2.now ≡ more))
 
--- memory aside, the reader of references answers these, and leaves these words
-abbrev pub AnswersReferences : {E Z : Type 0} → Result (Vec Reference Z × Bor (List Token)) E → List WrittenReference → List Lexeme → Type 0
-AnswersReferences answer xs more = IfOk answer (λ r. (written_references r.0.items ≡ xs) × (lexemes r.1.now ≡ more))
+-- memory aside, the reader of references answers what is seen as these, and leaves these words
+abbrev pub AnswersReferences : {A E : Type 0} → (A → List WrittenReference) → Result (A × Bor (List Token)) E → List WrittenReference → List Lexeme → Type 0
+AnswersReferences view answer xs more = IfOk answer (λ r. (view r.0 ≡ xs) × (lexemes r.1.now ≡ more))
 
 -- memory aside, a reader answers what is seen as this, and leaves these words
 abbrev pub OkAnswers : {A V E : Type 0} → (A → V) → Result (Option (A × Bor (List Token))) E → V → List Lexeme → Type 0

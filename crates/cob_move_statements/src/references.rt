@@ -59,7 +59,7 @@ pub fn references_at<'a>(
     ensures found { IfOk result (λ r. StandInFront
         (Several IsReference (written_references r.0.items)) (lexemes words.now) (lexemes r.1.now)) }
     ensures only { (xs : List WrittenReference) → EachCut (Several IsReference xs) EndsReferences
-        (lexemes words.now) (AnswersReferences result xs) }
+        (lexemes words.now) (AnswersReferences (λ rs. written_references rs.items) result xs) }
 {
     let mut references = Vec::with_capacity(alloc, 1)?;
     let mut rest = words;
