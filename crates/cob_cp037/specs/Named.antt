@@ -1,5 +1,5 @@
 -- The bytes of the characters that the rules of COBOL name, in code page 037.
-use Rattle.std.specs.Prelude.{ℕ, ◌+◌, ◌<◌, List, [], ◌∷◌}
+use Rattle.std.specs.Prelude.{ℕ, ◌+◌, ◌<◌, [], ◌∷◌}
 use lib.Chars.{codes}
 use Rattle.cob_cp037.specs.Table.{IsCoded, AreCoded}
 
@@ -66,7 +66,7 @@ r_byte = 0xD9
 -- Each byte is that of its character in the table, and the digits have theirs in order from that of 0 on.
 pub record BytesAreNamed : Type 0 where
   pub signs : AreCoded (codes " +-.,/*$\"")
-    (space_byte ∷ plus_byte ∷ minus_byte ∷ point_byte ∷ comma_byte ∷ slash_byte ∷ asterisk_byte ∷ currency_byte ∷ quote_byte ∷ [])
+      (space_byte ∷ plus_byte ∷ minus_byte ∷ point_byte ∷ comma_byte ∷ slash_byte ∷ asterisk_byte ∷ currency_byte ∷ quote_byte ∷ [])
   pub letters : AreCoded (codes "BCDR") (b_byte ∷ c_byte ∷ d_byte ∷ r_byte ∷ [])
   pub ends : AreCoded (codes "09") (zero_byte ∷ nine_byte ∷ [])
   pub digits : (digit : ℕ) → digit < 10 → IsCoded (48 + digit) (zero_byte + digit)

@@ -12,14 +12,14 @@
 
 mod named;
 
-pub use crate::named::{
-    ASTERISK, COMMA, CURRENCY, LETTER_B, LETTER_C, LETTER_D, LETTER_R, MINUS, NINE, PLUS, POINT, QUOTE,
-    SLASH, SPACE, ZERO, constants_are_the_bytes,
-};
-
 ghost use Rattle.std.specs.Prelude.{◌≡◌, ◌<◌, ◌↔◌, ℕ, List, length, IsTrue, IfSome, Some};
 ghost use Rattle.std.specs.Bool.{OnTrue, OnFalse};
 ghost use Rattle.cob_cp037.specs.Table.{IsCoded, AreCoded, HaveCodes, TableIsOneToOne};
+
+pub use crate::named::{
+    ASTERISK, COMMA, CURRENCY, LETTER_B, LETTER_C, LETTER_D, LETTER_R, MINUS, NINE, PLUS, POINT,
+    QUOTE, SLASH, SPACE, ZERO, constants_are_the_bytes,
+};
 
 /// The byte of each character, and 0 for a character that is not in the table.
 static BYTES: [u8; 256] = [

@@ -3,9 +3,7 @@
 ghost use Rattle.std.specs.Prelude.{◌≡◌};
 ghost use Rattle.cob_edit.specs.Places.{mark_byte, tells, fill_byte, is_digit, is_run, is_run_or_insertion, is_point_place, has_byte, is_nine, is_star, is_asterisk, is_fixed_sign, is_floating_sign};
 
-use cob_cp037::{
-    ASTERISK, CURRENCY, LETTER_B, LETTER_C, LETTER_D, LETTER_R, MINUS, PLUS, SPACE,
-};
+use cob_cp037::{ASTERISK, CURRENCY, LETTER_B, LETTER_C, LETTER_D, LETTER_R, MINUS, PLUS, SPACE};
 
 /// A byte that may depend on the sign of the value.
 #[derive(Clone, Copy, Debug, PartialEq, Eq)]
