@@ -1,5 +1,5 @@
 -- The bytes of the characters that the rules of COBOL name, in code page 037.
-use Rattle.std.specs.Prelude.{ℕ, ◌+◌, ◌<◌, List, [], ◌∷◌}
+use Rattle.std.specs.Prelude.{ℕ, ◌+◌, ◌<◌, [], ◌∷◌}
 use lib.Chars.{codes}
 use Rattle.cob_cp037.specs.Table.{IsCoded, AreCoded}
 
