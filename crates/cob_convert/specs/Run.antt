@@ -2,6 +2,7 @@
 use Rattle.std.specs.Prelude.{◌≡◌, ℕ, ◌+◌, ◌-◌, ◌^◌, ◌<◌, Bool, false, min, List, [], ◌++◌, ◌⊎◌, length, flat_map, Option, Ok, Err, Result}
 use Rattle.std.specs.List.{AllByRecursion}
 use Rattle.std.specs.Io.KnownBytes.{append_known}
+use Rattle.cob_records.specs.Device.{greatest_count}
 use Rattle.cob_records.specs.declared.records.RecordFault.{RecordFault}
 use Rattle.cob_records.specs.Frame.{Reads, Puts, framed, IsRecord}
 use Rattle.cob_convert_record.specs.Conversion.{Conversion, in_length}
@@ -119,7 +120,7 @@ pub record EndsClean (n number : ℕ) (at : Remains) : Type 0 where
 -- a run stops at the record behind n others, whose frames and the part of its own are the bytes that were written
 pub record EndsFaulty (conversion : Conversion) (n sent : ℕ) (at : Remains) (fault : RunFault) : Type 0 where
   pub number : fault.number ≡ n + 1
-  pub written : fault.written ≡ min (sent + length at.part) (2 ^ 64 - 1)
+  pub written : fault.written ≡ min (sent + length at.part) greatest_count
   pub stops : StopsFor conversion n at (reason_of fault)
 
 -- How a run ends behind n records, of which so many bytes were written: with the number of records where no byte was left, and else with the fault.

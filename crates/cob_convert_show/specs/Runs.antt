@@ -8,6 +8,7 @@ use Rattle.cob_layout_places.specs.declared.operands.Side.TheVariants.{In, Out}
 use Rattle.cob_layout.specs.Counting.{CountsOf}
 use Rattle.cob_layout.specs.Standing.{Standing, ArePlaces}
 use Rattle.cob_layout.specs.Storage.{current_length, greatest_length}
+use Rattle.cob_records.specs.Device.{greatest_count}
 use Rattle.cob_records.specs.declared.records.Form.{Form}
 use Rattle.cob_records.specs.declared.records.RecordFault.{RecordFault}
 use Rattle.cob_records.specs.declared.records.RecordFault.TheVariants.{Length}
@@ -113,7 +114,7 @@ abbrev pub EndsShow : Form → Forest Resolved → ℕ → ℕ → List ℕ → 
 EndsShow form tree n sent left rest part (Ok number) = (number ≡ n) × (n < most_shown) × (left ≡ []) × (rest ≡ []) × (part ≡ [])
 EndsShow form tree n sent left rest part (Err Memory) = (n ≡ 0) × (rest ≡ left) × (part ≡ [])
 EndsShow form tree n sent left rest part (Err (Run fault)) =
-    (fault.number ≡ n + 1) × (fault.written ≡ min (sent + length part) (2 ^ 64 - 1))
+    (fault.number ≡ n + 1) × (fault.written ≡ min (sent + length part) greatest_count)
     × (LimitEnds n left rest part fault ⊎ (ReadEnds form tree n left rest part fault ⊎ WriteEnds form tree n left rest part fault))
 
 -- Records that were shown with this answer, on a sink that told `before` and tells `now`, from these bytes, up to the rest: those that came whole
