@@ -9,9 +9,9 @@ ghost use Rattle.cob_move_apply.specs.Told.{most_moves_told, single_moves};
 ghost use Rattle.cob_move_apply.specs.Room.{room_of};
 
 use crate::application::apply_in;
-use crate::basis::Basis;
-use crate::preparation::bases_of;
+use crate::planning::plan_of;
 use crate::scratch::Scratch;
+use crate::step::Plan;
 use crate::stop::Stop;
 use crate::workspace::Layouts;
 use cob_codec::Reading;
@@ -45,8 +45,8 @@ fn single_moves_in(one: &StatementMoves) -> usize
 #[derive(Debug, Drop)]
 pub struct Moves {
     pub(crate) statements: Vec<StatementMoves>,
-    /// What the places of the operands rest on, one move's behind another's.
-    pub(crate) bases: Vec<Basis>,
+    /// What is carried out in their place.
+    pub(crate) plan: Plan,
     /// How binary items are read that are sent.
     pub(crate) reading: Reading,
 }
@@ -73,10 +73,10 @@ impl Moves {
         ensures prepared { IfOk result
             (λ m. ArePrepared (record { input = input.now; output = output.now }) m) }
     {
-        let bases = bases_of(alloc, given.as_slice(), input, output)?;
+        let plan = plan_of(alloc, given.as_slice(), input, output)?;
         Ok(Moves {
             statements: given,
-            bases,
+            plan,
             reading: Reading::Pictured,
         })
     }
@@ -88,7 +88,7 @@ impl Moves {
     {
         Moves {
             statements: self.statements,
-            bases: self.bases,
+            plan: self.plan,
             reading,
         }
     }
@@ -141,7 +141,8 @@ impl Moves {
         };
         apply_in(
             self.statements.as_slice(),
-            self.bases.as_slice(),
+            self.plan.steps.as_slice(),
+            self.plan.bases.as_slice(),
             &layouts,
             input,
             output,

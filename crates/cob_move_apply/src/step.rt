@@ -20,13 +20,20 @@ pub(crate) struct Part {
     pub(crate) base: usize,
 }
 
+/// Where bytes are copied from in the input record, and to in the output record.
+#[derive(Clone, Copy, Debug)]
+pub(crate) struct CopyPlaces {
+    pub(crate) from: Place,
+    pub(crate) to: Place,
+}
+
 /// What is carried out at once.
 #[derive(Clone, Copy, Debug)]
 pub(crate) enum Step {
     /// Places and categories are looked at as the step is carried out.
     Part(Part),
     /// Bytes of the input record are copied: one single move, or several, each of which begins on both sides where the one before ends.
-    Copy { from: Place, to: Place },
+    Copy(CopyPlaces),
 }
 
 /// Steps that stand for moves, and what the places of the operands of their parts rest on.
@@ -50,14 +57,25 @@ pub(crate) fn both_places(front: Place, next: Place) -> Option<Place>
     })
 }
 
-/// Copies the bytes of a place of the input to a place of the output.
-pub(crate) fn copy_across(from: Place, input: &[u8], to: Place, output: &mut [u8])
-    requires reads { from.offset + from.length ≤ length input.now }
-    requires writes { to.offset + to.length ≤ length output.old }
-    requires same { from.length ≡ to.length }
-    ensures { output.new ≡ with_field output.old to (field_of from input.now) }
+/// Two copies as one, where the second begins on both sides where the first ends.
+pub(crate) fn both_copies(front: CopyPlaces, next: CopyPlaces) -> Option<CopyPlaces>
+    ensures from { IfSome result (λ both. IsBoth front.from next.from both.from) }
+    ensures to { IfSome result (λ both. IsBoth front.to next.to both.to) }
 {
-    let start = to.offset as usize;
-    let end = start + to.length as usize;
-    output[start..end].copy_from_slice(field(input, from));
+    Some(CopyPlaces {
+        from: both_places(front.from, next.from)?,
+        to: both_places(front.to, next.to)?,
+    })
+}
+
+/// Copies the bytes of a place of the input to a place of the output.
+pub(crate) fn copy_across(places: CopyPlaces, input: &[u8], output: &mut [u8])
+    requires reads { places.from.offset + places.from.length ≤ length input.now }
+    requires writes { places.to.offset + places.to.length ≤ length output.old }
+    requires same { places.from.length ≡ places.to.length }
+    ensures { output.new ≡ with_field output.old places.to (field_of places.from input.now) }
+{
+    let start = places.to.offset as usize;
+    let end = start + places.to.length as usize;
+    output[start..end].copy_from_slice(field(input, places.from));
 }

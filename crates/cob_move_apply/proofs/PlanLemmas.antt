@@ -1,0 +1,174 @@
+-- Steps and the moves that they stand for, one behind another.
+use Rattle.std.proofs.Common.{◌≡◌, ℕ, ◌+◌, ◌<◌, ◌≤◌, List, [], ◌∷◌, ◌++◌, length, get_or, take, drop, map, refl, sym, ap, subst, ◌∙◌, arith, append_assoc, append-nil, true, false, Bool, ◌&&◌}
+use Rattle.std.specs.List.{AllByRecursion, flat_map}
+use Rattle.std.proofs.lemmas.List.{take_all, take_more, length-map, map-append, length-append}
+use Rattle.std.proofs.Math.Seq.{drop-append_seam}
+use Rattle.cob_codec.specs.declared.reading.Reading.{Reading}
+use Rattle.cob_layout_places.specs.declared.operands.Operand.{Operand}
+use Rattle.cob_layout_places.specs.declared.operands.Move as code_move
+use Rattle.cob_layout_places.specs.declared.operands.PairMoves.{PairMoves}
+use Rattle.cob_layout_places.specs.declared.operands.NumberedPair.{NumberedPair}
+use Rattle.cob_layout_places.specs.declared.operands.StatementMoves.{StatementMoves}
+use Rattle.cob_layout_places.specs.declared.reference.Ref.{Ref}
+use Rattle.cob_layout_places.specs.Moves.{Move, Records, Sender, moves_by, numbered_move_by, statement_moves_by}
+use Rattle.cob_move_apply.specs.Placed.{IsPlacedMove}
+use Rattle.cob_move_apply.specs.Steps.{AreCut, AreSteps, BeginsWith, Gains, GainsCut, IsPart, IsStep, StandFor, pair_at, singles}
+use Rattle.cob_move_apply.specs.declared.basis.Basis.{Basis}
+use Rattle.cob_move_apply.specs.declared.step.Part.{Part}
+use Rattle.cob_move_apply.specs.declared.step.Plan.{Plan}
+use Rattle.cob_move_apply.specs.declared.step.Step.{Step}
+use Rattle.cob_move_apply.specs.declared.step.Step.TheVariants as step
+use Rattle.cob_move_apply.proofs.CutLemmas.{cut_both}
+
+-- ---- more bases
+
+drop_behind : (n : ℕ) (xs ys : List Basis) → n ≤ length xs → drop n (xs ++ ys) ≡ drop n xs ++ ys
+drop_behind zero xs ys le = refl
+drop_behind (suc n) [] ys le = absurd (omega (arith, le))
+drop_behind (suc n) (x ∷ xs) ys le = drop_behind n xs ys (omega (arith, le))
+
+begins_still : (r : Records) (m : Move) (bs cs more : List Basis) → cs ≡ bs ++ more → BeginsWith r m bs → BeginsWith r m cs
+begins_still r m bs cs more is (own, behind, cut, placed) =
+    (own, behind ++ more, is ∙ ap (λ (xs : List Basis). xs ++ more) cut ∙ append_assoc own behind more, placed)
+
+part_still : (x : Reading) (r : Records) (given : List StatementMoves) (bases more : List Basis) (p : Part) (m : Move) → IsPart x r given bases p m → IsPart x r given (bases ++ more) p m
+part_still x r given bases more p m is = record {
+  statement = is.statement;
+  below = is.below;
+  at = is.at;
+  has = is.has;
+  is = is.is;
+  within = omega (arith, is.within, length-append bases more);
+  placed = begins_still r m (drop p.base bases) (drop p.base (bases ++ more)) more (drop_behind p.base bases more is.within) is.placed;
+}
+
+step_still : (x : Reading) (r : Records) (given : List StatementMoves) (bases more : List Basis) (s : Step) (own : List Move) → IsStep x r given bases s own → IsStep x r given (bases ++ more) s own
+step_still x r given bases more (step.Part p) own (m, is, part) = (m, is, part_still x r given bases more p m part)
+step_still x r given bases more (step.Copy places) own h = h
+
+steps_still : (x : Reading) (r : Records) (given : List StatementMoves) (bases more : List Basis) (ss : List Step) (parts : List Move)
+    → AreSteps x r given bases ss parts → AreSteps x r given (bases ++ more) ss parts
+steps_still x r given bases more [] parts h = h
+steps_still x r given bases more (s ∷ ss) parts (own, rest, cut, is, others) =
+    (own, rest, cut, step_still x r given bases more s own is, steps_still x r given bases more ss rest others)
+
+-- ---- a step behind steps
+
+pub step_behind : (x : Reading) (r : Records) (given : List StatementMoves) (bases : List Basis) (ss : List Step) (s : Step) (parts own : List Move)
+    → AreSteps x r given bases ss parts → IsStep x r given bases s own → AreSteps x r given bases (ss ++ s ∷ []) (parts ++ own)
+step_behind x r given bases [] s parts own none is =
+    (own, [], ap (λ (xs : List Move). xs ++ own) none ∙ sym (append-nil own), is, refl)
+step_behind x r given bases (t ∷ ss) s parts own (first, rest, cut, one, more) is =
+    (first, rest ++ own, ap (λ (xs : List Move). xs ++ own) cut ∙ append_assoc first rest own, one, step_behind x r given bases ss s rest own more is)
+
+-- the last of some steps, and those before it
+last_step : (x : Reading) (r : Records) (given : List StatementMoves) (bases : List Basis) (ss : List Step) (s : Step) (parts : List Move)
+    → AreSteps x r given bases (ss ++ s ∷ []) parts → (front own : List Move) × (parts ≡ front ++ own) × AreSteps x r given bases ss front × IsStep x r given bases s own
+last_step x r given bases [] s parts (own, rest, cut, is, none) =
+    ([], own, cut ∙ ap (λ (xs : List Move). own ++ xs) none ∙ append-nil own, refl, is)
+last_step x r given bases (t ∷ ss) s parts (first, rest, cut, one, more) =
+    let (front, own, same, before, is) = last_step x r given bases ss s rest more in
+    (first ++ front, own, cut ∙ ap (λ (xs : List Move). first ++ xs) same ∙ sym (append_assoc first front own), (first, front, refl, one, before), is)
+
+-- a copy that is joined to the last step
+pub with_last : (x : Reading) (r : Records) (given : List StatementMoves) (bases : List Basis) (old front new : List Step) (s both : Step) (parts next : List Move)
+    → old ≡ front ++ s ∷ [] → new ≡ front ++ both ∷ [] → AreSteps x r given bases old parts
+    → ((own : List Move) → IsStep x r given bases s own → IsStep x r given bases both (own ++ next)) → AreSteps x r given bases new (parts ++ next)
+with_last x r given bases old front new s both parts next was is are joins =
+    let (before, own, same, others, one) = last_step x r given bases front s parts (subst (λ (ss : List Step). AreSteps x r given bases ss parts) was are) in
+    let cut : before ++ (own ++ next) ≡ parts ++ next = sym (append_assoc before own next) ∙ ap (λ (xs : List Move). xs ++ next) (sym same) in
+    subst (λ (ss : List Step). AreSteps x r given bases ss (parts ++ next)) (sym is)
+    (subst (λ (ps : List Move). AreSteps x r given bases (front ++ both ∷ []) ps) cut (step_behind x r given bases front both before (own ++ next) others (joins own one)))
+
+-- a copy that is a step by itself
+pub by_itself : (x : Reading) (r : Records) (given : List StatementMoves) (bases : List Basis) (old mid new : List Step) (s : Step) (parts next : List Move)
+    → old ≡ mid → new ≡ mid ++ s ∷ [] → AreSteps x r given bases old parts → IsStep x r given bases s next → AreSteps x r given bases new (parts ++ next)
+by_itself x r given bases old mid new s parts next same is are step =
+    subst (λ (ss : List Step). AreSteps x r given bases ss (parts ++ next)) (sym is)
+    (step_behind x r given bases mid s parts next (subst (λ (ss : List Step). AreSteps x r given bases ss parts) same are) step)
+
+-- a part behind steps, whose bases are put behind the bases
+pub by_part : (x : Reading) (r : Records) (given : List StatementMoves) (old_bases new_bases own : List Basis) (old new : List Step) (p : Part) (m : Move) (parts : List Move)
+    → new_bases ≡ old_bases ++ own → new ≡ old ++ step.Part p ∷ [] → IsPart x r given (old_bases ++ own) p m
+    → AreSteps x r given old_bases old parts → AreSteps x r given new_bases new (parts ++ m ∷ [])
+by_part x r given old_bases new_bases own old new p m parts grown is part are =
+    subst (λ (bs : List Basis). AreSteps x r given bs new (parts ++ m ∷ [])) (sym grown)
+    (subst (λ (ss : List Step). AreSteps x r given (old_bases ++ own) ss (parts ++ m ∷ [])) (sym is)
+    (step_behind x r given (old_bases ++ own) old (step.Part p) parts (m ∷ []) (steps_still x r given old_bases own old parts are) (m, refl, part)))
+
+-- the bases that were put behind others begin there
+pub begin_there : (r : Records) (m : Move) (old own : List Basis) (n : ℕ) → n ≡ length old → IsPlacedMove r m own → BeginsWith r m (drop n (old ++ own))
+begin_there r m old own n is placed =
+    (own, [], ap (λ k. drop k (old ++ own)) is ∙ drop-append_seam old own ∙ sym (append-nil own), placed)
+
+-- ---- plans
+
+pub gains_none : (x : Reading) (r : Records) (given : List StatementMoves) (p : Plan) → Gains x r given [] p p
+gains_none x r given p parts are = subst (λ (ps : List Move). AreSteps x r given p.bases.items p.steps.items ps) (sym (append-nil parts)) are
+
+pub gains_both : (x : Reading) (r : Records) (given : List StatementMoves) (ms ns : List Move) (a b c : Plan) → Gains x r given ms a b → Gains x r given ns b c → Gains x r given (ms ++ ns) a c
+gains_both x r given ms ns a b c f g parts are =
+    subst (λ (ps : List Move). AreSteps x r given c.bases.items c.steps.items ps) (append_assoc parts ms ns) (g (parts ++ ms) (f parts are))
+
+pub gains_as : (x : Reading) (r : Records) (given : List StatementMoves) (ms ns : List Move) (a b : Plan) → ms ≡ ns → Gains x r given ms a b → Gains x r given ns a b
+gains_as x r given ms ns a b is f = subst (λ (xs : List Move). Gains x r given xs a b) is f
+
+-- the single moves to the receivers before a place, and then the one there
+pub single_more : (x : Reading) (r : Records) (given : List StatementMoves) (s : Sender) (os : List Operand) (i : ℕ) (o : Operand) (m : Move) (a b c : Plan) → i < length os → o ≡ get_or os i o
+    → m ≡ record { sender = s; receivers = o ∷ [] } → Gains x r given (singles s (take i os)) a b → Gains x r given (m ∷ []) b c → Gains x r given (singles s (take (i + 1) os)) a c
+single_more x r given s os i o m a b c lt is single f g =
+    let these : take i os ++ o ∷ [] ≡ take (i + 1) os = ap (λ (y : Operand). take i os ++ y ∷ []) is ∙ sym (take_more os i o lt) in
+    gains_as x r given (singles s (take i os) ++ m ∷ []) (singles s (take (i + 1) os)) a c
+    (ap (λ (n : Move). singles s (take i os) ++ n ∷ []) single ∙ sym (map-append (λ (o : Operand). record { sender = s; receivers = o ∷ [] }) (take i os) (o ∷ [])) ∙ ap (singles s) these)
+    (gains_both x r given (singles s (take i os)) (m ∷ []) a b c f g)
+
+pub single_all : (x : Reading) (r : Records) (given : List StatementMoves) (s : Sender) (os : List Operand) (i : ℕ) (a b : Plan) → length os ≤ i
+    → Gains x r given (singles s (take i os)) a b → Gains x r given (singles s os) a b
+single_all x r given s os i a b past f = gains_as x r given (singles s (take i os)) (singles s os) a b (ap (singles s) (take_all i os past)) f
+
+-- the moves of the pairs before a place, and then that of the one there
+pub pair_more : (x : Reading) (r : Records) (given : List StatementMoves) (g : PairMoves) (i : ℕ) (a b c : Plan) → i < length g.pairs.items
+    → Gains x r given (map (numbered_move_by x r g) (take i g.pairs.items)) a b → Gains x r given (numbered_move_by x r g (pair_at g i) ∷ []) b c
+    → Gains x r given (map (numbered_move_by x r g) (take (i + 1) g.pairs.items)) a c
+pair_more x r given g i a b c lt f h =
+    let ps = g.pairs.items in
+    let these : take i ps ++ pair_at g i ∷ [] ≡ take (i + 1) ps = sym (take_more ps i (record { from = 0; to = 0 }) lt) in
+    gains_as x r given (map (numbered_move_by x r g) (take i ps) ++ numbered_move_by x r g (pair_at g i) ∷ []) (map (numbered_move_by x r g) (take (i + 1) ps)) a c
+    (sym (map-append (numbered_move_by x r g) (take i ps) (pair_at g i ∷ [])) ∙ ap (map (numbered_move_by x r g)) these)
+    (gains_both x r given (map (numbered_move_by x r g) (take i ps)) (numbered_move_by x r g (pair_at g i) ∷ []) a b c f h)
+
+pub pair_all : (x : Reading) (r : Records) (given : List StatementMoves) (g : PairMoves) (i : ℕ) (a b : Plan) → length g.pairs.items ≤ i
+    → Gains x r given (map (numbered_move_by x r g) (take i g.pairs.items)) a b → Gains x r given (map (numbered_move_by x r g) g.pairs.items) a b
+pair_all x r given g i a b past f =
+    gains_as x r given (map (numbered_move_by x r g) (take i g.pairs.items)) (map (numbered_move_by x r g) g.pairs.items) a b
+    (ap (map (numbered_move_by x r g)) (take_all i g.pairs.items past)) f
+
+-- ---- statements
+
+moves_append : (x : Reading) (r : Records) (ss ts : List StatementMoves) → moves_by x r (ss ++ ts) ≡ moves_by x r ss ++ moves_by x r ts
+moves_append x r [] ts = refl
+moves_append x r (s ∷ ss) ts =
+    ap (λ (ms : List Move). statement_moves_by x r s ++ ms) (moves_append x r ss ts) ∙ sym (append_assoc (statement_moves_by x r s) (moves_by x r ss) (moves_by x r ts))
+
+-- the moves before a statement, and then its own
+statement_next : (x : Reading) (r : Records) (ss : List StatementMoves) (i : ℕ) (s : StatementMoves) → i < length ss → s ≡ get_or ss i s
+    → moves_by x r (take i ss) ++ statement_moves_by x r s ≡ moves_by x r (take (i + 1) ss)
+statement_next x r ss i s lt is =
+    ap (λ (ms : List Move). moves_by x r (take i ss) ++ ms) (sym (append-nil (statement_moves_by x r s)))
+    ∙ sym (moves_append x r (take i ss) (s ∷ []))
+    ∙ ap (moves_by x r) (ap (λ (t : StatementMoves). take i ss ++ t ∷ []) is ∙ sym (take_more ss i s lt))
+
+pub statement_more : (x : Reading) (r : Records) (ss : List StatementMoves) (i : ℕ) (s : StatementMoves) (a b c : Plan) → i < length ss → s ≡ get_or ss i s
+    → GainsCut x r ss (moves_by x r (take i ss)) a b → GainsCut x r ss (statement_moves_by x r s) b c → GainsCut x r ss (moves_by x r (take (i + 1) ss)) a c
+statement_more x r ss i s a b c lt is (own, cut, f) (next, more, g) =
+    (own ++ next, subst (λ (ms : List Move). AreCut ms (own ++ next)) (statement_next x r ss i s lt is) (cut_both (moves_by x r (take i ss)) (statement_moves_by x r s) own next cut more),
+    gains_both x r ss own next a b c f g)
+
+-- all statements, from an empty plan on
+pub stand_all : (x : Reading) (r : Records) (ss : List StatementMoves) (i : ℕ) (steps : List Step) (bases : List Basis) (a b : Plan) → length ss ≤ i → a.steps.items ≡ [] → steps ≡ b.steps.items → bases ≡ b.bases.items
+    → GainsCut x r ss (moves_by x r (take i ss)) a b → StandFor x r ss steps bases (moves_by x r ss)
+stand_all x r ss i steps bases a b past none steps_are bases_are (own, cut, f) =
+    let all : AreSteps x r ss b.bases.items b.steps.items own = f [] (subst (λ (qs : List Step). AreSteps x r ss a.bases.items qs []) (sym none) refl) in
+    (own,
+    subst (λ (bs : List Basis). AreSteps x r ss bs steps own) (sym bases_are) (subst (λ (qs : List Step). AreSteps x r ss b.bases.items qs own) (sym steps_are) all),
+    subst (λ (ts : List StatementMoves). AreCut (moves_by x r ts) own) (take_all i ss past) cut)
