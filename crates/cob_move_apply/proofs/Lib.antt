@@ -9,6 +9,7 @@ pub mod CountLemmas
 pub mod ReadingLemmas
 pub mod CutLemmas
 pub mod CopyLemmas
+pub mod JoinLemmas
 pub mod PlanLemmas
 pub mod StepLemmas
 pub use Rattle.cob_layout.proofs.EntryNoRule

@@ -5,6 +5,7 @@ pub mod Placed
 pub mod Seen
 pub mod Told
 pub mod Written
+pub mod Joined
 pub mod Steps
 pub mod Planned
 pub mod Prepared

@@ -5,30 +5,20 @@ ghost use Rattle.cob_codec.specs.declared.reading.Reading.{Reading as Read};
 ghost use Rattle.cob_layout.specs.Storage.{greatest_length, IsStorage};
 ghost use Rattle.cob_layout_places.specs.Moves.{AreMoves, Records, moves, read_by, statement_moves_by};
 ghost use Rattle.cob_move_apply.specs.Applied.{Applied, ending};
+ghost use Rattle.cob_move_apply.specs.Joined.{steps_in};
 ghost use Rattle.cob_move_apply.specs.Told.{most_moves_told, single_moves};
 ghost use Rattle.cob_move_apply.specs.Room.{room_of};
 
 use crate::application::apply_in;
 use crate::planning::plan_of;
 use crate::scratch::Scratch;
-use crate::step::Plan;
+use crate::step::{Plan, at_most_u32, counted};
 use crate::stop::Stop;
 use crate::workspace::Layouts;
 use cob_codec::Reading;
 use cob_layout::{Layout, records_are_sound};
 use cob_layout_places::StatementMoves;
 use std::alloc::{AllocError, Global};
-
-/// A number, or the greatest u32 where it is more.
-fn at_most_u32(count: usize) -> u32
-    ensures { result ≡ min count most_moves_told }
-{
-    if count < u32::MAX as usize {
-        count as u32
-    } else {
-        u32::MAX
-    }
-}
 
 /// How many single moves the moves of a statement are.
 fn single_moves_in(one: &StatementMoves) -> usize
@@ -102,6 +92,16 @@ impl Moves {
             count = count.saturating_add(single_moves_in(one));
         }
         at_most_u32(count)
+    }
+
+    /// How many steps these moves make. Single moves that are plain copies of entries of the input record are one step with the copy before, where each
+    /// begins on both sides where the one before ends, and neither record has a table that varies; each other single move is one by itself. More
+    /// than a u32 holds come as the greatest u32.
+    pub fn steps(&self) -> u32
+        ensures { (r : Records) → ArePrepared r self.now
+            → result ≡ min (steps_in r (moves_of r self.now)) most_moves_told }
+    {
+        counted(self.plan.steps.as_slice())
     }
 
     /// Carries out the moves in order on the storage of an output record. It takes no memory.

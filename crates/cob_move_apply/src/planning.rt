@@ -1,9 +1,10 @@
 //! Plans: the steps that stand for moves, made before a record comes. Plain copies that meet on both sides are one step.
 
-ghost use Rattle.std.specs.Prelude.{◌≡◌, ◌<◌, ◌++◌, [], ◌∷◌, List, length, true, IfOk, IfSome, OnOk, IsTrue};
+ghost use Rattle.std.specs.Prelude.{◌≡◌, ◌<◌, ◌+◌, ◌++◌, [], ◌∷◌, List, length, true, IfNone, IfOk, IfSome, IsFalse, OnOk, IsTrue, Some};
 ghost use Rattle.cob_codec.specs.declared.reading.Reading.{Reading};
 ghost use Rattle.cob_layout_places.specs.Moves.{
   AreMoves,
+  Entry,
   IsMove,
   IsOperand,
   Move as Meant,
@@ -20,12 +21,16 @@ ghost use Rattle.cob_layout_places.specs.Moves.{
   statement_moves,
   statement_moves_by,
 };
+ghost use Rattle.cob_layout_places.specs.declared.operands.Side.TheVariants.{In};
 ghost use Rattle.cob_layout_places.specs.declared.operands.StatementMoves.{StatementMoves as Said};
 ghost use Rattle.cob_layout_places.specs.declared.operands.StatementMoves.TheVariants.{Pairs, Single};
-ghost use Rattle.cob_move_apply.specs.Planned.{AreBetween, IsIn, IsStatement, between, copied_move, meant, neither_varies};
+ghost use Rattle.cob_move_apply.specs.Joined.{begun, ends, neither_varies, plain_copy, steps_in};
+ghost use Rattle.cob_move_apply.specs.Planned.{AreBetween, AreMore, AreShort, IsIn, IsStatement, between, copied_move, counted, ends_of, meant, step_count, step_ends};
 ghost use Rattle.cob_move_apply.specs.Steps.{AreSteps, Gains, GainsCut, IsSteady, IsStep, StandFor, pair_at, singles_of};
 ghost use Rattle.cob_move_apply.specs.Written.{AreCopied};
 ghost use Rattle.cob_move_apply.specs.declared.basis.Basis.{Basis as OperandBasis};
+ghost use Rattle.cob_move_apply.specs.declared.step.Part as code_part;
+ghost use Rattle.cob_move_apply.specs.declared.step.Step.TheVariants.{Part as StepPart};
 
 use crate::basis::entry_kind;
 use crate::pairs::entry_below;
@@ -75,8 +80,12 @@ fn plain_copy(sent: &Ref, receiver: &Ref, both: &Between<'_>) -> Option<CopyPlac
     requires sent { IsOperand both.now.input.now (operand_in both.now.input.now sent.now) }
     requires receiver { IsOperand both.now.output.now
         (operand_in both.now.output.now receiver.now) }
-    ensures { IfSome result (λ c. (reading : Reading) → AreCopied (between both.now) c.from c.to
+    ensures copied { IfSome result (λ c. (reading : Reading) → AreCopied (between both.now) c.from c.to
         (copied_move reading (between both.now) sent.now receiver.now ∷ [])) }
+    ensures short { IfSome result AreShort }
+    ensures value { (reading : Reading) → result ≡ plain_copy (between both.now)
+        (Entry In reading (operand_in both.now.input.now sent.now))
+        (operand_in both.now.output.now receiver.now) }
 {
     places_lie_in_storage();
     records_are_sound();
@@ -100,11 +109,15 @@ fn copy_of(given: &Sender, receiver: &Ref, both: &Between<'_>) -> Option<CopyPla
       sender = sender (between both.now) given.now;
       receivers = operand_in both.now.output.now receiver.now ∷ [];
     }) }
-    ensures { IfSome result (λ c. (reading : Reading) → AreCopied (between both.now) c.from c.to
+    ensures copied { IfSome result (λ c. (reading : Reading) → AreCopied (between both.now) c.from c.to
         (record {
           sender = sender_by reading (between both.now) given.now;
           receivers = operand_in both.now.output.now receiver.now ∷ [];
         } ∷ [])) }
+    ensures short { IfSome result AreShort }
+    ensures value { (reading : Reading) → result ≡ plain_copy (between both.now)
+        (sender_by reading (between both.now) given.now)
+        (operand_in both.now.output.now receiver.now) }
 {
     match given {
         Sender::Entry {
@@ -117,10 +130,15 @@ fn copy_of(given: &Sender, receiver: &Ref, both: &Between<'_>) -> Option<CopyPla
 
 /// A step and a copy behind it as one copy, where the step is a copy that ends on both sides where the other begins.
 fn joined(last: Step, places: CopyPlaces) -> Option<Step>
-    ensures { IfSome result (λ both. (reading : Reading) (r : Records) (given : List Said)
+    requires short { AreShort places }
+    ensures copied { IfSome result (λ both. (reading : Reading) (r : Records) (given : List Said)
         (bases : List OperandBasis) (own next : List Meant)
         → IsStep reading r given bases last own → AreCopied r places.from places.to next
         → IsStep reading r given bases both (own ++ next)) }
+    ensures joins { IfSome result (λ both. begun (step_ends last) (Some places) ≡ 0) }
+    ensures counts { IfSome result (λ both. step_count both ≡ step_count last) }
+    ensures ends { IfSome result (λ both. step_ends both ≡ Some (ends places)) }
+    ensures none { IfNone result (begun (step_ends last) (Some places) ≡ 1) }
 {
     match last {
         Step::Part(_) => None,
@@ -134,10 +152,14 @@ fn joined(last: Step, places: CopyPlaces) -> Option<Step>
 ///
 /// Where no memory is left.
 fn push_copy(places: CopyPlaces, steps: &mut Vec<Step>) -> Result<(), AllocError>
-    ensures { OnOk result ((reading : Reading) (r : Records) (given : List Said)
+    requires short { AreShort places }
+    ensures steps { OnOk result ((reading : Reading) (r : Records) (given : List Said)
         (bases : List OperandBasis) (parts next : List Meant)
         → AreSteps reading r given bases steps.old.items parts → AreCopied r places.from places.to next
         → AreSteps reading r given bases steps.new.items (parts ++ next)) }
+    ensures count { OnOk result (counted steps.new.items
+        ≡ counted steps.old.items + begun (ends_of steps.old.items) (Some places)) }
+    ensures ends { OnOk result (ends_of steps.new.items ≡ Some (ends places)) }
 {
     let Some(last) = steps.pop() else {
         steps.push(Step::Copy(places))?;
@@ -164,8 +186,11 @@ fn push_part(
     plan: &mut Plan,
 ) -> Result<(), AllocError>
     requires part { IsIn (between both.now) given.now part.now }
-    ensures { OnOk result ((reading : Reading) → Gains reading (between both.now) given.now
+    ensures gains { OnOk result ((reading : Reading) → Gains reading (between both.now) given.now
         (meant reading (between both.now) part.now ∷ []) plan.old plan.new) }
+    ensures added { OnOk result ((p : code_part.Part)
+        × (plan.new.steps.items ≡ plan.old.steps.items ++ StepPart p ∷ [])
+        × (p.count ≡ length part.now.receivers.now)) }
 {
     let base = plan.bases.len();
     push_bases(
@@ -198,8 +223,10 @@ fn push_single(
     requires both { AreBetween both.now }
     requires part { IsIn (between both.now) given.now part.now }
     requires one { length part.now.receivers.now ≡ 1 }
-    ensures { OnOk result ((reading : Reading) → Gains reading (between both.now) given.now
+    ensures gains { OnOk result ((reading : Reading) → Gains reading (between both.now) given.now
         (meant reading (between both.now) part.now ∷ []) plan.old plan.new) }
+    ensures more { OnOk result ((reading : Reading) → AreMore (between both.now)
+        (meant reading (between both.now) part.now ∷ []) plan.old.steps.items plan.new.steps.items) }
 {
     match copy_of(part.sender, &part.receivers[0], both) {
         Some(places) => push_copy(places, &mut plan.steps),
@@ -222,8 +249,10 @@ fn push_singles(
     requires both { AreBetween both.now }
     requires at { IsStatement given.now number (Single one.now) }
     requires legal { IsMove (between both.now) (move (between both.now) one.now) }
-    ensures { OnOk result ((reading : Reading) → Gains reading (between both.now) given.now
+    ensures gains { OnOk result ((reading : Reading) → Gains reading (between both.now) given.now
         (singles_of (move_by reading (between both.now) one.now)) plan.old plan.new) }
+    ensures more { OnOk result ((reading : Reading) → AreMore (between both.now)
+        (singles_of (move_by reading (between both.now) one.now)) plan.old.steps.items plan.new.steps.items) }
 {
     for (first, receiver) in one.receivers.iter().enumerate() {
         let part = StatementPart {
@@ -239,8 +268,10 @@ fn push_singles(
 
 /// Whether what a sender gives is the same before and behind each receiver.
 fn is_steady(given: &Sender) -> bool
-    ensures { (reading : Reading) (r : Records)
+    ensures yes { (reading : Reading) (r : Records)
         → IsTrue result → IsSteady (sender_by reading r given.now) }
+    ensures only { (reading : Reading) (r : Records)
+        → IsFalse result → IsSteady (sender_by reading r given.now) → ⊥ }
 {
     !matches!(
         given,
@@ -266,8 +297,10 @@ fn push_move(
     requires both { AreBetween both.now }
     requires at { IsStatement given.now number (Single one.now) }
     requires legal { IsMove (between both.now) (move (between both.now) one.now) }
-    ensures { OnOk result ((reading : Reading) → GainsCut reading (between both.now) given.now
+    ensures gains { OnOk result ((reading : Reading) → GainsCut reading (between both.now) given.now
         (move_by reading (between both.now) one.now ∷ []) plan.old plan.new) }
+    ensures more { OnOk result ((reading : Reading) → AreMore (between both.now)
+        (move_by reading (between both.now) one.now ∷ []) plan.old.steps.items plan.new.steps.items) }
 {
     if is_steady(&one.sender) && !one.receivers.is_empty() {
         return push_singles(given, number, one, both, plan);
@@ -299,9 +332,12 @@ fn push_pair(
     requires below { first < length group.now.pairs.items }
     requires legal { IsMove (between both.now) (numbered_move (between both.now) group.now
         (pair_at group.now first)) }
-    ensures { OnOk result ((reading : Reading) → Gains reading (between both.now) given.now
+    ensures gains { OnOk result ((reading : Reading) → Gains reading (between both.now) given.now
         (numbered_move_by reading (between both.now) group.now (pair_at group.now first) ∷ [])
         plan.old plan.new) }
+    ensures more { OnOk result ((reading : Reading) → AreMore (between both.now)
+        (numbered_move_by reading (between both.now) group.now (pair_at group.now first) ∷ [])
+        plan.old.steps.items plan.new.steps.items) }
 {
     let pair = &group.pairs[first];
     let sender = Sender::Entry {
@@ -334,8 +370,11 @@ fn push_pairs(
     requires at { IsStatement given.now number (Pairs group.now) }
     requires moves { AreMoves (between both.now)
         (statement_moves (between both.now) (Pairs group.now)) }
-    ensures { OnOk result ((reading : Reading) → Gains reading (between both.now) given.now
+    ensures gains { OnOk result ((reading : Reading) → Gains reading (between both.now) given.now
         (statement_moves_by reading (between both.now) (Pairs group.now)) plan.old plan.new) }
+    ensures more { OnOk result ((reading : Reading) → AreMore (between both.now)
+        (statement_moves_by reading (between both.now) (Pairs group.now))
+        plan.old.steps.items plan.new.steps.items) }
 {
     for first in 0..group.pairs.len() {
         push_pair(given, number, group, first, both, plan)?;
@@ -358,9 +397,12 @@ fn push_statement(
     requires below { number < length given.now }
     requires moves { (s : Said) → IsStatement given.now number s
         → AreMoves (between both.now) (statement_moves (between both.now) s) }
-    ensures { OnOk result ((reading : Reading) (s : Said) → IsStatement given.now number s
+    ensures gains { OnOk result ((reading : Reading) (s : Said) → IsStatement given.now number s
         → GainsCut reading (between both.now) given.now
         (statement_moves_by reading (between both.now) s) plan.old plan.new) }
+    ensures more { OnOk result ((reading : Reading) (s : Said) → IsStatement given.now number s
+        → AreMore (between both.now) (statement_moves_by reading (between both.now) s)
+        plan.old.steps.items plan.new.steps.items) }
 {
     match &given[number] {
         StatementMoves::Single(single) => push_move(given, number, single, both, plan),
@@ -381,9 +423,12 @@ pub(crate) fn plan_of(
 ) -> Result<Plan, AllocError>
     requires given { AreMoves (record { input = input.now; output = output.now })
         (moves (record { input = input.now; output = output.now }) given.now) }
-    ensures { IfOk result (λ plan. (reading : Reading)
+    ensures stand { IfOk result (λ plan. (reading : Reading)
         → StandFor reading (record { input = input.now; output = output.now }) given.now
         plan.steps.items plan.bases.items
+        (moves_by reading (record { input = input.now; output = output.now }) given.now)) }
+    ensures count { IfOk result (λ plan. (reading : Reading) → counted plan.steps.items
+        ≡ steps_in (record { input = input.now; output = output.now })
         (moves_by reading (record { input = input.now; output = output.now }) given.now)) }
 {
     let both = Between {
