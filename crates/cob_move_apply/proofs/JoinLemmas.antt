@@ -37,12 +37,12 @@ end_append r before [] ns = refl
 end_append r before (m ∷ ms) ns = end_append r (last_end (copies_of r m)) ms ns
 
 pub more_none : (r : Records) (a : List Step) → AreMore r [] a a
-more_none r a = record { count = omega arith; ends = refl }
+more_none r a = record { counts = omega arith; last = refl }
 
 pub more_both : (r : Records) (ms ns : List Move) (a b c : List Step) → AreMore r ms a b → AreMore r ns b c → AreMore r (ms ++ ns) a c
 more_both r ms ns a b c f g = record {
-  count = omega (arith, f.count, g.count, ap (λ (e : Option Ends). steps_behind r e ns) f.ends, steps_append r (ends_of a) ms ns);
-  ends = g.ends ∙ ap (λ (e : Option Ends). end_behind r e ns) f.ends ∙ sym (end_append r (ends_of a) ms ns);
+  counts = omega (arith, f.counts, g.counts, ap (λ (e : Option Ends). steps_behind r e ns) f.last, steps_append r (ends_of a) ms ns);
+  last = g.last ∙ ap (λ (e : Option Ends). end_behind r e ns) f.last ∙ sym (end_append r (ends_of a) ms ns);
 }
 
 pub more_as : (r : Records) (ms ns : List Move) (a b : List Step) → ms ≡ ns → AreMore r ms a b → AreMore r ns a b
@@ -58,16 +58,16 @@ begun_none (Some e) = refl
 pub more_copy : (r : Records) (s : Sender) (o : Operand) (c : CopyPlaces) (a b : List Step) → Some c ≡ plain_copy r s o → counted b ≡ counted a + begun (ends_of a) (Some c) → ends_of b ≡ Some (ends c)
     → AreMore r ((record { sender = s; receivers = o ∷ [] }) ∷ []) a b
 more_copy r s o c a b is count end = record {
-  count = omega (arith, count, ap (λ (x : Option CopyPlaces). begun (ends_of a) x) is);
-  ends = end ∙ ap (λ (x : Option CopyPlaces). option_map ends x) is;
+  counts = omega (arith, count, ap (λ (x : Option CopyPlaces). begun (ends_of a) x) is);
+  last = end ∙ ap (λ (x : Option CopyPlaces). option_map ends x) is;
 }
 
 -- a part with one receiver
 pub more_part : (r : Records) (s : Sender) (o : Operand) (p : Part) (a b : List Step) → None ≡ plain_copy r s o → b ≡ a ++ step.Part p ∷ [] → p.count ≡ 1
     → AreMore r ((record { sender = s; receivers = o ∷ [] }) ∷ []) a b
 more_part r s o p a b is added one = record {
-  count = omega (arith, ap counted added, counted_behind a (step.Part p), one, ap (λ (x : Option CopyPlaces). begun (ends_of a) x) is, begun_none (ends_of a));
-  ends = ap ends_of added ∙ ends_behind a (step.Part p) ∙ ap (λ (x : Option CopyPlaces). option_map ends x) is;
+  counts = omega (arith, ap counted added, counted_behind a (step.Part p), one, ap (λ (x : Option CopyPlaces). begun (ends_of a) x) is, begun_none (ends_of a));
+  last = ap ends_of added ∙ ends_behind a (step.Part p) ∙ ap (λ (x : Option CopyPlaces). option_map ends x) is;
 }
 
 -- ---- a move
@@ -87,8 +87,8 @@ some_ends r before s (o ∷ os) some = single_ends r before s o os
 -- single moves together are the move
 pub more_whole : (r : Records) (m : Move) (a b : List Step) → (m.receivers ≡ [] → ⊥) → AreMore r (singles m.sender m.receivers) a b → AreMore r (m ∷ []) a b
 more_whole r m a b some h = record {
-  count = omega (arith, h.count, single_steps r (ends_of a) m.sender m.receivers);
-  ends = h.ends ∙ some_ends r (ends_of a) m.sender m.receivers some;
+  counts = omega (arith, h.counts, single_steps r (ends_of a) m.sender m.receivers);
+  last = h.last ∙ some_ends r (ends_of a) m.sender m.receivers some;
 }
 
 -- what the output record sends is no copy
@@ -107,19 +107,19 @@ no_ends r (Entry Out x q) (o ∷ p ∷ os) no = no_ends r (Entry Out x q) (p ∷
 
 pub more_unsteady : (r : Records) (m : Move) (p : Part) (a b : List Step) → (IsSteady m.sender → ⊥) → b ≡ a ++ step.Part p ∷ [] → p.count ≡ length m.receivers → AreMore r (m ∷ []) a b
 more_unsteady r m p a b no added size = record {
-  count = omega (arith, ap counted added, counted_behind a (step.Part p), size, no_steps r (ends_of a) m.sender m.receivers no);
-  ends = ap ends_of added ∙ ends_behind a (step.Part p) ∙ sym (no_ends r m.sender m.receivers no);
+  counts = omega (arith, ap counted added, counted_behind a (step.Part p), size, no_steps r (ends_of a) m.sender m.receivers no);
+  last = ap ends_of added ∙ ends_behind a (step.Part p) ∙ sym (no_ends r m.sender m.receivers no);
 }
 
 -- a move without receivers
 pub more_empty : (r : Records) (m : Move) (p : Part) (a b : List Step) → m.receivers ≡ [] → b ≡ a ++ step.Part p ∷ [] → p.count ≡ length m.receivers → AreMore r (m ∷ []) a b
 more_empty r m p a b none added size = record {
-  count = omega (arith, ap counted added, counted_behind a (step.Part p), size, ap length none, ap (λ (os : List Operand). begun_by (ends_of a) (map (plain_copy r m.sender) os)) none);
-  ends = ap ends_of added ∙ ends_behind a (step.Part p) ∙ sym (ap (λ (os : List Operand). last_end (map (plain_copy r m.sender) os)) none);
+  counts = omega (arith, ap counted added, counted_behind a (step.Part p), size, ap length none, ap (λ (os : List Operand). begun_by (ends_of a) (map (plain_copy r m.sender) os)) none);
+  last = ap ends_of added ∙ ends_behind a (step.Part p) ∙ sym (ap (λ (os : List Operand). last_end (map (plain_copy r m.sender) os)) none);
 }
 
 -- ---- from no step on
 
 pub all_told : (r : Records) (ms : List Move) (a b : List Step) → a ≡ [] → AreMore r ms a b → counted b ≡ steps_in r ms
 all_told r ms a b none h =
-    omega (arith, h.count, ap counted none, ap (λ (ss : List Step). steps_behind r (ends_of ss) ms) none)
+    omega (arith, h.counts, ap counted none, ap (λ (ss : List Step). steps_behind r (ends_of ss) ms) none)

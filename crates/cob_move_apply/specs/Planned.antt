@@ -76,5 +76,5 @@ end_behind r before (m ∷ ms) = end_behind r (last_end (copies_of r m)) ms
 
 -- steps became these, which are as many more as the moves make
 pub record AreMore (r : Records) (ms : List Move) (before now : List Step) : Type 0 where
-  pub count : counted now ≡ counted before + steps_behind r (ends_of before) ms
-  pub ends : ends_of now ≡ end_behind r (ends_of before) ms
+  pub counts : counted now ≡ counted before + steps_behind r (ends_of before) ms
+  pub last : ends_of now ≡ end_behind r (ends_of before) ms
