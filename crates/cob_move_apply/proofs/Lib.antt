@@ -11,6 +11,7 @@ pub mod CutLemmas
 pub mod CopyLemmas
 pub mod JoinLemmas
 pub mod PlanLemmas
+pub mod PartLemmas
 pub mod StepLemmas
 pub use Rattle.cob_layout.proofs.EntryNoRule
 pub use Rattle.cob_layout.proofs.EntryOneList

@@ -18,7 +18,10 @@ use Rattle.cob_move_apply.specs.declared.step.Part.{Part}
 use Rattle.cob_move_apply.specs.declared.step.Plan.{Plan}
 use Rattle.cob_move_apply.specs.declared.step.Step.{Step}
 use Rattle.cob_move_apply.specs.declared.step.Step.TheVariants as step
+use Rattle.cob_move_apply.specs.Joined.{steps_in}
+use Rattle.cob_move_apply.specs.Planned.{AreMore, counted}
 use Rattle.cob_move_apply.proofs.CutLemmas.{cut_both}
+use Rattle.cob_move_apply.proofs.JoinLemmas.{all_told, more_as, more_both}
 
 -- ---- more bases
 
@@ -113,13 +116,24 @@ gains_both x r given ms ns a b c f g parts are =
 pub gains_as : (x : Reading) (r : Records) (given : List StatementMoves) (ms ns : List Move) (a b : Plan) → ms ≡ ns → Gains x r given ms a b → Gains x r given ns a b
 gains_as x r given ms ns a b is f = subst (λ (xs : List Move). Gains x r given xs a b) is f
 
+singles_next : (s : Sender) (os : List Operand) (i : ℕ) (o : Operand) (m : Move) → i < length os → o ≡ get_or os i o → m ≡ record { sender = s; receivers = o ∷ [] }
+    → singles s (take i os) ++ m ∷ [] ≡ singles s (take (i + 1) os)
+singles_next s os i o m lt is single =
+    ap (λ (n : Move). singles s (take i os) ++ n ∷ []) single
+    ∙ sym (map-append (λ (q : Operand). record { sender = s; receivers = q ∷ [] }) (take i os) (o ∷ []))
+    ∙ ap (singles s) (ap (λ (y : Operand). take i os ++ y ∷ []) is ∙ sym (take_more os i o lt))
+
+pairs_next : (x : Reading) (r : Records) (g : PairMoves) (i : ℕ) → i < length g.pairs.items
+    → map (numbered_move_by x r g) (take i g.pairs.items) ++ numbered_move_by x r g (pair_at g i) ∷ [] ≡ map (numbered_move_by x r g) (take (i + 1) g.pairs.items)
+pairs_next x r g i lt =
+    sym (map-append (numbered_move_by x r g) (take i g.pairs.items) (pair_at g i ∷ []))
+    ∙ ap (map (numbered_move_by x r g)) (sym (take_more g.pairs.items i (record { from = 0; to = 0 }) lt))
+
 -- the single moves to the receivers before a place, and then the one there
 pub single_more : (x : Reading) (r : Records) (given : List StatementMoves) (s : Sender) (os : List Operand) (i : ℕ) (o : Operand) (m : Move) (a b c : Plan) → i < length os → o ≡ get_or os i o
     → m ≡ record { sender = s; receivers = o ∷ [] } → Gains x r given (singles s (take i os)) a b → Gains x r given (m ∷ []) b c → Gains x r given (singles s (take (i + 1) os)) a c
 single_more x r given s os i o m a b c lt is single f g =
-    let these : take i os ++ o ∷ [] ≡ take (i + 1) os = ap (λ (y : Operand). take i os ++ y ∷ []) is ∙ sym (take_more os i o lt) in
-    gains_as x r given (singles s (take i os) ++ m ∷ []) (singles s (take (i + 1) os)) a c
-    (ap (λ (n : Move). singles s (take i os) ++ n ∷ []) single ∙ sym (map-append (λ (o : Operand). record { sender = s; receivers = o ∷ [] }) (take i os) (o ∷ [])) ∙ ap (singles s) these)
+    gains_as x r given (singles s (take i os) ++ m ∷ []) (singles s (take (i + 1) os)) a c (singles_next s os i o m lt is single)
     (gains_both x r given (singles s (take i os)) (m ∷ []) a b c f g)
 
 pub single_all : (x : Reading) (r : Records) (given : List StatementMoves) (s : Sender) (os : List Operand) (i : ℕ) (a b : Plan) → length os ≤ i
@@ -131,11 +145,8 @@ pub pair_more : (x : Reading) (r : Records) (given : List StatementMoves) (g : P
     → Gains x r given (map (numbered_move_by x r g) (take i g.pairs.items)) a b → Gains x r given (numbered_move_by x r g (pair_at g i) ∷ []) b c
     → Gains x r given (map (numbered_move_by x r g) (take (i + 1) g.pairs.items)) a c
 pair_more x r given g i a b c lt f h =
-    let ps = g.pairs.items in
-    let these : take i ps ++ pair_at g i ∷ [] ≡ take (i + 1) ps = sym (take_more ps i (record { from = 0; to = 0 }) lt) in
-    gains_as x r given (map (numbered_move_by x r g) (take i ps) ++ numbered_move_by x r g (pair_at g i) ∷ []) (map (numbered_move_by x r g) (take (i + 1) ps)) a c
-    (sym (map-append (numbered_move_by x r g) (take i ps) (pair_at g i ∷ [])) ∙ ap (map (numbered_move_by x r g)) these)
-    (gains_both x r given (map (numbered_move_by x r g) (take i ps)) (numbered_move_by x r g (pair_at g i) ∷ []) a b c f h)
+    gains_as x r given (map (numbered_move_by x r g) (take i g.pairs.items) ++ numbered_move_by x r g (pair_at g i) ∷ []) (map (numbered_move_by x r g) (take (i + 1) g.pairs.items)) a c
+    (pairs_next x r g i lt) (gains_both x r given (map (numbered_move_by x r g) (take i g.pairs.items)) (numbered_move_by x r g (pair_at g i) ∷ []) a b c f h)
 
 pub pair_all : (x : Reading) (r : Records) (given : List StatementMoves) (g : PairMoves) (i : ℕ) (a b : Plan) → length g.pairs.items ≤ i
     → Gains x r given (map (numbered_move_by x r g) (take i g.pairs.items)) a b → Gains x r given (map (numbered_move_by x r g) g.pairs.items) a b
@@ -158,17 +169,46 @@ statement_next x r ss i s lt is =
     ∙ sym (moves_append x r (take i ss) (s ∷ []))
     ∙ ap (moves_by x r) (ap (λ (t : StatementMoves). take i ss ++ t ∷ []) is ∙ sym (take_more ss i s lt))
 
-pub statement_more : (x : Reading) (r : Records) (ss : List StatementMoves) (i : ℕ) (s : StatementMoves) (a b c : Plan) → i < length ss → s ≡ get_or ss i s
-    → GainsCut x r ss (moves_by x r (take i ss)) a b → GainsCut x r ss (statement_moves_by x r s) b c → GainsCut x r ss (moves_by x r (take (i + 1) ss)) a c
-statement_more x r ss i s a b c lt is (own, cut, f) (next, more, g) =
-    (own ++ next, subst (λ (ms : List Move). AreCut ms (own ++ next)) (statement_next x r ss i s lt is) (cut_both (moves_by x r (take i ss)) (statement_moves_by x r s) own next cut more),
-    gains_both x r ss own next a b c f g)
+pub stand_none : (x : Reading) (r : Records) (ss : List StatementMoves) (steps : List Step) (bases : List Basis) → steps ≡ [] → StandFor x r ss steps bases (moves_by x r (take 0 ss))
+stand_none x r ss steps bases none = ([], subst (λ (qs : List Step). AreSteps x r ss bases qs []) (sym none) refl, refl)
 
--- all statements, from an empty plan on
-pub stand_all : (x : Reading) (r : Records) (ss : List StatementMoves) (i : ℕ) (steps : List Step) (bases : List Basis) (a b : Plan) → length ss ≤ i → a.steps.items ≡ [] → steps ≡ b.steps.items → bases ≡ b.bases.items
-    → GainsCut x r ss (moves_by x r (take i ss)) a b → StandFor x r ss steps bases (moves_by x r ss)
-stand_all x r ss i steps bases a b past none steps_are bases_are (own, cut, f) =
-    let all : AreSteps x r ss b.bases.items b.steps.items own = f [] (subst (λ (qs : List Step). AreSteps x r ss a.bases.items qs []) (sym none) refl) in
-    (own,
-    subst (λ (bs : List Basis). AreSteps x r ss bs steps own) (sym bases_are) (subst (λ (qs : List Step). AreSteps x r ss b.bases.items qs own) (sym steps_are) all),
-    subst (λ (ts : List StatementMoves). AreCut (moves_by x r ts) own) (take_all i ss past) cut)
+pub stand_more : (x : Reading) (r : Records) (ss : List StatementMoves) (i : ℕ) (s : StatementMoves) (b c : Plan) → i < length ss → s ≡ get_or ss i s
+    → StandFor x r ss b.steps.items b.bases.items (moves_by x r (take i ss)) → GainsCut x r ss (statement_moves_by x r s) b c → StandFor x r ss c.steps.items c.bases.items (moves_by x r (take (i + 1) ss))
+stand_more x r ss i s b c lt is (parts, are, cut) (own, more, g) =
+    (parts ++ own, g parts are, subst (λ (ms : List Move). AreCut ms (parts ++ own)) (statement_next x r ss i s lt is) (cut_both (moves_by x r (take i ss)) (statement_moves_by x r s) parts own cut more))
+
+pub stand_all : (x : Reading) (r : Records) (ss : List StatementMoves) (i : ℕ) (steps : List Step) (bases : List Basis) → length ss ≤ i → StandFor x r ss steps bases (moves_by x r (take i ss)) → StandFor x r ss steps bases (moves_by x r ss)
+stand_all x r ss i steps bases past h = subst (λ (ts : List StatementMoves). StandFor x r ss steps bases (moves_by x r ts)) (take_all i ss past) h
+
+-- ---- how many steps they make
+
+pub more_statement : (x : Reading) (r : Records) (ss : List StatementMoves) (i : ℕ) (s : StatementMoves) (a b c : List Step) → i < length ss → s ≡ get_or ss i s
+    → AreMore r (moves_by x r (take i ss)) a b → AreMore r (statement_moves_by x r s) b c → AreMore r (moves_by x r (take (i + 1) ss)) a c
+more_statement x r ss i s a b c lt is f g =
+    more_as r (moves_by x r (take i ss) ++ statement_moves_by x r s) (moves_by x r (take (i + 1) ss)) a c (statement_next x r ss i s lt is)
+    (more_both r (moves_by x r (take i ss)) (statement_moves_by x r s) a b c f g)
+
+pub more_all : (x : Reading) (r : Records) (ss : List StatementMoves) (i : ℕ) (a b : List Step) → length ss ≤ i → a ≡ [] → AreMore r (moves_by x r (take i ss)) a b → counted b ≡ steps_in r (moves_by x r ss)
+more_all x r ss i a b past none h =
+    all_told r (moves_by x r ss) a b none (subst (λ (ts : List StatementMoves). AreMore r (moves_by x r ts) a b) (take_all i ss past) h)
+
+pub more_single : (r : Records) (s : Sender) (os : List Operand) (i : ℕ) (o : Operand) (m : Move) (a b c : List Step) → i < length os → o ≡ get_or os i o
+    → m ≡ record { sender = s; receivers = o ∷ [] } → AreMore r (singles s (take i os)) a b → AreMore r (m ∷ []) b c → AreMore r (singles s (take (i + 1) os)) a c
+more_single r s os i o m a b c lt is single f g =
+    more_as r (singles s (take i os) ++ m ∷ []) (singles s (take (i + 1) os)) a c (singles_next s os i o m lt is single)
+    (more_both r (singles s (take i os)) (m ∷ []) a b c f g)
+
+pub more_singles : (r : Records) (s : Sender) (os : List Operand) (i : ℕ) (a b : List Step) → length os ≤ i → AreMore r (singles s (take i os)) a b → AreMore r (singles s os) a b
+more_singles r s os i a b past h = more_as r (singles s (take i os)) (singles s os) a b (ap (singles s) (take_all i os past)) h
+
+pub more_pair : (x : Reading) (r : Records) (g : PairMoves) (i : ℕ) (a b c : List Step) → i < length g.pairs.items
+    → AreMore r (map (numbered_move_by x r g) (take i g.pairs.items)) a b → AreMore r (numbered_move_by x r g (pair_at g i) ∷ []) b c
+    → AreMore r (map (numbered_move_by x r g) (take (i + 1) g.pairs.items)) a c
+more_pair x r g i a b c lt f h =
+    more_as r (map (numbered_move_by x r g) (take i g.pairs.items) ++ numbered_move_by x r g (pair_at g i) ∷ []) (map (numbered_move_by x r g) (take (i + 1) g.pairs.items)) a c
+    (pairs_next x r g i lt) (more_both r (map (numbered_move_by x r g) (take i g.pairs.items)) (numbered_move_by x r g (pair_at g i) ∷ []) a b c f h)
+
+pub more_pairs : (x : Reading) (r : Records) (g : PairMoves) (i : ℕ) (a b : List Step) → length g.pairs.items ≤ i
+    → AreMore r (map (numbered_move_by x r g) (take i g.pairs.items)) a b → AreMore r (map (numbered_move_by x r g) g.pairs.items) a b
+more_pairs x r g i a b past h =
+    more_as r (map (numbered_move_by x r g) (take i g.pairs.items)) (map (numbered_move_by x r g) g.pairs.items) a b (ap (map (numbered_move_by x r g)) (take_all i g.pairs.items past)) h

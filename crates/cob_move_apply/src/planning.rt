@@ -254,7 +254,8 @@ fn push_singles(
     ensures more { OnOk result ((reading : Reading) → AreMore (between both.now)
         (singles_of (move_by reading (between both.now) one.now)) plan.old.steps.items plan.new.steps.items) }
 {
-    for (first, receiver) in one.receivers.iter().enumerate() {
+    let receivers = one.receivers.as_slice();
+    for (first, receiver) in receivers.iter().enumerate() {
         let part = StatementPart {
             statement: number,
             first,
