@@ -1,5 +1,6 @@
 -- Copies that meet on both sides are one copy.
 use Rattle.std.proofs.Common.{◌≡◌, ℕ, ◌+◌, ◌≤◌, true, false, List, [], ◌∷◌, ◌++◌, length, take, drop, refl, sym, ap, subst, ◌∙◌, arith, append_assoc, inl, Ok, Some, take-add, drop-drop, length-append, length-take-le, length-drop}
+use Rattle.std.proofs.lemmas.List.{take-append-drop}
 use Rattle.std.proofs.Math.Seq.{take-append_seam, drop-append_seam}
 use Rattle.cob_codec.specs.declared.reading.Reading.{Reading}
 use Rattle.cob_copybook.specs.Books.{IsRecordDescription}
@@ -90,7 +91,7 @@ leaves_both t p q both is one other counts before field fits long taken =
     let then : CountsOf t (with_field (with_field before p x) q y) (Ok counts) =
     other counts (with_field before p x) y q_fits y_long (one counts before x p_fits x_long taken) in
     subst (λ (b : List ℕ). CountsOf t b (Ok counts))
-    (both_written p q both before x y is (omega (arith, p_fits)) x_long ∙ ap (with_field before both) (take-drop p.length field)) then
+    (both_written p q both before x y is (omega (arith, p_fits)) x_long ∙ ap (with_field before both) (take-append-drop p.length field)) then
 
 -- what is known of a storage stays
 known_left : (t : Forest Resolved) (before field : List ℕ) (p : Place) (k : Known) (places : Standing) → LeavesCounts t p → p.offset + p.length ≤ length before → length field ≡ p.length
