@@ -33,7 +33,7 @@ from_next : (x : Reading) (r : Records) (ss : List StatementMoves) (i : ℕ) (s 
     → from x r ss i ≡ single_moves (statement_moves_by x r s) + from x r ss (i + 1)
 from_next x r ss i s lt is = ap single_moves (cut_statement x r ss i s lt is) ∙ single_append (statement_moves_by x r s) (moves_by x r (drop (i + 1) ss))
 
-past_greatest : (c n rest total most greatest : ℕ) → most ≤ greatest → min (c + (n + rest)) most ≡ min total most
+pub past_greatest : (c n rest total most greatest : ℕ) → most ≤ greatest → min (c + (n + rest)) most ≡ min total most
     → min (min (c + n) greatest + rest) most ≡ min total most
 past_greatest c n rest total most greatest le h = omega (arith, le, h)
 

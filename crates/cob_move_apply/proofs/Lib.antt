@@ -9,6 +9,7 @@ pub mod CountLemmas
 pub mod ReadingLemmas
 pub mod CutLemmas
 pub mod CopyLemmas
+pub mod PlainLemmas
 pub mod JoinLemmas
 pub mod PlanLemmas
 pub mod PartLemmas

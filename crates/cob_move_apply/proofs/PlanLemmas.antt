@@ -12,7 +12,7 @@ use Rattle.cob_layout_places.specs.declared.operands.StatementMoves.{StatementMo
 use Rattle.cob_layout_places.specs.declared.reference.Ref.{Ref}
 use Rattle.cob_layout_places.specs.Moves.{Move, Records, Sender, moves_by, numbered_move_by, statement_moves_by}
 use Rattle.cob_move_apply.specs.Placed.{IsPlacedMove}
-use Rattle.cob_move_apply.specs.Steps.{AreCut, AreSteps, BeginsWith, Gains, GainsCut, IsPart, IsStep, StandFor, pair_at, singles}
+use Rattle.cob_move_apply.specs.Steps.{AreCut, AreSteps, BeginsWith, Gains, GainsCut, IsPart, IsStep, StandFor, alone, pair_at, singles}
 use Rattle.cob_move_apply.specs.declared.basis.Basis.{Basis}
 use Rattle.cob_move_apply.specs.declared.step.Part.{Part}
 use Rattle.cob_move_apply.specs.declared.step.Plan.{Plan}
@@ -116,11 +116,11 @@ gains_both x r given ms ns a b c f g parts are =
 pub gains_as : (x : Reading) (r : Records) (given : List StatementMoves) (ms ns : List Move) (a b : Plan) → ms ≡ ns → Gains x r given ms a b → Gains x r given ns a b
 gains_as x r given ms ns a b is f = subst (λ (xs : List Move). Gains x r given xs a b) is f
 
-singles_next : (s : Sender) (os : List Operand) (i : ℕ) (o : Operand) (m : Move) → i < length os → o ≡ get_or os i o → m ≡ record { sender = s; receivers = o ∷ [] }
+singles_next : (s : Sender) (os : List Operand) (i : ℕ) (o : Operand) (m : Move) → i < length os → o ≡ get_or os i o → m ≡ alone s o
     → singles s (take i os) ++ m ∷ [] ≡ singles s (take (i + 1) os)
 singles_next s os i o m lt is single =
     ap (λ (n : Move). singles s (take i os) ++ n ∷ []) single
-    ∙ sym (map-append (λ (q : Operand). record { sender = s; receivers = q ∷ [] }) (take i os) (o ∷ []))
+    ∙ sym (map-append (alone s) (take i os) (o ∷ []))
     ∙ ap (singles s) (ap (λ (y : Operand). take i os ++ y ∷ []) is ∙ sym (take_more os i o lt))
 
 pairs_next : (x : Reading) (r : Records) (g : PairMoves) (i : ℕ) → i < length g.pairs.items
@@ -131,7 +131,7 @@ pairs_next x r g i lt =
 
 -- the single moves to the receivers before a place, and then the one there
 pub single_more : (x : Reading) (r : Records) (given : List StatementMoves) (s : Sender) (os : List Operand) (i : ℕ) (o : Operand) (m : Move) (a b c : Plan) → i < length os → o ≡ get_or os i o
-    → m ≡ record { sender = s; receivers = o ∷ [] } → Gains x r given (singles s (take i os)) a b → Gains x r given (m ∷ []) b c → Gains x r given (singles s (take (i + 1) os)) a c
+    → m ≡ alone s o → Gains x r given (singles s (take i os)) a b → Gains x r given (m ∷ []) b c → Gains x r given (singles s (take (i + 1) os)) a c
 single_more x r given s os i o m a b c lt is single f g =
     gains_as x r given (singles s (take i os) ++ m ∷ []) (singles s (take (i + 1) os)) a c (singles_next s os i o m lt is single)
     (gains_both x r given (singles s (take i os)) (m ∷ []) a b c f g)
@@ -193,7 +193,7 @@ more_all x r ss i a b past none h =
     all_told r (moves_by x r ss) a b none (subst (λ (ts : List StatementMoves). AreMore r (moves_by x r ts) a b) (take_all i ss past) h)
 
 pub more_single : (r : Records) (s : Sender) (os : List Operand) (i : ℕ) (o : Operand) (m : Move) (a b c : List Step) → i < length os → o ≡ get_or os i o
-    → m ≡ record { sender = s; receivers = o ∷ [] } → AreMore r (singles s (take i os)) a b → AreMore r (m ∷ []) b c → AreMore r (singles s (take (i + 1) os)) a c
+    → m ≡ alone s o → AreMore r (singles s (take i os)) a b → AreMore r (m ∷ []) b c → AreMore r (singles s (take (i + 1) os)) a c
 more_single r s os i o m a b c lt is single f g =
     more_as r (singles s (take i os) ++ m ∷ []) (singles s (take (i + 1) os)) a c (singles_next s os i o m lt is single)
     (more_both r (singles s (take i os)) (m ∷ []) a b c f g)

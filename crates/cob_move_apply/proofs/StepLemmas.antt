@@ -79,6 +79,10 @@ pub the_copy : (x : Reading) (r : Records) (given : List StatementMoves) (steps 
     → (n : Next x r given steps bases i (step.Copy c) input before now) → AreCopied r c.from c.to n.own
 the_copy x r given steps bases i c input before now n = n.is
 
+pub copy_reads : (x : Reading) (r : Records) (given : List StatementMoves) (steps : List Step) (bases : List Basis) (i : ℕ) (c : CopyPlaces) (input before now : List ℕ)
+    → Next x r given steps bases i (step.Copy c) input before now → IsStorage r.input input → c.from.offset + c.from.length ≤ length input
+copy_reads x r given steps bases i c input before now n is = (the_copy x r given steps bases i c input before now n).reads input is
+
 pub left_copy : (x : Reading) (r : Records) (given : List StatementMoves) (steps : List Step) (bases : List Basis) (i : ℕ) (c : CopyPlaces) (input before now after : List ℕ)
     → IsStorage r.input input → length now ≡ greatest_length r.output → after ≡ with_field now c.to (field_of c.from input)
     → Next x r given steps bases i (step.Copy c) input before now → Left x r given steps bases (i + 1) input before after

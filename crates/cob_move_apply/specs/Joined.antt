@@ -1,8 +1,7 @@
 -- How many steps moves make: plain copies that meet on both sides are one step.
-use Rattle.std.specs.Prelude.{ℕ, ◌+◌, Bool, ◌&&◌, ◌==◌, if◌then◌else◌, List, [], ◌∷◌, map, Option, Some, None, Ok, Result, option_map}
+use Rattle.std.specs.Prelude.{ℕ, ◌+◌, Bool, ◌&&◌, ◌==◌, if◌then◌else◌, List, [], ◌∷◌, length, map, Option, Some, None, Ok, Result, option_map}
 use Rattle.cob_layout.specs.Counting.{greatest_counts}
 use Rattle.cob_layout.specs.Placed.{placed_under}
-use Rattle.cob_layout.specs.Standing.{are_none}
 use Rattle.cob_layout.specs.declared.fields.Place.{Place}
 use Rattle.cob_layout.specs.declared.layout.PlaceFault.{PlaceFault}
 use Rattle.cob_layout_places.specs.Counts.{tables_of}
@@ -14,7 +13,7 @@ use Rattle.cob_move_apply.specs.declared.step.CopyPlaces.{CopyPlaces}
 
 -- neither record has a table that varies
 abbrev pub neither_varies : Records → Bool
-neither_varies r = are_none (tables_of r.input) && are_none (tables_of r.output)
+neither_varies r = (length (tables_of r.input) == 0) && (length (tables_of r.output) == 0)
 
 -- the places of a copy, where both stand there and have one length
 abbrev pub copy_between : Option (Result Place PlaceFault) → Option (Result Place PlaceFault) → Option CopyPlaces

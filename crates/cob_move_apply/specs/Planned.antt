@@ -7,7 +7,7 @@ use Rattle.cob_layout_places.specs.declared.operands.StatementMoves.{StatementMo
 use Rattle.cob_layout_places.specs.declared.reference.Ref.{Ref}
 use Rattle.cob_layout_places.specs.Moves.{Entry, IsMove, Move, Records, operand_in, sender, sender_by}
 use Rattle.cob_move_apply.specs.Joined.{Ends, copies_of, ends, last_end, neither_varies, steps_behind}
-use Rattle.cob_move_apply.specs.Steps.{HasPart, part_of}
+use Rattle.cob_move_apply.specs.Steps.{HasPart, alone, part_of}
 use Rattle.cob_move_apply.specs.declared.step.CopyPlaces.{CopyPlaces}
 use Rattle.cob_move_apply.specs.declared.step.Step.{Step}
 use Rattle.cob_move_apply.specs.declared.step.Step.TheVariants as step
@@ -25,7 +25,7 @@ AreBetween b = b.is_fixed ≡ neither_varies (between b)
 -- the move of an entry of the input record to one of the output record
 abbrev pub copied_move : Reading → Records → Ref → Ref → Move
 copied_move reading r sent receiver =
-    record { sender = Entry In reading (operand_in r.input sent); receivers = operand_in r.output receiver ∷ [] }
+    alone (Entry In reading (operand_in r.input sent)) (operand_in r.output receiver)
 
 -- the move that a part is, its sender read so
 abbrev pub meant : Reading → Records → StatementPart → Move

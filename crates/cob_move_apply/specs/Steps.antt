@@ -67,9 +67,13 @@ abbrev pub AreReceived : Sender → List Move → List Operand → Type 0
 AreReceived s [] os = os ≡ []
 AreReceived s (p ∷ ps) os = (p.sender ≡ s) × ((rest : List Operand) × (os ≡ p.receivers ++ rest) × AreReceived s ps rest)
 
+-- a sender with one receiver
+abbrev pub alone : Sender → Operand → Move
+alone s o = record { sender = s; receivers = o ∷ [] }
+
 -- a sender with each of some receivers by itself
 abbrev pub singles : Sender → List Operand → List Move
-singles s os = map (λ (o : Operand). record { sender = s; receivers = o ∷ [] }) os
+singles s os = map (alone s) os
 
 -- the single moves of a move
 abbrev pub singles_of : Move → List Move

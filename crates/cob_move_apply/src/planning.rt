@@ -26,7 +26,7 @@ ghost use Rattle.cob_layout_places.specs.declared.operands.StatementMoves.{State
 ghost use Rattle.cob_layout_places.specs.declared.operands.StatementMoves.TheVariants.{Pairs, Single};
 ghost use Rattle.cob_move_apply.specs.Joined.{begun, ends, neither_varies, plain_copy, steps_in};
 ghost use Rattle.cob_move_apply.specs.Planned.{AreBetween, AreMore, AreShort, IsIn, IsStatement, between, copied_move, counted, ends_of, meant, step_count, step_ends};
-ghost use Rattle.cob_move_apply.specs.Steps.{AreSteps, Gains, GainsCut, IsSteady, IsStep, StandFor, pair_at, singles_of};
+ghost use Rattle.cob_move_apply.specs.Steps.{AreSteps, Gains, GainsCut, IsSteady, IsStep, StandFor, alone, pair_at, singles_of};
 ghost use Rattle.cob_move_apply.specs.Written.{AreCopied};
 ghost use Rattle.cob_move_apply.specs.declared.basis.Basis.{Basis as OperandBasis};
 ghost use Rattle.cob_move_apply.specs.declared.step.Part as code_part;
@@ -105,25 +105,24 @@ fn plain_copy(sent: &Ref, receiver: &Ref, both: &Between<'_>) -> Option<CopyPlac
 /// The places of the copy that a single move is, where it is a plain one and neither record has a table that varies.
 fn copy_of(given: &Sender, receiver: &Ref, both: &Between<'_>) -> Option<CopyPlaces>
     requires both { AreBetween both.now }
-    requires legal { IsMove (between both.now) (record {
-      sender = sender (between both.now) given.now;
-      receivers = operand_in both.now.output.now receiver.now ∷ [];
-    }) }
+    requires legal { IsMove (between both.now) (alone (sender (between both.now) given.now)
+        (operand_in both.now.output.now receiver.now)) }
     ensures copied { IfSome result (λ c. (reading : Reading) → AreCopied (between both.now) c.from c.to
-        (record {
-          sender = sender_by reading (between both.now) given.now;
-          receivers = operand_in both.now.output.now receiver.now ∷ [];
-        } ∷ [])) }
+        (alone (sender_by reading (between both.now) given.now)
+        (operand_in both.now.output.now receiver.now) ∷ [])) }
     ensures short { IfSome result AreShort }
     ensures value { (reading : Reading) → result ≡ plain_copy (between both.now)
         (sender_by reading (between both.now) given.now)
         (operand_in both.now.output.now receiver.now) }
 {
+    if !both.is_fixed {
+        return None;
+    }
     match given {
         Sender::Entry {
             side: Side::In,
             entry,
-        } if both.is_fixed => plain_copy(entry, receiver, both),
+        } => plain_copy(entry, receiver, both),
         Sender::Entry { .. } | Sender::Constant(_) => None,
     }
 }
