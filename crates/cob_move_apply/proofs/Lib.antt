@@ -12,6 +12,7 @@ pub mod CopyLemmas
 pub mod PlainLemmas
 pub mod JoinLemmas
 pub mod PlanLemmas
+pub mod InLemmas
 pub mod PartLemmas
 pub mod StepLemmas
 pub use Rattle.cob_layout.proofs.EntryNoRule

@@ -37,10 +37,6 @@ neither r e =
     let (a, b) = both (length (tables_of r.input) == 0) (length (tables_of r.output) == 0) e in
     (none_of (tables_of r.input) a, none_of (tables_of r.output) b)
 
--- then each entry reads no count
-pub reads_none : (r : Records) (sent receiver : Ref) → neither_varies r ≡ true → ReadsNone r.input sent.node false × ReadsNone r.output receiver.node true
-reads_none r sent receiver e = let (a, b) = neither r e in (a, b)
-
 pub copied : LieInStorage → (r : Records) (sent receiver : Ref) (from to : Place) (k l : Kind) (reading : Reading) → IsRecordDescription r.input → neither_varies r ≡ true → IsOperand r.input (operand_in r.input sent)
     → ReadsNone r.input sent.node false → placed_under (greatest_counts r.input) r.input sent ≡ Some (Ok from) → from.offset + from.length ≤ greatest_length r.input
     → ReadsNone r.output receiver.node true → placed_under (greatest_counts r.output) r.output receiver ≡ Some (Ok to) → to.offset + to.length ≤ greatest_length r.output

@@ -116,12 +116,9 @@ gains_both x r given ms ns a b c f g parts are =
 pub gains_as : (x : Reading) (r : Records) (given : List StatementMoves) (ms ns : List Move) (a b : Plan) → ms ≡ ns → Gains x r given ms a b → Gains x r given ns a b
 gains_as x r given ms ns a b is f = subst (λ (xs : List Move). Gains x r given xs a b) is f
 
-singles_next : (s : Sender) (os : List Operand) (i : ℕ) (o : Operand) (m : Move) → i < length os → o ≡ get_or os i o → m ≡ alone s o
-    → singles s (take i os) ++ m ∷ [] ≡ singles s (take (i + 1) os)
-singles_next s os i o m lt is single =
-    ap (λ (n : Move). singles s (take i os) ++ n ∷ []) single
-    ∙ sym (map-append (alone s) (take i os) (o ∷ []))
-    ∙ ap (singles s) (ap (λ (y : Operand). take i os ++ y ∷ []) is ∙ sym (take_more os i o lt))
+singles_next : (s : Sender) (os : List Operand) (i : ℕ) (o : Operand) → i < length os → o ≡ get_or os i o → singles s (take i os) ++ alone s o ∷ [] ≡ singles s (take (i + 1) os)
+singles_next s os i o lt is =
+    sym (map-append (alone s) (take i os) (o ∷ [])) ∙ ap (singles s) (ap (λ (y : Operand). take i os ++ y ∷ []) is ∙ sym (take_more os i o lt))
 
 pairs_next : (x : Reading) (r : Records) (g : PairMoves) (i : ℕ) → i < length g.pairs.items
     → map (numbered_move_by x r g) (take i g.pairs.items) ++ numbered_move_by x r g (pair_at g i) ∷ [] ≡ map (numbered_move_by x r g) (take (i + 1) g.pairs.items)
@@ -130,11 +127,11 @@ pairs_next x r g i lt =
     ∙ ap (map (numbered_move_by x r g)) (sym (take_more g.pairs.items i (record { from = 0; to = 0 }) lt))
 
 -- the single moves to the receivers before a place, and then the one there
-pub single_more : (x : Reading) (r : Records) (given : List StatementMoves) (s : Sender) (os : List Operand) (i : ℕ) (o : Operand) (m : Move) (a b c : Plan) → i < length os → o ≡ get_or os i o
-    → m ≡ alone s o → Gains x r given (singles s (take i os)) a b → Gains x r given (m ∷ []) b c → Gains x r given (singles s (take (i + 1) os)) a c
-single_more x r given s os i o m a b c lt is single f g =
-    gains_as x r given (singles s (take i os) ++ m ∷ []) (singles s (take (i + 1) os)) a c (singles_next s os i o m lt is single)
-    (gains_both x r given (singles s (take i os)) (m ∷ []) a b c f g)
+pub single_more : (x : Reading) (r : Records) (given : List StatementMoves) (s : Sender) (os : List Operand) (i : ℕ) (o : Operand) (a b c : Plan) → i < length os → o ≡ get_or os i o
+    → Gains x r given (singles s (take i os)) a b → Gains x r given (alone s o ∷ []) b c → Gains x r given (singles s (take (i + 1) os)) a c
+single_more x r given s os i o a b c lt is f g =
+    gains_as x r given (singles s (take i os) ++ alone s o ∷ []) (singles s (take (i + 1) os)) a c (singles_next s os i o lt is)
+    (gains_both x r given (singles s (take i os)) (alone s o ∷ []) a b c f g)
 
 pub single_all : (x : Reading) (r : Records) (given : List StatementMoves) (s : Sender) (os : List Operand) (i : ℕ) (a b : Plan) → length os ≤ i
     → Gains x r given (singles s (take i os)) a b → Gains x r given (singles s os) a b
@@ -172,6 +169,12 @@ statement_next x r ss i s lt is =
 pub stand_none : (x : Reading) (r : Records) (ss : List StatementMoves) (steps : List Step) (bases : List Basis) → steps ≡ [] → StandFor x r ss steps bases (moves_by x r (take 0 ss))
 stand_none x r ss steps bases none = ([], subst (λ (qs : List Step). AreSteps x r ss bases qs []) (sym none) refl, refl)
 
+-- each number below how many there are is that of a statement
+pub some_statement : (ss : List StatementMoves) (i : ℕ) → i < length ss → (s : StatementMoves) × (s ≡ get_or ss i s)
+some_statement [] i lt = absurd (omega (arith, lt))
+some_statement (s ∷ ss) zero lt = (s, refl)
+some_statement (s ∷ ss) (suc n) lt = some_statement ss n (omega (arith, lt))
+
 pub stand_more : (x : Reading) (r : Records) (ss : List StatementMoves) (i : ℕ) (s : StatementMoves) (b c : Plan) → i < length ss → s ≡ get_or ss i s
     → StandFor x r ss b.steps.items b.bases.items (moves_by x r (take i ss)) → GainsCut x r ss (statement_moves_by x r s) b c → StandFor x r ss c.steps.items c.bases.items (moves_by x r (take (i + 1) ss))
 stand_more x r ss i s b c lt is (parts, are, cut) (own, more, g) =
@@ -192,11 +195,11 @@ pub more_all : (x : Reading) (r : Records) (ss : List StatementMoves) (i : ℕ) 
 more_all x r ss i a b past none h =
     all_told r (moves_by x r ss) a b none (subst (λ (ts : List StatementMoves). AreMore r (moves_by x r ts) a b) (take_all i ss past) h)
 
-pub more_single : (r : Records) (s : Sender) (os : List Operand) (i : ℕ) (o : Operand) (m : Move) (a b c : List Step) → i < length os → o ≡ get_or os i o
-    → m ≡ alone s o → AreMore r (singles s (take i os)) a b → AreMore r (m ∷ []) b c → AreMore r (singles s (take (i + 1) os)) a c
-more_single r s os i o m a b c lt is single f g =
-    more_as r (singles s (take i os) ++ m ∷ []) (singles s (take (i + 1) os)) a c (singles_next s os i o m lt is single)
-    (more_both r (singles s (take i os)) (m ∷ []) a b c f g)
+pub more_single : (r : Records) (s : Sender) (os : List Operand) (i : ℕ) (o : Operand) (a b c : List Step) → i < length os → o ≡ get_or os i o
+    → AreMore r (singles s (take i os)) a b → AreMore r (alone s o ∷ []) b c → AreMore r (singles s (take (i + 1) os)) a c
+more_single r s os i o a b c lt is f g =
+    more_as r (singles s (take i os) ++ alone s o ∷ []) (singles s (take (i + 1) os)) a c (singles_next s os i o lt is)
+    (more_both r (singles s (take i os)) (alone s o ∷ []) a b c f g)
 
 pub more_singles : (r : Records) (s : Sender) (os : List Operand) (i : ℕ) (a b : List Step) → length os ≤ i → AreMore r (singles s (take i os)) a b → AreMore r (singles s os) a b
 more_singles r s os i a b past h = more_as r (singles s (take i os)) (singles s os) a b (ap (singles s) (take_all i os past)) h

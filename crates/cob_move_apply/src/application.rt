@@ -1,6 +1,6 @@
 //! Steps, one after another.
 
-ghost use Rattle.std.specs.Prelude.{◌≡◌, length};
+ghost use Rattle.std.specs.Prelude.{◌≡◌, ◌+◌, ◌≤◌, length};
 ghost use Rattle.cob_layout.specs.Sound.{IsSound};
 ghost use Rattle.cob_layout.specs.Storage.{greatest_length, IsStorage};
 ghost use Rattle.cob_layout_places.specs.Moves.{Move as Meant, moves_by};
@@ -33,7 +33,9 @@ fn make_part(
 ) -> Result<(), Stop>
     requires in_sound { IsSound layouts.now.input.now }
     requires out_sound { IsSound layouts.now.output.now }
-    requires part { (m : Meant) × IsPart layouts.now.reading (records layouts.now) given.now bases.now part m }
+    requires part { (m : Meant)
+        × IsPart layouts.now.reading (records layouts.now) given.now bases.now part m }
+    requires room { part.base + part.count + 1 ≤ length bases.now }
     requires input { IsStorage layouts.now.input.now input.now }
     requires output { length output.old ≡ greatest_length layouts.now.output.now }
     requires space { IsWorkspace (records layouts.now) input.now output.old space.old }
@@ -62,7 +64,8 @@ fn make_part(
         }
         StatementMoves::Pairs(group) => {
             let pair = &group.pairs[part.first];
-            make_pair_move(group, pair, &own[..2], layouts, input, output, space)
+            let both = &own[..1 + part.count];
+            make_pair_move(group, pair, both, layouts, input, output, space)
         }
     }
 }

@@ -139,10 +139,13 @@ impl Moves {
             output: output_layout,
             reading: self.reading,
         };
+        let statements = self.statements.as_slice();
+        let steps = self.plan.steps.as_slice();
+        let bases = self.plan.bases.as_slice();
         apply_in(
-            self.statements.as_slice(),
-            self.plan.steps.as_slice(),
-            self.plan.bases.as_slice(),
+            statements,
+            steps,
+            bases,
             &layouts,
             input,
             output,

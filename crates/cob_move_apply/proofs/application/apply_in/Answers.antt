@@ -2,6 +2,7 @@ use Rattle.std.proofs.Common.{◌+◌, refl, ◌∙◌, sym}
 use Rattle.std.proofs.lemmas.Result.{err_from_is_err_and}
 use Rattle.cob_layout_places.specs.Moves.{Records}
 use Rattle.cob_move_apply.specs.Surveyed.{records}
+use Rattle.cob_move_apply.proofs.PartLemmas.{part_room}
 use Rattle.cob_move_apply.proofs.StepLemmas.{copy_reads, left_all, left_copy, left_none, left_part, next_step, same_left, same_space, space_copy, stopped_part, the_part}
 use Rattle.cob_move_apply.proofs.application.apply_in.Goals.{in-Part+in_ok-make_part-in-Part, in-Copy}
 use Rattle.cob_move_apply.proofs.application.apply_in.Goals as goal
@@ -17,6 +18,12 @@ pub make_part-requires-clause-part : goal.make_part-requires-clause-part
 make_part-requires-clause-part c =
     the_part c.args.layouts.now.reading (records c.args.layouts.now) c.args.given.now c.args.steps.now c.args.bases.now c.loop-step.step-index c.in-Part.part c.args.input.now c.args.output.now c.loop-step.output
     (next_step c.args.layouts.now.reading (records c.args.layouts.now) c.args.given.now c.args.steps.now c.args.bases.now c.loop-step.step-index _ _ c.args.input.now c.args.output.now c.loop-step.output c.loop-step-test.true c.in-Part.is c.loop-step.invariant.left)
+
+pub make_part-requires-clause-room : goal.make_part-requires-clause-room
+make_part-requires-clause-room c =
+    let (m, part) = the_part c.args.layouts.now.reading (records c.args.layouts.now) c.args.given.now c.args.steps.now c.args.bases.now c.loop-step.step-index c.in-Part.part c.args.input.now c.args.output.now c.loop-step.output
+    (next_step c.args.layouts.now.reading (records c.args.layouts.now) c.args.given.now c.args.steps.now c.args.bases.now c.loop-step.step-index _ _ c.args.input.now c.args.output.now c.loop-step.output c.loop-step-test.true c.in-Part.is c.loop-step.invariant.left) in
+    part_room c.args.layouts.now.reading (records c.args.layouts.now) c.args.given.now c.args.bases.now c.in-Part.part m part
 
 pub copy_across-requires-clause-reads : goal.copy_across-requires-clause-reads
 copy_across-requires-clause-reads c =

@@ -26,7 +26,9 @@ returns-clause-steps c = λ x r given bases parts next are copied.
     (c.in-Some.ensures.items ∙ sym c.in_ok-push-3.ensures.items) c.in_ok-push-4.ensures.items are copied
 
 pub returns-clause-count : goal.returns-clause-count
-returns-clause-count c = ?
+returns-clause-count c =
+    apart_count c.args.steps.now.items c.pop.new.self.items c.push-2.new.self.items c.push-3.new.self.items c.in-Some.last c.args.places
+    c.in-Some.ensures.items (c.in_ok-push-3.ensures.items ∙ sym c.in-Some.ensures.items) c.in_ok-push-4.ensures.items c.in_default-joined.ensures.none
 
 pub returns-clause-ends : goal.returns-clause-ends
 returns-clause-ends c =
