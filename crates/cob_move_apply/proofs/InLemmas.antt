@@ -99,10 +99,10 @@ more_in_pair x r g i pair from to rs a b lt is from_is to_is received h =
 
 -- ---- one receiver
 
-pub one_of : (rs : List Ref) (q : Ref) → length rs ≡ 1 → q ≡ get_or rs 0 q → rs ≡ q ∷ []
-one_of [] q one is = absurd (omega (arith, one))
-one_of (r ∷ []) q one is = ap (λ (s : Ref). s ∷ []) (sym is)
-one_of (r ∷ s ∷ rs) q one is = absurd (omega (arith, one))
+pub one_of : (rs : List Ref) (d : Ref) → length rs ≡ 1 → rs ≡ get_or rs 0 d ∷ []
+one_of [] d size = absurd (omega (arith, size))
+one_of (r ∷ []) d size = refl
+one_of (r ∷ s ∷ rs) d size = absurd (omega (arith, size))
 
 -- receivers of the code that are none
 pub none_left : (f : Ref → Operand) (rs : List Ref) (n : ℕ) → (n == 0) ≡ true → n ≡ length rs → map f rs ≡ []

@@ -106,11 +106,11 @@ pair_placed x r given bases p m y g pair is at pairs pair_is =
     subst (λ (q : NumberedPair). IsPlacedMove r (numbered_move r g q) (take (1 + p.count) (take (length bases - p.base) (drop p.base bases)))) (sym same)
     (subst (λ (bs : List Basis). IsPlacedMove r (numbered_move r g (pair_at g p.first)) bs) (sym taken) (sends, receives))
   where
-    first_of : (b : Basis) (own behind : List Basis) → take (1 + length own) (b ∷ (own ++ behind)) ≡ b ∷ own
-    first_of b own behind = ap (λ n. take n (b ∷ (own ++ behind))) (one (length own)) ∙ ap (λ (bs : List Basis). b ∷ bs) (take-append_seam own behind)
+    behind_one : (n : ℕ) → 1 + n ≡ suc n
+    behind_one n = omega arith
 
-    one : (n : ℕ) → 1 + n ≡ suc n
-    one n = omega arith
+    first_of : (b : Basis) (own behind : List Basis) → take (1 + length own) (b ∷ (own ++ behind)) ≡ b ∷ own
+    first_of b own behind = ap (λ n. take n (b ∷ (own ++ behind))) (behind_one (length own)) ∙ ap (λ (bs : List Basis). b ∷ bs) (take-append_seam own behind)
 
 pub pair_moved : (x : Reading) (r : Records) (given : List StatementMoves) (bases : List Basis) (p : Part) (m : Move) (y : StatementMoves) (g : PairMoves) (pair : NumberedPair) (input before : List ℕ) (end : Ending)
     → IsPart x r given bases p m → y ≡ get_or given p.statement y → y ≡ Pairs g → pair ≡ get_or g.pairs.items p.first pair → IsMoved r (numbered_move_by x r g pair) input before end → IsMoved r m input before end
