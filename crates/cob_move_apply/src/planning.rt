@@ -119,11 +119,11 @@ fn copy_of(given: &Sender, receiver: &Ref, both: &Between<'_>) -> Option<CopyPla
         return None;
     }
     match given {
-        Sender::Entry {
-            side: Side::In,
-            entry,
-        } => plain_copy(entry, receiver, both),
-        Sender::Entry { .. } | Sender::Constant(_) => None,
+        Sender::Entry { side, entry } => match *side {
+            Side::In => plain_copy(entry, receiver, both),
+            Side::Out => None,
+        },
+        Sender::Constant(_) => None,
     }
 }
 
