@@ -3,8 +3,8 @@
 //!
 //! A row is the question, the copybook of the input record and that of the output record, both as entries that are parted by bars, one a
 //! line, and the paragraph: for `read` as lines that are parted by bars, from column 8 on; for `raw` as the whole text. The answer is the
-//! number of single moves, or the rule that the paragraph breaks with its line. What must be printed stands in `stdout`, worked out by hand
-//! from the rules of COBOL.
+//! number of single moves, and in the table `steps` the number of steps that they make behind it; or the rule that the paragraph breaks with
+//! its line. What must be printed stands in `stdout`, worked out by hand from the rules of COBOL.
 #![tactic(auto)]
 
 use cob_move::{Book, BookRule, Layout, MoveRule, Paragraph, Role};
@@ -36,12 +36,17 @@ fn text_of(alloc: Global, row: &Row) -> Result<Vec<u8>, RowFault> {
 }
 
 impl Family for Paragraphs {
-    fn answer(alloc: Global, _table: &str, row: &Row, out: &mut String) -> Result<(), RowFault> {
+    fn answer(alloc: Global, table: &str, row: &Row, out: &mut String) -> Result<(), RowFault> {
         let input = layout_of(alloc, row, Role::In, 1)?;
         let output = layout_of(alloc, row, Role::Out, 2)?;
         let text = text_of(alloc, row)?;
         match Paragraph::read(alloc, &input, &output, text.as_slice()) {
-            Ok(paragraph) => write!(out, "moves {}", paragraph.moves())?,
+            Ok(paragraph) => {
+                write!(out, "moves {}", paragraph.moves())?;
+                if table == "steps" {
+                    write!(out, " steps {}", paragraph.steps())?;
+                }
+            }
             Err(fault) if fault.rule == MoveRule::Memory => return Err(RowFault::Memory),
             Err(fault) => write!(out, "{fault}")?,
         }

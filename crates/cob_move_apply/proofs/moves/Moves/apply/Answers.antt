@@ -1,0 +1,16 @@
+use Rattle.std.proofs.Common.{List, subst, sym}
+use Rattle.cob_layout_places.specs.declared.operands.StatementMoves.{StatementMoves}
+use Rattle.cob_layout_places.specs.Moves.{Records, moves_by}
+use Rattle.cob_move_apply.specs.Steps.{StandFor}
+use Rattle.cob_move_apply.specs.declared.basis.Basis.{Basis}
+use Rattle.cob_move_apply.specs.declared.step.Step.{Step}
+use Rattle.cob_move_apply.proofs.moves.Moves.apply.Goals as goal
+
+pub apply_in-requires-clause-steps : goal.apply_in-requires-clause-steps
+apply_in-requires-clause-steps c =
+    let r : Records = record { input = c.args.input_layout.now; output = c.args.output_layout.now } in
+    let x = c.args.self.now.reading in
+    subst (λ (ss : List StatementMoves). StandFor x r ss c.as_slice-steps.result.now c.as_slice-bases.result.now (moves_by x r ss)) (sym c.as_slice-statements.ensures.value)
+    (subst (λ (qs : List Step). StandFor x r c.args.self.now.statements.items qs c.as_slice-bases.result.now (moves_by x r c.args.self.now.statements.items)) (sym c.as_slice-steps.ensures.value)
+    (subst (λ (bs : List Basis). StandFor x r c.args.self.now.statements.items c.args.self.now.plan.steps.items bs (moves_by x r c.args.self.now.statements.items)) (sym c.as_slice-bases.ensures.value)
+    ((c.requires.prepared x).0)))
