@@ -1,0 +1,6 @@
+//! Numbers as lanes.
+#![tactic(auto)]
+
+mod lanes;
+
+pub use lanes::{Bounds, Picks};
