@@ -23,7 +23,7 @@ abbrev pub AreTens : List ℕ → Type 0
 AreTens v = (i : ℕ) → i < 16 → slice_index v i < 10
 
 -- The half bytes of sixteen bytes are within their bounds.
-pub record AreWithin (least_high most_high most_low v : List ℕ) : Type 0 where
+pub record AreBounded (least_high most_high most_low v : List ℕ) : Type 0 where
   pub least : (i : ℕ) → i < 16 → slice_index least_high i ≤ slice_index v i / 16
   pub most : (i : ℕ) → i < 16 → slice_index v i / 16 ≤ slice_index most_high i
   pub low : (i : ℕ) → i < 16 → slice_index v i % 16 ≤ slice_index most_low i

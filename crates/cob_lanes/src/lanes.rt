@@ -1,7 +1,7 @@
 //! Sixteen lanes at once.
 
 ghost use Rattle.std.specs.Prelude.{◌≡◌, ℕ, ◌+◌, ◌-◌, ◌*◌, ◌/◌, ◌%◌, ◌<◌, ◌↔◌, true, length, slice_index, IsTrue};
-ghost use Rattle.cob_lanes.specs.Lanes.{is_pick, picked_at, halves_at, AreZero, AreWithin};
+ghost use Rattle.cob_lanes.specs.Lanes.{is_pick, picked_at, halves_at, AreZero, AreBounded};
 
 use std::simd::prelude::*;
 
@@ -102,7 +102,7 @@ fn are_within(v: u8x16, high: u8x16, low: u8x16, by: &Bounds) -> bool
     requires high { (i : ℕ) → i < 16 → slice_index high i ≡ slice_index v i / 16 }
     requires low { (i : ℕ) → i < 16 → slice_index low i ≡ slice_index v i % 16 }
     ensures { IsTrue result
-        ↔ AreWithin by.now.least_high by.now.most_high by.now.most_low v }
+        ↔ AreBounded by.now.least_high by.now.most_high by.now.most_low v }
 {
     let least = excess(u8x16::from_array(by.least_high), high);
     let most = excess(high, u8x16::from_array(by.most_high));
@@ -122,7 +122,7 @@ pub(crate) struct Taken {
 pub(crate) fn take_halves(v: u8x16, bounds: &Bounds, high: &Picks, low: &Picks) -> Taken
     ensures long { length result.digits ≡ 16 }
     ensures within { IsTrue result.is_within
-        ↔ AreWithin bounds.now.least_high bounds.now.most_high bounds.now.most_low v }
+        ↔ AreBounded bounds.now.least_high bounds.now.most_high bounds.now.most_low v }
     ensures lanes { (i : ℕ) → i < 16 → slice_index result.digits i
         ≡ halves_at v (slice_index high.now.lanes i) (slice_index low.now.lanes i) }
 {
