@@ -1,1 +1,3 @@
 pub mod LaneLemmas
+pub mod HalfLemmas
+pub mod ZonedReading
