@@ -24,8 +24,8 @@ pub record ReadsZoned (count : ℕ) (signed leading : Bool) (wanted : ℕ) (shif
   pub least_high : (i : ℕ) → i < 16 → get_or r.bounds.least_high i 0 ≡ cond (eqb i (16 - count + sign_place signed leading count)) 0 (between (16 - count) 16 15 0 i)
   pub most_high : (i : ℕ) → i < 16 → get_or r.bounds.most_high i 0 ≡ 15
   pub most_low : (i : ℕ) → i < 16 → get_or r.bounds.most_low i 0 ≡ between (16 - count) 16 9 15 i
-  pub high : ArePowerPicks true (33 - 2 * count) 2 count wanted shift r.high.lanes
-  pub low : ArePowerPicks false (33 - 2 * count) 2 count wanted shift r.low.lanes
+  pub high : ArePowerPicks true (2 * (16 - count) + 1) 2 count wanted shift r.high.lanes
+  pub low : ArePowerPicks false (2 * (16 - count) + 1) 2 count wanted shift r.low.lanes
   pub sign_is : r.sign ≡ Zone
   pub signed_is : r.signed ≡ signed
   pub place_is : r.place ≡ 16 - count + sign_place signed leading count
@@ -75,8 +75,8 @@ from_passing count signed leading wanted shift r f v kept minus vector passes ta
       };
       valid = valid;
       sign = signed_as minus (number_of ds);
-      held = wanted_digits (33 - 2 * count) 2 count wanted shift r v ds kept f.room (λ k lt. omega arith) many valid
-          (λ k lt. (let half : 33 - 2 * count + 2 * k ≡ 2 * (front + k) + 1 = omega arith in is k lt ∙ sym (ap (λ m. get_or (halves v) m 0) half ∙ half_odd v (front + k))))
+      held = wanted_digits (2 * (16 - count) + 1) 2 count wanted shift r v ds kept f.room (λ k lt. omega arith) many valid
+          (λ k lt. (let half : 2 * (16 - count) + 1 + 2 * k ≡ 2 * (front + k) + 1 = omega arith in is k lt ∙ sym (ap (λ m. get_or (halves v) m 0) half ∙ half_odd v (front + k))))
           f.high f.low taken;
     }
 

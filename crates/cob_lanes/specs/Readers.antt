@@ -52,3 +52,12 @@ pub record IsReaderOf (represents : List ℕ → Bool → List ℕ → Type 0) (
       → AreRead (represents (last_bytes size v)) wanted shift minus kept
   pub passes : (v : List ℕ) (negative : Bool) (digits : List ℕ) → IsVector v → represents (last_bytes size v) negative digits
       → (minus : Bool) × Passes r v minus
+
+-- What was read of the item at the end of bytes: of a window that ends with the same bytes, whether it passes, and the lanes that were taken.
+pub record IsReadOf (r : LaneReader) (bytes : List ℕ) (is_number minus : Bool) (digits : List ℕ) : Type 0 where
+  pub window : List ℕ
+  pub vector : IsVector window
+  pub same : (size : ℕ) → size ≤ 16 → size ≤ length bytes → last_bytes size window ≡ last_bytes size bytes
+  pub number : is_number ≡ true → Passes r window minus
+  pub nothing : is_number ≡ false → (m : Bool) → ¬ Passes r window m
+  pub taken : AreTaken r window digits

@@ -1,9 +1,13 @@
 -- Windows: sixteen bytes that end with the item, and where its half bytes stand in them.
-use Rattle.std.specs.Prelude.{◌≡◌, ℕ, ◌+◌, ◌-◌, ◌*◌, ◌/◌, ◌%◌, ◌==◌, ◌<◌, ◌≤◌, ℤ, pos, negsuc, ◌-ℤ◌, Bool, true, false, ◌&&◌, nat_lt, nat_le, if◌then◌else◌, List, length, slice_index, drop}
+use Rattle.std.specs.Prelude.{◌≡◌, ℕ, ◌+◌, ◌-◌, ◌*◌, ◌/◌, ◌%◌, ◌==◌, ◌<◌, ◌≤◌, ℤ, pos, negsuc, ◌-ℤ◌, Bool, true, false, ◌&&◌, nat_lt, nat_le, if◌then◌else◌, replicate, List, ◌++◌, length, slice_index, drop}
 
 -- So many bytes at the end of others.
 abbrev pub last_bytes : ℕ → List ℕ → List ℕ
 last_bytes size bytes = drop (length bytes - size) bytes
+
+-- Bytes as the end of a window: behind zeros where they are fewer than sixteen.
+abbrev pub padded_window : List ℕ → List ℕ
+padded_window bytes = replicate (16 - length bytes) 0 ++ last_bytes 16 bytes
 
 -- One number in the lanes from one on and before another, and a second number in all others.
 abbrev pub between : (from to inside outside : ℕ) → ℕ → ℕ

@@ -1,6 +1,6 @@
 //! Sixteen lanes at once.
 
-ghost use Rattle.std.specs.Prelude.{◌≡◌, ℕ, ◌+◌, ◌-◌, ◌*◌, ◌/◌, ◌%◌, ◌<◌, ◌↔◌, true, length, slice_index, IsTrue};
+ghost use Rattle.std.specs.Prelude.{◌≡◌, ℕ, ◌+◌, ◌-◌, ◌*◌, ◌/◌, ◌%◌, ◌<◌, ◌↔◌, Bool, ◌&&◌, not, true, length, slice_index, IsTrue};
 ghost use Rattle.cob_lanes.specs.Lanes.{is_pick, picked_at, halves_at, AreZero, AreBounded};
 
 use std::simd::prelude::*;
@@ -67,6 +67,15 @@ pub(crate) fn are_zero(v: u8x16) -> bool
     ensures { IsTrue result ↔ AreZero v }
 {
     v.simd_ne(u8x16::splat(0)).to_bitmask() == 0
+}
+
+/// Whether a minus stays with digits: one of them is not 0.
+#[inline(always)]
+pub fn keeps_minus(minus: bool, digits: u8x16) -> bool
+    ensures { (zero : Bool) × (IsTrue zero ↔ AreZero digits) × (result ≡ (minus && not zero)) }
+{
+    let zero = are_zero(digits);
+    minus && !zero
 }
 
 /// The sum of each two lanes, which is cut to a byte.

@@ -1,7 +1,8 @@
 //! Numbers of items, read as digits in lanes.
 
-ghost use Rattle.std.specs.Prelude.{◌≡◌, Bool, true, false, length};
-ghost use Rattle.cob_lanes.specs.Readers.{AreTaken, Passes};
+ghost use Rattle.std.specs.Prelude.{◌≡◌, ◌<◌, Bool, true, false, length};
+ghost use Rattle.cob_lanes.specs.Readers.{AreTaken, IsReadOf, Passes};
+ghost use Rattle.cob_lanes.specs.Windows.{padded_window};
 
 use crate::lanes::take_halves;
 use crate::reader::LaneReader;
@@ -19,10 +20,39 @@ pub struct LanesRead {
     pub digits: u8x16,
 }
 
+/// Fewer than sixteen bytes, behind zeros.
+fn padded_window(bytes: &[u8]) -> [u8; 16]
+    requires { length bytes.now < 16 }
+    ensures { result ≡ padded_window bytes.now }
+{
+    let mut window = [0u8; 16];
+    window[16 - bytes.len()..].copy_from_slice(bytes);
+    window
+}
+
 impl LaneReader {
+    /// The number of the item at the end of bytes, and of as many before it as there are.
+    #[inline(always)]
+    pub fn read(&self, bytes: &[u8]) -> LanesRead
+        ensures { IsReadOf self.now bytes.now result.is_number result.minus result.digits }
+    {
+        if bytes.len() < 16 {
+            return self.read_few(bytes);
+        }
+        self.read_window(&bytes[bytes.len() - 16..])
+    }
+
+    /// The number of the item at the end of fewer than sixteen bytes.
+    fn read_few(&self, bytes: &[u8]) -> LanesRead
+        requires { length bytes.now < 16 }
+        ensures { IsReadOf self.now bytes.now result.is_number result.minus result.digits }
+    {
+        self.read_window(&padded_window(bytes))
+    }
+
     /// The number of the item at the end of sixteen bytes.
     #[inline(always)]
-    pub fn read(&self, window: &[u8]) -> LanesRead
+    fn read_window(&self, window: &[u8]) -> LanesRead
         requires { length window.now ≡ 16 }
         ensures number { result.is_number ≡ true → Passes self.now window.now result.minus }
         ensures nothing { result.is_number ≡ false → (minus : Bool)

@@ -1,7 +1,7 @@
 use Rattle.std.proofs.Common.{get_or, ap, ◌∙◌, arith}
 use Rattle.std.proofs.lemmas.List.{take_all}
 use Rattle.cob_lanes.specs.Lanes.{halves_at}
-use Rattle.cob_lanes.proofs.reader.LaneReader.read.Goals as goal
+use Rattle.cob_lanes.proofs.reader.LaneReader.read_window.Goals as goal
 
 pub returns-in-Some-clause-digits : goal.returns-in-Some-clause-digits
 returns-in-Some-clause-digits c = record {
