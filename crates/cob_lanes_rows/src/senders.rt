@@ -34,12 +34,17 @@ fn drawn_digits(draws: &mut Draws, count: usize) -> [u8; 16]
     digits
 }
 
-/// The code of a sign: C and D more often than others, which may be none.
-fn drawn_code(draws: &mut Draws) -> u8 {
-    match draws.below(20) {
-        16 | 17 => 0xC,
-        18 | 19 => 0xD,
-        code => code as u8,
+/// The code of a sign: C, and D in a signed item or else F, more often than others, which may be none.
+fn drawn_code(draws: &mut Draws, signed: bool) -> u8 {
+    let code = draws.below(64) as u8;
+    if code < 16 {
+        code
+    } else if code < 40 {
+        0xC
+    } else if signed {
+        0xD
+    } else {
+        0xF
     }
 }
 
@@ -115,7 +120,7 @@ fn push_item(
     let drawn = Drawn {
         digits,
         count,
-        code: drawn_code(draws),
+        code: drawn_code(draws, kind.signed),
     };
     let sign = drawn_sign_byte(draws);
     match kind.usage {
