@@ -48,6 +48,11 @@ behind_is from to inside outside i ge = go (leb from i) (ltb i to) refl
     go true false e = refl
     go false s e = refl
 
+-- one lane apart, and the others
+pub lane_from : (i p q a b x y : ℕ) → p ≡ q → a ≡ b → x ≡ y → cond (eqb i p) a x ≡ cond (eqb i q) b y
+lane_from i p q a b x y place number others =
+    ap (λ k. cond (eqb i k) a x) place ∙ ap (λ n. cond (eqb i q) n x) number ∙ ap (λ n. cond (eqb i q) b n) others
+
 -- ---- bytes at the end of a window
 
 pub last_byte : (size : ℕ) (v : List ℕ) (k : ℕ) → length v ≡ 16 → get_or (last_bytes size v) k 0 ≡ get_or v (16 - size + k) 0

@@ -9,7 +9,7 @@ use Rattle.cob_codec.proofs.PackedLaws.{length-halves}
 use Rattle.cob_codec.proofs.PackedLemmas.{all_but_last}
 use Rattle.cob_codec.proofs.SignLemmas.{digit_small}
 use Rattle.cob_lanes.specs.Lanes.{AreBounded, IsVector}
-use Rattle.cob_lanes.specs.Windows.{last_bytes, between, ArePowerPicks}
+use Rattle.cob_lanes.specs.Windows.{last_bytes, between, pad_bound, ArePowerPicks}
 use Rattle.cob_lanes.specs.Readers.{AreRead, AreTaken, IsReaderOf, Passes, byte_meaning}
 use Rattle.cob_lanes.specs.declared.signs.SignByte.TheVariants.{LowHalf}
 use Rattle.cob_lanes.specs.declared.reader.LaneReader.{LaneReader}
@@ -21,7 +21,7 @@ pub record ReadsPacked (count : ℕ) (signed : Bool) (wanted : ℕ) (shift : ℤ
   pub most : count / 2 + 1 ≤ 16
   pub room : wanted ≤ 16
   pub least_high : (i : ℕ) → i < 16 → get_or r.bounds.least_high i 0 ≡ 0
-  pub most_high : (i : ℕ) → i < 16 → get_or r.bounds.most_high i 0 ≡ cond (eqb i (15 - count / 2)) (cond (eqb (count % 2) 0) 0 9) (between (15 - count / 2) 16 9 15 i)
+  pub most_high : (i : ℕ) → i < 16 → get_or r.bounds.most_high i 0 ≡ cond (eqb i (15 - count / 2)) (pad_bound count) (between (15 - count / 2) 16 9 15 i)
   pub most_low : (i : ℕ) → i < 16 → get_or r.bounds.most_low i 0 ≡ between (15 - count / 2) 15 9 15 i
   pub high : ArePowerPicks true (31 - count) 1 count wanted shift r.high.lanes
   pub low : ArePowerPicks false (31 - count) 1 count wanted shift r.low.lanes
@@ -81,9 +81,10 @@ half_passing count signed wanted shift r v f vector within m lt =
           elim (cases_eq i front) [
             | inl first ↦
                 let at : eqb i front ≡ true = eq-eqb _ _ first in
-                let bound : get_or r.bounds.most_high i 0 ≡ cond (eqb (count % 2) 0) 0 9 = f.most_high i lane ∙ ap (λ b. cond b (cond (eqb (count % 2) 0) 0 9) (between front 16 9 15 i)) at in
-                (omega (arith, is, within.most i lane, bound, nine (eqb (count % 2) 0)),
-                 λ one zero_is. (let none : count % 2 ≡ 0 = omega arith in let e : eqb (count % 2) 0 ≡ true = eq-eqb _ _ none in let nothing : cond {A = ℕ} (eqb (count % 2) 0) 0 9 ≡ 0 = ap (λ b. cond {A = ℕ} b 0 9) e in omega (arith, is, within.most i lane, bound, nothing)))
+                let bound : get_or r.bounds.most_high i 0 ≡ cond (eqb (count % 2) 0) 0 9 = f.most_high i lane ∙ ap (λ b. cond b (cond (eqb (count % 2) 0) 0 9) (between front 16 9 15 i)) at in (
+                  omega (arith, is, within.most i lane, bound, nine (eqb (count % 2) 0)),
+                  λ one zero_is. (let none : count % 2 ≡ 0 = omega arith in let e : eqb (count % 2) 0 ≡ true = eq-eqb _ _ none in let nothing : cond {A = ℕ} (eqb (count % 2) 0) 0 9 ≡ 0 = ap (λ b. cond {A = ℕ} b 0 9) e in omega (arith, is, within.most i lane, bound, nothing)),
+                )
             | inr later ↦
                 let elsewhere : eqb i front ≡ false = ne_eqb _ _ later in
                 let bound : get_or r.bounds.most_high i 0 ≡ 9 = f.most_high i lane ∙ ap (λ b. cond b (cond (eqb (count % 2) 0) 0 9) (between front 16 9 15 i)) elsewhere ∙ inside_is front 16 9 15 i from lane in
@@ -122,9 +123,9 @@ from_passing count signed wanted shift r f v kept minus vector passes taken =
     let ds : List ℕ = take count (drop pad h) in
     let many : length ds ≡ count = length-take-le count (drop pad h) (omega (arith, length-drop pad h)) in
     let valid : IsDigits ds = all_digits ds (λ k lt.
-        let inside : k < count = omega arith in
-        let there : pad + k < pad + count = omega arith in
-        omega (arith, digit_half count h k inside, (half_passing count signed wanted shift r v f vector passes.within (pad + k) there).0)) in
+    let inside : k < count = omega arith in
+    let there : pad + k < pad + count = omega arith in
+    omega (arith, digit_half count h k inside, (half_passing count signed wanted shift r v f vector passes.within (pad + k) there).0)) in
     let first : pad ≡ 1 → get_or h 0 0 ≡ 0 = λ one. (half_passing count signed wanted shift r v f vector passes.within 0 (omega arith)).1 one refl in
     let code : get_or h (pad + count) 0 ≡ get_or v 15 0 % 16 = code_at count v vector.long most in
     record {
@@ -178,58 +179,60 @@ to_passing count signed wanted shift r f v negative digits vector p =
     let pad : ℕ = pad_count count in
     let most : count / 2 + 1 ≤ 16 = f.most in
     let small_at : (m : ℕ) → m < pad + count → get_or (halves item) m 0 < 10 = λ m lt. omega (arith, (half_of count digits p.code m p.count_is p.valid lt).0, ap (λ xs. get_or xs m 0) p.text) in
-    let pad_at : (m : ℕ) → m < pad + count → pad ≡ 1 → m ≡ 0 → get_or (halves item) m 0 ≡ 0 = λ m lt one is. ap (λ xs. get_or xs m 0) p.text ∙ (half_of count digits p.code m p.count_is p.valid lt).1 one is in
-    (p.minus, record {
-      within = record {
-        least = λ i lt. omega (arith, f.least_high i lt);
-        most = λ i lt.
-            let bound = f.most_high i lt in
-            let top : get_or v i 0 / 16 ≤ 15 = omega (arith, vector.small i) in
-            elim (cases_lt i front) [
-              | inl before ↦
-                  let other : i ≢ front = λ e. omega arith in
-                  let e : eqb i front ≡ false = ne_eqb _ _ other in
-                  omega (arith, top, bound ∙ ap (λ b. cond b (cond (eqb (count % 2) 0) 0 9) (between front 16 9 15 i)) e ∙ before_is front 16 9 15 i before)
-              | inr ge ↦
-                  let m : ℕ = 2 * (i - front) in
-                  let there : m < pad + count = omega arith in
-                  let here : 16 - size + m / 2 ≡ i = omega arith in
-                  let half : get_or (halves item) m 0 ≡ get_or v i 0 / 16 = item_high size v m vector.long (omega arith) ∙ ap (λ k. get_or v k 0 / 16) here in
-                  elim (cases_eq i front) [
-                    | inl first ↦
-                        let at : eqb i front ≡ true = eq-eqb _ _ first in
-                        let is : get_or r.bounds.most_high i 0 ≡ cond (eqb (count % 2) 0) 0 9 = bound ∙ ap (λ b. cond b (cond (eqb (count % 2) 0) 0 9) (between front 16 9 15 i)) at in
-                        elim (cases_eq (count % 2) 0) [
-                          | inl even ↦ (let none : get_or (halves item) m 0 ≡ 0 = pad_at m there (omega arith) (omega arith) in omega arith)
-                          | inr odd ↦
-                              let e : eqb (count % 2) 0 ≡ false = ne_eqb _ _ odd in
-                              let up : cond {A = ℕ} (eqb (count % 2) 0) 0 9 ≡ 9 = ap (λ b. cond {A = ℕ} b 0 9) e in
-                              omega (arith, small_at m there)
-                        ]
-                    | inr later ↦
-                        let e : eqb i front ≡ false = ne_eqb _ _ later in
-                        omega (arith, half, small_at m there, bound ∙ ap (λ b. cond b (cond (eqb (count % 2) 0) 0 9) (between front 16 9 15 i)) e ∙ inside_is front 16 9 15 i ge lt)
-                  ]
-            ];
-        low = λ i lt.
-            let bound = f.most_low i lt in
-            let bottom : get_or v i 0 % 16 ≤ 15 = omega arith in
-            elim (cases_lt i front) [
-              | inl before ↦ omega (arith, bottom, bound, before_is front 15 9 15 i before)
-              | inr ge ↦ elim (cases_lt i 15) [
-                | inr last ↦ omega (arith, bottom, bound, behind_is front 15 9 15 i last)
-                | inl inner ↦
-                    let m : ℕ = 2 * (i - front) + 1 in
+    let pad_at : (m : ℕ) → m < pad + count → pad ≡ 1 → m ≡ 0 → get_or (halves item) m 0 ≡ 0 = λ m lt one is. ap (λ xs. get_or xs m 0) p.text ∙ (half_of count digits p.code m p.count_is p.valid lt).1 one is in (
+      p.minus,
+      record {
+        within = record {
+          least = λ i lt. omega (arith, f.least_high i lt);
+          most = λ i lt.
+              let bound = f.most_high i lt in
+              let top : get_or v i 0 / 16 ≤ 15 = omega (arith, vector.small i) in
+              elim (cases_lt i front) [
+                | inl before ↦
+                    let other : i ≢ front = λ e. omega arith in
+                    let e : eqb i front ≡ false = ne_eqb _ _ other in
+                    omega (arith, top, bound ∙ ap (λ b. cond b (cond (eqb (count % 2) 0) 0 9) (between front 16 9 15 i)) e ∙ before_is front 16 9 15 i before)
+                | inr ge ↦
+                    let m : ℕ = 2 * (i - front) in
                     let there : m < pad + count = omega arith in
                     let here : 16 - size + m / 2 ≡ i = omega arith in
-                    let half : get_or (halves item) m 0 ≡ get_or v i 0 % 16 = item_low size v m vector.long (omega arith) ∙ ap (λ k. get_or v k 0 % 16) here in
-                    omega (arith, half, small_at m there, bound, inside_is front 15 9 15 i ge inner)
-              ]
-            ];
-      };
-      sign = sign_said count signed wanted shift r v f
-          ∙ ap (sign_meaning signed) (sym (code_at count v vector.long most) ∙ ap (λ xs. get_or xs (pad + count) 0) p.text ∙ code_of count digits p.code p.count_is) ∙ p.meaning;
-    })
+                    let half : get_or (halves item) m 0 ≡ get_or v i 0 / 16 = item_high size v m vector.long (omega arith) ∙ ap (λ k. get_or v k 0 / 16) here in
+                    elim (cases_eq i front) [
+                      | inl first ↦
+                          let at : eqb i front ≡ true = eq-eqb _ _ first in
+                          let is : get_or r.bounds.most_high i 0 ≡ cond (eqb (count % 2) 0) 0 9 = bound ∙ ap (λ b. cond b (cond (eqb (count % 2) 0) 0 9) (between front 16 9 15 i)) at in
+                          elim (cases_eq (count % 2) 0) [
+                            | inl even ↦ (let none : get_or (halves item) m 0 ≡ 0 = pad_at m there (omega arith) (omega arith) in omega arith)
+                            | inr odd ↦
+                                let e : eqb (count % 2) 0 ≡ false = ne_eqb _ _ odd in
+                                let up : cond {A = ℕ} (eqb (count % 2) 0) 0 9 ≡ 9 = ap (λ b. cond {A = ℕ} b 0 9) e in
+                                omega (arith, small_at m there)
+                          ]
+                      | inr later ↦
+                          let e : eqb i front ≡ false = ne_eqb _ _ later in
+                          omega (arith, half, small_at m there, bound ∙ ap (λ b. cond b (cond (eqb (count % 2) 0) 0 9) (between front 16 9 15 i)) e ∙ inside_is front 16 9 15 i ge lt)
+                    ]
+              ];
+          low = λ i lt.
+              let bound = f.most_low i lt in
+              let bottom : get_or v i 0 % 16 ≤ 15 = omega arith in
+              elim (cases_lt i front) [
+                | inl before ↦ omega (arith, bottom, bound, before_is front 15 9 15 i before)
+                | inr ge ↦ elim (cases_lt i 15) [
+                  | inr last ↦ omega (arith, bottom, bound, behind_is front 15 9 15 i last)
+                  | inl inner ↦
+                      let m : ℕ = 2 * (i - front) + 1 in
+                      let there : m < pad + count = omega arith in
+                      let here : 16 - size + m / 2 ≡ i = omega arith in
+                      let half : get_or (halves item) m 0 ≡ get_or v i 0 % 16 = item_low size v m vector.long (omega arith) ∙ ap (λ k. get_or v k 0 % 16) here in
+                      omega (arith, half, small_at m there, bound, inside_is front 15 9 15 i ge inner)
+                ]
+              ];
+        };
+        sign = sign_said count signed wanted shift r v f
+            ∙ ap (sign_meaning signed) (sym (code_at count v vector.long most) ∙ ap (λ xs. get_or xs (pad + count) 0) p.text ∙ code_of count digits p.code p.count_is) ∙ p.meaning;
+      },
+    )
 
 pub reads_packed : (count : ℕ) (signed : Bool) (wanted : ℕ) (shift : ℤ) (r : LaneReader) → ReadsPacked count signed wanted shift r → IsReaderOf (IsPacked count signed) (count / 2 + 1) wanted shift r
 reads_packed count signed wanted shift r f = record {

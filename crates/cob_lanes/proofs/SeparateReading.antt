@@ -9,37 +9,28 @@ use Rattle.cob_codec.specs.Packed.{halves}
 use Rattle.cob_codec.proofs.PackedLemmas.{all_but_last}
 use Rattle.cob_codec.proofs.SignLemmas.{digit_small}
 use Rattle.cob_lanes.specs.Lanes.{AreBounded, IsVector}
-use Rattle.cob_lanes.specs.Windows.{last_bytes, between, ArePowerPicks}
+use Rattle.cob_lanes.specs.Windows.{last_bytes, between, first_lane, sign_lane, ArePowerPicks}
 use Rattle.cob_lanes.specs.Readers.{AreRead, AreTaken, IsReaderOf, Passes, byte_meaning, own_meaning}
 use Rattle.cob_lanes.specs.declared.signs.SignByte.TheVariants.{Own}
 use Rattle.cob_lanes.specs.declared.reader.LaneReader.{LaneReader}
 use Rattle.cob_lanes.proofs.HalfLemmas.{all_digits, signed_as, inside_is, before_is, behind_is, last_byte, last_length, half_odd, wanted_digits}
 
--- where the first digit stands, and where the sign
-abbrev pub digit_lane : Bool → ℕ → ℕ
-digit_lane true count = 16 - count
-digit_lane false count = 15 - count
-
-abbrev pub sign_lane : Bool → ℕ → ℕ
-sign_lane true count = 15 - count
-sign_lane false count = 15
-
 -- The fields of a reader of items of so many digits with a separate sign.
 pub record ReadsSeparate (count : ℕ) (leading : Bool) (wanted : ℕ) (shift : ℤ) (r : LaneReader) : Type 0 where
   pub most : count + 1 ≤ 16
   pub room : wanted ≤ 16
-  pub least_high : (i : ℕ) → i < 16 → get_or r.bounds.least_high i 0 ≡ between (digit_lane leading count) (digit_lane leading count + count) 15 0 i
+  pub least_high : (i : ℕ) → i < 16 → get_or r.bounds.least_high i 0 ≡ between (first_lane leading count) (first_lane leading count + count) 15 0 i
   pub most_high : (i : ℕ) → i < 16 → get_or r.bounds.most_high i 0 ≡ 15
-  pub most_low : (i : ℕ) → i < 16 → get_or r.bounds.most_low i 0 ≡ between (digit_lane leading count) (digit_lane leading count + count) 9 15 i
-  pub high : ArePowerPicks true (2 * digit_lane leading count + 1) 2 count wanted shift r.high.lanes
-  pub low : ArePowerPicks false (2 * digit_lane leading count + 1) 2 count wanted shift r.low.lanes
+  pub most_low : (i : ℕ) → i < 16 → get_or r.bounds.most_low i 0 ≡ between (first_lane leading count) (first_lane leading count + count) 9 15 i
+  pub high : ArePowerPicks true (2 * first_lane leading count + 1) 2 count wanted shift r.high.lanes
+  pub low : ArePowerPicks false (2 * first_lane leading count + 1) 2 count wanted shift r.low.lanes
   pub sign_is : r.sign ≡ Own
   pub place_is : r.place ≡ sign_lane leading count
 
 abbrev part : Bool → ℕ → List ℕ → List ℕ
-part leading count v = take count (drop (digit_lane leading count) v)
+part leading count v = take count (drop (first_lane leading count) v)
 
-lane_fits : (leading : Bool) (count : ℕ) → count + 1 ≤ 16 → digit_lane leading count + count ≤ 16
+lane_fits : (leading : Bool) (count : ℕ) → count + 1 ≤ 16 → first_lane leading count + count ≤ 16
 lane_fits true count most = omega arith
 lane_fits false count most = omega arith
 
@@ -88,7 +79,7 @@ sign_said count leading wanted shift r v f =
 from_passing : (count : ℕ) (leading : Bool) (wanted : ℕ) (shift : ℤ) (r : LaneReader) → ReadsSeparate count leading wanted shift r
     → (v kept : List ℕ) (minus : Bool) → IsVector v → Passes r v minus → AreTaken r v kept → AreRead (IsSignedSeparately count leading (last_bytes (count + 1) v)) wanted shift minus kept
 from_passing count leading wanted shift r f v kept minus vector passes taken =
-    let first : ℕ = digit_lane leading count in
+    let first : ℕ = first_lane leading count in
     let bs : List ℕ = part leading count v in
     let ds : List ℕ = map low_digit bs in
     let most : first + count ≤ 16 = lane_fits leading count f.most in
@@ -97,15 +88,15 @@ from_passing count leading wanted shift r f v kept minus vector passes taken =
     let byte : (k : ℕ) → k < count → get_or bs k 0 ≡ get_or v (first + k) 0 = λ k lt. get_or-take count (drop first v) k 0 lt ∙ get_or-drop first v k 0 in
     let is : (k : ℕ) → k < count → get_or ds k 0 ≡ get_or v (first + k) 0 % 16 = λ k lt. (let inside : k < length bs = omega arith in get_or-map low_digit bs k 0 0 inside ∙ ap (λ b. b % 16) (byte k lt)) in
     let valid : IsDigits ds = all_digits ds (λ k lt.
-        let inside : k < count = omega arith in
-        let lane : first + k < 16 = omega arith in
-        let bound : get_or r.bounds.most_low (first + k) 0 ≡ 9 = f.most_low (first + k) lane ∙ inside_is first (first + count) 9 15 (first + k) (omega arith) (omega arith) in
-        omega (arith, is k inside, passes.within.low (first + k) lane, bound)) in
+    let inside : k < count = omega arith in
+    let lane : first + k < 16 = omega arith in
+    let bound : get_or r.bounds.most_low (first + k) 0 ≡ 9 = f.most_low (first + k) lane ∙ inside_is first (first + count) 9 15 (first + k) (omega arith) (omega arith) in
+    omega (arith, is k inside, passes.within.low (first + k) lane, bound)) in
     let zones : (k : ℕ) → k < length bs → get_or bs k 0 / 16 ≡ 15 = λ k lt.
-        let inside : k < count = omega arith in
-        let lane : first + k < 16 = omega arith in
-        let bound : get_or r.bounds.least_high (first + k) 0 ≡ 15 = f.least_high (first + k) lane ∙ inside_is first (first + count) 15 0 (first + k) (omega arith) (omega arith) in
-        ap (λ b. b / 16) (byte k inside) ∙ omega (arith, passes.within.least (first + k) lane, bound, vector.small (first + k)) in
+    let inside : k < count = omega arith in
+    let lane : first + k < 16 = omega arith in
+    let bound : get_or r.bounds.least_high (first + k) 0 ≡ 15 = f.least_high (first + k) lane ∙ inside_is first (first + count) 15 0 (first + k) (omega arith) (omega arith) in
+    ap (λ b. b / 16) (byte k inside) ∙ omega (arith, passes.within.least (first + k) lane, bound, vector.small (first + k)) in
     let sign : get_or v (sign_lane leading count) 0 ≡ sign_byte minus = own_is _ minus (sym (sign_said count leading wanted shift r v f) ∙ passes.sign) in
     record {
       negative = minus && ltb 0 (number_of ds);
@@ -135,7 +126,7 @@ sign_there false minus count v ds long most many text =
     let size : length (digit_bytes ds) ≡ count = length-map ds (λ d. 240 + d) ∙ many in
     sym (last_byte (count + 1) v count long ∙ ap (λ n. get_or v n 0) here) ∙ ap (λ xs. get_or xs count 0) text ∙ get_or_at (digit_bytes ds) (sign_byte minus) [] 0 count size
 
-digit_there : (leading minus : Bool) (count : ℕ) (v ds : List ℕ) (k : ℕ) → length v ≡ 16 → count + 1 ≤ 16 → length ds ≡ count → k < count → last_bytes (count + 1) v ≡ separate_form leading minus ds → get_or v (digit_lane leading count + k) 0 ≡ 240 + get_or ds k 0
+digit_there : (leading minus : Bool) (count : ℕ) (v ds : List ℕ) (k : ℕ) → length v ≡ 16 → count + 1 ≤ 16 → length ds ≡ count → k < count → last_bytes (count + 1) v ≡ separate_form leading minus ds → get_or v (first_lane leading count + k) 0 ≡ 240 + get_or ds k 0
 digit_there true minus count v ds k long most many lt text =
     let here : 16 - (count + 1) + suc k ≡ 16 - count + k = omega arith in
     let inside : k < length ds = omega arith in
@@ -151,37 +142,39 @@ digit_there false minus count v ds k long most many lt text =
 to_passing : (count : ℕ) (leading : Bool) (wanted : ℕ) (shift : ℤ) (r : LaneReader) → ReadsSeparate count leading wanted shift r
     → (v : List ℕ) (negative : Bool) (digits : List ℕ) → IsVector v → IsSignedSeparately count leading (last_bytes (count + 1) v) negative digits → (minus : Bool) × Passes r v minus
 to_passing count leading wanted shift r f v negative digits vector z =
-    let first : ℕ = digit_lane leading count in
+    let first : ℕ = first_lane leading count in
     let to : ℕ = first + count in
     let most : to ≤ 16 = lane_fits leading count f.most in
     let byte : (i : ℕ) → first ≤ i → i < to → get_or v i 0 ≡ 240 + get_or digits (i - first) 0 = λ i ge lt.
-        let there : first + (i - first) ≡ i = omega arith in
-        sym (ap (λ n. get_or v n 0) there) ∙ digit_there leading z.minus count v digits (i - first) vector.long f.most z.count_is (omega arith) z.text in
-    let small : (i : ℕ) → first ≤ i → i < to → get_or digits (i - first) 0 < 10 = λ i ge lt. digit_small digits (i - first) z.valid (omega (arith, z.count_is)) in
-    (z.minus, record {
-      within = record {
-        least = λ i lt.
-            let bound = f.least_high i lt in
-            elim (cases_lt i first) [
-              | inl before ↦ omega (arith, bound, before_is first to 15 0 i before)
-              | inr ge ↦ elim (cases_lt i to) [
-                | inl inside ↦ omega (arith, bound, inside_is first to 15 0 i ge inside, byte i ge inside)
-                | inr beyond ↦ omega (arith, bound, behind_is first to 15 0 i beyond)
-              ]
-            ];
-        most = λ i lt. omega (arith, f.most_high i lt, vector.small i);
-        low = λ i lt.
-            let bound = f.most_low i lt in
-            elim (cases_lt i first) [
-              | inl before ↦ omega (arith, bound, before_is first to 9 15 i before)
-              | inr ge ↦ elim (cases_lt i to) [
-                | inl inside ↦ omega (arith, bound, inside_is first to 9 15 i ge inside, byte i ge inside, small i ge inside)
-                | inr beyond ↦ omega (arith, bound, behind_is first to 9 15 i beyond)
-              ]
-            ];
-      };
-      sign = sign_said count leading wanted shift r v f ∙ ap own_meaning (sign_there leading z.minus count v digits vector.long f.most z.count_is z.text) ∙ own_of z.minus;
-    })
+    let there : first + (i - first) ≡ i = omega arith in
+    sym (ap (λ n. get_or v n 0) there) ∙ digit_there leading z.minus count v digits (i - first) vector.long f.most z.count_is (omega arith) z.text in
+    let small : (i : ℕ) → first ≤ i → i < to → get_or digits (i - first) 0 < 10 = λ i ge lt. digit_small digits (i - first) z.valid (omega (arith, z.count_is)) in (
+      z.minus,
+      record {
+        within = record {
+          least = λ i lt.
+              let bound = f.least_high i lt in
+              elim (cases_lt i first) [
+                | inl before ↦ omega (arith, bound, before_is first to 15 0 i before)
+                | inr ge ↦ elim (cases_lt i to) [
+                  | inl inside ↦ omega (arith, bound, inside_is first to 15 0 i ge inside, byte i ge inside)
+                  | inr beyond ↦ omega (arith, bound, behind_is first to 15 0 i beyond)
+                ]
+              ];
+          most = λ i lt. omega (arith, f.most_high i lt, vector.small i);
+          low = λ i lt.
+              let bound = f.most_low i lt in
+              elim (cases_lt i first) [
+                | inl before ↦ omega (arith, bound, before_is first to 9 15 i before)
+                | inr ge ↦ elim (cases_lt i to) [
+                  | inl inside ↦ omega (arith, bound, inside_is first to 9 15 i ge inside, byte i ge inside, small i ge inside)
+                  | inr beyond ↦ omega (arith, bound, behind_is first to 9 15 i beyond)
+                ]
+              ];
+        };
+        sign = sign_said count leading wanted shift r v f ∙ ap own_meaning (sign_there leading z.minus count v digits vector.long f.most z.count_is z.text) ∙ own_of z.minus;
+      },
+    )
 
 pub reads_separate : (count : ℕ) (leading : Bool) (wanted : ℕ) (shift : ℤ) (r : LaneReader) → ReadsSeparate count leading wanted shift r → IsReaderOf (IsSignedSeparately count leading) (count + 1) wanted shift r
 reads_separate count leading wanted shift r f = record {

@@ -48,9 +48,9 @@ wanted_small wanted s a kept k i lt =
 pub wanted_valid : (wanted : ℕ) (s : ℤ) (a : ℕ) (kept : List ℕ) → wanted ≤ 16 → AreWanted wanted s a kept → IsDigits (take wanted kept)
 wanted_valid wanted s a kept room k =
     all_digits (take wanted kept) (λ i lt.
-        let long : length (take wanted kept) ≡ wanted = length-take-le wanted kept (omega (arith, k.long)) in
-        let inside : i < wanted = omega arith in
-        omega (arith, get_or-take wanted kept i 0 inside, wanted_small wanted s a kept k i (omega arith)))
+    let long : length (take wanted kept) ≡ wanted = length-take-le wanted kept (omega (arith, k.long)) in
+    let inside : i < wanted = omega arith in
+    omega (arith, get_or-take wanted kept i 0 inside, wanted_small wanted s a kept k i (omega arith)))
 
 pub wanted_tens : (wanted : ℕ) (s : ℤ) (a : ℕ) (kept : List ℕ) → AreWanted wanted s a kept → AreTens kept
 wanted_tens wanted s a kept k = λ i lt. wanted_small wanted s a kept k i lt

@@ -12,7 +12,7 @@ use Rattle.cob_codec.proofs.SeparateLaws as separate
 use Rattle.cob_codec.proofs.PackedLaws.{length-joined}
 use Rattle.cob_codec.proofs.SignLemmas.{code_small}
 use Rattle.cob_lanes.specs.Lanes.{AreTens, picked_at}
-use Rattle.cob_lanes.specs.Windows.{between, digit_pick, half_of_byte, AreDigitPicks}
+use Rattle.cob_lanes.specs.Windows.{between, digit_pick, first_byte, half_of_byte, own_sign_byte, AreDigitPicks}
 use Rattle.cob_lanes.specs.Writers.{AreMade, IsWriterOf, base_of}
 use Rattle.cob_lanes.specs.declared.writer.LaneWriter.{LaneWriter}
 use Rattle.cob_lanes.proofs.HalfLemmas.{inside_is}
@@ -61,6 +61,11 @@ high_is start apart count i p w digits high lt e = ap (picked_at digits) (high i
 
 low_is : (start apart count i p : ℕ) (w : LaneWriter) (digits : List ℕ) → AreDigitPicks false start apart count w.low.lanes → i < 16 → digit_pick start apart count (2 * i + 1) ≡ p → picked_at digits (get_or w.low.lanes i 0) ≡ picked_at digits p
 low_is start apart count i p w digits low lt e = ap (picked_at digits) (low i lt ∙ e)
+
+-- what is added for either sign
+pub two_bases : (w : LaneWriter) (f : Bool → ℕ → ℕ) → ((i : ℕ) → i < 16 → get_or w.plus i 0 ≡ f false i) → ((i : ℕ) → i < 16 → get_or w.minus i 0 ≡ f true i) → (minus : Bool) (i : ℕ) → i < 16 → get_or (base_of w minus) i 0 ≡ f minus i
+two_bases w f plus minus false i lt = plus i lt
+two_bases w f plus minus true i lt = minus i lt
 
 -- ---- zoned items
 
@@ -112,69 +117,61 @@ writes_zoned count signed leading w f = record {
       let whole : length (zoned_form signed leading minus ds) ≡ count = stored_length signed leading minus ds ∙ many in
       let front : length (take count bytes) ≡ count = length-take-le count bytes (omega (arith, f.most, made.long)) in
       ext_get_or 0 _ _ (front ∙ sym whole) (λ k lt.
-          let inside : k < count = omega arith in
-          let digit : get_or ds k 0 ≡ get_or digits k 0 = get_or-take count digits k 0 inside in
-          let byte = zoned_byte count signed leading minus w digits bytes k f tens made inside in
-          let here : get_or (take count bytes) k 0 ≡ get_or bytes k 0 = get_or-take count bytes k 0 inside in
-          elim (cases_eq k place) [
-            | inl at ↦
-                let e : eqb k (sign_place signed leading count) ≡ true = eq-eqb _ _ (at ∙ same) in
-                let base : cond (eqb k (sign_place signed leading count)) (sign_code signed minus * 16) 240 ≡ sign_code signed minus * 16 = ap (λ b. cond b (sign_code signed minus * 16) 240) e in
-                let within : k < length (digit_bytes ds) = omega arith in
-                let there : get_or (zoned_form signed leading minus ds) k 0 ≡ sign_code signed minus * 16 + get_or ds k 0 =
-                ap (λ m. get_or (set (digit_bytes ds) m (sign_code signed minus * 16 + get_or ds m 0)) k 0) (sym at) ∙ get_or-set_same (digit_bytes ds) k _ 0 within in
-                omega (arith, here, there, byte, base, digit)
-            | inr other ↦
-                let e : eqb k (sign_place signed leading count) ≡ false = ne_eqb _ _ (λ q. other (q ∙ sym same)) in
-                let base : cond (eqb k (sign_place signed leading count)) (sign_code signed minus * 16) 240 ≡ 240 = ap (λ b. cond b (sign_code signed minus * 16) 240) e in
-                let within : k < length ds = omega arith in
-                let there : get_or (zoned_form signed leading minus ds) k 0 ≡ 240 + get_or ds k 0 = get_or-set_other (digit_bytes ds) place k _ 0 other ∙ get_or-map (λ d. 240 + d) ds k 0 0 within in
-                omega (arith, here, there, byte, base, digit)
-          ]);
+      let inside : k < count = omega arith in
+      let digit : get_or ds k 0 ≡ get_or digits k 0 = get_or-take count digits k 0 inside in
+      let byte = zoned_byte count signed leading minus w digits bytes k f tens made inside in
+      let here : get_or (take count bytes) k 0 ≡ get_or bytes k 0 = get_or-take count bytes k 0 inside in
+      elim (cases_eq k place) [
+        | inl at ↦
+            let e : eqb k (sign_place signed leading count) ≡ true = eq-eqb _ _ (at ∙ same) in
+            let base : cond (eqb k (sign_place signed leading count)) (sign_code signed minus * 16) 240 ≡ sign_code signed minus * 16 = ap (λ b. cond b (sign_code signed minus * 16) 240) e in
+            let within : k < length (digit_bytes ds) = omega arith in
+            let there : get_or (zoned_form signed leading minus ds) k 0 ≡ sign_code signed minus * 16 + get_or ds k 0 =
+            ap (λ m. get_or (set (digit_bytes ds) m (sign_code signed minus * 16 + get_or ds m 0)) k 0) (sym at) ∙ get_or-set_same (digit_bytes ds) k _ 0 within in
+            omega (arith, here, there, byte, base, digit)
+        | inr other ↦
+            let e : eqb k (sign_place signed leading count) ≡ false = ne_eqb _ _ (λ q. other (q ∙ sym same)) in
+            let base : cond (eqb k (sign_place signed leading count)) (sign_code signed minus * 16) 240 ≡ 240 = ap (λ b. cond b (sign_code signed minus * 16) 240) e in
+            let within : k < length ds = omega arith in
+            let there : get_or (zoned_form signed leading minus ds) k 0 ≡ 240 + get_or ds k 0 = get_or-set_other (digit_bytes ds) place k _ 0 other ∙ get_or-map (λ d. 240 + d) ds k 0 0 within in
+            omega (arith, here, there, byte, base, digit)
+      ]);
 }
 
 -- ---- items with a separate sign
 
-abbrev pub digit_byte : Bool → ℕ
-digit_byte true = 1
-digit_byte false = 0
-
-abbrev pub sign_byte_place : Bool → ℕ → ℕ
-sign_byte_place true count = 0
-sign_byte_place false count = count
-
 -- The fields of a writer of items of so many digits with a separate sign.
 pub record WritesSeparate (count : ℕ) (leading : Bool) (w : LaneWriter) : Type 0 where
   pub most : count + 1 ≤ 16
-  pub high : AreDigitPicks true (2 * digit_byte leading + 1) 2 count w.high.lanes
-  pub low : AreDigitPicks false (2 * digit_byte leading + 1) 2 count w.low.lanes
+  pub high : AreDigitPicks true (2 * first_byte leading + 1) 2 count w.high.lanes
+  pub low : AreDigitPicks false (2 * first_byte leading + 1) 2 count w.low.lanes
   pub base : (minus : Bool) (i : ℕ) → i < 16
-      → get_or (base_of w minus) i 0 ≡ cond (eqb i (sign_byte_place leading count)) (sign_byte minus) (between (digit_byte leading) (digit_byte leading + count) 240 0 i)
+      → get_or (base_of w minus) i 0 ≡ cond (eqb i (own_sign_byte leading count)) (sign_byte minus) (between (first_byte leading) (first_byte leading + count) 240 0 i)
 
 sign_small : (minus : Bool) → sign_byte minus < 256
 sign_small true = omega arith
 sign_small false = omega arith
 
 digit_made : (count : ℕ) (leading minus : Bool) (w : LaneWriter) (digits bytes : List ℕ) (k : ℕ) → WritesSeparate count leading w → AreTens digits → AreMade w minus digits bytes → k < count
-    → digit_byte leading + k ≢ sign_byte_place leading count → digit_byte leading + k < 16 → get_or bytes (digit_byte leading + k) 0 ≡ 240 + get_or digits k 0
+    → first_byte leading + k ≢ own_sign_byte leading count → first_byte leading + k < 16 → get_or bytes (first_byte leading + k) 0 ≡ 240 + get_or digits k 0
 digit_made count leading minus w digits bytes k f tens made lt other lane =
-    let first : ℕ = digit_byte leading in
+    let first : ℕ = first_byte leading in
     let i : ℕ = first + k in
     let start : ℕ = 2 * first + 1 in
     let digit_lane : k < 16 = omega arith in
     let top : picked_at digits (get_or w.high.lanes i 0) ≡ 0 = high_is start 2 count i 128 w digits f.high lane (no_pick start 2 count (2 * i) (λ from whole. absurd (omega (arith, leb-true _ _ from)))) in
     let bottom : picked_at digits (get_or w.low.lanes i 0) ≡ get_or digits k 0 =
     low_is start 2 count i k w digits f.low lane (pick_is start 2 count (2 * i + 1) k (omega arith) (omega arith) (omega arith) lt) ∙ lane_is digits k digit_lane in
-    let e : eqb i (sign_byte_place leading count) ≡ false = ne_eqb _ _ other in
+    let e : eqb i (own_sign_byte leading count) ≡ false = ne_eqb _ _ other in
     let base : get_or (base_of w minus) i 0 ≡ 240 =
     f.base minus i lane ∙ ap (λ b. cond b (sign_byte minus) (between first (first + count) 240 0 i)) e ∙ inside_is first (first + count) 240 0 i (omega arith) (omega arith) in
     omega (arith, made.each i lane, top, bottom, base, tens k digit_lane)
 
-sign_made : (count : ℕ) (leading minus : Bool) (w : LaneWriter) (digits bytes : List ℕ) → WritesSeparate count leading w → AreMade w minus digits bytes → get_or bytes (sign_byte_place leading count) 0 ≡ sign_byte minus
+sign_made : (count : ℕ) (leading minus : Bool) (w : LaneWriter) (digits bytes : List ℕ) → WritesSeparate count leading w → AreMade w minus digits bytes → get_or bytes (own_sign_byte leading count) 0 ≡ sign_byte minus
 sign_made count true minus w digits bytes f made =
     let lane : 0 < 16 = omega arith in
-    let top : picked_at digits (get_or w.high.lanes 0 0) ≡ 0 = high_is 3 2 count 0 128 w digits f.high lane (no_pick 3 2 count 0 (λ from whole. absurd (omega (arith, leb-true _ _ from)))) in
-    let bottom : picked_at digits (get_or w.low.lanes 0 0) ≡ 0 = low_is 3 2 count 0 128 w digits f.low lane (no_pick 3 2 count 1 (λ from whole. absurd (omega (arith, leb-true _ _ from)))) in
+    let top : picked_at digits (get_or w.high.lanes 0 0) ≡ 0 = high_is 3 2 count 0 128 w digits f.high lane (no_pick 3 2 count 0 (λ from whole. absurd (cc))) in
+    let bottom : picked_at digits (get_or w.low.lanes 0 0) ≡ 0 = low_is 3 2 count 0 128 w digits f.low lane (no_pick 3 2 count 1 (λ from whole. absurd (cc))) in
     let base : get_or (base_of w minus) 0 0 ≡ sign_byte minus = f.base minus 0 lane in
     omega (arith, made.each 0 lane, top, bottom, base, sign_small minus)
 sign_made count false minus w digits bytes f made =
@@ -221,8 +218,8 @@ writes_separate count leading w f = record {
       let whole : length (separate_form leading minus ds) ≡ count + 1 = separate.stored_length count leading minus ds many in
       let front : length (take (count + 1) bytes) ≡ count + 1 = length-take-le (count + 1) bytes (omega (arith, f.most, made.long)) in
       ext_get_or 0 _ _ (front ∙ sym whole) (λ k lt.
-          let inside : k < count + 1 = omega arith in
-          get_or-take (count + 1) bytes k 0 inside ∙ separate_bytes leading minus count w digits bytes f long tens made k inside);
+      let inside : k < count + 1 = omega arith in
+      get_or-take (count + 1) bytes k 0 inside ∙ separate_bytes leading minus count w digits bytes f long tens made k inside);
 }
 
 -- ---- packed items
@@ -316,7 +313,7 @@ writes_packed count signed w f = record {
       let whole : length (bytes_of_halves hs) ≡ size = omega (arith, length-joined hs) in
       let front : length (take size bytes) ≡ size = length-take-le size bytes (omega (arith, f.room, made.long)) in
       ext_get_or 0 _ _ (front ∙ sym (ap length form ∙ whole)) (λ k lt.
-          let inside : k < size = omega arith in
-          get_or-take size bytes k 0 inside ∙ packed_byte count signed minus w digits bytes k f long tens made inside
-          ∙ sym (ap (λ xs. get_or xs k 0) form ∙ byte_of_halves hs k (omega arith)));
+      let inside : k < size = omega arith in
+      get_or-take size bytes k 0 inside ∙ packed_byte count signed minus w digits bytes k f long tens made inside
+      ∙ sym (ap (λ xs. get_or xs k 0) form ∙ byte_of_halves hs k (omega arith)));
 }

@@ -50,10 +50,10 @@ from_passing count signed leading wanted shift r f v kept minus vector passes ta
     let byte : (k : ℕ) → get_or item k 0 ≡ get_or v (front + k) 0 = λ k. last_byte count v k vector.long in
     let is : (k : ℕ) → k < count → get_or ds k 0 ≡ get_or v (front + k) 0 % 16 = λ k lt. (let inside : k < length item = omega arith in get_or-map low_digit item k 0 0 inside ∙ ap (λ b. b % 16) (byte k)) in
     let valid : IsDigits ds = all_digits ds (λ k lt.
-        let inside : k < count = omega arith in
-        let lane : front + k < 16 = omega arith in
-        let bound : get_or r.bounds.most_low (front + k) 0 ≡ 9 = f.most_low (front + k) lane ∙ inside_is front 16 9 15 (front + k) (omega arith) lane in
-        omega (arith, is k inside, passes.within.low (front + k) lane, bound)) in
+    let inside : k < count = omega arith in
+    let lane : front + k < 16 = omega arith in
+    let bound : get_or r.bounds.most_low (front + k) 0 ≡ 9 = f.most_low (front + k) lane ∙ inside_is front 16 9 15 (front + k) (omega arith) lane in
+    omega (arith, is k inside, passes.within.low (front + k) lane, bound)) in
     let said = sign_said count signed leading wanted shift r v f vector.long in
     record {
       negative = minus && ltb 0 (number_of ds);
@@ -87,38 +87,40 @@ to_passing count signed leading wanted shift r f v negative digits vector z =
     let front : ℕ = 16 - count in
     let most : count ≤ 16 = f.most in
     let place : ℕ = sign_place signed leading count in
-    let byte : (i : ℕ) → front ≤ i → get_or item (i - front) 0 ≡ get_or v i 0 = λ i ge. last_byte count v (i - front) vector.long ∙ ap (λ k. get_or v k 0) (omega arith) in
-    (z.minus, record {
-      within = record {
-        least = λ i lt.
-            let bound = f.least_high i lt in
-            elim (cases_eq i (front + place)) [
-              | inl at ↦ (let e : eqb i (front + place) ≡ true = eq-eqb _ _ at in let none : get_or r.bounds.least_high i 0 ≡ 0 = bound ∙ ap (λ b. cond b 0 (between front 16 15 0 i)) e in omega arith)
-              | inr other ↦
-                  let e : eqb i (front + place) ≡ false = ne_eqb _ _ other in
-                  let rest : get_or r.bounds.least_high i 0 ≡ between front 16 15 0 i = bound ∙ ap (λ b. cond b 0 (between front 16 15 0 i)) e in
-                  elim (cases_lt i front) [
-                    | inl before ↦ omega (arith, rest, before_is front 16 15 0 i before)
-                    | inr ge ↦
-                        let zone : get_or item (i - front) 0 / 16 ≡ 15 = z.zones (i - front) (omega arith) (λ e. other (omega arith)) in
-                        let here : get_or v i 0 / 16 ≡ 15 = ap (λ b. b / 16) (sym (byte i ge)) ∙ zone in
-                        omega (arith, rest, inside_is front 16 15 0 i ge lt)
-                  ]
-            ];
-        most = λ i lt. omega (arith, f.most_high i lt, vector.small i);
-        low = λ i lt.
-            let bound = f.most_low i lt in
-            elim (cases_lt i front) [
-              | inl before ↦ omega (arith, bound, before_is front 16 9 15 i before)
-              | inr ge ↦
-                  let within : i - front < length item = omega (arith, last_length count v vector.long most) in
-                  let small : get_or item (i - front) 0 % 16 < 10 = zoned_digit count signed leading item negative digits (i - front) z within in
-                  let here : get_or v i 0 % 16 < 10 = rw (byte i ge) at small in
-                  omega (arith, bound, inside_is front 16 9 15 i ge lt)
-            ];
-      };
-      sign = sign_said count signed leading wanted shift r v f vector.long ∙ z.meaning;
-    })
+    let byte : (i : ℕ) → front ≤ i → get_or item (i - front) 0 ≡ get_or v i 0 = λ i ge. last_byte count v (i - front) vector.long ∙ ap (λ k. get_or v k 0) (omega arith) in (
+      z.minus,
+      record {
+        within = record {
+          least = λ i lt.
+              let bound = f.least_high i lt in
+              elim (cases_eq i (front + place)) [
+                | inl at ↦ (let e : eqb i (front + place) ≡ true = eq-eqb _ _ at in let none : get_or r.bounds.least_high i 0 ≡ 0 = bound ∙ ap (λ b. cond b 0 (between front 16 15 0 i)) e in omega arith)
+                | inr other ↦
+                    let e : eqb i (front + place) ≡ false = ne_eqb _ _ other in
+                    let rest : get_or r.bounds.least_high i 0 ≡ between front 16 15 0 i = bound ∙ ap (λ b. cond b 0 (between front 16 15 0 i)) e in
+                    elim (cases_lt i front) [
+                      | inl before ↦ omega (arith, rest, before_is front 16 15 0 i before)
+                      | inr ge ↦
+                          let zone : get_or item (i - front) 0 / 16 ≡ 15 = z.zones (i - front) (omega arith) (λ e. other (omega arith)) in
+                          let here : get_or v i 0 / 16 ≡ 15 = ap (λ b. b / 16) (sym (byte i ge)) ∙ zone in
+                          omega (arith, rest, inside_is front 16 15 0 i ge lt)
+                    ]
+              ];
+          most = λ i lt. omega (arith, f.most_high i lt, vector.small i);
+          low = λ i lt.
+              let bound = f.most_low i lt in
+              elim (cases_lt i front) [
+                | inl before ↦ omega (arith, bound, before_is front 16 9 15 i before)
+                | inr ge ↦
+                    let within : i - front < length item = omega (arith, last_length count v vector.long most) in
+                    let small : get_or item (i - front) 0 % 16 < 10 = zoned_digit count signed leading item negative digits (i - front) z within in
+                    let here : get_or v i 0 % 16 < 10 = rw (byte i ge) at small in
+                    omega (arith, bound, inside_is front 16 9 15 i ge lt)
+              ];
+        };
+        sign = sign_said count signed leading wanted shift r v f vector.long ∙ z.meaning;
+      },
+    )
 
 pub reads_zoned : (count : ℕ) (signed leading : Bool) (wanted : ℕ) (shift : ℤ) (r : LaneReader) → ReadsZoned count signed leading wanted shift r → IsReaderOf (IsZoned count signed leading) count wanted shift r
 reads_zoned count signed leading wanted shift r f = record {

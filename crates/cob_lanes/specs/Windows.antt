@@ -5,9 +5,9 @@ use Rattle.std.specs.Prelude.{◌≡◌, ℕ, ◌+◌, ◌-◌, ◌*◌, ◌/◌
 abbrev pub last_bytes : ℕ → List ℕ → List ℕ
 last_bytes size bytes = drop (length bytes - size) bytes
 
--- Bytes as the end of a window: behind zeros where they are fewer than sixteen.
+-- Bytes, at most sixteen, as the end of a window: behind zeros.
 abbrev pub padded_window : List ℕ → List ℕ
-padded_window bytes = replicate (16 - length bytes) 0 ++ last_bytes 16 bytes
+padded_window bytes = replicate (16 - length bytes) 0 ++ bytes
 
 -- One number in the lanes from one on and before another, and a second number in all others.
 abbrev pub between : (from to inside outside : ℕ) → ℕ → ℕ
@@ -50,3 +50,28 @@ digit_pick start apart count half =
 -- The lanes put the digits in their half bytes.
 abbrev pub AreDigitPicks : (high : Bool) (start apart count : ℕ) → List ℕ → Type 0
 AreDigitPicks high start apart count lanes = (i : ℕ) → i < 16 → slice_index lanes i ≡ digit_pick start apart count (half_of_byte high i)
+
+-- Where in a window that ends with an item of so many digits with a separate sign the first digit stands: in front of the sign, or behind it
+-- where it is leading.
+abbrev pub first_lane : (leading : Bool) → ℕ → ℕ
+first_lane true count = 16 - count
+first_lane false count = 15 - count
+
+-- Where the sign stands in it.
+abbrev pub sign_lane : (leading : Bool) → ℕ → ℕ
+sign_lane true count = 15 - count
+sign_lane false count = 15
+
+-- Which byte of the item has the first digit.
+abbrev pub first_byte : (leading : Bool) → ℕ
+first_byte true = 1
+first_byte false = 0
+
+-- Which byte of it has the sign.
+abbrev pub own_sign_byte : (leading : Bool) → ℕ → ℕ
+own_sign_byte true count = 0
+own_sign_byte false count = count
+
+-- The greatest high half of the first byte of a packed item of so many digits: a pad, or a digit.
+abbrev pub pad_bound : ℕ → ℕ
+pad_bound count = if count % 2 == 0 then 0 else 9

@@ -6,6 +6,7 @@ ghost use Rattle.cob_codec.specs.Separate.{IsSignedSeparately};
 ghost use Rattle.cob_codec.specs.Sign.{sign_place};
 ghost use Rattle.cob_codec.specs.Zoned.{IsZoned};
 ghost use Rattle.cob_lanes.specs.Readers.{IsReaderOf};
+ghost use Rattle.cob_lanes.specs.Windows.{first_lane, pad_bound, sign_lane};
 
 use crate::filling::{lanes_between, with_lane};
 use crate::lanes::Bounds;
@@ -28,6 +29,31 @@ pub(crate) fn sign_place(signed: bool, leading: bool, count: usize) -> usize
     ensures within { result < count }
 {
     if signed && leading { 0 } else { count - 1 }
+}
+
+/// Where the first digit stands in a window that ends with an item of so many digits with a separate sign.
+fn first_lane(leading: bool, count: usize) -> usize
+    requires { count ≤ 15 }
+    ensures lane { result ≡ first_lane leading count }
+    ensures within { result + count ≤ 16 }
+{
+    if leading { 16 - count } else { 15 - count }
+}
+
+/// Where the sign stands in it.
+fn sign_lane(leading: bool, count: usize) -> usize
+    requires { count ≤ 15 }
+    ensures lane { result ≡ sign_lane leading count }
+    ensures within { result < 16 }
+{
+    if leading { 15 - count } else { 15 }
+}
+
+/// The greatest high half of the first byte of a packed item of so many digits: a pad, or a digit.
+fn pad_bound(count: usize) -> u8
+    ensures { result ≡ pad_bound count }
+{
+    if count % 2 == 0 { 0 } else { NINE }
 }
 
 impl LaneReader {
@@ -69,8 +95,8 @@ impl LaneReader {
             (shape.now.digits + 1) wanted.digits wanted.shift result }
     {
         let count = usize::from(shape.digits);
-        let first = if shape.leading { 16 - count } else { 15 - count };
-        let place = if shape.leading { 15 - count } else { 15 };
+        let first = first_lane(shape.leading, count);
+        let place = sign_lane(shape.leading, count);
         let bounds = Bounds {
             least_high: lanes_between(first, first + count, ANY, 0),
             most_high: [ANY; 16],
@@ -99,11 +125,10 @@ impl LaneReader {
     {
         let count = usize::from(shape.digits);
         let front = 15 - count / 2;
-        let pad = if count % 2 == 0 { 0 } else { NINE };
         let digits = lanes_between(front, 16, NINE, ANY);
         let bounds = Bounds {
             least_high: [0; 16],
-            most_high: with_lane(digits, front, pad),
+            most_high: with_lane(digits, front, pad_bound(count)),
             most_low: lanes_between(front, 15, NINE, ANY),
         };
         let spread = Spread {

@@ -50,7 +50,10 @@ impl LaneWriter {
             × (out.new ≡ take (length out.old) bytes) }
     {
         let base = chosen(minus, self.minus, self.plus);
-        let halves = sums(raised(picked(digits, &self.high)), picked(digits, &self.low));
+        let halves = sums(
+            raised(picked(digits, &self.high)),
+            picked(digits, &self.low),
+        );
         let bytes = sums(halves, base).to_array();
         put_front(&bytes, out);
     }

@@ -5,6 +5,7 @@ ghost use Rattle.cob_codec.specs.Packed.{packed_form, pad_count};
 ghost use Rattle.cob_codec.specs.Separate.{separate_form, sign_byte};
 ghost use Rattle.cob_codec.specs.Sign.{sign_code};
 ghost use Rattle.cob_codec.specs.Zoned.{zoned_form};
+ghost use Rattle.cob_lanes.specs.Windows.{first_byte, own_sign_byte};
 ghost use Rattle.cob_lanes.specs.Writers.{IsWriterOf};
 
 use crate::filling::{lanes_between, with_lane};
@@ -32,6 +33,22 @@ fn sign_byte(minus: bool) -> u8
     ensures { result ≡ sign_byte minus }
 {
     if minus { 0x60 } else { 0x4E }
+}
+
+/// Which byte of an item with a separate sign has the first digit.
+fn first_byte(leading: bool) -> usize
+    ensures byte { result ≡ first_byte leading }
+    ensures within { result ≤ 1 }
+{
+    if leading { 1 } else { 0 }
+}
+
+/// Which byte of an item of so many digits with a separate sign has the sign.
+fn own_sign_byte(leading: bool, count: usize) -> usize
+    ensures byte { result ≡ own_sign_byte leading count }
+    ensures within { result ≤ count }
+{
+    if leading { 0 } else { count }
 }
 
 impl LaneWriter {
@@ -64,8 +81,8 @@ impl LaneWriter {
             shape.now.digits (shape.now.digits + 1) result }
     {
         let count = usize::from(shape.digits);
-        let first = if shape.leading { 1 } else { 0 };
-        let place = if shape.leading { 0 } else { count };
+        let first = first_byte(shape.leading);
+        let place = own_sign_byte(shape.leading, count);
         let zones = lanes_between(first, first + count, ZONE, 0);
         let spread = Spread {
             start: 2 * first + 1,

@@ -1,11 +1,11 @@
 -- Single moves of numbers that are made ready.
-use Rattle.std.specs.Prelude.{◌≡◌, ◌-ℤ◌, Bool, true, ◌&&◌, List, ℕ}
+use Rattle.std.specs.Prelude.{◌≡◌, ◌≢◌, ◌≤◌, ◌-ℤ◌, Bool, true, ◌&&◌, List, ℕ}
 use Rattle.cob_picture.specs.Counts.{digits, scale, signed}
 use Rattle.cob_codec.specs.declared.reading.Reading.{Reading}
 use Rattle.cob_copybook_tree.specs.declared.form.Form.{Form}
 use Rattle.cob_copybook_tree.specs.declared.form.Form.TheVariants as form
 use Rattle.cob_copybook_tree.specs.declared.node.Item.{Item}
-use Rattle.cob_copybook_tree.specs.Items.{IsSentBy, stored_form}
+use Rattle.cob_copybook_tree.specs.Items.{form_of, IsNumberItem, IsSentBy, stored_form}
 use Rattle.cob_copybook_tree.specs.Lengths.{item_size}
 use Rattle.cob_copybook_tree.specs.Resolving.{is_number}
 use Rattle.cob_lanes.specs.Readers.{IsReaderOf}
@@ -21,6 +21,13 @@ abbrev pub form_by_lanes : LaneStorage → Form
 form_by_lanes Zoned = form.Zoned
 form_by_lanes Separate = form.Separate
 form_by_lanes Packed = form.Packed
+
+-- The item is a number whose digits and whose bytes are at most sixteen, and it is not binary.
+pub record IsLaneItem (i : Item) : Type 0 where
+  pub number : IsNumberItem i
+  pub halves : form_of i ≢ form.Binary
+  pub few : digits i.picture.positions ≤ 16
+  pub fits : item_size i ≤ 16
 
 -- What is stored in an item for a number of these digits that is negative or not: a minus only where the item has a sign.
 abbrev pub received_form : Item → Bool → List ℕ → List ℕ

@@ -1,9 +1,9 @@
 //! Steps made ready.
 
-ghost use Rattle.std.specs.Prelude.{◌≡◌, ◌-ℤ◌, ◌≤◌, IfSome};
+ghost use Rattle.std.specs.Prelude.{◌≡◌, ◌-ℤ◌, ◌≤◌, IfSome, IsSome};
 ghost use Rattle.cob_picture.specs.Counts.{digits, scale};
 ghost use Rattle.cob_copybook_tree.specs.Items.{IsNumberItem};
-ghost use Rattle.cob_move_prepared.specs.Steps.{IsNumberStep, IsReaderFor, IsWriterFor};
+ghost use Rattle.cob_move_prepared.specs.Steps.{IsLaneItem, IsNumberStep, IsReaderFor, IsWriterFor};
 
 use crate::step::NumberStep;
 use crate::storage::{LaneStorage, lane_storage, number_shape};
@@ -22,6 +22,7 @@ fn wanted_of(sender: &Item, receiver: &Item) -> Option<Wanted>
         (λ w. w.digits ≡ digits receiver.now.picture.positions) }
     ensures shift { IfSome result (λ w. w.shift
         ≡ scale receiver.now.picture.positions -ℤ scale sender.now.picture.positions) }
+    ensures must { digits receiver.now.picture.positions ≤ 16 → IsSome result }
 {
     let digits = receiver.picture.digits();
     let shift = receiver.picture.scale() - sender.picture.scale();
@@ -35,7 +36,8 @@ fn wanted_of(sender: &Item, receiver: &Item) -> Option<Wanted>
 /// What reads a sender's number, if lanes can.
 fn reader_for(sender: &Item, receiver: &Item) -> Option<LaneReader>
     requires { IsNumberItem sender.now }
-    ensures { IfSome result (IsReaderFor sender.now receiver.now) }
+    ensures reader { IfSome result (IsReaderFor sender.now receiver.now) }
+    ensures must { IsLaneItem sender.now → IsLaneItem receiver.now → IsSome result }
 {
     let wanted = wanted_of(sender, receiver)?;
     let storage = lane_storage(sender)?;
@@ -54,7 +56,8 @@ fn reader_for(sender: &Item, receiver: &Item) -> Option<LaneReader>
 /// What writes a receiver's number, if lanes can.
 fn writer_for(receiver: &Item) -> Option<LaneWriter>
     requires { IsNumberItem receiver.now }
-    ensures { IfSome result (IsWriterFor receiver.now) }
+    ensures writer { IfSome result (IsWriterFor receiver.now) }
+    ensures must { IsLaneItem receiver.now → IsSome result }
 {
     let storage = lane_storage(receiver)?;
     let shape = number_shape(receiver);
@@ -68,9 +71,10 @@ fn writer_for(receiver: &Item) -> Option<LaneWriter>
 }
 
 impl NumberStep {
-    /// The step of the move of one item to another; none where one of them is no number, or one that lanes don't hold.
+    /// The step of the move of one item to another. There is one where both are numbers, not binary, of at most sixteen digits and bytes.
     pub fn prepare(sender: &Item, receiver: &Item) -> Option<NumberStep>
-        ensures { IfSome result (IsNumberStep sender.now receiver.now) }
+        ensures step { IfSome result (IsNumberStep sender.now receiver.now) }
+        ensures must { IsLaneItem sender.now → IsLaneItem receiver.now → IsSome result }
     {
         if !is_number_item(sender) || !is_number_item(receiver) {
             return None;

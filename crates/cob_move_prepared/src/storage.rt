@@ -1,8 +1,9 @@
 //! The kinds of storage that lanes read and write.
 
-ghost use Rattle.std.specs.Prelude.{◌≡◌, ◌<◌, IfSome};
+ghost use Rattle.std.specs.Prelude.{◌≡◌, ◌<◌, IfSome, IfNone};
 ghost use Rattle.cob_picture.specs.Counts.{digits, signed};
 ghost use Rattle.cob_copybook_tree.specs.Items.{form_of, is_leading, is_separate, size_as, IsNumberItem};
+ghost use Rattle.cob_copybook_tree.specs.declared.form.Form.TheVariants.{Binary};
 ghost use Rattle.cob_copybook_tree.specs.Lengths.{item_size};
 ghost use Rattle.cob_move_prepared.specs.Steps.{form_by_lanes};
 
@@ -33,7 +34,8 @@ fn leads(sign: Option<Sign>) -> bool
 
 /// The kind of storage of an item, unless it is binary.
 pub(crate) fn lane_storage(item: &Item) -> Option<LaneStorage>
-    ensures { IfSome result (λ storage. form_of item.now ≡ form_by_lanes storage) }
+    ensures storage { IfSome result (λ storage. form_of item.now ≡ form_by_lanes storage) }
+    ensures binary { IfNone result (form_of item.now ≡ Binary) }
 {
     match item.usage {
         Usage::Display if has_own_byte(item.sign) => Some(LaneStorage::Separate),

@@ -6,6 +6,6 @@ use Rattle.cob_lanes.proofs.picks.digit_picks.Given as goal
 abbrev pub invariant-loop-byte : goal.invariant-loop-byte
 invariant-loop-byte l = record {
   long : length l.lanes ≡ 16;
-  each : (i : ℕ) → i < l.byte → get_or l.lanes i 0 ≡ digit_pick l.by.now.start l.by.now.apart l.by.now.count (half_of_byte l.high i);
+  each : (i : ℕ) → i < l.byte → get_or l.lanes i 0 ≡ digit_pick l.by.start l.by.apart l.by.count (half_of_byte l.high i);
   valid : (i : ℕ) → i < 16 → is_pick (get_or l.lanes i 0) ≡ true;
 }
