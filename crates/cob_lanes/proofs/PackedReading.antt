@@ -1,5 +1,5 @@
 -- Packed items, read.
-use Rattle.std.proofs.Common.{◌≡◌, ◌≢◌, ℕ, zero, suc, ◌+◌, ◌-◌, ◌*◌, ◌/◌, ◌%◌, ◌<◌, ◌≤◌, ◌&&◌, ℤ, Bool, true, false, IsTrue, cond, ltb, eqb, List, [], ◌∷◌, ◌++◌, length, get_or, take, drop, replicate, Some, refl, sym, ap, ◌∙◌, inl, inr, arith, eq-eqb, ne_eqb, length-take-le, length-drop, get_or-take, get_or-drop}
+use Rattle.std.proofs.Common.{◌≡◌, ◌≢◌, ℕ, zero, suc, ◌+◌, ◌-◌, ◌*◌, ◌/◌, ◌%◌, ◌<◌, ◌≤◌, ◌&&◌, ℤ, Bool, true, false, IsTrue, cond, ltb, eqb, List, [], ◌∷◌, ◌++◌, length, get_or, take, drop, replicate, Some, refl, sym, ap, subst, ◌∙◌, inl, inr, arith, eq-eqb, ne_eqb, length-take-le, length-drop, get_or-take, get_or-drop}
 use Rattle.std.proofs.lemmas.Bool.{cases_lt, cases_eq}
 use Rattle.std.proofs.lemmas.List.{take-append-drop, take_more, get_or-append_right, get_or_append_left, get_or_at, length-replicate, get_or-replicate}
 use Rattle.cob_decimal.specs.Decimal.{IsDigits, number_of}
@@ -234,10 +234,14 @@ to_passing count signed wanted shift r f v negative digits vector p =
       },
     )
 
-pub reads_packed : (count : ℕ) (signed : Bool) (wanted : ℕ) (shift : ℤ) (r : LaneReader) → ReadsPacked count signed wanted shift r → IsReaderOf (IsPacked count signed) (count / 2 + 1) wanted shift r
+reads_packed : (count : ℕ) (signed : Bool) (wanted : ℕ) (shift : ℤ) (r : LaneReader) → ReadsPacked count signed wanted shift r → IsReaderOf (IsPacked count signed) (count / 2 + 1) wanted shift r
 reads_packed count signed wanted shift r f = record {
   fits = f.most;
   room = f.room;
   reads = from_passing count signed wanted shift r f;
   passes = to_passing count signed wanted shift r f;
 }
+
+-- the same, where the number of digits is another's
+pub packed_reader : (n count : ℕ) (signed : Bool) (wanted : ℕ) (shift : ℤ) (r : LaneReader) → n ≡ count → ReadsPacked n signed wanted shift r → IsReaderOf (IsPacked count signed) (count / 2 + 1) wanted shift r
+packed_reader n count signed wanted shift r e f = subst (λ k. IsReaderOf (IsPacked k signed) (k / 2 + 1) wanted shift r) e (reads_packed n signed wanted shift r f)

@@ -1,5 +1,5 @@
 -- Items with a separate sign, read.
-use Rattle.std.proofs.Common.{◌≡◌, ◌≢◌, ℕ, suc, ◌+◌, ◌-◌, ◌*◌, ◌/◌, ◌%◌, ◌<◌, ◌≤◌, ◌&&◌, ℤ, Bool, true, false, IsTrue, cond, ltb, eqb, List, [], ◌∷◌, ◌++◌, map, length, get_or, take, drop, Option, Some, None, refl, sym, ap, ◌∙◌, inl, inr, arith, eq-eqb, ne_eqb, eqb-true, length-take-le, length-drop, get_or-take, get_or-drop}
+use Rattle.std.proofs.Common.{◌≡◌, ◌≢◌, ℕ, suc, ◌+◌, ◌-◌, ◌*◌, ◌/◌, ◌%◌, ◌<◌, ◌≤◌, ◌&&◌, ℤ, Bool, true, false, IsTrue, cond, ltb, eqb, List, [], ◌∷◌, ◌++◌, map, length, get_or, take, drop, Option, Some, None, refl, sym, ap, subst, ◌∙◌, inl, inr, arith, eq-eqb, ne_eqb, eqb-true, length-take-le, length-drop, get_or-take, get_or-drop}
 use Rattle.std.proofs.lemmas.Bool.{cases_lt, cases_eq}
 use Rattle.std.proofs.lemmas.List.{get_or-map, length-map, drop_more, take_all, get_or_append_left, get_or_at}
 use Rattle.cob_decimal.specs.Decimal.{IsDigits, number_of}
@@ -176,10 +176,14 @@ to_passing count leading wanted shift r f v negative digits vector z =
       },
     )
 
-pub reads_separate : (count : ℕ) (leading : Bool) (wanted : ℕ) (shift : ℤ) (r : LaneReader) → ReadsSeparate count leading wanted shift r → IsReaderOf (IsSignedSeparately count leading) (count + 1) wanted shift r
+reads_separate : (count : ℕ) (leading : Bool) (wanted : ℕ) (shift : ℤ) (r : LaneReader) → ReadsSeparate count leading wanted shift r → IsReaderOf (IsSignedSeparately count leading) (count + 1) wanted shift r
 reads_separate count leading wanted shift r f = record {
   fits = f.most;
   room = f.room;
   reads = from_passing count leading wanted shift r f;
   passes = to_passing count leading wanted shift r f;
 }
+
+-- the same, where the number of digits is another's
+pub separate_reader : (n count : ℕ) (leading : Bool) (wanted : ℕ) (shift : ℤ) (r : LaneReader) → n ≡ count → ReadsSeparate n leading wanted shift r → IsReaderOf (IsSignedSeparately count leading) (count + 1) wanted shift r
+separate_reader n count leading wanted shift r e f = subst (λ k. IsReaderOf (IsSignedSeparately k leading) (k + 1) wanted shift r) e (reads_separate n leading wanted shift r f)

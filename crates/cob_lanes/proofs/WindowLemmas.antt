@@ -1,7 +1,10 @@
 -- Windows that end with the bytes.
-use Rattle.std.proofs.Common.{◌≡◌, ◌-◌, ◌+◌, ◌<◌, ◌≤◌, ℕ, zero, suc, Bool, true, false, List, [], ◌∷◌, ◌++◌, length, get_or, drop, replicate, refl, sym, ap, ◌∙◌, inl, inr, arith, w8, Fits, drop-drop, length-drop, length-append}
+use Rattle.std.proofs.Common.{◌≡◌, ◌-◌, ◌+◌, ◌<◌, ◌≤◌, ℕ, zero, suc, Bool, true, false, List, [], ◌∷◌, ◌++◌, length, get_or, take, drop, replicate, refl, sym, ap, ◌∙◌, inl, inr, arith, w8, Fits, drop-drop, length-drop, length-append}
 use Rattle.std.proofs.lemmas.Bool.{cases_lt}
 use Rattle.std.proofs.lemmas.List.{get_or-append_right, get_or_append_left, get_or-replicate, get_or-drop, length-replicate}
+use Rattle.std.proofs.lemmas.List.{take-append-drop, take-replicate}
+use Rattle.std.proofs.lemmas.Slice.{take-put_mid, drop-put_mid}
+use borrow.Rule.Slice.PartMut.{put_mid}
 use Rattle.cob_lanes.specs.Lanes.{IsVector}
 use Rattle.cob_lanes.specs.Windows.{last_bytes, padded_window}
 use Rattle.cob_lanes.specs.Readers.{AreTaken, IsReadOf, Passes}
@@ -30,7 +33,7 @@ padded_small bytes bounds i =
     let k : ℕ = 16 - length bytes in
     let zeros : length (replicate {A = ℕ} k 0) ≡ k = length-replicate k 0 in
     elim (cases_lt i k) [
-      | inl before ↦ omega (arith, get_or_append_left (replicate k 0) bytes 0 i (omega arith), get_or-replicate k i 0 0 before)
+      | inl before ↦ omega (arith, get_or_append_left (replicate k 0) bytes 0 i (omega arith), get_or-replicate {A = ℕ} k i 0 0 before)
       | inr ge ↦ omega (arith, get_or-append_right (replicate k 0) bytes k i 0 zeros ge, small_of _ (bounds (i - k)))
     ]
 
@@ -66,3 +69,21 @@ read_last r bytes digits is_number minus many bounds number nothing taken =
       nothing = nothing;
       taken = taken;
     }
+
+-- ---- bytes put behind zeros
+
+nothing_more : (xs : List ℕ) → xs ++ [] ≡ xs
+nothing_more [] = refl
+nothing_more (x ∷ xs) = ap (λ ys. x ∷ ys) (nothing_more xs)
+
+pub put_padded : (bytes put : List ℕ) (k : ℕ) → length bytes < 16 → put ≡ bytes → k ≡ length bytes → put_mid (16 - length bytes) k (replicate 16 0) put ≡ padded_window bytes
+put_padded bytes put k few is many =
+    let a : ℕ = 16 - length bytes in
+    let zeros : List ℕ = replicate 16 0 in
+    let whole : List ℕ = put_mid a k zeros put in
+    let room : a ≤ length zeros = omega (arith, length-replicate {A = ℕ} 16 0) in
+    let front : take 16 whole ≡ take a zeros ++ put = take-put_mid a k zeros put 16 (omega (arith, ap length is)) room in
+    let rest : drop 16 whole ≡ drop 16 zeros = drop-put_mid a k zeros put 16 (omega arith) room (omega (arith, ap length is)) in
+    let none : drop 16 zeros ≡ [] = refl in
+    sym (take-append-drop 16 whole) ∙ ap (λ xs. xs ++ drop 16 whole) front ∙ ap (λ xs. (take a zeros ++ put) ++ xs) (rest ∙ none) ∙ nothing_more (take a zeros ++ put)
+    ∙ ap (λ xs. xs ++ put) (take-replicate a 16 0 (omega arith)) ∙ ap (λ xs. replicate a 0 ++ xs) is

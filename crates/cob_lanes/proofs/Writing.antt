@@ -1,5 +1,5 @@
 -- Items, written.
-use Rattle.std.proofs.Common.{◌≡◌, ◌≢◌, ℕ, zero, suc, ◌+◌, ◌-◌, ◌*◌, ◌/◌, ◌%◌, ◌<◌, ◌≤◌, ◌&&◌, Bool, true, false, cond, ltb, leb, eqb, List, [], ◌∷◌, ◌++◌, map, length, get_or, take, drop, replicate, refl, sym, ap, ◌∙◌, inl, inr, arith, eq-eqb, ne_eqb, lt-ltb, le-ltb, leb-true, leb-false, ltb-true, eqb-true, length-take-le, length-append, get_or-take, get_or-set_other, get_or-set_same}
+use Rattle.std.proofs.Common.{◌≡◌, ◌≢◌, ℕ, zero, suc, ◌+◌, ◌-◌, ◌*◌, ◌/◌, ◌%◌, ◌<◌, ◌≤◌, ◌&&◌, Bool, true, false, cond, ltb, leb, eqb, List, [], ◌∷◌, ◌++◌, map, length, get_or, take, drop, replicate, refl, sym, ap, subst, ◌∙◌, inl, inr, arith, eq-eqb, ne_eqb, lt-ltb, le-ltb, leb-true, leb-false, ltb-true, eqb-true, length-take-le, length-append, get_or-take, get_or-set_other, get_or-set_same}
 use Rattle.std.proofs.Math.ListN.{set}
 use Rattle.std.proofs.lemmas.Bool.{cases_lt, cases_eq}
 use Rattle.std.proofs.lemmas.List.{ext_get_or, get_or-map, length-map, get_or-append_right, get_or_append_left, get_or_at, length-replicate, get_or-replicate}
@@ -104,7 +104,7 @@ zoned_byte count signed leading minus w digits bytes k f tens made lt =
     small_code : (signed minus : Bool) → sign_code signed minus < 16
     small_code signed minus = code_small signed minus
 
-pub writes_zoned : (count : ℕ) (signed leading : Bool) (w : LaneWriter) → WritesZoned count signed leading w → IsWriterOf (zoned_form signed leading) count count w
+writes_zoned : (count : ℕ) (signed leading : Bool) (w : LaneWriter) → WritesZoned count signed leading w → IsWriterOf (zoned_form signed leading) count count w
 writes_zoned count signed leading w f = record {
   room = f.most;
   fits = f.most;
@@ -208,7 +208,7 @@ separate_bytes false minus count w digits bytes f long tens made k lt =
           ∙ sym (ap (λ n. get_or (digit_bytes ds ++ sign_byte minus ∷ []) n 0) same ∙ get_or_at (digit_bytes ds) (sign_byte minus) [] 0 count size)
     ]
 
-pub writes_separate : (count : ℕ) (leading : Bool) (w : LaneWriter) → WritesSeparate count leading w → IsWriterOf (separate_form leading) count (count + 1) w
+writes_separate : (count : ℕ) (leading : Bool) (w : LaneWriter) → WritesSeparate count leading w → IsWriterOf (separate_form leading) count (count + 1) w
 writes_separate count leading w f = record {
   room = omega (arith, f.most);
   fits = f.most;
@@ -298,7 +298,7 @@ packed_byte count signed minus w digits bytes k f long tens made lt =
           omega (arith, made.each k lane, top, bottom, base, sign, code_small signed minus)
     ]
 
-pub writes_packed : (count : ℕ) (signed : Bool) (w : LaneWriter) → WritesPacked count signed w → IsWriterOf (packed_form signed) count (count / 2 + 1) w
+writes_packed : (count : ℕ) (signed : Bool) (w : LaneWriter) → WritesPacked count signed w → IsWriterOf (packed_form signed) count (count / 2 + 1) w
 writes_packed count signed w f = record {
   room = f.room;
   fits = omega (arith, f.room);
@@ -317,3 +317,14 @@ writes_packed count signed w f = record {
       get_or-take size bytes k 0 inside ∙ packed_byte count signed minus w digits bytes k f long tens made inside
       ∙ sym (ap (λ xs. get_or xs k 0) form ∙ byte_of_halves hs k (omega arith)));
 }
+
+-- ---- the same, where the number of digits is another's
+
+pub zoned_writer : (n count : ℕ) (signed leading : Bool) (w : LaneWriter) → n ≡ count → WritesZoned n signed leading w → IsWriterOf (zoned_form signed leading) count count w
+zoned_writer n count signed leading w e f = subst (λ k. IsWriterOf (zoned_form signed leading) k k w) e (writes_zoned n signed leading w f)
+
+pub separate_writer : (n count : ℕ) (leading : Bool) (w : LaneWriter) → n ≡ count → WritesSeparate n leading w → IsWriterOf (separate_form leading) count (count + 1) w
+separate_writer n count leading w e f = subst (λ k. IsWriterOf (separate_form leading) k (k + 1) w) e (writes_separate n leading w f)
+
+pub packed_writer : (n count : ℕ) (signed : Bool) (w : LaneWriter) → n ≡ count → WritesPacked n signed w → IsWriterOf (packed_form signed) count (count / 2 + 1) w
+packed_writer n count signed w e f = subst (λ k. IsWriterOf (packed_form signed) k (k / 2 + 1) w) e (writes_packed n signed w f)

@@ -1,5 +1,5 @@
 -- Zoned items, read.
-use Rattle.std.proofs.Common.{◌≡◌, ◌≢◌, ℕ, ◌+◌, ◌-◌, ◌*◌, ◌/◌, ◌%◌, ◌<◌, ◌≤◌, ◌&&◌, ℤ, Bool, true, false, IsTrue, cond, ltb, eqb, List, map, length, get_or, Some, refl, sym, ap, ◌∙◌, inl, inr, arith, eq-eqb, ne_eqb}
+use Rattle.std.proofs.Common.{◌≡◌, ◌≢◌, ℕ, ◌+◌, ◌-◌, ◌*◌, ◌/◌, ◌%◌, ◌<◌, ◌≤◌, ◌&&◌, ℤ, Bool, true, false, IsTrue, cond, ltb, eqb, List, map, length, get_or, Some, refl, sym, ap, subst, ◌∙◌, inl, inr, arith, eq-eqb, ne_eqb}
 use Rattle.std.proofs.lemmas.Bool.{cases_lt, cases_eq}
 use Rattle.std.proofs.lemmas.List.{get_or-map, length-map}
 use Rattle.cob_decimal.specs.Decimal.{IsDigits, number_of}
@@ -122,10 +122,14 @@ to_passing count signed leading wanted shift r f v negative digits vector z =
       },
     )
 
-pub reads_zoned : (count : ℕ) (signed leading : Bool) (wanted : ℕ) (shift : ℤ) (r : LaneReader) → ReadsZoned count signed leading wanted shift r → IsReaderOf (IsZoned count signed leading) count wanted shift r
+reads_zoned : (count : ℕ) (signed leading : Bool) (wanted : ℕ) (shift : ℤ) (r : LaneReader) → ReadsZoned count signed leading wanted shift r → IsReaderOf (IsZoned count signed leading) count wanted shift r
 reads_zoned count signed leading wanted shift r f = record {
   fits = f.most;
   room = f.room;
   reads = from_passing count signed leading wanted shift r f;
   passes = to_passing count signed leading wanted shift r f;
 }
+
+-- the same, where the number of digits is another's
+pub zoned_reader : (n count : ℕ) (signed leading : Bool) (wanted : ℕ) (shift : ℤ) (r : LaneReader) → n ≡ count → ReadsZoned n signed leading wanted shift r → IsReaderOf (IsZoned count signed leading) count wanted shift r
+zoned_reader n count signed leading wanted shift r e f = subst (λ k. IsReaderOf (IsZoned k signed leading) k wanted shift r) e (reads_zoned n signed leading wanted shift r f)

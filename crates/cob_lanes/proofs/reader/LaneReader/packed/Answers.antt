@@ -1,9 +1,7 @@
-use Rattle.std.proofs.Common.{◌≡◌, ◌-◌, ◌+◌, ◌*◌, ◌/◌, ◌≤◌, ℕ, get_or, subst, refl, ap, ◌∙◌, arith}
+use Rattle.std.proofs.Common.{◌≡◌, ◌-◌, ◌+◌, ◌*◌, ◌/◌, ◌≤◌, ℕ, get_or, refl, ap, ◌∙◌, arith}
 use Rattle.std.proofs.lemmas.List.{get_or-replicate}
-use Rattle.cob_codec.specs.Packed.{IsPacked}
-use Rattle.cob_lanes.specs.Readers.{IsReaderOf}
 use Rattle.cob_lanes.proofs.HalfLemmas.{lane_from}
-use Rattle.cob_lanes.proofs.PackedReading.{reads_packed}
+use Rattle.cob_lanes.proofs.PackedReading.{packed_reader}
 use Rattle.cob_lanes.proofs.reader.LaneReader.packed.Goals as goal
 
 pub returns : goal.returns
@@ -11,8 +9,7 @@ returns c =
     let s = c.args.shape.now in
     let n : ℕ = c.from-count.result in
     let e : n ≡ s.digits = c.from-count.ensures in
-    subst (λ k. IsReaderOf (IsPacked k s.signed) (k / 2 + 1) c.args.wanted.digits c.args.wanted.shift _) e
-    (reads_packed n s.signed c.args.wanted.digits c.args.wanted.shift _ (record {
+    packed_reader n s.digits s.signed c.args.wanted.digits c.args.wanted.shift _ e (record {
       some = omega (arith, e, s.some);
       most = omega (arith, e, c.requires);
       room = c.args.wanted.most;
@@ -24,4 +21,4 @@ returns c =
       sign_is = refl;
       signed_is = refl;
       place_is = refl;
-    }))
+    })

@@ -1,9 +1,7 @@
-use Rattle.std.proofs.Common.{◌≡◌, ◌-◌, ◌+◌, ◌*◌, ℕ, get_or, subst, refl, ap, ◌∙◌, arith}
+use Rattle.std.proofs.Common.{◌≡◌, ◌-◌, ◌+◌, ◌*◌, ℕ, get_or, refl, ap, ◌∙◌, arith}
 use Rattle.std.proofs.lemmas.List.{get_or-replicate}
-use Rattle.cob_codec.specs.Zoned.{IsZoned}
-use Rattle.cob_lanes.specs.Readers.{IsReaderOf}
 use Rattle.cob_lanes.proofs.HalfLemmas.{lane_from}
-use Rattle.cob_lanes.proofs.ZonedReading.{reads_zoned}
+use Rattle.cob_lanes.proofs.ZonedReading.{zoned_reader}
 use Rattle.cob_lanes.proofs.reader.LaneReader.zoned.Goals as goal
 
 pub returns : goal.returns
@@ -11,8 +9,7 @@ returns c =
     let s = c.args.shape.now in
     let n : ℕ = c.from-count.result in
     let e : n ≡ s.digits = c.from-count.ensures in
-    subst (λ k. IsReaderOf (IsZoned k s.signed s.leading) k c.args.wanted.digits c.args.wanted.shift _) e
-    (reads_zoned n s.signed s.leading c.args.wanted.digits c.args.wanted.shift _ (record {
+    zoned_reader n s.digits s.signed s.leading c.args.wanted.digits c.args.wanted.shift _ e (record {
       some = omega (arith, e, s.some);
       most = omega (arith, e, c.requires);
       room = c.args.wanted.most;
@@ -25,4 +22,4 @@ returns c =
       sign_is = refl;
       signed_is = refl;
       place_is = ap (λ p. 16 - n + p) c.sign_place.ensures.place;
-    }))
+    })

@@ -1,10 +1,8 @@
-use Rattle.std.proofs.Common.{◌≡◌, ◌+◌, ◌/◌, ℕ, Bool, cond, eqb, subst, refl, ap, ◌∙◌, arith}
+use Rattle.std.proofs.Common.{◌≡◌, ◌+◌, ◌/◌, ℕ, Bool, cond, eqb, refl, ap, ◌∙◌, arith}
 use Rattle.std.proofs.lemmas.List.{get_or-replicate}
-use Rattle.cob_codec.specs.Packed.{packed_form}
 use Rattle.cob_codec.specs.Sign.{sign_code}
-use Rattle.cob_lanes.specs.Writers.{IsWriterOf}
 use Rattle.cob_lanes.proofs.HalfLemmas.{lane_from}
-use Rattle.cob_lanes.proofs.Writing.{two_bases, writes_packed}
+use Rattle.cob_lanes.proofs.Writing.{two_bases, packed_writer}
 use Rattle.cob_lanes.proofs.writer.LaneWriter.packed.Goals as goal
 
 pub returns : goal.returns
@@ -12,12 +10,11 @@ returns c =
     let s = c.args.shape.now in
     let n : ℕ = c.from-count.result in
     let e : n ≡ s.digits = c.from-count.ensures in
-    subst (λ k. IsWriterOf (packed_form s.signed) k (k / 2 + 1) _) e
-    (writes_packed n s.signed _ (record {
+    packed_writer n s.digits s.signed _ e (record {
       room = omega (arith, e, c.requires);
       high = c.digit_picks.ensures;
       low = c.digit_picks-2.ensures;
       base = two_bases _ (λ minus i. cond (eqb i (n / 2)) (sign_code s.signed minus) 0)
           (λ i lt. c.with_lane.ensures i lt ∙ lane_from i _ _ _ _ _ _ refl c.sign_code.ensures (get_or-replicate 16 i 0 0 lt))
           (λ i lt. c.with_lane-2.ensures i lt ∙ lane_from i _ _ _ _ _ _ refl c.sign_code-2.ensures (get_or-replicate 16 i 0 0 lt));
-    }))
+    })

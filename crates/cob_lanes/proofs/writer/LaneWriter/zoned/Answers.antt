@@ -1,10 +1,8 @@
-use Rattle.std.proofs.Common.{◌≡◌, ◌*◌, ℕ, Bool, cond, eqb, subst, refl, ap, ◌∙◌, arith}
+use Rattle.std.proofs.Common.{◌≡◌, ◌*◌, ℕ, Bool, cond, eqb, refl, ap, ◌∙◌, arith}
 use Rattle.cob_codec.specs.Sign.{sign_code, sign_place}
-use Rattle.cob_codec.specs.Zoned.{zoned_form}
 use Rattle.cob_lanes.specs.Windows.{between}
-use Rattle.cob_lanes.specs.Writers.{IsWriterOf}
 use Rattle.cob_lanes.proofs.HalfLemmas.{lane_from}
-use Rattle.cob_lanes.proofs.Writing.{two_bases, writes_zoned}
+use Rattle.cob_lanes.proofs.Writing.{two_bases, zoned_writer}
 use Rattle.cob_lanes.proofs.writer.LaneWriter.zoned.Goals as goal
 
 pub returns : goal.returns
@@ -12,13 +10,12 @@ returns c =
     let s = c.args.shape.now in
     let n : ℕ = c.from-count.result in
     let e : n ≡ s.digits = c.from-count.ensures in
-    subst (λ k. IsWriterOf (zoned_form s.signed s.leading) k k _) e
-    (writes_zoned n s.signed s.leading _ (record {
+    zoned_writer n s.digits s.signed s.leading _ e (record {
       some = omega (arith, e, s.some);
       most = omega (arith, e, c.requires);
       high = c.digit_picks.ensures;
       low = c.digit_picks-2.ensures;
       base = two_bases _ (λ minus i. cond (eqb i (sign_place s.signed s.leading n)) (sign_code s.signed minus * 16) (between 0 n 240 0 i))
-          (λ i lt. c.with_lane.ensures i lt ∙ lane_from i _ _ _ _ _ _ c.sign_place.ensures.place (ap (λ k. k * 16) c.sign_code.ensures) (c.lanes_between-zones.ensures i lt))
-          (λ i lt. c.with_lane-2.ensures i lt ∙ lane_from i _ _ _ _ _ _ c.sign_place.ensures.place (ap (λ k. k * 16) c.sign_code-2.ensures) (c.lanes_between-zones.ensures i lt));
-    }))
+          (λ i lt. c.with_lane.ensures i lt ∙ lane_from i _ _ _ _ _ _ c.sign_place-place.ensures.place (ap (λ k. k * 16) c.sign_code.ensures) (c.lanes_between-zones.ensures i lt))
+          (λ i lt. c.with_lane-2.ensures i lt ∙ lane_from i _ _ _ _ _ _ c.sign_place-place.ensures.place (ap (λ k. k * 16) c.sign_code-2.ensures) (c.lanes_between-zones.ensures i lt));
+    })
