@@ -40,7 +40,7 @@ number_shows i e = go i.picture.category i.blank e
     go Alphanumeric blank e = e
     go AlphanumericEdited blank e = e
 
-pub number_item : (i : Item) → IsNumberItem i → is_number i ≡ true
+number_item : (i : Item) → IsNumberItem i → is_number i ≡ true
 number_item i n = ap (λ b. b && not i.blank) n.numeric ∙ ap (λ b. true && not b) n.plain
 
 -- what is written of a number is what the receiver holds of it
@@ -81,18 +81,18 @@ moved s r step reading bytes minus zero_is kept made new n is within size read z
     let v : Amount = record { negative = a.negative; digits = a.digits; scale = scale s.picture.positions } in
     let gives : IsNumberIn reading s item v = record { represents = a.represented; point = refl } in
     let h : HoldsAligned r v new = holds s r step reading item minus zero_is kept made new n is size a zero text front in
-    match_true (shows_number r.picture.category) (GetsNumber (Entry (ItemKind s) item reading) r (Some new)) (GetsCharacters (Entry (ItemKind s) item reading) (ItemKind r) n (Some new)) (number_shows r is.receives)
-    (v, match_true (is_number s) (IsNumberIn reading s item v) (GivesUnder s.picture.category s item v) is.sends gives,
-     match_true (is_number r) (HoldsAligned r v new) (IsEdited r.picture r.blank v.negative v.digits v.scale new) is.receives h)
+    match_true (shows_number r.picture.category) (GetsNumber (Entry (ItemKind s) item reading) r (Some new)) (GetsCharacters (Entry (ItemKind s) item reading) (ItemKind r) n (Some new)) (number_shows r (number_item r is.receives))
+    (v, match_true (is_number s) (IsNumberIn reading s item v) (GivesUnder s.picture.category s item v) (number_item s is.sends) gives,
+     match_true (is_number r) (HoldsAligned r v new) (IsEdited r.picture r.blank v.negative v.digits v.scale new) (number_item r is.receives) h)
 
 pub not_moved : (s r : Item) (step : NumberStep) (reading : Reading) (bytes : List ℕ) (minus : Bool) (kept new : List ℕ) (n : ℕ) → IsNumberStep s r step → item_size s ≤ length bytes
     → IsReadOf step.reader bytes false minus kept → Received (Entry (ItemKind s) (last_bytes (item_size s) bytes) reading) (ItemKind r) n (outcome false new)
 not_moved s r step reading bytes minus kept new n is within read =
     let item : List ℕ = last_bytes (item_size s) bytes in
     let same : last_bytes (item_size s) read.window ≡ item = read.same (item_size s) (is.reader reading).fits within in
-    match_true (shows_number r.picture.category) (GetsNumber (Entry (ItemKind s) item reading) r None) (GetsCharacters (Entry (ItemKind s) item reading) (ItemKind r) n None) (number_shows r is.receives)
+    match_true (shows_number r.picture.category) (GetsNumber (Entry (ItemKind s) item reading) r None) (GetsCharacters (Entry (ItemKind s) item reading) (ItemKind r) n None) (number_shows r (number_item r is.receives))
     (λ v gives.
-        let number : IsNumberIn reading s item v = from_match (is_number s) (IsNumberIn reading s item v) (GivesUnder s.picture.category s item v) is.sends gives in
+        let number : IsNumberIn reading s item v = from_match (is_number s) (IsNumberIn reading s item v) (GivesUnder s.picture.category s item v) (number_item s is.sends) gives in
         let there : IsSentBy reading s (last_bytes (item_size s) read.window) v.negative v.digits = subst (λ xs. IsSentBy reading s xs v.negative v.digits) (sym same) number.represents in
         let passed = (is.reader reading).passes read.window v.negative v.digits read.vector there in
         read.nothing refl passed.0 passed.1)

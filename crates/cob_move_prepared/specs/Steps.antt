@@ -7,7 +7,6 @@ use Rattle.cob_copybook_tree.specs.declared.form.Form.TheVariants as form
 use Rattle.cob_copybook_tree.specs.declared.node.Item.{Item}
 use Rattle.cob_copybook_tree.specs.Items.{form_of, IsNumberItem, IsSentBy, stored_form}
 use Rattle.cob_copybook_tree.specs.Lengths.{item_size}
-use Rattle.cob_copybook_tree.specs.Resolving.{is_number}
 use Rattle.cob_lanes.specs.Readers.{IsReaderOf}
 use Rattle.cob_lanes.specs.Writers.{IsWriterOf}
 use Rattle.cob_lanes.specs.declared.reader.LaneReader.{LaneReader}
@@ -36,8 +35,7 @@ received_form i minus ds = stored_form i (signed i.picture.positions && minus) d
 -- The reader reads an item, however it is sent, and keeps the digits that another item has places for.
 abbrev pub IsReaderFor : Item → Item → LaneReader → Type 0
 IsReaderFor from to r =
-    (reading : Reading)
-    → IsReaderOf (IsSentBy reading from) (item_size from) (digits to.picture.positions) (scale to.picture.positions -ℤ scale from.picture.positions) r
+    (reading : Reading) → IsReaderOf (IsSentBy reading from) (item_size from) (digits to.picture.positions) (scale to.picture.positions -ℤ scale from.picture.positions) r
 
 -- The writer writes an item.
 abbrev pub IsWriterFor : Item → LaneWriter → Type 0
@@ -45,7 +43,7 @@ IsWriterFor to w = IsWriterOf (received_form to) (digits to.picture.positions) (
 
 -- The step moves the number of one item to another.
 pub record IsNumberStep (from to : Item) (step : NumberStep) : Type 0 where
-  pub sends : is_number from ≡ true
-  pub receives : is_number to ≡ true
+  pub sends : IsNumberItem from
+  pub receives : IsNumberItem to
   pub reader : IsReaderFor from to step.reader
   pub writer : IsWriterFor to step.writer

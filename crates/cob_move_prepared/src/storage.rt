@@ -1,14 +1,18 @@
-//! The kinds of storage that lanes read and write.
+//! Items whose numbers lanes hold.
 
-ghost use Rattle.std.specs.Prelude.{◌≡◌, ◌<◌, IfSome, IfNone};
+ghost use Rattle.std.specs.Prelude.{◌≡◌, ◌≢◌, ◌<◌, ◌≤◌, IsTrue, IsFalse};
+ghost use Rattle.std.specs.Bool.{OnTrue};
 ghost use Rattle.cob_picture.specs.Counts.{digits, signed};
 ghost use Rattle.cob_copybook_tree.specs.Items.{form_of, is_leading, is_separate, size_as, IsNumberItem};
-ghost use Rattle.cob_copybook_tree.specs.declared.form.Form.TheVariants.{Binary};
 ghost use Rattle.cob_copybook_tree.specs.Lengths.{item_size};
-ghost use Rattle.cob_move_prepared.specs.Steps.{form_by_lanes};
+ghost use Rattle.cob_copybook_tree.specs.declared.form.Form.TheVariants.{Binary};
+ghost use Rattle.cob_move_prepared.specs.Steps.{form_by_lanes, IsLaneItem};
 
 use cob_codec::Shape;
-use cob_copybook_tree::{Item, Sign, Usage};
+use cob_copybook_tree::{Item, Sign, Usage, is_number_item};
+
+/// How many half bytes and bytes sixteen lanes hold.
+const LANES: u8 = 16;
 
 /// A kind of storage that lanes read and write.
 #[derive(Clone, Copy)]
@@ -22,27 +26,55 @@ pub(crate) enum LaneStorage {
 fn has_own_byte(sign: Option<Sign>) -> bool
     ensures { result ≡ is_separate sign }
 {
-    matches!(sign, Some(sign) if sign.separate)
+    match sign {
+        Some(sign) => sign.separate,
+        None => false,
+    }
 }
 
 /// Whether the sign stands at the first digit.
 fn leads(sign: Option<Sign>) -> bool
     ensures { result ≡ is_leading sign }
 {
-    matches!(sign, Some(sign) if sign.leading)
+    match sign {
+        Some(sign) => sign.leading,
+        None => false,
+    }
 }
 
-/// The kind of storage of an item, unless it is binary.
-pub(crate) fn lane_storage(item: &Item) -> Option<LaneStorage>
-    ensures storage { IfSome result (λ storage. form_of item.now ≡ form_by_lanes storage) }
-    ensures binary { IfNone result (form_of item.now ≡ Binary) }
+/// Whether an item is binary.
+fn is_binary(item: &Item) -> bool
+    ensures yes { IsTrue result → form_of item.now ≡ Binary }
+    ensures no { IsFalse result → form_of item.now ≢ Binary }
+{
+    matches!(item.usage, Usage::Binary)
+}
+
+/// The kind of storage of an item.
+pub(crate) fn lane_storage(item: &Item) -> LaneStorage
+    requires { form_of item.now ≢ Binary }
+    ensures { form_of item.now ≡ form_by_lanes result }
 {
     match item.usage {
-        Usage::Display if has_own_byte(item.sign) => Some(LaneStorage::Separate),
-        Usage::Display => Some(LaneStorage::Zoned),
-        Usage::Packed => Some(LaneStorage::Packed),
-        Usage::Binary => None,
+        Usage::Display if has_own_byte(item.sign) => LaneStorage::Separate,
+        Usage::Display => LaneStorage::Zoned,
+        // No binary item is asked for.
+        Usage::Packed | Usage::Binary => LaneStorage::Packed,
     }
+}
+
+/// Whether an item is a number whose digits and bytes lanes hold.
+pub(crate) fn is_lane_item(item: &Item) -> bool
+    ensures yes { OnTrue result (IsLaneItem item.now) }
+    ensures must { IsLaneItem item.now → IsTrue result }
+{
+    if !is_number_item(item) {
+        return false;
+    }
+    if is_binary(item) {
+        return false;
+    }
+    item.picture.digits() <= LANES && item.size() <= u16::from(LANES)
 }
 
 /// How the number of an item lies in its bytes.
