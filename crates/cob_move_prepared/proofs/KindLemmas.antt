@@ -1,5 +1,5 @@
 -- From kinds of storage to items.
-use Rattle.std.proofs.Common.{◌≡◌, ◌≢◌, ◌≤◌, Option, arith, ℕ, ◌+◌, ◌/◌, ◌&&◌, ◌-ℤ◌, ℤ, Bool, true, false, List, refl, sym, ap, subst, ◌∙◌}
+use Rattle.std.proofs.Common.{◌≡◌, ◌≤◌, arith, ℕ, ◌+◌, ◌/◌, ◌&&◌, ◌-ℤ◌, ℤ, Bool, true, false, List, refl, sym, ap, subst, ◌∙◌}
 use Rattle.cob_picture.specs.Counts.{digits, scale, signed}
 use Rattle.cob_picture.specs.Positions.{PlainPicture}
 use Rattle.cob_codec.specs.Zoned.{IsZoned, zoned_form}
@@ -7,13 +7,10 @@ use Rattle.cob_codec.specs.Separate.{IsSignedSeparately, separate_form}
 use Rattle.cob_codec.specs.Packed.{IsPacked, packed_form}
 use Rattle.cob_codec.specs.declared.reading.Reading.{Reading}
 use Rattle.cob_codec.specs.declared.reading.Reading.TheVariants.{Pictured, Whole}
-use Rattle.cob_entry.specs.declared.kinds.Usage.{Usage}
-use Rattle.cob_entry.specs.declared.kinds.Usage.TheVariants as u
-use Rattle.cob_entry.specs.declared.kinds.Sign.{Sign}
 use Rattle.cob_copybook_tree.specs.declared.form.Form.{Form}
 use Rattle.cob_copybook_tree.specs.declared.form.Form.TheVariants.{Zoned, Separate, Packed, Binary}
 use Rattle.cob_copybook_tree.specs.declared.node.Item.{Item}
-use Rattle.cob_copybook_tree.specs.Items.{IsSentBy, SentAs, TakesPicture, IsNumberItem, display_form, form_by, form_of, is_leading, is_separate, size_as, stored_form, written_as}
+use Rattle.cob_copybook_tree.specs.Items.{IsSentBy, SentAs, TakesPicture, IsNumberItem, form_of, is_leading, size_as, stored_form, written_as}
 use Rattle.cob_copybook_tree.specs.Lengths.{item_size}
 use Rattle.cob_lanes.specs.Readers.{IsReaderOf}
 use Rattle.cob_lanes.specs.Writers.{AreMade, IsWriterOf}
@@ -111,24 +108,6 @@ packed_writer i count sign w form size many has h =
     written i Packed count (count / 2 + 1) (packed_form sign) w form size refl many (λ minus ds. packed_same sign minus ds ∙ ap (λ b. packed_form b (b && minus) ds) has) h
 
 -- ---- what lanes hold
-
-not_packed : (usage : Usage) (sign : Option Sign) → form_by usage sign ≢ Binary → usage ≡ u.Binary → form_by usage sign ≡ Packed
-not_packed usage sign other is = absurd (other (ap (λ k. form_by k sign) is))
-
-pub packed_left : (i : Item) → form_of i ≢ Binary → i.usage ≡ u.Binary → form_of i ≡ Packed
-packed_left i other is = not_packed i.usage i.sign other is
-
-display_other : (b : Bool) → display_form b ≢ Binary
-display_other true e = absurd (cc)
-display_other false e = absurd (cc)
-
-pub not_binary : (i : Item) → i.usage ≢ u.Binary → form_of i ≢ Binary
-not_binary i other = go i.usage i.sign other
-  where
-    go : (usage : Usage) (sign : Option Sign) → usage ≢ u.Binary → form_by usage sign ≢ Binary
-    go u.Display sign ne e = display_other (is_separate sign) e
-    go u.Packed sign ne e = absurd (cc)
-    go u.Binary sign ne e = ne refl
 
 -- an item with a separate sign has fewer digits than bytes
 pub fewer_digits : (i : Item) (count : ℕ) → item_size i ≡ size_as (form_of i) count → form_of i ≡ Separate → item_size i ≤ 16 → count ≤ 15

@@ -1,30 +1,38 @@
 -- Single moves of numbers that are made ready.
-use Rattle.std.specs.Prelude.{◌≡◌, ◌≢◌, ◌≤◌, ◌-ℤ◌, Bool, true, ◌&&◌, List, ℕ}
+use Rattle.std.specs.Prelude.{◌≡◌, ◌≤◌, ◌-ℤ◌, Bool, true, false, ◌&&◌, List, ℕ}
 use Rattle.cob_picture.specs.Counts.{digits, scale, signed}
 use Rattle.cob_codec.specs.declared.reading.Reading.{Reading}
+use Rattle.cob_entry.specs.declared.kinds.Usage.{Usage}
+use Rattle.cob_entry.specs.declared.kinds.Usage.TheVariants.{Display, Binary, Packed}
 use Rattle.cob_copybook_tree.specs.declared.form.Form.{Form}
 use Rattle.cob_copybook_tree.specs.declared.form.Form.TheVariants as form
 use Rattle.cob_copybook_tree.specs.declared.node.Item.{Item}
-use Rattle.cob_copybook_tree.specs.Items.{form_of, IsNumberItem, IsSentBy, stored_form}
+use Rattle.cob_copybook_tree.specs.Items.{IsNumberItem, IsSentBy, stored_form}
 use Rattle.cob_copybook_tree.specs.Lengths.{item_size}
 use Rattle.cob_lanes.specs.Readers.{IsReaderOf}
 use Rattle.cob_lanes.specs.Writers.{IsWriterOf}
 use Rattle.cob_lanes.specs.declared.reader.LaneReader.{LaneReader}
 use Rattle.cob_lanes.specs.declared.writer.LaneWriter.{LaneWriter}
 use Rattle.cob_move_prepared.specs.declared.storage.LaneStorage.{LaneStorage}
-use Rattle.cob_move_prepared.specs.declared.storage.LaneStorage.TheVariants.{Zoned, Separate, Packed}
+use Rattle.cob_move_prepared.specs.declared.storage.LaneStorage.TheVariants as lane
 use Rattle.cob_move_prepared.specs.declared.step.NumberStep.{NumberStep}
 
 -- The kind of storage that is meant.
 abbrev pub form_by_lanes : LaneStorage → Form
-form_by_lanes Zoned = form.Zoned
-form_by_lanes Separate = form.Separate
-form_by_lanes Packed = form.Packed
+form_by_lanes lane.Zoned = form.Zoned
+form_by_lanes lane.Separate = form.Separate
+form_by_lanes lane.Packed = form.Packed
+
+-- The usage of numbers that are stored as such.
+abbrev pub is_binary : Usage → Bool
+is_binary Binary = true
+is_binary Display = false
+is_binary Packed = false
 
 -- The item is a number whose digits and whose bytes are at most sixteen, and it is not binary.
 pub record IsLaneItem (i : Item) : Type 0 where
   pub number : IsNumberItem i
-  pub halves : form_of i ≢ form.Binary
+  pub halves : is_binary i.usage ≡ false
   pub few : digits i.picture.positions ≤ 16
   pub fits : item_size i ≤ 16
 

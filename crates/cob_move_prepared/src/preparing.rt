@@ -2,10 +2,11 @@
 
 ghost use Rattle.std.specs.Prelude.{◌≡◌, ◌-ℤ◌, ◌≤◌, IfSome, IsSome};
 ghost use Rattle.cob_picture.specs.Counts.{digits, scale};
-ghost use Rattle.cob_move_prepared.specs.Steps.{IsLaneItem, IsNumberStep, IsReaderFor, IsWriterFor};
+ghost use Rattle.cob_copybook_tree.specs.Items.{form_of};
+ghost use Rattle.cob_move_prepared.specs.Steps.{form_by_lanes, IsLaneItem, IsNumberStep, IsReaderFor, IsWriterFor};
 
 use crate::step::NumberStep;
-use crate::storage::{LaneStorage, is_lane_item, lane_storage, number_shape};
+use crate::storage::{LaneStorage, lane_storage, number_shape};
 use cob_copybook_tree::Item;
 use cob_lanes::{LaneReader, LaneWriter, Wanted};
 
@@ -21,43 +22,33 @@ fn wanted_of(sender: &Item, receiver: &Item) -> Wanted
     Wanted { digits, shift }
 }
 
-/// What reads a sender's number.
-fn reader_for(sender: &Item, receiver: &Item) -> LaneReader
+/// What reads the number of a sender of this kind of storage.
+fn reader_for(sender: &Item, storage: LaneStorage, receiver: &Item) -> LaneReader
     requires sender { IsLaneItem sender.now }
+    requires form { form_of sender.now ≡ form_by_lanes storage }
     requires receiver { IsLaneItem receiver.now }
     ensures { IsReaderFor sender.now receiver.now result }
 {
     let wanted = wanted_of(sender, receiver);
     let shape = number_shape(sender);
-    match lane_storage(sender) {
+    match storage {
         LaneStorage::Zoned => LaneReader::zoned(&shape, wanted),
         LaneStorage::Separate => LaneReader::separate(&shape, wanted),
         LaneStorage::Packed => LaneReader::packed(&shape, wanted),
     }
 }
 
-/// What writes a receiver's number.
-fn writer_for(receiver: &Item) -> LaneWriter
-    requires { IsLaneItem receiver.now }
+/// What writes the number of a receiver of this kind of storage.
+fn writer_for(receiver: &Item, storage: LaneStorage) -> LaneWriter
+    requires receiver { IsLaneItem receiver.now }
+    requires form { form_of receiver.now ≡ form_by_lanes storage }
     ensures { IsWriterFor receiver.now result }
 {
     let shape = number_shape(receiver);
-    match lane_storage(receiver) {
+    match storage {
         LaneStorage::Zoned => LaneWriter::zoned(&shape),
         LaneStorage::Separate => LaneWriter::separate(&shape),
         LaneStorage::Packed => LaneWriter::packed(&shape),
-    }
-}
-
-/// The step of the move of one item to another that lanes hold.
-fn step_for(sender: &Item, receiver: &Item) -> NumberStep
-    requires sender { IsLaneItem sender.now }
-    requires receiver { IsLaneItem receiver.now }
-    ensures { IsNumberStep sender.now receiver.now result }
-{
-    NumberStep {
-        reader: reader_for(sender, receiver),
-        writer: writer_for(receiver),
     }
 }
 
@@ -68,12 +59,10 @@ impl NumberStep {
         ensures step { IfSome result (IsNumberStep sender.now receiver.now) }
         ensures must { IsLaneItem sender.now → IsLaneItem receiver.now → IsSome result }
     {
-        if !is_lane_item(sender) {
-            return None;
-        }
-        if !is_lane_item(receiver) {
-            return None;
-        }
-        Some(step_for(sender, receiver))
+        let sent = lane_storage(sender)?;
+        let received = lane_storage(receiver)?;
+        let reader = reader_for(sender, sent, receiver);
+        let writer = writer_for(receiver, received);
+        Some(NumberStep { reader, writer })
     }
 }

@@ -1,18 +1,13 @@
 //! Items whose numbers lanes hold.
 
-ghost use Rattle.std.specs.Prelude.{◌≡◌, ◌≢◌, ◌<◌, ◌≤◌, IsTrue, IsFalse};
-ghost use Rattle.std.specs.Bool.{OnTrue};
+ghost use Rattle.std.specs.Prelude.{◌≡◌, ◌<◌, ◌≤◌, ◌↔◌, IsTrue, IsSome, IfSome};
 ghost use Rattle.cob_picture.specs.Counts.{digits, signed};
 ghost use Rattle.cob_copybook_tree.specs.Items.{form_of, is_leading, is_separate, size_as, IsNumberItem};
 ghost use Rattle.cob_copybook_tree.specs.Lengths.{item_size};
-ghost use Rattle.cob_copybook_tree.specs.declared.form.Form.TheVariants.{Binary};
 ghost use Rattle.cob_move_prepared.specs.Steps.{form_by_lanes, IsLaneItem};
 
 use cob_codec::Shape;
 use cob_copybook_tree::{Item, Sign, Usage, is_number_item};
-
-/// How many half bytes and bytes sixteen lanes hold.
-const LANES: u8 = 16;
 
 /// A kind of storage that lanes read and write.
 #[derive(Clone, Copy)]
@@ -42,39 +37,37 @@ fn leads(sign: Option<Sign>) -> bool
     }
 }
 
-/// Whether an item is binary.
-fn is_binary(item: &Item) -> bool
-    ensures yes { IsTrue result → form_of item.now ≡ Binary }
-    ensures no { IsFalse result → form_of item.now ≢ Binary }
+/// Whether sixteen lanes hold the digits of an item, and its bytes.
+fn fits_lanes(item: &Item) -> bool
+    ensures { IsTrue result
+        ↔ ((digits item.now.picture.positions ≤ 16) × (item_size item.now ≤ 16)) }
 {
-    matches!(item.usage, Usage::Binary)
+    item.picture.digits() <= 16 && item.size() <= 16
 }
 
-/// The kind of storage of an item.
-pub(crate) fn lane_storage(item: &Item) -> LaneStorage
-    requires { form_of item.now ≢ Binary }
-    ensures { form_of item.now ≡ form_by_lanes result }
-{
-    match item.usage {
-        Usage::Display if has_own_byte(item.sign) => LaneStorage::Separate,
-        Usage::Display => LaneStorage::Zoned,
-        // No binary item is asked for.
-        Usage::Packed | Usage::Binary => LaneStorage::Packed,
-    }
-}
-
-/// Whether an item is a number whose digits and bytes lanes hold.
-pub(crate) fn is_lane_item(item: &Item) -> bool
-    ensures yes { OnTrue result (IsLaneItem item.now) }
-    ensures must { IsLaneItem item.now → IsTrue result }
+/// The kind of storage of an item whose number lanes hold, if they do.
+pub(crate) fn lane_storage(item: &Item) -> Option<LaneStorage>
+    ensures item { IfSome result (λ storage. IsLaneItem item.now) }
+    ensures form { IfSome result (λ storage. form_of item.now ≡ form_by_lanes storage) }
+    ensures must { IsLaneItem item.now → IsSome result }
 {
     if !is_number_item(item) {
-        return false;
+        return None;
     }
-    if is_binary(item) {
-        return false;
+    if !fits_lanes(item) {
+        return None;
     }
-    item.picture.digits() <= LANES && item.size() <= u16::from(LANES)
+    match item.usage {
+        Usage::Display => {
+            if has_own_byte(item.sign) {
+                Some(LaneStorage::Separate)
+            } else {
+                Some(LaneStorage::Zoned)
+            }
+        }
+        Usage::Packed => Some(LaneStorage::Packed),
+        Usage::Binary => None,
+    }
 }
 
 /// How the number of an item lies in its bytes.
