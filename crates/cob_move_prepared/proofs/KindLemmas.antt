@@ -1,5 +1,5 @@
 -- From kinds of storage to items.
-use Rattle.std.proofs.Common.{◌≡◌, ◌≤◌, arith, ℕ, ◌+◌, ◌/◌, ◌&&◌, ◌-ℤ◌, ℤ, Bool, true, false, List, refl, sym, ap, subst, ◌∙◌}
+use Rattle.std.proofs.Common.{◌≡◌, ◌≤◌, arith, ℕ, ◌+◌, ◌/◌, ◌&&◌, ◌-ℤ◌, ℤ, Bool, true, false, List, take, refl, sym, ap, subst, ◌∙◌}
 use Rattle.cob_picture.specs.Counts.{digits, scale, signed}
 use Rattle.cob_picture.specs.Positions.{PlainPicture}
 use Rattle.cob_codec.specs.Zoned.{IsZoned, zoned_form}
@@ -76,8 +76,8 @@ written i f count n form w is size many digits_are same h =
       room = h.room;
       fits = h.fits;
       writes = λ minus ds bytes long tens made.
-          h.writes minus ds bytes long tens made ∙ same minus _
-          ∙ ap (λ g. written_as g (is_leading i.sign) i.picture (signed i.picture.positions && minus) _) (sym is);
+          h.writes minus ds bytes long tens made ∙ same minus (take count ds)
+          ∙ ap (λ g. written_as g (is_leading i.sign) i.picture (signed i.picture.positions && minus) (take count ds)) (sym is);
     } in
     subst (λ m. IsWriterOf (received_form i) m (item_size i) w) digits_are (subst (λ m. IsWriterOf (received_form i) count m w) e a)
 
