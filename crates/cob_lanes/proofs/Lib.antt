@@ -1,6 +1,7 @@
 pub mod LaneLemmas
 pub mod HalfLemmas
 pub mod WindowLemmas
+pub mod EndLemmas
 pub mod ZonedReading
 pub mod SeparateReading
 pub mod PackedReading

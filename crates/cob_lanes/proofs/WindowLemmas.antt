@@ -72,7 +72,7 @@ read_last r bytes digits is_number minus many bounds number nothing taken =
 
 -- ---- bytes put behind zeros
 
-nothing_more : (xs : List ℕ) → xs ++ [] ≡ xs
+pub nothing_more : (xs : List ℕ) → xs ++ [] ≡ xs
 nothing_more [] = refl
 nothing_more (x ∷ xs) = ap (λ ys. x ∷ ys) (nothing_more xs)
 

@@ -1,6 +1,6 @@
 //! Digits in lanes, written as numbers of items.
 
-ghost use Rattle.std.specs.Prelude.{◌≡◌, ◌≤◌, ◌<◌, ◌+◌, ℕ, List, Bool, if◌then◌else◌, length, take};
+ghost use Rattle.std.specs.Prelude.{◌≡◌, ◌≤◌, ◌<◌, ◌+◌, ◌*◌, ℕ, List, Bool, if◌then◌else◌, length, take};
 ghost use Rattle.cob_lanes.specs.Writers.{AreMade};
 
 use crate::lanes::{Picks, picked, raised, sums};
@@ -31,6 +31,19 @@ fn chosen(is_first: bool, first: [u8; 16], second: [u8; 16]) -> u8x16
     }
 }
 
+/// Writes the first bytes that there is room for: so many, and the last so many again, since a copy of a known length costs no call.
+#[inline(always)]
+fn put_ends<const N: usize>(bytes: &[u8; 16], out: &mut [u8])
+    requires least { N ≤ length out.old }
+    requires most { length out.old ≤ 2 * N }
+    requires room { length out.old ≤ 16 }
+    ensures { out.new ≡ take (length out.old) bytes.now }
+{
+    let count = out.len();
+    out[..N].copy_from_slice(&bytes[..N]);
+    out[count - N..].copy_from_slice(&bytes[count - N..count]);
+}
+
 /// Writes the first of sixteen bytes, as many as there are to be written.
 #[inline(always)]
 fn put_front(bytes: &[u8; 16], out: &mut [u8])
@@ -38,7 +51,15 @@ fn put_front(bytes: &[u8; 16], out: &mut [u8])
     ensures { out.new ≡ take (length out.old) bytes.now }
 {
     let count = out.len();
-    out.copy_from_slice(&bytes[..count]);
+    if count >= 8 {
+        put_ends::<8>(bytes, out);
+    } else if count >= 4 {
+        put_ends::<4>(bytes, out);
+    } else if count >= 2 {
+        put_ends::<2>(bytes, out);
+    } else {
+        out.copy_from_slice(&bytes[..count]);
+    }
 }
 
 impl LaneWriter {

@@ -3,6 +3,7 @@
 ghost use Rattle.std.specs.Prelude.{◌<◌};
 
 /// Draws of a linear congruential generator.
+#[derive(Drop)]
 pub struct Draws {
     state: u64,
 }

@@ -21,12 +21,13 @@ use std::alloc::{AllocError, Global};
 use std::io;
 
 /// How often a move is tried between items of the same kinds and numbers of digits.
-const TRIES: u32 = 3;
+const TRIES: u32 = 2;
 
 /// What stands in a receiver's bytes before the move.
 const UNWRITTEN: u8 = 0xAA;
 
 /// What came of the moves between two kinds of items.
+#[derive(Drop)]
 struct Tally {
     moved: u32,
     no_number: u32,

@@ -8,6 +8,7 @@ use cob_entry::Usage;
 use std::alloc::{AllocError, Global};
 
 /// The digits of an item and the code of its sign.
+#[derive(Clone, Copy)]
 struct Drawn {
     digits: [u8; 16],
     count: usize,
