@@ -7,7 +7,7 @@ use Rattle.std.proofs.lemmas.Slice.{take-put_mid, drop-put_mid}
 use borrow.Rule.Slice.PartMut.{put_mid}
 use Rattle.cob_lanes.specs.Lanes.{IsVector}
 use Rattle.cob_lanes.specs.Windows.{last_bytes, padded_window}
-use Rattle.cob_lanes.specs.Readers.{AreTaken, IsReadOf, Passes}
+use Rattle.cob_lanes.specs.Readers.{AreTaken, IsLanesRead, Passes}
 use Rattle.cob_lanes.specs.declared.reader.LaneReader.{LaneReader}
 
 small_of : (x : ℕ) → Fits w8 x → x < 256
@@ -42,7 +42,7 @@ padded_vector bytes few bounds = record { long = padded_length bytes few; small 
 
 -- what was read of bytes behind zeros
 pub read_padded : (r : LaneReader) (bytes window digits : List ℕ) (is_number minus : Bool) → length bytes < 16 → ((i : ℕ) → Fits w8 (get_or bytes i 0)) → window ≡ padded_window bytes
-    → (is_number ≡ true → Passes r window minus) → (is_number ≡ false → (m : Bool) → Passes r window m → ⊥) → AreTaken r window digits → IsReadOf r bytes is_number minus digits
+    → (is_number ≡ true → Passes r window minus) → (is_number ≡ false → (m : Bool) → Passes r window m → ⊥) → AreTaken r window digits → IsLanesRead r bytes is_number minus digits
 read_padded r bytes window digits is_number minus few bounds is number nothing taken = record {
   window = window;
   vector = rw is (padded_vector bytes few bounds);
@@ -55,7 +55,7 @@ read_padded r bytes window digits is_number minus few bounds is number nothing t
 -- what was read of the last sixteen bytes
 pub read_last : (r : LaneReader) (bytes digits : List ℕ) (is_number minus : Bool) → 16 ≤ length bytes → ((i : ℕ) → Fits w8 (get_or bytes i 0))
     → (is_number ≡ true → Passes r (drop (length bytes - 16) bytes) minus) → (is_number ≡ false → (m : Bool) → Passes r (drop (length bytes - 16) bytes) m → ⊥)
-    → AreTaken r (drop (length bytes - 16) bytes) digits → IsReadOf r bytes is_number minus digits
+    → AreTaken r (drop (length bytes - 16) bytes) digits → IsLanesRead r bytes is_number minus digits
 read_last r bytes digits is_number minus many bounds number nothing taken =
     let n : ℕ = length bytes - 16 in
     let long : length (drop n bytes) ≡ 16 = omega (arith, length-drop n bytes) in

@@ -54,7 +54,7 @@ pub record IsReaderOf (represents : List ℕ → Bool → List ℕ → Type 0) (
       → (minus : Bool) × Passes r v minus
 
 -- What was read of the item at the end of bytes: of a window that ends with the same bytes, whether it passes, and the lanes that were taken.
-pub record IsReadOf (r : LaneReader) (bytes : List ℕ) (is_number minus : Bool) (digits : List ℕ) : Type 0 where
+pub record IsLanesRead (r : LaneReader) (bytes : List ℕ) (is_number minus : Bool) (digits : List ℕ) : Type 0 where
   pub window : List ℕ
   pub vector : IsVector window
   pub same : (size : ℕ) → size ≤ 16 → size ≤ length bytes → last_bytes size window ≡ last_bytes size bytes

@@ -1,7 +1,7 @@
 //! Numbers of items, read as digits in lanes.
 
 ghost use Rattle.std.specs.Prelude.{◌≡◌, ◌<◌, Bool, true, false, length};
-ghost use Rattle.cob_lanes.specs.Readers.{AreTaken, IsReadOf, Passes};
+ghost use Rattle.cob_lanes.specs.Readers.{AreTaken, IsLanesRead, Passes};
 ghost use Rattle.cob_lanes.specs.Windows.{padded_window};
 
 use crate::lanes::take_halves;
@@ -34,7 +34,7 @@ impl LaneReader {
     /// The number of the item at the end of bytes, and of as many before it as there are.
     #[inline(always)]
     pub fn read(&self, bytes: &[u8]) -> LanesRead
-        ensures { IsReadOf self.now bytes.now result.is_number result.minus result.digits }
+        ensures { IsLanesRead self.now bytes.now result.is_number result.minus result.digits }
     {
         if bytes.len() < 16 {
             return self.read_few(bytes);
@@ -45,7 +45,7 @@ impl LaneReader {
     /// The number of the item at the end of fewer than sixteen bytes.
     fn read_few(&self, bytes: &[u8]) -> LanesRead
         requires { length bytes.now < 16 }
-        ensures { IsReadOf self.now bytes.now result.is_number result.minus result.digits }
+        ensures { IsLanesRead self.now bytes.now result.is_number result.minus result.digits }
     {
         self.read_window(&padded_window(bytes))
     }

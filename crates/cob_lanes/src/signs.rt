@@ -2,7 +2,7 @@
 
 ghost use Rattle.std.specs.Prelude.{◌≡◌};
 ghost use Rattle.cob_codec.specs.Sign.{sign_meaning};
-ghost use Rattle.cob_lanes.specs.Readers.{byte_meaning, own_meaning};
+ghost use Rattle.cob_lanes.specs.Readers.{byte_meaning};
 
 /// Where in its byte a sign is.
 #[derive(Clone, Copy)]
@@ -27,18 +27,6 @@ fn code_meaning(signed: bool, code: u8) -> Option<bool>
     }
 }
 
-/// Whether a sign's own byte is a minus, if it is a sign.
-#[inline(always)]
-fn own_meaning(byte: u8) -> Option<bool>
-    ensures { result ≡ own_meaning byte }
-{
-    match byte {
-        0x4E => Some(false),
-        0x60 => Some(true),
-        _ => None,
-    }
-}
-
 /// Whether the byte of a sign is a minus, if it is a sign.
 #[inline(always)]
 pub(crate) fn byte_meaning(sign: SignByte, signed: bool, byte: u8) -> Option<bool>
@@ -47,6 +35,10 @@ pub(crate) fn byte_meaning(sign: SignByte, signed: bool, byte: u8) -> Option<boo
     match sign {
         SignByte::Zone => code_meaning(signed, byte / 16),
         SignByte::LowHalf => code_meaning(signed, byte % 16),
-        SignByte::Own => own_meaning(byte),
+        SignByte::Own => match byte {
+            0x4E => Some(false),
+            0x60 => Some(true),
+            _ => None,
+        },
     }
 }

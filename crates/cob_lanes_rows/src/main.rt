@@ -103,7 +103,12 @@ fn try_move(
     let record = drawn_record(alloc, from, sent as usize, draws)?;
     if let (Some(sender), Some(receiver)) = (&sender, &receiver) {
         if let Some(step) = NumberStep::prepare(sender, receiver) {
-            tally_move(&step, record.as_slice(), usize::from(receiver.size()), tally);
+            tally_move(
+                &step,
+                record.as_slice(),
+                usize::from(receiver.size()),
+                tally,
+            );
             return Ok(());
         }
     }
@@ -142,7 +147,10 @@ fn main(rt: HostRuntime) -> io::Result<()> {
             let tally = try_kinds(rt.alloc(), from, to, &mut draws)?;
             let (moved, no_number) = (tally.moved, tally.no_number);
             let (no_step, sum) = (tally.no_step, tally.sum);
-            println!(rt; "{} to {}: {moved} moved, {no_number} no number, {no_step} no step, sum {sum}", from.name, to.name)?;
+            println!(rt;
+                "{} to {}: {moved} moved, {no_number} no number, {no_step} no step, sum {sum}",
+                from.name, to.name
+            )?;
         }
     }
     Ok(())

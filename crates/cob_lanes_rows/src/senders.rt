@@ -60,7 +60,11 @@ fn drawn_sign_byte(draws: &mut Draws) -> u8 {
 
 /// Adds the bytes of a zoned item.
 fn push_zoned(bytes: &mut Vec<u8>, drawn: &Drawn, leads: bool) -> Result<(), AllocError> {
-    let place = if leads { 0 } else { drawn.count.saturating_sub(1) };
+    let place = if leads {
+        0
+    } else {
+        drawn.count.saturating_sub(1)
+    };
     for k in 0..drawn.count {
         let zone = if k == place { drawn.code } else { 0xF };
         bytes.push(zone.wrapping_mul(16) | drawn.digits[k])?;

@@ -93,14 +93,14 @@ pub zoned_writer : (i : Item) (count : ℕ) (sign leading : Bool) (w : LaneWrite
     → IsWriterOf (zoned_form sign leading) count count w → IsWriterFor i w
 zoned_writer i count sign leading w form size many has lead h =
     written i Zoned count count (zoned_form sign leading) w form size refl many (λ minus ds.
-        zoned_same sign leading minus ds ∙ ap (λ b. zoned_form b leading (b && minus) ds) has ∙ ap (λ b. zoned_form (signed i.picture.positions) b (signed i.picture.positions && minus) ds) lead) h
+    zoned_same sign leading minus ds ∙ ap (λ b. zoned_form b leading (b && minus) ds) has ∙ ap (λ b. zoned_form (signed i.picture.positions) b (signed i.picture.positions && minus) ds) lead) h
 
 pub separate_writer : (i : Item) (count : ℕ) (leading : Bool) (w : LaneWriter) → form_of i ≡ Separate → IsNumberItem i → item_size i ≡ size_as (form_of i) count → count ≡ digits i.picture.positions → leading ≡ is_leading i.sign
     → IsWriterOf (separate_form leading) count (count + 1) w → IsWriterFor i w
 separate_writer i count leading w form number size many lead h =
     let has : signed i.picture.positions ≡ true = subst (λ f. TakesPicture f i.picture) form number.taken in
     written i Separate count (count + 1) (separate_form leading) w form size refl many (λ minus ds.
-        ap (λ b. separate_form b minus ds) lead ∙ sym (ap (λ b. separate_form (is_leading i.sign) (b && minus) ds) has)) h
+    ap (λ b. separate_form b minus ds) lead ∙ sym (ap (λ b. separate_form (is_leading i.sign) (b && minus) ds) has)) h
 
 pub packed_writer : (i : Item) (count : ℕ) (sign : Bool) (w : LaneWriter) → form_of i ≡ Packed → item_size i ≡ size_as (form_of i) count → count ≡ digits i.picture.positions → sign ≡ signed i.picture.positions
     → IsWriterOf (packed_form sign) count (count / 2 + 1) w → IsWriterFor i w

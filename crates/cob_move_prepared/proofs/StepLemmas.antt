@@ -14,7 +14,7 @@ use Rattle.cob_copybook_tree.specs.Lengths.{item_size}
 use Rattle.cob_edit.specs.Pictured.{IsEdited}
 use Rattle.cob_lanes.specs.Lanes.{AreZero}
 use Rattle.cob_lanes.specs.Windows.{last_bytes}
-use Rattle.cob_lanes.specs.Readers.{AreRead, IsReadOf}
+use Rattle.cob_lanes.specs.Readers.{AreRead, IsLanesRead}
 use Rattle.cob_lanes.specs.Writers.{AreMade}
 use Rattle.cob_lanes.proofs.WantedLemmas.{wanted_aligned, wanted_valid, wanted_tens, wanted_zero, none_aligned, minus_is}
 use Rattle.cob_move_receive.specs.Sent.{Sent, Amount, Entry}
@@ -78,7 +78,7 @@ holds s r step reading item minus zero_is kept made new n is size a zero text fr
     }
 
 pub moved : (s r : Item) (step : NumberStep) (reading : Reading) (bytes : List ℕ) (told minus left zero_is : Bool) (kept made new : List ℕ) (n : ℕ) → IsNumberStep s r step → item_size s ≤ length bytes → n ≡ item_size r
-    → not told ≡ false → IsReadOf step.reader bytes told minus kept → IsTrue zero_is ↔ AreZero kept → left ≡ (minus && not zero_is) → AreMade step.writer left kept made → new ≡ take n made
+    → not told ≡ false → IsLanesRead step.reader bytes told minus kept → IsTrue zero_is ↔ AreZero kept → left ≡ (minus && not zero_is) → AreMade step.writer left kept made → new ≡ take n made
     → Received (Entry (ItemKind s) (last_bytes (item_size s) bytes) reading) (ItemKind r) n (outcome true new)
 moved s r step reading bytes told minus left zero_is kept made new n is within size number read zero left_is text front =
     let item : List ℕ = last_bytes (item_size s) bytes in
@@ -89,18 +89,20 @@ moved s r step reading bytes told minus left zero_is kept made new n is within s
     let v : Amount = record { negative = a.negative; digits = a.digits; scale = scale s.picture.positions } in
     let gives : IsNumberIn reading s item v = record { represents = a.represented; point = refl } in
     let h : HoldsAligned r v new = holds s r step reading item minus zero_is kept made new n is size a zero (subst (λ b. AreMade step.writer b kept made) left_is text) front in
-    match_true (shows_number r.picture.category) (GetsNumber (Entry (ItemKind s) item reading) r (Some new)) (GetsCharacters (Entry (ItemKind s) item reading) (ItemKind r) n (Some new)) (number_shows r (number_item r is.receives))
-    (v, match_true (is_number s) (IsNumberIn reading s item v) (GivesUnder s.picture.category s item v) (number_item s is.sends) gives,
-     match_true (is_number r) (HoldsAligned r v new) (IsEdited r.picture r.blank v.negative v.digits v.scale new) (number_item r is.receives) h)
+    match_true (shows_number r.picture.category) (GetsNumber (Entry (ItemKind s) item reading) r (Some new)) (GetsCharacters (Entry (ItemKind s) item reading) (ItemKind r) n (Some new)) (number_shows r (number_item r is.receives)) (
+      v,
+      match_true (is_number s) (IsNumberIn reading s item v) (GivesUnder s.picture.category s item v) (number_item s is.sends) gives,
+      match_true (is_number r) (HoldsAligned r v new) (IsEdited r.picture r.blank v.negative v.digits v.scale new) (number_item r is.receives) h,
+    )
 
 pub not_moved : (s r : Item) (step : NumberStep) (reading : Reading) (bytes : List ℕ) (told minus : Bool) (kept new : List ℕ) (n : ℕ) → IsNumberStep s r step → item_size s ≤ length bytes
-    → not told ≡ true → IsReadOf step.reader bytes told minus kept → Received (Entry (ItemKind s) (last_bytes (item_size s) bytes) reading) (ItemKind r) n (outcome false new)
+    → not told ≡ true → IsLanesRead step.reader bytes told minus kept → Received (Entry (ItemKind s) (last_bytes (item_size s) bytes) reading) (ItemKind r) n (outcome false new)
 not_moved s r step reading bytes told minus kept new n is within none read =
     let item : List ℕ = last_bytes (item_size s) bytes in
     let same : last_bytes (item_size s) read.window ≡ item = read.same (item_size s) (is.reader reading).fits within in
     match_true (shows_number r.picture.category) (GetsNumber (Entry (ItemKind s) item reading) r None) (GetsCharacters (Entry (ItemKind s) item reading) (ItemKind r) n None) (number_shows r (number_item r is.receives))
     (λ v gives.
-        let number : IsNumberIn reading s item v = from_match (is_number s) (IsNumberIn reading s item v) (GivesUnder s.picture.category s item v) (number_item s is.sends) gives in
-        let there : IsSentBy reading s (last_bytes (item_size s) read.window) v.negative v.digits = subst (λ xs. IsSentBy reading s xs v.negative v.digits) (sym same) number.represents in
-        let passed = (is.reader reading).passes read.window v.negative v.digits read.vector there in
-        read.nothing (not_true told none) passed.0 passed.1)
+    let number : IsNumberIn reading s item v = from_match (is_number s) (IsNumberIn reading s item v) (GivesUnder s.picture.category s item v) (number_item s is.sends) gives in
+    let there : IsSentBy reading s (last_bytes (item_size s) read.window) v.negative v.digits = subst (λ xs. IsSentBy reading s xs v.negative v.digits) (sym same) number.represents in
+    let passed = (is.reader reading).passes read.window v.negative v.digits read.vector there in
+    read.nothing (not_true told none) passed.0 passed.1)

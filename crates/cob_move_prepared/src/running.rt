@@ -1,14 +1,8 @@
 //! Steps carried out.
 
 ghost use Rattle.std.specs.Prelude.{◌≡◌, ◌≤◌, false, length};
-ghost use Rattle.cob_codec.specs.declared.reading.Reading.{Reading};
-ghost use Rattle.cob_copybook_tree.specs.Lengths.{item_size};
-ghost use Rattle.cob_copybook_tree.specs.declared.node.Item.{Item};
-ghost use Rattle.cob_copybook_tree.specs.declared.node.Kind.TheVariants.{Item as ItemKind};
-ghost use Rattle.cob_lanes.specs.Windows.{last_bytes};
-ghost use Rattle.cob_move_prepared.specs.Steps.{IsNumberStep};
-ghost use Rattle.cob_move_receive.specs.Received.{Received, outcome};
-ghost use Rattle.cob_move_receive.specs.Sent.{Entry};
+ghost use Rattle.cob_move_prepared.specs.Running.{IsCarriedOut};
+ghost use Rattle.cob_move_receive.specs.Received.{outcome};
 
 use crate::step::NumberStep;
 use cob_lanes::keeps_minus;
@@ -20,10 +14,7 @@ impl NumberStep {
     #[inline(always)]
     pub fn run(&self, from: &[u8], to: &mut [u8]) -> bool
         requires { length to.old ≤ 16 }
-        ensures gets { (s r : Item) (reading : Reading) → IsNumberStep s r self.now
-            → item_size s ≤ length from.now → length to.old ≡ item_size r
-            → Received (Entry (ItemKind s) (last_bytes (item_size s) from.now) reading)
-            (ItemKind r) (length to.old) (outcome result to.new) }
+        ensures gets { IsCarriedOut self.now from.now (length to.old) (outcome result to.new) }
         ensures same { result ≡ false → to.new ≡ to.old }
     {
         let read = self.reader.read(from);

@@ -21,20 +21,14 @@ pub(crate) enum LaneStorage {
 fn has_own_byte(sign: Option<Sign>) -> bool
     ensures { result ≡ is_separate sign }
 {
-    match sign {
-        Some(sign) => sign.separate,
-        None => false,
-    }
+    matches!(sign, Some(sign) if sign.separate)
 }
 
 /// Whether the sign stands at the first digit.
 fn leads(sign: Option<Sign>) -> bool
     ensures { result ≡ is_leading sign }
 {
-    match sign {
-        Some(sign) => sign.leading,
-        None => false,
-    }
+    matches!(sign, Some(sign) if sign.leading)
 }
 
 /// Whether sixteen lanes hold the digits of an item, and its bytes.

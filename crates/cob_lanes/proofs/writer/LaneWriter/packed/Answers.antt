@@ -10,7 +10,7 @@ pub returns : goal.returns
 returns c =
     let s = c.args.shape.now in
     let n : ℕ = c.from-count.result in
-    let w : LaneWriter = record { high = c.digit_picks.result; low = c.digit_picks-2.result; plus = c.with_lane.result; minus = c.with_lane-2.result; } in
+    let w : LaneWriter = record { high = c.digit_picks.result; low = c.digit_picks-2.result; plus = c.with_lane.result; minus = c.with_lane-2.result } in
     let e : n ≡ s.digits = c.from-count.ensures in
     packed_writer n s.digits s.signed w e (record {
       room = omega (arith, e, c.requires);

@@ -10,7 +10,7 @@ pub returns : goal.returns
 returns c =
     let s = c.args.shape.now in
     let n : ℕ = c.from-count.result in
-    let w : LaneWriter = record { high = c.digit_picks.result; low = c.digit_picks-2.result; plus = c.with_lane.result; minus = c.with_lane-2.result; } in
+    let w : LaneWriter = record { high = c.digit_picks.result; low = c.digit_picks-2.result; plus = c.with_lane.result; minus = c.with_lane-2.result } in
     let e : n ≡ s.digits = c.from-count.ensures in
     let f : c.first_byte-first.result ≡ first_byte s.leading = c.first_byte-first.ensures.byte in
     separate_writer n s.digits s.leading w e (record {

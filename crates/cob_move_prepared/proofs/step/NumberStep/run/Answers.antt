@@ -3,12 +3,12 @@ use Rattle.cob_move_prepared.proofs.StepLemmas.{moved, not_moved}
 use Rattle.cob_move_prepared.proofs.step.NumberStep.run.Goals as goal
 
 pub returns-then-not-read-clause-gets : goal.returns-then-not-read-clause-gets
-returns-then-not-read-clause-gets c = λ s r reading is within size.
+returns-then-not-read-clause-gets c = λ s r is within size reading.
     not_moved s r c.args.self.now reading c.args.from.now c.read-read.result.is_number c.read-read.result.minus c.read-read.result.digits c.args.to.now (length c.args.to.now)
     is within c.if-not-read.true c.read-read.ensures
 
 pub returns-clause-gets : goal.returns-clause-gets
-returns-clause-gets c = λ s r reading is within size.
+returns-clause-gets c = λ s r is within size reading.
     let left = c.keeps_minus-minus.ensures in
     let made = c.write.ensures.made in
     moved s r c.args.self.now reading c.args.from.now c.read-read.result.is_number c.read-read.result.minus c.keeps_minus-minus.result left.0 c.read-read.result.digits made.0 c.write.new.out (length c.args.to.now)
