@@ -140,7 +140,18 @@ fn push_item(
     }
 }
 
-/// The bytes of a record up to those of an item at its end, one byte of which may be any.
+/// Makes one of an item's bytes any, now and then.
+fn spoil(item: &mut [u8], draws: &mut Draws) {
+    if item.is_empty() || item.len() > 16 {
+        return;
+    }
+    if draws.below(8) == 0 {
+        let place = draws.below(item.len() as u32) as usize;
+        item[place] = draws.byte();
+    }
+}
+
+/// The bytes of a record up to those of an item at its end.
 pub fn drawn_record(
     alloc: Global,
     kind: &ItemKind,
@@ -153,15 +164,11 @@ pub fn drawn_record(
     for place in 0..draws.below(24) {
         bytes.push(draws.byte())?;
     }
-    let front = bytes.len();
-    push_item(&mut bytes, kind, count, draws)?;
-    if draws.below(8) == 0 {
-        let size = bytes.len().saturating_sub(front).max(1) as u32;
-        let place = front + draws.below(size) as usize;
-        let byte = draws.byte();
-        if place < bytes.len() {
-            bytes[place] = byte;
-        }
+    let mut item = Vec::new(alloc);
+    push_item(&mut item, kind, count, draws)?;
+    spoil(item.as_mut_slice(), draws);
+    for byte in item.as_slice() {
+        bytes.push(*byte)?;
     }
     Ok(bytes)
 }
