@@ -65,7 +65,9 @@ impl ItemKind {
     }
 
     /// The most digits of an item that sixteen lanes hold.
-    pub fn most_digits(&self) -> u32 {
+    pub fn most_digits(&self) -> u32
+        ensures { result ≤ 16 }
+    {
         if self.is_separate() { 15 } else { 16 }
     }
 }
