@@ -1,10 +1,10 @@
 -- Half bytes of windows, and the digits that stand in them.
-use Rattle.std.proofs.Common.{◌≡◌, ◌≢◌, ℕ, zero, suc, ◌+◌, ◌-◌, ◌*◌, ◌/◌, ◌%◌, ◌<◌, ◌≤◌, ◌↔◌, ◌&&◌, ℤ, pos, negsuc, ◌-ℤ◌, Bool, true, false, IsTrue, cond, ltb, leb, eqb, List, [], ◌∷◌, length, get_or, take, drop, refl, sym, ap, ◌∙◌, inl, inr, arith, ltb-true, ltb-false, lt-ltb, le-ltb, eq-eqb, ne_eqb, leb-true, leb-false, length-drop, get_or-drop, get_or-take}
+use Rattle.std.proofs.Common.{◌≡◌, ℕ, zero, suc, ◌+◌, ◌-◌, ◌*◌, ◌/◌, ◌%◌, ◌<◌, ◌≤◌, ◌↔◌, ◌&&◌, ℤ, pos, negsuc, ◌-ℤ◌, Bool, true, false, IsTrue, cond, ltb, leb, eqb, List, [], ◌∷◌, length, get_or, refl, sym, ap, ◌∙◌, inl, inr, arith, ltb-true, lt-ltb, le-ltb, eq-eqb, ne_eqb, leb-true, leb-false, length-drop, get_or-drop}
 use Rattle.std.proofs.lemmas.Bool.{cases_lt, cases_eq}
 use Rattle.cob_decimal.specs.Decimal.{IsDigits, number_of, digit_at}
 use Rattle.cob_decimal.proofs.DecimalLemmas.{digit_in, digit_beyond}
 use Rattle.cob_codec.specs.Packed.{halves}
-use Rattle.cob_lanes.specs.Lanes.{IsVector, halves_at}
+use Rattle.cob_lanes.specs.Lanes.{halves_at}
 use Rattle.cob_lanes.specs.Windows.{last_bytes, high_lane, low_lane, half_lane, power_pick, between, ArePowerPicks}
 use Rattle.cob_lanes.specs.Readers.{AreTaken, AreWanted}
 use Rattle.cob_lanes.specs.declared.reader.LaneReader.{LaneReader}

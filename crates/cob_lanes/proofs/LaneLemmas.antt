@@ -1,9 +1,9 @@
 -- The vector operations, lane by lane.
-use Rattle.std.proofs.Common.{◌≡◌, ℕ, zero, suc, ◌+◌, ◌-◌, ◌*◌, ◌/◌, ◌%◌, ◌^◌, ◌<◌, ◌≤◌, ◌↔◌, Bool, true, false, not, cond, eqb, ltb, leb, T, ◌||◌, List, [], ◌∷◌, map, length, get_or, replicate, bit_and, bit_or, refl, sym, ap, ◌∙◌, inl, inr, arith, w8, Fits, eqb→eq, eqb-true, leb-false, ltb-true, ltb-false, eq-eqb, lt-ltb, leb-true}
+use Rattle.std.proofs.Common.{◌≡◌, ℕ, zero, suc, ◌+◌, ◌-◌, ◌*◌, ◌/◌, ◌%◌, ◌^◌, ◌<◌, ◌↔◌, Bool, true, false, not, cond, eqb, ltb, leb, T, ◌||◌, List, [], ◌∷◌, map, length, get_or, replicate, bit_or, refl, sym, ap, ◌∙◌, inl, inr, arith, w8, Fits, eqb-true, ltb-true, ltb-false, eq-eqb, leb-true}
 use Rattle.std.proofs.lemmas.Bool.{cases_lt, eqb-false}
-use Rattle.std.proofs.lemmas.List.{get_or-map, get_or_past, length-map, ext_get_or}
+use Rattle.std.proofs.lemmas.List.{get_or_past, length-map}
 use Rattle.std.proofs.lemmas.Nat.{and_le_l, and_le_r}
-use Rattle.std.proofs.lemmas.Simd.{Each1-all, Each1-weaker, Each1-zip2, Each2-splat, Each1-from_get_or, below_from_Fits, length-zip2, mask_l-mod, swz_l, SwzOk, SwzOk-from_Each1, length-swz_l, get_or-swz_l}
+use Rattle.std.proofs.lemmas.Simd.{Each1-from_get_or, length-zip2, mask_l-mod, swz_l, SwzOk, SwzOk-from_Each1, get_or-swz_l}
 use lib.Bits.{or_add_and}
 use lib.Lanes.{zip2, sel_l, mask_l, top, Each1}
 use mir.Val.{zeroes}

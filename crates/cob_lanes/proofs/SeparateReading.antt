@@ -1,6 +1,6 @@
 -- Items with a separate sign, read.
-use Rattle.std.proofs.Common.{◌≡◌, ◌≢◌, ℕ, suc, ◌+◌, ◌-◌, ◌*◌, ◌/◌, ◌%◌, ◌<◌, ◌≤◌, ◌&&◌, ℤ, Bool, true, false, IsTrue, cond, ltb, eqb, List, [], ◌∷◌, ◌++◌, map, length, get_or, take, drop, Option, Some, None, refl, sym, ap, subst, ◌∙◌, inl, inr, arith, eq-eqb, ne_eqb, eqb-true, length-take-le, length-drop, get_or-take, get_or-drop}
-use Rattle.std.proofs.lemmas.Bool.{cases_lt, cases_eq}
+use Rattle.std.proofs.Common.{◌≡◌, ℕ, suc, ◌+◌, ◌-◌, ◌*◌, ◌/◌, ◌%◌, ◌<◌, ◌≤◌, ◌&&◌, ℤ, Bool, true, false, cond, ltb, eqb, List, [], ◌∷◌, ◌++◌, map, length, get_or, take, drop, Some, None, refl, sym, ap, subst, ◌∙◌, inl, inr, arith, eqb-true, length-take-le, length-drop, get_or-take, get_or-drop}
+use Rattle.std.proofs.lemmas.Bool.{cases_lt}
 use Rattle.std.proofs.lemmas.List.{get_or-map, length-map, drop_more, take_all, get_or_append_left, get_or_at}
 use Rattle.cob_decimal.specs.Decimal.{IsDigits, number_of}
 use Rattle.cob_codec.specs.Zoned.{low_digit, digit_bytes}
@@ -8,12 +8,12 @@ use Rattle.cob_codec.specs.Separate.{IsSignedSeparately, separate_form, sign_byt
 use Rattle.cob_codec.specs.Packed.{halves}
 use Rattle.cob_codec.proofs.PackedLemmas.{all_but_last}
 use Rattle.cob_codec.proofs.SignLemmas.{digit_small}
-use Rattle.cob_lanes.specs.Lanes.{AreBounded, IsVector}
+use Rattle.cob_lanes.specs.Lanes.{IsVector}
 use Rattle.cob_lanes.specs.Windows.{last_bytes, between, first_lane, sign_lane, ArePowerPicks}
 use Rattle.cob_lanes.specs.Readers.{AreRead, AreTaken, IsReaderOf, Passes, byte_meaning, own_meaning}
 use Rattle.cob_lanes.specs.declared.signs.SignByte.TheVariants.{Own}
 use Rattle.cob_lanes.specs.declared.reader.LaneReader.{LaneReader}
-use Rattle.cob_lanes.proofs.HalfLemmas.{all_digits, signed_as, inside_is, before_is, behind_is, last_byte, last_length, half_odd, wanted_digits}
+use Rattle.cob_lanes.proofs.HalfLemmas.{all_digits, signed_as, inside_is, before_is, behind_is, last_byte, half_odd, wanted_digits}
 
 -- The fields of a reader of items of so many digits with a separate sign.
 pub record ReadsSeparate (count : ℕ) (leading : Bool) (wanted : ℕ) (shift : ℤ) (r : LaneReader) : Type 0 where

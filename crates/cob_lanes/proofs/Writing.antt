@@ -1,5 +1,5 @@
 -- Items, written.
-use Rattle.std.proofs.Common.{◌≡◌, ◌≢◌, ℕ, zero, suc, ◌+◌, ◌-◌, ◌*◌, ◌/◌, ◌%◌, ◌<◌, ◌≤◌, ◌&&◌, Bool, true, false, cond, ltb, leb, eqb, List, [], ◌∷◌, ◌++◌, map, length, get_or, take, drop, replicate, refl, sym, ap, subst, ◌∙◌, inl, inr, arith, eq-eqb, ne_eqb, lt-ltb, le-ltb, leb-true, leb-false, ltb-true, eqb-true, length-take-le, length-append, get_or-take, get_or-set_other, get_or-set_same}
+use Rattle.std.proofs.Common.{◌≡◌, ◌≢◌, ℕ, zero, suc, ◌+◌, ◌-◌, ◌*◌, ◌/◌, ◌%◌, ◌<◌, ◌≤◌, ◌&&◌, Bool, true, false, cond, ltb, leb, eqb, List, [], ◌∷◌, ◌++◌, length, get_or, take, replicate, refl, sym, ap, subst, ◌∙◌, inl, inr, arith, eq-eqb, ne_eqb, lt-ltb, le-ltb, leb-true, leb-false, ltb-true, eqb-true, length-take-le, length-append, get_or-take, get_or-set_other, get_or-set_same}
 use Rattle.std.proofs.Math.ListN.{set}
 use Rattle.std.proofs.lemmas.Bool.{cases_lt, cases_eq}
 use Rattle.std.proofs.lemmas.List.{ext_get_or, get_or-map, length-map, get_or-append_right, get_or_append_left, get_or_at, length-replicate, get_or-replicate}
@@ -12,7 +12,7 @@ use Rattle.cob_codec.proofs.SeparateLaws as separate
 use Rattle.cob_codec.proofs.PackedLaws.{length-joined}
 use Rattle.cob_codec.proofs.SignLemmas.{code_small}
 use Rattle.cob_lanes.specs.Lanes.{AreTens, picked_at}
-use Rattle.cob_lanes.specs.Windows.{between, digit_pick, first_byte, half_of_byte, own_sign_byte, AreDigitPicks}
+use Rattle.cob_lanes.specs.Windows.{between, digit_pick, first_byte, own_sign_byte, AreDigitPicks}
 use Rattle.cob_lanes.specs.Writers.{AreMade, IsWriterOf, base_of}
 use Rattle.cob_lanes.specs.declared.writer.LaneWriter.{LaneWriter}
 use Rattle.cob_lanes.proofs.HalfLemmas.{inside_is}

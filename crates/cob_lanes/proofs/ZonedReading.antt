@@ -1,16 +1,15 @@
 -- Zoned items, read.
-use Rattle.std.proofs.Common.{◌≡◌, ◌≢◌, ℕ, ◌+◌, ◌-◌, ◌*◌, ◌/◌, ◌%◌, ◌<◌, ◌≤◌, ◌&&◌, ℤ, Bool, true, false, IsTrue, cond, ltb, eqb, List, map, length, get_or, Some, refl, sym, ap, subst, ◌∙◌, inl, inr, arith, eq-eqb, ne_eqb}
+use Rattle.std.proofs.Common.{◌≡◌, ◌≢◌, ℕ, ◌+◌, ◌-◌, ◌*◌, ◌/◌, ◌%◌, ◌<◌, ◌≤◌, ◌&&◌, ℤ, Bool, true, false, cond, ltb, eqb, List, map, length, get_or, refl, sym, ap, subst, ◌∙◌, inl, inr, arith, eq-eqb, ne_eqb}
 use Rattle.std.proofs.lemmas.Bool.{cases_lt, cases_eq}
 use Rattle.std.proofs.lemmas.List.{get_or-map, length-map}
 use Rattle.cob_decimal.specs.Decimal.{IsDigits, number_of}
 use Rattle.cob_codec.specs.Sign.{sign_meaning, sign_place}
 use Rattle.cob_codec.specs.Zoned.{IsZoned, low_digit}
 use Rattle.cob_codec.specs.Packed.{halves}
-use Rattle.cob_codec.proofs.ZonedLaws.{zoned_digit, place_within}
-use Rattle.cob_lanes.specs.Lanes.{AreBounded, IsVector}
+use Rattle.cob_codec.proofs.ZonedLaws.{zoned_digit}
+use Rattle.cob_lanes.specs.Lanes.{IsVector}
 use Rattle.cob_lanes.specs.Windows.{last_bytes, between, ArePowerPicks}
 use Rattle.cob_lanes.specs.Readers.{AreRead, AreTaken, IsReaderOf, Passes}
-use Rattle.cob_lanes.specs.declared.signs.SignByte.{SignByte}
 use Rattle.cob_lanes.specs.declared.signs.SignByte.TheVariants.{Zone}
 use Rattle.cob_lanes.specs.Readers.{byte_meaning}
 use Rattle.cob_lanes.specs.declared.reader.LaneReader.{LaneReader}

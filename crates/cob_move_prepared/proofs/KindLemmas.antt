@@ -8,12 +8,12 @@ use Rattle.cob_codec.specs.Packed.{IsPacked, packed_form}
 use Rattle.cob_codec.specs.declared.reading.Reading.{Reading}
 use Rattle.cob_codec.specs.declared.reading.Reading.TheVariants.{Pictured, Whole}
 use Rattle.cob_copybook_tree.specs.declared.form.Form.{Form}
-use Rattle.cob_copybook_tree.specs.declared.form.Form.TheVariants.{Zoned, Separate, Packed, Binary}
+use Rattle.cob_copybook_tree.specs.declared.form.Form.TheVariants.{Zoned, Separate, Packed}
 use Rattle.cob_copybook_tree.specs.declared.node.Item.{Item}
-use Rattle.cob_copybook_tree.specs.Items.{IsSentBy, SentAs, TakesPicture, IsNumberItem, form_of, is_leading, size_as, stored_form, written_as}
+use Rattle.cob_copybook_tree.specs.Items.{IsSentBy, SentAs, TakesPicture, IsNumberItem, form_of, is_leading, size_as, written_as}
 use Rattle.cob_copybook_tree.specs.Lengths.{item_size}
 use Rattle.cob_lanes.specs.Readers.{IsReaderOf}
-use Rattle.cob_lanes.specs.Writers.{AreMade, IsWriterOf}
+use Rattle.cob_lanes.specs.Writers.{IsWriterOf}
 use Rattle.cob_lanes.specs.declared.reader.LaneReader.{LaneReader}
 use Rattle.cob_lanes.specs.declared.writer.LaneWriter.{LaneWriter}
 use Rattle.cob_move_prepared.specs.Steps.{IsReaderFor, IsWriterFor, received_form}

@@ -1,6 +1,6 @@
 -- Steps carried out: what the receiver gets.
-use Rattle.std.proofs.Common.{◌≡◌, ◌↔◌, ◌≤◌, ℕ, ◌&&◌, ◌-ℤ◌, ℤ, Bool, true, false, not, IsTrue, List, length, take, Option, Some, None, MatchBool, refl, sym, ap, subst, ◌∙◌, arith, length-take-le}
-use Rattle.cob_decimal.specs.Decimal.{IsDigits, number_of, aligned}
+use Rattle.std.proofs.Common.{◌≡◌, ◌↔◌, ◌≤◌, ℕ, ◌&&◌, ◌-ℤ◌, ℤ, Bool, true, false, not, IsTrue, List, length, take, Some, None, MatchBool, refl, sym, ap, subst, ◌∙◌, arith, length-take-le}
+use Rattle.cob_decimal.specs.Decimal.{number_of, aligned}
 use Rattle.cob_picture.specs.Counts.{digits, scale, signed}
 use Rattle.cob_picture.specs.Positions.{shows_number}
 use Rattle.cob_picture.specs.declared.category.Category.{Category}
@@ -9,7 +9,7 @@ use Rattle.cob_codec.specs.declared.reading.Reading.{Reading}
 use Rattle.cob_copybook_tree.specs.declared.node.Item.{Item}
 use Rattle.cob_copybook_tree.specs.declared.node.Kind.TheVariants.{Item as ItemKind}
 use Rattle.cob_copybook_tree.specs.Resolving.{is_numeric, is_number}
-use Rattle.cob_copybook_tree.specs.Items.{IsNumberItem, IsSentBy, stored_form}
+use Rattle.cob_copybook_tree.specs.Items.{IsNumberItem, IsSentBy}
 use Rattle.cob_copybook_tree.specs.Lengths.{item_size}
 use Rattle.cob_edit.specs.Pictured.{IsEdited}
 use Rattle.cob_lanes.specs.Lanes.{AreZero}
@@ -17,10 +17,10 @@ use Rattle.cob_lanes.specs.Windows.{last_bytes}
 use Rattle.cob_lanes.specs.Readers.{AreRead, IsLanesRead}
 use Rattle.cob_lanes.specs.Writers.{AreMade}
 use Rattle.cob_lanes.proofs.WantedLemmas.{wanted_aligned, wanted_valid, wanted_tens, wanted_zero, none_aligned, minus_is}
-use Rattle.cob_move_receive.specs.Sent.{Sent, Amount, Entry}
+use Rattle.cob_move_receive.specs.Sent.{Amount, Entry}
 use Rattle.cob_move_receive.specs.Numbers.{IsNumberIn, HoldsAligned, GivesUnder}
 use Rattle.cob_move_receive.specs.Received.{Received, GetsNumber, GetsCharacters, outcome}
-use Rattle.cob_move_prepared.specs.Steps.{IsNumberStep, received_form}
+use Rattle.cob_move_prepared.specs.Steps.{IsNumberStep}
 use Rattle.cob_move_prepared.specs.declared.step.NumberStep.{NumberStep}
 
 match_true : (b : Bool) (P Q : Type 0) → b ≡ true → P → MatchBool b P Q

@@ -1,4 +1,4 @@
-use Rattle.std.proofs.Common.{ℕ, bit_and, get_or, replicate, ap, ◌∙◌, arith}
+use Rattle.std.proofs.Common.{bit_and, get_or, replicate, ap, ◌∙◌, arith}
 use Rattle.std.proofs.lemmas.Nat.{and_mask}
 use Rattle.std.proofs.lemmas.Simd.{length-zip2, get_or-zip2, get_or-replicate}
 use Rattle.cob_lanes.proofs.lanes.lows.Goals as goal

@@ -1,4 +1,4 @@
-use Rattle.std.proofs.Common.{◌≡◌, ℕ, ◌<◌, ◌≤◌, true, length, get_or}
+use Rattle.std.proofs.Common.{◌≡◌, ℕ, ◌<◌, true, length, get_or}
 use Rattle.cob_lanes.specs.Lanes.{is_pick}
 use Rattle.cob_lanes.specs.Windows.{digit_pick, half_of_byte}
 use Rattle.cob_lanes.proofs.picks.digit_picks.Given as goal

@@ -1,4 +1,4 @@
-use Rattle.std.proofs.Common.{◌≡◌, ◌-◌, ◌+◌, ◌*◌, ◌≤◌, ℕ, List, ◌++◌, length, take, drop, refl, rules, ap, ◌∙◌, arith}
+use Rattle.std.proofs.Common.{◌≡◌, ◌-◌, ◌≤◌, ℕ, List, length, take, drop, refl, rules, ap, ◌∙◌, arith}
 use Rattle.cob_lanes.proofs.EndLemmas.{ends_written}
 use Rattle.cob_lanes.proofs.writer.put_ends.Goals as goal
 

@@ -1,4 +1,4 @@
-use Rattle.std.proofs.Common.{◌≡◌, ◌+◌, ◌*◌, ℕ, Bool, true, false, cond, eqb, subst, refl, ap, ◌∙◌, arith}
+use Rattle.std.proofs.Common.{◌≡◌, ◌+◌, ◌*◌, ℕ, true, false, cond, eqb, subst, ap, ◌∙◌, arith}
 use Rattle.cob_codec.specs.Separate.{sign_byte}
 use Rattle.cob_lanes.specs.Windows.{between, first_byte, own_sign_byte, AreDigitPicks}
 use Rattle.cob_lanes.specs.declared.writer.LaneWriter.{LaneWriter}

@@ -1,4 +1,4 @@
-use Rattle.std.proofs.Common.{◌≡◌, ◌*◌, ℕ, Bool, cond, eqb, refl, ap, ◌∙◌, arith}
+use Rattle.std.proofs.Common.{◌≡◌, ◌*◌, ℕ, cond, eqb, ap, ◌∙◌, arith}
 use Rattle.cob_codec.specs.Sign.{sign_code, sign_place}
 use Rattle.cob_lanes.specs.Windows.{between}
 use Rattle.cob_lanes.specs.declared.writer.LaneWriter.{LaneWriter}
