@@ -1,0 +1,4 @@
+pub mod Lanes
+pub mod Windows
+pub mod Readers
+pub mod Writers
