@@ -1,0 +1,97 @@
+//! Draws a thousand jobs, each from its number alone, and has each public call that takes memory do its part of each. It prints a line for
+//! each twenty jobs: in how many each call gave what was asked, how many records came, and a sum over all bytes that were written. Where
+//! a call refuses, it prints the job's number and the call.
+//!
+//! What must be printed comes from a program of its own, `tools/sweep_oracle`, which draws the same jobs and works them by the rules.
+//!
+//! A job's random numbers are the states of a linear congruential generator of 64 bits: the first state is the job's number, the next one
+//! is 6364136223846793005 times the state before plus 1442695040888963407, modulo 2 to the 64, and a number below n is the state that
+//! comes next without its 33 lowest bits, modulo n. What is drawn, and in which order, is said where it is drawn:
+//!
+//! - the style of the names, the levels and the records (`style`);
+//! - the forms of both sides (`job`);
+//! - the entries of the input record, to depth 4: items from a table of clauses, groups, tables, tables that vary with their counts before
+//!   them, redefinitions (`entries`);
+//! - the output record: the same names in another order, with clauses that the sender can be moved to, and a statement for each of them
+//!   (`receivers`, `statements`);
+//! - one to three records (`values`).
+//!
+//! A sum is taken over bytes in their order: each makes of the sum 1099511628211 times itself, and adds itself, modulo 2 to the 64.
+#![tactic(auto)]
+
+mod calls;
+mod draw;
+mod entries;
+mod figures;
+mod job;
+mod receivers;
+mod rows;
+mod statements;
+mod style;
+mod values;
+
+use crate::calls::do_job;
+use crate::figures::Figures;
+use crate::job::SweepJob;
+use crate::rows::{Tables, rows_of};
+use std::alloc::AllocError;
+use std::rt::Files;
+use std::{fs, io};
+
+/// How many jobs there are.
+const JOBS: u64 = 1_000;
+/// How many jobs a line tells of.
+const JOBS_A_LINE: u64 = 20;
+/// How many bytes one call writes at most.
+const ROOM: usize = 100_000;
+
+/// Does a job, and adds to the figures; prints the call that refused.
+fn try_job<R: AllocGlobal + Print>(
+    rt: &R,
+    tables: &Tables<'_>,
+    number: u64,
+    room: &mut [u8],
+    figures: &mut Figures,
+) -> io::Result<()> {
+    let job = SweepJob::draw(rt.alloc(), tables, number)?;
+    match do_job(rt.alloc(), &job, room, figures) {
+        Ok(()) => figures.ok = figures.ok.saturating_add(1),
+        Err(refused) => println!(rt; "job {number}: {} refused", refused.call)?,
+    }
+    Ok(())
+}
+
+/// Does the jobs of a line, and prints it.
+fn try_line<R: AllocGlobal + Print>(
+    rt: &R,
+    tables: &Tables<'_>,
+    first: u64,
+    room: &mut [u8],
+) -> io::Result<()> {
+    let mut figures = Figures::new();
+    let behind = first.saturating_add(JOBS_A_LINE);
+    for number in first..behind {
+        try_job(rt, tables, number, room, &mut figures)?;
+    }
+    let last = behind.saturating_sub(1);
+    let Figures { ok, records, sum } = figures;
+    println!(rt; "jobs {first} to {last}: {ok} ok, {records} records, sum {sum}")
+}
+
+fn run<R: AllocGlobal + Files + Print>(rt: &R) -> io::Result<()> {
+    let items = fs::read_to_string(rt, "items.rows")?;
+    let counts = fs::read_to_string(rt, "counts.rows")?;
+    let tables = Tables {
+        items: rows_of(rt.alloc(), items.as_str())?,
+        counts: rows_of(rt.alloc(), counts.as_str())?,
+    };
+    let mut room = vec![in rt.alloc(); 0u8; ROOM]?;
+    for line in 0..JOBS / JOBS_A_LINE {
+        try_line(rt, &tables, line * JOBS_A_LINE + 1, &mut room)?;
+    }
+    Ok(())
+}
+
+fn main(rt: HostRuntime) -> io::Result<()> {
+    run(&rt)
+}
