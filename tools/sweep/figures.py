@@ -2,10 +2,12 @@
 
 from .books import Book
 from .draw import SweepJob, rows_of
+from .faults import Refused
 from .jobs import Job, conversion_of, printed
 from .listings import layout_text, show_text
+from .paragraphs import Paragraph
 
-JOBS, JOBS_A_LINE = 1_000, 20
+JOBS, JOBS_A_LINE, MOST_BYTES = 1_000, 20, 1_000_000
 
 
 def added(total, content):
@@ -28,6 +30,18 @@ def written_by(job):
     return layout_text(source).encode() + layout_text(target).encode() + shown.encode() + written + whole.encode(), records
 
 
+def paragraph_line(size):
+    """What is said of a paragraph of so many bytes, of MOVE CORRESPONDING alone."""
+    statement = b"       MOVE CORRESPONDING A TO B.\n"
+    text = (statement * (size // len(statement))).ljust(size, b"\n")
+    sending, receiving = (Book("", b"       01  %c.\n           05  X PIC X.\n" % name) for name in b"AB")
+    try:
+        told = "%d moves" % len(Paragraph(sending, receiving, text).moves)
+    except Refused as fault:
+        told = "%s line %d" % (fault.rule, fault.line)
+    return "paragraph of %d bytes: %s" % (size, told)
+
+
 def lines():
     """The lines of the sweep."""
     items, counts = rows_of("items"), rows_of("counts")
@@ -37,3 +51,5 @@ def lines():
             written, count = written_by(SweepJob(number, items, counts))
             total, records = added(total, written), records + count
         yield "jobs %d to %d: %d ok, %d records, sum %d" % (first, first + JOBS_A_LINE - 1, JOBS_A_LINE, records, total)
+    yield paragraph_line(MOST_BYTES)
+    yield paragraph_line(MOST_BYTES + 1)

@@ -30,7 +30,7 @@ impl From<AllocError> for Refused {
 }
 
 /// What a call gave, unless it refused.
-fn given<T, E: Drop>(answer: Result<T, E>, call: &'static str) -> Result<T, Refused>
+pub(crate) fn given<T, E: Drop>(answer: Result<T, E>, call: &'static str) -> Result<T, Refused>
     ensures { IfOk result (λ value. answer ≡ Ok value) }
 {
     match answer {
@@ -119,5 +119,7 @@ pub(crate) fn do_job(alloc: Global, job: &SweepJob, room: &mut [u8], figures: &m
     list_values(alloc, job, room, figures)?;
     prepare_whole(alloc, job)?;
     convert(alloc, job, room, figures)?;
-    print_job(alloc, job, room, figures)
+    print_job(alloc, job, room, figures)?;
+    figures.ok = figures.ok.saturating_add(1);
+    Ok(())
 }

@@ -1,6 +1,7 @@
 //! Draws a thousand jobs, each from its number alone, and has each public call that takes memory do its part of each. It prints a line for
 //! each twenty jobs: in how many each call gave what was asked, how many records came, and a sum over all bytes that were written. Where
-//! a call refuses, it prints the job's number and the call.
+//! a call refuses, it prints the job's number and the call, and does the job again. At the end it reads a paragraph as long as one may be, of
+//! MOVE CORRESPONDING alone, and one of a byte more.
 //!
 //! What must be printed comes from a program of its own, `tools/sweep_oracle`, which draws the same jobs and works them by the rules.
 //!
@@ -24,6 +25,7 @@ mod draw;
 mod entries;
 mod figures;
 mod job;
+mod longest;
 mod receivers;
 mod rows;
 mod statements;
@@ -33,6 +35,7 @@ mod values;
 use crate::calls::do_job;
 use crate::figures::Figures;
 use crate::job::SweepJob;
+use crate::longest::moves_of;
 use crate::rows::{Tables, rows_of};
 use std::alloc::AllocError;
 use std::rt::Files;
@@ -45,7 +48,10 @@ const JOBS_A_LINE: u64 = 20;
 /// How many bytes one call writes at most.
 const ROOM: usize = 100_000;
 
-/// Does a job, and adds to the figures; prints the call that refused.
+/// How many bytes a paragraph has at most.
+const MOST_BYTES: usize = 1_000_000;
+
+/// Does a job, and adds to the figures. Where a call refuses, it prints which, and does the job again.
 fn try_job<R: AllocGlobal + Print>(
     rt: &R,
     tables: &Tables<'_>,
@@ -54,9 +60,13 @@ fn try_job<R: AllocGlobal + Print>(
     figures: &mut Figures,
 ) -> io::Result<()> {
     let job = SweepJob::draw(rt.alloc(), tables, number)?;
-    match do_job(rt.alloc(), &job, room, figures) {
-        Ok(()) => figures.ok = figures.ok.saturating_add(1),
-        Err(refused) => println!(rt; "job {number}: {} refused", refused.call)?,
+    let before = *figures;
+    if let Err(refused) = do_job(rt.alloc(), &job, room, figures) {
+        println!(rt; "job {number}: {} refused", refused.call)?;
+        *figures = before;
+        if do_job(rt.alloc(), &job, room, figures).is_err() {
+            *figures = before;
+        }
     }
     Ok(())
 }
@@ -78,6 +88,15 @@ fn try_line<R: AllocGlobal + Print>(
     println!(rt; "jobs {first} to {last}: {ok} ok, {records} records, sum {sum}")
 }
 
+/// Reads the paragraph of so many bytes, and prints how many single moves it has, or the rule that it breaks.
+fn try_paragraph<R: AllocGlobal + Print>(rt: &R, bytes: usize) -> io::Result<()> {
+    match moves_of(rt.alloc(), bytes) {
+        Ok(Ok(moves)) => println!(rt; "paragraph of {bytes} bytes: {moves} moves"),
+        Ok(Err(fault)) => println!(rt; "paragraph of {bytes} bytes: {fault}"),
+        Err(refused) => println!(rt; "paragraph of {bytes} bytes: {} refused", refused.call),
+    }
+}
+
 fn run<R: AllocGlobal + Files + Print>(rt: &R) -> io::Result<()> {
     let items = fs::read_to_string(rt, "items.rows")?;
     let counts = fs::read_to_string(rt, "counts.rows")?;
@@ -89,7 +108,8 @@ fn run<R: AllocGlobal + Files + Print>(rt: &R) -> io::Result<()> {
     for line in 0..JOBS / JOBS_A_LINE {
         try_line(rt, &tables, line * JOBS_A_LINE + 1, &mut room)?;
     }
-    Ok(())
+    try_paragraph(rt, MOST_BYTES)?;
+    try_paragraph(rt, MOST_BYTES + 1)
 }
 
 fn main(rt: HostRuntime) -> io::Result<()> {

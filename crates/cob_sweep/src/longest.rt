@@ -1,0 +1,40 @@
+//! The longest paragraph, of MOVE CORRESPONDING alone.
+
+use crate::calls::{Refused, given};
+use cob_copybook::{Book, Role};
+use cob_layout::Layout;
+use cob_move::Paragraph;
+use cob_move_statements::MoveFault;
+use std::alloc::{AllocError, Global};
+
+const SENDING: &[u8] = b"       01  A.\n           05  X PIC X.\n";
+const RECEIVING: &[u8] = b"       01  B.\n           05  X PIC X.\n";
+/// A statement of one pair, 34 bytes.
+const STATEMENT: &[u8] = b"       MOVE CORRESPONDING A TO B.\n";
+
+/// A paragraph of so many bytes: as many statements as there is room for, and line feeds.
+fn paragraph_of(alloc: Global, bytes: usize) -> Result<Vec<u8>, AllocError> {
+    let mut text = Vec::new(alloc);
+    for _ in 0..bytes / STATEMENT.len() {
+        text.extend_from_slice(STATEMENT)?;
+    }
+    text.resize(bytes, b'\n')?;
+    Ok(text)
+}
+
+/// The layout of a copybook.
+fn layout_of(alloc: Global, role: Role, text: &[u8]) -> Result<Layout, Refused> {
+    let book = given(Book::read(alloc, role, text), "Book::read")?;
+    given(Layout::of(alloc, &book), "Layout::of")
+}
+
+/// How many single moves the paragraph of so many bytes has, or the rule that it breaks.
+pub(crate) fn moves_of(alloc: Global, bytes: usize) -> Result<Result<u32, MoveFault>, Refused> {
+    let input = layout_of(alloc, Role::In, SENDING)?;
+    let output = layout_of(alloc, Role::Out, RECEIVING)?;
+    let text = paragraph_of(alloc, bytes)?;
+    match Paragraph::read(alloc, &input, &output, text.as_slice()) {
+        Ok(paragraph) => Ok(Ok(paragraph.moves())),
+        Err(fault) => Ok(Err(fault)),
+    }
+}
