@@ -49,6 +49,7 @@ pub(crate) struct Entry<'a> {
 }
 
 /// A record as it is drawn: where its items come from, and the number of its last entry.
+#[derive(Drop)]
 pub(crate) struct Sketch<'a> {
     pub(crate) alloc: Global,
     pub(crate) draw: Draw,

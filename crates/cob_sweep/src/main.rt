@@ -1,7 +1,8 @@
-//! Draws a thousand jobs, each from its number alone, and has each public call that takes memory do its part of each. It prints a line for
-//! each twenty jobs: in how many each call gave what was asked, how many records came, and a sum over all bytes that were written. Where
-//! a call refuses, it prints the job's number and the call, and does the job again. At the end it reads a paragraph as long as one may be, of
-//! MOVE CORRESPONDING alone, and one of a byte more.
+//! Draws jobs, each from its number alone, and has each public call that takes memory do its part of each.
+//!
+//! Its arguments are numbers of lines, of which 50 tell of a thousand jobs. A line tells of twenty: in how many each call gave what was asked,
+//! how many records came, and a sum over all bytes that were written. Where a call refuses, it prints the job's number and the call, and does
+//! the job again. At another argument it reads a paragraph as long as one may be, of MOVE CORRESPONDING alone, and one of a byte more.
 //!
 //! What must be printed comes from a program of its own, `tools/sweep_oracle`, which draws the same jobs and works them by the rules.
 //!
@@ -37,12 +38,9 @@ use crate::figures::Figures;
 use crate::job::SweepJob;
 use crate::longest::moves_of;
 use crate::rows::{Tables, rows_of};
-use std::alloc::AllocError;
-use std::rt::Files;
-use std::{fs, io};
+use std::rt::{Env, Files};
+use std::{env, fs, io};
 
-/// How many jobs there are.
-const JOBS: u64 = 1_000;
 /// How many jobs a line tells of.
 const JOBS_A_LINE: u64 = 20;
 /// How many bytes one call writes at most.
@@ -75,15 +73,16 @@ fn try_job<R: AllocGlobal + Print>(
 fn try_line<R: AllocGlobal + Print>(
     rt: &R,
     tables: &Tables<'_>,
-    first: u64,
+    line: u64,
     room: &mut [u8],
 ) -> io::Result<()> {
     let mut figures = Figures::new();
-    let behind = first.saturating_add(JOBS_A_LINE);
-    for number in first..behind {
-        try_job(rt, tables, number, room, &mut figures)?;
+    let last = line.saturating_mul(JOBS_A_LINE);
+    let before = last.saturating_sub(JOBS_A_LINE);
+    for place in 0..JOBS_A_LINE {
+        try_job(rt, tables, before.saturating_add(place + 1), room, &mut figures)?;
     }
-    let last = behind.saturating_sub(1);
+    let first = before.saturating_add(1);
     let Figures { ok, records, sum } = figures;
     println!(rt; "jobs {first} to {last}: {ok} ok, {records} records, sum {sum}")
 }
@@ -97,7 +96,7 @@ fn try_paragraph<R: AllocGlobal + Print>(rt: &R, bytes: usize) -> io::Result<()>
     }
 }
 
-fn run<R: AllocGlobal + Files + Print>(rt: &R) -> io::Result<()> {
+fn run<R: AllocGlobal + Env + Files + Print>(rt: &R) -> io::Result<()> {
     let items = fs::read_to_string(rt, "items.rows")?;
     let counts = fs::read_to_string(rt, "counts.rows")?;
     let tables = Tables {
@@ -105,11 +104,15 @@ fn run<R: AllocGlobal + Files + Print>(rt: &R) -> io::Result<()> {
         counts: rows_of(rt.alloc(), counts.as_str())?,
     };
     let mut room = vec![in rt.alloc(); 0u8; ROOM]?;
-    for line in 0..JOBS / JOBS_A_LINE {
-        try_line(rt, &tables, line * JOBS_A_LINE + 1, &mut room)?;
+    for word in env::args(rt)?.skip(1) {
+        if let Ok(line) = word.parse::<u64>() {
+            try_line(rt, &tables, line, &mut room)?;
+        } else {
+            try_paragraph(rt, MOST_BYTES)?;
+            try_paragraph(rt, MOST_BYTES + 1)?;
+        }
     }
-    try_paragraph(rt, MOST_BYTES)?;
-    try_paragraph(rt, MOST_BYTES + 1)
+    Ok(())
 }
 
 fn main(rt: HostRuntime) -> io::Result<()> {
