@@ -85,10 +85,8 @@ class Clauses:
 
     def name(self):
         """A name that a clause asks for."""
-        if self.word() in LEFT_OUT:
-            self.entry.refuse("B12 " + self.word())
         if not is_name(self.word()):
-            self.entry.refuse("B13" if self.word() in RESERVED else "B2")
+            self.entry.refuse("B13" if self.word() else "B2")
         return self.take().text
 
     def names(self):
@@ -136,8 +134,6 @@ def picture_clause(entry, clauses):
 
 def usage_clause(entry, clauses):
     clauses.take_if("IS")
-    if clauses.word() in LEFT_OUT:
-        entry.refuse("B12 " + clauses.word())
     if clauses.word() not in USAGES:
         entry.refuse("B2")
     entry.usage = USAGES[clauses.take().text]
@@ -212,8 +208,6 @@ CLAUSES = {
 def read_clause(entry, clauses, seen):
     """Reads one clause, which the entry must not have already."""
     word = clauses.word()
-    if word in LEFT_OUT:
-        entry.refuse("B12 " + word)
     if word in USAGES:
         clause = usage_clause
     elif word in ("LEADING", "TRAILING"):
@@ -242,7 +236,17 @@ def read_name(entry, clauses):
     word = clauses.word()
     if clauses.take_if("FILLER") or not word or word in CLAUSES or word in USAGES or word in ("LEADING", "TRAILING"):
         return
-    entry.name = clauses.name() if is_name(word) or word in LEFT_OUT else entry.refuse("B13")
+    entry.name = clauses.name()
+
+
+def check_words(sentence):
+    """No word that is left out by name stands in an entry, but for the values of a level 88."""
+    texts = [word.text if word.kind == "word" else "" for word in sentence]
+    if texts[0] == "88" and len(texts) > 2 and texts[2] in ("VALUE", "VALUES"):
+        texts = texts[:2]
+    for text in texts:
+        if text in LEFT_OUT:
+            raise Refused("B12 " + text, sentence[0].line)
 
 
 def is_condition(words, some_before):
@@ -276,6 +280,7 @@ def entries_of(text):
     """The data entries of a text."""
     entries = []
     for sentence in sentences(words_of(text)):
+        check_words(sentence)
         if is_condition(sentence, entries):
             continue
         entry = Entry(level_of(sentence[0]), None, sentence[0].line)

@@ -47,8 +47,11 @@ class Statements:
         return None
 
     def stops(self):
+        """Takes any number of periods; the answer is whether there is one."""
+        some = False
         while self.words and self.words[0].kind == "stop":
-            self.take()
+            some = self.take() is not None
+        return some
 
     def named(self):
         """A reference as it is written."""
@@ -91,8 +94,10 @@ def statements_of(text):
         reader.take()
         if not reader.words or reader.take().kind != "stop":
             reader.refuse("M1")
+    behind_stop = True
     while reader.words or not found:
-        reader.line = reader.words[0].line if reader.words else reader.line
+        if behind_stop or reader.next() == "MOVE":
+            reader.line = reader.words[0].line if reader.words else reader.line
         if not reader.take_if("MOVE"):
             reader.refuse("M1")
         together = reader.take_if("CORRESPONDING", "CORR") is not None
@@ -103,7 +108,7 @@ def statements_of(text):
         while not together and is_name(reader.next()):
             receivers.append(reader.named())
         found.append((reader.line, together, sender, receivers))
-        reader.stops()
+        behind_stop = reader.stops()
     return found
 
 
