@@ -80,7 +80,7 @@ TAIL = r"([+CD-])?"
 
 
 def edited_patterns():
-    """Patterns of numeric edited pictures, each with the symbol of its run: without a run, with zero suppression, with a floating symbol."""
+    """Patterns of numeric edited pictures, each with the symbol of its run, and none where it has no run."""
     yield re.compile(r"([+-]?)(\$?)[9B/0,]*([.V][9B/0,]*)?" + TAIL), ""
     for run in ("Z", "*"):
         r = re.escape(run)
