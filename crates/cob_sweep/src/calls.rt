@@ -1,7 +1,5 @@
 //! The calls that do the parts of a job, each by itself.
 
-ghost use Rattle.std.specs.Prelude.{◌≡◌, IfOk};
-
 use crate::figures::Figures;
 use crate::job::SweepJob;
 use cob_codec::Reading;
@@ -31,7 +29,6 @@ impl From<AllocError> for Refused {
 
 /// What a call gave, unless it refused.
 pub(crate) fn given<T, E: Drop>(answer: Result<T, E>, call: &'static str) -> Result<T, Refused>
-    ensures { IfOk result (λ value. answer ≡ Ok value) }
 {
     match answer {
         Ok(value) => Ok(value),
@@ -56,12 +53,20 @@ fn list_entries(book: &Book, layout: &Layout, room: &mut [u8], figures: &mut Fig
 }
 
 /// Lists the values of records.
-fn list_values(alloc: Global, job: &SweepJob, room: &mut [u8], figures: &mut Figures) -> Result<(), Refused> {
+fn list_values(
+    alloc: Global,
+    job: &SweepJob,
+    room: &mut [u8],
+    figures: &mut Figures,
+) -> Result<(), Refused> {
     let book = given(Book::read(alloc, Role::In, job.in_book.as_bytes()), "Book::read")?;
-    let layout = given(Layout::of(alloc, &book), "Layout::of")?;
+    let Ok(layout) = Layout::of(alloc, &book) else {
+        return Err(Refused { call: "Layout::of" });
+    };
     let mut sink = MemSink::new(room);
     let mut source = MemSource::new(&job.data);
-    given(show(alloc, &book, &layout, job.in_form, &mut source, &mut sink), "show")?;
+    let shown = show(alloc, &book, &layout, job.in_form, &mut source, &mut sink);
+    given(shown, "show")?;
     figures.add(sink.taken());
     Ok(())
 }

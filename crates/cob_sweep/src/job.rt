@@ -41,13 +41,13 @@ fn letter(form: Form) -> &'static str {
 
 /// The named entries of a record: counts, and others.
 #[derive(Drop)]
-struct Named<'a> {
+struct NamedEntries<'a> {
     counts: Vec<Listed<'a>>,
     others: Vec<Listed<'a>>,
 }
 
 /// Lists the named entries of a record.
-fn named<'a>(alloc: Global, record: &'a Entry<'a>) -> Result<Named<'a>, AllocError> {
+fn list_named<'a>(alloc: Global, record: &'a Entry<'a>) -> Result<NamedEntries<'a>, AllocError> {
     let mut all = Vec::new(alloc);
     list_beneath(record, [Times::Once; DEPTHS], &mut all)?;
     let mut counts = Vec::new(alloc);
@@ -58,7 +58,7 @@ fn named<'a>(alloc: Global, record: &'a Entry<'a>) -> Result<Named<'a>, AllocErr
             _ => others.push(listed)?,
         }
     }
-    Ok(Named { counts, others })
+    Ok(NamedEntries { counts, others })
 }
 
 impl SweepJob {
@@ -101,7 +101,7 @@ impl SweepJob {
         last: u64,
     ) -> Result<(), AllocError> {
         push_beneath(&mut self.in_book, style, record)?;
-        let Named { counts, others } = named(alloc, record)?;
+        let NamedEntries { counts, others } = list_named(alloc, record)?;
         push_receivers(&mut self.out_book, &mut draw, style, &counts, &others)?;
         push_statements(&mut self.moves, &mut draw, style, &counts, &others)?;
         for _ in 0..1 + draw.below(3) {

@@ -9,13 +9,15 @@ use std::alloc::{AllocError, Global};
 
 const SENDING: &[u8] = b"       01  A.\n           05  X PIC X.\n";
 const RECEIVING: &[u8] = b"       01  B.\n           05  X PIC X.\n";
-/// A statement of one pair, 34 bytes.
+/// A statement of one pair.
 const STATEMENT: &[u8] = b"       MOVE CORRESPONDING A TO B.\n";
+/// How many bytes it has.
+const STATEMENT_BYTES: usize = 34;
 
 /// A paragraph of so many bytes: as many statements as there is room for, and line feeds.
 fn paragraph_of(alloc: Global, bytes: usize) -> Result<Vec<u8>, AllocError> {
     let mut text = Vec::new(alloc);
-    for _ in 0..bytes / STATEMENT.len() {
+    for _ in 0..bytes / STATEMENT_BYTES {
         text.extend_from_slice(STATEMENT)?;
     }
     text.resize(bytes, b'\n')?;

@@ -27,7 +27,7 @@ pub(crate) struct Style {
 }
 
 /// Draws whether a record has an entry of its own.
-fn record(draw: &mut Draw, named: Record, implied: &'static str) -> Record {
+fn record_in_style(draw: &mut Draw, named: Record, implied: &'static str) -> Record {
     if draw.below(4) != 0 {
         return named;
     }
@@ -50,8 +50,8 @@ impl Style {
             name: "OUT-REC",
             entry: "       01  OUT-REC.\n",
         };
-        let input = record(draw, input, "IN-RECORD");
-        let output = record(draw, output, "OUT-RECORD");
+        let input = record_in_style(draw, input, "IN-RECORD");
+        let output = record_in_style(draw, output, "OUT-RECORD");
         Style {
             prefix,
             step,
