@@ -171,16 +171,16 @@ fn nearest(own: Times, above: Times) -> Times {
 
 /// A named entry, with the tables that it stands in or is.
 #[derive(Drop)]
-pub(crate) struct Listed<'a> {
-    pub(crate) entry: &'a Entry<'a>,
+pub(crate) struct Listed<'a, 'b> {
+    pub(crate) entry: &'b Entry<'a>,
     pub(crate) tables: [Times; DEPTHS],
 }
 
 /// Lists the named entries beneath one, in their order; these are the tables that it stands in or is.
-pub(crate) fn list_beneath<'a>(
-    entry: &'a Entry<'a>,
+pub(crate) fn list_beneath<'a, 'b>(
+    entry: &'b Entry<'a>,
     tables: [Times; DEPTHS],
-    listed: &mut Vec<Listed<'a>>,
+    listed: &mut Vec<Listed<'a, 'b>>,
 ) -> Result<(), AllocError> {
     for child in entry.children.iter() {
         let mut own = tables;

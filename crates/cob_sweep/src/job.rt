@@ -41,13 +41,16 @@ fn letter(form: Form) -> &'static str {
 
 /// The named entries of a record: counts, and others.
 #[derive(Drop)]
-struct NamedEntries<'a> {
-    counts: Vec<Listed<'a>>,
-    others: Vec<Listed<'a>>,
+struct NamedEntries<'a, 'b> {
+    counts: Vec<Listed<'a, 'b>>,
+    others: Vec<Listed<'a, 'b>>,
 }
 
 /// Lists the named entries of a record.
-fn list_named<'a>(alloc: Global, record: &'a Entry<'a>) -> Result<NamedEntries<'a>, AllocError> {
+fn list_named<'a, 'b>(
+    alloc: Global,
+    record: &'b Entry<'a>,
+) -> Result<NamedEntries<'a, 'b>, AllocError> {
     let mut all = Vec::new(alloc);
     list_beneath(record, [Times::Once; DEPTHS], &mut all)?;
     let mut counts = Vec::new(alloc);

@@ -38,7 +38,7 @@ use crate::figures::Figures;
 use crate::job::SweepJob;
 use crate::longest::moves_of;
 use crate::rows::{Tables, rows_of};
-use std::rt::{Env, Files};
+use std::rt::Env;
 use std::{env, fs, io};
 
 /// How many jobs a line tells of.
@@ -96,12 +96,11 @@ fn try_paragraph<R: AllocGlobal + Print>(rt: &R, bytes: usize) -> io::Result<()>
     }
 }
 
-fn run<R: AllocGlobal + Env + Files + Print>(rt: &R) -> io::Result<()> {
-    let items = fs::read_to_string(rt, "items.rows")?;
-    let counts = fs::read_to_string(rt, "counts.rows")?;
+/// Draws from the tables of these texts, and does what each argument asks for.
+fn try_words<R: AllocGlobal + Env + Print>(rt: &R, items: &str, counts: &str) -> io::Result<()> {
     let tables = Tables {
-        items: rows_of(rt.alloc(), items.as_str())?,
-        counts: rows_of(rt.alloc(), counts.as_str())?,
+        items: rows_of(rt.alloc(), items)?,
+        counts: rows_of(rt.alloc(), counts)?,
     };
     let mut room = vec![in rt.alloc(); 0u8; ROOM]?;
     for word in env::args(rt)?.skip(1) {
@@ -116,5 +115,7 @@ fn run<R: AllocGlobal + Env + Files + Print>(rt: &R) -> io::Result<()> {
 }
 
 fn main(rt: HostRuntime) -> io::Result<()> {
-    run(&rt)
+    let items = fs::read_to_string(&rt, "items.rows")?;
+    let counts = fs::read_to_string(&rt, "counts.rows")?;
+    try_words(&rt, items.as_str(), counts.as_str())
 }

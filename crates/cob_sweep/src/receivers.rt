@@ -39,7 +39,7 @@ pub(crate) fn push_beneath(
 }
 
 /// The clauses of a receiver, one of those that the sender can be moved to.
-fn receiving<'a>(draw: &mut Draw, entry: &'a Entry<'a>) -> &'a str {
+fn receiving<'a>(draw: &mut Draw, entry: &Entry<'a>) -> &'a str {
     match entry.shape {
         Shape::Group => "PIC X(9)",
         Shape::Redefinition(_, _) => "PIC X(6)",
@@ -70,8 +70,8 @@ pub(crate) fn push_receivers(
     text: &mut String,
     draw: &mut Draw,
     style: &Style,
-    counts: &[Listed<'_>],
-    others: &[Listed<'_>],
+    counts: &[Listed<'_, '_>],
+    others: &[Listed<'_, '_>],
 ) -> Result<(), AllocError> {
     for listed in counts {
         push_receiver(text, draw, style, 1, listed.entry)?;

@@ -52,7 +52,7 @@ fn push_move(
     text: &mut String,
     draw: &mut Draw,
     style: &Style,
-    listed: &Listed<'_>,
+    listed: &Listed<'_, '_>,
 ) -> Result<(), AllocError> {
     let number = listed.entry.number;
     text.push_str("           MOVE")?;
@@ -67,8 +67,8 @@ pub(crate) fn push_statements(
     text: &mut String,
     draw: &mut Draw,
     style: &Style,
-    counts: &[Listed<'_>],
-    others: &[Listed<'_>],
+    counts: &[Listed<'_, '_>],
+    others: &[Listed<'_, '_>],
 ) -> Result<(), AllocError> {
     for listed in counts {
         push_move(text, draw, style, listed)?;
