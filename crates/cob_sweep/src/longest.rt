@@ -1,7 +1,7 @@
 //! The longest paragraph, of MOVE CORRESPONDING alone.
 
-use crate::calls::{Refused, given};
-use cob_copybook::{Book, Role};
+use crate::calls::{Refused, layout_of, read_book};
+use cob_copybook::Role;
 use cob_layout::Layout;
 use cob_move::Paragraph;
 use cob_move_statements::MoveFault;
@@ -24,16 +24,16 @@ fn paragraph_of(alloc: Global, bytes: usize) -> Result<Vec<u8>, AllocError> {
     Ok(text)
 }
 
-/// The layout of a copybook.
-fn layout_of(alloc: Global, role: Role, text: &[u8]) -> Result<Layout, Refused> {
-    let book = given(Book::read(alloc, role, text), "Book::read")?;
-    given(Layout::of(alloc, &book), "Layout::of")
+/// The layout of the copybook that a text is.
+fn layout_of_text(alloc: Global, role: Role, text: &[u8]) -> Result<Layout, Refused> {
+    let book = read_book(alloc, role, text)?;
+    layout_of(alloc, &book)
 }
 
 /// How many single moves the paragraph of so many bytes has, or the rule that it breaks.
 pub(crate) fn moves_of(alloc: Global, bytes: usize) -> Result<Result<u32, MoveFault>, Refused> {
-    let input = layout_of(alloc, Role::In, SENDING)?;
-    let output = layout_of(alloc, Role::Out, RECEIVING)?;
+    let input = layout_of_text(alloc, Role::In, SENDING)?;
+    let output = layout_of_text(alloc, Role::Out, RECEIVING)?;
     let text = paragraph_of(alloc, bytes)?;
     match Paragraph::read(alloc, &input, &output, text.as_slice()) {
         Ok(paragraph) => Ok(Ok(paragraph.moves())),
