@@ -87,9 +87,12 @@ pub left_copy : (x : Reading) (r : Records) (given : List StatementMoves) (steps
     → IsStorage r.input input → length now ≡ greatest_length r.output → after ≡ with_field now c.to (field_of c.from input)
     → Next x r given steps bases i (step.Copy c) input before now → Left x r given steps bases (i + 1) input before after
 left_copy x r given steps bases i c input before now after is size written n =
-    let copied : AreCopied r c.from c.to n.own = n.is in
-    (n.more, n.others, λ end h. n.so end (applied_both r n.own n.more input now after end
-    (subst (λ (s : List ℕ). Applied r n.own input now (done s)) (sym written) (copied.are.written input now is size)) h))
+    let copied : AreCopied r c.from c.to n.own = n.is in (
+      n.more,
+      n.others,
+      λ end h. n.so end (applied_both r n.own n.more input now after end
+          (subst (λ (s : List ℕ). Applied r n.own input now (done s)) (sym written) (copied.are.written input now is size)) h),
+    )
 
 pub space_copy : (x : Reading) (r : Records) (given : List StatementMoves) (steps : List Step) (bases : List Basis) (i : ℕ) (c : CopyPlaces) (input before now after : List ℕ) (w : Workspace)
     → IsStorage r.input input → length now ≡ greatest_length r.output → after ≡ with_field now c.to (field_of c.from input)

@@ -214,13 +214,7 @@ pub(crate) fn make_move(
                 side: Side::Out,
                 offset: 0,
             };
-            receive_all(
-                layouts.output,
-                &given,
-                receivers,
-                output,
-                &mut space.output,
-            )
+            receive_all(layouts.output, &given, receivers, output, &mut space.output)
         }
     }
 }

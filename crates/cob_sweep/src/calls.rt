@@ -28,8 +28,7 @@ impl From<AllocError> for Refused {
 }
 
 /// What a call gave, unless it refused.
-pub(crate) fn given<T, E: Drop>(answer: Result<T, E>, call: &'static str) -> Result<T, Refused>
-{
+pub(crate) fn given<T, E: Drop>(answer: Result<T, E>, call: &'static str) -> Result<T, Refused> {
     match answer {
         Ok(value) => Ok(value),
         Err(_) => Err(Refused { call }),
@@ -89,14 +88,9 @@ fn make_scratch(alloc: Global, input: &Layout, output: &Layout) -> Result<(), Re
 }
 
 /// Lists the entries of a copybook.
-fn list_entries(
-    book: &Book,
-    layout: &Layout,
-    room: &mut [u8],
-    figures: &mut Figures,
-) -> Result<(), Refused> {
+fn list_entries(layout: &Layout, room: &mut [u8], figures: &mut Figures) -> Result<(), Refused> {
     let mut sink = MemSink::new(room);
-    let listed = layout_text(book, layout, &mut sink);
+    let listed = layout_text(layout, &mut sink);
     figures.add(sink.taken());
     given(listed, "layout_text")
 }
@@ -126,7 +120,7 @@ fn read_output(
     let book = read_book(alloc, Role::Out, job.out_book.as_bytes())?;
     let layout = layout_of(alloc, &book)?;
     read_between(alloc, job, input, &layout)?;
-    list_entries(&book, &layout, room, figures)
+    list_entries(&layout, room, figures)
 }
 
 /// Reads the copybook of the input record, and lists its entries.
@@ -138,7 +132,7 @@ fn read_input(
 ) -> Result<(), Refused> {
     let book = read_book(alloc, Role::In, job.in_book.as_bytes())?;
     let layout = layout_of(alloc, &book)?;
-    list_entries(&book, &layout, room, figures)?;
+    list_entries(&layout, room, figures)?;
     read_output(alloc, job, &layout, room, figures)
 }
 

@@ -122,7 +122,13 @@ impl<'a> Sketch<'a> {
         let Some(row) = self.draw.one_of(rows) else {
             return Ok(());
         };
-        let Entry { number, named, depth, times, .. } = entry;
+        let Entry {
+            number,
+            named,
+            depth,
+            times,
+            ..
+        } = entry;
         entry.shape = Shape::Item(row);
         entries.push(entry)?;
         if named && matches!(times, Times::Once) && self.draw.below(4) == 0 {

@@ -8,6 +8,7 @@ use cob_move_statements::MoveFault;
 use std::alloc::{AllocError, Global};
 
 const SENDING: &[u8] = b"       01  A.\n           05  X PIC X.\n";
+
 const RECEIVING: &[u8] = b"       01  B.\n           05  X PIC X.\n";
 /// A statement of one pair.
 const STATEMENT: &[u8] = b"       MOVE CORRESPONDING A TO B.\n";

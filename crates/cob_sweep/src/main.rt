@@ -80,7 +80,13 @@ fn try_line<R: AllocGlobal + Print>(
     let last = line.saturating_mul(JOBS_A_LINE);
     let before = last.saturating_sub(JOBS_A_LINE);
     for place in 0..JOBS_A_LINE {
-        try_job(rt, tables, before.saturating_add(place + 1), room, &mut figures)?;
+        try_job(
+            rt,
+            tables,
+            before.saturating_add(place + 1),
+            room,
+            &mut figures,
+        )?;
     }
     let first = before.saturating_add(1);
     let Figures { ok, records, sum } = figures;

@@ -29,7 +29,11 @@ pub(crate) fn push_beneath(
     entry: &Entry<'_>,
 ) -> Result<(), AllocError> {
     for child in entry.children.iter() {
-        let number = if child.named { Some(child.number) } else { None };
+        let number = if child.named {
+            Some(child.number)
+        } else {
+            None
+        };
         style.begin_entry(text, child.depth, number)?;
         push_sending(text, style, child)?;
         style.end_entry(text, child.times)?;

@@ -17,11 +17,7 @@ fn subscript(draw: &mut Draw, times: Times) -> Option<u64> {
 }
 
 /// Writes the subscripts of tables.
-fn push_subscripts(
-    text: &mut String,
-    draw: &mut Draw,
-    tables: &[Times],
-) -> Result<(), AllocError> {
+fn push_subscripts(text: &mut String, draw: &mut Draw, tables: &[Times]) -> Result<(), AllocError> {
     let mut before = " (";
     for times in tables {
         if let Some(subscript) = subscript(draw, *times) {
@@ -29,7 +25,11 @@ fn push_subscripts(
             before = " ";
         }
     }
-    if before == " " { text.push(')') } else { Ok(()) }
+    if before == " " {
+        text.push(')')
+    } else {
+        Ok(())
+    }
 }
 
 /// Writes the element of an entry of a record.
@@ -58,7 +58,14 @@ fn push_move(
     text.push_str("           MOVE")?;
     push_reference(text, draw, style, number, style.input, &listed.tables)?;
     text.push_str("\n               TO")?;
-    push_reference(text, draw, style, number, style.output, &[listed.entry.times])?;
+    push_reference(
+        text,
+        draw,
+        style,
+        number,
+        style.output,
+        &[listed.entry.times],
+    )?;
     text.push_str(".\n")
 }
 

@@ -86,7 +86,11 @@ impl Style {
             Times::Once => {}
             Times::Fixed(most) => write!(text, "\n           OCCURS {most}")?,
             Times::Varies(table) => {
-                write!(text, "\n           OCCURS {} TO {} DEPENDING ON\n           ", table.least, table.most)?;
+                write!(
+                    text,
+                    "\n           OCCURS {} TO {} DEPENDING ON\n           ",
+                    table.least, table.most
+                )?;
                 self.push_name(text, table.count)?;
             }
         }

@@ -45,25 +45,25 @@ loop-step-preserved c =
     let r : Records = records c.args.layouts.now in
     elim c.match-step.branch [
       | in-Part+in_ok-make_part-in-Part w ↦ record {
-          left = same_left c.args.layouts.now.reading r c.args.given.now c.args.steps.now c.args.bases.now (c.loop-step.step-index + 1) c.args.input.now c.args.output.now w.make_part.new.output c.match-step.output w.output-is
-              (left_part c.args.layouts.now.reading r c.args.given.now c.args.steps.now c.args.bases.now c.loop-step.step-index w.in-Part.part c.args.input.now c.args.output.now c.loop-step.output w.make_part.new.output
-              (next_step c.args.layouts.now.reading r c.args.given.now c.args.steps.now c.args.bases.now c.loop-step.step-index _ _ c.args.input.now c.args.output.now c.loop-step.output c.loop-step-test.true w.in-Part.is c.loop-step.invariant.left)
-              w.in_ok-make_part-in-Part.ensures.moved);
-          output = c.match-step.auto.output ∙ c.loop-step.invariant.output;
-          space = same_space r c.args.input.now w.make_part.new.output c.match-step.output w.make_part.new.space c.match-step.space w.output-is w.space-is w.in_ok-make_part-in-Part.ensures.space;
-        }
+        left = same_left c.args.layouts.now.reading r c.args.given.now c.args.steps.now c.args.bases.now (c.loop-step.step-index + 1) c.args.input.now c.args.output.now w.make_part.new.output c.match-step.output w.output-is
+            (left_part c.args.layouts.now.reading r c.args.given.now c.args.steps.now c.args.bases.now c.loop-step.step-index w.in-Part.part c.args.input.now c.args.output.now c.loop-step.output w.make_part.new.output
+            (next_step c.args.layouts.now.reading r c.args.given.now c.args.steps.now c.args.bases.now c.loop-step.step-index _ _ c.args.input.now c.args.output.now c.loop-step.output c.loop-step-test.true w.in-Part.is c.loop-step.invariant.left)
+            w.in_ok-make_part-in-Part.ensures.moved);
+        output = c.match-step.auto.output ∙ c.loop-step.invariant.output;
+        space = same_space r c.args.input.now w.make_part.new.output c.match-step.output w.make_part.new.space c.match-step.space w.output-is w.space-is w.in_ok-make_part-in-Part.ensures.space;
+      }
       | in-Copy w ↦ record {
-          left = same_left c.args.layouts.now.reading r c.args.given.now c.args.steps.now c.args.bases.now (c.loop-step.step-index + 1) c.args.input.now c.args.output.now w.copy_across.new.output c.match-step.output w.output-is
-              (left_copy c.args.layouts.now.reading r c.args.given.now c.args.steps.now c.args.bases.now c.loop-step.step-index w.in-Copy.places c.args.input.now c.args.output.now c.loop-step.output w.copy_across.new.output
-              c.requires.input (c.loop-step.invariant.output ∙ c.requires.output) w.copy_across.ensures
-              (next_step c.args.layouts.now.reading r c.args.given.now c.args.steps.now c.args.bases.now c.loop-step.step-index _ _ c.args.input.now c.args.output.now c.loop-step.output c.loop-step-test.true w.in-Copy.is c.loop-step.invariant.left));
-          output = c.match-step.auto.output ∙ c.loop-step.invariant.output;
-          space = same_space r c.args.input.now w.copy_across.new.output c.match-step.output c.loop-step.space c.match-step.space w.output-is w.space-is
-              (space_copy c.args.layouts.now.reading r c.args.given.now c.args.steps.now c.args.bases.now c.loop-step.step-index w.in-Copy.places c.args.input.now c.args.output.now c.loop-step.output w.copy_across.new.output c.loop-step.space
-              c.requires.input (c.loop-step.invariant.output ∙ c.requires.output) w.copy_across.ensures
-              (next_step c.args.layouts.now.reading r c.args.given.now c.args.steps.now c.args.bases.now c.loop-step.step-index _ _ c.args.input.now c.args.output.now c.loop-step.output c.loop-step-test.true w.in-Copy.is c.loop-step.invariant.left)
-              c.loop-step.invariant.space);
-        }
+        left = same_left c.args.layouts.now.reading r c.args.given.now c.args.steps.now c.args.bases.now (c.loop-step.step-index + 1) c.args.input.now c.args.output.now w.copy_across.new.output c.match-step.output w.output-is
+            (left_copy c.args.layouts.now.reading r c.args.given.now c.args.steps.now c.args.bases.now c.loop-step.step-index w.in-Copy.places c.args.input.now c.args.output.now c.loop-step.output w.copy_across.new.output
+            c.requires.input (c.loop-step.invariant.output ∙ c.requires.output) w.copy_across.ensures
+            (next_step c.args.layouts.now.reading r c.args.given.now c.args.steps.now c.args.bases.now c.loop-step.step-index _ _ c.args.input.now c.args.output.now c.loop-step.output c.loop-step-test.true w.in-Copy.is c.loop-step.invariant.left));
+        output = c.match-step.auto.output ∙ c.loop-step.invariant.output;
+        space = same_space r c.args.input.now w.copy_across.new.output c.match-step.output c.loop-step.space c.match-step.space w.output-is w.space-is
+            (space_copy c.args.layouts.now.reading r c.args.given.now c.args.steps.now c.args.bases.now c.loop-step.step-index w.in-Copy.places c.args.input.now c.args.output.now c.loop-step.output w.copy_across.new.output c.loop-step.space
+            c.requires.input (c.loop-step.invariant.output ∙ c.requires.output) w.copy_across.ensures
+            (next_step c.args.layouts.now.reading r c.args.given.now c.args.steps.now c.args.bases.now c.loop-step.step-index _ _ c.args.input.now c.args.output.now c.loop-step.output c.loop-step-test.true w.in-Copy.is c.loop-step.invariant.left)
+            c.loop-step.invariant.space);
+      }
     ]
 
 pub returns-clause-applied : goal.returns-clause-applied
