@@ -1,12 +1,13 @@
 -- Zoned decimal with a separate sign: a byte of its own before or behind the digits.
 use Rattle.std.specs.Prelude.{◌≡◌, ℕ, if◌then◌else◌, List, [], ◌∷◌, ◌++◌, length, Bool}
+use Rattle.cob_cp037.specs.Named.{minus_byte, plus_byte}
 use Rattle.cob_decimal.specs.Decimal.{IsDigits}
 use Rattle.cob_codec.specs.Sign.{IsSigned}
 use Rattle.cob_codec.specs.Zoned.{digit_bytes}
 
--- The byte of the sign: 4E, a plus, or 60, a minus.
+-- The byte of the sign: a plus or a minus.
 abbrev pub sign_byte : Bool → ℕ
-sign_byte minus = if minus then 0x60 else 0x4E
+sign_byte minus = if minus then minus_byte else plus_byte
 
 -- The digits in zone F, the sign's byte behind them, or before them where it is leading.
 abbrev pub separate_form : Bool → Bool → List ℕ → List ℕ

@@ -1,5 +1,6 @@
 -- Zoned decimal: a digit in each byte's low half.
 use Rattle.std.specs.Prelude.{◌≡◌, ◌≢◌, ℕ, ◌+◌, ◌*◌, ◌/◌, ◌%◌, ◌<◌, List, length, map, slice_index, slice_set, Some, Bool}
+use Rattle.cob_cp037.specs.Named.{zero_byte}
 use Rattle.cob_decimal.specs.Decimal.{IsDigits}
 use Rattle.cob_codec.specs.Sign.{sign_meaning, sign_code, sign_place, IsSigned}
 
@@ -22,9 +23,9 @@ pub record IsZoned (count : ℕ) (signed leading : Bool) (bytes : List ℕ) (neg
   pub meaning : sign_meaning signed (zone_of (slice_index bytes (sign_place signed leading count))) ≡ Some minus
   pub sign : IsSigned minus digits negative
 
--- Each digit in zone F.
+-- Each digit in zone F, which is its character.
 abbrev pub digit_bytes : List ℕ → List ℕ
-digit_bytes digits = map (λ d. 0xF0 + d) digits
+digit_bytes digits = map (λ d. zero_byte + d) digits
 
 -- The bytes that are written: each digit in zone F, but in the sign's place, where the zone is the sign's code.
 abbrev pub zoned_form : Bool → Bool → Bool → List ℕ → List ℕ

@@ -13,7 +13,8 @@
 //! `bytes_represent_one_number`, `stored_numbers_read_back` and `whole_reading_agrees` are laws over these words; code that is
 //! generic over [`Storage`] has the same laws by `Storage::laws`.
 //!
-//! The crate stands on cob_decimal for numbers and on byteorder for binary items. Nothing here takes memory.
+//! The crate stands on cob_cp037 for the characters of digits and signs, on cob_decimal for numbers and on byteorder for binary items.
+//! Nothing here takes memory.
 #![tactic(auto)]
 
 mod binary;

@@ -4,12 +4,13 @@ ghost use Rattle.cob_codec.specs.Separate.{IsSignedSeparately, separate_form, si
 use crate::shape::Shape;
 use crate::storage::Storage;
 use crate::zoned::{put_digits, read_digits};
+use cob_cp037::{MINUS, PLUS};
 use cob_decimal::Number;
 
 /// Zoned decimal with a separate sign (SIGN SEPARATE): a byte for each digit, and one for the sign.
 ///
-/// The digits are F0 to F9. The sign is 4E, a plus, or 60, a minus, behind them or with SIGN LEADING before them. Signed shapes alone
-/// are taken.
+/// The digits are their characters, F0 to F9. The sign is a plus, 4E, or a minus, 60, behind them or with SIGN LEADING before them. Signed
+/// shapes alone are taken.
 pub struct Separate;
 
 impl Storage for Separate {
@@ -49,7 +50,7 @@ impl Storage for Separate {
 fn sign_written(negative: bool) -> u8
     ensures { result ≡ sign_byte negative }
 {
-    if negative { 0x60 } else { 0x4E }
+    if negative { MINUS } else { PLUS }
 }
 
 /// Whether a sign's byte is a minus, if it is a sign.
@@ -58,8 +59,8 @@ fn sign_read(byte: u8) -> Option<bool>
     ensures none { IfNone result ((minus : Bool) → byte ≢ sign_byte minus) }
 {
     match byte {
-        0x4E => Some(false),
-        0x60 => Some(true),
+        PLUS => Some(false),
+        MINUS => Some(true),
         _ => None,
     }
 }

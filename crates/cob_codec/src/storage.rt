@@ -1,4 +1,6 @@
-ghost use Rattle.std.specs.Prelude.{◌≡◌, ◌<◌, ℕ, List, Bool, length, IfSome, IsSomeAnd, IsTrue};
+ghost use Rattle.std.specs.Prelude.{◌≡◌, ◌<◌, ℕ, List, Bool, length, IfSome, IsTrue};
+ghost use Rattle.cob_decimal.specs.Answers.{AnswersNumber};
+ghost use Rattle.cob_codec.specs.Laws.{HasStoredLength, OneNumber, ReadsBack, RepresentsHeld};
 ghost use Rattle.cob_codec.specs.Sign.{IsHeld};
 ghost use Rattle.cob_codec.specs.declared.shape.Shape.{Shape};
 
@@ -36,7 +38,7 @@ pub trait Storage {
         ensures scale { IfSome result (λ v. v.scale ≡ shape.now.scale) }
         ensures only { (negative : Bool) (digits : List ℕ)
             → represents shape.now bytes.now negative digits
-            → IsSomeAnd result (λ v. (v.negative ≡ negative) × (v.digits ≡ digits)) };
+            → AnswersNumber result negative digits };
 
     /// Writes the stored form of a number into all bytes of an item.
     ///
@@ -54,16 +56,11 @@ pub trait Storage {
     /// What holds of these words: what was stored has the item's length and reads back, bytes represent at most one number, and what
     /// they represent is a number that the item can hold. It does nothing; code that is generic over the kind calls it for its clauses.
     fn laws()
-        ensures stored_length { (shape : Shape) (negative : Bool) (digits : List ℕ)
-            → takes shape → IsHeld shape.digits shape.signed negative digits
-            → length (stored shape negative digits) ≡ size shape }
-        ensures reads_back { (shape : Shape) (negative : Bool) (digits : List ℕ)
-            → takes shape → IsHeld shape.digits shape.signed negative digits
-            → represents shape (stored shape negative digits) negative digits }
-        ensures one_number { (shape : Shape) (bytes : List ℕ) (a b : Bool) (ds es : List ℕ)
-            → takes shape → represents shape bytes a ds → represents shape bytes b es
-            → (a ≡ b) × (ds ≡ es) }
-        ensures held { (shape : Shape) (bytes : List ℕ) (negative : Bool) (digits : List ℕ)
-            → takes shape → represents shape bytes negative digits
-            → IsHeld shape.digits shape.signed negative digits };
+        ensures stored_length { (shape : Shape) → takes shape
+            → HasStoredLength shape.digits shape.signed (stored shape) (size shape) }
+        ensures reads_back { (shape : Shape) → takes shape
+            → ReadsBack shape.digits shape.signed (stored shape) (represents shape) }
+        ensures one_number { (shape : Shape) → takes shape → OneNumber (represents shape) }
+        ensures held { (shape : Shape) → takes shape
+            → RepresentsHeld shape.digits shape.signed (represents shape) };
 }

@@ -7,6 +7,7 @@ ghost use Rattle.cob_codec.specs.Zoned.{IsZoned, digit_bytes, zoned_form};
 use crate::shape::Shape;
 use crate::sign::{code_of, sign_of};
 use crate::storage::Storage;
+use cob_cp037::ZERO;
 use cob_decimal::{Digits, Number};
 
 /// Zoned decimal (USAGE DISPLAY): a byte for each digit.
@@ -89,10 +90,10 @@ pub fn read_digits(bytes: &[u8]) -> Option<Digits>
 {
     let mut digits = Digits::new();
     for byte in bytes {
-        if *byte < 0xF0 {
+        if *byte < ZERO {
             return None;
         }
-        let digit = *byte - 0xF0;
+        let digit = *byte - ZERO;
         if digit > 9 {
             return None;
         }
@@ -108,6 +109,6 @@ pub(crate) fn put_digits(bytes: &mut [u8], digits: &[u8])
     ensures { bytes.new ≡ digit_bytes digits.now }
 {
     for (at, digit) in digits.iter().enumerate() {
-        bytes[at] = 0xF0 + *digit;
+        bytes[at] = ZERO + *digit;
     }
 }

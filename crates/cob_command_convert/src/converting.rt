@@ -1,5 +1,6 @@
 ghost use Rattle.std.specs.Prelude.{◌≡◌, IfErr, true};
 ghost use Rattle.cob_command_faults.specs.Ends.{EndsAmong, EndsAs, status_of_outcome};
+ghost use Rattle.cob_records.specs.Forms.{HasBlockSize};
 ghost use Rattle.cob_command_convert.specs.Ends.{MayEndConvert};
 
 use crate::ends::{Ends, open_ends};
@@ -19,6 +20,7 @@ fn convert_into<R: AllocGlobal + Files + Input + Print + Eprint + Clock>(
     line: &ConvertLine<'_>,
     converter: &mut Converter,
 ) -> Result<u64, CommandFault>
+    requires { HasBlockSize line.now.in_form }
     ensures { IfErr result (MayEndConvert line.now.atomic) }
 {
     let Ends { source, mut sink } = open_ends(rt, line, None)?;
@@ -33,7 +35,8 @@ fn convert_beside<R: AllocGlobal + Files + Input + Print + Eprint + Clock>(
     line: &ConvertLine<'_>,
     converter: &mut Converter,
 ) -> Result<u64, CommandFault>
-    requires { line.now.atomic ≡ true }
+    requires atomic { line.now.atomic ≡ true }
+    requires block { HasBlockSize line.now.in_form }
     ensures { IfErr result (MayEndConvert line.now.atomic) }
 {
     let part = part_name(rt.alloc(), line.output)?;
@@ -55,6 +58,8 @@ pub fn convert<R: AllocGlobal + Files + Input + Print + Eprint + Clock>(
     rt: &R,
     line: &ConvertLine<'_>,
 ) -> Result<u64, CommandFault>
+    requires in_block { HasBlockSize line.now.in_form }
+    requires out_block { HasBlockSize line.now.out_form }
     ensures { IfErr result (MayEndConvert line.now.atomic) }
 {
     let texts = Texts {
@@ -91,6 +96,8 @@ pub fn do_convert<R: AllocGlobal + Files + Input + Print + Eprint + Clock>(
     rt: &R,
     line: &ConvertLine<'_>,
 ) -> Status
+    requires in_block { HasBlockSize line.now.in_form }
+    requires out_block { HasBlockSize line.now.out_form }
     ensures { EndsAmong (MayEndConvert line.now.atomic) result }
 {
     let beside = is_standard_output(rt, line.output);

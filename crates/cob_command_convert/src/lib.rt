@@ -13,7 +13,7 @@
 //! - what is told of a run whose output could not be handed to the device whole, or not put in its place (`finished_run`, `placed_run` of
 //!   specs/Finished.antt), and that where a conversion ends otherwise than by a device that fails, nothing of what it wrote is still held.
 //!
-//! What files hold and what is printed is shown by the stored command lines of `cob_convert_commands_rows`.
+//! What files hold and what is printed is shown by the stored command lines of `cob_jobs`.
 //!
 //! It stands on `cob_convert_line` for the command line, on `cob_command_faults` for faults and texts, on `cob_convert` for what is done, on
 //! `cob_convert_files` for identities of files and outputs that replace a file, on `cob_records` for the ends over files, on `cob_codec` for the reading

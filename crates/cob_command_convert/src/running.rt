@@ -1,6 +1,7 @@
 ghost use Rattle.std.specs.Prelude.{◌≡◌, [], IfErr, OnOk};
 ghost use Rattle.std.specs.Io.Buffered.{writer_buffer};
 ghost use Rattle.cob_records.specs.Device.{counted};
+ghost use Rattle.cob_records.specs.Forms.{HasBlockSize};
 ghost use Rattle.cob_records.specs.Streams.{sink_writer};
 ghost use Rattle.cob_convert.specs.Run.{is_write_stop};
 ghost use Rattle.cob_command_convert.specs.Ends.{LacksPlace, StopsRun};
@@ -75,6 +76,7 @@ fn answer_of<T: Eprint + Clock, S: Source + Drop, K: Sink>(
     mut source: S,
     sink: &mut K,
 ) -> Result<u64, RunFault>
+    requires { HasBlockSize form }
     ensures ran { RanFrom converter.old result
         (S.coming source) (K.taken sink.old) (K.taken sink.new) }
     ensures writes { K.failures sink.new
@@ -102,6 +104,7 @@ pub fn run_to_end<T: Eprint + Clock, S: Source + Drop, W: Write + Drop>(
     source: S,
     sink: &mut WriteSink<BufWriter<W>>,
 ) -> Ending
+    requires { HasBlockSize form }
     ensures { OnOk result.flushed (writer_buffer (sink_writer sink.new) ≡ []) }
 {
     let answer = answer_of(rt, form, telling, converter, source, sink);

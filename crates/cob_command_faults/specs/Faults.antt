@@ -1,7 +1,7 @@
 -- What a command is told to come to that is not done, and the status of that.
 use Rattle.cob_convert.specs.declared.fault.PrepareFault.{PrepareFault}
 use Rattle.cob_convert.specs.declared.fault.PrepareFault.TheVariants as prepare
-use Rattle.cob_job.specs.Jobs.{status_of_stop}
+use Rattle.cob_job.specs.Jobs.{status_of_prepare_fault, status_of_stop}
 use Rattle.cob_job.specs.declared.jobs.Status.{Status}
 use Rattle.cob_job.specs.declared.jobs.Status.TheVariants as status
 use Rattle.cob_stream.specs.declared.fault.Cause.{Cause}
@@ -61,7 +61,7 @@ show_fault (listing.Run stopped) = show_fault_by stopped.cause stopped
 abbrev pub status_of : CommandFault → Status
 status_of (fault.CannotOpen name) = status.Device
 status_of (fault.CannotRead name) = status.Device
-status_of (fault.Refused refused) = status.Refused
+status_of (fault.Refused refused) = status_of_prepare_fault refused
 status_of (fault.Stopped stopped) = status_of_stop stopped.cause
 status_of (fault.Book refused) = status.Refused
 status_of (fault.OneFile name) = status.Malformed

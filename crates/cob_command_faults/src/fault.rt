@@ -146,7 +146,8 @@ impl CommandFault {
             | CommandFault::Unflushed { .. }
             | CommandFault::NotRenamed
             | CommandFault::Unprinted => Status::Device,
-            CommandFault::Refused(_) | CommandFault::Book(_) => Status::Refused,
+            CommandFault::Refused(refused) => Status::of_prepare_fault(refused),
+            CommandFault::Book(_) => Status::Refused,
             CommandFault::OneFile(_) => Status::Malformed,
             CommandFault::Stopped(fault) => Status::of_stop(fault.cause),
             CommandFault::Memory => Status::Memory,

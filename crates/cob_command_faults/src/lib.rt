@@ -9,7 +9,7 @@
 //!   faults they can have is said by specs/Texts.antt. [`opened`] names the option of a file that is not opened or not made.
 //! - [`telling`] says how a run tells how far it is, and [`asks_a_person`] whether a person may be waiting at standard input.
 //!
-//! Which words tell a fault, and what a terminal is, is shown by `cob_convert_commands_rows` and `tools/try_files`.
+//! Which words tell a fault, and what a terminal is, is shown by `cob_jobs` and `tools/try_files`.
 //!
 //! It stands on `cob_convert`, `cob_convert_show`, `cob_convert_files`, `cob_records` and `cob_job` for the faults that become those of a command and
 //! for statuses, on `cob_codec` for the reading of binary items, and on `thiserror` for what faults print.

@@ -1,4 +1,5 @@
 ghost use Rattle.std.specs.Prelude.{IfErr};
+ghost use Rattle.cob_records.specs.Forms.{HasBlockSize};
 ghost use Rattle.cob_command_faults.specs.Texts.{LacksConverter, LacksText};
 
 use crate::fault::{CommandFault, FileName};
@@ -39,7 +40,7 @@ impl Texts<'_> {
     ///
     /// # Errors
     ///
-    /// A file that is not opened or not read, a text that is refused, want of memory.
+    /// A file that is not opened or not read, a text that is refused, blocks of the output that are too short, want of memory.
     pub fn prepared<R: AllocGlobal + Files>(
         self,
         rt: &R,
@@ -47,6 +48,8 @@ impl Texts<'_> {
         out_form: Form,
         reading: Reading,
     ) -> Result<Converter, CommandFault>
+        requires in_block { HasBlockSize in_form }
+        requires out_block { HasBlockSize out_form }
         ensures { IfErr result LacksConverter }
     {
         let in_book = text_of(rt, self.in_book, FileName::InBook)?;

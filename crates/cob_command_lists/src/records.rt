@@ -1,5 +1,6 @@
 ghost use Rattle.std.specs.Prelude.{◌≡◌, [], IfErr, OnOk};
 ghost use Rattle.std.specs.Io.Buffered.{writer_buffer};
+ghost use Rattle.cob_records.specs.Forms.{HasBlockSize};
 ghost use Rattle.cob_records.specs.Streams.{sink_writer};
 ghost use Rattle.cob_command_faults.specs.Texts.{StopsListing};
 ghost use Rattle.cob_convert_show.specs.Records.{IsShowFault};
@@ -27,7 +28,8 @@ fn shown<R: AllocGlobal + Eprint + Clock, S: Source + Drop, K: Sink>(
     mut source: S,
     sink: &mut K,
 ) -> Result<u64, ShowFault>
-    requires { listed.now.book ≡ listed.now.layout }
+    requires listed { listed.now.book ≡ listed.now.layout }
+    requires block { HasBlockSize form }
     ensures shows { ShowsFrom form listed.now.layout result
         (S.coming source) (K.taken sink.old) (K.taken sink.new) }
     ensures fault { IfErr result IsShowFault }
@@ -53,7 +55,8 @@ fn show_to_end<R: AllocGlobal + Eprint + Clock, S: Source + Drop, W: Write + Dro
     source: S,
     sink: &mut WriteSink<BufWriter<W>>,
 ) -> Result<Result<u64, ShowFault>, DeviceFault>
-    requires { listed.now.book ≡ listed.now.layout }
+    requires listed { listed.now.book ≡ listed.now.layout }
+    requires block { HasBlockSize form }
     ensures { OnOk result (writer_buffer (sink_writer sink.new) ≡ []) }
 {
     let answer = shown(rt, listed, form, telling, source, sink);
@@ -82,6 +85,7 @@ pub fn list_records<R: AllocGlobal + Files + Input + Print + Eprint + Clock>(
     rt: &R,
     line: &ShowLine<'_>,
 ) -> Result<u64, CommandFault>
+    requires { HasBlockSize line.now.form }
     ensures { IfErr result MayEndShow }
 {
     let book = read_book(rt, line.book)?;
@@ -108,6 +112,7 @@ pub fn do_show<R: AllocGlobal + Files + Input + Print + Eprint + Clock>(
     rt: &R,
     line: &ShowLine<'_>,
 ) -> Status
+    requires { HasBlockSize line.now.form }
     ensures { EndsAmong MayEndShow result }
 {
     tell_shown(rt, list_records(rt, line))

@@ -1,3 +1,4 @@
+pub mod Outlets
 pub mod Carried
 pub mod Headline
 pub mod One

@@ -1,5 +1,5 @@
 -- What three texts mean, and why they are refused.
-use Rattle.std.specs.Prelude.{◌≡◌, ℕ, List}
+use Rattle.std.specs.Prelude.{◌≡◌, ◌+◌, ◌<◌, ℕ, List}
 use Rattle.cob_codec.specs.declared.reading.Reading.{Reading}
 use Rattle.cob_copybook_tree.specs.Forests.{Forest}
 use Rattle.cob_copybook_tree.specs.Nodes.{Resolved}
@@ -7,13 +7,15 @@ use Rattle.cob_copybook.specs.declared.role.Role.{Role}
 use Rattle.cob_copybook.specs.declared.role.Role.TheVariants.{In, Out}
 use Rattle.cob_copybook.specs.Books.{IsBookOf, IsBookRefusal, IsMemory}
 use Rattle.cob_entry.specs.declared.fault.BookFault.{BookFault}
-use Rattle.cob_convert_record.specs.Conversion.{Conversion, conversion_by}
+use Rattle.cob_records.specs.declared.records.Form.{Form}
+use Rattle.cob_records.specs.declared.records.Form.TheVariants.{Fixed, Variable, Blocked}
+use Rattle.cob_convert_record.specs.Conversion.{Conversion, conversion_by, out_length}
 use Rattle.cob_move.specs.Paragraphs.{IsParagraphOf, IsRefusalOf}
 use Rattle.cob_move_statements.specs.declared.fault.MoveFault.{MoveFault}
 use Rattle.cob_move_statements.specs.declared.fault.MoveRule.{MoveRule}
 use Rattle.cob_move_statements.specs.declared.fault.MoveRule.TheVariants as rule
 use Rattle.cob_convert.specs.declared.fault.PrepareFault.{PrepareFault}
-use Rattle.cob_convert.specs.declared.fault.PrepareFault.TheVariants.{InBook, OutBook, Moves, Memory}
+use Rattle.cob_convert.specs.declared.fault.PrepareFault.TheVariants.{InBook, OutBook, Moves, Block, Memory}
 
 -- The texts say this conversion: the books describe its records, and the paragraph says its moves.
 pub record Means (in_book out_book moves : List ℕ) (conversion : Conversion) : Type 0 where
@@ -39,6 +41,7 @@ abbrev pub IsInRefusal : PrepareFault → List ℕ → Type 0
 IsInRefusal (InBook f) book = BreaksRule In f book
 IsInRefusal (OutBook f) book = ⊥
 IsInRefusal (Moves f) book = ⊥
+IsInRefusal (Block least) book = ⊥
 IsInRefusal Memory book = Unit {0}
 
 -- the copybook of the output record is refused
@@ -46,6 +49,7 @@ abbrev pub IsOutRefusal : PrepareFault → List ℕ → Type 0
 IsOutRefusal (InBook f) book = ⊥
 IsOutRefusal (OutBook f) book = BreaksRule Out f book
 IsOutRefusal (Moves f) book = ⊥
+IsOutRefusal (Block least) book = ⊥
 IsOutRefusal Memory book = Unit {0}
 
 -- the fault is refused memory, which is no rule of paragraphs
@@ -62,6 +66,7 @@ abbrev pub IsMovesRefusal : PrepareFault → List ℕ → Forest Resolved → Fo
 IsMovesRefusal (InBook f) moves input output = ⊥
 IsMovesRefusal (OutBook f) moves input output = ⊥
 IsMovesRefusal (Moves f) moves input output = BreaksMoveRule f moves input output
+IsMovesRefusal (Block least) moves input output = ⊥
 IsMovesRefusal Memory moves input output = Unit {0}
 
 -- what the refusal of a paragraph is for a converter, by its rule: a fault of the text stays one, and want of memory stays that
@@ -73,10 +78,28 @@ moves_refusal_by _ f = Moves f
 abbrev pub moves_refusal : MoveFault → PrepareFault
 moves_refusal f = moves_refusal_by f.rule f
 
--- A refusal names the first of the texts that is refused: a book that breaks a rule, or between two books the paragraph. Memory is no text's fault.
-abbrev pub IsPrepareRefusal : PrepareFault → List ℕ → List ℕ → List ℕ → Type 0
-IsPrepareRefusal (InBook f) in_book out_book moves = BreaksRule In f in_book
-IsPrepareRefusal (OutBook f) in_book out_book moves = IsBook In in_book × BreaksRule Out f out_book
-IsPrepareRefusal (Moves f) in_book out_book moves =
+-- The blocks of this form are too short for the frame of a record of the greatest length, with which a block has the least size that will do: both
+-- descriptors and the record.
+abbrev pub IsTooShort : Form → (greatest least : ℕ) → Type 0
+IsTooShort Fixed greatest least = ⊥
+IsTooShort Variable greatest least = ⊥
+IsTooShort (Blocked size) greatest least = (least ≡ 8 + greatest) × (size < least)
+
+-- the blocks of the output are refused
+abbrev pub IsBlockRefusal : PrepareFault → Form → ℕ → Type 0
+IsBlockRefusal (InBook f) form greatest = ⊥
+IsBlockRefusal (OutBook f) form greatest = ⊥
+IsBlockRefusal (Moves f) form greatest = ⊥
+IsBlockRefusal (Block least) form greatest = IsTooShort form greatest least
+IsBlockRefusal Memory form greatest = ⊥
+
+-- A refusal names the first of the texts that is refused: a book that breaks a rule, or between two books the paragraph; or, where the texts say a
+-- conversion, the blocks of the output. Memory is no text's fault.
+abbrev pub IsPrepareRefusal : Form → PrepareFault → List ℕ → List ℕ → List ℕ → Type 0
+IsPrepareRefusal out_form (InBook f) in_book out_book moves = BreaksRule In f in_book
+IsPrepareRefusal out_form (OutBook f) in_book out_book moves = IsBook In in_book × BreaksRule Out f out_book
+IsPrepareRefusal out_form (Moves f) in_book out_book moves =
     (input : Forest Resolved) × (output : Forest Resolved) × IsBookOf In in_book input × IsBookOf Out out_book output × BreaksMoveRule f moves input output
-IsPrepareRefusal Memory in_book out_book moves = Unit {0}
+IsPrepareRefusal out_form (Block least) in_book out_book moves =
+    (conversion : Conversion) × Means in_book out_book moves conversion × IsTooShort out_form (out_length conversion) least
+IsPrepareRefusal out_form Memory in_book out_book moves = Unit {0}

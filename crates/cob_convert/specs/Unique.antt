@@ -4,6 +4,7 @@ use Rattle.cob_limits.specs.Limits.{longest_record}
 use Rattle.cob_copybook_tree.specs.Forests.{Forest}
 use Rattle.cob_copybook_tree.specs.Nodes.{Resolved}
 use Rattle.cob_layout.specs.Storage.{greatest_length}
+use Rattle.cob_records.specs.Forms.{HasBlockSize}
 use Rattle.cob_convert_record.specs.Conversion.{Conversion}
 use Rattle.cob_stream.specs.declared.fault.RunFault.{RunFault}
 use Rattle.cob_convert.specs.Converted.{Converted}
@@ -16,5 +17,5 @@ pub record HasBytes (tree : Forest Resolved) : Type 0 where
 -- two conversions of the same bytes have written the same bytes, have one answer and leave the same rest
 abbrev pub ConversionIsOne : Type 0
 ConversionIsOne = (conversion : Conversion) (bytes rest left written other : List ℕ) (answer second : Result ℕ RunFault) → HasBytes conversion.records.input
-    → Converted conversion bytes rest written answer → Converted conversion bytes left other second
+    → HasBlockSize conversion.in_form → Converted conversion bytes rest written answer → Converted conversion bytes left other second
     → (written ≡ other) × (answer ≡ second) × (rest ≡ left)

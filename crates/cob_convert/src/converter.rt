@@ -1,4 +1,4 @@
-ghost use Rattle.std.specs.Prelude.{◌≡◌, ◌<◌, ◌≤◌, List, IfOk, IfErr, min, vec_len};
+ghost use Rattle.std.specs.Prelude.{◌≡◌, ◌<◌, ◌≤◌, List, IfOk, IfErr, OnOk, min, vec_len};
 ghost use Rattle.cob_move_apply.specs.Prepared.{most_moves_told, single_moves};
 ghost use Rattle.cob_records.specs.Device.{counted, Told};
 ghost use Rattle.cob_move.specs.Paragraphs.{IsParagraphOf};
@@ -7,7 +7,8 @@ ghost use Rattle.cob_convert_record.specs.Conversion.{conversion_by, in_length, 
 ghost use Rattle.cob_layout_places.specs.Moves.{Move};
 ghost use Rattle.cob_convert.specs.declared.fault.PrepareFault.TheVariants.{Memory};
 ghost use Rattle.cob_convert.specs.Unique.{HasBytes};
-ghost use Rattle.cob_convert.specs.Means.{Means, MeansBy, IsMovesRefusal, IsPrepareRefusal};
+ghost use Rattle.cob_records.specs.Forms.{FitsForm, HasBlockSize};
+ghost use Rattle.cob_convert.specs.Means.{Means, MeansBy, IsBlockRefusal, IsMovesRefusal, IsPrepareRefusal};
 
 use crate::books;
 use crate::fault::PrepareFault;
@@ -15,7 +16,7 @@ use crate::run::run_over;
 use cob_codec::Reading;
 use cob_convert_record::{Conversion, Room};
 use cob_move::{Book, Layout, Paragraph};
-use cob_records::{Form, Sink, Source};
+use cob_records::{Form, Outlet, Sink, Source};
 use cob_stream::RunFault;
 use std::alloc::{AllocError, Global};
 use std::marker::Model;
@@ -26,6 +27,7 @@ pub struct Converter {
     conversion: Conversion,
     input: Vec<u8>,
     output: Vec<u8>,
+    outlet: Outlet,
     room: Room,
 }
 
@@ -33,6 +35,7 @@ impl Model for Converter {
     ghost use Rattle.std.specs.Prelude.{◌≡◌, vec_len};
     ghost use Rattle.cob_convert_record.specs.Rooms.{capacity_for};
     ghost use Rattle.cob_convert_record.specs.Conversion.{Conversion, in_length, out_length};
+    ghost use Rattle.cob_records.specs.Forms.{FitsForm, outlet_of};
     ghost use Rattle.std.specs.Coded.{codes};
     ghost use Rattle.cob_convert_record.specs.contracts.conversion.Conversion as e;
 
@@ -42,7 +45,7 @@ impl Model for Converter {
 
     ghost view = { λ c. c.conversion };
 
-    ghost invariant = { λ c. (vec_len c.input ≡ in_length c.conversion) × (vec_len c.output ≡ out_length c.conversion) × (c.room ≡ capacity_for c.conversion.records) };
+    ghost invariant = { λ c. (vec_len c.input ≡ in_length c.conversion) × (vec_len c.output ≡ out_length c.conversion) × (c.room ≡ capacity_for c.conversion.records) × (c.outlet ≡ outlet_of c.conversion.out_form) × FitsForm c.conversion.out_form (out_length c.conversion) };
 }
 
 /// The conversion that a paragraph says between the records of two books.
@@ -59,6 +62,8 @@ fn conversion_of(
     output: &Book,
     moves: &[u8],
 ) -> Result<Conversion, PrepareFault>
+    requires in_block { HasBlockSize in_form }
+    requires out_block { HasBlockSize out_form }
     ensures forms { IfOk result (λ made. (made.in_form ≡ in_form) × (made.out_form ≡ out_form)) }
     ensures input { IfOk result (λ made. made.records.input ≡ input.now) }
     ensures output { IfOk result (λ made. made.records.output ≡ output.now) }
@@ -83,23 +88,49 @@ fn conversion_of(
     )?)
 }
 
+/// Whether the blocks of this form, if there are blocks, have room for the frame of a record of the greatest length.
+///
+/// # Errors
+///
+/// [`PrepareFault::Block`].
+fn check_block(form: Form, greatest: u16) -> Result<(), PrepareFault>
+    requires { greatest ≤ longest_record }
+    ensures fits { OnOk result (FitsForm form greatest) }
+    ensures refused { IfErr result (λ fault. IsBlockRefusal fault form greatest) }
+{
+    match form {
+        Form::Fixed => Ok(()),
+        Form::Variable => Ok(()),
+        Form::Blocked(size) => {
+            let least = greatest + 8;
+            if size < least {
+                return Err(PrepareFault::Block { least });
+            }
+            Ok(())
+        }
+    }
+}
+
 impl Converter {
-    ghost use Rattle.cob_convert.specs.Run.{Ran, is_read_stop, is_write_stop, is_write_error_stop};
+    ghost use Rattle.cob_convert.specs.Run.{CountsReads, Ran, is_write_stop, is_write_error_stop};
     ghost use Rattle.cob_convert.specs.Converted.{Writes};
 
     /// A converter for a conversion, with all the room that its runs need.
     fn of(alloc: Global, conversion: Conversion) -> Result<Converter, AllocError>
+        requires { FitsForm conversion.out_form (out_length conversion) }
         ensures made { IfOk result (λ made. made ≡ conversion) }
         ensures records { IfOk result
             (λ made. HasBytes made.records.input × HasBytes made.records.output) }
     {
         let input = vec![in alloc; 0u8; conversion.in_length() as usize]?;
         let output = vec![in alloc; 0u8; conversion.out_length() as usize]?;
+        let outlet = Outlet::new(alloc, conversion.out_form())?;
         let room = Room::new(alloc, &conversion)?;
         Ok(Converter {
             conversion,
             input,
             output,
+            outlet,
             room,
         })
     }
@@ -107,8 +138,8 @@ impl Converter {
     /// Reads the copybooks of the two records and the paragraph of MOVE statements, and makes a converter of them.
     ///
     /// # Errors
-    /// The first text that breaks a rule: [`PrepareFault::InBook`], [`PrepareFault::OutBook`], [`PrepareFault::Moves`].
-    /// [`PrepareFault::Memory`].
+    /// The first text that breaks a rule: [`PrepareFault::InBook`], [`PrepareFault::OutBook`], [`PrepareFault::Moves`]. Blocks of the output
+    /// that have no room for its longest record: [`PrepareFault::Block`]. [`PrepareFault::Memory`].
     pub fn prepare(
         alloc: Global,
         in_book: &[u8],
@@ -117,6 +148,8 @@ impl Converter {
         in_form: Form,
         out_form: Form,
     ) -> Result<Converter, PrepareFault>
+        requires in_block { HasBlockSize in_form }
+        requires out_block { HasBlockSize out_form }
         // What is prepared is what the texts mean, with the forms that were handed in.
         ensures means { IfOk result (λ made. Means in_book.now out_book.now moves.now made) }
         ensures forms { IfOk result
@@ -124,16 +157,17 @@ impl Converter {
         // Records of both sides have from 1 to 32,752 bytes.
         ensures records { IfOk result
             (λ made. HasBytes made.records.input × HasBytes made.records.output) }
-        // Three texts that say a conversion are prepared, memory aside.
+        // Three texts that say a conversion are prepared, memory aside, where the blocks of the output have room for its records.
         ensures only { (c : Meant) → Means in_book.now out_book.now moves.now c
-            → IfErr result (λ fault. fault ≡ Memory) }
-        // A refusal names a text, and a rule that it breaks.
+            → FitsForm out_form (out_length c) → IfErr result (λ fault. fault ≡ Memory) }
+        // A refusal names a text, and a rule that it breaks; or the blocks of the output.
         ensures refused { IfErr result
-            (λ fault. IsPrepareRefusal fault in_book.now out_book.now moves.now) }
+            (λ fault. IsPrepareRefusal out_form fault in_book.now out_book.now moves.now) }
     {
         let input = books::in_book(alloc, in_book)?;
         let output = books::out_book(alloc, out_book)?;
         let conversion = conversion_of(alloc, in_form, out_form, &input, &output, moves)?;
+        check_block(out_form, conversion.out_length())?;
         Ok(Converter::of(alloc, conversion)?)
     }
 
@@ -145,6 +179,7 @@ impl Converter {
             conversion: self.conversion.with_reading(reading),
             input: self.input,
             output: self.output,
+            outlet: self.outlet,
             room: self.room,
         }
     }
@@ -163,6 +198,8 @@ impl Converter {
         out_form: Form,
         reading: Reading,
     ) -> Result<Converter, PrepareFault>
+        requires in_block { HasBlockSize in_form }
+        requires out_block { HasBlockSize out_form }
         // What is prepared is what the texts mean by this reading, with the forms that were handed in.
         ensures means { IfOk result
             (λ made. MeansBy reading in_book.now out_book.now moves.now made) }
@@ -171,12 +208,12 @@ impl Converter {
         // Records of both sides have from 1 to 32,752 bytes.
         ensures records { IfOk result
             (λ made. HasBytes made.records.input × HasBytes made.records.output) }
-        // Three texts that say a conversion are prepared, memory aside.
+        // Three texts that say a conversion are prepared, memory aside, where the blocks of the output have room for its records.
         ensures only { (c : Meant) → Means in_book.now out_book.now moves.now c
-            → IfErr result (λ fault. fault ≡ Memory) }
-        // A refusal names a text, and a rule that it breaks.
+            → FitsForm out_form (out_length c) → IfErr result (λ fault. fault ≡ Memory) }
+        // A refusal names a text, and a rule that it breaks; or the blocks of the output.
         ensures refused { IfErr result
-            (λ fault. IsPrepareRefusal fault in_book.now out_book.now moves.now) }
+            (λ fault. IsPrepareRefusal out_form fault in_book.now out_book.now moves.now) }
     {
         let pictured = Converter::prepare(alloc, in_book, out_book, moves, in_form, out_form)?;
         Ok(pictured.with_reading(reading))
@@ -217,10 +254,10 @@ impl Converter {
         // Also where a call failed: the records before the stop were converted, and nothing past its frame was read.
         ensures ran { Told (R.coming source.old) (R.coming source.new) (λ bytes rest.
             Ran self.old result bytes rest (W.taken sink.old) (W.taken sink.new)) }
-        // A read failed exactly where that is the answer (F5). A write failed or took nothing exactly where one of these is
-        // (F6, F7), and it failed exactly where that is (F6).
-        ensures reads { R.failures source.new
-            ≡ counted (is_read_stop result) (R.failures source.old) }
+        // A read failed exactly where that is the answer (F5), or in form b a failed write in its place. A write failed or took
+        // nothing exactly where one of these is (F6, F7), and it failed exactly where that is (F6).
+        ensures reads { CountsReads self.old.out_form result
+            (R.failures source.old) (R.failures source.new) }
         ensures writes { W.failures sink.new
             ≡ counted (is_write_stop result) (W.failures sink.old) }
         ensures errors { W.errors sink.new
@@ -231,6 +268,7 @@ impl Converter {
             &self.conversion,
             &mut self.input,
             &mut self.output,
+            &mut self.outlet,
             &mut self.room,
             source,
             sink,

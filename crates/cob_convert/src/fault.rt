@@ -18,6 +18,9 @@ pub enum PrepareFault {
     /// The paragraph of MOVE statements breaks a rule.
     #[error("moves {0}")]
     Moves(MoveFault),
+    /// The blocks of the output have no room for the frame of its longest record: that takes a block of this size at least.
+    #[error("out block least {least}")]
+    Block { least: u16 },
     /// Memory was refused.
     #[error("memory")]
     Memory,

@@ -6,8 +6,6 @@ ghost use Rattle.cob_convert.specs.Unique.{ConversionIsOne};
 pub fn conversion_is_one()
     ensures { ConversionIsOne }
 {
-    cob_records::frames_are_one();
-    cob_records::frames_read_back();
-    cob_records::reading_is_one();
+    cob_records::next_is_one();
     cob_convert_record::conversions_are_decided();
 }

@@ -14,6 +14,8 @@
 //!   specs/Converted.antt. Where the sink does not tell its bytes, it still says the answer.
 //! - Where a call failed, the records before are written, and the answer names the end that failed (`ran`, `reads`, `writes`, `errors`).
 //!   Nothing past the frame of the record that stopped was read.
+//! - Of form b the records are gathered in blocks, each as full as it may be. The open block is written before a stop is answered; where a block
+//!   can't be written the answer names its first record. `prepare` refuses blocks that are too short for the longest record (`PrepareFault::Block`).
 //! - A run asks for no memory, which tests show, and leaves the converter as `prepare` made it (`same`).
 //! - Bytes have one conversion: [`conversion_is_one`].
 //!

@@ -1,13 +1,15 @@
-ghost use Rattle.std.specs.Prelude.{◌≡◌, ◌+◌, ◌≤◌, length};
-ghost use Rattle.cob_records.specs.Device.{counted, Told};
+ghost use Rattle.std.specs.Prelude.{◌≡◌, ◌+◌, ◌≤◌, false, length, IfSome};
+ghost use Rattle.cob_records.specs.Device.{counted, Took, Told};
+ghost use Rattle.cob_records.specs.Forms.{FitsForm, emptied, records_held, outlet_of};
 ghost use Rattle.cob_convert_record.specs.Rooms.{capacity_for};
 ghost use Rattle.cob_convert_record.specs.Conversion.{in_length, out_length};
-ghost use Rattle.cob_convert.specs.Run.{Ran, cause_from, is_read_stop, is_write_stop, is_write_error_stop};
+ghost use Rattle.cob_stream.specs.Reasons.{is_error_cause, is_write_cause};
+ghost use Rattle.cob_convert.specs.Run.{Closes, CountsReads, Ran, cause_from, is_write_stop, is_write_error_stop, limit_reason, stop_reason, write_reason};
 ghost use Rattle.cob_convert.specs.declared.run.TheConstants.{LIMIT};
 
 use cob_convert_record::{Conversion, Room, Stop, StopCause};
-use cob_records::{Sink, Source};
-use cob_stream::{Cause, Reason, RunFault, Side, sized_are_storages, write_record};
+use cob_records::{Outlet, RecordFault, Sink, Source};
+use cob_stream::{Cause, Reason, RunFault, Side, sized_are_storages, write_pending, write_record};
 
 /// How many records a run converts at most.
 const LIMIT: u64 = u64::MAX - 1;
@@ -25,16 +27,24 @@ fn cause_of(cause: StopCause) -> Cause
 
 /// The reason of a conversion that stopped.
 fn reason_of_stop(stop: Stop) -> Reason
-    ensures { result ≡ record {
-      side = stop.side;
-      offset = stop.offset;
-      cause = cause_from stop.cause;
-    } }
+    ensures reason { result ≡ stop_reason stop }
+    ensures kind { is_write_cause result.cause ≡ false }
 {
     Reason {
         side: stop.side,
         offset: stop.offset,
         cause: cause_of(stop.cause),
+    }
+}
+
+/// The reason of a write that failed.
+fn reason_of_write(fault: RecordFault) -> Reason
+    ensures { result ≡ write_reason fault }
+{
+    Reason {
+        side: Side::Out,
+        offset: 0,
+        cause: Cause::Record(fault),
     }
 }
 
@@ -63,46 +73,77 @@ fn stop_behind(done: u64, why: Reason, written: u64) -> RunFault
     }
 }
 
+/// Writes what the outlet holds back, and then answers the number of records that were converted, or why the next one stops the run. Where
+/// the write fails, that is the answer, at the first record that was held back.
+fn close<W: Sink>(
+    outlet: &mut Outlet,
+    sink: &mut W,
+    done: u64,
+    written: u64,
+    why: Option<Reason>,
+) -> Result<u64, RunFault>
+    requires done { done ≤ LIMIT }
+    requires held { records_held outlet.old ≤ done }
+    requires why { IfSome why (λ reason. is_write_cause reason.cause ≡ false) }
+    ensures closes { Took (W.taken sink.old) (W.taken sink.new)
+        (Closes outlet.old done written why result) }
+    ensures writes { W.failures sink.new ≡ counted (is_write_stop result) (W.failures sink.old) }
+    ensures errors { W.errors sink.new ≡ counted (is_write_error_stop result) (W.errors sink.old) }
+    ensures emptied { outlet.new ≡ emptied outlet.old }
+{
+    let held = u64::from(outlet.held());
+    let mut written = written;
+    if let Err(fault) = write_pending(sink, outlet, &mut written) {
+        return Err(stop_behind(done - held, reason_of_write(fault), written));
+    }
+    match why {
+        None => Ok(done),
+        Some(reason) => Err(stop_behind(done, reason, written)),
+    }
+}
+
 /// Converts the records of a source, one after another, up to its end or the first stop.
 pub fn run_over<R: Source, W: Sink>(
     conversion: &Conversion,
     input: &mut [u8],
     output: &mut [u8],
+    outlet: &mut Outlet,
     room: &mut Room,
     source: &mut R,
     sink: &mut W,
 ) -> Result<u64, RunFault>
     requires input { length input.old ≡ in_length conversion.now }
     requires output { length output.old ≡ out_length conversion.now }
+    requires outlet { outlet.old ≡ outlet_of conversion.now.out_form }
+    requires fits { FitsForm conversion.now.out_form (out_length conversion.now) }
     requires room { room.old ≡ capacity_for conversion.now.records }
     ensures ran { Told (R.coming source.old) (R.coming source.new) (λ bytes rest.
         Ran conversion.now result bytes rest (W.taken sink.old) (W.taken sink.new)) }
-    ensures reads { R.failures source.new ≡ counted (is_read_stop result) (R.failures source.old) }
+    ensures reads { CountsReads conversion.now.out_form result
+        (R.failures source.old) (R.failures source.new) }
     ensures writes { W.failures sink.new ≡ counted (is_write_stop result) (W.failures sink.old) }
     ensures errors { W.errors sink.new ≡ counted (is_write_error_stop result) (W.errors sink.old) }
-    // The room that the converter keeps is as large as it was.
+    // The room that the converter keeps is as large as it was, and nothing is held back.
+    ensures outlet { outlet.new ≡ outlet.old }
     ensures room { room.new ≡ room.old }
 {
+    // For `ran`: what is read as one of the layout's records holds a record of it.
     sized_are_storages();
-    let out_form = conversion.out_form();
     let mut written: u64 = 0;
+    let mut left: u16 = 0;
     for done in 0..LIMIT {
-        let count = match conversion.next_input(source, input, room) {
-            Ok(None) => return Ok(done),
+        let count = match conversion.next_input(source, input, &mut left, room) {
+            Ok(None) => return close(outlet, sink, done, written, None),
             Ok(Some(count)) => count,
-            Err(why) => return Err(stop_behind(done, why, written)),
+            Err(why) => return close(outlet, sink, done, written, Some(why)),
         };
         let made = match conversion.convert(&input[..count], output, room) {
             Ok(made) => made,
-            Err(stop) => return Err(stop_behind(done, reason_of_stop(stop), written)),
+            Err(stop) => return close(outlet, sink, done, written, Some(reason_of_stop(stop))),
         };
-        if let Err(fault) = write_record(sink, out_form, &output[..made], &mut written) {
-            let why = Reason {
-                side: Side::Out,
-                offset: 0,
-                cause: Cause::Record(fault),
-            };
-            return Err(stop_behind(done, why, written));
+        let held = u64::from(outlet.held());
+        if let Err(fault) = write_record(sink, outlet, &output[..made], &mut written) {
+            return Err(stop_behind(done - held, reason_of_write(fault), written));
         }
     }
     let why = Reason {
@@ -110,5 +151,5 @@ pub fn run_over<R: Source, W: Sink>(
         offset: 0,
         cause: Cause::Limit,
     };
-    Err(stop_behind(LIMIT, why, written))
+    close(outlet, sink, LIMIT, written, Some(why))
 }

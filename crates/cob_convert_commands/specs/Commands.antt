@@ -32,6 +32,7 @@ abbrev pub status_of_refusal : LineFault → Status
 status_of_refusal (refusal.Words error) = if is_answer_kind (kind_of error) then status.Done else status.Malformed
 status_of_refusal refusal.Form = status.Malformed
 status_of_refusal refusal.Reading = status.Malformed
+status_of_refusal refusal.Block = status.Malformed
 status_of_refusal refusal.NotText = status.Malformed
 status_of_refusal refusal.Memory = status.Memory
 

@@ -1,4 +1,5 @@
 ghost use Rattle.std.specs.Prelude.{◌≡◌, map};
+ghost use Rattle.cob_convert_line.specs.Lines.{HasBlocks};
 ghost use Rattle.cob_convert_commands.specs.Commands.{IsEndOfLine, IsEndOfRefusal, IsEndOfWords, status_of_refusal};
 
 use crate::jobs::do_job;
@@ -16,6 +17,7 @@ pub fn perform<R: AllocGlobal + Files + Input + Print + Eprint + Clock>(
     rt: &R,
     line: &Line<'_>,
 ) -> u8
+    requires { HasBlocks line.now }
     ensures { IsEndOfLine line.now result }
 {
     match line {

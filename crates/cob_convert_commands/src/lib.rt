@@ -7,7 +7,7 @@
 //! faults of that command (`IsEndOfLine`); words that are none end as their refusal says: help and the version as all done, want of memory as
 //! that, others as malformed (`IsEndOfRefusal`); and where the last line could not be printed, as where a device failed. With which status a job
 //! ends is promised by `cob_job`; what it prints was handed to the device, or a device failed. What is printed is shown by the stored command
-//! lines of `cob_convert_commands_rows`.
+//! lines of `cob_jobs`.
 //!
 //! It stands on `cob_convert_line` for the command line, on `cob_command_convert` and `cob_command_lists` for the commands, on
 //! `cob_command_faults` for how a command ends, on `cob_job` for the job and on `cob_records` for its ends.

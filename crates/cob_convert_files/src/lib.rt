@@ -8,7 +8,7 @@
 //!   output is as it was until all of the new one is on its device.
 //!
 //! What a file holds before or after a call, and what the system tells of a name, is no part of a clause; the stored command lines of
-//! `cob_convert_commands_rows` and `tools/try_files` show it. The crate stands on `cob_records` for the ends over files, and on `cob_limits` for the
+//! `cob_jobs` and `tools/try_files` show it. The crate stands on `cob_records` for the ends over files, and on `cob_limits` for the
 //! longest text.
 #![tactic(auto)]
 

@@ -1,14 +1,17 @@
 -- What the parser says of a command, and of what it found, in the words of this crate.
-use Rattle.std.proofs.Common.{rules, codes, subst, ◌∙◌, ◌≡◌, ◌&&◌, ◌==◌, arith, length, map, eqb-true, Bool, List, [], ◌∷◌, Option, Some, None, option_map, true, false, refl, sym, ap, ap₂, true≢false}
+use Rattle.std.proofs.Common.{rules, codes, subst, ◌∙◌, ◌≡◌, ◌&&◌, ◌==◌, ℕ, arith, length, map, eqb-true, Bool, List, [], ◌∷◌, Option, Some, None, option_map, true, false, refl, sym, ap, ap₂, true≢false}
 use Rattle.std.specs.Prelude.{IsSome, not, is_some, unwrap_or}
+use Rattle.std.proofs.lemmas.Bool.Decides.{nat_tests}
 use Rattle.clap.specs.Words.{Row, Text, app_of}
 use Rattle.clap.specs.declared.builder.command.Command.{Command}
 use Rattle.clap.specs.declared.builder.command.Command.TheViews.{out-Command}
-use Rattle.cob_convert_line.specs.Lines.{HaveForms, IsCommandLineOf, IsFaultIn, LacksAForm, LacksForm, LacksReading, Look, form_by_letter, letter_of}
+use Rattle.cob_convert_line.specs.Lines.{HaveForms, IsCommandLineOf, IsFaultIn, LacksABlock, LacksAForm, LacksForm, LacksReading, Look, NamesBlock, form_by_letter, letter_of, reading_by_word, sized_by, word_of}
 use Rattle.cob_convert_line.specs.declared.fault.LineFault.{LineFault}
 use Rattle.cob_convert_line.specs.declared.fault.LineFault.TheVariants as fault
+use Rattle.cob_codec.specs.declared.reading.Reading.{Reading}
+use Rattle.cob_codec.specs.declared.reading.Reading.TheVariants.{Pictured, Whole}
 use Rattle.cob_records.specs.declared.records.Form.{Form}
-use Rattle.cob_records.specs.declared.records.Form.TheVariants.{Fixed, Variable}
+use Rattle.cob_records.specs.declared.records.Form.TheVariants.{Fixed, Variable, Blocked}
 use Rattle.cob_convert_line.specs.declared.line.Line.TheVariants as line
 
 third_is_false : (a b c d : Bool) → (a && (not b && (not c && d))) ≡ true → c ≡ false
@@ -48,13 +51,26 @@ pub some_said : {X : Type 0} (text : X → Text) (words : List X) → (length wo
 some_said text [] e none = true≢false e
 some_said text (word ∷ words) e none = absurd (omega (arith, ap length none))
 
+-- a letter is no other
+other_letter : (a b : ℕ) (letter : Text) → (a == b) ≡ false → a ∷ [] ≡ letter → letter ≡ b ∷ [] → ⊥
+other_letter a b letter differ p q =
+    let same : a ≡ b = ap first_letter (p ∙ q) in true≢false (sym (subst (λ (n : ℕ). (a == n) ≡ true) same (itself a)) ∙ differ)
+  where
+    first_letter : Text → ℕ
+    first_letter [] = 0
+    first_letter (c ∷ cs) = c
+
+    itself : (n : ℕ) → (n == n) ≡ true
+    itself n = grind (arith, nat_tests)
+
 -- an option that names a form does not lack one
 has_form : (look : Look) (name : Text) (f : Form) → look name ≡ Some (letter_of f) → LacksForm look name → ⊥
-has_form look name f named (letter, is, none) = true≢false (sym (ap is_some (sym none ∙ (ap form_by_letter same ∙ back f))))
+has_form look name f named (letter, is, none) = true≢false (sym (ap is_some (sym none ∙ ap form_by_letter same) ∙ back f))
   where
-    back : (f : Form) → form_by_letter (letter_of f) ≡ Some f
+    back : (f : Form) → is_some (form_by_letter (letter_of f)) ≡ true
     back Fixed = refl
     back Variable = refl
+    back (Blocked most) = refl
 
     same : letter ≡ letter_of f
     same = ap (λ o. unwrap_or o letter) (sym is ∙ named)
@@ -62,7 +78,56 @@ has_form look name f named (letter, is, none) = true≢false (sym (ap is_some (s
 pub have_forms : (look : Look) (f g : Form) → look (codes "in-form") ≡ Some (letter_of f) → look (codes "out-form") ≡ Some (letter_of g) → HaveForms look
 have_forms look f g from to = (has_form look (codes "in-form") f from, has_form look (codes "out-form") g to)
 
--- what a fault is of an option that names no form, or no reading
+-- the option for the reading that names one does not lack one
+pub has_reading : (look : Look) (r : Reading) → look (codes "binary") ≡ Some (word_of r) → LacksReading look → ⊥
+has_reading look r named (word, is, none) = true≢false (sym (ap is_some (sym none ∙ ap reading_by_word same) ∙ back r))
+  where
+    back : (r : Reading) → is_some (reading_by_word (word_of r)) ≡ true
+    back Pictured = refl
+    back Whole = refl
+
+    same : word ≡ word_of r
+    same = ap (λ o. unwrap_or o word) (sym is ∙ named)
+
+-- a size is named beside a form as beside another of the same letter
+pub block_beside : (look : Look) (name : Text) (f g : Form) (size : ℕ) → letter_of f ≡ letter_of g → NamesBlock look name f size → NamesBlock look name g size
+block_beside look name Fixed Fixed size same is = is
+block_beside look name Fixed Variable size same is = is
+block_beside look name Fixed (Blocked n) size same is = absurd (other_letter 102 98 (letter_of (Blocked n)) refl same refl)
+block_beside look name Variable Fixed size same is = is
+block_beside look name Variable Variable size same is = is
+block_beside look name Variable (Blocked n) size same is = absurd (other_letter 118 98 (letter_of (Blocked n)) refl same refl)
+block_beside look name (Blocked m) Fixed size same is = absurd (other_letter 98 102 (codes "f") refl same refl)
+block_beside look name (Blocked m) Variable size same is = absurd (other_letter 98 118 (codes "v") refl same refl)
+block_beside look name (Blocked m) (Blocked n) size same is = is
+
+-- two forms that one option names have one letter
+pub same_letter : (look : Look) (name : Text) (f g : Form) → look name ≡ Some (letter_of f) → look name ≡ Some (letter_of g) → letter_of f ≡ letter_of g
+same_letter look name f g p q = ap (λ o. unwrap_or o (letter_of f)) (sym p ∙ q)
+
+letter_sized : (size : ℕ) (f : Form) → letter_of (sized_by size f) ≡ letter_of f
+letter_sized size Fixed = refl
+letter_sized size Variable = refl
+letter_sized size (Blocked most) = refl
+
+sized_twice : (size : ℕ) (f : Form) → sized_by size f ≡ sized_by size (sized_by size f)
+sized_twice size Fixed = refl
+sized_twice size Variable = refl
+sized_twice size (Blocked most) = refl
+
+pub sized_again : (f g : Form) (size : ℕ) → g ≡ sized_by size f → g ≡ sized_by size g
+sized_again f g size is = is ∙ sized_twice size f ∙ ap (sized_by size) (sym is)
+
+pub named_sized : (look : Look) (name : Text) (f g : Form) (size : ℕ) → g ≡ sized_by size f → look name ≡ Some (letter_of f) → look name ≡ Some (letter_of g)
+named_sized look name f g size is named = named ∙ ap Some (sym (letter_sized size f) ∙ ap letter_of (sym is))
+
+pub block_sized : (look : Look) (name : Text) (f g : Form) (size : ℕ) → g ≡ sized_by size f → NamesBlock look name f size → NamesBlock look name g size
+block_sized look name f g size is named = block_beside look name f g size (sym (letter_sized size f) ∙ ap letter_of (sym is)) named
+
+-- what a fault is of an option that names no form, no reading, or no size of blocks
+pub of_block : (look : Look) (f : LineFault) → f ≡ fault.Block → HaveForms look → (LacksReading look → ⊥) → LacksABlock look → IsFaultIn look f
+of_block look f is have reads lacks = subst (IsFaultIn look) (sym is) (have, reads, lacks)
+
 pub of_form : (look : Look) (f : LineFault) → f ≡ fault.Form → LacksAForm look → IsFaultIn look f
 of_form look f is lacks = subst (IsFaultIn look) (sym is) lacks
 

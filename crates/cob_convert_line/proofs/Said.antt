@@ -1,5 +1,5 @@
 -- What the parser finds is what the words say.
-use Rattle.std.proofs.Common.{◌⊎◌, inl, inr, Result, Ok, Err, IsErrAnd, IfErr, ◌≡◌, ◌∙◌, Bool, false, refl, sym, ap, List, [], ◌∷◌, Option, Some, None, is_some, codes, subst, true≢false}
+use Rattle.std.proofs.Common.{◌⊎◌, inl, inr, Result, Ok, Err, IsErrAnd, IfErr, ◌≡◌, ◌∙◌, ℕ, Bool, false, refl, sym, ap, List, [], ◌∷◌, Option, Some, None, is_some, codes, subst, true≢false}
 use Rattle.std.specs.Prelude.{unwrap_or}
 use Rattle.std.specs.Option.{option_map_or, option_or}
 use Rattle.std.specs.Str.{bytes_eq}
@@ -11,7 +11,7 @@ use Rattle.cob_convert_line.specs.declared.fault.LineFault.{LineFault}
 use Rattle.cob_convert_line.specs.declared.fault.LineFault.TheVariants.{Memory}
 use Rattle.cob_convert_line.proofs.Turns.{not_nil}
 use Rattle.cob_convert_line.specs.Options.{AreThere, Given, Options, found_at, taken}
-use Rattle.cob_convert_line.specs.Lines.{IsCheck, IsCommand, IsCommandLineOf, IsConvert, IsLayout, IsShow, check_options, commands, convert_options, fault_by_kind, layout_options, show_options, words_fault}
+use Rattle.cob_convert_line.specs.Lines.{NamesBlock, IsCheck, IsCommand, IsCommandLineOf, IsConvert, IsLayout, IsShow, check_options, commands, convert_options, fault_by_kind, layout_options, show_options, words_fault}
 use Rattle.cob_convert_line.specs.Program.{program_app}
 use Rattle.cob_convert_line.specs.declared.line.Line.{Line}
 use Rattle.cob_convert_line.specs.declared.line.Line.TheVariants as line
@@ -19,12 +19,20 @@ use Rattle.cob_convert_line.specs.declared.line.ConvertLine.{ConvertLine}
 use Rattle.cob_convert_line.specs.declared.line.CheckLine.{CheckLine}
 use Rattle.cob_convert_line.specs.declared.line.LayoutLine.{LayoutLine}
 use Rattle.cob_convert_line.specs.declared.line.ShowLine.{ShowLine}
+use Rattle.cob_records.specs.declared.records.Form.{Form}
+use Rattle.cob_records.specs.declared.records.Form.TheVariants.{Fixed, Variable, Blocked}
 use Rattle.cob_convert_line.proofs.Level.{level_complete, level_rows, level_sound, look_is, rows_of_given}
 use Rattle.cob_convert_line.proofs.Walks.{AreNames}
 use Rattle.cob_convert_line.proofs.Top.{known_fault, known_rows, unknown}
 
 abbrev flag_read : Option Text → Bool
 flag_read value = option_map_or (λ v. bytes_eq v (codes "true")) value false
+
+-- an option that names the same in two looks names the same size
+same_block : (look other : Text → Option Text) (name : Text) (form : Form) (size : ℕ) → look name ≡ other name → NamesBlock look name form size → NamesBlock other name form size
+same_block look other name Fixed size same is = is
+same_block look other name Variable size same is = is
+same_block look other name (Blocked most) size same (word, named, says) = (word, sym same ∙ named, says)
 
 -- rows name what options do
 convert_said : (given : Given) (said : ConvertLine) → IsConvert (λ id. first_of id (rows_of_given convert_options given)) said → IsConvert (taken convert_options given) said
@@ -36,6 +44,12 @@ convert_said given said h = record {
   output = sym (look_is convert_options given (codes "out") refl) ∙ h.output;
   in_form = sym (look_is convert_options given (codes "in-form") refl) ∙ h.in_form;
   out_form = sym (look_is convert_options given (codes "out-form") refl) ∙ h.out_form;
+  in_block = same_block (λ id. first_of id (rows_of_given convert_options given)) (taken convert_options given) (codes "in-block") said.in_form said.in_block
+      (look_is convert_options given (codes "in-block") refl) h.in_block;
+  out_block = same_block (λ id. first_of id (rows_of_given convert_options given)) (taken convert_options given) (codes "out-block") said.out_form said.out_block
+      (look_is convert_options given (codes "out-block") refl) h.out_block;
+  in_sized = h.in_sized;
+  out_sized = h.out_sized;
   reading = sym (look_is convert_options given (codes "binary") refl) ∙ h.reading;
   atomic = sym (ap flag_read (look_is convert_options given (codes "atomic") refl)) ∙ h.atomic;
   progress = sym (ap flag_read (look_is convert_options given (codes "progress") refl)) ∙ h.progress;
@@ -56,6 +70,7 @@ show_said given said h = record {
   book = sym (look_is show_options given (codes "book") refl) ∙ h.book;
   input = sym (look_is show_options given (codes "in") refl) ∙ h.input;
   form = sym (look_is show_options given (codes "form") refl) ∙ h.form;
+  sized = h.sized;
   progress = sym (ap flag_read (look_is show_options given (codes "progress") refl)) ∙ h.progress;
 }
 
@@ -110,8 +125,8 @@ is_given (Some u) v e = (u, refl)
 convert_back : (given : Given) (said : ConvertLine) → IsConvert (taken convert_options given) said
     → AreNames convert_options × AreThere convert_options given × IsConvert (λ id. first_of id (rows_of_given convert_options given)) said
 convert_back given said h = (
-  ((refl, refl), ((refl, refl), ((refl, refl), ((refl, refl), ((refl, refl), ((refl, refl), ((refl, refl), ((refl, refl), ((refl, refl), ((refl, refl), ((refl, refl), tt))))))))))),
-  (is_given _ _ h.in_book, (is_given _ _ h.out_book, (is_given _ _ h.moves, (is_given _ _ h.input, (is_given _ _ h.output, (tt, (tt, (tt, (tt, (tt, (tt, tt))))))))))),
+  ((refl, refl), ((refl, refl), ((refl, refl), ((refl, refl), ((refl, refl), ((refl, refl), ((refl, refl), ((refl, refl), ((refl, refl), ((refl, refl), ((refl, refl), ((refl, refl), ((refl, refl), tt))))))))))))),
+  (is_given _ _ h.in_book, (is_given _ _ h.out_book, (is_given _ _ h.moves, (is_given _ _ h.input, (is_given _ _ h.output, (tt, (tt, (tt, (tt, (tt, (tt, (tt, (tt, tt))))))))))))),
   record {
     in_book = look_is convert_options given (codes "in-book") refl ∙ h.in_book;
     out_book = look_is convert_options given (codes "out-book") refl ∙ h.out_book;
@@ -120,6 +135,12 @@ convert_back given said h = (
     output = look_is convert_options given (codes "out") refl ∙ h.output;
     in_form = look_is convert_options given (codes "in-form") refl ∙ h.in_form;
     out_form = look_is convert_options given (codes "out-form") refl ∙ h.out_form;
+    in_block = same_block (taken convert_options given) (λ id. first_of id (rows_of_given convert_options given)) (codes "in-block") said.in_form said.in_block
+        (sym (look_is convert_options given (codes "in-block") refl)) h.in_block;
+    out_block = same_block (taken convert_options given) (λ id. first_of id (rows_of_given convert_options given)) (codes "out-block") said.out_form said.out_block
+        (sym (look_is convert_options given (codes "out-block") refl)) h.out_block;
+    in_sized = h.in_sized;
+    out_sized = h.out_sized;
     reading = look_is convert_options given (codes "binary") refl ∙ h.reading;
     atomic = ap flag_read (look_is convert_options given (codes "atomic") refl) ∙ h.atomic;
     progress = ap flag_read (look_is convert_options given (codes "progress") refl) ∙ h.progress;
@@ -151,6 +172,7 @@ show_back given said h = (
     book = look_is show_options given (codes "book") refl ∙ h.book;
     input = look_is show_options given (codes "in") refl ∙ h.input;
     form = look_is show_options given (codes "form") refl ∙ h.form;
+    sized = h.sized;
     progress = ap flag_read (look_is show_options given (codes "progress") refl) ∙ h.progress;
   },
 )

@@ -11,9 +11,11 @@ use Rattle.clap.specs.declared.error.Error.{Error}
 use Rattle.clap.specs.declared.error.kind.ErrorKind.{ErrorKind}
 use Rattle.clap.specs.declared.error.kind.ErrorKind.TheVariants as kind
 use Rattle.cob_convert_line.specs.declared.fault.LineFault.{LineFault}
-use Rattle.cob_convert_line.specs.declared.fault.LineFault.TheVariants.{Form, Memory, NotText, Reading, Words}
+use Rattle.cob_convert_line.specs.declared.fault.LineFault.TheVariants.{Block, Form, Memory, NotText, Reading, Words}
 use Rattle.cob_convert_line.specs.Options.{AreThere, Given, Options, default_of, found_at, taken}
-use Rattle.cob_convert_line.specs.Lines.{AreNamed, HaveForms, IsComplete, IsFaultIn, IsFaultOf, IsFormName, LacksAForm, LacksForm, LacksReading, Spells, check_options, commands, convert_options, fault_by_kind, layout_options, show_options, words_fault}
+use Rattle.cob_records.specs.declared.records.Form.{Form as RecordForm}
+use Rattle.cob_records.specs.declared.records.Form.TheVariants.{Fixed, Variable, Blocked}
+use Rattle.cob_convert_line.specs.Lines.{AreNamed, HaveForms, IsComplete, IsFaultIn, IsFaultOf, IsFormName, LacksABlock, LacksAForm, LacksBlock, LacksForm, LacksReading, LacksSize, Spells, check_options, commands, convert_options, fault_by_kind, layout_options, show_options, words_fault}
 use Rattle.cob_convert_line.specs.Program.{program_app}
 use Rattle.cob_convert_line.proofs.Level.{defaults_in, level_complete, level_sound, level_there, look_is, rows_of_given, value_in}
 use Rattle.cob_convert_line.proofs.Turns.{not_nil}
@@ -36,7 +38,7 @@ each_found P (o ∷ cs) w os all is = go (bytes_eq o.0 w) refl is (each_found P 
 -- the options of a command have names
 names_of : (w : Text) (os : Options) → found_at w commands ≡ Some os → AreNames os
 names_of w os is = each_found AreNames commands w os (
-  ((refl, refl), ((refl, refl), ((refl, refl), ((refl, refl), ((refl, refl), ((refl, refl), ((refl, refl), ((refl, refl), ((refl, refl), ((refl, refl), ((refl, refl), tt))))))))))),
+  ((refl, refl), ((refl, refl), ((refl, refl), ((refl, refl), ((refl, refl), ((refl, refl), ((refl, refl), ((refl, refl), ((refl, refl), ((refl, refl), ((refl, refl), ((refl, refl), ((refl, refl), tt))))))))))))),
   (
     ((refl, refl), ((refl, refl), ((refl, refl), ((refl, refl), tt)))),
     (
@@ -115,7 +117,13 @@ convert_names given h = let os = convert_options in (
             default_names os given (codes "in-form") (codes "f") refl refl,
             (
               default_names os given (codes "out-form") (codes "f") refl refl,
-              (default_names os given (codes "binary") (codes "pictured") refl refl, (tt, (tt, (tt, tt)))),
+              (
+                default_names os given (codes "in-block") (codes "32760") refl refl,
+                (
+                  default_names os given (codes "out-block") (codes "32760") refl refl,
+                  (default_names os given (codes "binary") (codes "pictured") refl refl, (tt, (tt, (tt, tt)))),
+                ),
+              ),
             ),
           ),
         ),
@@ -195,12 +203,49 @@ reading_fault words name rows f have (word, named, none) = (
   (word, sym (row_is words name rows f (codes "binary") (reading_of name f.os f.known)) ∙ named, none),
 )
 
+-- so have the options for the sizes of blocks
+abbrev HasSizes : Options → Type 0
+HasSizes os = (value_in (defaults_in (codes "in-block") os) ≡ default_of (found_at (codes "in-block") os))
+    × (value_in (defaults_in (codes "out-block") os) ≡ default_of (found_at (codes "out-block") os))
+
+sizes_of : (name : Text) (os : Options) → found_at name commands ≡ Some os → HasSizes os
+sizes_of name os known = each_found HasSizes commands name os ((refl, refl), ((refl, refl), ((refl, refl), ((refl, refl), tt)))) known
+
+lacks_size : (look other : Text → Option Text) (name : Text) (form : RecordForm) → look name ≡ other name → LacksSize look name form → LacksSize other name form
+lacks_size look other name Fixed same lacks = lacks
+lacks_size look other name Variable same lacks = lacks
+lacks_size look other name (Blocked most) same (word, named, none) = (word, sym same ∙ named, none)
+
+lacks_block : (words : List Text) (name : Text) (rows : List Row) (f : Found words name rows) (form_name block_name : Text) → IsFormName form_name
+    → value_in (defaults_in block_name f.os) ≡ default_of (found_at block_name f.os) → LacksBlock (λ id. first_of id rows) form_name block_name
+    → LacksBlock (taken f.os f.given) form_name block_name
+lacks_block words name rows f form_name block_name is default (form, named, lacks) = (
+  form,
+  sym (row_is words name rows f form_name (forms_of name f.os f.known form_name is)) ∙ named,
+  lacks_size (λ id. first_of id rows) (taken f.os f.given) block_name form (row_is words name rows f block_name default) lacks,
+)
+
+block_fault : (words : List Text) (name : Text) (rows : List Row) → Found words name rows → HaveForms (λ id. first_of id rows) → (LacksReading (λ id. first_of id rows) → ⊥)
+    → LacksABlock (λ id. first_of id rows) → IsFaultOf words Block
+block_fault words name rows f have reads lacks = (
+  f.os,
+  f.given,
+  f.spells,
+  (form_stays words name rows f (codes "in-form") (inr (inl refl)) have.0, form_stays words name rows f (codes "out-form") (inr (inr refl)) have.1),
+  λ lacking. reads (lacking.0, row_is words name rows f (codes "binary") (reading_of name f.os f.known) ∙ lacking.1, lacking.2),
+  elim lacks [
+    | inl in_side ↦ inl (lacks_block words name rows f (codes "in-form") (codes "in-block") (inr (inl refl)) (sizes_of name f.os f.known).0 in_side)
+    | inr out_side ↦ inr (lacks_block words name rows f (codes "out-form") (codes "out-block") (inr (inr refl)) (sizes_of name f.os f.known).1 out_side)
+  ],
+)
+
 -- what an option names that is none is a fault of the words
 pub option_fault : (words : List Text) (name : Text) (rows : List Row) (fault : LineFault) → Found words name rows → IsFaultIn (λ id. first_of id rows) fault
     → (fault ≡ Memory) ⊎ IsFaultOf words fault
 option_fault words name rows (Words error) f h = absurd h
 option_fault words name rows Form f h = inr (form_fault words name rows f h)
 option_fault words name rows Reading f h = inr (reading_fault words name rows f h.0 h.1)
+option_fault words name rows Block f h = inr (block_fault words name rows f h.0 h.1 h.2)
 option_fault words name rows NotText f h = absurd h
 option_fault words name rows Memory f h = absurd h
 

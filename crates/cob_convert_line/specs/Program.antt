@@ -15,6 +15,10 @@ form_rule name = record (new_rule name) { long = Some name; value_names = 1; def
 abbrev pub reading_rule : Text → Rule
 reading_rule name = record (new_rule name) { long = Some name; value_names = 1; defaults = codes "pictured" ∷ [] }
 
+-- an option for the greatest size of blocks, which is that of the longest where the option is not there
+abbrev pub block_rule : Text → Rule
+block_rule name = record (new_rule name) { long = Some name; value_names = 1; defaults = codes "32760" ∷ [] }
+
 -- an option that stands alone
 abbrev pub alone_rule : Text → Rule
 alone_rule name = record (new_rule name) { long = Some name; action = Some SetTrue }
@@ -25,9 +29,9 @@ with_texts_app app = with_rule (with_rule (with_rule app (required_rule (codes "
 
 -- `convert` and its options
 abbrev pub convert_app : App
-convert_app = with_rule (with_rule (with_rule (with_rule (with_rule (with_rule (with_rule (with_texts_app (new_app (codes "convert")))
+convert_app = with_rule (with_rule (with_rule (with_rule (with_rule (with_rule (with_rule (with_rule (with_rule (with_texts_app (new_app (codes "convert")))
     (required_rule (codes "in"))) (required_rule (codes "out"))) (form_rule (codes "in-form"))) (form_rule (codes "out-form")))
-    (reading_rule (codes "binary"))) (alone_rule (codes "atomic"))) (alone_rule (codes "progress"))
+    (block_rule (codes "in-block"))) (block_rule (codes "out-block"))) (reading_rule (codes "binary"))) (alone_rule (codes "atomic"))) (alone_rule (codes "progress"))
 
 -- `check` and its options
 abbrev pub check_app : App

@@ -14,12 +14,15 @@ pub enum LineFault {
     /// The words are wrong, or ask for help or the version: what to print, and whether it is a fault, `clap` says.
     #[error("{0}")]
     Words(clap::Error),
-    /// A form of records that is neither f nor v.
+    /// A form of records that is none of f, v and b.
     #[error("bad form")]
     Form,
     /// A reading of binary items that is neither pictured nor whole.
     #[error("bad reading")]
     Reading,
+    /// A greatest size of blocks that is no number of one to five digits from 8 to 32,760.
+    #[error("bad block")]
+    Block,
     /// A word is no text in UTF-8, so that no option can take it.
     #[error("a word is not text in UTF-8")]
     NotText,
@@ -54,7 +57,11 @@ impl LineFault {
     {
         match self {
             LineFault::Words(error) => !error.use_stderr(),
-            LineFault::Form | LineFault::Reading | LineFault::NotText | LineFault::Memory => false,
+            LineFault::Form
+            | LineFault::Reading
+            | LineFault::Block
+            | LineFault::NotText
+            | LineFault::Memory => false,
         }
     }
 

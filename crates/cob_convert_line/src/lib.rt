@@ -2,12 +2,13 @@
 //!
 //! [`line_of`] reads the words after the program's name. Where it answers a [`Line`], the words are the name of a command and its options, each at
 //! most once, and each field is the value that the words give its option, or the default where the option is not there (`options`, by
-//! `IsCommandLineOf` of specs/Lines.antt over specs/Options.antt); a form is f or v, a reading of binary items is pictured or whole, and any other
-//! is refused as that, a form first. It refuses words exactly where they are none of that, but for want of memory (`refused`).
+//! `IsCommandLineOf` of specs/Lines.antt over specs/Options.antt); a form is f, v, or b with the greatest size of its blocks, a reading of
+//! binary items is pictured or whole, and any other is refused as that: a form first, then a reading, then a size of blocks. It refuses words exactly
+//! where they are none of that, but for want of memory (`refused`).
 //!
 //! What rests on the contract of `clap`'s port is that a parse answers what the port's own definitions say of the words (`subcommand_of` where it
 //! succeeds, `fault_of` where it fails), for the commands and options of specs/Program.antt; that those definitions come to the words as options is
-//! proved here. Help, the version and the texts of refusals are `clap`'s, which the stored command lines of `cob_convert_commands_rows` show.
+//! proved here. Help, the version and the texts of refusals are `clap`'s, which the stored command lines of `cob_jobs` show.
 //!
 //! It stands on `clap`, which parses the words, on `cob_records` for the form of records, on `cob_codec` for the
 //! readings of binary items, and on `thiserror` for what faults print.

@@ -33,6 +33,10 @@ pub struct ConvertLine<'a> {
     pub in_form: Form,
     /// How the records of the output stand.
     pub out_form: Form,
+    /// The greatest size of the input's blocks, where it has blocks.
+    pub in_block: u16,
+    /// The greatest size of the output's blocks, where it has blocks.
+    pub out_block: u16,
     /// How binary items are read that are sent.
     pub reading: Reading,
     /// Whether the output is put in its place only when all is converted.

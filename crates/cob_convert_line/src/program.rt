@@ -1,6 +1,6 @@
 ghost use Rattle.std.specs.Prelude.{◌≡◌, IfOk, codes, false};
 ghost use Rattle.clap.specs.Words.{app_of, new_app, rule_of};
-ghost use Rattle.cob_convert_line.specs.Program.{alone_rule, check_app, convert_app, form_rule, layout_app, program_app, reading_rule, required_rule, show_app, with_texts_app};
+ghost use Rattle.cob_convert_line.specs.Program.{alone_rule, block_rule, check_app, convert_app, form_rule, layout_app, program_app, reading_rule, required_rule, show_app, with_texts_app};
 
 use clap::{Arg, ArgAction, Command};
 use std::alloc::{AllocError, Global};
@@ -90,6 +90,18 @@ fn form<'a>(alloc: Global, name: &'a str, help: &'a str) -> Arg<'a>
         .help(help)
 }
 
+// An option that names the greatest size of blocks.
+fn block<'a>(alloc: Global, name: &'a str, help: &'a str) -> Arg<'a>
+    ensures rule { rule_of result ≡ block_rule name.entry.now }
+    ensures local { result.global ≡ false }
+{
+    Arg::new(alloc, name)
+        .long(name)
+        .value_name("SIZE")
+        .default_value("32760")
+        .help(help)
+}
+
 // The option that names a reading of binary items.
 fn reading<'a>(alloc: Global, name: &'a str, help: &'a str) -> Arg<'a>
     ensures rule { rule_of result ≡ reading_rule name.entry.now }
@@ -151,9 +163,11 @@ fn convert<'a>(alloc: Global) -> Result<Command<'a>, AllocError>
         .arg(form(
             alloc,
             "in-form",
-            "How the input's records stand: f of fixed length,\nv with a descriptor word before each",
+            "How the input's records stand: f of fixed length,\nv with a descriptor word before each, b like v in\nblocks",
         ))?
-        .arg(form(alloc, "out-form", "How the output's records stand: f or v"))?
+        .arg(form(alloc, "out-form", "How the output's records stand: f, v, b"))?
+        .arg(block(alloc, "in-block", "Greatest size of the input's blocks"))?
+        .arg(block(alloc, "out-block", "Greatest size of the output's blocks"))?
         .arg(reading(alloc, "binary", BINARY_HELP))?
         .arg(alone(alloc, "atomic", ATOMIC_HELP))?
         .arg(alone(alloc, "progress", PROGRESS_HELP))
@@ -188,7 +202,7 @@ fn show<'a>(alloc: Global) -> Result<Command<'a>, AllocError>
         .arg(form(
             alloc,
             "form",
-            "How the records stand: f of fixed length,\nv with a descriptor word before each",
+            "How the records stand: f of fixed length,\nv with a descriptor word before each, b like v in\nblocks",
         ))?
         .arg(alone(alloc, "progress", PROGRESS_HELP))
 }

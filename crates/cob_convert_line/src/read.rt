@@ -1,6 +1,9 @@
-ghost use Rattle.std.specs.Prelude.{◌≡◌, ◌⊎◌, IfErr, IfOk, Some, codes, is_some, map, true};
+ghost use Rattle.std.specs.Prelude.{◌≡◌, ◌⊎◌, ℕ, IfErr, IfOk, Some, codes, is_some, map, true};
 ghost use Rattle.clap.specs.Words.{first_of, found_of, rows_of};
-ghost use Rattle.cob_convert_line.specs.Lines.{AreNamed, IsCheck, IsCommand, IsCommandLineOf, IsComplete, IsConvert, IsFaultIn, IsFaultOf, IsLayout, IsShow, LacksForm, LacksReading, check_options, convert_options, form_by_letter, is_flagged, layout_options, letter_of, reading_by_word, show_options, word_of};
+ghost use Rattle.cob_convert_line.specs.Lines.{AreNamed, IsCheck, IsCommand, IsCommandLineOf, IsComplete, IsConvert, IsFaultIn, IsFaultOf, IsLayout, IsShow, HasBlocks, LacksForm, LacksReading, LacksSize, NamesBlock, check_options, convert_options, form_by_letter, is_flagged, layout_options, letter_of, reading_by_word, show_options, sized_by, word_of};
+ghost use Rattle.cob_limits.specs.Limits.{longest_block};
+ghost use Rattle.cob_records.specs.Blocks.{IsBlockSize};
+ghost use Rattle.cob_records.specs.Forms.{HasBlockSize};
 ghost use Rattle.cob_convert_line.specs.declared.fault.LineFault.TheVariants.{Memory};
 
 use crate::fault::LineFault;
@@ -8,7 +11,8 @@ use crate::line::{CheckLine, ConvertLine, LayoutLine, Line, ShowLine};
 use crate::program::program;
 use clap::ArgMatches;
 use cob_codec::Reading;
-use cob_records::Form;
+use cob_limits::MAX_BLOCK;
+use cob_records::{Form, block_size_of};
 use std::alloc::Global;
 use std::convert::AsStr;
 
@@ -19,6 +23,7 @@ fn form_named(letter: &str) -> Option<Form>
     match letter {
         "f" => Some(Form::Fixed),
         "v" => Some(Form::Variable),
+        "b" => Some(Form::Blocked(MAX_BLOCK)),
         _ => None,
     }
 }
@@ -51,6 +56,8 @@ fn form(options: &ArgMatches<'_>, name: &str) -> Result<Form, LineFault>
         → first_of name.now (rows_of (found_of options.now)) ≡ Some (letter_of form) → ⊥) }
     ensures fault { IfErr result (λ fault. (fault ≡ LineFault.Form)
         × LacksForm (λ id. first_of id (rows_of (found_of options.now))) name.now) }
+    ensures sized { IfOk result (λ form. form ≡ sized_by longest_block form) }
+    ensures block { IfOk result HasBlockSize }
 {
     form_named(named(options, name)).ok_or(LineFault::Form)
 }
@@ -66,6 +73,40 @@ fn reading(options: &ArgMatches<'_>) -> Result<Reading, LineFault>
         × LacksReading (λ id. first_of id (rows_of (found_of options.now)))) }
 {
     reading_named(named(options, "binary")).ok_or(LineFault::Reading)
+}
+
+// The greatest size of blocks that an option says, which has a value, where the form has blocks.
+fn block(options: &ArgMatches<'_>, name: &str, form: Form) -> Result<u16, LineFault>
+    requires { is_some (first_of name.now (rows_of (found_of options.now))) ≡ true }
+    ensures named { IfOk result
+        (NamesBlock (λ id. first_of id (rows_of (found_of options.now))) name.now form) }
+    ensures lacks { IfErr result (λ _. (size : ℕ)
+        → NamesBlock (λ id. first_of id (rows_of (found_of options.now))) name.now form size → ⊥) }
+    ensures fault { IfErr result (λ fault. (fault ≡ LineFault.Block)
+        × LacksSize (λ id. first_of id (rows_of (found_of options.now))) name.now form) }
+    ensures size { IfOk result IsBlockSize }
+{
+    match form {
+        Form::Fixed => Ok(MAX_BLOCK),
+        Form::Variable => Ok(MAX_BLOCK),
+        Form::Blocked(_) => match block_size_of(named(options, name).as_bytes()) {
+            Some(size) => Ok(size),
+            None => Err(LineFault::Block),
+        },
+    }
+}
+
+// The form with blocks of at most this size, where it has blocks.
+fn sized(form: Form, size: u16) -> Form
+    requires { IsBlockSize size }
+    ensures value { result ≡ sized_by size form }
+    ensures block { HasBlockSize result }
+{
+    match form {
+        Form::Fixed => Form::Fixed,
+        Form::Variable => Form::Variable,
+        Form::Blocked(_) => Form::Blocked(size),
+    }
 }
 
 // Whether a flag was given.
@@ -85,16 +126,25 @@ fn convert_line<'a>(options: &ArgMatches<'a>) -> Result<ConvertLine<'a>, LineFau
         → IsConvert (λ id. first_of id (rows_of (found_of options.now))) line → ⊥) }
     ensures fault { IfErr result
         (IsFaultIn (λ id. first_of id (rows_of (found_of options.now)))) }
+    ensures blocks { IfOk result
+        (λ line. HasBlockSize line.in_form × HasBlockSize line.out_form) }
 {
+    let in_form = form(options, "in-form")?;
+    let out_form = form(options, "out-form")?;
+    let reading = reading(options)?;
+    let in_block = block(options, "in-block", in_form)?;
+    let out_block = block(options, "out-block", out_form)?;
     Ok(ConvertLine {
         in_book: named(options, "in-book"),
         out_book: named(options, "out-book"),
         moves: named(options, "moves"),
         input: named(options, "in"),
         output: named(options, "out"),
-        in_form: form(options, "in-form")?,
-        out_form: form(options, "out-form")?,
-        reading: reading(options)?,
+        in_form: sized(in_form, in_block),
+        out_form: sized(out_form, out_block),
+        in_block,
+        out_block,
+        reading,
         atomic: flag(options, "atomic"),
         progress: flag(options, "progress"),
     })
@@ -127,6 +177,7 @@ fn show_line<'a>(options: &ArgMatches<'a>) -> Result<ShowLine<'a>, LineFault>
         → IsShow (λ id. first_of id (rows_of (found_of options.now))) line → ⊥) }
     ensures fault { IfErr result
         (IsFaultIn (λ id. first_of id (rows_of (found_of options.now)))) }
+    ensures blocks { IfOk result (λ line. HasBlockSize line.form) }
 {
     Ok(ShowLine {
         book: named(options, "book"),
@@ -145,6 +196,7 @@ fn command_line<'a>(name: &str, options: &ArgMatches<'a>) -> Result<Line<'a>, Li
         → IsCommand name.now (λ id. first_of id (rows_of (found_of options.now))) line → ⊥) }
     ensures fault { IfErr result
         (IsFaultIn (λ id. first_of id (rows_of (found_of options.now)))) }
+    ensures blocks { IfOk result HasBlocks }
 {
     match name {
         "convert" => Ok(Line::Convert(convert_line(options)?)),
@@ -160,13 +212,16 @@ fn command_line<'a>(name: &str, options: &ArgMatches<'a>) -> Result<Line<'a>, Li
 /// # Errors
 ///
 /// [`LineFault::Words`] where the words are wrong or ask for help or the version, [`LineFault::Form`] where an option for a form names neither
-/// f nor v, [`LineFault::Reading`] where the one for binary items names neither reading and the forms are some, [`LineFault::Memory`].
+/// f nor v nor b, [`LineFault::Reading`] where the one for binary items names neither reading and the forms are some, [`LineFault::Block`] where
+/// one for the size of blocks says none beside the letter b and all these are some, [`LineFault::Memory`].
 pub fn line_of<'a, S: AsStr>(alloc: Global, words: &'a [S]) -> Result<Line<'a>, LineFault>
     ensures options { IfOk result (IsCommandLineOf (map S.text words.entry.now)) }
     ensures refused { IfErr result (λ fault. (fault ≡ Memory)
         ⊎ ((line : Line) → IsCommandLineOf (map S.text words.entry.now) line → ⊥)) }
     ensures fault { IfErr result (λ fault. (fault ≡ Memory)
         ⊎ IsFaultOf (map S.text words.entry.now) fault) }
+    // The blocks of its forms may have their greatest sizes.
+    ensures blocks { IfOk result HasBlocks }
 {
     if words.is_empty() {
         return Ok(Line::Job);

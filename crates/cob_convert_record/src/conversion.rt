@@ -32,6 +32,7 @@ impl Model for Conversion {
     ghost use Rattle.std.specs.Prelude.{◌≡◌, length};
     ghost use Rattle.cob_layout.specs.Storage.{greatest_length};
     ghost use Rattle.cob_move_initial.specs.Initial.{IsInitial};
+    ghost use Rattle.cob_records.specs.Forms.{HasBlockSize};
     ghost use Rattle.cob_convert_record.specs.Conversion.{Conversion};
     ghost use Rattle.cob_move_apply.specs.Prepared.{ArePrepared, moves_of};
     ghost use Rattle.std.specs.Coded.{codes};
@@ -43,7 +44,7 @@ impl Model for Conversion {
 
     ghost view = { λ c. record { in_form = c.in_form; out_form = c.out_form; records = record { input = c.input; output = c.output }; moves = moves_of (record { input = c.input; output = c.output }) c.moves } };
 
-    ghost invariant = { λ c. ArePrepared (record { input = c.input; output = c.output }) c.moves × IsInitial c.output c.image.items × (length c.image.items ≡ greatest_length c.output) };
+    ghost invariant = { λ c. ArePrepared (record { input = c.input; output = c.output }) c.moves × IsInitial c.output c.image.items × (length c.image.items ≡ greatest_length c.output) × HasBlockSize c.in_form × HasBlockSize c.out_form };
 }
 
 /// How many bytes of the output record's storage are written.
@@ -77,6 +78,7 @@ fn output_length(
 }
 
 impl Conversion {
+    ghost use Rattle.cob_records.specs.Forms.{HasBlockSize};
     ghost use Rattle.cob_records.specs.Frame.{IsRecord};
     ghost use Rattle.cob_move_apply.specs.Prepared.{ArePrepared, most_moves_told, moves_of, single_moves};
     ghost use Rattle.cob_layout.specs.Storage.{IsStorage};
@@ -103,6 +105,8 @@ impl Conversion {
         out_book: &Book,
         moves: Moves,
     ) -> Result<Conversion, AllocError>
+        requires in_block { HasBlockSize in_form }
+        requires out_block { HasBlockSize out_form }
         requires moves { ArePrepared (record { input = input; output = output }) moves }
         requires book { out_book.now ≡ output }
         ensures { IfOk result (λ made. made ≡ record {
@@ -140,14 +144,16 @@ impl Conversion {
 
     /// The form in which records come.
     pub fn in_form(&self) -> Form
-        ensures { result ≡ self.now.in_form }
+        ensures value { result ≡ self.now.in_form }
+        ensures block { HasBlockSize result }
     {
         self.in_form
     }
 
     /// The form in which what they become goes out.
     pub fn out_form(&self) -> Form
-        ensures { result ≡ self.now.out_form }
+        ensures value { result ≡ self.now.out_form }
+        ensures block { HasBlockSize result }
     {
         self.out_form
     }
@@ -185,23 +191,25 @@ impl Conversion {
     }
 
     /// Reads the next input record into the front of the slice, judges it by the input layout, and answers how many bytes it has, or `None`
-    /// where no byte is left. It asks for no memory, which tests show.
+    /// where no byte is left. `left` is what the open block still holds: 0 before the first record, and always without blocks. It asks for no
+    /// memory, which tests show.
     ///
     /// # Errors
     ///
-    /// The fault of a frame that can't be read; in form v a count of the record that isn't valid, or a length other than that which its counts
+    /// The fault of a frame that can't be read; in forms v and b a count of the record that isn't valid, or a length other than that which its counts
     /// give.
     pub fn next_input<R: Source>(
         &self,
         source: &mut R,
         slot: &mut [u8],
+        left: &mut u16,
         room: &mut Room,
     ) -> Result<Option<usize>, Reason>
         requires slot { length slot.old ≡ in_length self.now }
         requires room { room.old ≡ capacity_for self.now.records }
         // Where the source tells its bytes: which of them were read, and what they are.
         ensures reads { Told (R.coming source.old) (R.coming source.new)
-            (ReadsRecord self.now.in_form self.now.records.input slot.new result) }
+            (ReadsRecord self.now.in_form self.now.records.input left.old slot.new result left.new) }
         // At any source: what is answered is a record of the input that stands in the slice, or why the next one is refused, which is no
         // fault of writing.
         ensures judged { IfOk result (λ found. IfSome found
@@ -214,7 +222,8 @@ impl Conversion {
             ≡ counted (is_refused_for is_read_cause result) (R.failures source.old) }
         ensures room { room.new ≡ room.old }
     {
-        read_record(source, &self.input, self.in_form, slot, &mut room.in_counts)
+        let counts = &mut room.in_counts;
+        read_record(source, &self.input, self.in_form, slot, left, counts)
     }
 
     /// Begins an output record: its storage holds its initial values, and nothing of a record before.

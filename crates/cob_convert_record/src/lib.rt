@@ -8,7 +8,7 @@
 //! - [`Conversion::next_input`] reads the next record that comes in and judges it by the input layout (`reads`, `judged`, `reason`, `cause`), as
 //!   `cob_stream` says it, in the form in which records come.
 //! - [`Conversion::convert`] makes the output record: its storage goes from the initial values through all moves, and then every count of the
-//!   output is valid; what is written is the whole storage in form f, and its current part in form v (`converts`, by `Becomes` of
+//!   output is valid; what is written is the whole storage in form f, and its current part in forms v and b (`converts`, by `Becomes` of
 //!   specs/Becoming.antt). Nothing of an earlier record is left in it. It stops at the first move that stops, or behind all moves at the first
 //!   count of the output that isn't valid, in both forms (`stops`, by `StopsAt`).
 //! - What becomes of a record is determined ([`conversions_are_decided`]): a record is one of its layout or a misfit, for one reason; and it has
@@ -16,7 +16,7 @@
 //! - They ask for no memory, which tests show: all that they need is a [`Room`], made once, which each call leaves as large as it was (`room`).
 //!
 //! It stands on cob_move_apply for moves in order, on cob_move_initial for the initial storage, on cob_stream for a record that comes in and for
-//! how far one is written, on cob_layout for counts and lengths, and on cob_records for the two forms.
+//! how far one is written, on cob_layout for counts and lengths, and on cob_records for the record forms.
 #![tactic(auto)]
 
 mod conversion;

@@ -9,9 +9,10 @@ use Rattle.cob_layout_places.proofs.ForestLemmas.{sum_le, within_always}
 use Rattle.cob_layout.specs.Standing.{Standing, ArePlaces, StandsIn}
 use Rattle.cob_layout.specs.Storage.{current_length}
 use Rattle.cob_records.specs.declared.records.Form.{Form}
-use Rattle.cob_records.specs.declared.records.Form.TheVariants.{Fixed, Variable}
+use Rattle.cob_records.specs.declared.records.Form.TheVariants.{Fixed, Variable, Blocked}
 use Rattle.cob_records.specs.Frame.{IsLength}
-use Rattle.cob_convert_show.specs.Records.{IsFitting, HoldsRecord}
+use Rattle.cob_stream.specs.Sizes.{IsFitting}
+use Rattle.cob_convert_show.specs.Records.{HoldsRecord}
 
 -- places under some counts are places under their own
 pub own_places : (tree : Forest Resolved) (counts : List ℕ) (s : Standing) → ArePlaces tree counts s → ArePlaces tree s.counts s
@@ -22,7 +23,9 @@ pub holds_record : (form : Form) (tree : Forest Resolved) (s : Standing) (bytes 
 holds_record Fixed tree s bytes count stands long fits =
     (own_places tree stands.0 s stands.2, omega (arith, long, sum_le (times s.counts) tree (within_always s.counts tree)))
 holds_record Variable tree s bytes count stands long fits = (own_places tree stands.0 s stands.2, omega (arith, fits))
+holds_record (Blocked most) tree s bytes count stands long fits = (own_places tree stands.0 s stands.2, omega (arith, fits))
 
 pub length_fits : (form : Form) (greatest count long : ℕ) → IsLength form greatest count → long ≡ greatest → count ≤ long
 length_fits Fixed greatest count long is room = omega (arith, is, room)
 length_fits Variable greatest count long is room = omega (arith, is.1, room)
+length_fits (Blocked most) greatest count long is room = omega (arith, is.1, room)

@@ -1,7 +1,5 @@
 -- Which records are shown, and what stops them.
 use Rattle.std.specs.Prelude.{◌≡◌, ℕ, ◌<◌, ◌≤◌, Bool, false, List, length, IfSome, Option, Ok, Err, Result}
-use Rattle.cob_records.specs.declared.records.Form.{Form}
-use Rattle.cob_records.specs.declared.records.Form.TheVariants.{Fixed, Variable}
 use Rattle.cob_stream.specs.declared.fault.Cause.{Cause}
 use Rattle.cob_stream.specs.declared.fault.Cause.TheVariants.{Count, Limit, Record}
 use Rattle.cob_copybook_tree.specs.Forests.{Forest}
@@ -28,11 +26,6 @@ IsStop offset _ = ⊥
 abbrev pub IsShowFault : ShowFault → Type 0
 IsShowFault Memory = Unit {0}
 IsShowFault (Run fault) = (0 < fault.number) × IsStop fault.offset fault.cause
-
--- a frame whose record has so many bytes may hold one that has so many by its counts: in form f it is as long as at most, whatever they say
-abbrev pub IsFitting : Form → ℕ → ℕ → Type 0
-IsFitting Fixed current count = Unit {0}
-IsFitting Variable current count = count ≡ current
 
 -- the entries of a record stand so under its counts, and so many bytes hold it
 abbrev pub HoldsRecord : Forest Resolved → Standing → ℕ → Type 0

@@ -4,16 +4,10 @@ ghost use Rattle.std.specs.Prelude.{◌≡◌, ◌++◌, ◌+◌, ◌≤◌, [],
 ghost use Rattle.cob_copybook_tree.specs.Nodes.{node, tree_of};
 ghost use Rattle.cob_limits.specs.Limits.{most_dimensions};
 ghost use Rattle.cob_layout.specs.Sound.{own_dimension, AreNested};
-ghost use Rattle.cob_layout.specs.Ways.{own_table};
 ghost use Rattle.cob_convert_show.specs.Elements.{named_item, named_in, own_of};
 
-use arrayvec::ArrayVec;
-use cob_layout::{Item, Kind, Name, Node, is_table};
-use cob_limits::MAX_SUBSCRIPTS;
+use cob_layout::{Item, Kind, Name, Node, Tables, with_own};
 use std::alloc::{AllocError, Global};
-
-/// The numbers of tables, one within the other, the outermost first.
-pub(crate) type Tables = ArrayVec<usize, MAX_SUBSCRIPTS>;
 
 /// A named elementary item.
 #[derive(Debug, Drop)]
@@ -24,22 +18,6 @@ pub(crate) struct Named {
     pub(crate) item: Item,
     /// The tables that hold it or that it is.
     pub(crate) tables: Tables,
-}
-
-/// These tables, and the entry itself where it is one.
-fn with_own(over: &[usize], entry: &Node) -> Tables
-    requires { length over.now + own_dimension (node entry.now).top.occurs ≤ most_dimensions }
-    ensures { result.items
-        ≡ over.now ++ own_table (node entry.now).top.occurs (node entry.now).top.number }
-{
-    let mut tables = ArrayVec::new();
-    for table in over {
-        tables.push(*table);
-    }
-    if is_table(entry.occurs) {
-        tables.push(entry.number);
-    }
-    tables
 }
 
 /// Adds an entry where it is a named elementary item; it stands in these tables.

@@ -1,6 +1,7 @@
 //! The records of a file.
 
 ghost use Rattle.std.specs.Prelude.{◌≡◌, ◌≤◌, [], length, map, take, IfErr, IfOk, IfSome, IsFalse, IsTrue, Err, is_err, true, false};
+ghost use Rattle.cob_stream.specs.Sizes.{IsFitting};
 ghost use Rattle.cob_stream.specs.Reasons.{frame_reason, is_error_cause, is_read_cause, is_refused_for, is_write_cause};
 ghost use Rattle.cob_copybook_tree.specs.Lengths.{greatest_number, sum_of};
 ghost use Rattle.cob_layout.specs.Standing.{AreSomePlaces, IsRoomFor};
@@ -10,8 +11,9 @@ ghost use Rattle.cob_convert_show.specs.Lines.{SendsRecord, number_line};
 ghost use Rattle.cob_convert_show.specs.Runs.{IsLegible, ReadsNext, Shows, count_reason};
 ghost use Rattle.cob_convert_show.specs.Sent.{SendsText};
 ghost use Rattle.cob_records.specs.Device.{counted, Told, Took};
+ghost use Rattle.cob_records.specs.Forms.{HasBlockSize};
 ghost use Rattle.cob_records.specs.Frame.{IsRecord, is_write_error, is_write_fault};
-ghost use Rattle.cob_convert_show.specs.Records.{stopped_by, HoldsAny, HoldsRecord, IsFitting, IsStop, IsShowFault};
+ghost use Rattle.cob_convert_show.specs.Records.{stopped_by, HoldsAny, HoldsRecord, IsStop, IsShowFault};
 ghost use Rattle.cob_convert_show.specs.declared.records.ShowFault.TheVariants.{Memory, Run};
 ghost use Rattle.cob_layout_places.specs.declared.operands.Side.TheVariants.{In, Out};
 ghost use Rattle.cob_stream.specs.declared.fault.Cause.TheVariants.{Limit, Record};
@@ -20,8 +22,8 @@ use crate::elements::{Contents, put_items};
 use crate::named::{Named, named_items};
 use crate::text::{Line, push_text, put};
 use cob_layout::{Book, CountFault, Layout, Places, places_end_in_length, records_are_sound};
-use cob_records::{Form, RecordFault, Sink, Source, next_record};
-use cob_stream::{Cause, Reason, RunFault, Side};
+use cob_records::{Form, RecordFault, Sink, Source, next_in_form};
+use cob_stream::{Cause, Reason, RunFault, Side, is_fitting};
 use itoa::Buffer;
 use std::alloc::{AllocError, Global};
 
@@ -85,29 +87,28 @@ fn count_reason(fault: CountFault) -> Reason
     }
 }
 
-/// Whether a record that came whole has the length that its counts say: in form f it is as long as at most, whatever they say.
-fn is_fitting(layout: &Layout, form: Form, places: &Places, count: usize) -> bool
+/// Whether a record that came whole has the length that its counts say.
+fn fits_counts(layout: &Layout, form: Form, places: &Places, count: usize) -> bool
     requires stands { AreSomePlaces layout.now places.now }
     ensures must { IsTrue result
         → IsFitting form (current_length places.now.counts layout.now) count }
     ensures only { IsFalse result
         → IsFitting form (current_length places.now.counts layout.now) count → ⊥ }
 {
-    match form {
-        Form::Fixed => true,
-        Form::Variable => count == usize::from(layout.length_in(places)),
-    }
+    is_fitting(form, layout.length_in(places), count)
 }
 
 /// Reads the next record and its places, and says how many bytes it has, where there was one. It is as long as its counts say, and in form f
-/// as at most.
+/// as at most. `left` is what the open block still holds.
 fn read_record<R: Source>(
     layout: &Layout,
     form: Form,
     source: &mut R,
     bytes: &mut [u8],
+    left: &mut u16,
     places: &mut Places,
 ) -> Result<Option<usize>, Reason>
+    requires block { HasBlockSize form }
     requires bytes { length bytes.old ≡ sum_of greatest_number layout.now }
     requires room { IsRoomFor layout.now places.old }
     ensures room { IsRoomFor layout.now places.new }
@@ -117,14 +118,14 @@ fn read_record<R: Source>(
     ensures legible { IfOk result (λ found. IfSome found
         (λ count. IsLegible form layout.now (take count bytes.new) places.new)) }
     ensures next { Told (R.coming source.old) (R.coming source.new)
-        (ReadsNext form layout.now bytes.new result) }
+        (ReadsNext form layout.now left.old bytes.new result left.new) }
     ensures stop { IfErr result (λ why. IsStop why.offset why.cause) }
     ensures wrote { IfErr result (λ why. is_write_cause why.cause ≡ false) }
     ensures errors { IfErr result (λ why. is_error_cause why.cause ≡ false) }
     ensures reads { R.failures source.new ≡ counted
         (is_refused_for is_read_cause result) (R.failures source.old) }
 {
-    let count = match next_record(source, form, layout.greatest(), bytes) {
+    let count = match next_in_form(source, form, layout.greatest(), bytes, left) {
         Ok(None) => return Ok(None),
         Ok(Some(count)) => count,
         Err(fault) => return Err(frame_reason(fault)),
@@ -132,7 +133,7 @@ fn read_record<R: Source>(
     if let Err(fault) = layout.places_of(&bytes[..count], places) {
         return Err(count_reason(fault));
     }
-    if !is_fitting(layout, form, places, count) {
+    if !fits_counts(layout, form, places, count) {
         return Err(frame_reason(RecordFault::Length));
     }
     Ok(Some(count))
@@ -227,6 +228,7 @@ fn show_records<R: Source, W: Sink>(
     source: &mut R,
     sink: &mut W,
 ) -> Result<u64, ShowFault>
+    requires block { HasBlockSize shown.form }
     requires items { map named_item shown.items.now ≡ named_in [] shown.layout.now }
     requires bytes { length bytes.old ≡ sum_of greatest_number shown.layout.now }
     requires room { IsRoomFor shown.layout.now places.old }
@@ -242,8 +244,9 @@ fn show_records<R: Source, W: Sink>(
         (stopped_by is_error_cause result) (W.errors sink.old) }
 {
     let mut written: u64 = 0;
+    let mut left: u16 = 0;
     for done in 0..LIMIT {
-        let count = match read_record(shown.layout, shown.form, source, bytes, places) {
+        let count = match read_record(shown.layout, shown.form, source, bytes, &mut left, places) {
             Ok(None) => return Ok(done),
             Ok(Some(count)) => count,
             Err(reason) => return Err(stop_at(done + 1, reason, written)),
@@ -291,7 +294,8 @@ pub fn show<R: Source, W: Sink>(
     source: &mut R,
     sink: &mut W,
 ) -> Result<u64, ShowFault>
-    requires { book.now ≡ layout.now }
+    requires book { book.now ≡ layout.now }
+    requires block { HasBlockSize form }
     // What came, what was written of it, and how it ended, where the source tells its bytes.
     ensures shows { Told (R.coming source.old) (R.coming source.new)
         (Shows form layout.now result (W.taken sink.old) (W.taken sink.new)) }

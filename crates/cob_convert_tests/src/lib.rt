@@ -1,8 +1,10 @@
 //! Tests of `cob_convert` and `cob_move` that need code: ends that fail in mid-stream, texts of the greatest length, and requests for memory
 //! that are refused. Nothing stands on this crate, so that no crate is proved again for a test of theirs. What jobs print, `cob_jobs` shows;
-//! what paragraphs come to, `cob_paragraph_rows`.
+//! what paragraphs come to, `cob_move_rows`.
 #![tactic(auto)]
 
+#[cfg(test)]
+mod blocks;
 #[cfg(test)]
 mod jobs;
 #[cfg(test)]

@@ -1,5 +1,7 @@
 //! Runs on ends that fail, and one after another. What is expected was made by hand.
 
+ghost use Rattle.cob_records.specs.Forms.{HasBlockSize};
+
 use cob_convert::{Cause, Converter, PrepareFault, RunFault, Side};
 use cob_records::{Form, Limited, MemSink, MemSource, RecordFault};
 use std::alloc::Global;
@@ -25,7 +27,10 @@ pub(crate) fn prepared(
     alloc: Global,
     in_form: Form,
     out_form: Form,
-) -> Result<Converter, PrepareFault> {
+) -> Result<Converter, PrepareFault>
+    requires in_block { HasBlockSize in_form }
+    requires out_block { HasBlockSize out_form }
+{
     match Converter::prepare(alloc, IN_BOOK, OUT_BOOK, MOVES, in_form, out_form) {
         Err(PrepareFault::Memory) => {
             Converter::prepare(alloc, IN_BOOK, OUT_BOOK, MOVES, in_form, out_form)
@@ -35,7 +40,12 @@ pub(crate) fn prepared(
 }
 
 /// The stop of a run at a record, by a fault of its frame.
-fn stopped(number: u64, side: Side, fault: RecordFault, written: u64) -> Result<u64, RunFault> {
+pub(crate) fn stopped(
+    number: u64,
+    side: Side,
+    fault: RecordFault,
+    written: u64,
+) -> Result<u64, RunFault> {
     Err(RunFault {
         number,
         side,
@@ -48,10 +58,10 @@ fn stopped(number: u64, side: Side, fault: RecordFault, written: u64) -> Result<
 /// The ends of a run that are tried: how many bytes the source gives and the sink takes before they fail, and how
 /// many bytes the sink has room for.
 #[derive(Clone, Copy)]
-struct Ends {
-    gives: u64,
-    takes: u64,
-    room: usize,
+pub(crate) struct Ends {
+    pub(crate) gives: u64,
+    pub(crate) takes: u64,
+    pub(crate) room: usize,
 }
 
 /// As many bytes as no end here moves.

@@ -80,6 +80,7 @@ impl Book {
         ensures some { 1 ≤ result }
         ensures most { result ≤ longest_record }
     {
+        // For `some` and `most`: a record takes 1 to 32,752 bytes.
         records_take_bytes();
         self.greatest
     }

@@ -3,6 +3,7 @@
 ghost use Rattle.std.specs.Prelude.{◌≡◌, ◌≤◌, [], ◌∷◌, IfOk, IfErr};
 ghost use Rattle.cob_entry.specs.Described.{PlainEntry};
 ghost use Rattle.cob_entry.specs.declared.fault.BookRule.TheVariants.{Memory};
+ghost use Rattle.cob_entry.specs.Faults.{MemoryAside};
 ghost use Rattle.cob_copybook_tree.specs.Forests.{Forest, entries_in};
 ghost use Rattle.cob_copybook_tree.specs.Branches.{forest_of};
 ghost use Rattle.cob_copybook_tree.specs.Nodes.{Resolved, forest};
@@ -23,10 +24,11 @@ pub(crate) fn storage_of(alloc: Global, tree: &Branch) -> Result<Node, BookFault
     requires agree { AgreeAll (forest_of (tree.now ∷ [])) }
     ensures found { IfOk result (λ n. IsStored (forest_of (tree.now ∷ [])) (forest (n ∷ []))) }
     ensures only { (t : Forest Resolved) → IsStored (forest_of (tree.now ∷ [])) t
-        → IfOk result (λ n. forest (n ∷ []) ≡ t) × IfErr result (λ f. f.rule ≡ Memory) }
+        → MemoryAside (λ n. forest (n ∷ []) ≡ t) result }
     ensures fault { IfErr result (λ f. IsStorageRefusal f.rule (forest_of (tree.now ∷ []))) }
     ensures memory { IfErr result (λ f. f.rule ≡ Memory → f.line ≡ 0) }
 {
+    // For `only`: a record whose lengths fit breaks no rule on lengths.
     breaks_no_rule();
     let counts = counts(alloc, tree)?;
     let record = resolve(alloc, tree, &counts)?;

@@ -7,6 +7,7 @@ ghost use Rattle.cob_copybook_tree.specs.Branches.{AreLevels, StandsFor, forest_
 ghost use Rattle.cob_copybook_rules.specs.Rules.{AgreeAll};
 ghost use Rattle.cob_copybook.specs.Records.{IsTreeRefusal};
 ghost use Rattle.cob_entry.specs.declared.fault.BookRule.TheVariants.{Memory};
+ghost use Rattle.cob_entry.specs.Faults.{MemoryAside};
 
 use cob_copybook_rules::{breaks_no_rule, judge_clauses};
 use cob_copybook_tree::{BookFault, BookRule, Branch, Entry, build_tree, one_tree};
@@ -40,10 +41,11 @@ pub(crate) fn tree_of(alloc: Global, entries: Vec<Entry>) -> Result<Branch, Book
         × AgreeAll (forest_of (b ∷ []))) }
     ensures only { (t : Forest PlainEntry) → StandsFor (map plain_entry entries.items) t
         → AgreeAll t
-        → IfOk result (λ b. forest_of (b ∷ []) ≡ t) × IfErr result (λ f. f.rule ≡ Memory) }
+        → MemoryAside (λ b. forest_of (b ∷ []) ≡ t) result }
     ensures fault { IfErr result (λ f. IsTreeRefusal f.rule (map plain_entry entries.items)) }
     ensures memory { IfErr result (λ f. f.rule ≡ Memory → f.line ≡ 0) }
 {
+    // For `only`: entries stand for one tree, and one whose clauses agree breaks no rule on clauses.
     one_tree();
     breaks_no_rule();
     if let Some(line) = wrong_level(&entries) {

@@ -64,6 +64,7 @@ pub(crate) fn entries_of(alloc: Global, role: Role, text: &[u8]) -> Result<Vec<E
     ensures fault { IfErr result (λ f. IsTextRefusal f.rule f.line text.now) }
     ensures few { IfOk result (λ es. length (map plain_entry es.items) ≤ 2001) }
 {
+    // For `only`: a text has one list of words.
     words_are_one();
     let words = tokens(alloc, text)?;
     let listed = entries(alloc, &words)?;

@@ -83,6 +83,10 @@ figurative_of term.LowValue = Some figurative.LowValue
 figurative_of term.Quote = Some figurative.Quote
 figurative_of _ = None
 
+-- the word is that of this figurative constant
+abbrev pub IsFigurativeWord : Figurative → Lexeme → Type 0
+IsFigurativeWord f w = figurative_of (word_class w) ≡ Some f
+
 -- nothing, or USAGE and perhaps IS, and the like
 abbrev pub IsPrefix : WordClass → List Lexeme → Type 0
 IsPrefix t [] = Unit {0}
@@ -149,7 +153,7 @@ IsAll ws = IsOptionalWord term.All ws
 abbrev pub IsConstant : WrittenValue → List Lexeme → Type 0
 IsConstant (Word text) ws = (w : Lexeme) × IsFree text w × (ws ≡ w ∷ [])
 IsConstant (Quoted text) ws = (w : Lexeme) × (w.kind ≡ kind.Literal) × (w.text ≡ text) × (ws ≡ w ∷ [])
-IsConstant (Figure f) ws = (all : List Lexeme) × (w : Lexeme) × IsAll all × (figurative_of (word_class w) ≡ Some f) × (ws ≡ all ++ w ∷ [])
+IsConstant (Figure f) ws = (all : List Lexeme) × (w : Lexeme) × IsAll all × IsFigurativeWord f w × (ws ≡ all ++ w ∷ [])
 IsConstant (Repeated text) ws = (all w : Lexeme) × (word_class all ≡ term.All) × (w.kind ≡ kind.Literal) × (w.text ≡ text) × (ws ≡ all ∷ (w ∷ []))
 
 -- the words say this clause

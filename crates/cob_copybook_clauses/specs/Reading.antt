@@ -8,13 +8,14 @@ use Rattle.cob_copybook_clauses.specs.declared.term.WordClass.{WordClass}
 use Rattle.cob_copybook_clauses.specs.declared.term.WordClass.TheVariants as term
 use Rattle.cob_copybook_clauses.specs.declared.parts.Clauses.{Clauses}
 use Rattle.cob_copybook_clauses.specs.declared.parts.Count.{Count}
+use Rattle.cob_copybook_clauses.specs.declared.parts.ValueClause.{ValueClause}
 use Rattle.cob_copybook_clauses.specs.declared.clause.ClauseKind.{ClauseKind}
 use Rattle.cob_copybook_clauses.specs.declared.clause.ClauseKind.TheVariants as clause_kind
 use Rattle.cob_copybook_clauses.specs.declared.clause.WrittenClause.{WrittenClause}
 use Rattle.cob_copybook_clauses.specs.declared.clause.WrittenClause.TheVariants as phrase
 use Rattle.cob_copybook_clauses.specs.Terms.{word_class}
-use Rattle.cob_copybook_clauses.specs.Written.{WrittenClauses, WrittenName, written_clauses, written_name, written_occurs, written_value}
-use Rattle.cob_copybook_clauses.specs.Clauses.{Clause, Redefines, Picture, Stored, Signed, Occurs, Value, Justified, Blank, SaysClause, AreNames, IsFree, IsLeast, IsNameWord, IsOptionalWord, IsVaried}
+use Rattle.cob_copybook_clauses.specs.Written.{WrittenClauses, WrittenName, WrittenValue, written_clauses, written_name, written_occurs, written_value}
+use Rattle.cob_copybook_clauses.specs.Clauses.{Clause, Redefines, Picture, Stored, Signed, Occurs, Value, Justified, Blank, SaysClause, AreNames, AreQualifiers, IsConstant, IsFree, IsLeast, IsNameWord, IsOptionalWord, IsVaried, IsWord}
 use Rattle.cob_copybook_clauses.specs.Entries.{IsAbsent, put, starts_clause}
 
 -- this word doesn't come first
@@ -98,6 +99,26 @@ Stands c words more = StandInFront (SaysClause c) words more
 abbrev pub ReadsClause : Clause → List Lexeme → Option (WrittenClause × Bor (List Token)) → Type 0
 ReadsClause c words answer = EachCut (SaysClause c) ClauseFirst words (Answers clause_of answer c)
 
+-- the constant that these words are behind ALL stands in front, before these
+abbrev pub RepeatedInFront : WrittenValue → List Lexeme → List Lexeme → Type 0
+RepeatedInFront c words more = (all : Lexeme) → word_class all ≡ term.All → (ws : List Lexeme) × IsConstant c (all ∷ ws) × (words ≡ ws ++ more)
+
+-- where it stands in front, a reader answers it, and leaves the words behind it
+abbrev pub ReadsRepeated : WrittenValue → List Lexeme → Option (ValueClause × Bor (List Token)) → Type 0
+ReadsRepeated c words answer = (all : Lexeme) (ws more : List Lexeme)
+    → word_class all ≡ term.All → IsConstant c (all ∷ ws) → words ≡ ws ++ more → Answers written_value answer c more
+
+-- where a word stands in front that isn't this one, a reader answers its text, and leaves the words behind it
+abbrev pub ReadsOtherWord : WordClass → List Lexeme → Option (Bor (List ℕ) × Bor (List Token)) → Type 0
+ReadsOtherWord t words answer = (text : List ℕ) (w : Lexeme) (more : List Lexeme)
+    → IsWord text w → word_class w ≢ t → words ≡ w ∷ more → AnswersText answer text more
+
+-- where qualifiers stand in front, and no further one behind them, a reader answers them, and leaves the words behind them
+abbrev pub ReadsQualifiers : List Lexeme → Bor (List Token) × Bor (List Token) → Type 0
+ReadsQualifiers words answer = (qs more : List Lexeme)
+    → AreQualifiers qs → NotFirstWord term.Of more → words ≡ qs ++ more
+    → (lexemes answer.0.now ≡ qs) × (lexemes answer.1.now ≡ more)
+
 -- where a qualifier stands in front, OF or IN and a name, a reader leaves the words behind it
 abbrev pub SkipsQualifier : List Lexeme → Option (Bor (List Token)) → Type 0
 SkipsQualifier words answer = (of name : Lexeme) (more : List Lexeme) → word_class of ≡ term.Of → IsNameWord name → words ≡ of ∷ (name ∷ more) → Leaves answer more
@@ -134,6 +155,10 @@ abbrev pub ReadsLimits : Option (List ℕ) → List ℕ → List Lexeme → Opti
 ReadsLimits a b words answer = (least : List Lexeme) (most : Lexeme) (more : List Lexeme)
     → IsLeast a least → IsFree b most → NotFirstWord term.To more → words ≡ least ++ most ∷ more
     → IsSomeAnd answer (λ r. (option_map (λ t. t.now) r.0 ≡ a) × (r.1.now ≡ b) × (lexemes r.2.now ≡ more))
+
+-- the count of a table that varies stands in front, or none where none is due, before these words
+abbrev pub VariedInFront : Option WrittenName → Option (List ℕ) → List Lexeme → List Lexeme → Type 0
+VariedInFront count least words more = StandInFront (IsVaried count least) words more
 
 -- where the count of a table that varies stands in front, or none is due, a reader answers it, and leaves the words behind it
 abbrev pub ReadsVaried : Option WrittenName → Option (List ℕ) → List Lexeme → Option (Option Count × Bor (List Token)) → Type 0

@@ -1,5 +1,5 @@
-ghost use Rattle.cob_copybook_clauses.specs.Clauses.{IsConstant, figurative_of};
-ghost use Rattle.cob_copybook_clauses.specs.Reading.{Answers, AnswersText, StandInFront};
+ghost use Rattle.cob_copybook_clauses.specs.Clauses.{IsConstant, IsFigurativeWord, figurative_of};
+ghost use Rattle.cob_copybook_clauses.specs.Reading.{Answers, AnswersText, ReadsRepeated, RepeatedInFront, StandInFront};
 ghost use Rattle.cob_copybook_clauses.specs.Terms.{word_class};
 ghost use Rattle.cob_copybook_clauses.specs.Written.{WrittenValue, written_value};
 ghost use Rattle.cob_source.specs.declared.token.Kind.TheVariants as kind;
@@ -29,9 +29,9 @@ fn figurative_of(term: WordClass) -> Option<Figurative>
 /// The figurative constant in front, and what is behind it.
 fn figurative_at(words: &[Token]) -> Option<(Figurative, &[Token])>
     ensures found { IfSome result (λ r. (w : Lexeme)
-        × (figurative_of (word_class w) ≡ Some r.0) × (lexemes words.now ≡ w ∷ lexemes r.1.now)) }
+        × IsFigurativeWord r.0 w × (lexemes words.now ≡ w ∷ lexemes r.1.now)) }
     ensures only { (f : Figurative) (w : Lexeme) (more : List Lexeme)
-        → figurative_of (word_class w) ≡ Some f → lexemes words.now ≡ w ∷ more
+        → IsFigurativeWord f w → lexemes words.now ≡ w ∷ more
         → Answers (λ c. c) result f more }
 {
     let (first, more) = words.split_first()?;
@@ -55,13 +55,9 @@ fn literal_at(words: &[Token]) -> Option<(&[u8], &[Token])>
 
 /// The constant behind ALL, and what is behind it.
 fn repeated_at(words: &[Token]) -> Option<(ValueClause<'_>, &[Token])>
-    ensures found { IfSome result (λ r. (all : Lexeme)
-        → word_class all ≡ WordClass.All → (ws : List Lexeme)
-        × IsConstant (written_value r.0) (all ∷ ws)
-        × (lexemes words.now ≡ ws ++ lexemes r.1.now)) }
-    ensures only { (c : WrittenValue) (all : Lexeme) (ws more : List Lexeme)
-        → word_class all ≡ WordClass.All → IsConstant c (all ∷ ws) → lexemes words.now ≡ ws ++ more
-        → Answers written_value result c more }
+    ensures found { IfSome result
+        (λ r. RepeatedInFront (written_value r.0) (lexemes words.now) (lexemes r.1.now)) }
+    ensures only { (c : WrittenValue) → ReadsRepeated c (lexemes words.now) result }
 {
     if let Some((text, more)) = literal_at(words) {
         return Some((ValueClause::All(text), more));

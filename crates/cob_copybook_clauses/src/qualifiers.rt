@@ -1,5 +1,5 @@
 ghost use Rattle.cob_copybook_clauses.specs.Clauses.{AreNames, AreQualifiers, IsDependingOn, IsNameWord};
-ghost use Rattle.cob_copybook_clauses.specs.Reading.{Answers, EachCut, Leaves, NotFirstWord, SkipsQualifier, StandInFront};
+ghost use Rattle.cob_copybook_clauses.specs.Reading.{Answers, EachCut, Leaves, NotFirstWord, ReadsQualifiers, SkipsQualifier, StandInFront};
 ghost use Rattle.cob_copybook_clauses.specs.Terms.{word_class};
 ghost use Rattle.cob_copybook_clauses.specs.Written.{WrittenName, written_name};
 ghost use Rattle.cob_source.specs.Tokens.{Lexeme, lexemes};
@@ -65,9 +65,7 @@ fn behind_qualifier(words: &[Token]) -> Option<&[Token]>
 pub fn qualifiers_at(words: &[Token]) -> (&[Token], &[Token])
     ensures are { AreQualifiers (lexemes result.0.now) }
     ensures found { lexemes words.now ≡ lexemes result.0.now ++ lexemes result.1.now }
-    ensures only { (qs more : List Lexeme)
-        → AreQualifiers qs → NotFirstWord WordClass.Of more → lexemes words.now ≡ qs ++ more
-        → (lexemes result.0.now ≡ qs) × (lexemes result.1.now ≡ more) }
+    ensures only { ReadsQualifiers (lexemes words.now) result }
 {
     let mut rest = words;
     while let Some(more) = behind_qualifier(rest) {

@@ -4,7 +4,6 @@ ghost use Rattle.cob_copybook_clauses.specs.Clauses.{
   IsFree,
   IsLeast,
   IsTable,
-  IsVaried,
   IsOptionalWord,
 };
 ghost use Rattle.cob_copybook_clauses.specs.Reading.{
@@ -19,6 +18,7 @@ ghost use Rattle.cob_copybook_clauses.specs.Reading.{
   SkipsIndexes,
   SkipsOrder,
   StandInFront,
+  VariedInFront,
 };
 ghost use Rattle.cob_copybook_clauses.specs.Terms.{word_class};
 ghost use Rattle.cob_copybook_clauses.specs.Written.{WrittenName, WrittenOccurs, written_name, written_occurs};
@@ -97,8 +97,8 @@ fn varied_at<'a>(
     words: &'a [Token],
     least: Option<&[u8]>,
 ) -> Option<(Option<Count<'a>>, &'a [Token])>
-    ensures found { IfSome result (λ r. StandInFront
-        (IsVaried (option_map written_name r.0) (option_map (λ b. b.now) least.entry))
+    ensures found { IfSome result (λ r.
+        VariedInFront (option_map written_name r.0) (option_map (λ b. b.now) least.entry)
         (lexemes words.now) (lexemes r.1.now)) }
     ensures only { (count : Option WrittenName)
         → ReadsVaried count (option_map (λ b. b.now) least.entry) (lexemes words.now) result }

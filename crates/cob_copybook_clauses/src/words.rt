@@ -8,7 +8,7 @@ ghost use Rattle.cob_copybook_clauses.specs.Clauses.{
   IsWord,
   IsOptionalWord,
 };
-ghost use Rattle.cob_copybook_clauses.specs.Reading.{AnswersText, EachCut, EachCutNeither, NotFirstWord, StandInFront};
+ghost use Rattle.cob_copybook_clauses.specs.Reading.{AnswersText, EachCut, EachCutNeither, NotFirstWord, ReadsOtherWord, StandInFront};
 ghost use Rattle.cob_copybook_clauses.specs.Terms.{word_class};
 ghost use Rattle.cob_source.specs.Tokens.{Lexeme, lexeme, lexemes};
 ghost use Rattle.std.specs.Prelude.{
@@ -125,9 +125,7 @@ pub fn word_at(words: &[Token]) -> Option<(&[u8], &[Token])>
 pub fn other_word_at(words: &[Token], term: WordClass) -> Option<(&[u8], &[Token])>
     ensures found { IfSome result (λ r. (w : Lexeme)
         × IsWord r.0.now w × (word_class w ≢ term) × (lexemes words.now ≡ w ∷ lexemes r.1.now)) }
-    ensures only { (text : List ℕ) (w : Lexeme) (more : List Lexeme)
-        → IsWord text w → word_class w ≢ term → lexemes words.now ≡ w ∷ more
-        → AnswersText result text more }
+    ensures only { ReadsOtherWord term (lexemes words.now) result }
 {
     let (first, more) = words.split_first()?;
     if !is_word(first) || is_term(first, term) {

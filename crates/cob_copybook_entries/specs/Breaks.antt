@@ -9,6 +9,10 @@ use Rattle.cob_copybook_entries.specs.Books.{BreaksConstant, BreaksValue, Breaks
 abbrev pub IsConstantFault : BookRule → WrittenValue → Type 0
 IsConstantFault r w = ((r ≡ rule.Grammar) × BreaksConstant (Some w)) ⊎ ((r ≡ rule.Value) × BreaksValue (Some w))
 
+-- the numbers of the table break the grammar of numbers, or the rule on tables
+abbrev pub IsNumbersFault : BookRule → WrittenOccurs → Type 0
+IsNumbersFault r t = ((r ≡ rule.Grammar) × BreaksNumber t) ⊎ ((r ≡ rule.Table) × BreaksTable (Some t))
+
 -- memory was refused, or the table breaks the grammar of numbers, the rule on tables, or the one on names
 abbrev pub IsTableFault : BookRule → WrittenOccurs → Type 0
 IsTableFault r t =

@@ -5,6 +5,7 @@ use Rattle.cob_decimal.specs.Literals.{Literal, IsLiteral, literal_text, IsValue
 use Rattle.cob_picture.specs.Pictures.{IsPictureOf}
 use Rattle.cob_copybook_clauses.specs.Names.{IsName}
 use Rattle.cob_copybook_clauses.specs.Written.{WrittenValue, Word, Quoted as QuotedText, Figure as FigureWord, Repeated as RepeatedText, WrittenName, WrittenOccurs, WrittenEntry}
+use Rattle.cob_entry.specs.declared.entry.Qualified.{Qualified}
 use Rattle.cob_limits.specs.Limits.{longest_literal}
 use Rattle.cob_entry.specs.Described.{PlainValue, Numeric, Quoted, Figure, Repeated, PlainOccurs, Fixed, Varying, PlainEntry}
 
@@ -14,6 +15,10 @@ pub record IsIntegerText (most : ℕ) (text : List ℕ) (n : ℕ) : Type 0 where
   pub some : 0 < length text
   pub few : length text ≤ most
   pub value : n ≡ number_of (digits_in text)
+
+-- the name of a count with its qualifiers, as they are written
+abbrev pub IsQualifiedOf : WrittenName → Qualified → Type 0
+IsQualifiedOf written q = IsName written.name × (q.name ≡ written.name) × (q.qualifiers.items ≡ written.qualifiers)
 
 -- the number before TO; without it the least number is 1
 abbrev pub IsLeastOf : Option (List ℕ) → ℕ → Type 0

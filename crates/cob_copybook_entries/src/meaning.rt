@@ -7,6 +7,7 @@ ghost use Rattle.cob_picture.specs.Pictures.{BreaksPictureRule, IsPictureOf};
 ghost use Rattle.cob_copybook_clauses.specs.Written.{written_value, written_entry, written_occurs};
 ghost use Rattle.cob_entry.specs.declared.fault.BookRule.TheVariants as rule;
 ghost use Rattle.cob_entry.specs.Described.{PlainValue as Meant, PlainEntry, PlainOccurs, plain_value, plain_entry, plain_occurs};
+ghost use Rattle.cob_entry.specs.Faults.{MemoryAsideRule};
 ghost use Rattle.cob_copybook_entries.specs.Meaning.{IsConstantOf, IsNameText, IsOption, IsOccursOf, IsIntegerText, EntryMeans};
 ghost use Rattle.cob_copybook_entries.specs.Books.{BreaksEntry, IsNoName};
 ghost use Rattle.cob_copybook_entries.specs.Breaks.{IsConstantFault, IsTableFault, OfOption};
@@ -131,7 +132,7 @@ fn times_of(alloc: Global, table: Option<OccursClause<'_>>) -> Result<Option<Occ
         (option_map plain_occurs o)) }
     ensures only { (t : Option PlainOccurs)
         → IsOption IsOccursOf (option_map written_occurs table.entry) t
-        → IfOk result (λ o. option_map plain_occurs o ≡ t) × IfErr result (λ r. r ≡ rule.Memory) }
+        → MemoryAsideRule (λ o. option_map plain_occurs o ≡ t) result }
     ensures fault { IfErr result
         (λ r. OfOption (IsTableFault r) (option_map written_occurs table.entry)) }
 {

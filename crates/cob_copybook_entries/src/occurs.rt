@@ -6,9 +6,9 @@ ghost use Rattle.cob_copybook_clauses.specs.Names.{IsName};
 ghost use Rattle.cob_copybook_clauses.specs.Written.{names_behind, written_name, written_occurs};
 ghost use Rattle.cob_entry.specs.declared.fault.BookRule.TheVariants as rule;
 ghost use Rattle.cob_entry.specs.Described.{PlainOccurs, plain_occurs};
-ghost use Rattle.cob_copybook_entries.specs.Meaning.{IsLeastOf, IsRange, AreNumbers, IsOccursOf};
-ghost use Rattle.cob_copybook_entries.specs.Books.{BreaksNumber, BreaksTable};
-ghost use Rattle.cob_copybook_entries.specs.Breaks.{IsTableFault};
+ghost use Rattle.cob_copybook_entries.specs.Meaning.{IsLeastOf, IsQualifiedOf, IsRange, AreNumbers, IsOccursOf};
+ghost use Rattle.cob_copybook_entries.specs.Books.{BreaksNumber};
+ghost use Rattle.cob_copybook_entries.specs.Breaks.{IsNumbersFault, IsTableFault};
 ghost use Rattle.cob_copybook_entries.specs.Short.{AreShort, HasShortQualifiers};
 
 use crate::name::name_of_text;
@@ -55,9 +55,7 @@ fn numbers_of(table: &OccursClause<'_>) -> Result<(u32, u32), BookRule>
     ensures found { IfOk result (λ n. AreNumbers (written_occurs table.now) n.0 n.1) }
     ensures only { (least most : ℕ)
         → AreNumbers (written_occurs table.now) least most → result ≡ Ok (least, most) }
-    ensures fault { IfErr result (λ r. ((r ≡ rule.Grammar)
-        × BreaksNumber (written_occurs table.now))
-        ⊎ ((r ≡ rule.Table) × BreaksTable (Some (written_occurs table.now)))) }
+    ensures fault { IfErr result (λ r. IsNumbersFault r (written_occurs table.now)) }
 {
     if !has_numbers(table) {
         return Err(BookRule::Grammar);
@@ -123,9 +121,7 @@ fn is_range(table: &OccursClause<'_>, least: u32, most: u32) -> bool
 /// `Name` where the text is no name, and `Memory`.
 fn qualified_of(alloc: Global, count: &Count<'_>) -> Result<Qualified, BookRule>
     requires { AreShort (written_name count.now).qualifiers }
-    ensures found { IfOk result
-        (λ q. IsName (written_name count.now).name × (q.name ≡ (written_name count.now).name)
-        × (q.qualifiers.items ≡ (written_name count.now).qualifiers)) }
+    ensures found { IfOk result (IsQualifiedOf (written_name count.now)) }
     ensures only { IsName (written_name count.now).name → IfErr result (λ r. r ≡ rule.Memory) }
     ensures fault { IfErr result
         (λ r. (r ≡ rule.Memory) ⊎ ((r ≡ rule.Name) × (IsName (written_name count.now).name → ⊥))) }

@@ -1,12 +1,13 @@
 //! The entries of a text's words.
 
-ghost use Rattle.std.specs.Prelude.{◌≡◌, ◌⊎◌, ◌<◌, ◌≤◌, [], ◌++◌, List, Option, length, map, IfErr, IfOk, IsSome, OnOk, option_map};
+ghost use Rattle.std.specs.Prelude.{◌≡◌, ◌<◌, ◌≤◌, [], ◌++◌, List, Option, length, map, IfErr, IfOk, IsSome, OnOk, option_map};
 ghost use Rattle.cob_limits.specs.Limits.{most_entries};
 ghost use Rattle.cob_source.specs.Tokens.{lexemes};
 ghost use Rattle.cob_entry.specs.declared.fault.BookRule.TheVariants.{Memory};
 ghost use Rattle.cob_entry.specs.Described.{PlainEntry, plain_entry};
+ghost use Rattle.cob_entry.specs.Faults.{MemoryAside};
 ghost use Rattle.cob_copybook_entries.specs.Books.{AreEntriesOf, BreaksEntryRule};
-ghost use Rattle.cob_copybook_entries.specs.Adds.{Adds, IsPlaceFault, IsSentenceFault, listed};
+ghost use Rattle.cob_copybook_entries.specs.Adds.{Adds, AddsSentence, IsPlaceFault, IsSentenceFault, PutsBehind, listed};
 
 use crate::sentence::sentence_of;
 use cob_copybook_clauses::sentence_at;
@@ -28,7 +29,7 @@ pub fn entries(alloc: Global, tokens: &[Token]) -> Result<Vec<Entry>, BookFault>
         (map plain_entry es.items)) }
     // Words that are entries are read, memory aside.
     ensures only { (ds : List PlainEntry) → AreEntriesOf (lexemes tokens.now) ds
-        → IfOk result (λ es. map plain_entry es.items ≡ ds) × IfErr result (λ f. f.rule ≡ Memory) }
+        → MemoryAside (λ es. map plain_entry es.items ≡ ds) result }
     // A refusal names a rule that is broken.
     ensures fault { IfErr result (λ f. BreaksEntryRule f.rule (lexemes tokens.now)) }
     // Want of memory is no line's.
@@ -74,15 +75,13 @@ fn add_sentence(
     entries: &mut Vec<Entry>,
 ) -> Result<(), BookRule>
     requires { length entries.old.items ≤ most_entries }
-    ensures found { OnOk result ((d : Option PlainEntry) × Adds (lexemes sentence.now) d
-        × (map plain_entry entries.new.items ≡ map plain_entry entries.old.items ++ listed d)
-        × (map plain_entry entries.old.items ≡ [] → IsSome d)) }
+    ensures found { OnOk result
+        (AddsSentence (lexemes sentence.now) entries.old.items entries.new.items) }
     ensures few { OnOk result (length entries.new.items ≤ most_entries) }
     ensures fault { IfErr result
         (λ r. IsSentenceFault r (map plain_entry entries.old.items) (lexemes sentence.now)) }
-    ensures only { (d : Option PlainEntry) → Adds (lexemes sentence.now) d → OnOk result
-        (map plain_entry entries.new.items ≡ map plain_entry entries.old.items ++ listed d)
-        × IfErr result (λ r. (r ≡ Memory) ⊎ IsPlaceFault r (map plain_entry entries.old.items) d) }
+    ensures only { (d : Option PlainEntry) → Adds (lexemes sentence.now) d
+        → PutsBehind d result entries.old.items entries.new.items }
 {
     let entry = sentence_of(alloc, line, sentence)?;
     add(entries, entry)

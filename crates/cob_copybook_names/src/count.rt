@@ -1,6 +1,7 @@
 ghost use Rattle.std.specs.Prelude.{◌≡◌, ℕ, ◌≤◌, List, [], ◌∷◌, map, IsTrue, Option, IfOk, IfErr, IfSome, IsSomeAnd, IsOkAnd};
 ghost use Rattle.cob_entry.specs.Described.{PlainEntry, plain_entry};
 ghost use Rattle.cob_entry.specs.declared.fault.BookRule.TheVariants.{Memory, Count};
+ghost use Rattle.cob_entry.specs.Faults.{MemoryAside};
 ghost use Rattle.cob_copybook_tree.specs.Forests.{Forest, entries_in};
 ghost use Rattle.cob_copybook_tree.specs.Branches.{forest_of};
 ghost use Rattle.cob_copybook_names.specs.Counts.{IsWholeNumber, MayCount, IsCountOfTable, IsCountOf, AreCounts, AreCountsOfTables, IsRefusedAmong, IsRefused};
@@ -108,7 +109,7 @@ pub fn counts(alloc: Global, root: &Branch) -> Result<Vec<Option<usize>>, BookFa
     requires few { entries_in (forest_of (root.now ∷ [])) ≤ 65535 }
     ensures found { IfOk result (λ v. AreCountsOfTables (forest_of (root.now ∷ [])) v.items) }
     ensures only { (cs : List (Option ℕ)) → AreCountsOfTables (forest_of (root.now ∷ [])) cs
-        → IfOk result (λ v. v.items ≡ cs) × IfErr result (λ f. f.rule ≡ Memory) }
+        → MemoryAside (λ v. v.items ≡ cs) result }
     ensures fault { IfErr result (λ f. IsRefused f.rule (forest_of (root.now ∷ []))) }
     ensures memory { IfErr result (λ f. f.rule ≡ Memory → f.line ≡ 0) }
 {

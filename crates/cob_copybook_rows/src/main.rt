@@ -1,8 +1,8 @@
-//! Answers tables of rows about copybooks, each asked of the crate whose subject it is: clauses as they are written, entries, trees,
-//! the rules that clauses keep, counts, lengths, and whole copybooks.
+//! Answers tables of rows about texts and copybooks, each asked of the crate whose subject it is: the words of texts, clauses as they are
+//! written, entries, trees, the rules that clauses keep, counts, lengths, and whole copybooks.
 //!
-//! The first field of a row is the question, and the second is mostly a text of entries, parted by bars, one a line. The answer is what
-//! was asked for, or the rule that the text breaks with its line. What must be printed stands in `stdout`, worked out by hand from the
+//! But for words, the first field of a row is the question, and the second is mostly a text of entries, parted by bars, one a line. The
+//! answer is what was asked for, or the rule that the text breaks with its line. What must be printed stands in `stdout`, worked out by hand from the
 //! rules of COBOL.
 #![tactic(auto)]
 
@@ -16,6 +16,7 @@ mod refusal;
 mod rules;
 mod texts;
 mod trees;
+mod words;
 
 use crate::refusal::Refusal;
 use cob_rows::{Family, Row, RowFault, print_rows};
@@ -32,6 +33,9 @@ struct Copybooks;
 /// That there is no answer, or a rule that the row's text breaks.
 fn answer(alloc: Global, table: &str, row: &Row, out: &mut String) -> Result<(), Refusal> {
     match table {
+        "lines" | "literals" | "continuations" | "paragraphs" | "long_texts" => {
+            Ok(words::answer(alloc, table, row, out)?)
+        }
         "clauses" => clauses::answer(alloc, row, out),
         "entries" => entries::answer(alloc, row, out),
         "trees" => trees::answer(alloc, row, out),

@@ -1,5 +1,6 @@
-ghost use Rattle.std.specs.Prelude.{◌≡◌, ◌<◌, ◌≤◌, ℕ, Bool, true, List, length, IfSome, IsSomeAnd, IsTrue};
+ghost use Rattle.std.specs.Prelude.{◌≡◌, ◌<◌, ◌≤◌, ℕ, Bool, true, List, length, IfSome, IsTrue};
 ghost use Rattle.cob_codec.specs.Sign.{IsHeld};
+ghost use Rattle.cob_decimal.specs.Answers.{AnswersNumber};
 ghost use Rattle.cob_picture.specs.Counts.{digits, scale, signed};
 ghost use Rattle.cob_picture.specs.declared.category.Category.TheVariants.{Numeric};
 ghost use Rattle.cob_copybook_tree.specs.Lengths.{item_size};
@@ -36,7 +37,7 @@ pub fn read_number(item: &Item, bytes: &[u8]) -> Option<Number>
     ensures scale { IfSome result (λ v. v.scale ≡ scale item.now.picture.positions) }
     ensures only { (negative : Bool) (digits : List ℕ)
         → Represents item.now bytes.now negative digits
-        → IsSomeAnd result (λ v. (v.negative ≡ negative) × (v.digits ≡ digits)) }
+        → AnswersNumber result negative digits }
 {
     let shape = shape_of(item);
     match form_of(item) {
@@ -55,7 +56,7 @@ fn read_whole(item: &Item, bytes: &[u8]) -> Option<Number>
     ensures scale { IfSome result (λ v. v.scale ≡ scale item.now.picture.positions) }
     ensures only { (negative : Bool) (digits : List ℕ)
         → IsSentBy Whole item.now bytes.now negative digits
-        → IsSomeAnd result (λ v. (v.negative ≡ negative) × (v.digits ≡ digits)) }
+        → AnswersNumber result negative digits }
 {
     match form_of(item) {
         Form::Zoned => read_number(item, bytes),
@@ -74,7 +75,7 @@ pub fn read_sent(reading: Reading, item: &Item, bytes: &[u8]) -> Option<Number>
     ensures scale { IfSome result (λ v. v.scale ≡ scale item.now.picture.positions) }
     ensures only { (negative : Bool) (digits : List ℕ)
         → IsSentBy reading item.now bytes.now negative digits
-        → IsSomeAnd result (λ v. (v.negative ≡ negative) × (v.digits ≡ digits)) }
+        → AnswersNumber result negative digits }
 {
     match reading {
         Reading::Pictured => read_number(item, bytes),

@@ -9,7 +9,7 @@ use Rattle.cob_cp037.specs.declared.TheConstants.{BYTES, CHARACTERS}
 abbrev pub fits : ℕ → ℕ → Bool
 fits character byte = (get_or BYTES character 0 == byte) && ((get_or CHARACTERS byte 0 == character) && (nat_lt 0 character && nat_lt 0 byte))
 
-both_true : (a b : Bool) → (a && b) ≡ true → (a ≡ true) × (b ≡ true)
+pub both_true : (a b : Bool) → (a && b) ≡ true → (a ≡ true) × (b ≡ true)
 both_true true b h = (refl, h)
 both_true false b h = absurd (cc)
 
@@ -50,14 +50,14 @@ one_to_one = (
 )
 
 -- whether the pair stands in the list
-abbrev is_pair_of : List (ℕ × ℕ) → ℕ → ℕ → Bool
+abbrev pub is_pair_of : List (ℕ × ℕ) → ℕ → ℕ → Bool
 is_pair_of [] character byte = false
 is_pair_of (pair ∷ pairs) character byte = ((character == pair.0) && (byte == pair.1)) || is_pair_of pairs character byte
 
 same_pair : (a b c d : ℕ) → ((a == b) && (c == d)) ≡ true → (a ≡ b) × (c ≡ d)
 same_pair a b c d h = grind (arith, nat_tests)
 
-pair_from_test : (pairs : List (ℕ × ℕ)) (character byte : ℕ) → is_pair_of pairs character byte ≡ true → IsPairOf pairs character byte
+pub pair_from_test : (pairs : List (ℕ × ℕ)) (character byte : ℕ) → is_pair_of pairs character byte ≡ true → IsPairOf pairs character byte
 pair_from_test [] character byte h = absurd (cc)
 pair_from_test (pair ∷ pairs) character byte h =
     elim (either_true ((character == pair.0) && (byte == pair.1)) (is_pair_of pairs character byte) h) [

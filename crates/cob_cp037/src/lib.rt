@@ -5,12 +5,21 @@
 //! in its two directions: what they answer stands in the table (`found`), and a pair of the table is what they answer
 //! (`only`). `table_is_one_to_one` says that no character has two bytes and no byte two characters, so each is the other's
 //! inverse. `encode_into` is the table at each place, and changes nothing where a character is not in the table.
+//! The bytes that the rules of COBOL name, as a space, the digit 0 and the signs, are constants; `constants_are_the_bytes`
+//! says that each is the named byte of specs/Named.antt, and that this is its character's byte in the table.
 //! The crate stands on std alone.
 #![tactic(auto)]
+
+mod named;
 
 ghost use Rattle.std.specs.Prelude.{◌≡◌, ◌<◌, ◌↔◌, ℕ, List, length, IsTrue, IfSome, Some};
 ghost use Rattle.std.specs.Bool.{OnTrue, OnFalse};
 ghost use Rattle.cob_cp037.specs.Table.{IsCoded, AreCoded, HaveCodes, TableIsOneToOne};
+
+pub use crate::named::{
+    ASTERISK, COMMA, CURRENCY, LETTER_B, LETTER_C, LETTER_D, LETTER_R, MINUS, NINE, PLUS, POINT,
+    QUOTE, SLASH, SPACE, ZERO, constants_are_the_bytes,
+};
 
 /// The byte of each character, and 0 for a character that is not in the table.
 static BYTES: [u8; 256] = [

@@ -29,7 +29,7 @@ use Rattle.cob_edit.proofs.RegionLemmas.{is_still, AreWithin, has_region}
 -- ---- places, one before others
 
 -- no symbol of the run stands left of the point
-abbrev HasNoRun : List Place → Type 0
+abbrev pub HasNoRun : List Place → Type 0
 HasNoRun ps = (j : ℕ) → IsOfRun ps j → ⊥
 
 -- each symbol of the run left of the point is among the first that are of the run or insertions
@@ -49,14 +49,14 @@ still_run Point h = refl
 still_run (Fixed m) h = refl
 still_run AssumedPoint h = refl
 
-no_run-nil : HasNoRun []
+pub no_run-nil : HasNoRun []
 no_run-nil j h = omega (arith, h.inside)
 
-no_run-cons : (p : Place) (ps : List Place) → is_still p ≡ true → HasNoRun ps → HasNoRun (p ∷ ps)
+pub no_run-cons : (p : Place) (ps : List Place) → is_still p ≡ true → HasNoRun ps → HasNoRun (p ∷ ps)
 no_run-cons p ps still none zero h = let no : is_run p ≡ false = still_run p still in let yes : is_run p ≡ true = h.run in absurd (cc)
 no_run-cons p ps still none (suc j) h = none j (behind_first p ps j h)
 
-no_run-point : (p : Place) (ps : List Place) → is_point_place p ≡ true → HasNoRun (p ∷ ps)
+pub no_run-point : (p : Place) (ps : List Place) → is_point_place p ≡ true → HasNoRun (p ∷ ps)
 no_run-point p ps point j h = let no : is_point_place p ≡ false = h.left 0 (omega arith) in absurd (cc)
 
 front-none : (ps : List Place) → HasNoRun ps → AreFront ps
@@ -73,7 +73,7 @@ within-none : (ps : List Place) → HasNoRun ps → AreWithin ps
 within-none ps none j h = absurd (none j h)
 
 -- one more still place in front moves the region by one
-start_behind : (p : Place) (ps : List Place) → is_still p ≡ true → region_start (p ∷ ps) ≡ suc (region_start ps)
+pub start_behind : (p : Place) (ps : List Place) → is_still p ≡ true → region_start (p ∷ ps) ≡ suc (region_start ps)
 start_behind p ps still = let n : region_start (p ∷ ps) ≡ 1 + region_start ps = ap (λ b. cond {A = ℕ} b (1 + region_start ps) 0) still in omega arith
 
 within-cons : (p : Place) (ps : List Place) → is_still p ≡ true → AreWithin ps → AreWithin (p ∷ ps)
@@ -95,7 +95,7 @@ run_moves Point h = refl
 run_moves (Fixed m) h = sym h
 run_moves AssumedPoint h = refl
 
-start_here : (p : Place) (ps : List Place) → is_run p ≡ true → region_start (p ∷ ps) ≡ 0
+pub start_here : (p : Place) (ps : List Place) → is_run p ≡ true → region_start (p ∷ ps) ≡ 0
 start_here p ps run = ap (λ b. cond {A = ℕ} b (1 + region_start ps) 0) (run_moves p run)
 
 within-run : (p : Place) (ps : List Place) → is_run p ≡ true → AreFront (p ∷ ps) → AreWithin (p ∷ ps)
@@ -154,7 +154,7 @@ settled_still sy.Credit h = refl
 settled_still sy.Debit h = refl
 
 -- the places of a symbol
-abbrev here : Option Symbol → Bool → Symbol → List Place
+abbrev pub here : Option Symbol → Bool → Symbol → List Place
 here f seen s = position_places (role_at NumericEdited (is_that f s) seen s) s
 
 quiet_still : (f : Option Symbol) (seen : Bool) (s : Symbol) → is_that f s ≡ false → is_quiet (settled_kind s) ≡ true → list_all is_still (here f seen s) ≡ true
@@ -212,10 +212,10 @@ still_here part f q seen s agree h e =
     quiet_still f seen s (agree.outside s p.0) p.1
 
 -- the places of symbols, the floating one seen before or not
-abbrev placed_from : Option Symbol → Bool → List Symbol → List Place
+abbrev pub placed_from : Option Symbol → Bool → List Symbol → List Place
 placed_from f seen xs = places (positions_from NumericEdited f seen xs)
 
-quiet_no_run : (part : Part) (f q : Option Symbol) (xs ys : List Symbol) → Agree f q → is_quiet_part part ≡ true → AreOf part q xs → ((seen : Bool) → HasNoRun (placed_from f seen ys)) → (seen : Bool) → HasNoRun (placed_from f seen (xs ++ ys))
+pub quiet_no_run : (part : Part) (f q : Option Symbol) (xs ys : List Symbol) → Agree f q → is_quiet_part part ≡ true → AreOf part q xs → ((seen : Bool) → HasNoRun (placed_from f seen ys)) → (seen : Bool) → HasNoRun (placed_from f seen (xs ++ ys))
 quiet_no_run part f q [] ys agree h all rest seen = rest seen
 quiet_no_run part f q (s ∷ xs) ys agree h all rest seen = no_run-append (here f seen s) (placed_from f (seen || is_that f s) (xs ++ ys)) (still_here part f q seen s agree h all.0) (quiet_no_run part f q xs ys agree h all.1 rest (seen || is_that f s))
 
@@ -251,7 +251,7 @@ floating_run : (seen : Bool) (s : Symbol) → IsOneRun (position_places (role_at
 floating_run true s = (_, refl, refl)
 floating_run false s = (_, refl, refl)
 
-run_here : (f q : Option Symbol) (seen : Bool) (s : Symbol) → Agree f q → is_that q s ≡ true → IsOneRun (here f seen s)
+pub run_here : (f q : Option Symbol) (seen : Bool) (s : Symbol) → Agree f q → is_that q s ≡ true → IsOneRun (here f seen s)
 run_here f q seen s agree run = at (is_that f s) refl
   where
     at : (b : Bool) → is_that f s ≡ b → IsOneRun (position_places (role_at NumericEdited b seen s) s)
@@ -282,14 +282,14 @@ settled_front sy.Minus h = let no : false ≡ true = h in absurd (cc)
 settled_front sy.Credit h = let no : false ≡ true = h in absurd (cc)
 settled_front sy.Debit h = let no : false ≡ true = h in absurd (cc)
 
-front_symbol : (q : Option Symbol) (s : Symbol) → belongs Front (symbol_kind q s) ≡ true → (is_that q s ≡ true) ⊎ ((is_that q s ≡ false) × (belongs Front (settled_kind s) ≡ true))
+pub front_symbol : (q : Option Symbol) (s : Symbol) → belongs Front (symbol_kind q s) ≡ true → (is_that q s ≡ true) ⊎ ((is_that q s ≡ false) × (belongs Front (settled_kind s) ≡ true))
 front_symbol q s h = at (is_that q s) refl h
   where
     at : (b : Bool) → is_that q s ≡ b → belongs Front (if b then OfRun else settled_kind s) ≡ true → (is_that q s ≡ true) ⊎ ((is_that q s ≡ false) × (belongs Front (settled_kind s) ≡ true))
     at true e k = inl e
     at false e k = inr (e, k)
 
-insertion_here : (f q : Option Symbol) (seen : Bool) (s : Symbol) → Agree f q → is_that q s ≡ false → belongs Front (settled_kind s) ≡ true → IsOneInsertion (here f seen s)
+pub insertion_here : (f q : Option Symbol) (seen : Bool) (s : Symbol) → Agree f q → is_that q s ≡ false → belongs Front (settled_kind s) ≡ true → IsOneInsertion (here f seen s)
 insertion_here f q seen s agree out k =
     let one = settled_front s k in
     (one.0, ap (λ b. position_places (role_at NumericEdited b seen s) s) (agree.outside s out) ∙ one.1)
@@ -366,7 +366,7 @@ point_here f q seen s agree h = at (is_that q s) refl h
 trail_no_run : (f q : Option Symbol) (xs : List Symbol) → Agree f q → AreOf Trail q xs → (seen : Bool) → HasNoRun (placed_from f seen xs)
 trail_no_run f q xs agree all seen = subst (λ ys. HasNoRun (placed_from f seen ys)) (append-nil xs) (quiet_no_run Trail f q xs [] agree refl all (λ b. no_run-nil) seen)
 
-point_no_run : (f q : Option Symbol) (point fraction trail : List Symbol) → Agree f q → AreOf PointPart q point → AreOf Trail q trail → (length point ≡ 0 → length fraction ≡ 0) → (seen : Bool) → HasNoRun (placed_from f seen (point ++ (fraction ++ trail)))
+pub point_no_run : (f q : Option Symbol) (point fraction trail : List Symbol) → Agree f q → AreOf PointPart q point → AreOf Trail q trail → (length point ≡ 0 → length fraction ≡ 0) → (seen : Bool) → HasNoRun (placed_from f seen (point ++ (fraction ++ trail)))
 point_no_run f q [] [] trail agree is_point all none seen = trail_no_run f q trail agree all seen
 point_no_run f q [] (s ∷ fraction) trail agree is_point all none seen = let no : length (s ∷ fraction) ≡ 0 = none refl in absurd (omega (arith, no))
 point_no_run f q (s ∷ point) fraction trail agree is_point all none seen =
@@ -400,7 +400,7 @@ chosen_fills false false false true g s h k = z_too s h
 chosen_fills false false false false true s h k = star_too s h
 chosen_fills false false false false false s h k = absurd (true≢false (sym h))
 
-agree : (xs : List Symbol) → Agree (floating xs) (run_symbol xs)
+pub agree : (xs : List Symbol) → Agree (floating xs) (run_symbol xs)
 agree xs =
     let a = nat_le 2 (symbol_count sy.Dollar xs) in
     let b = nat_le 2 (symbol_count sy.Plus xs) in

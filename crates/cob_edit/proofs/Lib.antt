@@ -7,3 +7,5 @@ pub mod PicturedLemmas
 pub mod PlaceLemmas
 pub mod RegionLemmas
 pub mod EditedLemmas
+pub mod RowLemmas
+pub mod TellingLemmas

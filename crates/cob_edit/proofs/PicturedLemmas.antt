@@ -14,14 +14,14 @@ use Rattle.cob_edit.proofs.EditingLemmas.{text_same, text_exists}
 use Rattle.cob_edit.proofs.OneValueLemmas.{one_reading}
 use Rattle.cob_edit.proofs.PlaceLemmas.{digits_same}
 
-not_zero : (ds : List ℕ) → 0 < number_of ds → are_zero ds ≡ false
+pub not_zero : (ds : List ℕ) → 0 < number_of ds → are_zero ds ≡ false
 not_zero ds some = at (are_zero ds) refl
   where
     at : (b : Bool) → are_zero ds ≡ b → b ≡ false
     at true e = let none : number_of ds ≡ 0 = (all_zero ds).0 e in absurd (omega arith)
     at false e = refl
 
-some_number : (ds : List ℕ) → are_zero ds ≡ false → 0 < number_of ds
+pub some_number : (ds : List ℕ) → are_zero ds ≡ false → 0 < number_of ds
 some_number ds e =
     elim (cases_lt 0 (number_of ds)) [
       | inl some ↦ some
@@ -41,7 +41,7 @@ same_scale a n s below =
     let whole : a * 10 ^ 0 ≡ a = omega arith in
     ap (λ z. shifted a z % 10 ^ n) none ∙ ap (λ x. x % 10 ^ n) whole ∙ mod-eq_of_lt below
 
-kept_value : (p : PlainPicture) (ds : List ℕ) → IsDigits ds → length ds ≡ digits p.positions → aligned (number_of ds) (scale p.positions) (scale p.positions) (digits p.positions) ≡ number_of ds
+pub kept_value : (p : PlainPicture) (ds : List ℕ) → IsDigits ds → length ds ≡ digits p.positions → aligned (number_of ds) (scale p.positions) (scale p.positions) (digits p.positions) ≡ number_of ds
 kept_value p ds valid count = same_scale (number_of ds) (digits p.positions) (scale p.positions) (subst (λ n. number_of ds < 10 ^ n) count (number_of-lt ds valid))
 
 -- the text of a number in range is that of its sign and digits

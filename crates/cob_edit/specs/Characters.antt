@@ -1,5 +1,6 @@
 -- Characters moved to an edited item that holds characters.
 use Rattle.std.specs.Prelude.{◌≡◌, ℕ, ◌<◌, Bool, true, false, List, [], ◌∷◌, length, take, drop, slice_index, slice_index_or, count_by, if◌then◌else◌}
+use Rattle.cob_cp037.specs.Named.{space_byte}
 use Rattle.cob_picture.specs.declared.symbol.Symbol.TheVariants.{A}
 use Rattle.cob_picture.specs.declared.position.Role.{Role}
 use Rattle.cob_picture.specs.declared.position.Role.TheVariants.{Character, Insertion, DecimalPoint, Digit, Suppressed, Floating, FirstFloating, FixedSign, FixedCurrency, NoByte}
@@ -28,7 +29,7 @@ position ps j = slice_index_or ps j (record { symbol = A; role = Character })
 abbrev pub character_at : List Position → List ℕ → ℕ → ℕ
 character_at ps sender j =
     if is_character (position ps j).role
-    then slice_index_or sender (count_by (λ p. is_character p.role) (take j ps)) 0x40
+    then slice_index_or sender (count_by (λ p. is_character p.role) (take j ps)) space_byte
     else insertion_byte (position ps j).symbol
 
 -- each place of the item holds its byte
@@ -41,7 +42,7 @@ abbrev pub characters_from : List Position → List ℕ → List ℕ
 characters_from [] sender = []
 characters_from (p ∷ ps) sender =
     if is_character p.role
-    then slice_index_or sender 0 0x40 ∷ characters_from ps (drop 1 sender)
+    then slice_index_or sender 0 space_byte ∷ characters_from ps (drop 1 sender)
     else insertion_byte p.symbol ∷ characters_from ps sender
 
 -- characters have one text

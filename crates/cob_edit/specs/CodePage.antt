@@ -1,6 +1,7 @@
 -- The bytes of edited texts are characters of code page 037.
 use Rattle.std.specs.Prelude.{ℕ, ◌+◌, ◌<◌, Bool, true, false}
 use Rattle.cob_cp037.specs.Table.{IsCoded}
+use Rattle.cob_cp037.specs.Named.{point_byte, zero_byte}
 use Rattle.cob_picture.specs.declared.symbol.Symbol.TheVariants.{B, Zero, Slash, Comma}
 use Rattle.cob_edit.specs.declared.place.Mark.TheVariants.{Currency, PlusOrMinus, SpaceOrMinus, CreditC, CreditR, DebitD, DebitB}
 use Rattle.cob_edit.specs.declared.place.Fill.TheVariants.{Space, Asterisk}
@@ -10,8 +11,8 @@ use Rattle.cob_edit.specs.Pictured.{insertion_byte}
 -- Each byte of an edited text is that of a character: a digit, a point, `$`, a sign, the letters of CR and DB, an insertion, an asterisk
 -- or a space.
 pub record PrintsCharacters : Type 0 where
-  pub digits : (d : ℕ) → d < 10 → IsCoded (d + 48) (d + 0xF0)
-  pub point : IsCoded 46 0x4B
+  pub digits : (d : ℕ) → d < 10 → IsCoded (d + 48) (d + zero_byte)
+  pub point : IsCoded 46 point_byte
   pub currency : (negative : Bool) → IsCoded 36 (mark_byte Currency negative)
   pub plus_sign : IsCoded 43 (mark_byte PlusOrMinus false)
   pub minus_sign : IsCoded 45 (mark_byte PlusOrMinus true)

@@ -1,6 +1,7 @@
 -- How a number is edited: the text that the places of an item give its digits and its sign.
 use Rattle.std.specs.Prelude.{◌≡◌, ℕ, ◌+◌, ◌-◌, ◌<◌, ◌≤◌, Bool, false, ◌&&◌, ◌||◌, not, nat_le, nat_lt, ◌==◌, if◌then◌else◌, List, [], ◌∷◌, ◌++◌, length, take, drop, slice_index, slice_index_or, count_by, IsTrue, MatchBool, ◌⊎◌}
 use Rattle.std.specs.List.{prefix_len, list_all, list_any, flat_map}
+use Rattle.cob_cp037.specs.Named.{asterisk_byte, nine_byte, point_byte, space_byte, zero_byte}
 use Rattle.cob_decimal.specs.Decimal.{IsDigits}
 use Rattle.cob_edit.specs.declared.place.Place.{Place}
 use Rattle.cob_edit.specs.declared.place.Place.TheVariants.{Inserted, Point, Digit, Suppressed, Floating, First, Fixed, AssumedPoint}
@@ -40,22 +41,22 @@ pub record IsSuppressedTo (ps : List Place) (ds : List ℕ) (k : ℕ) : Type 0 w
 -- at the last of these places, directly before the cut.
 abbrev pub hidden : Place → (negative at_cut : Bool) → ℕ
 hidden (Suppressed fill) negative at_cut = fill_byte fill
-hidden (First mark) negative at_cut = if at_cut then mark_byte mark negative else 0x40
-hidden (Inserted byte) negative at_cut = 0x40
-hidden Point negative at_cut = 0x40
-hidden Digit negative at_cut = 0x40
-hidden Floating negative at_cut = 0x40
-hidden (Fixed mark) negative at_cut = 0x40
-hidden AssumedPoint negative at_cut = 0x40
+hidden (First mark) negative at_cut = if at_cut then mark_byte mark negative else space_byte
+hidden (Inserted byte) negative at_cut = space_byte
+hidden Point negative at_cut = space_byte
+hidden Digit negative at_cut = space_byte
+hidden Floating negative at_cut = space_byte
+hidden (Fixed mark) negative at_cut = space_byte
+hidden AssumedPoint negative at_cut = space_byte
 
 -- What every other place holds: its digit, insertion, point, sign or currency sign. The first floating symbol holds no digit.
 abbrev pub shown : Place → Bool → ℕ → List ℕ
 shown (Inserted byte) negative d = byte ∷ []
-shown Point negative d = 0x4B ∷ []
-shown Digit negative d = (d + 0xF0) ∷ []
-shown (Suppressed fill) negative d = (d + 0xF0) ∷ []
-shown Floating negative d = (d + 0xF0) ∷ []
-shown (First mark) negative d = 0x40 ∷ []
+shown Point negative d = point_byte ∷ []
+shown Digit negative d = (d + zero_byte) ∷ []
+shown (Suppressed fill) negative d = (d + zero_byte) ∷ []
+shown Floating negative d = (d + zero_byte) ∷ []
+shown (First mark) negative d = space_byte ∷ []
 shown (Fixed mark) negative d = mark_byte mark negative ∷ []
 shown AssumedPoint negative d = []
 
@@ -76,13 +77,13 @@ printed ps ds negative k j (p ∷ rest) = cell ps negative k j p (digit_of ps ds
 -- What a place holds where the value 0 shows nothing: a space, or an asterisk everywhere but at the point.
 abbrev pub empty_cell : Bool → Place → List ℕ
 empty_cell stars AssumedPoint = []
-empty_cell stars Point = (if stars then 0x4B else 0x40) ∷ []
-empty_cell stars (Inserted byte) = (if stars then 0x5C else 0x40) ∷ []
-empty_cell stars Digit = (if stars then 0x5C else 0x40) ∷ []
-empty_cell stars (Suppressed fill) = (if stars then 0x5C else 0x40) ∷ []
-empty_cell stars Floating = (if stars then 0x5C else 0x40) ∷ []
-empty_cell stars (First mark) = (if stars then 0x5C else 0x40) ∷ []
-empty_cell stars (Fixed mark) = (if stars then 0x5C else 0x40) ∷ []
+empty_cell stars Point = (if stars then point_byte else space_byte) ∷ []
+empty_cell stars (Inserted byte) = (if stars then asterisk_byte else space_byte) ∷ []
+empty_cell stars Digit = (if stars then asterisk_byte else space_byte) ∷ []
+empty_cell stars (Suppressed fill) = (if stars then asterisk_byte else space_byte) ∷ []
+empty_cell stars Floating = (if stars then asterisk_byte else space_byte) ∷ []
+empty_cell stars (First mark) = (if stars then asterisk_byte else space_byte) ∷ []
+empty_cell stars (Fixed mark) = (if stars then asterisk_byte else space_byte) ∷ []
 
 -- asterisks stand for the value 0 if they do for a suppressed one, and the item isn't BLANK WHEN ZERO
 abbrev pub has_stars : List Place → Bool → Bool
@@ -120,7 +121,7 @@ pub record FitsPlaces (ps : List Place) (negative : Bool) (ds : List ℕ) : Type
 
 -- the digit that a byte shows, and 0 for a byte that shows none
 abbrev pub shown_digit : ℕ → ℕ
-shown_digit byte = if nat_lt 0xF0 byte && nat_lt byte 0xFA then byte - 0xF0 else 0
+shown_digit byte = if nat_lt zero_byte byte && nat_le byte nine_byte then byte - zero_byte else 0
 
 -- the digits that stand at the digit places of a text, whatever it is
 abbrev pub extract : List Place → List ℕ → List ℕ

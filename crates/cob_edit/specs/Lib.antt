@@ -4,3 +4,5 @@ pub mod Editing
 pub mod Pictured
 pub mod Places
 pub mod Regions
+pub mod Rows
+pub mod Deedited

@@ -1,6 +1,7 @@
 -- Edited items: the places of a picture, and the text that a picture gives a number.
 use Rattle.std.specs.Prelude.{◌≡◌, ℕ, ◌<◌, Bool, ◌↔◌, List, [], ◌∷◌, length, ℤ, IsTrue, if◌then◌else◌}
 use Rattle.std.specs.List.{flat_map}
+use Rattle.cob_cp037.specs.Named.{comma_byte, slash_byte, space_byte, zero_byte}
 use Rattle.cob_decimal.specs.Decimal.{IsDigits, number_of, aligned}
 use Rattle.cob_picture.specs.declared.symbol.Symbol.{Symbol}
 use Rattle.cob_picture.specs.declared.symbol.Symbol.TheVariants.{V, Zero, Slash, Comma, Star, Plus, Minus, Credit, Debit}
@@ -19,10 +20,10 @@ use Rattle.cob_edit.specs.Editing.{IsText, shows_sign}
 
 -- the byte of an insertion, in code page 037: a space for B, and itself for 0, the stroke and the comma
 abbrev pub insertion_byte : Symbol → ℕ
-insertion_byte Zero = 0xF0
-insertion_byte Slash = 0x61
-insertion_byte Comma = 0x6B
-insertion_byte _ = 0x40
+insertion_byte Zero = zero_byte
+insertion_byte Slash = slash_byte
+insertion_byte Comma = comma_byte
+insertion_byte _ = space_byte
 
 -- the mark of a sign or a currency sign that takes one place
 abbrev pub mark_of : Symbol → Mark
@@ -43,7 +44,7 @@ fixed_places s = place.Fixed (mark_of s) ∷ []
 
 -- The places of a position: one, but two for CR and DB. S and P have none, and V has one without a byte.
 abbrev pub position_places : Role → Symbol → List Place
-position_places role.Character s = place.Inserted 0x40 ∷ []
+position_places role.Character s = place.Inserted space_byte ∷ []
 position_places role.Insertion s = place.Inserted (insertion_byte s) ∷ []
 position_places role.DecimalPoint s = place.Point ∷ []
 position_places role.Digit s = place.Digit ∷ []

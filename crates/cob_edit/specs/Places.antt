@@ -1,5 +1,6 @@
 -- The places of an edited item. Each holds one byte, but an assumed point, which holds none.
 use Rattle.std.specs.Prelude.{ℕ, Bool, true, false, List, if◌then◌else◌, count_by}
+use Rattle.cob_cp037.specs.Named.{asterisk_byte, b_byte, c_byte, currency_byte, d_byte, minus_byte, plus_byte, r_byte, space_byte}
 use Rattle.cob_edit.specs.declared.place.Mark.{Mark}
 use Rattle.cob_edit.specs.declared.place.Mark.TheVariants.{Currency, PlusOrMinus, SpaceOrMinus, CreditC, CreditR, DebitD, DebitB}
 use Rattle.cob_edit.specs.declared.place.Fill.{Fill}
@@ -10,13 +11,13 @@ use Rattle.cob_edit.specs.declared.place.Place.TheVariants.{Inserted, Point, Dig
 -- The byte of a mark, in code page 037, for a value that is negative or not: `$` is itself; a plus sign gives way to a minus sign, a
 -- space to a minus sign, and the letters of CR and DB to spaces where the value isn't negative.
 abbrev pub mark_byte : Mark → Bool → ℕ
-mark_byte Currency negative = 0x5B
-mark_byte PlusOrMinus negative = if negative then 0x60 else 0x4E
-mark_byte SpaceOrMinus negative = if negative then 0x60 else 0x40
-mark_byte CreditC negative = if negative then 0xC3 else 0x40
-mark_byte CreditR negative = if negative then 0xD9 else 0x40
-mark_byte DebitD negative = if negative then 0xC4 else 0x40
-mark_byte DebitB negative = if negative then 0xC2 else 0x40
+mark_byte Currency negative = currency_byte
+mark_byte PlusOrMinus negative = if negative then minus_byte else plus_byte
+mark_byte SpaceOrMinus negative = if negative then minus_byte else space_byte
+mark_byte CreditC negative = if negative then c_byte else space_byte
+mark_byte CreditR negative = if negative then r_byte else space_byte
+mark_byte DebitD negative = if negative then d_byte else space_byte
+mark_byte DebitB negative = if negative then b_byte else space_byte
 
 -- every mark but the currency sign tells the sign
 abbrev pub tells : Mark → Bool
@@ -30,8 +31,8 @@ tells DebitB = true
 
 -- what stands for a suppressed zero
 abbrev pub fill_byte : Fill → ℕ
-fill_byte Space = 0x40
-fill_byte Asterisk = 0x5C
+fill_byte Space = space_byte
+fill_byte Asterisk = asterisk_byte
 
 -- a place that holds a digit: a 9, a Z, an asterisk, or a floating symbol but the first
 abbrev pub is_digit : Place → Bool

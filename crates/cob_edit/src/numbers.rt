@@ -1,9 +1,10 @@
 //! Numbers and characters put into edited items, and numbers read out of them.
 
-ghost use Rattle.std.specs.Prelude.{◌≡◌, length, IsTrue, IfSome, IsSomeAnd, Bool, ℕ, List};
+ghost use Rattle.std.specs.Prelude.{◌≡◌, length, IsTrue, IfSome, Bool, ℕ, List};
 ghost use Rattle.cob_picture.specs.Positions.{shows_number};
-ghost use Rattle.cob_picture.specs.Counts.{size, scale};
-ghost use Rattle.cob_edit.specs.Pictured.{IsEdited, IsInRange};
+ghost use Rattle.cob_picture.specs.Counts.{size};
+ghost use Rattle.cob_edit.specs.Deedited.{IsNumberOf, ReadsNumber};
+ghost use Rattle.cob_edit.specs.Pictured.{IsEdited};
 
 use crate::positions::places_of;
 use crate::reading::read_text;
@@ -42,13 +43,9 @@ pub fn deedit(picture: &Picture, blank: bool, bytes: &[u8]) -> Option<Number>
     requires shows { IsTrue (shows_number picture.now.category) }
     requires room { length bytes.now ≡ size picture.now.positions }
     // What is read is in range, and the bytes are its text.
-    ensures found { IfSome result
-        (λ v. IsInRange picture.now v.negative v.digits × (v.scale ≡ scale picture.now.positions)
-        × IsEdited picture.now blank v.negative v.digits v.scale bytes.now) }
+    ensures found { IfSome result (IsNumberOf picture.now blank bytes.now) }
     // Every number in range is read from its text.
-    ensures only { (n : Bool) (ds : List ℕ) → IsInRange picture.now n ds
-        → IsEdited picture.now blank n ds (scale picture.now.positions) bytes.now → IsSomeAnd result
-        (λ v. (v.negative ≡ n) × (v.digits ≡ ds) × (v.scale ≡ scale picture.now.positions)) }
+    ensures only { ReadsNumber picture.now blank bytes.now result }
 {
     let places = places_of(picture);
     match read_text(places.as_slice(), blank, bytes) {

@@ -3,6 +3,8 @@
 ghost use Rattle.std.specs.Prelude.{◌≡◌};
 ghost use Rattle.cob_edit.specs.Places.{mark_byte, tells, fill_byte, is_digit, is_run, is_run_or_insertion, is_point_place, has_byte, is_nine, is_star, is_asterisk, is_fixed_sign, is_floating_sign};
 
+use cob_cp037::{ASTERISK, CURRENCY, LETTER_B, LETTER_C, LETTER_D, LETTER_R, MINUS, PLUS, SPACE};
+
 /// A byte that may depend on the sign of the value.
 #[derive(Clone, Copy, Debug, PartialEq, Eq)]
 pub enum Mark {
@@ -64,14 +66,14 @@ impl Mark {
         ensures { result ≡ mark_byte self negative }
     {
         match (self, negative) {
-            (Mark::Currency, _) => 0x5B,
-            (Mark::PlusOrMinus, false) => 0x4E,
-            (Mark::PlusOrMinus | Mark::SpaceOrMinus, true) => 0x60,
-            (Mark::CreditC, true) => 0xC3,
-            (Mark::CreditR, true) => 0xD9,
-            (Mark::DebitD, true) => 0xC4,
-            (Mark::DebitB, true) => 0xC2,
-            _ => 0x40,
+            (Mark::Currency, _) => CURRENCY,
+            (Mark::PlusOrMinus, false) => PLUS,
+            (Mark::PlusOrMinus | Mark::SpaceOrMinus, true) => MINUS,
+            (Mark::CreditC, true) => LETTER_C,
+            (Mark::CreditR, true) => LETTER_R,
+            (Mark::DebitD, true) => LETTER_D,
+            (Mark::DebitB, true) => LETTER_B,
+            _ => SPACE,
         }
     }
 
@@ -89,8 +91,8 @@ impl Fill {
         ensures { result ≡ fill_byte self }
     {
         match self {
-            Fill::Space => 0x40,
-            Fill::Asterisk => 0x5C,
+            Fill::Space => SPACE,
+            Fill::Asterisk => ASTERISK,
         }
     }
 }

@@ -10,6 +10,7 @@ ghost use Rattle.cob_edit.specs.Pictured.{insertion_byte, mark_of, fill_of, fixe
 use crate::MAX_PLACES;
 use crate::place::{Fill, Mark, Place};
 use arrayvec::ArrayVec;
+use cob_cp037::{COMMA, SLASH, SPACE, ZERO};
 use cob_limits::MAX_DIGITS;
 use cob_picture::{Picture, Position, Role, Symbol};
 
@@ -21,10 +22,10 @@ pub fn insertion_byte(symbol: Symbol) -> u8
     ensures { result ≡ insertion_byte symbol }
 {
     match symbol {
-        Symbol::Zero => 0xF0,
-        Symbol::Slash => 0x61,
-        Symbol::Comma => 0x6B,
-        _ => 0x40,
+        Symbol::Zero => ZERO,
+        Symbol::Slash => SLASH,
+        Symbol::Comma => COMMA,
+        _ => SPACE,
     }
 }
 
@@ -73,7 +74,7 @@ fn push_places(places: &mut Places, role: Role, symbol: Symbol)
     ensures { places.new.items ≡ places.old.items ++ position_places role symbol }
 {
     match role {
-        Role::Character => places.push(Place::Inserted(0x40)),
+        Role::Character => places.push(Place::Inserted(SPACE)),
         Role::Insertion => places.push(Place::Inserted(insertion_byte(symbol))),
         Role::DecimalPoint => places.push(Place::Point),
         Role::Digit => places.push(Place::Digit),

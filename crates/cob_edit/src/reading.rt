@@ -10,6 +10,7 @@ use crate::MAX_PLACES;
 use crate::place::Place;
 use crate::region::shows_sign;
 use crate::text::{are_zero, write_text};
+use cob_cp037::{NINE, ZERO};
 use cob_decimal::Digits;
 use cob_limits::MAX_DIGITS;
 
@@ -18,8 +19,8 @@ fn shown_digit(byte: u8) -> u8
     ensures value { result ≡ shown_digit byte }
     ensures digit { result < 10 }
 {
-    if byte > 0xF0 && byte < 0xFA {
-        byte - 0xF0
+    if byte > ZERO && byte <= NINE {
+        byte - ZERO
     } else {
         0
     }

@@ -1,11 +1,13 @@
 //! Characters put into edited items.
 
 ghost use Rattle.std.specs.Prelude.{◌≡◌, ◌≤◌, length, slice_index_or};
+ghost use Rattle.cob_cp037.specs.Named.{space_byte};
 ghost use Rattle.cob_picture.specs.declared.category.Category.TheVariants.{AlphanumericEdited};
 ghost use Rattle.cob_picture.specs.Counts.{size};
 ghost use Rattle.cob_edit.specs.Characters.{is_character, characters_from, HasCharacters};
 
 use crate::positions::insertion_byte;
+use cob_cp037::SPACE;
 use cob_picture::{Picture, Position, Role};
 
 /// Whether the place holds any character.
@@ -17,9 +19,9 @@ fn is_character(role: Role) -> bool
 
 /// The byte of this number, and a space past the last.
 fn byte_in(bytes: &[u8], at: usize) -> u8
-    ensures { result ≡ slice_index_or bytes.now at 0x40 }
+    ensures { result ≡ slice_index_or bytes.now at space_byte }
 {
-    if at < bytes.len() { bytes[at] } else { 0x40 }
+    if at < bytes.len() { bytes[at] } else { SPACE }
 }
 
 /// Writes the characters of a sender, and the insertions, at positions that have a byte each.

@@ -9,15 +9,16 @@ ghost use Rattle.cob_edit.specs.Editing.{region_start, region_end, place_at, hid
 
 use crate::place::Place;
 use crate::region::{Region, cut_of, region_of};
+use cob_cp037::{ASTERISK, POINT, SPACE, ZERO};
 
 /// What a place of the region holds before the cut.
-fn hidden(first: &Place, negative: bool, at_cut: bool) -> u8
+pub(crate) fn hidden(first: &Place, negative: bool, at_cut: bool) -> u8
     ensures { result ≡ hidden first.now negative at_cut }
 {
     match first {
         Place::Suppressed(fill) => fill.byte(),
         Place::First(mark) if at_cut => mark.byte(negative),
-        _ => 0x40,
+        _ => SPACE,
     }
 }
 
@@ -28,9 +29,9 @@ fn shown(place: &Place, negative: bool, digit: u8) -> Option<u8>
 {
     match place {
         Place::Inserted(byte) => Some(*byte),
-        Place::Point => Some(0x4B),
-        Place::Digit | Place::Suppressed(_) | Place::Floating => Some(digit + 0xF0),
-        Place::First(_) => Some(0x40),
+        Place::Point => Some(POINT),
+        Place::Digit | Place::Suppressed(_) | Place::Floating => Some(digit + ZERO),
+        Place::First(_) => Some(SPACE),
         Place::Fixed(mark) => Some(mark.byte(negative)),
         Place::AssumedPoint => None,
     }
@@ -100,14 +101,14 @@ pub fn are_zero(digits: &[u8]) -> bool
 }
 
 /// Whether no digit always shows.
-fn has_no_nine(places: &[Place]) -> bool
+pub(crate) fn has_no_nine(places: &[Place]) -> bool
     ensures { result ≡ list_all (λ p. not (is_nine p)) places.now }
 {
     places.iter().all(|place| !place.is_nine())
 }
 
 /// Whether asterisks stand for suppressed zeros.
-fn has_star(places: &[Place]) -> bool
+pub(crate) fn has_star(places: &[Place]) -> bool
     ensures { result ≡ list_any is_star places.now }
 {
     places.iter().any(|place| place.is_star())
@@ -126,8 +127,8 @@ fn empty_cell(stars: bool, place: &Place) -> Option<u8>
 {
     match place {
         Place::AssumedPoint => None,
-        Place::Point => Some(if stars { 0x4B } else { 0x40 }),
-        _ => Some(if stars { 0x5C } else { 0x40 }),
+        Place::Point => Some(if stars { POINT } else { SPACE }),
+        _ => Some(if stars { ASTERISK } else { SPACE }),
     }
 }
 

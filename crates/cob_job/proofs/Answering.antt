@@ -17,7 +17,7 @@ use Rattle.cob_convert_record.specs.Conversion.{Conversion}
 use Rattle.cob_stream.specs.declared.fault.RunFault.{RunFault}
 use Rattle.cob_convert.specs.declared.fault.PrepareFault.{PrepareFault}
 use Rattle.cob_convert.specs.Means.{Means, IsPrepareRefusal}
-use Rattle.cob_convert.specs.Run.{Ran, frames_out, is_read_stop, is_write_stop}
+use Rattle.cob_convert.specs.Run.{Ran, is_read_stop, is_write_stop}
 use Rattle.cob_convert.specs.Converted.{Converted}
 use Rattle.cob_convert.proofs.Headline.{headline_of}
 use Rattle.cob_job.specs.declared.job_data.DataFault.{DataFault}
@@ -52,7 +52,7 @@ data_refused parts first answer told fault is refused e same =
     ([], InData (record { fault = fault; refused = refused; answer_is = rw same at e; nothing = refl }), nothing_sent told)
 
 pub text_refused : (parts : Parts) (first : ℕ) (answer : Result ℕ JobFault) (told : Told) (bytes : List ℕ) (fault : PrepareFault) (told_as : JobFault)
-    → IsData parts.digits bytes → IsPrepareRefusal fault parts.in_book parts.out_book parts.moves → answer ≡ Err told_as → told_as ≡ text_refusal fault → Took told told (ComesTo parts first answer)
+    → IsData parts.digits bytes → IsPrepareRefusal parts.out_form fault parts.in_book parts.out_book parts.moves → answer ≡ Err told_as → told_as ≡ text_refusal fault → Took told told (ComesTo parts first answer)
 text_refused parts first answer told bytes fault told_as is refused e same =
     ([], InText (record { bytes = bytes; digits = is; fault = fault; refused = refused; answer_is = rw same at e; nothing = refl }), nothing_sent told)
 
@@ -60,9 +60,9 @@ pub has_run : (parts : Parts) (first : ℕ) (answer : Result ℕ JobFault) (end 
     → IsData parts.digits bytes → Means parts.in_book parts.out_book parts.moves conversion → conversion.in_form ≡ parts.in_form → conversion.out_form ≡ parts.out_form
     → Ran conversion end bytes rest before now → is_read_stop end ≡ false → answer ≡ run_answer end → Took before now (ComesTo parts first answer)
 has_run parts first answer end bytes rest conversion before now is means in_form out_form ran read e =
-    let sent : List ℕ = frames_out conversion ran.pairs ++ ran.part in
+    let sent : List ℕ = ran.sent ++ ran.part in
     let alone : Ran conversion end bytes rest (Some []) (Some sent)
-    = record { pairs = ran.pairs; left = ran.left; part = ran.part; frames = ran.frames; each = ran.each; output = refl; ends = ran.ends } in (
+    = record { pairs = ran.pairs; opened = ran.opened; left = ran.left; sent = ran.sent; part = ran.part; come = ran.come; each = ran.each; output = refl; ends = ran.ends } in (
       sent,
       InRun (record {
         bytes = bytes;
@@ -253,12 +253,14 @@ unread_text prepare.Memory = refl
 unread_text (prepare.InBook f) = refl
 unread_text (prepare.OutBook f) = refl
 unread_text (prepare.Moves f) = refl
+unread_text (prepare.Block least) = refl
 
 pub output_text : (fault : PrepareFault) → is_output_stop (Err (text_refusal fault)) ≡ false
 output_text prepare.Memory = refl
 output_text (prepare.InBook f) = refl
 output_text (prepare.OutBook f) = refl
 output_text (prepare.Moves f) = refl
+output_text (prepare.Block least) = refl
 
 pub unread_run : (answer : Result ℕ RunFault) → is_unread (run_answer answer) ≡ false
 unread_run (Ok done) = refl

@@ -1,15 +1,19 @@
 -- A reader's way through the text of a job: what it finds is what the text is made of, and what it refuses is no job.
-use Rattle.std.proofs.Common.{◌≡◌, ℕ, suc, ◌+◌, ◌-◌, ◌^◌, ◌<◌, true, List, [], ◌∷◌, ◌++◌, length, take, refl, sym, ap, subst, ◌∙◌, arith, inl, inr}
-use Rattle.std.specs.Prelude.{◌⊎◌}
+use Rattle.std.proofs.Common.{◌≡◌, ℕ, suc, ◌+◌, ◌-◌, ◌^◌, ◌<◌, true, false, List, [], ◌∷◌, ◌++◌, length, take, drop, refl, sym, ap, subst, ◌∙◌, arith, inl, inr}
+use Rattle.std.specs.Prelude.{◌⊎◌, ◌==◌, codes}
+use Rattle.std.specs.Char.{is_ascii_digit}
+use Rattle.std.specs.List.{AllByRecursion}
+use Rattle.std.proofs.lemmas.Bool.Decides.{nat_tests}
+use Rattle.cob_records.specs.BlockSize.{SaysBlockSize, spelled_behind}
 use Rattle.std.proofs.lemmas.List.{append_assoc, append-nil, append_cancel_right}
 use Rattle.std.proofs.Math.ListN.{length-append}
 use Rattle.std.proofs.Math.Seq.{take-append_seam}
 use Rattle.cob_records.specs.declared.records.Form.{Form}
-use Rattle.cob_records.specs.declared.records.Form.TheVariants.{Fixed, Variable}
+use Rattle.cob_records.specs.declared.records.Form.TheVariants.{Fixed, Variable, Blocked}
 use Rattle.cob_source.specs.Lines.{lines, led_by}
 use Rattle.std.proofs.lemmas.Bool.{eqb-true}
 use Rattle.cob_job.specs.JobData.{line_number_behind}
-use Rattle.cob_job.specs.Marks.{in_mark, out_mark, moves_mark, data_mark, begins_mark, IsLineEnd, IsEndBefore, has_whole_lines, IsPart, IsSection, Parts, IsJobOf, IsMarkBehind, BeginsJob, IsNoJob, first_line_of, behind_line, from_mark, IsNextLine, IsOtherLine, IsPartBefore}
+use Rattle.cob_job.specs.Marks.{IsInMark, IsOutMark, SaysForm, SaysSize, moves_mark, data_mark, begins_mark, IsLineEnd, IsEndBefore, has_whole_lines, IsPart, IsSection, Parts, IsJobOf, IsMarkBehind, BeginsJob, IsNoJob, first_line_of, behind_line, from_mark, IsNextLine, IsOtherLine, IsPartBefore}
 use Rattle.cob_job.proofs.MarkLemmas.{Bytes, heads, not_none, first_line, lines-append, before_mark, parted, ends_at_mark, no_mark_before, mark_behind}
 
 -- ---- what is read
@@ -73,21 +77,40 @@ LeadsTo mark text rest = (lines text ≡ mark ∷ lines rest) × (behind_line te
 abbrev Leads : Bytes → Type 0
 Leads mark = (end rest : Bytes) → IsEndBefore end rest → LeadsTo mark (mark ++ (end ++ rest)) rest
 
-pub in_leads : (form : Form) → Leads (in_mark form)
-in_leads Fixed end rest (inl (inl e)) = rw e (refl, refl)
-in_leads Fixed end rest (inl (inr e)) = rw e (refl, refl)
-in_leads Fixed end rest (inr (e, none)) = rw (e, none) (refl, refl)
-in_leads Variable end rest (inl (inl e)) = rw e (refl, refl)
-in_leads Variable end rest (inl (inr e)) = rw e (refl, refl)
-in_leads Variable end rest (inr (e, none)) = rw (e, none) (refl, refl)
+-- no end of a line stands here
+abbrev IsPlain : ℕ → Type 0
+IsPlain c = ((c == 10) ≡ false) × ((c == 13) ≡ false)
 
-pub out_leads : (form : Form) → Leads (out_mark form)
-out_leads Fixed end rest (inl (inl e)) = rw e (refl, refl)
-out_leads Fixed end rest (inl (inr e)) = rw e (refl, refl)
-out_leads Fixed end rest (inr (e, none)) = rw (e, none) (refl, refl)
-out_leads Variable end rest (inl (inl e)) = rw e (refl, refl)
-out_leads Variable end rest (inl (inr e)) = rw e (refl, refl)
-out_leads Variable end rest (inr (e, none)) = rw (e, none) (refl, refl)
+-- characters of which none ends a line
+plain_leads : (c : ℕ) (cs : Bytes) → IsPlain c → AllByRecursion IsPlain cs → Leads (c ∷ cs)
+plain_leads c [] (feed, return) all end rest (inl (inl e)) = rw (e, feed, return) (refl, refl)
+plain_leads c [] (feed, return) all end rest (inl (inr e)) = rw (e, feed, return) (refl, refl)
+plain_leads c [] (feed, return) all end rest (inr (e, none)) = rw (e, none, feed, return) (refl, refl)
+plain_leads c (d ∷ ds) (feed, return) all end rest ends =
+    let (first, behind) = plain_leads d ds all.0 all.1 end rest ends in
+    rw (feed, return) (ap (λ (ls : List Bytes). led_by c ls) first, behind)
+
+digit_plain : (c : ℕ) → is_ascii_digit c ≡ true → IsPlain c
+digit_plain c digit = grind (arith, nat_tests)
+
+digits_plain : (word : Bytes) → AllByRecursion (λ c. is_ascii_digit c ≡ true) word → AllByRecursion IsPlain word
+digits_plain [] all = all
+digits_plain (c ∷ word) all = (digit_plain c all.0, digits_plain word all.1)
+
+said_plain : (said : Bytes) (form : Form) → SaysForm said form → AllByRecursion IsPlain said
+said_plain said Fixed is = subst (AllByRecursion IsPlain) (sym is) ((refl, refl), tt)
+said_plain said Variable is = subst (AllByRecursion IsPlain) (sym is) ((refl, refl), tt)
+said_plain said (Blocked most) (inl (is, size)) = subst (AllByRecursion IsPlain) (sym is) ((refl, refl), tt)
+said_plain said (Blocked most) (inr (word, says, is)) =
+    subst (AllByRecursion IsPlain) (sym is) ((refl, refl), ((refl, refl), digits_plain word says.spells.0))
+
+pub in_leads : (form : Form) (mark : Bytes) → IsInMark form mark → Leads mark
+in_leads form mark (said, says, is) =
+    subst Leads (sym is) (plain_leads 61 (73 ∷ 78 ∷ 32 ∷ said) (refl, refl) ((refl, refl), ((refl, refl), ((refl, refl), said_plain said form says))))
+
+pub out_leads : (form : Form) (mark : Bytes) → IsOutMark form mark → Leads mark
+out_leads form mark (said, says, is) =
+    subst Leads (sym is) (plain_leads 61 (79 ∷ 85 ∷ 84 ∷ 32 ∷ said) (refl, refl) ((refl, refl), ((refl, refl), ((refl, refl), ((refl, refl), said_plain said form says)))))
 
 pub moves_leads : Leads moves_mark
 moves_leads end rest (inl (inl e)) = rw e (refl, refl)
@@ -190,14 +213,6 @@ refuse count text rest n told IsWanted so_far few wants (inr (line, more, is, ot
 
 -- ---- a job that was read
 
-pub in_is_mark : (form : Form) → IsMarkBehind 0 (in_mark form)
-in_is_mark Fixed = inl refl
-in_is_mark Variable = inr refl
-
-pub out_is_mark : (form : Form) → IsMarkBehind 1 (out_mark form)
-out_is_mark Fixed = inl refl
-out_is_mark Variable = inr refl
-
 -- the data's first line
 pub number_found : (text rest digits : Bytes) (n m : ℕ) → Reached 3 text rest n → IsNextLine rest n data_mark digits m → m ≡ first_line_of text digits
 number_found text rest digits n m so_far next =
@@ -205,15 +220,19 @@ number_found text rest digits n m so_far next =
     = ap (length {A = Bytes}) (so_far.lines_are ∙ ap (λ (ls : List Bytes). so_far.before ++ ls) next.lines_are) ∙ length-append so_far.before (data_mark ∷ lines digits) in
     omega (arith, all, so_far.number_is, next.number_is)
 
-pub job_found : (text r1 p1 r2 r3 p2 r4 r5 p3 r6 digits : Bytes) (f g : Form) (n1 n2 n3 n4 n5 n6 n7 : ℕ) → IsNextLine text 1 (in_mark f) r1 n1 → IsPartBefore r1 n1 p1 r2 n2
-    → IsNextLine r2 n2 (out_mark g) r3 n3 → IsPartBefore r3 n3 p2 r4 n4 → IsNextLine r4 n4 moves_mark r5 n5 → IsPartBefore r5 n5 p3 r6 n6 → IsNextLine r6 n6 data_mark digits n7
+pub job_found : (text r1 p1 r2 r3 p2 r4 r5 p3 r6 digits : Bytes) (f g : Form) (m1 m2 : Bytes) (n1 n2 n3 n4 n5 n6 n7 : ℕ) → IsInMark f m1 → IsOutMark g m2 → IsNextLine text 1 m1 r1 n1
+    → IsPartBefore r1 n1 p1 r2 n2 → IsNextLine r2 n2 m2 r3 n3 → IsPartBefore r3 n3 p2 r4 n4 → IsNextLine r4 n4 moves_mark r5 n5 → IsPartBefore r5 n5 p3 r6 n6 → IsNextLine r6 n6 data_mark digits n7
     → IsJobOf text (record { in_form = f; out_form = g; in_book = p1; out_book = p2; moves = p3; digits = digits })
-job_found text r1 p1 r2 r3 p2 r4 r5 p3 r6 digits f g n1 n2 n3 n4 n5 n6 n7 a1 b1 a2 b2 a3 b3 a4 =
-    let (input, input_is, e1) = section_found text (in_mark f) r1 p1 r2 1 n1 n2 (out_mark g) (lines r3) a1 b1 a2.lines_are in
-    let (output, output_is, e2) = section_found r2 (out_mark g) r3 p2 r4 n2 n3 n4 moves_mark (lines r5) a2 b2 a3.lines_are in
+job_found text r1 p1 r2 r3 p2 r4 r5 p3 r6 digits f g m1 m2 n1 n2 n3 n4 n5 n6 n7 says1 says2 a1 b1 a2 b2 a3 b3 a4 =
+    let (input, input_is, e1) = section_found text m1 r1 p1 r2 1 n1 n2 m2 (lines r3) a1 b1 a2.lines_are in
+    let (output, output_is, e2) = section_found r2 m2 r3 p2 r4 n2 n3 n4 moves_mark (lines r5) a2 b2 a3.lines_are in
     let (paragraph, paragraph_is, e3) = section_found r4 moves_mark r5 p3 r6 n4 n5 n6 data_mark (lines digits) a3 b3 a4.lines_are in
     let (end, e4, ends) = first_line r6 data_mark (lines digits) a4.lines_are in
     record {
+      in_mark = m1;
+      out_mark = m2;
+      in_mark_is = says1;
+      out_mark_is = says2;
       input = input;
       output = output;
       paragraph = paragraph;
@@ -232,9 +251,8 @@ marked : (mark part section rest : Bytes) → ((x : Bytes) → begins_mark (mark
 marked mark part section rest is of =
     rw (of.section_is, append_assoc mark (of.end ++ part) rest) (is ((of.end ++ part) ++ rest))
 
-out_marked : (form : Form) (x : Bytes) → begins_mark (out_mark form ++ x) ≡ true
-out_marked Fixed x = refl
-out_marked Variable x = refl
+out_marked : (form : Form) (mark x : Bytes) → IsOutMark form mark → begins_mark (mark ++ x) ≡ true
+out_marked form mark x (said, says, is) = subst (λ (m : Bytes). begins_mark (m ++ x) ≡ true) (sym is) refl
 
 -- what stands behind the sections of a job
 abbrev pub behind_moves : {text : Bytes} {job : Parts} → IsJobOf text job → Bytes
@@ -247,15 +265,15 @@ abbrev pub behind_in : {text : Bytes} {job : Parts} → IsJobOf text job → Byt
 behind_in is = is.output ++ behind_out is
 
 pub after_in : (text : Bytes) (job : Parts) (line r1 got r2 : Bytes) (n m k : ℕ) (is : IsJobOf text job) → IsNextLine text n line r1 m → IsPartBefore r1 m got r2 k
-    → (line ≡ in_mark job.in_form) × (got ≡ job.in_book) × (r2 ≡ behind_in is)
+    → (line ≡ is.in_mark) × (got ≡ job.in_book) × (r2 ≡ behind_in is)
 after_in text job line r1 got r2 n m k is next parts =
-    same_section text (in_mark job.in_form) job.in_book is.input (behind_in is) line r1 got r2 n m k (in_leads job.in_form) is.input_is
-    (marked (out_mark job.out_form) job.out_book is.output (behind_out is) (out_marked job.out_form) is.output_is) is.text_is next parts
+    same_section text is.in_mark job.in_book is.input (behind_in is) line r1 got r2 n m k (in_leads job.in_form is.in_mark is.in_mark_is) is.input_is
+    (marked is.out_mark job.out_book is.output (behind_out is) (λ x. out_marked job.out_form is.out_mark x is.out_mark_is) is.output_is) is.text_is next parts
 
 pub after_out : (text : Bytes) (job : Parts) (r2 line r3 got r4 : Bytes) (n m k : ℕ) (is : IsJobOf text job) → r2 ≡ behind_in is → IsNextLine r2 n line r3 m → IsPartBefore r3 m got r4 k
-    → (line ≡ out_mark job.out_form) × (got ≡ job.out_book) × (r4 ≡ behind_out is)
+    → (line ≡ is.out_mark) × (got ≡ job.out_book) × (r4 ≡ behind_out is)
 after_out text job r2 line r3 got r4 n m k is e next parts =
-    same_section r2 (out_mark job.out_form) job.out_book is.output (behind_out is) line r3 got r4 n m k (out_leads job.out_form) is.output_is
+    same_section r2 is.out_mark job.out_book is.output (behind_out is) line r3 got r4 n m k (out_leads job.out_form is.out_mark is.out_mark_is) is.output_is
     (marked moves_mark job.moves is.paragraph (behind_moves is) (λ x. refl) is.paragraph_is) e next parts
 
 pub after_moves : (text : Bytes) (job : Parts) (r4 r5 got r6 : Bytes) (n m k : ℕ) (is : IsJobOf text job) → r4 ≡ behind_out is → IsNextLine r4 n moves_mark r5 m → IsPartBefore r5 m got r6 k
@@ -270,13 +288,13 @@ after_mark text job r6 digits n m is e next = next.behind ∙ rw e ((data_leads 
 -- at none of the four places of marks stands another line
 pub no_other_in : (text : Bytes) (job : Parts) (n told : ℕ) → IsJobOf text job → IsOtherLine (λ line. IsMarkBehind 0 line) text n told → ⊥
 no_other_in text job n told is other =
-    no_other (λ line. IsMarkBehind 0 line) text (in_mark job.in_form) (job.in_book ++ behind_in is) n told
-    (section_line text (in_mark job.in_form) job.in_book is.input (behind_in is) (in_leads job.in_form) is.input_is is.text_is) (in_is_mark job.in_form) other
+    no_other (λ line. IsMarkBehind 0 line) text is.in_mark (job.in_book ++ behind_in is) n told
+    (section_line text is.in_mark job.in_book is.input (behind_in is) (in_leads job.in_form is.in_mark is.in_mark_is) is.input_is is.text_is) (job.in_form, is.in_mark_is) other
 
 pub no_other_out : (text r2 : Bytes) (job : Parts) (n told : ℕ) (is : IsJobOf text job) → r2 ≡ behind_in is → IsOtherLine (λ line. IsMarkBehind 1 line) r2 n told → ⊥
 no_other_out text r2 job n told is e other =
-    no_other (λ line. IsMarkBehind 1 line) r2 (out_mark job.out_form) (job.out_book ++ behind_out is) n told
-    (section_line r2 (out_mark job.out_form) job.out_book is.output (behind_out is) (out_leads job.out_form) is.output_is e) (out_is_mark job.out_form) other
+    no_other (λ line. IsMarkBehind 1 line) r2 is.out_mark (job.out_book ++ behind_out is) n told
+    (section_line r2 is.out_mark job.out_book is.output (behind_out is) (out_leads job.out_form is.out_mark is.out_mark_is) is.output_is e) (job.out_form, is.out_mark_is) other
 
 pub no_other_moves : (text r4 : Bytes) (job : Parts) (n told : ℕ) (is : IsJobOf text job) → r4 ≡ behind_out is → IsOtherLine (λ line. line ≡ moves_mark) r4 n told → ⊥
 no_other_moves text r4 job n told is e other =
@@ -287,26 +305,67 @@ pub no_other_data : (text r6 : Bytes) (job : Parts) (n told : ℕ) (is : IsJobOf
 no_other_data text r6 job n told is e other =
     no_other (λ line. line ≡ data_mark) r6 data_mark job.digits n told (rw e ((data_leads is.end job.digits is.end_is).0)) refl other
 
--- a mark says one form
-abbrev at_four : Bytes → ℕ
-at_four (a ∷ b ∷ c ∷ d ∷ e ∷ more) = e
-at_four other = 0
+-- ---- a mark says one form
 
-abbrev at_five : Bytes → ℕ
-at_five (a ∷ b ∷ c ∷ d ∷ e ∷ f ∷ more) = f
-at_five other = 0
+abbrev at_front : Bytes → ℕ
+at_front [] = 0
+at_front (c ∷ cs) = c
 
-pub one_in_form : (f g : Form) → in_mark f ≡ in_mark g → f ≡ g
-one_in_form Fixed Fixed e = refl
-one_in_form Fixed Variable e = let d : 102 ≡ 118 = ap (λ (t : Bytes). at_four t) e in absurd (omega (arith, d))
-one_in_form Variable Fixed e = let d : 118 ≡ 102 = ap (λ (t : Bytes). at_four t) e in absurd (omega (arith, d))
-one_in_form Variable Variable e = refl
+other_letter : (a b : ℕ) (xs ys said : Bytes) → (a == b) ≡ false → said ≡ a ∷ xs → said ≡ b ∷ ys → ⊥
+other_letter a b xs ys said differ p q =
+    let same : a ≡ b = ap (λ (t : Bytes). at_front t) (sym p ∙ q) in
+    let equal : (a == b) ≡ true = subst (λ (n : ℕ). (a == n) ≡ true) same (nat_eq_refl a) in absurd cc
+  where
+    nat_eq_refl : (n : ℕ) → (n == n) ≡ true
+    nat_eq_refl n = grind (arith, nat_tests)
 
-pub one_out_form : (f g : Form) → out_mark f ≡ out_mark g → f ≡ g
-one_out_form Fixed Fixed e = refl
-one_out_form Fixed Variable e = let d : 102 ≡ 118 = ap (λ (t : Bytes). at_five t) e in absurd (omega (arith, d))
-one_out_form Variable Fixed e = let d : 118 ≡ 102 = ap (λ (t : Bytes). at_five t) e in absurd (omega (arith, d))
-one_out_form Variable Variable e = refl
+one_size : (said word other : Bytes) (m n : ℕ) → SaysBlockSize word m → SaysBlockSize other n → said ≡ codes "b " ++ word → said ≡ codes "b " ++ other → m ≡ n
+one_size said word other m n says tells p q =
+    let words : word ≡ other = ap (λ (t : Bytes). drop 2 t) (sym p ∙ q) in
+    sym says.spells.1 ∙ ap (λ (w : Bytes). spelled_behind 0 w) words ∙ tells.spells.1
+
+pub says_one : (said : Bytes) (f g : Form) → SaysForm said f → SaysForm said g → f ≡ g
+says_one said Fixed Fixed p q = refl
+says_one said Fixed Variable p q = absurd (other_letter 102 118 [] [] said refl p q)
+says_one said Fixed (Blocked n) p (inl (q, is)) = absurd (other_letter 102 98 [] [] said refl p q)
+says_one said Fixed (Blocked n) p (inr (word, says, q)) = absurd (other_letter 102 98 [] (32 ∷ word) said refl p q)
+says_one said Variable Fixed p q = absurd (other_letter 118 102 [] [] said refl p q)
+says_one said Variable Variable p q = refl
+says_one said Variable (Blocked n) p (inl (q, is)) = absurd (other_letter 118 98 [] [] said refl p q)
+says_one said Variable (Blocked n) p (inr (word, says, q)) = absurd (other_letter 118 98 [] (32 ∷ word) said refl p q)
+says_one said (Blocked m) Fixed (inl (p, is)) q = absurd (other_letter 98 102 [] [] said refl p q)
+says_one said (Blocked m) Fixed (inr (word, says, p)) q = absurd (other_letter 98 102 (32 ∷ word) [] said refl p q)
+says_one said (Blocked m) Variable (inl (p, is)) q = absurd (other_letter 98 118 [] [] said refl p q)
+says_one said (Blocked m) Variable (inr (word, says, p)) q = absurd (other_letter 98 118 (32 ∷ word) [] said refl p q)
+says_one said (Blocked m) (Blocked n) (inl (p, is)) (inl (q, also)) = ap Blocked (is ∙ sym also)
+says_one said (Blocked m) (Blocked n) (inl (p, is)) (inr (word, says, q)) =
+    let sizes : length {A = ℕ} (98 ∷ []) ≡ length (98 ∷ 32 ∷ word) = ap (length {A = ℕ}) (sym p ∙ q) in absurd (omega (arith, sizes))
+says_one said (Blocked m) (Blocked n) (inr (word, says, p)) (inl (q, is)) =
+    let sizes : length (98 ∷ 32 ∷ word) ≡ length {A = ℕ} (98 ∷ []) = ap (length {A = ℕ}) (sym p ∙ q) in absurd (omega (arith, sizes))
+says_one said (Blocked m) (Blocked n) (inr (word, says, p)) (inr (other, tells, q)) = ap Blocked (one_size said word other m n says tells p q)
+
+-- what is none of these says no form
+pub none_said : (said : Bytes) (form : Form) → SaysForm said form → (said ≡ codes "f" → ⊥) → (said ≡ codes "v" → ⊥) → (said ≡ codes "b" → ⊥)
+    → ((most : ℕ) → SaysSize said most → ⊥) → ⊥
+none_said said Fixed is f v b size = f is
+none_said said Variable is f v b size = v is
+none_said said (Blocked most) (inl (is, longest)) f v b size = b is
+none_said said (Blocked most) (inr says) f v b size = size most says
+
+-- the next line is none that is wanted
+pub other_line : (IsWanted : Bytes → Type 0) (text line rest : Bytes) (number next : ℕ) → IsNextLine text number line rest next → (IsWanted line → ⊥)
+    → IsOtherLine IsWanted text number number
+other_line IsWanted text line rest number next is none = inr (line, lines rest, is.lines_are, none, refl)
+
+pub one_in_form : (f g : Form) (a b : Bytes) → IsInMark f a → IsInMark g b → a ≡ b → f ≡ g
+one_in_form f g a b (said, says, p) (told, tells, q) same =
+    let one : said ≡ told = ap (λ (t : Bytes). drop 4 t) (sym p ∙ same ∙ q) in
+    says_one told f g (subst (λ (t : Bytes). SaysForm t f) one says) tells
+
+pub one_out_form : (f g : Form) (a b : Bytes) → IsOutMark f a → IsOutMark g b → a ≡ b → f ≡ g
+one_out_form f g a b (said, says, p) (told, tells, q) same =
+    let one : said ≡ told = ap (λ (t : Bytes). drop 5 t) (sym p ∙ same ∙ q) in
+    says_one told f g (subst (λ (t : Bytes). SaysForm t f) one says) tells
 
 -- the same parts
 pub same_parts : (job : Parts) (f g : Form) (in_book out_book moves digits : Bytes) → f ≡ job.in_form → g ≡ job.out_form → in_book ≡ job.in_book → out_book ≡ job.out_book

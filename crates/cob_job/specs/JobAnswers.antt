@@ -30,12 +30,12 @@ pub record DataRefused (parts : Parts) (first : ℕ) (answer : Result ℕ JobFau
   pub answer_is : answer ≡ Err (data_refusal fault)
   pub nothing : sent ≡ []
 
--- The data are bytes, and one of the three texts is refused.
+-- The data are bytes, and one of the three texts is refused, or the blocks of the output.
 pub record TextRefused (parts : Parts) (answer : Result ℕ JobFault) (sent : List ℕ) : Type 0 where
   pub bytes : List ℕ
   pub digits : IsData parts.digits bytes
   pub fault : PrepareFault
-  pub refused : IsPrepareRefusal fault parts.in_book parts.out_book parts.moves
+  pub refused : IsPrepareRefusal parts.out_form fault parts.in_book parts.out_book parts.moves
   pub answer_is : answer ≡ Err (text_refusal fault)
   pub nothing : sent ≡ []
 

@@ -70,11 +70,16 @@ status_of_stop (cause.Record (WriteFailed taken)) = status.Device
 status_of_stop (cause.Record (TookNothing taken)) = status.Device
 status_of_stop stopped = status.Stopped
 
+-- a text that is refused is told as that; blocks of the output without room are a fault of the job
+abbrev pub status_of_prepare_fault : PrepareFault → Status
+status_of_prepare_fault (prepare.Block least) = status.Malformed
+status_of_prepare_fault refused = status.Refused
+
 -- the status of a job that is not done
 abbrev pub status_of_fault : JobFault → Status
 status_of_fault job.CannotRead = status.Device
 status_of_fault (job.Malformed line) = status.Malformed
-status_of_fault (job.Refused refused) = status.Refused
+status_of_fault (job.Refused refused) = status_of_prepare_fault refused
 status_of_fault (job.Stopped stopped) = status_of_stop stopped.cause
 status_of_fault job.Memory = status.Memory
 

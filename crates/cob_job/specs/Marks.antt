@@ -2,22 +2,34 @@
 use Rattle.std.specs.Prelude.{◌≡◌, ℕ, zero, suc, ◌-◌, ◌^◌, ◌<◌, Bool, true, false, ◌==◌, ◌&&◌, if◌then◌else◌, List, [], ◌∷◌, ◌++◌, length, codes, ◌⊎◌}
 use Rattle.std.specs.List.{AllByRecursion}
 use Rattle.cob_records.specs.declared.records.Form.{Form}
-use Rattle.cob_records.specs.declared.records.Form.TheVariants.{Fixed, Variable}
+use Rattle.cob_records.specs.declared.records.Form.TheVariants.{Fixed, Variable, Blocked}
+use Rattle.cob_limits.specs.Limits.{longest_block}
+use Rattle.cob_records.specs.BlockSize.{SaysBlockSize}
 use Rattle.cob_source.specs.Lines.{lines}
 use Rattle.cob_job.specs.JobData.{line_number_behind}
 
--- the one mark or the other, by the form that it says
-abbrev pub mark_by : List ℕ → List ℕ → Form → List ℕ
-mark_by fixed variable Fixed = fixed
-mark_by fixed variable Variable = variable
+-- behind the letter b, and a space, stands the greatest size of blocks
+abbrev pub SaysSize : List ℕ → ℕ → Type 0
+SaysSize said most = (word : List ℕ) × SaysBlockSize word most × (said ≡ codes "b " ++ word)
+
+-- The letter of a form; behind the letter b may stand the greatest size of blocks, which is else that of the longest.
+abbrev pub SaysForm : List ℕ → Form → Type 0
+SaysForm said Fixed = said ≡ codes "f"
+SaysForm said Variable = said ≡ codes "v"
+SaysForm said (Blocked most) =
+    ((said ≡ codes "b") × (most ≡ longest_block)) ⊎ SaysSize said most
+
+-- a mark with this front that says a form
+abbrev pub IsFormMark : List ℕ → Form → List ℕ → Type 0
+IsFormMark front form mark = (said : List ℕ) × SaysForm said form × (mark ≡ front ++ said)
 
 -- the mark before the copybook of the input record, which says the form of the input's records
-abbrev pub in_mark : Form → List ℕ
-in_mark form = mark_by (codes "=IN f") (codes "=IN v") form
+abbrev pub IsInMark : Form → List ℕ → Type 0
+IsInMark form mark = IsFormMark (codes "=IN ") form mark
 
 -- the mark before the copybook of the output record
-abbrev pub out_mark : Form → List ℕ
-out_mark form = mark_by (codes "=OUT f") (codes "=OUT v") form
+abbrev pub IsOutMark : Form → List ℕ → Type 0
+IsOutMark form mark = IsFormMark (codes "=OUT ") form mark
 
 -- the mark before the paragraph
 abbrev pub moves_mark : List ℕ
@@ -76,20 +88,24 @@ pub record Parts : Type 0 where
 
 -- The text is a job of these parts: the four marks in their order, each with its part, the first on the first line.
 pub record IsJobOf (text : List ℕ) (job : Parts) : Type 0 where
+  pub in_mark : List ℕ
+  pub out_mark : List ℕ
   pub input : List ℕ
   pub output : List ℕ
   pub paragraph : List ℕ
   pub end : List ℕ
-  pub input_is : IsSection (in_mark job.in_form) job.in_book input
-  pub output_is : IsSection (out_mark job.out_form) job.out_book output
+  pub in_mark_is : IsInMark job.in_form in_mark
+  pub out_mark_is : IsOutMark job.out_form out_mark
+  pub input_is : IsSection in_mark job.in_book input
+  pub output_is : IsSection out_mark job.out_book output
   pub paragraph_is : IsSection moves_mark job.moves paragraph
   pub end_is : IsEndBefore end job.digits
   pub text_is : text ≡ input ++ (output ++ (paragraph ++ (data_mark ++ (end ++ job.digits))))
 
 -- a line is the mark behind so many others
 abbrev pub IsMarkBehind : ℕ → List ℕ → Type 0
-IsMarkBehind zero line = (line ≡ in_mark Fixed) ⊎ (line ≡ in_mark Variable)
-IsMarkBehind (suc zero) line = (line ≡ out_mark Fixed) ⊎ (line ≡ out_mark Variable)
+IsMarkBehind zero line = (form : Form) × IsInMark form line
+IsMarkBehind (suc zero) line = (form : Form) × IsOutMark form line
 IsMarkBehind (suc (suc zero)) line = line ≡ moves_mark
 IsMarkBehind (suc (suc (suc zero))) line = line ≡ data_mark
 IsMarkBehind count line = ⊥

@@ -20,7 +20,7 @@ pub enum JobFault {
     /// The line of this number is not what must stand there; 0 where a mark lacks or the job is too long.
     #[error("job line {line}")]
     Malformed { line: u32 },
-    /// A text is refused.
+    /// A text is refused, or the blocks of the output.
     #[error("{0}")]
     Refused(PrepareFault),
     /// A record stopped the run, or the output did.
@@ -88,7 +88,7 @@ impl JobFault {
         match self {
             JobFault::CannotRead => Status::Device,
             JobFault::Malformed { .. } => Status::Malformed,
-            JobFault::Refused(_) => Status::Refused,
+            JobFault::Refused(refused) => Status::of_prepare_fault(refused),
             JobFault::Stopped(fault) => Status::of_stop(fault.cause),
             JobFault::Memory => Status::Memory,
         }

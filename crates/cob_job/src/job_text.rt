@@ -1,8 +1,12 @@
-ghost use Rattle.std.specs.Prelude.{◌≡◌, ◌<◌, ◌+◌, ◌∷◌, [], true, false, length, codes, IfOk, IfErr, IfSome, IfNone, OnOk, IsOkAnd, ◌⊎◌};
+ghost use Rattle.std.specs.Prelude.{◌≡◌, ◌<◌, ◌+◌, ◌∷◌, ℕ, List, [], true, false, length, codes, IfOk, IfErr, IfSome, IfNone, OnOk, IsOkAnd, IsSomeAnd, Some, ◌++◌};
 ghost use Rattle.cob_source.specs.Lines.{lines, cut_return};
-ghost use Rattle.cob_job.specs.Marks.{IsJobOf, IsNextLine, IsNoJob, IsOtherLine, IsPartBefore, Parts, behind_line, first_line_of, is_part_end, mark_by};
+ghost use Rattle.cob_job.specs.Marks.{IsJobOf, IsNextLine, IsNoJob, IsOtherLine, IsFormMark, IsPartBefore, Parts, SaysForm, SaysSize, behind_line, first_line_of, is_part_end};
+ghost use Rattle.cob_records.specs.declared.records.Form.{Form};
+ghost use Rattle.cob_records.specs.Forms.{HasBlockSize};
 
-use cob_records::Form;
+use cob_limits::MAX_BLOCK;
+use cob_records::{Form, block_size_of};
+use cob_source::without_return;
 use memchr::memchr;
 
 /// The parts of a job: three texts, the form of the records on each side, and the digits of the input's data.
@@ -39,22 +43,69 @@ pub fn split_line(text: &[u8]) -> (&[u8], &[u8])
     }
 }
 
-/// A line without the carriage return at its end.
-fn without_return(line: &[u8]) -> &[u8]
-    ensures { result.now ≡ cut_return line.now }
-{
-    let Some((last, front)) = line.split_last() else {
-        return line;
-    };
-    if *last == b'\r' { front } else { line }
-}
-
 /// Whether a line is the wanted one.
 fn is_line(line: &[u8], wanted: &[u8]) -> bool
     ensures yes { result ≡ true → line.now ≡ wanted.now }
     ensures must { line.now ≡ wanted.now → result ≡ true }
 {
     *line == *wanted
+}
+
+/// What stands behind this front of a line, if it begins so.
+fn behind_front<'a>(line: &'a [u8], front: &[u8]) -> Option<&'a [u8]>
+    ensures found { IfSome result (λ rest. line.now ≡ front.now ++ rest.now) }
+    ensures only { (rest : List ℕ) → line.now ≡ front.now ++ rest
+        → IsSomeAnd result (λ got. got.now ≡ rest) }
+{
+    if line.len() < front.len() {
+        return None;
+    }
+    let (start, rest) = line.split_at(front.len());
+    if is_line(start, front) {
+        Some(rest)
+    } else {
+        None
+    }
+}
+
+/// The greatest size of blocks that stands behind the letter b and a space.
+fn size_of(said: &[u8]) -> Option<u16>
+    ensures found { IfSome result (SaysSize said.now) }
+    ensures only { (most : ℕ) → SaysSize said.now most → result ≡ Some most }
+{
+    let word = behind_front(said, b"b ")?;
+    block_size_of(word)
+}
+
+/// The form that these words say.
+fn form_of(said: &[u8]) -> Option<Form>
+    ensures found { IfSome result (λ form. SaysForm said.now form) }
+    ensures only { (form : Form) → SaysForm said.now form → result ≡ Some form }
+    ensures block { IfSome result HasBlockSize }
+{
+    if is_line(said, b"f") {
+        return Some(Form::Fixed);
+    }
+    if is_line(said, b"v") {
+        return Some(Form::Variable);
+    }
+    if is_line(said, b"b") {
+        return Some(Form::Blocked(MAX_BLOCK));
+    }
+    match size_of(said) {
+        Some(size) => Some(Form::Blocked(size)),
+        None => None,
+    }
+}
+
+/// The form that a mark with this front says.
+fn form_of_mark(front: &[u8], line: &[u8]) -> Option<Form>
+    ensures found { IfSome result (λ form. IsFormMark front.now form line.now) }
+    ensures only { (form : Form) → IsFormMark front.now form line.now → result ≡ Some form }
+    ensures block { IfSome result HasBlockSize }
+{
+    let said = behind_front(line, front)?;
+    form_of(said)
 }
 
 /// Whether a part ends here: at a mark, or where the text does.
@@ -114,19 +165,21 @@ impl<'a> Lines<'a> {
     }
 
     /// Took a mark that ends in a record form.
-    fn form_mark(&mut self, fixed: &[u8], variable: &[u8]) -> Result<Form, u32>
-        ensures ok { IfOk result (λ form. IsNextLine self.old.rest.now self.old.number
-            (mark_by fixed.now variable.now form) self.new.rest.now self.new.number) }
+    fn form_mark(&mut self, front: &[u8]) -> Result<Form, u32>
+        ensures ok { IfOk result (λ form. (mark : List ℕ) × IsFormMark front.now form mark
+            × IsNextLine self.old.rest.now self.old.number mark self.new.rest.now self.new.number) }
         ensures err { IfErr result (λ fault. IsOtherLine
-            (λ line. (line ≡ fixed.now) ⊎ (line ≡ variable.now))
+            (λ line. (form : Form) × IsFormMark front.now form line)
             self.old.rest.now self.old.number fault) }
+        ensures block { IfOk result HasBlockSize }
     {
         let number = self.number;
         match self.next() {
             None => Err(0),
-            Some(line) if is_line(line, fixed) => Ok(Form::Fixed),
-            Some(line) if is_line(line, variable) => Ok(Form::Variable),
-            Some(_) => Err(number),
+            Some(line) => match form_of_mark(front, line) {
+                Some(form) => Ok(form),
+                None => Err(number),
+            },
         }
     }
 }
@@ -142,14 +195,15 @@ impl<'a> JobText<'a> {
         ensures only { (parts : Parts) → IsJobOf text.now parts
             → IsOkAnd result (λ job. parts_of job ≡ parts) }
         ensures refused { IfErr result (λ line. IsNoJob text.now line) }
+        ensures blocks { IfOk result (λ job. HasBlockSize job.in_form × HasBlockSize job.out_form) }
     {
         let mut lines = Lines {
             rest: text,
             number: 1,
         };
-        let in_form = lines.form_mark(b"=IN f", b"=IN v")?;
+        let in_form = lines.form_mark(b"=IN ")?;
         let in_book = lines.part();
-        let out_form = lines.form_mark(b"=OUT f", b"=OUT v")?;
+        let out_form = lines.form_mark(b"=OUT ")?;
         let out_book = lines.part();
         lines.mark(b"=MOVE")?;
         let moves = lines.part();

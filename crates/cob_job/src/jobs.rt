@@ -1,9 +1,10 @@
 ghost use Rattle.std.specs.Prelude.{◌≡◌, IfOk, IfErr, true, false};
 ghost use Rattle.cob_limits.specs.Limits.{longest_job};
 ghost use Rattle.cob_records.specs.Device.{Took, counted};
+ghost use Rattle.cob_records.specs.Forms.{HasBlockSize};
 ghost use Rattle.cob_convert_files.specs.Texts.{IsReadOf, IsWhole};
 ghost use Rattle.cob_convert.specs.Run.{is_read_stop, is_write_stop};
-ghost use Rattle.cob_job.specs.Jobs.{code_of, is_output_stop, is_unread, run_answer, status_of_answer, status_of_stop};
+ghost use Rattle.cob_job.specs.Jobs.{code_of, is_output_stop, is_unread, run_answer, status_of_answer, status_of_prepare_fault, status_of_stop};
 ghost use Rattle.cob_job.specs.JobAnswers.{ComesTo, EndsWith, HasEnded, IsDone, IsOutcome, IsUnreadFault, PrintsAnswer, PrintsOutput, RunsOver, job_ends, sink_state};
 ghost use Rattle.cob_job.specs.Parts.{parts_of};
 ghost use Rattle.cob_job.specs.Printed.{owes_begun, with_due};
@@ -13,7 +14,7 @@ use crate::fault::JobFault;
 use crate::hex::{HexSink, Opening};
 use crate::job_data::decode;
 use crate::job_text::JobText;
-use cob_convert::Converter;
+use cob_convert::{Converter, PrepareFault};
 use cob_convert_files::read_whole;
 use cob_limits::MAX_JOB_BYTES;
 use cob_records::{MemSource, RecordFault, Sink, Source};
@@ -28,7 +29,7 @@ pub enum Status {
     Done,
     /// A record stopped the run.
     Stopped,
-    /// The command line or the job is malformed.
+    /// The command line or the job is malformed, or the blocks of the output are too short.
     Malformed,
     /// A text was refused.
     Refused,
@@ -50,6 +51,19 @@ impl Status {
                 | RecordFault::TookNothing { .. },
             ) => Status::Device,
             _ => Status::Stopped,
+        }
+    }
+
+    /// The status of a conversion that is not prepared: a text is refused, or the blocks of the output are too short.
+    pub fn of_prepare_fault(refused: PrepareFault) -> Status
+        ensures { result ≡ status_of_prepare_fault refused }
+    {
+        match refused {
+            PrepareFault::Block { .. } => Status::Malformed,
+            PrepareFault::InBook(_)
+            | PrepareFault::OutBook(_)
+            | PrepareFault::Moves(_)
+            | PrepareFault::Memory => Status::Refused,
         }
     }
 
@@ -104,6 +118,8 @@ fn answer_of(answer: Result<u64, RunFault>) -> Result<u64, JobFault>
 
 /// Converts the data of a job, and answers how many records there were.
 fn convert_parts<W: Sink>(alloc: Global, job: &JobText<'_>, sink: &mut W) -> Result<u64, JobFault>
+    requires in_block { HasBlockSize job.now.in_form }
+    requires out_block { HasBlockSize job.now.out_form }
     ensures outcome { Took (W.taken sink.old) (W.taken sink.new)
         (ComesTo (parts_of job.now) job.now.data_line result) }
     ensures kind { is_unread result ≡ false }

@@ -1,30 +1,32 @@
-//! Runs the jobs that its arguments name, as `convert` for the file `convert.job`, and prints for each its name,
-//! what the job prints, and its status.
+//! Does what its arguments ask for, and prints what comes of each: `NAME` is the stored job of the file `NAME.job`, `NAME.steps` a table
+//! of command lines on files, and `NAME.rows` a table of rows about what is listed of copybooks and of records.
 #![tactic(auto)]
 
-use cob_job::{Status, job};
-use cob_records::{ReadSource, WriteSink};
-use std::alloc::Global;
-use std::rt::{Env, Files};
-use std::{env, fs, io};
+mod commands;
+mod jobs;
+mod lists;
+mod stage;
 
-/// Does the job of one file, and answers its status.
-fn status_of<R: AllocGlobal + Files + Print>(rt: &R, name: &str) -> io::Result<u8> {
-    let path = format!(in rt.alloc(); "{name}.job")?;
-    let file = fs::open(rt, &path)?;
-    let mut sink = WriteSink::new(io::writer(rt));
-    Ok(job(rt.alloc(), &mut ReadSource::new(file), &mut sink))
+use std::rt::{Env, Files};
+use std::{env, io};
+
+/// Does what an argument asks for.
+fn print_asked<R: AllocGlobal + Files + Print>(rt: &R, word: &str) -> io::Result<()> {
+    match word.strip_suffix(".rows") {
+        Some(table) => lists::print_lists(rt, table),
+        None if word.ends_with(".steps") => commands::print_steps(rt, word),
+        None => jobs::print_job(rt, word),
+    }
 }
 
-fn run<R: AllocGlobal + Files + Print + Env>(rt: &R) -> io::Result<()> {
-    for name in env::args(rt)?.skip(1) {
-        println!(rt; "== {name}")?;
-        let status = status_of(rt, &name)?;
-        println!(rt; "status {status}")?;
+/// Does what the arguments ask for.
+fn print_all<R: AllocGlobal + Files + Print + Env>(rt: &R) -> io::Result<()> {
+    for word in env::args(rt)?.skip(1) {
+        print_asked(rt, word.as_str())?;
     }
     Ok(())
 }
 
 fn main(rt: HostRuntime) -> io::Result<()> {
-    run(&rt)
+    print_all(&rt)
 }

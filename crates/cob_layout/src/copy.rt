@@ -16,6 +16,7 @@ fn same_kind(kind: &Kind) -> Kind
     match kind {
         Kind::Group => Kind::Group,
         Kind::Item(item) => {
+            // For `byte`: a picture has a byte at least.
             let _ = item.picture.size();
             Kind::Item(Item {
                 picture: item.picture.clone(),

@@ -32,6 +32,7 @@ fn count_anew(
     ensures read { (n : ℕ) × IsReadOne (tree_of root.now) bytes.now table kept counts.now result n
         × (reads.new ≡ min (reads.old + n) most_reads) }
 {
+    // For `read`: how many reads there were is a count of 64 bits.
     let _before = *reads;
     match kept {
         Some(count) => Ok(count),
@@ -66,6 +67,7 @@ pub(crate) fn take_anew(
         × (reads.new ≡ min (reads.old + n) most_reads) }
     ensures room { length counts.new ≡ length counts.old }
 {
+    // For `taken`: how many reads there were is a count of 64 bits.
     let _before = *reads;
     for (index, table) in tables.iter().enumerate() {
         if is_needed(needed.behind, needed.last, needed.number, *table) {

@@ -104,6 +104,7 @@ impl Layout {
     pub fn of(alloc: Global, book: &Book) -> Result<Layout, AllocError>
         ensures { IfOk result (λ l. l ≡ book.now) }
     {
+        // For what the calls below ask and the layout keeps: a record description is sound.
         records_are_sound();
         let root = copied(alloc, book.root())?;
         let tables = tables(alloc, &root)?;
@@ -174,6 +175,7 @@ impl Layout {
         // Each byte of the record is in the place of exactly one occurrence of an item that stands in no redefinition.
         ensures covered { IsCovered (times counts.now) self.now }
     {
+        // For `covered`: each byte of a record is in one occurrence of one item.
         covering();
         let counts = counts.as_slice();
         (times_of(&self.root, counts) * element_of(&self.root, counts)) as u16
@@ -187,6 +189,7 @@ impl Layout {
         ensures legal { IfSome result (λ r. Refers r.node r.subscripts.items self.now) }
         ensures none { IfNone result (Refers node subscripts.now self.now → ⊥) }
     {
+        // For `none`: a legal reference has no more subscripts than a `Ref` has room for.
         fits_ref();
         if !refers(&self.root, node, subscripts) {
             return None;
@@ -212,6 +215,7 @@ impl Layout {
             (λ p. p.offset + p.length ≤ sum_of (times counts.now) self.now) }
         ensures fits { IfOk result (λ p. p.offset + p.length ≤ sum_of greatest_number self.now) }
     {
+        // For `current` and `fits`: an element that is there ends within the record's length.
         places_end_in_length();
         match seek(
             &self.root,
@@ -264,6 +268,7 @@ impl Layout {
         ensures same { OnErr result (counts.new ≡ counts.old) }
         ensures room { length counts.new ≡ length counts.old }
     {
+        // For `ok` and `err`: the counts that are read are those that the reference needs.
         needs_are_read();
         counts.next.fill(0);
         take_needed(

@@ -84,3 +84,4 @@ pub use laws::{
 pub use layout::{Layout, PlaceFault};
 pub use places::Places;
 pub use sound::records_are_sound;
+pub use ways::{Tables, with_own};

@@ -61,6 +61,7 @@ impl Layout {
         ensures { (counts : List ℕ) → spots.now ≡ spots_of (times counts) self.now 0 0
             → element_under counts self.now reference.now ≡ Some result }
     {
+        // For what `element_at` asks: each element ends within the greatest record.
         places_end_in_record();
         let tables = tables_at(&self.ways, reference.node);
         element_at(
@@ -77,6 +78,7 @@ impl Layout {
         ensures must { IsTrue result → ReadsNone self.now number receiving }
         ensures only { IsFalse result → ReadsNone self.now number receiving → ⊥ }
     {
+        // For `must` and `only`: the counts that are read are those that the reference needs.
         needs_are_read();
         let behind = end_of_table(&self.ways, number);
         match self.tables.first() {
@@ -140,7 +142,9 @@ impl Layout {
             → p.offset + p.length ≤ sum_of (times counts) self.now) }
         ensures fits { IfOk result (λ p. p.offset + p.length ≤ sum_of greatest_number self.now) }
     {
+        // For `current` and `fits`: an element that is there ends within the record's length,
         places_end_in_length();
+        // and the layout is that of a record description.
         let _ = self.greatest();
         placed(self.element(reference, &places.spots))
     }
@@ -160,7 +164,9 @@ impl Layout {
         ensures least { 0 < result }
         ensures most { result ≤ sum_of greatest_number self.now }
     {
+        // For all three clauses: a record description is sound,
         records_are_sound();
+        // and the layout is that of one.
         let _ = self.greatest();
         let record = spot_at(&places.spots, 0);
         (record.times * record.length) as u16
@@ -176,6 +182,7 @@ impl Layout {
             (λ p. p.offset + p.length ≤ sum_of greatest_number self.now) }
         ensures none { IfNone result (ReadsNone self.now reference.now.node receiving → ⊥) }
     {
+        // For `fits`: an element that is there ends within the record's length.
         places_end_in_length();
         if !self.reads_none(reference.node, receiving) {
             return None;
@@ -204,6 +211,7 @@ impl Layout {
         ensures only { IsFalse result → MeetsNoCount self.now place places.now → ⊥ }
         ensures keeps { IsTrue result → KeepsCounts self.now place places.now }
     {
+        // For `keeps`: counts that agree on what an item needs give it one place, and bytes that agree there the same counts.
         one_place();
         same_counts();
         meets_no_count(&self.tables, &places.spots, place)

@@ -77,6 +77,7 @@ pub(crate) fn take_all_counts(
     ensures err { IfErr result (λ e. CountsOf (tree_of root.now) bytes.now (Err e)) }
     ensures room { length counts.new ≡ length counts.old }
 {
+    // For `ok` and `err`: counts that agree on what a count's item needs give it one place.
     one_place();
     let first = first_number(tables);
     for table in tables {

@@ -15,7 +15,7 @@ use cob_limits::MAX_SUBSCRIPTS;
 use std::alloc::{AllocError, Global};
 
 /// The numbers of tables, one within the other, the outermost first.
-pub(crate) type Tables = ArrayVec<usize, MAX_SUBSCRIPTS>;
+pub type Tables = ArrayVec<usize, MAX_SUBSCRIPTS>;
 
 /// What is known of an entry whatever the counts.
 #[derive(Debug, Drop)]
@@ -27,7 +27,7 @@ pub(crate) struct Way {
 }
 
 /// These tables, and the entry itself where it is one.
-fn with_own(over: &[usize], entry: &Node) -> Tables
+pub fn with_own(over: &[usize], entry: &Node) -> Tables
     requires nested { length over.now + own_dimension (node entry.now).top.occurs
         ≤ most_dimensions }
     ensures { result.items

@@ -24,7 +24,7 @@ use crate::entries::Entries;
 use crate::single::judge;
 use cob_move_apply::{NumberedPair, Operand, PairMoves, Side, records_are_sound};
 use cob_move_initial::SenderKind;
-use cob_move_pairs::{Correspondences, EntryPair, is_elementary, subordinates_are_operands};
+use cob_move_pairs::{Correspondences, EntryPair, is_no_group, subordinates_are_operands};
 use cob_move_references::{Names, named_are_operands};
 use cob_move_statements::{MoveRule, Reference};
 use std::alloc::Global;
@@ -35,13 +35,6 @@ pub(crate) struct TwoGroups {
     pub side: Side,
     pub from: Operand,
     pub to: Operand,
-}
-
-/// Whether one of two operands is no group.
-fn is_no_group(from: &Operand, to: &Operand) -> bool
-    ensures { result ≡ (is_elementary from.now.kind || is_elementary to.now.kind) }
-{
-    is_elementary(&from.kind) || is_elementary(&to.kind)
 }
 
 /// The two groups that the references of a MOVE CORRESPONDING name.
@@ -61,7 +54,7 @@ fn groups_of(
 {
     let sending = names.find(from)?;
     let receiving = names.find_receiver(to)?;
-    if is_no_group(&sending.operand, &receiving) {
+    if is_no_group(&sending.operand.kind, &receiving.kind) {
         return Err(MoveRule::Groups);
     }
     Ok(TwoGroups {
@@ -156,9 +149,11 @@ pub(crate) fn moves_of(
         (written_corresponding from.now to.now)) }
     ensures pairs { ArePairsOf (records_of entries.now) pairs.new }
 {
+    // For `found` and `fault`: what references name, and what is in pairs below it, are operands,
     named_are_operands();
     subordinates_are_operands();
     records_are_sound();
+    // of records whose descriptions are sound.
     let _ = entries.input.greatest();
     let _ = entries.output.greatest();
     let groups = groups_of(entries.names, from, to)?;

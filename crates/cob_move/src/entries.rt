@@ -45,8 +45,10 @@ impl Entries<'_, '_> {
             (operand_in (record_of (records_of self.now) side) entry.now) }
         ensures { result.now ≡ (operand_in (record_of (records_of self.now) side) entry.now).kind }
     {
+        // For what `kind` of a layout asks: a record description is sound, and has an entry for each operand.
         records_are_sound();
         let layout = self.layout(side);
+        // The layout is that of a record description.
         let _ = layout.greatest();
         layout.kind(entry.node)
     }
@@ -65,7 +67,9 @@ impl Entries<'_, '_> {
         ensures fault { IfErr result (λ r. BreaksReference r (entries_named self.now.names.now)
             (written_reference reference.now)) }
     {
+        // For `operand`: what a reference names is an operand of its record,
         named_are_operands();
+        // and both layouts are those of record descriptions.
         let _ = self.input.greatest();
         let _ = self.output.greatest();
         let named = self.names.find(reference)?;
@@ -89,7 +93,9 @@ impl Entries<'_, '_> {
         ensures fault { IfErr result (λ r. BreaksReceiver r (entries_named self.now.names.now)
             (written_reference reference.now)) }
     {
+        // For `operand`: what a reference names is an operand of its record,
         named_are_operands();
+        // and both layouts are those of record descriptions.
         let _ = self.input.greatest();
         let _ = self.output.greatest();
         let named = self.names.find_receiver(reference)?;

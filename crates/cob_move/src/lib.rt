@@ -9,7 +9,8 @@
 //!   (`only`), and a refusal names a rule that is broken, with its line (`fault`; `IsRefusalOf`): by the text, by its words, or by one of its
 //!   statements. A text says its moves in one way ([`one_paragraph`]), and then breaks no rule ([`paragraph_breaks_no_rule`]).
 //! - [`Paragraph::with_reading`] are the same moves with their binary senders read otherwise (`read_by` of cob_layout_places); a text means them
-//!   read as their pictures say. [`Paragraph::moves`] counts single moves, each of a sender to one of its receivers.
+//!   read as their pictures say. [`Paragraph::moves`] counts single moves, each of a sender to one of its receivers, and [`Paragraph::steps`] the
+//!   steps that they make, in which plain copies that meet are joined.
 //! - [`apply`] carries the moves out on one record (`applied`; `Applied` of cob_move_apply), and [`pairs`] answers the pairs of CORRESPONDING.
 //! - [`initial`], the storage of a record before the first move, is that of cob_move_initial, with its law [`one_initial`].
 //!

@@ -157,6 +157,7 @@ pub fn all_meant(
     ensures fault { IfErr result (λ f. AreBroken f input.now output.now
         (written_statements statements.now)) }
 {
+    // For `only`: statements have one meaning, and where they have one, break no rule.
     one_meant();
     meant_break_no_rule();
     let list = meant_between(alloc, input, output, statements)?;

@@ -4,6 +4,7 @@ ghost use Rattle.std.specs.Prelude.{◌≡◌, length, map, min, IfErr, IfOk, Li
 ghost use Rattle.cob_copybook.specs.Books.{IsRecordDescription};
 ghost use Rattle.cob_layout.specs.Storage.{IsStorage, greatest_length};
 ghost use Rattle.cob_move_apply.specs.Applied.{Applied, ending};
+ghost use Rattle.cob_move_apply.specs.Joined.{steps_in};
 ghost use Rattle.cob_move_apply.specs.Told.{most_moves_told, single_moves};
 ghost use Rattle.cob_move_apply.specs.Room.{room_of};
 ghost use Rattle.cob_layout_places.specs.Moves.{Move as Meant, Records, moves, read_by};
@@ -72,9 +73,12 @@ impl Paragraph {
         // A refusal names a rule that is broken.
         ensures fault { IfErr result (λ f. IsRefusalOf f text.now input.now output.now) }
     {
+        // For `only`: a text is one paragraph, and a paragraph breaks no rule.
         one_paragraph();
         paragraph_breaks_no_rule();
+        // For what `Moves::new` asks: what statements mean are moves between the records,
         meant_are_moves();
+        // and both layouts are those of record descriptions.
         let _ = input.root();
         let _ = output.root();
         let meant = meant_moves(alloc, input, output, text)?;
@@ -100,6 +104,15 @@ impl Paragraph {
             → result ≡ min (single_moves (moves_in r self.now)) most_moves_told }
     {
         self.moves.single_moves()
+    }
+
+    /// The number of steps that the moves make: single moves that are plain copies, each beginning on both sides where the one before ends, are one
+    /// step, where neither record has a table that varies. More than a u32 holds come as the greatest u32.
+    pub fn steps(&self) -> u32
+        ensures { (r : Records) → IsReadyFor r self.now
+            → result ≡ min (steps_in r (moves_in r self.now)) most_moves_told }
+    {
+        self.moves.steps()
     }
 
     /// The moves themselves.

@@ -1,13 +1,12 @@
 -- Moves, and what the places of their operands rest on.
-use Rattle.std.proofs.Common.{◌≡◌, ℕ, ◌+◌, ◌<◌, ◌≤◌, true, List, [], ◌∷◌, ◌++◌, length, get_or, take, drop, refl, sym, ap, subst, ◌∙◌, arith, append_assoc, append-nil}
-use Rattle.std.proofs.lemmas.List.{drop_all, drop_more, length-append}
-use Rattle.std.proofs.Math.Seq.{take-append_seam, drop-append_seam}
+use Rattle.std.proofs.Common.{◌≡◌, ℕ, ◌+◌, ◌<◌, ◌≤◌, true, List, [], ◌∷◌, ◌++◌, length, get_or, drop, refl, sym, ap, subst, ◌∙◌, arith, append_assoc, append-nil}
+use Rattle.std.proofs.lemmas.List.{drop_all, drop_more}
 use Rattle.cob_copybook_tree.specs.Forests.{Forest}
 use Rattle.cob_copybook_tree.specs.Nodes.{Resolved}
 use Rattle.cob_layout_places.specs.declared.operands.Operand.{Operand}
 use Rattle.cob_layout_places.specs.Moves.{Move, Records}
 use Rattle.cob_move_apply.specs.declared.basis.Basis.{Basis}
-use Rattle.cob_move_apply.specs.Placed.{ArePlacedMoves, ArePlacedReceivers, IsPlaced, IsPlacedMove, IsPlacedSender}
+use Rattle.cob_move_apply.specs.Placed.{ArePlacedReceivers, IsPlaced, IsPlacedMove, IsPlacedSender}
 use Rattle.cob_move_apply.proofs.ListLemmas.{next}
 
 -- ---- receivers
@@ -63,9 +62,9 @@ noted_all tree os i before now past so =
 -- ---- one move
 
 -- its sender's basis was noted, and then its receivers'
-pub noted_move : (r : Records) (m : Move) (b : Basis) (before between now : List Basis) → IsPlacedSender r m.sender b → between ≡ before ++ b ∷ []
-    → Noted r.output m.receivers between now → (own : List Basis) × (now ≡ before ++ own) × IsPlacedMove r m own
-noted_move r m b before between now sender added (own, same, all) =
+pub noted_move : (r : Records) (m : Move) (b : Basis) (before mid now : List Basis) → IsPlacedSender r m.sender b → mid ≡ before ++ b ∷ []
+    → Noted r.output m.receivers mid now → (own : List Basis) × (now ≡ before ++ own) × IsPlacedMove r m own
+noted_move r m b before mid now sender added (own, same, all) =
     (b ∷ own, same ∙ ap (λ (xs : List Basis). xs ++ own) added ∙ append_assoc before (b ∷ []) own, (sender, all))
 
 pub of_move : (r : Records) (m : Move) (bs : List Basis) → IsPlacedMove r m bs → length bs ≡ length m.receivers + 1
@@ -79,42 +78,3 @@ sender_first r m (b ∷ bs) d h = h.0
 pub receivers_behind : (r : Records) (m : Move) (bs : List Basis) → IsPlacedMove r m bs → ArePlacedReceivers r.output m.receivers (drop 1 bs)
 receivers_behind r m [] h = absurd h
 receivers_behind r m (b ∷ bs) h = h.1
-
--- ---- moves one after another
-
--- with the bases of the moves from place i on, those of all are noted
-abbrev pub MovesTo : Records → List Move → ℕ → List Basis → Type 0
-MovesTo r ms i now = (rest : List Basis) → ArePlacedMoves r (drop i ms) rest → ArePlacedMoves r ms (now ++ rest)
-
-pub moves_more : (r : Records) (ms : List Move) (i : ℕ) (m : Move) (now new : List Basis) → i < length ms → m ≡ get_or ms i m
-    → (own : List Basis) × (new ≡ now ++ own) × IsPlacedMove r m own → MovesTo r ms i now → MovesTo r ms (i + 1) new
-moves_more r ms i m now new lt is (own, added, placed) so rest h =
-    subst (λ (xs : List Basis). ArePlacedMoves r ms xs) (sym (ap (λ (xs : List Basis). xs ++ rest) added ∙ append_assoc now own rest))
-    (so (own ++ rest) (subst (λ (xs : List Move). ArePlacedMoves r xs (own ++ rest)) (sym (next ms i m lt is)) (own, rest, refl, placed, h)))
-
-pub moves_all : (r : Records) (ms : List Move) (i : ℕ) (now : List Basis) → length ms ≤ i → MovesTo r ms i now → ArePlacedMoves r ms now
-moves_all r ms i now past so =
-    subst (λ (xs : List Basis). ArePlacedMoves r ms xs) (append-nil now)
-    (so [] (subst (λ (xs : List Move). ArePlacedMoves r xs []) (sym (drop_all i ms past)) refl))
-
--- ---- the bases of a move, cut from the front
-
--- these are the bases of the move at place i, and those of the moves behind it
-pub cut : (r : Records) (ms : List Move) (i : ℕ) (m : Move) (bs : List Basis) → i < length ms → m ≡ get_or ms i m → ArePlacedMoves r (drop i ms) bs
-    → ArePlacedMoves r (m ∷ drop (i + 1) ms) bs
-cut r ms i m bs lt is h = subst (λ (xs : List Move). ArePlacedMoves r xs bs) (next ms i m lt is) h
-
-pub enough : (r : Records) (ms : List Move) (m : Move) (bs : List Basis) → ArePlacedMoves r (m ∷ ms) bs → length m.receivers + 1 ≤ length bs
-enough r ms m bs (own, rest, is, placed, h) = omega (arith, ap length is, length-append own rest, of_move r m own placed)
-
-pub front_of : (r : Records) (ms : List Move) (m : Move) (bs : List Basis) (n : ℕ) → n ≡ length m.receivers + 1 → ArePlacedMoves r (m ∷ ms) bs → IsPlacedMove r m (take n bs)
-front_of r ms m bs n size (own, rest, is, placed, h) =
-    let front : take n bs ≡ own =
-    ap (λ k. take k bs) (size ∙ sym (of_move r m own placed)) ∙ ap (λ (xs : List Basis). take (length own) xs) is ∙ take-append_seam own rest in
-    subst (λ (xs : List Basis). IsPlacedMove r m xs) (sym front) placed
-
-pub behind_front : (r : Records) (ms : List Move) (m : Move) (bs : List Basis) (n : ℕ) → n ≡ length m.receivers + 1 → ArePlacedMoves r (m ∷ ms) bs → ArePlacedMoves r ms (drop n bs)
-behind_front r ms m bs n size (own, rest, is, placed, h) =
-    let behind : drop n bs ≡ rest =
-    ap (λ k. drop k bs) (size ∙ sym (of_move r m own placed)) ∙ ap (λ (xs : List Basis). drop (length own) xs) is ∙ drop-append_seam own rest in
-    subst (λ (xs : List Basis). ArePlacedMoves r ms xs) (sym behind) h

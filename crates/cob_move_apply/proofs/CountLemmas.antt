@@ -1,24 +1,16 @@
--- How many operands and how many single moves there are.
-use Rattle.std.proofs.Common.{◌≡◌, ℕ, ◌+◌, ◌*◌, ◌<◌, ◌≤◌, List, [], ◌∷◌, ◌++◌, length, get_or, drop, map, min, refl, sym, ap, ◌∙◌, arith}
+-- How many single moves there are.
+use Rattle.std.proofs.Common.{◌≡◌, ℕ, ◌+◌, ◌<◌, ◌≤◌, List, [], ◌∷◌, ◌++◌, length, get_or, drop, map, min, refl, sym, ap, ◌∙◌, arith}
 use Rattle.std.proofs.lemmas.List.{length-map}
 use Rattle.cob_codec.specs.declared.reading.Reading.{Reading}
 use Rattle.cob_layout_places.specs.declared.operands.Move as code_move
 use Rattle.cob_layout_places.specs.declared.operands.PairMoves.{PairMoves}
 use Rattle.cob_layout_places.specs.declared.operands.StatementMoves.{StatementMoves}
 use Rattle.cob_layout_places.specs.declared.operands.NumberedPair.{NumberedPair}
-use Rattle.cob_layout_places.specs.Moves.{Move, Records, move, move_by, moves_by, numbered_move, numbered_move_by, operand_in, statement_moves_by}
-use Rattle.cob_move_apply.specs.Placed.{operands}
+use Rattle.cob_layout_places.specs.Moves.{Move, Records, move_by, moves_by, numbered_move_by, operand_in, statement_moves_by}
 use Rattle.cob_move_apply.specs.Told.{single_moves}
 use Rattle.cob_move_apply.proofs.StatementLemmas.{cut_statement, none_left}
 
 -- ---- of one statement
-
-pub single_operands : (r : Records) (m : code_move.Move) → operands (move r m ∷ []) ≡ length m.receivers.items + 1
-single_operands r m = omega (arith, length-map m.receivers.items (operand_in r.output))
-
-pub pairs_operands : (r : Records) (g : PairMoves) (ps : List NumberedPair) → operands (map (numbered_move r g) ps) ≡ length ps * 2
-pairs_operands r g [] = refl
-pairs_operands r g (p ∷ ps) = omega (arith, pairs_operands r g ps)
 
 pub single_alone : (x : Reading) (r : Records) (m : code_move.Move) → single_moves (move_by x r m ∷ []) ≡ length m.receivers.items
 single_alone x r m = omega (arith, length-map m.receivers.items (operand_in r.output))
@@ -41,7 +33,7 @@ from_next : (x : Reading) (r : Records) (ss : List StatementMoves) (i : ℕ) (s 
     → from x r ss i ≡ single_moves (statement_moves_by x r s) + from x r ss (i + 1)
 from_next x r ss i s lt is = ap single_moves (cut_statement x r ss i s lt is) ∙ single_append (statement_moves_by x r s) (moves_by x r (drop (i + 1) ss))
 
-past_greatest : (c n rest total most greatest : ℕ) → most ≤ greatest → min (c + (n + rest)) most ≡ min total most
+pub past_greatest : (c n rest total most greatest : ℕ) → most ≤ greatest → min (c + (n + rest)) most ≡ min total most
     → min (min (c + n) greatest + rest) most ≡ min total most
 past_greatest c n rest total most greatest le h = omega (arith, le, h)
 

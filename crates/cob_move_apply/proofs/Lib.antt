@@ -7,5 +7,14 @@ pub mod StatementLemmas
 pub mod SeenLemmas
 pub mod CountLemmas
 pub mod ReadingLemmas
+pub mod CutLemmas
+pub mod CopyLemmas
+pub mod PlainLemmas
+pub mod JoinLemmas
+pub mod PlanLemmas
+pub mod InLemmas
+pub mod PartLemmas
+pub mod PreparedLemmas
+pub mod StepLemmas
 pub use Rattle.cob_layout.proofs.EntryNoRule
 pub use Rattle.cob_layout.proofs.EntryOneList

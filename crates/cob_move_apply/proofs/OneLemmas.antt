@@ -26,13 +26,13 @@ use Rattle.cob_move_apply.specs.Applied.{AllGet, Applied, Content, Ending, Entry
 some_is : {A : Type 0} (a b : A) → Some a ≡ Some b → a ≡ b
 some_is a b e = cc
 
-ok_is : {A : Type 0} {E : Type 0} (a b : A) → ◌≡◌ {A = Result A E} (Ok a) (Ok b) → a ≡ b
+pub ok_is : {A : Type 0} {E : Type 0} (a b : A) → ◌≡◌ {A = Result A E} (Ok a) (Ok b) → a ≡ b
 ok_is a b e = cc
 
 err_is : {A : Type 0} {E : Type 0} (a b : E) → ◌≡◌ {A = Result A E} (Err a) (Err b) → a ≡ b
 err_is a b e = cc
 
-ok_not : {A : Type 0} {E : Type 0} (a : A) (b : E) → ◌≡◌ {A = Result A E} (Ok a) (Err b) → ⊥
+pub ok_not : {A : Type 0} {E : Type 0} (a : A) (b : E) → ◌≡◌ {A = Result A E} (Ok a) (Err b) → ⊥
 ok_not a b e = cc
 
 -- ---- a place
@@ -82,7 +82,7 @@ one_taken law side r t o bytes (Ok a) (Err b) (p, x, e) y = absurd (not_both law
 one_taken law side r t o bytes (Err a) (Ok b) x (q, y, f) = absurd (not_both law side t false o bytes q a y x)
 one_taken law side r t o bytes (Err a) (Err b) x y = ap (λ k. Err k) (one_stop law side t false o bytes a b x y)
 
-one_given : OneOfNeeded → (r : Records) (s : Sender) (input output : List ℕ) (a b : Result Content Stop) → Gives r s input output a → Gives r s input output b → a ≡ b
+pub one_given : OneOfNeeded → (r : Records) (s : Sender) (input output : List ℕ) (a b : Result Content Stop) → Gives r s input output a → Gives r s input output b → a ≡ b
 one_given law r (Entry side reading o) input output a b x y = one_taken law side reading (record_of r side) o (storage_of side input output) a b x y
 one_given law r (Literal c) input output a b x y = x ∙ sym y
 
@@ -135,7 +135,7 @@ one_moved law one r m input before a b (inr (stop, g, x)) (inr (other, h, y)) =
     let same : stop ≡ other = err_is stop other (one_given law r m.sender input before (Err stop) (Err other) g h) in
     x ∙ ap (λ (s : Stop). stopped s before) same ∙ sym y
 
-stop_of : (a b : List ℕ) (s : Stop) → done a ≡ stopped s b → ⊥
+pub stop_of : (a b : List ℕ) (s : Stop) → done a ≡ stopped s b → ⊥
 stop_of a b s e = let never : None ≡ Some s = ap (λ (x : Ending). x.stop) e in cc
 
 pub one_ending : OneOfNeeded → OneReceived → OneEnding

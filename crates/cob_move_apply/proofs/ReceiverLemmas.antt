@@ -20,7 +20,7 @@ use Rattle.cob_move_receive.specs.Sent.{Occupies}
 use Rattle.cob_layout_places.specs.Moves.{Sender, Entry, Move, Records, record_of}
 use Rattle.cob_move_apply.proofs.ListLemmas.{next}
 use Rattle.cob_move_apply.specs.Located.{Located, stop_at}
-use Rattle.cob_move_apply.specs.Applied.{Applied, IsMoved, storage_of, AllGet, Content, Ending, Gets, done, stopped}
+use Rattle.cob_move_apply.specs.Applied.{IsMoved, storage_of, AllGet, Content, Ending, Gets, done, stopped}
 
 -- what a write to a place's bytes leaves
 pub put_is : (place : Place) (received storage : List ℕ) → put_mid place.offset (place.offset + place.length - place.offset) storage received ≡ with_field storage place received
@@ -100,21 +100,3 @@ pub moved_as : (r : Records) (m : Move) (s : Sender) (os : List Operand) (input 
 moved_as r m s os input before end is all h =
     subst (λ (x : Sender). IsMoved r (record { sender = x; receivers = m.receivers }) input before end) (sym is)
     (subst (λ (xs : List Operand). IsMoved r (record { sender = s; receivers = xs }) input before end) all h)
-
--- ---- moves one after another
-
-abbrev pub AppliedFrom : Records → List Move → ℕ → List ℕ → List ℕ → List ℕ → Type 0
-AppliedFrom r ms i input before now = (end : Ending) → Applied r (drop i ms) input now end → Applied r ms input before end
-
-pub apply_more : (r : Records) (ms : List Move) (i : ℕ) (m : Move) (input before now after : List ℕ) → i < length ms → m ≡ get_or ms i m
-    → AppliedFrom r ms i input before now → IsMoved r m input now (done after) → AppliedFrom r ms (i + 1) input before after
-apply_more r ms i m input before now after lt is so h end rest =
-    so end (subst (λ (xs : List Move). Applied r xs input now end) (sym (next ms i m lt is)) (inl (after, h, rest)))
-
-pub apply_stops : (r : Records) (ms : List Move) (i : ℕ) (m : Move) (input before now after : List ℕ) (stop : Stop) → i < length ms → m ≡ get_or ms i m
-    → AppliedFrom r ms i input before now → IsMoved r m input now (stopped stop after) → Applied r ms input before (stopped stop after)
-apply_stops r ms i m input before now after stop lt is so h =
-    so (stopped stop after) (subst (λ (xs : List Move). Applied r xs input now (stopped stop after)) (sym (next ms i m lt is)) (inr (stop, after, h, refl)))
-
-pub apply_all : (r : Records) (ms : List Move) (i : ℕ) (input before now : List ℕ) → length ms ≤ i → AppliedFrom r ms i input before now → Applied r ms input before (done now)
-apply_all r ms i input before now past so = so (done now) (subst (λ (xs : List Move). Applied r xs input now (done now)) (sym (drop_all i ms past)) refl)

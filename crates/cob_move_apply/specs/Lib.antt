@@ -4,5 +4,9 @@ pub mod Room
 pub mod Placed
 pub mod Seen
 pub mod Told
+pub mod Written
+pub mod Joined
+pub mod Steps
+pub mod Planned
 pub mod Prepared
 pub mod Surveyed

@@ -1,5 +1,5 @@
 -- Moves, with what the places of their operands rest on.
-use Rattle.std.specs.Prelude.{◌≡◌, ℕ, ◌+◌, ◌≤◌, Bool, true, false, List, [], ◌∷◌, ◌++◌, Ok, length}
+use Rattle.std.specs.Prelude.{ℕ, ◌+◌, ◌≤◌, Bool, true, false, List, [], ◌∷◌, Ok}
 use Rattle.cob_copybook_tree.specs.Forests.{Forest}
 use Rattle.cob_copybook_tree.specs.Nodes.{Resolved}
 use Rattle.cob_layout.specs.declared.fields.Place.{Place}
@@ -51,13 +51,3 @@ ArePlacedReceivers tree _ _ = ⊥
 abbrev pub IsPlacedMove : Records → Move → List Basis → Type 0
 IsPlacedMove r m [] = ⊥
 IsPlacedMove r m (b ∷ bs) = IsPlacedSender r m.sender b × ArePlacedReceivers r.output m.receivers bs
-
--- moves, and what the places of their operands rest on, one move's behind another's
-abbrev pub ArePlacedMoves : Records → List Move → List Basis → Type 0
-ArePlacedMoves r [] bs = bs ≡ []
-ArePlacedMoves r (m ∷ ms) bs = (own rest : List Basis) × (bs ≡ own ++ rest) × IsPlacedMove r m own × ArePlacedMoves r ms rest
-
--- how many operands moves have, each a sender and its receivers
-abbrev pub operands : List Move → ℕ
-operands [] = 0
-operands (m ∷ ms) = length m.receivers + 1 + operands ms

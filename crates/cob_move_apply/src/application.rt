@@ -1,29 +1,32 @@
-//! Moves, one after another.
+//! Steps, one after another.
 
-ghost use Rattle.std.specs.Prelude.{◌≡◌, length};
+ghost use Rattle.std.specs.Prelude.{◌≡◌, ◌+◌, ◌≤◌, length};
 ghost use Rattle.cob_layout.specs.Sound.{IsSound};
 ghost use Rattle.cob_layout.specs.Storage.{greatest_length, IsStorage};
-ghost use Rattle.cob_move_apply.specs.Applied.{Applied, ending};
-ghost use Rattle.cob_move_apply.specs.Placed.{ArePlacedMoves};
-ghost use Rattle.cob_layout_places.specs.Moves.{moves, moves_by, statement_moves, statement_moves_by};
+ghost use Rattle.cob_layout_places.specs.Moves.{Move as Meant, moves_by};
+ghost use Rattle.cob_move_apply.specs.Applied.{Applied, IsMoved, ending};
+ghost use Rattle.cob_move_apply.specs.Steps.{IsMoveOfPart, StandFor, support_of};
 ghost use Rattle.cob_move_apply.specs.Surveyed.{HasSpace, IsWorkspace, records};
 
-use crate::basis::Basis;
-use crate::pairs::make_pair_moves;
-use crate::preparation::operands_in;
+use crate::basis::{Basis, PlacedReceivers};
+use crate::pairs::make_pair_move;
+use crate::prepared::make_prepared;
 use crate::senders::make_move;
+use crate::step::{Part, Plan, Step, copy_across};
 use crate::stop::Stop;
 use crate::workspace::{Layouts, Workspace};
+use cob_layout::one_outcome_of_counts;
 use cob_layout_places::StatementMoves;
 
-/// Carries out the moves of a statement in order. The bases are those of their operands, one move's behind another's.
+/// Carries out a part of the moves of a statement.
 ///
 /// # Errors
 ///
-/// The first thing missing. The storage is as the moves and receivers before left it then.
-fn make_moves(
-    one: &StatementMoves,
+/// The first thing missing. The storage is as the receivers before left it then.
+fn make_part(
+    given: &[StatementMoves],
     bases: &[Basis],
+    part: Part,
     layouts: &Layouts<'_>,
     input: &[u8],
     output: &mut [u8],
@@ -31,32 +34,51 @@ fn make_moves(
 ) -> Result<(), Stop>
     requires in_sound { IsSound layouts.now.input.now }
     requires out_sound { IsSound layouts.now.output.now }
-    requires placed { ArePlacedMoves (records layouts.now)
-        (statement_moves (records layouts.now) one.now) bases.now }
+    requires part { (m : Meant)
+        × IsMoveOfPart layouts.now.reading (records layouts.now) given.now bases.now part m }
+    requires room { part.base + part.count + 1 ≤ length bases.now }
     requires input { IsStorage layouts.now.input.now input.now }
     requires output { length output.old ≡ greatest_length layouts.now.output.now }
     requires space { IsWorkspace (records layouts.now) input.now output.old space.old }
-    ensures applied { Applied (records layouts.now)
-        (statement_moves_by layouts.now.reading (records layouts.now) one.now) input.now output.old
-        (ending result output.new) }
+    ensures moved { (m : Meant)
+        → IsMoveOfPart layouts.now.reading (records layouts.now) given.now bases.now part m
+        → IsMoved (records layouts.now) m input.now output.old (ending result output.new) }
     ensures space { IsWorkspace (records layouts.now) input.now output.new space.new }
 {
-    match one {
-        StatementMoves::Single(single) => make_move(single, bases, layouts, input, output, space),
+    let own = &bases[part.base..];
+    match &given[part.statement] {
+        StatementMoves::Single(single) => {
+            let end = part.first + part.count;
+            let receivers = PlacedReceivers {
+                entries: &single.receivers.as_slice()[part.first..end],
+                bases: &own[1..1 + part.count],
+            };
+            make_move(
+                &single.sender,
+                own[0],
+                &receivers,
+                layouts,
+                input,
+                output,
+                space,
+            )
+        }
         StatementMoves::Pairs(group) => {
-            make_pair_moves(group, bases, layouts, input, output, space)
+            let pair = &group.pairs[part.first];
+            let both = &own[..1 + part.count];
+            make_pair_move(group, pair, both, layouts, input, output, space)
         }
     }
 }
 
-/// Carries out the moves of statements in order. The bases are those of their operands, one move's behind another's.
+/// Carries out the steps of the plan of moves, in order.
 ///
 /// # Errors
 ///
 /// The first thing missing. The storage is as the moves and receivers before left it then.
 pub(crate) fn apply_in(
     given: &[StatementMoves],
-    bases: &[Basis],
+    plan: &Plan,
     layouts: &Layouts<'_>,
     input: &[u8],
     output: &mut [u8],
@@ -64,8 +86,9 @@ pub(crate) fn apply_in(
 ) -> Result<(), Stop>
     requires in_sound { IsSound layouts.now.input.now }
     requires out_sound { IsSound layouts.now.output.now }
-    requires placed { ArePlacedMoves (records layouts.now)
-        (moves (records layouts.now) given.now) bases.now }
+    requires steps { StandFor layouts.now.reading (records layouts.now)
+        given.now plan.now.steps.items (support_of plan.now)
+        (moves_by layouts.now.reading (records layouts.now) given.now) }
     requires input { IsStorage layouts.now.input.now input.now }
     requires output { length output.old ≡ greatest_length layouts.now.output.now }
     requires space { HasSpace (records layouts.now) space.old }
@@ -74,12 +97,18 @@ pub(crate) fn apply_in(
         (ending result output.new) }
     ensures space { HasSpace (records layouts.now) space.new }
 {
+    one_outcome_of_counts();
     space.forget();
-    let mut rest = bases;
-    for one in given {
-        let (own, others) = rest.split_at(operands_in(one));
-        make_moves(one, own, layouts, input, output, space)?;
-        rest = others;
+    let bases = plan.bases.as_slice();
+    let steps = plan.steps.as_slice();
+    for step in steps {
+        match *step {
+            Step::Part(part) => make_part(given, bases, part, layouts, input, output, space)?,
+            Step::Prepared(one) => {
+                make_prepared(&plan.prepared, one, layouts, input, output, space)?
+            }
+            Step::Copy(places) => copy_across(places, input, output),
+        }
     }
     Ok(())
 }

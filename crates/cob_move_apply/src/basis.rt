@@ -42,6 +42,16 @@ pub(crate) struct PlacedReceivers<'a> {
     pub(crate) bases: &'a [Basis],
 }
 
+/// What an entry of the record of a layout describes.
+#[inline(always)]
+pub(crate) fn entry_kind<'a>(layout: &'a Layout, entry: &Ref) -> &'a Kind
+    requires sound { IsSound layout.now }
+    requires operand { IsOperand layout.now (operand_in layout.now entry.now) }
+    ensures { result.now ≡ (operand_in layout.now entry.now).kind }
+{
+    layout.kind(entry.node)
+}
+
 /// The operand that is an entry of the record of a layout, with what its place rests on.
 #[inline(always)]
 pub(crate) fn placed_operand<'a>(

@@ -5,18 +5,25 @@
 //!
 //! - [`Moves::new`]: they are the moves that were given, in their order (`made`), ready for the two records (`prepared`): a place that no count
 //!   decides is the same in every storage, and is found here, once; [`Moves::with_reading`] are the same moves with their binary senders read otherwise (`read_by`);
-//!   [`Moves::single_moves`] counts them, each receiver for one.
+//!   [`Moves::single_moves`] counts them, each receiver for one, and [`Moves::steps`] the steps that they make (`steps_in` of
+//!   specs/Joined.antt).
 //! - [`Moves::apply`] makes of the output record's storage what `Applied` of specs/Applied.antt says (`applied`), a stop included, which is
 //!   then the answer: the sender's place and bytes are taken once, as its move begins; each receiver's place is found in the storage as it
 //!   then is, just before it is stored; there the bytes become what `Received` of cob_move_receive says, and all others stay. The first thing
 //!   missing stops the moves, and the storage is as the receivers before it left it: a count that an operand needs (`Count`), an element past
 //!   its table's count (`Subscript`), or a value where the receiver asks for one (`NoValue`). Moves end in one way ([`one_ending`]).
 //!
+//! The moves are carried out by steps that stand for them (`StandFor` of specs/Steps.antt), each chosen when they are made ready. Single moves that are
+//! plain copies, each beginning on both sides where the one before ends, are one copy (`AreCopied` of specs/Written.antt); a single move between two
+//! places that no count decides is made ready, where cob_move_prepared has a step for it (`IsFixedMove`); a part of a statement's moves is looked at
+//! as it is carried out. Only moves whose sender no receiver changes are cut into their single moves (`IsMoveCut`), so that what the
+//! steps make of a storage is what the moves make.
+//!
 //! A place that depends on counts is found by all counts of the storage, where the operand is spared none of them and all are valid: they are
 //! taken once, and again only behind a receiver whose place meets the item of a count. Else it is found by those that the operand needs.
 //!
-//! It stands on cob_layout_places for moves as data, on cob_layout for places, counts and what holds of every record, and on cob_move_receive
-//! for what one receiver gets. [`Moves::apply`] takes no memory: its room is a [`Scratch`].
+//! It stands on cob_layout_places for moves as data, on cob_layout for places, counts and what holds of every record, on cob_move_receive
+//! for what one receiver gets, and on cob_move_prepared for single moves that are made ready. [`Moves::apply`] takes no memory: its room is a [`Scratch`].
 #![tactic(auto)]
 
 mod application;
@@ -25,10 +32,13 @@ mod laws;
 mod moves;
 mod pairs;
 mod places;
+mod planning;
 mod preparation;
+mod prepared;
 mod receivers;
 mod scratch;
 mod senders;
+mod step;
 mod stop;
 mod survey;
 mod workspace;

@@ -5,30 +5,20 @@ ghost use Rattle.cob_codec.specs.declared.reading.Reading.{Reading as Read};
 ghost use Rattle.cob_layout.specs.Storage.{greatest_length, IsStorage};
 ghost use Rattle.cob_layout_places.specs.Moves.{AreMoves, Records, moves, read_by, statement_moves_by};
 ghost use Rattle.cob_move_apply.specs.Applied.{Applied, ending};
+ghost use Rattle.cob_move_apply.specs.Joined.{steps_in};
 ghost use Rattle.cob_move_apply.specs.Told.{most_moves_told, single_moves};
 ghost use Rattle.cob_move_apply.specs.Room.{room_of};
 
 use crate::application::apply_in;
-use crate::basis::Basis;
-use crate::preparation::bases_of;
+use crate::planning::plan_of;
 use crate::scratch::Scratch;
+use crate::step::{Plan, at_most_u32, counted};
 use crate::stop::Stop;
 use crate::workspace::Layouts;
 use cob_codec::Reading;
 use cob_layout::{Layout, records_are_sound};
 use cob_layout_places::StatementMoves;
 use std::alloc::{AllocError, Global};
-
-/// A number, or the greatest u32 where it is more.
-fn at_most_u32(count: usize) -> u32
-    ensures { result ≡ min count most_moves_told }
-{
-    if count < u32::MAX as usize {
-        count as u32
-    } else {
-        u32::MAX
-    }
-}
 
 /// How many single moves the moves of a statement are.
 fn single_moves_in(one: &StatementMoves) -> usize
@@ -45,8 +35,8 @@ fn single_moves_in(one: &StatementMoves) -> usize
 #[derive(Debug, Drop)]
 pub struct Moves {
     pub(crate) statements: Vec<StatementMoves>,
-    /// What the places of the operands rest on, one move's behind another's.
-    pub(crate) bases: Vec<Basis>,
+    /// What is carried out in their place.
+    pub(crate) plan: Plan,
     /// How binary items are read that are sent.
     pub(crate) reading: Reading,
 }
@@ -73,35 +63,47 @@ impl Moves {
         ensures prepared { IfOk result
             (λ m. ArePrepared (record { input = input.now; output = output.now }) m) }
     {
-        let bases = bases_of(alloc, given.as_slice(), input, output)?;
+        let plan = plan_of(alloc, given.as_slice(), input, output)?;
         Ok(Moves {
             statements: given,
-            bases,
+            plan,
             reading: Reading::Pictured,
         })
     }
 
     /// The same moves, with their binary senders read so. It takes no memory.
     pub fn with_reading(self, reading: Reading) -> Moves
-        ensures moves { (r : Records) → moves_of r result ≡ map (read_by reading) (moves_of r self) }
+        ensures moves { (r : Records)
+            → moves_of r result ≡ map (read_by reading) (moves_of r self) }
         ensures prepared { (r : Records) → ArePrepared r self → ArePrepared r result }
     {
         Moves {
             statements: self.statements,
-            bases: self.bases,
+            plan: self.plan,
             reading,
         }
     }
 
     /// How many single moves these are: each is a sender with one of its receivers. More than a u32 holds come as the greatest u32.
     pub fn single_moves(&self) -> u32
-        ensures { (r : Records) → result ≡ min (single_moves (moves_of r self.now)) most_moves_told }
+        ensures { (r : Records)
+            → result ≡ min (single_moves (moves_of r self.now)) most_moves_told }
     {
         let mut count: usize = 0;
         for one in self.statements.iter() {
             count = count.saturating_add(single_moves_in(one));
         }
         at_most_u32(count)
+    }
+
+    /// How many steps these moves make. Single moves that are plain copies of entries of the input record are one step with the copy before, where each
+    /// begins on both sides where the one before ends, and neither record has a table that varies; each other single move is one by itself. More
+    /// than a u32 holds come as the greatest u32.
+    pub fn steps(&self) -> u32
+        ensures { (r : Records) → ArePrepared r self.now
+            → result ≡ min (steps_in r (moves_of r self.now)) most_moves_told }
+    {
+        counted(self.plan.steps.as_slice())
     }
 
     /// Carries out the moves in order on the storage of an output record. It takes no memory.
@@ -139,9 +141,10 @@ impl Moves {
             output: output_layout,
             reading: self.reading,
         };
+        let statements = self.statements.as_slice();
         apply_in(
-            self.statements.as_slice(),
-            self.bases.as_slice(),
+            statements,
+            &self.plan,
             &layouts,
             input,
             output,

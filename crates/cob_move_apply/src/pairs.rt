@@ -1,12 +1,12 @@
-//! The moves of the pairs of two groups.
+//! The move of a pair of two groups.
 
-ghost use Rattle.std.specs.Prelude.{◌≡◌, List, length, map, ◌≤◌};
+ghost use Rattle.std.specs.Prelude.{◌≡◌, length, ◌≤◌};
 ghost use Rattle.cob_limits.specs.Limits.{most_dimensions};
 ghost use Rattle.cob_layout.specs.Sound.{IsSound};
 ghost use Rattle.cob_layout.specs.Storage.{greatest_length, IsStorage};
 ghost use Rattle.cob_layout_places.specs.Moves.{entry_below, numbered_move, numbered_move_by};
-ghost use Rattle.cob_move_apply.specs.Applied.{Applied, IsMoved, ending};
-ghost use Rattle.cob_move_apply.specs.Placed.{ArePlacedMoves, IsPlacedMove};
+ghost use Rattle.cob_move_apply.specs.Applied.{IsMoved, ending};
+ghost use Rattle.cob_move_apply.specs.Placed.{IsPlacedMove};
 ghost use Rattle.cob_move_apply.specs.Surveyed.{IsWorkspace, records};
 
 use crate::basis::{Basis, PlacedReceivers, SentEntry};
@@ -46,7 +46,7 @@ pub(crate) fn entry_below(group: &Ref, number: usize) -> Ref
 /// # Errors
 ///
 /// The first thing missing.
-fn make_pair_move(
+pub(crate) fn make_pair_move(
     group: &PairMoves,
     pair: &NumberedPair,
     bases: &[Basis],
@@ -80,38 +80,4 @@ fn make_pair_move(
         bases: &bases[1..],
     };
     move_entry(&sent, &receivers, layouts, input, output, space)
-}
-
-/// Carries out the moves of the pairs of two groups in order. The bases are those of their entries, one pair's behind another's.
-///
-/// # Errors
-///
-/// The first thing missing. The storage is as the moves before left it then.
-pub(crate) fn make_pair_moves(
-    group: &PairMoves,
-    bases: &[Basis],
-    layouts: &Layouts<'_>,
-    input: &[u8],
-    output: &mut [u8],
-    space: &mut Workspace,
-) -> Result<(), Stop>
-    requires in_sound { IsSound layouts.now.input.now }
-    requires out_sound { IsSound layouts.now.output.now }
-    requires placed { ArePlacedMoves (records layouts.now)
-        (map (numbered_move (records layouts.now) group.now) group.now.pairs.items) bases.now }
-    requires input { IsStorage layouts.now.input.now input.now }
-    requires output { length output.old ≡ greatest_length layouts.now.output.now }
-    requires space { IsWorkspace (records layouts.now) input.now output.old space.old }
-    ensures applied { Applied (records layouts.now)
-        (map (numbered_move_by layouts.now.reading (records layouts.now) group.now)
-        group.now.pairs.items) input.now output.old (ending result output.new) }
-    ensures space { IsWorkspace (records layouts.now) input.now output.new space.new }
-{
-    let mut rest = bases;
-    for pair in group.pairs.iter() {
-        let (own, others) = rest.split_at(2);
-        make_pair_move(group, pair, own, layouts, input, output, space)?;
-        rest = others;
-    }
-    Ok(())
 }

@@ -53,8 +53,8 @@ fn place_by_needs(
     requires sound { IsSound stored.now.layout.now }
     requires operand { IsOperand stored.now.layout.now (operand_of operand.now) }
     requires room { length counts.old ≡ entries_in stored.now.layout.now }
-    ensures located { Located stored.now.side stored.now.layout.now receiving (operand_of operand.now)
-        stored.now.bytes.now result }
+    ensures located { Located stored.now.side stored.now.layout.now receiving
+        (operand_of operand.now) stored.now.bytes.now result }
     ensures fits { IfOk result
         (λ p. p.offset + p.length ≤ greatest_length stored.now.layout.now) }
     ensures filled { IfOk result (λ p. Occupies operand.now.kind.now p.length) }
@@ -89,8 +89,8 @@ fn place_by_counts(
     requires operand { IsOperand stored.now.layout.now (operand_of operand.now) }
     requires spared { SparesNone stored.now.layout.now operand.now.entry.now.node receiving }
     requires taken { StandsIn stored.now.layout.now stored.now.bytes.now places.now }
-    ensures located { Located stored.now.side stored.now.layout.now receiving (operand_of operand.now)
-        stored.now.bytes.now result }
+    ensures located { Located stored.now.side stored.now.layout.now receiving
+        (operand_of operand.now) stored.now.bytes.now result }
     ensures fits { IfOk result
         (λ p. p.offset + p.length ≤ greatest_length stored.now.layout.now) }
     ensures filled { IfOk result (λ p. Occupies operand.now.kind.now p.length) }
@@ -119,8 +119,8 @@ fn place_by_all(
     requires operand { IsOperand stored.now.layout.now (operand_of operand.now) }
     requires spared { SparesNone stored.now.layout.now operand.now.entry.now.node receiving }
     requires survey { IsSurvey stored.now.layout.now stored.now.bytes.now survey.old }
-    ensures located { Located stored.now.side stored.now.layout.now receiving (operand_of operand.now)
-        stored.now.bytes.now result }
+    ensures located { Located stored.now.side stored.now.layout.now receiving
+        (operand_of operand.now) stored.now.bytes.now result }
     ensures fits { IfOk result
         (λ p. p.offset + p.length ≤ greatest_length stored.now.layout.now) }
     ensures filled { IfOk result (λ p. Occupies operand.now.kind.now p.length) }

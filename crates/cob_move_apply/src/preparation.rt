@@ -1,36 +1,25 @@
-//! Moves made ready: the places that are the same in every storage, found once, and what each other one rests on.
+//! What the places of operands rest on, found before a record comes.
 
-ghost use Rattle.std.specs.Prelude.{◌≡◌, ◌++◌, List, map, true, false, IfOk, OnOk};
+ghost use Rattle.std.specs.Prelude.{◌≡◌, ◌++◌, ◌∷◌, List, map, true, false, OnOk};
 ghost use Rattle.std.specs.List.{AllByRecursion};
 ghost use Rattle.cob_layout_places.specs.Moves.{
-  AreMoves,
-  IsMove,
   IsOperand,
   IsSender,
-  Records,
-  move,
-  moves,
-  numbered_move,
   operand_in,
   sender,
-  statement_moves,
 };
 ghost use Rattle.cob_move_apply.specs.Placed.{
-  ArePlacedMoves,
   ArePlacedReceivers,
   IsBasis,
   IsPlacedMove,
   IsPlacedSender,
-  operands,
 };
 ghost use Rattle.cob_move_apply.specs.declared.basis.Basis as code_basis;
 
 use crate::basis::Basis;
-use crate::pairs::entry_below;
 use cob_layout::{Layout, Ref};
-use cob_layout_places::{Move, NumberedPair, PairMoves, Sender, Side, StatementMoves};
-use std::alloc::{AllocError, Global};
-use std::slice;
+use cob_layout_places::{Sender, Side};
+use std::alloc::AllocError;
 
 /// What an operand's place rests on.
 fn basis_of(layout: &Layout, entry: &Ref, receiving: bool) -> Basis
@@ -86,147 +75,31 @@ fn push_receivers(
     Ok(())
 }
 
-/// Puts what the places of a move's operands rest on behind the bases so far: the sender's, and then its receivers'.
+/// Puts what the places of a sender and of receivers rest on behind the bases so far.
 ///
 /// # Errors
 ///
 /// Where no memory is left.
-fn push_move(
-    one: &Move,
+pub(crate) fn push_bases(
+    given: &Sender,
+    receivers: &[Ref],
     input: &Layout,
     output: &Layout,
     bases: &mut Vec<Basis>,
 ) -> Result<(), AllocError>
-    requires one { IsMove (record { input = input.now; output = output.now })
-        (move (record { input = input.now; output = output.now }) one.now) }
+    requires given { IsSender (record { input = input.now; output = output.now })
+        (sender (record { input = input.now; output = output.now }) given.now) }
+    requires receivers { AllByRecursion (IsOperand output.now)
+        (map (operand_in output.now) receivers.now) }
     ensures placed { OnOk result ((own : List code_basis.Basis)
         × (bases.new.items ≡ bases.old.items ++ own)
         × IsPlacedMove (record { input = input.now; output = output.now })
-        (move (record { input = input.now; output = output.now }) one.now) own) }
+        (record {
+          sender = sender (record { input = input.now; output = output.now }) given.now;
+          receivers = map (operand_in output.now) receivers.now;
+        }) own) }
 {
-    let basis = sender_basis(&one.sender, input, output);
+    let basis = sender_basis(given, input, output);
     bases.push(basis)?;
-    push_receivers(one.receivers.as_slice(), output, bases)
-}
-
-/// Puts what the places of a pair's two entries rest on behind the bases so far.
-///
-/// # Errors
-///
-/// Where no memory is left.
-fn push_pair(
-    group: &PairMoves,
-    pair: &NumberedPair,
-    input: &Layout,
-    output: &Layout,
-    bases: &mut Vec<Basis>,
-) -> Result<(), AllocError>
-    requires one { IsMove (record { input = input.now; output = output.now })
-        (numbered_move (record { input = input.now; output = output.now }) group.now pair.now) }
-    ensures placed { OnOk result ((own : List code_basis.Basis)
-        × (bases.new.items ≡ bases.old.items ++ own)
-        × IsPlacedMove (record { input = input.now; output = output.now })
-        (numbered_move (record { input = input.now; output = output.now }) group.now pair.now) own) }
-{
-    let from = entry_below(&group.from, pair.from);
-    let to = entry_below(&group.to, pair.to);
-    let sending = match group.side {
-        Side::In => basis_of(input, &from, false),
-        Side::Out => basis_of(output, &from, false),
-    };
-    bases.push(sending)?;
-    push_receivers(slice::from_ref(&to), output, bases)
-}
-
-/// Puts what the places of the entries of pairs rest on behind the bases so far, one pair's behind another's.
-///
-/// # Errors
-///
-/// Where no memory is left.
-fn push_pairs(
-    group: &PairMoves,
-    input: &Layout,
-    output: &Layout,
-    bases: &mut Vec<Basis>,
-) -> Result<(), AllocError>
-    requires pairs { AreMoves (record { input = input.now; output = output.now })
-        (map (numbered_move (record { input = input.now; output = output.now }) group.now)
-        group.now.pairs.items) }
-    ensures placed { OnOk result ((own : List code_basis.Basis)
-        × (bases.new.items ≡ bases.old.items ++ own)
-        × ArePlacedMoves (record { input = input.now; output = output.now })
-        (map (numbered_move (record { input = input.now; output = output.now }) group.now)
-        group.now.pairs.items) own) }
-{
-    for pair in group.pairs.iter() {
-        push_pair(group, pair, input, output, bases)?;
-    }
-    Ok(())
-}
-
-/// Puts what the places of the operands of a statement's moves rest on behind the bases so far, one move's behind another's.
-///
-/// # Errors
-///
-/// Where no memory is left.
-fn push_statement(
-    one: &StatementMoves,
-    input: &Layout,
-    output: &Layout,
-    bases: &mut Vec<Basis>,
-) -> Result<(), AllocError>
-    requires moves { AreMoves (record { input = input.now; output = output.now })
-        (statement_moves (record { input = input.now; output = output.now }) one.now) }
-    ensures placed { OnOk result ((own : List code_basis.Basis)
-        × (bases.new.items ≡ bases.old.items ++ own)
-        × ArePlacedMoves (record { input = input.now; output = output.now })
-        (statement_moves (record { input = input.now; output = output.now }) one.now) own) }
-{
-    match one {
-        StatementMoves::Single(single) => push_move(single, input, output, bases),
-        StatementMoves::Pairs(group) => push_pairs(group, input, output, bases),
-    }
-}
-
-/// How many operands the moves of a statement have, senders and receivers.
-pub(crate) fn operands_in(one: &StatementMoves) -> usize
-    ensures { (r : Records) → result ≡ operands (statement_moves r one.now) }
-{
-    match one {
-        StatementMoves::Single(single) => single.receivers.len() + 1,
-        StatementMoves::Pairs(group) => group.pairs.len() * 2,
-    }
-}
-
-/// How many operands the moves of statements have, or the greatest usize where there are more.
-fn operands_in_all(given: &[StatementMoves]) -> usize {
-    let mut count: usize = 0;
-    for one in given {
-        count = count.saturating_add(operands_in(one));
-    }
-    count
-}
-
-/// What the places of the operands of moves rest on, one move's behind another's.
-///
-/// # Errors
-///
-/// Where no memory is left.
-pub(crate) fn bases_of(
-    alloc: Global,
-    given: &[StatementMoves],
-    input: &Layout,
-    output: &Layout,
-) -> Result<Vec<Basis>, AllocError>
-    requires given { AreMoves (record { input = input.now; output = output.now })
-        (moves (record { input = input.now; output = output.now }) given.now) }
-    ensures placed { IfOk result
-        (λ bases. ArePlacedMoves (record { input = input.now; output = output.now })
-        (moves (record { input = input.now; output = output.now }) given.now) bases.items) }
-{
-    let mut bases = Vec::with_capacity(alloc, operands_in_all(given))?;
-    for one in given {
-        push_statement(one, input, output, &mut bases)?;
-    }
-    Ok(bases)
+    push_receivers(receivers, output, bases)
 }

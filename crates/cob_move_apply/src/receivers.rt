@@ -3,7 +3,7 @@
 ghost use Rattle.std.specs.Prelude.{◌≡◌, length, OnErr, true};
 ghost use Rattle.cob_layout.specs.Sound.{IsSound};
 ghost use Rattle.cob_layout.specs.Storage.{greatest_length};
-ghost use Rattle.cob_move_receive.specs.Sent.{sent, IsComplete};
+ghost use Rattle.cob_move_receive.specs.Sent.{sent, HasAllBytes};
 ghost use Rattle.cob_move_apply.specs.Applied.{AllGet, Gets, ending, kept};
 ghost use Rattle.cob_move_apply.specs.Placed.{ArePlacedReceivers, IsPlaced, content_of};
 ghost use Rattle.cob_move_apply.specs.Seen.{operand_of, receivers_in};
@@ -38,7 +38,7 @@ fn receive_one(
     survey: &mut Survey,
 ) -> Result<(), Stop>
     requires sound { IsSound layout.now }
-    requires given { IsComplete (sent given.now.sent) }
+    requires given { HasAllBytes (sent given.now.sent) }
     requires receiver { IsPlaced layout.now true (operand_of receiver.now) receiver.now.basis }
     requires output { length output.old ≡ greatest_length layout.now }
     requires survey { IsSurvey layout.now output.old survey.old }
@@ -80,13 +80,13 @@ pub(crate) fn receive_all(
     survey: &mut Survey,
 ) -> Result<(), Stop>
     requires sound { IsSound layout.now }
-    requires given { IsComplete (sent given.now.sent) }
+    requires given { HasAllBytes (sent given.now.sent) }
     requires receivers { ArePlacedReceivers layout.now
         (receivers_in layout.now receivers.now) receivers.now.bases.now }
     requires output { length output.old ≡ greatest_length layout.now }
     requires survey { IsSurvey layout.now output.old survey.old }
-    ensures get { AllGet layout.now (content_of given.now) (receivers_in layout.now receivers.now) output.old
-        (ending result output.new) }
+    ensures get { AllGet layout.now (content_of given.now)
+        (receivers_in layout.now receivers.now) output.old (ending result output.new) }
     ensures survey { IsSurvey layout.now output.new survey.new }
 {
     for (index, entry) in receivers.entries.iter().enumerate() {

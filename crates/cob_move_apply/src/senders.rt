@@ -4,10 +4,10 @@ ghost use Rattle.std.specs.Prelude.{◌≡◌, ◌+◌, ◌≤◌, ℕ, List, le
 ghost use Rattle.cob_layout.specs.Fields.{field_of};
 ghost use Rattle.cob_layout.specs.Sound.{IsSound};
 ghost use Rattle.cob_layout.specs.Storage.{greatest_length, IsStorage};
-ghost use Rattle.cob_layout_places.specs.Moves.{Entry, move, move_by};
+ghost use Rattle.cob_layout_places.specs.Moves.{Entry, sender_by};
 ghost use Rattle.cob_layout_places.specs.declared.operands.Side.TheVariants.{In, Out};
 ghost use Rattle.cob_move_apply.specs.Applied.{IsMoved, ending};
-ghost use Rattle.cob_move_apply.specs.Placed.{ArePlacedReceivers, IsPlaced, IsPlacedMove, IsPlacedSender};
+ghost use Rattle.cob_move_apply.specs.Placed.{ArePlacedReceivers, IsPlaced, IsPlacedSender};
 ghost use Rattle.cob_move_apply.specs.Seen.{entry_sent, operand_of, receivers_in};
 ghost use Rattle.cob_move_apply.specs.Surveyed.{IsWorkspace, records};
 
@@ -17,7 +17,7 @@ use crate::receivers::{Given, receive_all};
 use crate::stop::Stop;
 use crate::workspace::{Layouts, Workspace};
 use cob_layout::{Place, field, places_lie_in_storage};
-use cob_layout_places::{Move, Sender, Side};
+use cob_layout_places::{Sender, Side};
 use cob_move_receive::Sent;
 
 /// Copies the bytes of a place to the front of `content`.
@@ -168,14 +168,15 @@ pub(crate) fn move_entry(
     }
 }
 
-/// Carries out one move. The bases are those of its sender and of its receivers.
+/// Carries out the move of a sender to receivers. The basis is that of the sender.
 ///
 /// # Errors
 ///
 /// The first thing missing. The storage is as the receivers before left it then.
 pub(crate) fn make_move(
-    one: &Move,
-    bases: &[Basis],
+    given: &Sender,
+    basis: Basis,
+    receivers: &PlacedReceivers<'_>,
     layouts: &Layouts<'_>,
     input: &[u8],
     output: &mut [u8],
@@ -183,28 +184,29 @@ pub(crate) fn make_move(
 ) -> Result<(), Stop>
     requires in_sound { IsSound layouts.now.input.now }
     requires out_sound { IsSound layouts.now.output.now }
-    requires placed { IsPlacedMove (records layouts.now) (move (records layouts.now) one.now)
-        bases.now }
+    requires sender { IsPlacedSender (records layouts.now)
+        (sender_by layouts.now.reading (records layouts.now) given.now) basis }
+    requires receivers { ArePlacedReceivers layouts.now.output.now
+        (receivers_in layouts.now.output.now receivers.now) receivers.now.bases.now }
     requires input { IsStorage layouts.now.input.now input.now }
     requires output { length output.old ≡ greatest_length layouts.now.output.now }
     requires space { IsWorkspace (records layouts.now) input.now output.old space.old }
     ensures moved { IsMoved (records layouts.now)
-        (move_by layouts.now.reading (records layouts.now) one.now) input.now output.old
-        (ending result output.new) }
+        (record {
+          sender = sender_by layouts.now.reading (records layouts.now) given.now;
+          receivers = receivers_in layouts.now.output.now receivers.now;
+        })
+        input.now output.old (ending result output.new) }
     ensures space { IsWorkspace (records layouts.now) input.now output.new space.new }
 {
-    let receivers = PlacedReceivers {
-        entries: one.receivers.as_slice(),
-        bases: &bases[1..],
-    };
-    match &one.sender {
+    match given {
         Sender::Entry { side, entry } => {
             let sent = SentEntry {
                 side: *side,
                 entry,
-                basis: bases[0],
+                basis,
             };
-            move_entry(&sent, &receivers, layouts, input, output, space)
+            move_entry(&sent, receivers, layouts, input, output, space)
         }
         Sender::Constant(value) => {
             let given = Given {
@@ -212,13 +214,7 @@ pub(crate) fn make_move(
                 side: Side::Out,
                 offset: 0,
             };
-            receive_all(
-                layouts.output,
-                &given,
-                &receivers,
-                output,
-                &mut space.output,
-            )
+            receive_all(layouts.output, &given, receivers, output, &mut space.output)
         }
     }
 }

@@ -6,6 +6,7 @@ ghost use Rattle.cob_copybook_tree.specs.Nodes.{Resolved};
 ghost use Rattle.cob_layout.specs.Fields.{with_field};
 ghost use Rattle.cob_layout.specs.Standing.{StandsIn};
 ghost use Rattle.cob_move_apply.specs.Surveyed.{HasRoom, IsSurvey};
+ghost use Rattle.cob_move_apply.specs.declared.survey.Known.TheVariants.{Places as AllPlaces};
 
 use cob_layout::{Counts, Layout, Place, Places};
 use std::alloc::{AllocError, Global};
@@ -79,16 +80,32 @@ impl Survey {
         }
     }
 
-    /// Keeps of the storage what is known of it whatever the bytes of this place are. These have changed.
+    /// Keeps of the storage what is known of it whatever the bytes of this place are. These have changed. It is inlined, so that it costs no call
+    /// where nothing is known.
+    #[inline(always)]
     pub(crate) fn change(&mut self, layout: &Layout, place: Place)
         requires room { HasRoom layout.now self.old }
         ensures { (before field : List ℕ) → place.offset + place.length ≤ length before
             → length field ≡ place.length → IsSurvey layout.now before self.old
             → IsSurvey layout.now (with_field before place field) self.new }
     {
-        self.known = match self.known {
-            Known::Places if layout.keeps_counts(place, &self.places) => Known::Places,
-            _ => Known::Nothing,
-        };
+        match self.known {
+            Known::Nothing => {}
+            Known::Places => self.change_places(layout, place),
+            Known::Fault => self.known = Known::Nothing,
+        }
+    }
+
+    /// Keeps the places where those of the counts' items don't meet this place, whose bytes have changed.
+    fn change_places(&mut self, layout: &Layout, place: Place)
+        requires known { self.old.known ≡ AllPlaces }
+        requires room { HasRoom layout.now self.old }
+        ensures { (before field : List ℕ) → place.offset + place.length ≤ length before
+            → length field ≡ place.length → IsSurvey layout.now before self.old
+            → IsSurvey layout.now (with_field before place field) self.new }
+    {
+        if !layout.keeps_counts(place, &self.places) {
+            self.known = Known::Nothing;
+        }
     }
 }

@@ -87,6 +87,7 @@ pub fn initial(layout: &Layout, book: &Book, bytes: &mut [u8])
     // Each entry that stands in no redefinition and beneath no group with a VALUE has places, and the bytes there hold what the entry does.
     ensures places { HoldAtPlaces book.now bytes.new }
 {
+    // For both clauses: a record description is sound.
     records_are_sound();
     let record = &mut bytes[..usize::from(layout.greatest())];
     write_elements(book.root(), record);

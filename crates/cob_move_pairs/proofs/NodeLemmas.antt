@@ -5,10 +5,16 @@ use Rattle.cob_copybook_tree.specs.declared.node.Node.{Node}
 use Rattle.cob_copybook_tree.specs.declared.node.Node.TheViews.{out-Node}
 use Rattle.cob_copybook_tree.specs.declared.node.Node.TheFolds.{fold_out-Node}
 use Rattle.cob_copybook_tree.specs.Forests.{AnEntry, Tree}
-use Rattle.cob_copybook_tree.specs.Nodes.{Resolved, forest, node, node_step, resolved_entry}
+use Rattle.cob_copybook_tree.specs.Nodes.{Resolved, forest, node, node_step, resolved_entry, tree_of}
+use Rattle.cob_move_pairs.specs.Pairing.{is_elementary_entry}
+use Rattle.cob_move_pairs.specs.Pairs.{is_elementary}
 
 pub node_out : (n : Node) → node n ≡ record { top = resolved_entry (out-Node n); beneath = forest (out-Node n).children.items }
 node_out n = fold_out-Node (Tree Resolved) node_step n
+
+-- whether the entry of a node is elementary
+pub elementary_node : (n : Node) → is_elementary_entry (tree_of n) ≡ is_elementary (out-Node n).kind
+elementary_node n = ap (λ (t : Tree Resolved). is_elementary t.top.kind) (node_out n)
 
 -- the entries of the nodes from a place on
 pub forest_at : (ns : List Node) (i : ℕ) (n : Node) → i < length ns → n ≡ get_or ns i n

@@ -1,10 +1,10 @@
 -- Entries and pairs without where they lie in memory.
-use Rattle.std.specs.Prelude.{List, map}
+use Rattle.std.specs.Prelude.{List, ◌++◌, map}
 use Rattle.cob_copybook_names.specs.Listed.{texts}
 use Rattle.cob_copybook_tree.specs.declared.node.Node.TheViews.{out-Node}
 use Rattle.cob_move_pairs.specs.declared.subordinate.Subordinate.{Subordinate as Listed}
 use Rattle.cob_move_pairs.specs.declared.pair.Pair.{Pair as Paired}
-use Rattle.cob_move_pairs.specs.Pairs.{Subordinate, Pair}
+use Rattle.cob_move_pairs.specs.Pairs.{Subordinate, Pair, pairs_from}
 
 -- an entry below a group
 abbrev pub subordinate : Listed → Subordinate
@@ -21,3 +21,7 @@ pair p = record { from = subordinate p.from.now; to = subordinate p.to.now }
 -- pairs in their order
 abbrev pub pairs : List Paired → List Pair
 pairs ps = map pair ps
+
+-- these pairs, and behind them those in which an entry sends to one of these
+abbrev pub with_pairs_from : List Listed → Listed → List Paired → List Pair
+with_pairs_from partners from ps = pairs ps ++ pairs_from (subordinates_listed partners) (subordinate from)

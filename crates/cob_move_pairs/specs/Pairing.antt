@@ -4,7 +4,7 @@ use Rattle.cob_copybook_tree.specs.Forests.{Forest, NoEntries, AnEntry}
 use Rattle.cob_copybook_tree.specs.Nodes.{Resolved}
 use Rattle.cob_move_statements.specs.declared.fault.MoveRule.{MoveRule}
 use Rattle.cob_move_statements.specs.declared.fault.MoveRule.TheVariants as rule
-use Rattle.cob_move_pairs.specs.Pairs.{AreOnce, Pair, Subordinate, corresponding_pairs, is_elementary}
+use Rattle.cob_move_pairs.specs.Pairs.{AreOnce, Pair, Subordinate, corresponding_pairs, is_elementary, receives, sends}
 
 -- two entries as a pair
 abbrev pub paired : Subordinate → Subordinate → Pair
@@ -19,6 +19,10 @@ abbrev pub IsTwice : MoveRule → List Pair → Type 0
 IsTwice rule.Twice ps = AreOnce ps → ⊥
 IsTwice rule.Memory ps = Unit {0}
 IsTwice r ps = ⊥
+
+-- neither entry of the pair is in one of these pairs on its side
+abbrev pub IsUnpaired : Pair → List Pair → Type 0
+IsUnpaired p ps = (sends p.from.number ps ≡ 0) × (receives p.to.number ps ≡ 0)
 
 -- an entry with those beneath it is no group
 abbrev pub is_elementary_entry : Forest Resolved → Bool

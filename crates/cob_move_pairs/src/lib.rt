@@ -42,4 +42,4 @@ pub use groups::entries_below;
 pub use laws::subordinates_are_operands;
 pub use pair::EntryPair;
 pub use pairing::pairs;
-pub use subordinate::is_elementary;
+pub use subordinate::is_no_group;

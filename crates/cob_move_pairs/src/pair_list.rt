@@ -1,10 +1,10 @@
 //! Pairs, no entry in two of them.
 
 ghost use Rattle.std.specs.Prelude.{◌≡◌, ℕ, nat_lt, true, false, List, [], ◌∷◌, ◌++◌, IfErr, OnOk};
-ghost use Rattle.cob_move_pairs.specs.Listed.{pair, pairs, subordinate, subordinates_listed};
+ghost use Rattle.cob_move_pairs.specs.Listed.{pair, pairs, with_pairs_from};
 ghost use Rattle.cob_move_pairs.specs.Numbers.{has};
-ghost use Rattle.cob_move_pairs.specs.Pairing.{IsTwice};
-ghost use Rattle.cob_move_pairs.specs.Pairs.{AreOnce, pairs_from, receives, sends};
+ghost use Rattle.cob_move_pairs.specs.Pairing.{IsTwice, IsUnpaired};
+ghost use Rattle.cob_move_pairs.specs.Pairs.{AreOnce, receives, sends};
 
 use crate::number_set::NumberSet;
 use crate::pair::Pair;
@@ -41,8 +41,7 @@ impl<'b, 'a> PairList<'b, 'a> {
     /// Whether an entry of a pair is in one of these.
     fn is_paired(&self, one: &Pair<'_, '_>) -> bool
         ensures yes { result ≡ true → AreOnce (pairs self.now.list.items ++ pair one.now ∷ []) → ⊥ }
-        ensures no { result ≡ false → (sends (pair one.now).from.number (pairs self.now.list.items) ≡ 0)
-            × (receives (pair one.now).to.number (pairs self.now.list.items) ≡ 0) }
+        ensures no { result ≡ false → IsUnpaired (pair one.now) (pairs self.now.list.items) }
     {
         self.senders.contains(one.from.entry.number) || self.receivers.contains(one.to.entry.number)
     }
@@ -80,10 +79,10 @@ impl<'b, 'a> PairList<'b, 'a> {
         from: &'b Subordinate<'a>,
         partners: &'b Partners<'a>,
     ) -> Result<(), MoveRule>
-        ensures added { OnOk result (pairs self.new.list.items ≡ pairs self.old.list.items
-            ++ pairs_from (subordinates_listed partners.now.entries.items) (subordinate from.now)) }
-        ensures fault { IfErr result (λ r. IsTwice r (pairs self.old.list.items
-            ++ pairs_from (subordinates_listed partners.now.entries.items) (subordinate from.now))) }
+        ensures added { OnOk result (pairs self.new.list.items
+            ≡ with_pairs_from partners.now.entries.items from.now self.old.list.items) }
+        ensures fault { IfErr result (λ r. IsTwice r
+            (with_pairs_from partners.now.entries.items from.now self.old.list.items)) }
     {
         match partners.partner_of(from)? {
             Some(to) => self.add(Pair { from, to }),

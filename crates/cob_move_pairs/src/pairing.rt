@@ -16,7 +16,6 @@ ghost use Rattle.cob_move_pairs.specs.Pairing.{
   IsPairing,
   IsPairingFault,
   IsTwice,
-  is_elementary_entry,
   pair_numbers,
   those_beneath,
 };
@@ -29,7 +28,7 @@ ghost use Rattle.cob_move_pairs.specs.Pairs.{
 use crate::pair::{EntryPair, Pair};
 use crate::pair_list::PairList;
 use crate::partners::Partners;
-use crate::subordinate::{Subordinate, is_elementary, list_entries};
+use crate::subordinate::{Subordinate, is_no_group, list_entries};
 use cob_layout_places::Node;
 use cob_move_statements::{MoveFault, MoveRule};
 use std::alloc::{AllocError, Global};
@@ -132,20 +131,12 @@ fn below<'a>(alloc: Global, group: &'a Node) -> Result<Vec<Subordinate<'a>>, All
     subordinates(alloc, group.children.as_slice())
 }
 
-/// Whether one of two entries is no group.
-fn is_no_group(from: &Node, to: &Node) -> bool
-    ensures { result
-        ≡ (is_elementary_entry (tree_of from.now) || is_elementary_entry (tree_of to.now)) }
-{
-    is_elementary(&from.kind) || is_elementary(&to.kind)
-}
-
 /// The numbers of the pairs of two groups.
 fn paired(alloc: Global, from: &Node, to: &Node) -> Result<Vec<(usize, usize)>, MoveRule>
     ensures found { IfOk result (λ v. IsPairing (tree_of from.now) (tree_of to.now) v.items) }
     ensures fault { IfErr result (λ r. IsPairingFault r (tree_of from.now) (tree_of to.now)) }
 {
-    if is_no_group(from, to) {
+    if is_no_group(&from.kind, &to.kind) {
         return Err(MoveRule::Groups);
     }
     let senders = below(alloc, from)?;

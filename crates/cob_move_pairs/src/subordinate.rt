@@ -1,6 +1,6 @@
 //! The entries below a group that may be in a pair, and which of them correspond.
 
-ghost use Rattle.std.specs.Prelude.{◌≡◌, List, [], ◌∷◌, ◌++◌, map, IfOk, OnOk, bytes_eq};
+ghost use Rattle.std.specs.Prelude.{◌≡◌, ◌||◌, List, [], ◌∷◌, ◌++◌, map, IfOk, OnOk, bytes_eq};
 ghost use Rattle.cob_copybook_names.specs.Naming.{with_name};
 ghost use Rattle.cob_copybook_names.specs.Listed.{texts};
 ghost use Rattle.cob_copybook_tree.specs.declared.node.Node.TheViews.{out-Node};
@@ -113,17 +113,24 @@ fn same_names(a: &[&[u8]], b: &[&[u8]]) -> bool
 }
 
 /// Whether an entry is elementary.
-pub fn is_elementary(kind: &Kind) -> bool
+fn is_elementary(kind: &Kind) -> bool
     ensures { result ≡ is_elementary kind.now }
 {
     matches!(kind, Kind::Item(_))
+}
+
+/// Whether one of two entries is no group.
+pub fn is_no_group(from: &Kind, to: &Kind) -> bool
+    ensures { result ≡ (is_elementary from.now || is_elementary to.now) }
+{
+    is_elementary(from) || is_elementary(to)
 }
 
 /// Whether a move between two entries may be one of a pair.
 fn may_correspond(from: &Kind, to: &Kind) -> bool
     ensures { result ≡ may_correspond from.now to.now }
 {
-    (is_elementary(from) || is_elementary(to)) && may_move(&SenderKind::Entry(from), to)
+    is_no_group(from, to) && may_move(&SenderKind::Entry(from), to)
 }
 
 /// Whether two entries correspond.

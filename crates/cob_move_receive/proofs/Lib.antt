@@ -3,3 +3,4 @@ pub mod PaddingLemmas
 pub mod ConstantLemmas
 pub mod NumberLemmas
 pub mod OneLemmas
+pub mod CopyingLemmas

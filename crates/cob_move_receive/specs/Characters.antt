@@ -7,6 +7,7 @@ use Rattle.cob_picture.specs.declared.category.Category.TheVariants.{Alphabetic,
 use Rattle.cob_picture.specs.declared.position.Position.{Position}
 use Rattle.cob_codec.specs.declared.reading.Reading.{Reading}
 use Rattle.cob_cp037.specs.Table.{IsCoded, HasCode}
+use Rattle.cob_cp037.specs.Named.{quote_byte, space_byte, zero_byte}
 use Rattle.cob_edit.specs.Characters.{HasCharacters}
 use Rattle.cob_entry.specs.declared.kinds.Figurative.{Figurative}
 use Rattle.cob_entry.specs.declared.kinds.Figurative.TheVariants.{Space, Zero, HighValue, LowValue, Quote}
@@ -21,7 +22,7 @@ use Rattle.cob_move_receive.specs.Sent.{Sent, Entry, Literal}
 
 -- the byte of a character: its own in code page 037, and a space for one that has none there, as no literal of a copybook has
 abbrev pub IsByteOf : ℕ → ℕ → Type 0
-IsByteOf character byte = IsCoded character byte ⊎ ((HasCode character → ⊥) × (byte ≡ 0x40))
+IsByteOf character byte = IsCoded character byte ⊎ ((HasCode character → ⊥) × (byte ≡ space_byte))
 
 -- the bytes of a text's characters, in order
 abbrev pub AreBytesOf : List ℕ → List ℕ → Type 0
@@ -31,7 +32,7 @@ AreBytesOf (c ∷ cs) (b ∷ bs) = IsByteOf c b × AreBytesOf cs bs
 
 -- n bytes of characters: left aligned, cut at the right, padded with spaces
 abbrev pub padded : ℕ → List ℕ → List ℕ
-padded n bytes = take n (bytes ++ replicate n 0x40)
+padded n bytes = take n (bytes ++ replicate n space_byte)
 
 -- bytes so many times, one behind another
 abbrev pub repeated : ℕ → List ℕ → List ℕ
@@ -40,19 +41,19 @@ repeated (suc n) bytes = bytes ++ repeated n bytes
 
 -- the byte of a figurative constant
 abbrev pub figurative_byte : Figurative → ℕ
-figurative_byte Space = 0x40
-figurative_byte Zero = 0xF0
+figurative_byte Space = space_byte
+figurative_byte Zero = zero_byte
 figurative_byte HighValue = 0xFF
 figurative_byte LowValue = 0x00
-figurative_byte Quote = 0x7F
+figurative_byte Quote = quote_byte
 
 -- the bytes of digits as characters
 abbrev pub numerals : List ℕ → List ℕ
-numerals ds = map (λ d. d + 0xF0) ds
+numerals ds = map (λ d. d + zero_byte) ds
 
 -- the digits of a number as characters, without its sign, with a zero for each P at the right
 abbrev pub numerals_to_point : List ℕ → ℤ → List ℕ
-numerals_to_point ds scale = numerals ds ++ replicate (zeros_of scale) 0xF0
+numerals_to_point ds scale = numerals ds ++ replicate (zeros_of scale) zero_byte
 
 -- the item's bytes, read so, represent a number, and these are its digits
 abbrev pub GivesDigits : Reading → Item → List ℕ → List ℕ → Type 0
@@ -123,7 +124,7 @@ placement (Literal c) (ItemKind r) = placement_in r
 
 -- n bytes of characters: right aligned, cut at the left, padded with spaces
 abbrev pub padded_left : ℕ → List ℕ → List ℕ
-padded_left n text = replicate (n - length text) 0x40 ++ drop (length text - n) text
+padded_left n text = replicate (n - length text) space_byte ++ drop (length text - n) text
 
 -- the n bytes of a receiver in which these characters stand so
 abbrev pub Arranged : Placement → ℕ → List ℕ → List ℕ → Type 0

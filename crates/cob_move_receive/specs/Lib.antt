@@ -4,3 +4,4 @@ pub mod Numbers
 pub mod Received
 pub mod Table
 pub mod Refusals
+pub mod Copying

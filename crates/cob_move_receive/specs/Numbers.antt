@@ -1,6 +1,7 @@
 -- The number that a sender gives, and what a receiver holds of it.
 use Rattle.std.specs.Prelude.{◌≡◌, ℕ, ◌-◌, ◌<◌, ◌≤◌, pos, Bool, true, false, ◌&&◌, nat_lt, nat_le, List, [], length, map, MatchBool}
 use Rattle.std.specs.List.{AllByRecursion}
+use Rattle.cob_cp037.specs.Named.{nine_byte, zero_byte}
 use Rattle.cob_limits.specs.Limits.{most_digits}
 use Rattle.cob_codec.specs.declared.reading.Reading.{Reading}
 use Rattle.cob_decimal.specs.Decimal.{IsDigits, number_of, aligned}
@@ -26,7 +27,7 @@ whole_number ds = record { negative = false; digits = ds; scale = pos 0 }
 
 -- the byte of a digit: F0 to F9
 abbrev pub is_numeral : ℕ → Bool
-is_numeral b = nat_le 0xF0 b && nat_le b 0xF9
+is_numeral b = nat_le zero_byte b && nat_le b nine_byte
 
 -- each byte is that of a digit
 abbrev pub AreNumerals : List ℕ → Type 0
@@ -34,7 +35,7 @@ AreNumerals bytes = AllByRecursion (λ b. is_numeral b ≡ true) bytes
 
 -- the digits of such bytes
 abbrev pub digits_of : List ℕ → List ℕ
-digits_of bytes = map (λ b. b - 0xF0) bytes
+digits_of bytes = map (λ b. b - zero_byte) bytes
 
 -- The characters of an alphanumeric item are read as an unsigned whole number: 1 to 31 of them, each a digit.
 pub record IsReadAs (bytes : List ℕ) (v : Amount) : Type 0 where

@@ -37,6 +37,6 @@ Occupies Group n = Unit {0}
 Occupies (ItemKind i) n = (n ≡ item_size i) × IsStorable i
 
 -- the bytes of an entry are as many as it has
-abbrev pub IsComplete : Sent → Type 0
-IsComplete (Entry kind bytes reading) = Occupies kind (length bytes)
-IsComplete (Literal c) = Unit {0}
+abbrev pub HasAllBytes : Sent → Type 0
+HasAllBytes (Entry kind bytes reading) = Occupies kind (length bytes)
+HasAllBytes (Literal c) = Unit {0}

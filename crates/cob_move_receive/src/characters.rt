@@ -6,11 +6,9 @@ ghost use Rattle.cob_copybook_tree.specs.Items.{IsStorable};
 ghost use Rattle.cob_move_receive.specs.Characters.{Arranged, padded, padded_left, placement_in};
 
 use cob_copybook_tree::Item;
+use cob_cp037::SPACE;
 use cob_edit::edit_text;
 use cob_picture::Category;
-
-/// A space, in code page 037.
-pub(crate) const SPACE: u8 = 0x40;
 
 /// Writes characters from the left, cut at the right, with spaces behind them.
 pub(crate) fn put_left(text: &[u8], bytes: &mut [u8])

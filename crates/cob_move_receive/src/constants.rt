@@ -17,10 +17,10 @@ ghost use Rattle.cob_move_receive.specs.Characters.{
   IsRepeated,
 };
 
-use crate::characters::{SPACE, put, put_left};
+use crate::characters::{put, put_left};
 use crate::numerals::numerals;
 use cob_copybook_tree::{Figurative, Item, Value};
-use cob_cp037::encode_char;
+use cob_cp037::{QUOTE, SPACE, ZERO, encode_char};
 use cob_limits::{MAX_EDITED_SIZE, MAX_LITERAL};
 use cob_picture::Category;
 
@@ -73,10 +73,10 @@ fn figurative_byte(figurative: Figurative) -> u8
 {
     match figurative {
         Figurative::Space => SPACE,
-        Figurative::Zero => 0xF0,
+        Figurative::Zero => ZERO,
         Figurative::HighValue => 0xFF,
         Figurative::LowValue => 0x00,
-        Figurative::Quote => 0x7F,
+        Figurative::Quote => QUOTE,
     }
 }
 

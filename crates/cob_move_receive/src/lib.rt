@@ -20,6 +20,7 @@
 
 mod characters;
 mod constants;
+mod copying;
 mod laws;
 mod numbers;
 mod numerals;
@@ -28,6 +29,7 @@ mod refusals;
 mod sent;
 mod table;
 
+pub use copying::{copies_bytes, is_of_characters};
 pub use laws::one_received;
 pub use receiving::{receive, receive_in_group, receive_in_item};
 pub use refusals::{Refusal, refusal_of};

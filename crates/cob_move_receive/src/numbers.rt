@@ -9,12 +9,13 @@ ghost use Rattle.cob_picture.specs.Counts.{size};
 ghost use Rattle.cob_picture.specs.Positions.{shows_number};
 ghost use Rattle.cob_copybook_tree.specs.Lengths.{item_size};
 ghost use Rattle.cob_copybook_tree.specs.Items.{IsStorable};
-ghost use Rattle.cob_move_receive.specs.Sent.{Amount, amount, sent, IsComplete};
+ghost use Rattle.cob_move_receive.specs.Sent.{Amount, amount, sent, HasAllBytes};
 ghost use Rattle.cob_move_receive.specs.Numbers.{whole_number, digits_of, is_numeral, AreNumerals, ConstantGives, FigureGives, GivesNumber, HoldsAmount, IsDigitText, IsReadAs, IsUnedited, ItemGives};
 
 use crate::sent::Sent;
 use cob_codec::Reading;
 use cob_copybook_tree::{Figurative, Item, Kind, Value, is_number, read_sent, store_number};
+use cob_cp037::{NINE, ZERO};
 use cob_decimal::{Digits, Number, are_digits};
 use cob_edit::{deedit, edit};
 use cob_limits::MAX_DIGITS;
@@ -31,7 +32,7 @@ fn whole_number(digits: Digits) -> Number
 fn is_numeral(byte: u8) -> bool
     ensures { result ≡ is_numeral byte }
 {
-    matches!(byte, 0xF0..=0xF9)
+    matches!(byte, ZERO..=NINE)
 }
 
 /// Whether each byte is that of a digit.
@@ -49,7 +50,7 @@ fn digits_of(bytes: &[u8]) -> Digits
 {
     let mut digits = Digits::new();
     for byte in bytes {
-        digits.push(*byte - 0xF0);
+        digits.push(*byte - ZERO);
     }
     digits
 }
@@ -146,7 +147,7 @@ fn constant_gives(value: &Value) -> Option<Number>
 
 /// The number that a sender gives. None exactly where it gives none.
 pub(crate) fn number_given(given: &Sent<'_>) -> Option<Number>
-    requires { IsComplete (sent given.now) }
+    requires { HasAllBytes (sent given.now) }
     ensures found { IfSome result (λ n. GivesNumber (sent given.now) (amount n)) }
     ensures only { (v : Amount)
         → GivesNumber (sent given.now) v → IsSomeAnd result (λ n. amount n ≡ v) }

@@ -2,19 +2,18 @@
 
 ghost use Rattle.std.specs.Prelude.{◌≡◌, ◌≤◌, ◌+◌, ◌*◌, ◌++◌, length, replicate};
 ghost use Rattle.cob_limits.specs.Limits.{most_digits};
+ghost use Rattle.cob_cp037.specs.Named.{zero_byte};
 ghost use Rattle.cob_decimal.specs.Decimal.{IsDigits};
 ghost use Rattle.cob_decimal.specs.Parts.{zeros_of};
 ghost use Rattle.cob_move_receive.specs.Characters.{numerals, numerals_to_point};
 
 use arrayvec::ArrayVec;
+use cob_cp037::ZERO;
 use cob_decimal::Number;
 use cob_limits::MAX_DIGITS;
 
 /// The most digits of a number, with the zeros up to the point.
 const MAX_NUMERALS: usize = 2 * MAX_DIGITS;
-
-/// The byte of the digit 0, in code page 037.
-const ZERO: u8 = 0xF0;
 
 /// Adds digits as characters.
 fn push_digits(text: &mut ArrayVec<u8, MAX_NUMERALS>, digits: &[u8])
@@ -30,7 +29,7 @@ fn push_digits(text: &mut ArrayVec<u8, MAX_NUMERALS>, digits: &[u8])
 /// Adds zeros.
 fn push_zeros(text: &mut ArrayVec<u8, MAX_NUMERALS>, zeros: usize)
     requires { length text.old.items + zeros ≤ 2 * most_digits }
-    ensures { text.new.items ≡ text.old.items ++ replicate zeros 0xF0 }
+    ensures { text.new.items ≡ text.old.items ++ replicate zeros zero_byte }
 {
     for i in 0..zeros {
         text.push(ZERO);

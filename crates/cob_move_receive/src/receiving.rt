@@ -6,7 +6,7 @@ ghost use Rattle.cob_picture.specs.Positions.{shows_number};
 ghost use Rattle.cob_copybook_tree.specs.Lengths.{item_size};
 ghost use Rattle.cob_copybook_tree.specs.declared.node.Kind.TheVariants.{Group, Item as ItemKind};
 ghost use Rattle.cob_copybook_tree.specs.Items.{IsStorable};
-ghost use Rattle.cob_move_receive.specs.Sent.{sent, Entry, Literal, Occupies, IsComplete};
+ghost use Rattle.cob_move_receive.specs.Sent.{sent, Entry, Literal, Occupies, HasAllBytes};
 ghost use Rattle.cob_move_receive.specs.Characters.{GivesConstant, GivesCharacters, IsRepeated, Arranged, placement_in};
 ghost use Rattle.cob_move_receive.specs.Received.{is_group, outcome, GetsNumber, GetsCharacters, ItemGets, Received};
 
@@ -55,7 +55,7 @@ fn receive_item(from: &Item, source: &[u8], reading: Reading, item: &Item, bytes
 
 /// Writes what an item gets of a group, and an item of characters of any sender. False where a number's bytes represent none.
 fn receive_text(given: &Sent<'_>, item: &Item, bytes: &mut [u8]) -> bool
-    requires given { IsComplete (sent given.now) }
+    requires given { HasAllBytes (sent given.now) }
     requires storable { IsStorable item.now }
     requires long { length bytes.old ≡ item_size item.now }
     ensures gets { GetsCharacters (sent given.now) (ItemKind item.now) (length bytes.old)
@@ -83,7 +83,7 @@ fn receive_text(given: &Sent<'_>, item: &Item, bytes: &mut [u8]) -> bool
 
 /// Writes what an item that shows a number gets. False where the sender's bytes represent none.
 fn receive_number(given: &Sent<'_>, item: &Item, bytes: &mut [u8]) -> bool
-    requires given { IsComplete (sent given.now) }
+    requires given { HasAllBytes (sent given.now) }
     requires storable { IsStorable item.now }
     requires shows { IsTrue (shows_number item.now.picture.category) }
     requires long { length bytes.old ≡ item_size item.now }
@@ -126,7 +126,7 @@ fn shows_number(item: &Item) -> bool
 ///
 /// False where the sender's bytes represent no value that the item asks for: its bytes are as they were then.
 pub fn receive_in_item(given: &Sent<'_>, item: &Item, bytes: &mut [u8]) -> bool
-    requires given { IsComplete (sent given.now) }
+    requires given { HasAllBytes (sent given.now) }
     requires storable { IsStorable item.now }
     requires long { length bytes.old ≡ item_size item.now }
     ensures gets { Received (sent given.now) (ItemKind item.now) (length bytes.old)
@@ -145,7 +145,7 @@ pub fn receive_in_item(given: &Sent<'_>, item: &Item, bytes: &mut [u8]) -> bool
 /// False where the sender's bytes represent no value that the receiver asks for: the receiver's bytes are as they were then. The move is
 /// one of those that `may_move` allows; of another one a number comes as none.
 pub fn receive(given: &Sent<'_>, receiver: &Kind, bytes: &mut [u8]) -> bool
-    requires given { IsComplete (sent given.now) }
+    requires given { HasAllBytes (sent given.now) }
     requires receiver { Occupies receiver.now (length bytes.old) }
     ensures gets { Received
         (sent given.now) receiver.now (length bytes.old) (outcome result bytes.new) }

@@ -60,6 +60,7 @@ impl<'a> Names<'a> {
     pub fn of(alloc: Global, input: &'a Layout, output: &'a Layout) -> Result<Names<'a>, AllocError>
         ensures { IfOk result (λ names. entries_named names ≡ all_entries input.now output.now) }
     {
+        // For what `list_tree` asks: a record description is sound.
         records_are_sound();
         let mut entries = Vec::new(alloc);
         list_tree(alloc, Side::In, &[], &[], input.root(), &mut entries)?;

@@ -6,7 +6,7 @@ use cob_limits::MAX_LITERAL;
 use cob_rows::RowFault;
 
 /// The figurative constant of this name.
-fn figurative(name: &str) -> Option<Figurative> {
+pub(crate) fn figurative(name: &str) -> Option<Figurative> {
     match name {
         "SPACE" => Some(Figurative::Space),
         "ZERO" => Some(Figurative::Zero),

@@ -1,195 +1,44 @@
-//! Answers tables of rows about single moves: what a receiver holds after a move, that there is no value, or the rule that refuses it.
+//! Answers tables of rows about records and moves between them: places and lengths under counts, the counts that places need, bytes in
+//! places, the storage before the first move, single moves, and whole paragraphs.
 //!
-//! A row `entry` has the sender's entries, parted by bars, its bytes in hexadecimal digits, and the receiver's entries. A row `whole` is the
-//! same, with a binary sender read whole. A row `constant` has a literal or a figurative constant, and the receiver's entries. An item and a group each stand as a record of their own.
+//! A program's arguments name its tables; each table belongs to one module, which says how its rows are read. Mostly the first field of a
+//! row is the question, and a record is written as the entries of its copybook, parted by bars, one a line. What must be printed stands in
+//! `stdout`, worked out by hand from the rules of COBOL.
 #![tactic(auto)]
 
-ghost use Rattle.std.specs.Prelude.{length, IsTrue};
-ghost use Rattle.cob_copybook_tree.specs.Items.{IsStorable};
-ghost use Rattle.cob_move_receive.specs.Sent.{sent, Occupies, IsComplete};
-
+mod asked;
+mod books;
 mod constants;
+mod counted;
+mod layouts;
+mod moves;
+mod paragraphs;
+mod places;
+mod refusal;
+mod storage;
+mod tables;
 
-use crate::constants::constant_of;
-use cob_codec::Reading;
-use cob_copybook::{Book, Role};
-use cob_copybook_tree::{Item, Kind, is_number, is_number_item};
-use cob_entry::{BookFault, BookRule};
-use cob_move_receive::{Refusal, SenderKind, Sent, receive, refusal_of};
-use cob_rows::{Family, Row, RowFault, print_rows, push_digits};
-use std::alloc::{AllocError, Global};
+use cob_rows::{Family, Row, RowFault, print_rows};
+use std::alloc::Global;
 use std::io;
 
-/// What stands in a receiver's bytes before the move.
-const UNWRITTEN: u8 = 0xAA;
-
-/// Why a row has no book.
-fn row_fault(fault: BookFault) -> RowFault {
-    match fault.rule {
-        BookRule::Memory => RowFault::Memory,
-        _ => RowFault::BadRow,
-    }
-}
-
-/// The book of a text.
-fn read(alloc: Global, text: &[u8]) -> Result<Book, RowFault> {
-    match Book::read(alloc, Role::Out, text) {
-        Ok(book) => Ok(book),
-        Err(fault) => Err(row_fault(fault)),
-    }
-}
-
-/// The book of a field.
-fn book_of(alloc: Global, row: &Row, place: usize) -> Result<Book, RowFault> {
-    let text = row.lines(alloc, place)?;
-    read(alloc, text.as_slice())
-}
-
-/// Whether bytes can hold what an item describes.
-fn is_storable(item: &Item) -> bool
-    ensures { IsTrue result → IsStorable item.now }
-{
-    if is_number(item) {
-        is_number_item(item)
-    } else {
-        item.size() == item.picture.size()
-    }
-}
-
-/// Whether so many bytes are those of an item, or of a group.
-fn has_bytes(kind: &Kind, length: usize) -> bool
-    ensures { IsTrue result → Occupies kind.now length }
-{
-    match kind {
-        Kind::Group => true,
-        Kind::Item(item) => length == usize::from(item.size()) && is_storable(item),
-    }
-}
-
-/// The rule that refuses a move.
-fn rule_name(refusal: Refusal) -> &'static str {
-    match refusal {
-        Refusal::NotAllowed => "M6",
-        Refusal::Literal => "M7",
-        Refusal::TooLong => "M10",
-    }
-}
-
-/// Writes that there is no value, and whether the receiver is changed all the same.
-fn push_no_value(out: &mut String, bytes: &[u8]) -> Result<(), AllocError> {
-    out.push_str("no value")?;
-    if bytes.iter().all(|byte| *byte == UNWRITTEN) {
-        Ok(())
-    } else {
-        out.push_str(", and the receiver is changed")
-    }
-}
-
-/// Writes what a receiver holds after the move of a sender, or that there is no value.
-fn push_received(
-    given: &Sent<'_>,
-    to: &Kind,
-    bytes: &mut [u8],
-    out: &mut String,
-) -> Result<(), AllocError>
-    requires given { IsComplete (sent given.now) }
-    requires receiver { Occupies to.now (length bytes.old) }
-{
-    if receive(given, to, bytes) {
-        push_digits(out, bytes)
-    } else {
-        push_no_value(out, bytes)
-    }
-}
-
-/// The rule that refuses the move of a sender to a receiver, if one does.
-fn refusal_name(from: &SenderKind<'_>, to: &Kind) -> Option<&'static str> {
-    match refusal_of(from, to) {
-        Some(refusal) => Some(rule_name(refusal)),
-        None => None,
-    }
-}
-
-/// Writes what comes of the move of a sender to a receiver.
-fn push_outcome(
-    alloc: Global,
-    from: &SenderKind<'_>,
-    given: &Sent<'_>,
-    to: &Kind,
-    size: usize,
-    out: &mut String,
-) -> Result<(), RowFault>
-    requires { IsComplete (sent given.now) }
-{
-    if let Some(name) = refusal_name(from, to) {
-        return Ok(out.push_str(name)?);
-    }
-    if !has_bytes(to, size) {
-        return Err(RowFault::BadRow);
-    }
-    let mut bytes = vec![in alloc; UNWRITTEN; size]?;
-    Ok(push_received(given, to, &mut bytes, out)?)
-}
-
-/// Writes what comes of a move to the receiver of a field.
-fn push_move(
-    alloc: Global,
-    from: &SenderKind<'_>,
-    given: &Sent<'_>,
-    row: &Row,
-    place: usize,
-    out: &mut String,
-) -> Result<(), RowFault>
-    requires { IsComplete (sent given.now) }
-{
-    let book = book_of(alloc, row, place)?;
-    let size = usize::from(book.greatest());
-    push_outcome(alloc, from, given, &book.root().kind, size, out)
-}
-
-/// Writes what comes of the move of an entry that is read so.
-fn move_entry(
-    alloc: Global,
-    reading: Reading,
-    row: &Row,
-    out: &mut String,
-) -> Result<(), RowFault> {
-    let book = book_of(alloc, row, 1)?;
-    let bytes = row.bytes(alloc, 2)?;
-    let kind = &book.root().kind;
-    if bytes.len() != usize::from(book.greatest()) || !has_bytes(kind, bytes.len()) {
-        return Err(RowFault::BadRow);
-    }
-    let given = Sent::Entry {
-        kind,
-        bytes: bytes.as_slice(),
-        reading,
-    };
-    push_move(alloc, &SenderKind::Entry(kind), &given, row, 3, out)
-}
-
-/// Writes what comes of the move of a constant.
-fn move_constant(alloc: Global, row: &Row, out: &mut String) -> Result<(), RowFault> {
-    let value = constant_of(row.field(1)?)?;
-    push_move(
-        alloc,
-        &SenderKind::Constant(&value),
-        &Sent::Constant(&value),
-        row,
-        2,
-        out,
-    )
-}
-
-/// The tables on moves.
+/// The tables on records and moves.
 struct MoveRows;
 
 impl Family for MoveRows {
-    fn answer(alloc: Global, _table: &str, row: &Row, out: &mut String) -> Result<(), RowFault> {
-        match row.field(0)? {
-            "entry" => move_entry(alloc, Reading::Pictured, row, out),
-            "whole" => move_entry(alloc, Reading::Whole, row, out),
-            "constant" => move_constant(alloc, row, out),
+    fn answer(alloc: Global, table: &str, row: &Row, out: &mut String) -> Result<(), RowFault> {
+        match table {
+            "fixed" | "varying" | "needed" | "records" => layouts::answer(alloc, row, out),
+            "tables" => tables::answer(alloc, row, out),
+            "fields" => places::answer(alloc, row, out),
+            "begun" => storage::begin(alloc, row, out),
+            "constants" => storage::constant(alloc, row, out),
+            "groups" | "characters" | "numbers" | "edited" | "figurative" | "literals" | "whole" =>
+                moves::answer(alloc, row, out),
+            "statements" | "references" | "allowed" | "corresponding" => {
+                paragraphs::answer(alloc, row, false, out)
+            }
+            "steps" => paragraphs::answer(alloc, row, true, out),
             _ => Err(RowFault::BadRow),
         }
     }

@@ -32,6 +32,10 @@ Splits answer own more = (lexemes answer.0.now ≡ own) × (lexemes answer.1.now
 abbrev pub AnswersBoth : Option (Reference × Reference × Bor (List Token)) → WrittenReference → WrittenReference → List Lexeme → Type 0
 AnswersBoth answer from to more = IsSomeAnd answer (λ r. (written_reference r.0 ≡ from) × (written_reference r.1 ≡ to) × (lexemes r.2.now ≡ more))
 
+-- memory aside, the reader of references answers what is seen as these, and leaves these words
+abbrev pub AnswersReferences : {A E : Type 0} → (A → List WrittenReference) → Result (A × Bor (List Token)) E → List WrittenReference → List Lexeme → Type 0
+AnswersReferences view answer xs more = IfOk answer (λ r. (view r.0 ≡ xs) × (lexemes r.1.now ≡ more))
+
 -- memory aside, a reader answers what is seen as this, and leaves these words
 abbrev pub OkAnswers : {A V E : Type 0} → (A → V) → Result (Option (A × Bor (List Token))) E → V → List Lexeme → Type 0
 OkAnswers view answer v more = IfOk answer (λ o. Answers view o v more)

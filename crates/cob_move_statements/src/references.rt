@@ -1,9 +1,10 @@
-ghost use Rattle.std.specs.Prelude.{◌≡◌, List, ℕ, ◌∷◌, ◌++◌, IfOk, IfSome, IsSomeAnd};
+ghost use Rattle.std.specs.Prelude.{◌≡◌, List, ℕ, ◌∷◌, IfOk, IfSome, IsSomeAnd};
 ghost use Rattle.cob_source.specs.Tokens.{Lexeme, lexemes};
 ghost use Rattle.cob_copybook_clauses.specs.Clauses.{IsNameWord};
-ghost use Rattle.cob_copybook_clauses.specs.Reading.{Answers, AnswersText, EachCutNeither, StandInFront};
+ghost use Rattle.cob_copybook_clauses.specs.Reading.{Answers, AnswersText, EachCut, EachCutNeither, StandInFront};
 ghost use Rattle.cob_copybook_clauses.specs.declared.term.WordClass.TheVariants as term;
 ghost use Rattle.cob_move_statements.specs.Written.{WrittenReference, written_reference, written_references};
+ghost use Rattle.cob_move_statements.specs.Reading.{AnswersReferences};
 ghost use Rattle.cob_move_statements.specs.Statements.{EndsReferences, IsReference, Several};
 
 use crate::parts::Reference;
@@ -57,9 +58,8 @@ pub fn references_at<'a>(
 ) -> Result<(Vec<Reference<'a>>, &'a [Token]), AllocError>
     ensures found { IfOk result (λ r. StandInFront
         (Several IsReference (written_references r.0.items)) (lexemes words.now) (lexemes r.1.now)) }
-    ensures only { (xs : List WrittenReference) (ws more : List Lexeme)
-        → Several IsReference xs ws → EndsReferences more → lexemes words.now ≡ ws ++ more
-        → IfOk result (λ r. (written_references r.0.items ≡ xs) × (lexemes r.1.now ≡ more)) }
+    ensures only { (xs : List WrittenReference) → EachCut (Several IsReference xs) EndsReferences
+        (lexemes words.now) (AnswersReferences (λ rs. written_references rs.items) result xs) }
 {
     let mut references = Vec::with_capacity(alloc, 1)?;
     let mut rest = words;

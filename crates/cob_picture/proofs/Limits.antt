@@ -16,7 +16,7 @@ use Rattle.cob_picture.specs.declared.category.Category.TheVariants.{Alphabetic,
 use Rattle.cob_picture.specs.Positions.{is, symbol_count, written_out, shows_number, is_edited, settled_role, floating, is_that, role_at, position_at, positions_from, positions}
 use Rattle.cob_picture.specs.Runs.{ArePositive}
 use Rattle.cob_picture.specs.Counts.{is_digit_place, width, size, digits, is_scaling, decimal_places, is_decimal_point, point_leads, before_point, after_point, left_of_point, right_of_point, is_sign_symbol, signed}
-use Rattle.cob_picture.specs.Measures.{AreCountsOver, run_leads, symbols_size}
+use Rattle.cob_picture.specs.Measures.{AreCountsOver, symbols_size}
 use Rattle.cob_picture.specs.Categories.{IsOf}
 use Rattle.cob_picture.specs.Pictures.{IsPicture}
 use Rattle.cob_picture.specs.Laws.{TakesBytes}
@@ -254,14 +254,14 @@ before_le (p ∷ ps) = at (is_decimal_point p.symbol) refl (before_le ps)
     at false e h = let x : scaling_count (before_point (p ∷ ps)) ≡ scaling_count (p ∷ before_point ps) = ap (λ (b : Bool). scaling_count (if b then [] else p ∷ before_point ps)) e in omega (arith, scaling-cons p ps, scaling-cons p (before_point ps))
 
 fraction_le : (ps : List Position) → decimal_places (right_of_point ps) ≤ decimal_places ps
-fraction_le ps = at (point_leads ps)
+fraction_le ps = at (point_leads (λ (p : Position). p.symbol) ps)
   where
     at : (b : Bool) → decimal_places (if b then ps else after_point ps) ≤ decimal_places ps
     at true = omega arith
     at false = after_le ps
 
 missing_le : (ps : List Position) → scaling_count (left_of_point ps) ≤ scaling_count ps
-missing_le ps = at (point_leads ps)
+missing_le ps = at (point_leads (λ (p : Position). p.symbol) ps)
   where
     at : (b : Bool) → scaling_count (if b then [] else before_point ps) ≤ scaling_count ps
     at true = omega arith
@@ -374,7 +374,7 @@ positive_take (suc k) [] pos = tt
 positive_take (suc k) (r ∷ runs) pos = (pos.0, positive_take k runs pos.1)
 
 pub counts_are : (c : Category) (runs : List Run) (k before behind missing added bytes : ℕ) (sign : Bool) → ArePositive runs
-    → k ≡ (if run_leads runs then 0 else position_or_len (λ r. is_decimal_point r.symbol) runs)
+    → k ≡ (if point_leads (λ (r : Run). r.symbol) runs then 0 else position_or_len (λ r. is_decimal_point r.symbol) runs)
     → before ≡ digits (positions_from c (floating (written_out runs)) false (written_out (take k runs)))
     → behind ≡ digits (positions_from c (floating (written_out runs)) (list_any (λ r. is_that (floating (written_out runs)) r.symbol) (take k runs)) (written_out (drop k runs)))
     → missing ≡ symbol_count P (written_out (take k runs)) → added ≡ symbol_count P (written_out (drop k runs)) → bytes ≡ symbols_size (written_out runs)
@@ -389,7 +389,7 @@ counts_are c runs k before behind missing added bytes sign pos here eb ef em ea 
     let kept : digits (positions_from c q false xs) ≡ before + behind = ap digits cut ∙ digits-append (positions_from c q false wx) (positions_from c q found fx) ∙ (let x : digits (positions_from c q false wx) + digits (positions_from c q found fx) ≡ before + behind = omega (arith, eb, ef) in x) in
     let scaling : symbol_count P xs ≡ missing + added = ap (symbol_count P) joined ∙ times-append P wx fx ∙ (let x : symbol_count P wx + symbol_count P fx ≡ missing + added = omega (arith, em, ea) in x) in
     let right = decimal-placed c q found fx may.no_scaling in
-    let sides = at_point (run_leads runs) refl seen in
+    let sides = at_point (point_leads (λ (r : Run). r.symbol) runs) refl seen in
     record {
       kept = sym kept;
       all = omega (arith, kept, scaling, decimal-placed c q false xs may.no_scaling);
@@ -417,10 +417,10 @@ counts_are c runs k before behind missing added bytes sign pos here eb ef em ea 
     ps : List Position
     ps = positions_from c q false xs
 
-    at_point : (b : Bool) → run_leads runs ≡ b → seen_after q false wx ≡ found → (decimal_places (right_of_point ps) ≡ decimal_places (positions_from c q found fx)) × (count_by is_scaling (left_of_point ps) ≡ symbol_count P wx)
+    at_point : (b : Bool) → point_leads (λ (r : Run). r.symbol) runs ≡ b → seen_after q false wx ≡ found → (decimal_places (right_of_point ps) ≡ decimal_places (positions_from c q found fx)) × (count_by is_scaling (left_of_point ps) ≡ symbol_count P wx)
     at_point true e seen =
         let zero_runs : k ≡ 0 = here ∙ ap (λ (b : Bool). (if b then 0 else position_or_len (λ (r : Run). is_decimal_point r.symbol) runs)) e in
-        let leads : point_leads ps ≡ true = leads_runs c q false runs pos ∙ e in
+        let leads : point_leads (λ (p : Position). p.symbol) ps ≡ true = leads_runs c q false runs pos ∙ e in
         let none : take k runs ≡ [] = ap (λ (n : ℕ). take n runs) zero_runs in
         let all : drop k runs ≡ runs = ap (λ (n : ℕ). drop n runs) zero_runs in
         let no_seen : found ≡ false = ap (list_any (λ (r : Run). is_that q r.symbol)) none in (
@@ -429,7 +429,7 @@ counts_are c runs k before behind missing added bytes sign pos here eb ef em ea 
         )
     at_point false e seen =
         let place : k ≡ position_or_len (λ r. is_decimal_point r.symbol) runs = here ∙ ap (λ (b : Bool). (if b then 0 else position_or_len (λ (r : Run). is_decimal_point r.symbol) runs)) e in
-        let leads : point_leads ps ≡ false = leads_runs c q false runs pos ∙ e in
+        let leads : point_leads (λ (p : Position). p.symbol) ps ≡ false = leads_runs c q false runs pos ∙ e in
         let two = subst (IsParted c q false runs) (sym place) (parted c q false runs (floating_may xs) pos) in (
           ap (λ (b : Bool). decimal_places (if b then ps else after_point ps)) leads ∙ two.after ∙ ap (λ (b : Bool). decimal_places (positions_from c q b fx)) seen,
           ap (λ (b : Bool). scaling_count (if b then [] else before_point ps)) leads ∙ ap scaling_count two.before ∙ scaling-placed c q false wx,

@@ -14,7 +14,7 @@ use Rattle.cob_picture.specs.declared.category.Category.{Category}
 use Rattle.cob_picture.specs.Positions.{is, symbol_count, written_out, settled_role, floating, is_that, role_at, position_at, positions_from, symbols_of}
 use Rattle.cob_picture.specs.Runs.{ArePositive}
 use Rattle.cob_picture.specs.Counts.{is_digit_place, width, size, digits, is_scaling, is_decimal_place, decimal_places, is_decimal_point, point_leads, before_point, after_point, is_sign_symbol, signed}
-use Rattle.cob_picture.specs.Measures.{run_leads, symbols_size}
+use Rattle.cob_picture.specs.Measures.{symbols_size}
 use Rattle.cob_picture.proofs.Times.{first_one, is_other, one_more, length_more}
 
 abbrev pub one_if : Bool → ℕ
@@ -316,21 +316,21 @@ parted c q seen (r ∷ runs) may pos = at (is_decimal_point r.symbol) refl (part
 
 -- ---- a P that leads
 
-leads_replicate : (c : Category) (q : Option Symbol) (seen : Bool) (n : ℕ) (s : Symbol) (rest : List Symbol) → 0 < n → is S s ≡ false → point_leads (positions_from c q seen (replicate n s ++ rest)) ≡ is P s
+leads_replicate : (c : Category) (q : Option Symbol) (seen : Bool) (n : ℕ) (s : Symbol) (rest : List Symbol) → 0 < n → is S s ≡ false → point_leads (λ (p : Position). p.symbol) (positions_from c q seen (replicate n s ++ rest)) ≡ is P s
 leads_replicate c q seen zero s rest lt e = absurd (omega arith)
-leads_replicate c q seen (suc n) s rest lt e = ap (λ (b : Bool). (if b then point_leads (positions_from c q (seen || is_that q s) (replicate n s ++ rest)) else is P s)) e
+leads_replicate c q seen (suc n) s rest lt e = ap (λ (b : Bool). (if b then point_leads (λ (p : Position). p.symbol) (positions_from c q (seen || is_that q s) (replicate n s ++ rest)) else is P s)) e
 
-leads_behind : (c : Category) (q : Option Symbol) (seen : Bool) (n : ℕ) (s : Symbol) (rest : List Symbol) → is S s ≡ true → point_leads (positions_from c q seen (replicate n s ++ rest)) ≡ point_leads (positions_from c q (seen_after q seen (replicate n s)) rest)
+leads_behind : (c : Category) (q : Option Symbol) (seen : Bool) (n : ℕ) (s : Symbol) (rest : List Symbol) → is S s ≡ true → point_leads (λ (p : Position). p.symbol) (positions_from c q seen (replicate n s ++ rest)) ≡ point_leads (λ (p : Position). p.symbol) (positions_from c q (seen_after q seen (replicate n s)) rest)
 leads_behind c q seen zero s rest e = refl
-leads_behind c q seen (suc n) s rest e = ap (λ (b : Bool). (if b then point_leads (positions_from c q (seen || is_that q s) (replicate n s ++ rest)) else is P s)) e ∙ leads_behind c q (seen || is_that q s) n s rest e
+leads_behind c q seen (suc n) s rest e = ap (λ (b : Bool). (if b then point_leads (λ (p : Position). p.symbol) (positions_from c q (seen || is_that q s) (replicate n s ++ rest)) else is P s)) e ∙ leads_behind c q (seen || is_that q s) n s rest e
 
-pub leads_runs : (c : Category) (q : Option Symbol) (seen : Bool) (runs : List Run) → ArePositive runs → point_leads (positions_from c q seen (written_out runs)) ≡ run_leads runs
+pub leads_runs : (c : Category) (q : Option Symbol) (seen : Bool) (runs : List Run) → ArePositive runs → point_leads (λ (p : Position). p.symbol) (positions_from c q seen (written_out runs)) ≡ point_leads (λ (r : Run). r.symbol) runs
 leads_runs c q seen [] pos = refl
 leads_runs c q seen (r ∷ runs) pos = at (is S r.symbol) refl (leads_runs c q (seen_after q seen (replicate r.count r.symbol)) runs pos.1)
   where
-    at : (b : Bool) → is S r.symbol ≡ b → point_leads (positions_from c q (seen_after q seen (replicate r.count r.symbol)) (written_out runs)) ≡ run_leads runs → point_leads (positions_from c q seen (written_out (r ∷ runs))) ≡ run_leads (r ∷ runs)
-    at true e later = leads_behind c q seen r.count r.symbol (written_out runs) e ∙ later ∙ ap (λ (b : Bool). (if b then run_leads runs else is P r.symbol)) (sym e)
-    at false e later = leads_replicate c q seen r.count r.symbol (written_out runs) pos.0 e ∙ ap (λ (b : Bool). (if b then run_leads runs else is P r.symbol)) (sym e)
+    at : (b : Bool) → is S r.symbol ≡ b → point_leads (λ (p : Position). p.symbol) (positions_from c q (seen_after q seen (replicate r.count r.symbol)) (written_out runs)) ≡ point_leads (λ (r : Run). r.symbol) runs → point_leads (λ (p : Position). p.symbol) (positions_from c q seen (written_out (r ∷ runs))) ≡ point_leads (λ (r : Run). r.symbol) (r ∷ runs)
+    at true e later = leads_behind c q seen r.count r.symbol (written_out runs) e ∙ later ∙ ap (λ (b : Bool). (if b then point_leads (λ (r : Run). r.symbol) runs else is P r.symbol)) (sym e)
+    at false e later = leads_replicate c q seen r.count r.symbol (written_out runs) pos.0 e ∙ ap (λ (b : Bool). (if b then point_leads (λ (r : Run). r.symbol) runs else is P r.symbol)) (sym e)
 
 pub size_more : (runs : List Run) (i : ℕ) (d : Run) → i < length runs → symbols_size (written_out (take (i + 1) runs)) ≡ symbols_size (written_out (take i runs)) + width (get_or runs i d).symbol * (get_or runs i d).count
 size_more runs i d lt =

@@ -66,10 +66,10 @@ decimal_places ps = count_by is_decimal_place ps
 abbrev pub is_decimal_point : Symbol → Bool
 is_decimal_point s = is V s || is Point s
 
--- a P at the left, before which only an S may stand, puts the point left of all
-abbrev pub point_leads : List Position → Bool
-point_leads [] = false
-point_leads (p ∷ ps) = if is S p.symbol then point_leads ps else is P p.symbol
+-- a P at the left, before which only an S may stand, puts the point left of all: of positions or of runs, each with its symbol
+abbrev pub point_leads : {A : Type 0} → (A → Symbol) → List A → Bool
+point_leads symbol_of [] = false
+point_leads symbol_of (x ∷ xs) = if is S (symbol_of x) then point_leads symbol_of xs else is P (symbol_of x)
 
 -- the positions left of the first point
 abbrev pub before_point : List Position → List Position
@@ -83,11 +83,11 @@ after_point (p ∷ ps) = if is_decimal_point p.symbol then ps else after_point p
 
 -- the positions left of the decimal point; where no point stands, and no P leads, these are all
 abbrev pub left_of_point : List Position → List Position
-left_of_point ps = if point_leads ps then [] else before_point ps
+left_of_point ps = if point_leads (λ p. p.symbol) ps then [] else before_point ps
 
 -- the positions right of the decimal point
 abbrev pub right_of_point : List Position → List Position
-right_of_point ps = if point_leads ps then ps else after_point ps
+right_of_point ps = if point_leads (λ p. p.symbol) ps then ps else after_point ps
 
 -- How many digits, kept or not, stand right of the point, less those that a P stands for left of it: the picture's unit is
 -- ten to the power of minus this.

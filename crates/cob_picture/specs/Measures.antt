@@ -1,7 +1,6 @@
 -- What the counts over runs say of the positions.
 use Rattle.std.specs.Prelude.{◌≡◌, ℕ, ◌+◌, Bool, false, List, [], ◌∷◌, ℤ, count_by, if◌then◌else◌}
 use Rattle.cob_picture.specs.declared.symbol.Symbol.{Symbol}
-use Rattle.cob_picture.specs.declared.symbol.Symbol.TheVariants.{S, P}
 use Rattle.cob_picture.specs.declared.symbol.Run.{Run}
 use Rattle.cob_picture.specs.declared.position.Position.{Position}
 use Rattle.cob_picture.specs.declared.counts.Counts.{Counts}
@@ -26,11 +25,6 @@ pub record IsKept (c : Category) (symbols : List Symbol) (bytes count : ℕ) (un
   pub shows : count ≡ digits (positions c symbols)
   pub counts_in : unit ≡ scale (positions c symbols)
   pub keeps_sign : sign ≡ signed (positions c symbols)
-
--- a P at the left, behind an S at most, among runs
-abbrev pub run_leads : List Run → Bool
-run_leads [] = false
-run_leads (r ∷ runs) = if is S r.symbol then run_leads runs else is P r.symbol
 
 -- the bytes of symbols
 abbrev pub symbols_size : List Symbol → ℕ

@@ -2,6 +2,7 @@
 use Rattle.std.specs.Prelude.{◌≡◌, ◌≤◌, List, ◌++◌, length, Option}
 use Rattle.cob_picture.specs.declared.symbol.Symbol.{Symbol}
 use Rattle.cob_picture.specs.declared.symbol.Run.{Run}
+use Rattle.cob_picture.specs.declared.edited.Split.{Split}
 use Rattle.cob_picture.specs.declared.edited.Part.TheVariants.{Lead, Currency, Front, Whole, PointPart, Fraction, Trail}
 use Rattle.cob_picture.specs.Positions.{written_out}
 use Rattle.cob_picture.specs.Runs.{ArePositive}
@@ -44,6 +45,11 @@ pub record IsSplit (q : Option Symbol) (symbols : List Symbol) (lead currency fr
   pub not7 : Stops Trail q (written_out rest)
   pub left : ArePositive rest
 
+-- the runs are split so, with this symbol of the run
+abbrev pub IsSplitOf : Option Symbol → List Run → Split → Type 0
+IsSplitOf q runs split =
+    IsSplit q (written_out runs) split.lead.now split.currency.now split.front.now split.whole.now split.point.now split.fraction.now split.trail.now split.rest.now
+
 -- the parts of a picture, from their runs
 abbrev pub edited_of : (lead currency front whole point fraction trail : List Run) → Edited
 edited_of lead currency front whole point fraction trail = record {
@@ -55,6 +61,10 @@ edited_of lead currency front whole point fraction trail = record {
   fraction = written_out fraction;
   trail = written_out trail;
 }
+
+-- the parts of a picture whose runs are split so
+abbrev pub edited_in : Split → Edited
+edited_in split = edited_of split.lead.now split.currency.now split.front.now split.whole.now split.point.now split.fraction.now split.trail.now
 
 -- a part has few runs, none of them of nothing
 abbrev pub HasFewRuns : List Run → Type 0
@@ -69,3 +79,7 @@ pub record HaveFewRuns (lead currency front whole point fraction trail : List Ru
   pub r5 : HasFewRuns point
   pub r6 : HasFewRuns fraction
   pub r7 : HasFewRuns trail
+
+-- each part of the split has few runs
+abbrev pub HasFewInParts : Split → Type 0
+HasFewInParts split = HaveFewRuns split.lead.now split.currency.now split.front.now split.whole.now split.point.now split.fraction.now split.trail.now

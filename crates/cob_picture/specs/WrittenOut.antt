@@ -1,5 +1,6 @@
 -- A picture's text as symbols and repeats.
-use Rattle.std.specs.Prelude.{◌≡◌, ◌≢◌, ℕ, ◌+◌, ◌-◌, ◌*◌, ◌<◌, ◌≤◌, ◌⊎◌, min, List, [], ◌∷◌, ◌++◌, length, replicate}
+use Rattle.std.specs.Prelude.{◌≡◌, ◌≢◌, ℕ, ◌+◌, ◌-◌, ◌*◌, ◌<◌, ◌≤◌, ◌⊎◌, min, List, [], ◌∷◌, ◌++◌, length, replicate, Option, Result, IsSomeAnd, IsOkAnd}
+use denote.Ref.{Bor}
 use Rattle.std.specs.List.{fold, flat_map, AllByRecursion}
 use Rattle.cob_picture.specs.declared.TheConstants.{MANY}
 use Rattle.cob_picture.specs.declared.symbol.Symbol.{Symbol}
@@ -29,6 +30,24 @@ IsItem (Times s digits) = AllByRecursion IsDigit digits × (0 < repeat_number di
 -- the digits of a repeat and its closing bracket
 abbrev pub closed : List ℕ → List ℕ
 closed digits = digits ++ 41 ∷ []
+
+-- A repeat stands first, above 0 and closed by a bracket: this count, or 40,000 where it is more, and this rest behind it.
+abbrev pub BeginsWithRepeat : List ℕ → ℕ → List ℕ → Type 0
+BeginsWithRepeat text count rest =
+    (digits : List ℕ)
+    × AllByRecursion IsDigit digits
+    × (0 < repeat_number digits)
+    × (text ≡ closed digits ++ rest)
+    × (count ≡ min (repeat_number digits) MANY)
+
+-- Where a repeat stands first, above 0 and closed by a bracket, it is answered, or 40,000 where it is more, and what is behind it.
+abbrev pub ReadsRepeat : List ℕ → Option (ℕ × Bor (List ℕ)) → Type 0
+ReadsRepeat text answer =
+    (digits more : List ℕ)
+    → AllByRecursion IsDigit digits
+    → 0 < repeat_number digits
+    → text ≡ closed digits ++ more
+    → IsSomeAnd answer (λ r. (r.0 ≡ min (repeat_number digits) MANY) × (r.1.now ≡ more))
 
 -- the characters of an item
 abbrev pub spelling : SpelledSymbol → List ℕ
@@ -68,6 +87,20 @@ Ready [] rest = Unit {0}
 Ready (Once s ∷ []) rest = NotOpen rest
 Ready (Times s digits ∷ []) rest = Unit {0}
 Ready (i ∷ j ∷ items) rest = Ready (j ∷ items) rest
+
+-- An item stands first, of which this is the run, and this rest behind it.
+abbrev pub BeginsWithItem : List ℕ → Run → List ℕ → Type 0
+BeginsWithItem text run rest =
+    (item : SpelledSymbol) × IsItem item × (text ≡ spelling item ++ rest) × Ready (item ∷ []) rest × (run ≡ run_of item)
+
+-- Where an item stands first, and no bracket opens behind it, its run is answered, and what is behind it.
+abbrev pub ReadsItem : List ℕ → Result (Run × Bor (List ℕ)) PictureFault → Type 0
+ReadsItem text answer =
+    (item : SpelledSymbol) (more : List ℕ)
+    → IsItem item
+    → NotOpen more
+    → text ≡ spelling item ++ more
+    → IsOkAnd answer (λ r. (r.0 ≡ run_of item) × (r.1.now ≡ more))
 
 -- the text spells the items
 pub record SpellsItems (text : List ℕ) (items : List SpelledSymbol) : Type 0 where

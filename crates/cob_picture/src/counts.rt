@@ -1,9 +1,9 @@
 ghost use Rattle.std.specs.Prelude.{◌≡◌, ℕ, ◌+◌, ◌*◌, ◌<◌, ◌≤◌, length, replicate, if◌then◌else◌, ◌||◌};
 ghost use Rattle.std.specs.List.{list_any, position_or_len};
-ghost use Rattle.cob_picture.specs.Measures.{AreCountsOver, run_leads, symbols_size};
+ghost use Rattle.cob_picture.specs.Measures.{AreCountsOver, symbols_size};
 ghost use Rattle.cob_picture.specs.Positions.{written_out, is_that, settled_role, floating, positions_from, positions};
 ghost use Rattle.cob_picture.specs.Runs.{ArePositive};
-ghost use Rattle.cob_picture.specs.Counts.{width, digits, is_decimal_point, is_sign_symbol};
+ghost use Rattle.cob_picture.specs.Counts.{width, digits, is_decimal_point, is_sign_symbol, point_leads};
 ghost use Rattle.cob_picture.specs.declared.symbol.Symbol.{Symbol};
 ghost use Rattle.cob_picture.specs.declared.category.Category.{Category};
 
@@ -138,7 +138,7 @@ pub fn has_sign(runs: &[Run]) -> bool
 
 /// Whether a P stands at the left, behind an S at most.
 pub fn point_leads(runs: &[Run]) -> bool
-    ensures { result ≡ run_leads runs.now }
+    ensures { result ≡ point_leads (λ r. r.symbol) runs.now }
 {
     for run in runs {
         if run.symbol != Symbol::S {
@@ -150,7 +150,7 @@ pub fn point_leads(runs: &[Run]) -> bool
 
 /// How many runs stand left of the decimal point.
 pub fn runs_before_point(runs: &[Run]) -> usize
-    ensures value { result ≡ (if run_leads runs.now then 0
+    ensures value { result ≡ (if point_leads (λ r. r.symbol) runs.now then 0
         else position_or_len (λ r. is_decimal_point r.symbol) runs.now) }
     ensures inside { result ≤ length runs.now }
 {

@@ -3,7 +3,7 @@ ghost use Rattle.std.specs.List.{AllByRecursion, list_any};
 ghost use Rattle.cob_picture.specs.Positions.{symbol_count, written_out, is_that};
 ghost use Rattle.cob_picture.specs.Runs.{ArePositive, runs_end_in_mark, is_mark};
 ghost use Rattle.cob_picture.specs.Edited.{run_symbol, is_sign_run, is_floating_run, settled_kind, symbol_kind, belongs, AreOf, Stops, counts_in, AreSingle, SuitsRun, AreAllowed, IsNumericEdited, unscaled, IsScaled, CurrencyLeads, IsOutsideProfile};
-ghost use Rattle.cob_picture.specs.Parted.{IsSplit, HaveFewRuns, edited_of};
+ghost use Rattle.cob_picture.specs.Parted.{HasFewInParts, IsSplitOf, edited_in};
 ghost use Rattle.cob_picture.specs.declared.symbol.Symbol.TheVariants.{Nine};
 ghost use Rattle.cob_picture.specs.declared.edited.Part.TheVariants.{Lead};
 
@@ -174,9 +174,7 @@ pub fn span(runs: &[Run], run: Option<Symbol>, part: Part) -> (&[Run], &[Run])
 pub fn parted(runs: &[Run], run: Option<Symbol>) -> Split<'_>
     requires short { length runs.now ≤ 50 }
     requires positive { ArePositive runs.now }
-    ensures { IsSplit run
-        (written_out runs.now) result.lead.now result.currency.now result.front.now
-        result.whole.now result.point.now result.fraction.now result.trail.now result.rest.now }
+    ensures { IsSplitOf run runs.now result }
 {
     let (lead, rest) = span(runs, run, Part::Lead);
     let (currency, rest) = span(rest, run, Part::Currency);
@@ -199,11 +197,8 @@ pub fn parted(runs: &[Run], run: Option<Symbol>) -> Split<'_>
 
 /// Counts over the parts.
 pub fn counts_in(split: &Split, run: Option<Symbol>) -> EditedCounts
-    requires { HaveFewRuns split.now.lead.now split.now.currency.now split.now.front.now
-        split.now.whole.now split.now.point.now split.now.fraction.now split.now.trail.now }
-    ensures { result ≡ counts_in run
-        (edited_of split.now.lead.now split.now.currency.now split.now.front.now
-        split.now.whole.now split.now.point.now split.now.fraction.now split.now.trail.now) }
+    requires { HasFewInParts split.now }
+    ensures { result ≡ counts_in run (edited_in split.now) }
 {
     let currencies = total(split.currency);
     let points = total(split.point);

@@ -1,8 +1,7 @@
-ghost use Rattle.std.specs.Prelude.{◌≡◌, ℕ, ◌<◌, ◌≤◌, min, List, [], ◌∷◌, ◌++◌, length, map, IfSome, IsSomeAnd, IfOk, IfErr, IsOkAnd};
-ghost use Rattle.std.specs.List.{AllByRecursion};
+ghost use Rattle.std.specs.Prelude.{◌≡◌, ℕ, ◌<◌, ◌≤◌, List, [], ◌++◌, length, map, IfSome, IfOk, IfErr, IsOkAnd};
 ghost use Rattle.cob_picture.specs.Symbols.{chars};
 ghost use Rattle.cob_picture.specs.declared.symbol.Symbol.{Symbol};
-ghost use Rattle.cob_picture.specs.WrittenOut.{IsDigit, repeat_number, closed, SpelledSymbol, IsItem, spelling, run_of, NotOpen, Ready, SpellsItems, Front, IsItemFault, IsBrokenAfter};
+ghost use Rattle.cob_picture.specs.WrittenOut.{BeginsWithItem, BeginsWithRepeat, ReadsItem, ReadsRepeat, SpelledSymbol, SpellsItems, Front, run_of, IsItemFault, IsBrokenAfter};
 
 use crate::MANY;
 use crate::fault::PictureFault;
@@ -11,13 +10,8 @@ use arrayvec::ArrayVec;
 
 /// The number at the front, closed by a bracket, or `MANY` where it is more, and what follows.
 pub fn repeat_at(text: &[u8]) -> Option<(u16, &[u8])>
-    ensures found { IfSome result
-        (λ r. (digits : List ℕ) × AllByRecursion IsDigit digits × (0 < repeat_number digits)
-        × (text.now ≡ closed digits ++ r.1.now) × (r.0 ≡ min (repeat_number digits) MANY)) }
-    ensures only { (digits more : List ℕ)
-        → AllByRecursion IsDigit digits → 0 < repeat_number digits
-        → text.now ≡ closed digits ++ more
-        → IsSomeAnd result (λ r. (r.0 ≡ min (repeat_number digits) MANY) × (r.1.now ≡ more)) }
+    ensures found { IfSome result (λ r. BeginsWithRepeat text.now r.0 r.1.now) }
+    ensures only { ReadsRepeat text.now result }
 {
     let mut number: u32 = 0;
     for (i, c) in text.iter().enumerate() {
@@ -44,11 +38,8 @@ pub fn unreadable(text: &[u8]) -> PictureFault
 
 /// The symbol with its repeat at the front, and what follows.
 pub fn item_at(text: &[u8]) -> Result<(Run, &[u8]), PictureFault>
-    ensures found { IfOk result (λ r. (i : SpelledSymbol) × IsItem i
-        × (text.now ≡ spelling i ++ r.1.now) × Ready (i ∷ []) r.1.now × (r.0 ≡ run_of i)) }
-    ensures only { (i : SpelledSymbol) (more : List ℕ)
-        → IsItem i → NotOpen more → text.now ≡ spelling i ++ more
-        → IsOkAnd result (λ r. (r.0 ≡ run_of i) × (r.1.now ≡ more)) }
+    ensures found { IfOk result (λ r. BeginsWithItem text.now r.0 r.1.now) }
+    ensures only { ReadsItem text.now result }
     ensures fault { IfErr result (λ f. IsItemFault f text.now) }
 {
     let Some((symbol, rest)) = symbol_at(text) else {

@@ -1,6 +1,7 @@
 -- An end round another that passes bytes up to a limit, as its callers see it.
-use Rattle.std.specs.Prelude.{ℕ}
+use Rattle.std.specs.Prelude.{ℕ, ◌+◌, ◌%◌}
 use Rattle.cob_records.specs.declared.limited.Limited.{Limited}
+use Rattle.cob_records.specs.Device.{count_modulus}
 
 -- the end inside
 abbrev pub limited_inner : {E : Type 0} → Limited E → E
@@ -17,3 +18,7 @@ limited_left end = end.left
 -- how many calls failed because no more bytes may pass
 abbrev pub limited_failures : {E : Type 0} → Limited E → ℕ
 limited_failures end = end.failures
+
+-- all failures of such an end: its own, and those that this count gives of the end inside
+abbrev pub limited_all : {E : Type 0} → (E → ℕ) → Limited E → ℕ
+limited_all failures_of end = (failures_of (limited_inner end) + limited_failures end) % count_modulus

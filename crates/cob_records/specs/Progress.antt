@@ -1,8 +1,7 @@
 -- How much of a stream of records has passed, and a source that tells it.
-use Rattle.std.specs.Prelude.{◌≡◌, ℕ, ◌+◌, ◌-◌, ◌*◌, ◌/◌, ◌<◌, ◌≤◌, ◌&&◌, ◌||◌, nat_lt, nat_le, Bool, if◌then◌else◌, All, List, ◌++◌, length, take, flat_map, min, Option, Some, None}
+use Rattle.std.specs.Prelude.{◌≡◌, ℕ, [], ◌+◌, ◌-◌, ◌*◌, ◌/◌, ◌<◌, ◌≤◌, ◌&&◌, ◌||◌, nat_lt, nat_le, Bool, false, if◌then◌else◌, All, List, ◌++◌, length, take, min, Option, Some, None}
 use Rattle.cob_records.specs.declared.records.Form.{Form}
-use Rattle.cob_records.specs.declared.records.Form.TheVariants.{Fixed, Variable}
-use Rattle.cob_records.specs.declared.records.RecordFault.{RecordFault}
+use Rattle.cob_records.specs.declared.records.Form.TheVariants.{Fixed, Variable, Blocked}
 use Rattle.cob_records.specs.declared.place.Place.{Place}
 use Rattle.cob_records.specs.declared.place.Place.TheVariants as place
 use Rattle.cob_records.specs.declared.passed.Passed.{Passed}
@@ -10,48 +9,91 @@ use Rattle.cob_records.specs.declared.progress.Progress.{Progress}
 use Rattle.cob_records.specs.declared.report.Ahead.{Ahead}
 use Rattle.cob_records.specs.declared.report.Report.{Report}
 use Rattle.cob_records.specs.Device.{greatest_count}
-use Rattle.cob_records.specs.Frame.{IsRecord, descriptor, framed, refusal}
+use Rattle.cob_records.specs.BlockReads.{Leads}
+use Rattle.cob_records.specs.Forms.{Come, ComesFirst}
+use Rattle.cob_records.specs.Frame.{IsRecord, descriptor, is_unblocked}
 
--- a whole frame of a record stands first in the bytes
-abbrev pub BeginsWithFrame : Form → ℕ → List ℕ → Type 0
-BeginsWithFrame form greatest bytes = (body : List ℕ) × (more : List ℕ) × IsRecord form greatest body × (bytes ≡ framed form body ++ more)
+-- a whole frame of a record stands first in the bytes, where the open block, if there are blocks, still holds so many
+abbrev pub BeginsWithFrame : Form → (greatest left : ℕ) → List ℕ → Type 0
+BeginsWithFrame form greatest left bytes =
+    (body : List ℕ) × (after : ℕ) × (more : List ℕ) × IsRecord form greatest body × ComesFirst form left body bytes after more
 
 -- Bytes hold so many whole frames: the frames of so many records stand at their front one behind the other, and what is behind them
 -- does not begin with a frame.
 abbrev pub HoldsFrames : Form → ℕ → ℕ → List ℕ → Type 0
-HoldsFrames form greatest count bytes = (bodies : List (List ℕ)) × (rest : List ℕ) × All (IsRecord form greatest) bodies × (length bodies ≡ count)
-    × (bytes ≡ flat_map (framed form) bodies ++ rest) × (BeginsWithFrame form greatest rest → ⊥)
+HoldsFrames form greatest count bytes = (bodies : List (List ℕ)) × (left : ℕ) × (rest : List ℕ) × All (IsRecord form greatest) bodies
+    × (length bodies ≡ count) × Come form 0 bodies bytes left rest × (BeginsWithFrame form greatest left rest → ⊥)
 
 -- a count that stays at its greatest value
 abbrev pub kept_count : ℕ → ℕ
 kept_count count = min count greatest_count
 
--- of a frame these bytes have passed, and so many of its record are still to come
-abbrev pub IsBegun : Form → ℕ → ℕ → List ℕ → Type 0
-IsBegun Fixed greatest left bytes = length bytes + left ≡ greatest
-IsBegun Variable greatest left bytes = (size : ℕ) × (part : List ℕ) × (0 < size) × (size ≤ greatest) × (bytes ≡ descriptor size ++ part) × (length part + left ≡ size)
+-- The bytes before a record descriptor word have passed, whose frame has so much room: in blocks those of the block's descriptor, where the frame
+-- is its first.
+abbrev pub IsBefore : Form → (left room : ℕ) → List ℕ → Type 0
+IsBefore Fixed left room bytes = ⊥
+IsBefore Variable left room bytes = (bytes ≡ []) × (room ≡ left)
+IsBefore (Blocked most) left room bytes = Leads most left room bytes × (4 ≤ room)
 
--- where in a stream of frames the next byte stands, behind the last whole frame and these bytes
-abbrev pub IsAt : Form → ℕ → Place → List ℕ → Type 0
-IsAt form greatest (place.Descriptor head seen) bytes = (form ≡ Variable) × (bytes ≡ take seen head)
-IsAt form greatest (place.Record left) bytes = IsBegun form greatest left bytes
-IsAt form greatest place.Lost bytes = (form ≡ Variable)
-    × (fault : RecordFault) × (head : List ℕ) × (more : List ℕ) × (length head ≡ 4) × (refusal greatest head ≡ Some fault) × (bytes ≡ head ++ more)
+-- a frame of this record ends within a block that has so much room, and so much is left behind it; without blocks nothing is used up
+abbrev pub IsWithin : Form → (size room after : ℕ) → Type 0
+IsWithin Fixed size room after = after ≡ room
+IsWithin Variable size room after = after ≡ room
+IsWithin (Blocked most) size room after = room ≡ 4 + size + after
 
--- These bytes have passed of a stream, and are counted: the records whose frames stand at their front, so many of which there are; the
--- place in the frame behind them; and all bytes.
+-- a frame of this record doesn't end within a block that has so much room
+abbrev pub IsPast : Form → (size room : ℕ) → Type 0
+IsPast Fixed size room = ⊥
+IsPast Variable size room = ⊥
+IsPast (Blocked most) size room = room < 4 + size
+
+-- of a frame with a descriptor these bytes have passed, so many of its record are still to come, and so many of the block behind it
+abbrev pub IsBegunBehind : Form → (greatest left rest after : ℕ) → List ℕ → Type 0
+IsBegunBehind form greatest left rest after bytes =
+    (room : ℕ) × (size : ℕ) × (lead : List ℕ) × (part : List ℕ) × IsBefore form left room lead × (0 < size) × (size ≤ greatest)
+    × (bytes ≡ lead ++ (descriptor size ++ part)) × (length part + rest ≡ size) × IsWithin form size room after
+
+-- of a frame these bytes have passed, so many of its record are still to come, and so many of the block behind it
+abbrev pub IsBegun : Form → (greatest left rest after : ℕ) → List ℕ → Type 0
+IsBegun Fixed greatest left rest after bytes = (length bytes + rest ≡ greatest) × (after ≡ left)
+IsBegun Variable greatest left rest after bytes = IsBegunBehind Variable greatest left rest after bytes
+IsBegun (Blocked most) greatest left rest after bytes = IsBegunBehind (Blocked most) greatest left rest after bytes
+
+-- behind these bytes no frame comes, whatever else comes
+abbrev pub IsLost : Form → (greatest left : ℕ) → List ℕ → Type 0
+IsLost form greatest left bytes = (more : List ℕ) → BeginsWithFrame form greatest left (bytes ++ more) → ⊥
+
+-- where in a stream of frames the next byte stands, behind the last whole frame, where the open block held so many bytes, and these bytes
+abbrev pub IsAt : Form → (greatest left : ℕ) → Place → List ℕ → Type 0
+IsAt form greatest left (place.Block head seen) bytes = (left ≡ 0) × (is_unblocked form ≡ false) × (bytes ≡ take seen head)
+IsAt form greatest left (place.Descriptor head seen room) bytes = (lead : List ℕ) × IsBefore form left room lead × (bytes ≡ lead ++ take seen head)
+IsAt form greatest left (place.Record rest after) bytes = IsBegun form greatest left rest after bytes
+IsAt form greatest left place.Lost bytes = IsLost form greatest left bytes
+
+-- These bytes have passed of a stream, and are counted: the records whose frames stand at their front, so many of which there are; what the
+-- open block holds behind them, and the place in the frame there; and all bytes.
 pub record Counts (form : Form) (greatest : ℕ) (at : Place) (records count : ℕ) (bytes : List ℕ) : Type 0 where
   pub bodies : List (List ℕ)
+  pub left : ℕ
   pub rest : List ℕ
   pub each : All (IsRecord form greatest) bodies
-  pub all : bytes ≡ flat_map (framed form) bodies ++ rest
-  pub is_at : IsAt form greatest at rest
+  pub all : Come form 0 bodies bytes left rest
+  pub is_at : IsAt form greatest left at rest
   pub counted_records : records ≡ kept_count (length bodies)
   pub counted_bytes : count ≡ kept_count (length bytes)
 
 -- these bytes are what has passed, and are counted
 abbrev pub HasPassed : List ℕ → Passed → Type 0
 HasPassed bytes passed = Counts passed.form passed.greatest passed.place passed.records passed.bytes bytes
+
+-- this part passes behind whatever had passed before
+abbrev pub Passes : List ℕ → Passed → Passed → Type 0
+Passes part before now = (bytes : List ℕ) → HasPassed bytes before → HasPassed (bytes ++ part) now
+
+-- this part leads from where the next byte stands to this place
+abbrev pub LeadsTo : Passed → Place → List ℕ → Type 0
+LeadsTo passed at part = (left : ℕ) (rest : List ℕ) → IsAt passed.form passed.greatest left passed.place rest
+    → IsAt passed.form passed.greatest left at (rest ++ part)
 
 -- how many percent of the size these bytes are, and never more than all
 abbrev pub percent_of : ℕ → ℕ → ℕ

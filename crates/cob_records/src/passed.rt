@@ -1,8 +1,9 @@
 ghost use Rattle.std.specs.Prelude.{◌≡◌, ℕ, ◌<◌, ◌≤◌, List, [], ◌++◌, length, take, true};
-ghost use Rattle.cob_limits.specs.Limits.{longest_record};
+ghost use Rattle.cob_limits.specs.Limits.{longest_block, longest_record};
+ghost use Rattle.cob_records.specs.Forms.{HasBlockSize};
 ghost use Rattle.cob_records.specs.Place.{is_place};
 
-use crate::place::{Place, behind, start};
+use crate::place::{Place, behind, behind_block, start};
 use crate::records::Form;
 use crate::report::{Report, what_is_ahead};
 
@@ -14,17 +15,19 @@ pub(crate) struct Passed {
     place: Place,
     records: u64,
     bytes: u64,
+    ghost block: { HasBlockSize form },
     ghost low: { 0 < greatest },
     ghost high: { greatest ≤ longest_record },
     ghost within: { is_place place ≡ true },
 }
 
 impl Passed {
-    ghost use Rattle.cob_records.specs.Progress.{HasPassed, IsAt, IsReportOf};
+    ghost use Rattle.cob_records.specs.Progress.{HasPassed, IsReportOf, LeadsTo, Passes};
     ghost use Rattle.cob_records.specs.declared.place.Place.TheVariants.{Record};
 
     /// What has passed of a stream before its first byte.
     pub(crate) fn new(form: Form, greatest: u16) -> Passed
+        requires block { HasBlockSize form }
         requires low { 0 < greatest }
         requires high { greatest ≤ longest_record }
         ensures none { HasPassed [] result }
@@ -34,7 +37,7 @@ impl Passed {
         Passed {
             form,
             greatest,
-            place: start(form, greatest),
+            place: start(form, greatest, 0),
             records: 0,
             bytes: 0,
         }
@@ -45,9 +48,7 @@ impl Passed {
         requires { is_place place ≡ true }
         ensures count { result ≡ count }
         ensures passed { (bytes part : List ℕ) → HasPassed bytes self.old → length part ≡ count
-            → ((rest : List ℕ) → IsAt self.old.form self.old.greatest self.old.place rest
-            → IsAt self.old.form self.old.greatest place (rest ++ part))
-            → HasPassed (bytes ++ part) self.new }
+            → LeadsTo self.old place part → HasPassed (bytes ++ part) self.new }
         ensures form { self.new.form ≡ self.old.form }
         ensures greatest { self.new.greatest ≡ self.old.greatest }
     {
@@ -56,15 +57,17 @@ impl Passed {
         count
     }
 
-    // The rest of a record passes, and the next byte begins a frame. The answer is how many bytes it had.
-    fn end_record(&mut self, left: usize) -> usize
+    // The rest of a record passes, and the next byte begins a frame, for which the open block holds so many bytes. The answer is how many
+    // bytes the rest had.
+    fn end_record(&mut self, left: usize, room: usize) -> usize
+        requires { room ≤ longest_block }
         ensures count { result ≡ left }
         ensures passed { (bytes part : List ℕ) → HasPassed bytes self.old → length part ≡ left
-            → self.old.place ≡ Record left → HasPassed (bytes ++ part) self.new }
+            → self.old.place ≡ Record left room → HasPassed (bytes ++ part) self.new }
         ensures form { self.new.form ≡ self.old.form }
         ensures greatest { self.new.greatest ≡ self.old.greatest }
     {
-        self.place = start(self.form, self.greatest);
+        self.place = start(self.form, self.greatest, room);
         self.records = self.records.saturating_add(1);
         self.bytes = self.bytes.saturating_add(left as u64);
         left
@@ -75,31 +78,34 @@ impl Passed {
         requires { 0 < length piece.now }
         ensures some { 0 < result }
         ensures within { result ≤ length piece.now }
-        ensures passed { (bytes : List ℕ) → HasPassed bytes self.old
-            → HasPassed (bytes ++ take result piece.now) self.new }
+        ensures passed { Passes (take result piece.now) self.old self.new }
         ensures form { self.new.form ≡ self.old.form }
         ensures greatest { self.new.greatest ≡ self.old.greatest }
     {
         match self.place {
-            Place::Descriptor { head, seen } => {
-                let place = behind(head, seen, piece[0], self.greatest);
+            Place::Block { head, seen } => {
+                let place = behind_block(self.form, head, seen, piece[0], self.greatest);
                 self.move_to(place, 1)
             }
-            Place::Record { left } if piece.len() < left => {
+            Place::Descriptor { head, seen, room } => {
+                let place = behind(self.form, head, seen, room, piece[0], self.greatest);
+                self.move_to(place, 1)
+            }
+            Place::Record { left, room } if piece.len() < left => {
                 let place = Place::Record {
                     left: left - piece.len(),
+                    room,
                 };
                 self.move_to(place, piece.len())
             }
-            Place::Record { left } => self.end_record(left),
+            Place::Record { left, room } => self.end_record(left, room),
             Place::Lost => self.move_to(Place::Lost, piece.len()),
         }
     }
 
     /// The piece passes.
     pub(crate) fn add(&mut self, piece: &[u8])
-        ensures passed { (bytes : List ℕ) → HasPassed bytes self.old
-            → HasPassed (bytes ++ piece.now) self.new }
+        ensures passed { Passes piece.now self.old self.new }
         ensures form { self.new.form ≡ self.old.form }
         ensures greatest { self.new.greatest ≡ self.old.greatest }
     {

@@ -3,7 +3,8 @@ ghost use Rattle.std.specs.Io.KnownBytes.{IsAtEnd, prepend_known};
 ghost use Rattle.std.specs.Time.{instant_nanos};
 ghost use Rattle.cob_limits.specs.Limits.{longest_record};
 ghost use Rattle.cob_records.specs.Device.{counted};
-ghost use Rattle.cob_records.specs.Progress.{HasPassed, is_due, told_from};
+ghost use Rattle.cob_records.specs.Forms.{HasBlockSize};
+ghost use Rattle.cob_records.specs.Progress.{HasPassed, Passes, is_due, told_from};
 
 use crate::device::{DeviceFault, Source};
 use crate::passed::Passed;
@@ -50,8 +51,8 @@ impl Pace {
 }
 
 /// A source round another that tells on standard error, about once a second, how many records and bytes it has given, and what is
-/// ahead. What it tells is for a person who waits: that it can't be told is no failure. Behind a descriptor that is refused no record
-/// is counted.
+/// ahead. What it tells is for a person who waits: that it can't be told is no failure. Behind a descriptor that is refused, or that does
+/// not fit into its block, no record is counted.
 #[derive(Drop)]
 pub struct Progress<'a, R, T> {
     inner: R,
@@ -67,6 +68,7 @@ impl<'a, R, T> Progress<'a, R, T> {
 
     /// A source round this one, whose records stand in this form and have at most this length: 1 to 32,752.
     pub fn new(inner: R, rt: &'a T, form: Form, length: u16, telling: Telling) -> Progress<'a, R, T>
+        requires block { HasBlockSize form }
         requires low { 0 < length }
         requires high { length ≤ longest_record }
         ensures inner { progress_inner result ≡ inner }
@@ -140,8 +142,8 @@ impl<R: Source, T: Clock + Eprint> Source for Progress<'_, R, T> {
             ≡ counted (is_err result) (R.failures (progress_inner self.old)) }
 
         // What it gave has passed, and nothing else.
-        ensures passed { IfOk result (λ n. (bytes : List ℕ) → HasPassed bytes (progress_passed self.old)
-            → HasPassed (bytes ++ take n piece.new) (progress_passed self.new)) }
+        ensures passed { IfOk result (λ n.
+            Passes (take n piece.new) (progress_passed self.old) (progress_passed self.new)) }
         ensures still { OnErr result (progress_passed self.new ≡ progress_passed self.old) }
     {
         let count = self.inner.read(piece)?;

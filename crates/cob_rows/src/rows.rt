@@ -117,29 +117,75 @@ impl<'a> Row<'a> {
     }
 }
 
-/// A line of a table with what comes of it.
-fn answered<F: Family>(alloc: Global, table: &str, line: &str) -> Result<String, AllocError> {
-    if line.trim().is_empty() || line.starts_with('#') {
-        return String::from_str(alloc, line);
-    }
-    let mut out = String::new(alloc);
+/// Whether a line of a table is a row: no blank line, and no heading.
+fn is_row(line: &str) -> bool {
+    !line.trim().is_empty() && !line.starts_with('#')
+}
+
+/// Writes a row with bars between its fields.
+fn push_fields(out: &mut String, line: &str) -> Result<(), AllocError> {
     for character in line.chars() {
-        if character == '\t' {
-            out.push_str(" | ")?;
-        } else {
-            out.push(character)?;
+        match character {
+            '\t' => out.push_str(" | ")?,
+            other => out.push(other)?,
         }
     }
+    Ok(())
+}
+
+/// Writes what comes of a row behind it.
+fn push_answer<F: Family>(
+    alloc: Global,
+    table: &str,
+    line: &str,
+    out: &mut String,
+) -> Result<(), AllocError> {
     let mut answer = String::new(alloc);
     match F::answer(alloc, table, &Row { line }, &mut answer) {
         Ok(()) => {
             out.push_str(" -> ")?;
-            out.push_str(answer.as_str())?;
+            out.push_str(answer.as_str())
         }
-        Err(RowFault::BadRow) => out.push_str(" -> BAD ROW")?,
-        Err(RowFault::Memory) => return Err(AllocError),
+        Err(RowFault::BadRow) => out.push_str(" -> BAD ROW"),
+        Err(RowFault::Memory) => Err(AllocError),
     }
+}
+
+/// A line of a table with what comes of it.
+fn answered<F: Family>(alloc: Global, table: &str, line: &str) -> Result<String, AllocError> {
+    if !is_row(line) {
+        return String::from_str(alloc, line);
+    }
+    let mut out = String::new(alloc);
+    push_fields(&mut out, line)?;
+    push_answer::<F>(alloc, table, line, &mut out)?;
     Ok(out)
+}
+
+/// Prints the lines of a table, each row with what comes of it.
+fn print_lines<F: Family, R: AllocGlobal + Print>(
+    rt: &R,
+    table: &str,
+    text: &str,
+) -> io::Result<()> {
+    for line in text.lines() {
+        let shown = answered::<F>(rt.alloc(), table, line)?;
+        rt.println(shown.as_str())?;
+    }
+    Ok(())
+}
+
+/// Prints the rows of the table of this name, which stands in the file `NAME.rows`, each with what comes of it.
+///
+/// # Errors
+/// What stops the file from being read or a line from being printed.
+pub fn print_table<F: Family, R: AllocGlobal + Files + Print>(
+    rt: &R,
+    table: &str,
+) -> io::Result<()> {
+    let path = format!(in rt.alloc(); "{table}.rows")?;
+    let text = fs::read_to_string(rt, path.as_str())?;
+    print_lines::<F, R>(rt, table, text.as_str())
 }
 
 /// Prints the rows of the tables that the arguments of the program name, as `NAME` for the file `NAME.rows`, each with what
@@ -149,12 +195,7 @@ fn answered<F: Family>(alloc: Global, table: &str, line: &str) -> Result<String,
 /// What stops a file from being read or a line from being printed.
 pub fn print_rows<F: Family, R: AllocGlobal + Files + Print + Env>(rt: &R) -> io::Result<()> {
     for table in env::args(rt)?.skip(1) {
-        let path = format!(in rt.alloc(); "{table}.rows")?;
-        let text = fs::read_to_string(rt, path.as_str())?;
-        for line in text.as_str().lines() {
-            let shown = answered::<F>(rt.alloc(), table.as_str(), line)?;
-            rt.println(shown.as_str())?;
-        }
+        print_table::<F, R>(rt, table.as_str())?;
     }
     Ok(())
 }

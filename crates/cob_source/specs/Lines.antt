@@ -113,6 +113,10 @@ cells_from n k (b ∷ bs) = record { byte = b; line = n; column = k } ∷ cells_
 abbrev pub cells_behind : ℕ → ℕ → List ℕ → List Cell
 cells_behind n k line = cells_from n (8 + k) (drop k (area line))
 
+-- these cells, and behind them the columns of line n from 8 on, with this text and the first k left out
+abbrev pub with_columns : ℕ → ℕ → List ℕ → List Cell → List Cell
+with_columns n k text cells = cells ++ cells_from n (8 + k) (drop k (filled text))
+
 -- the line's end that stands before line n in the joined text
 abbrev pub line_end : ℕ → Cell
 line_end n = record { byte = 10; line = n; column = 7 }

@@ -1,12 +1,14 @@
 -- What has been read of a text at the end of a line.
 use Rattle.std.specs.Prelude.{◌≡◌, ℕ, ◌+◌, ◌-◌, ◌<◌, ◌⊎◌, true, false, List, [], ◌∷◌, ◌++◌, length, drop, Option, None, is_some}
 use Rattle.std.specs.List.{AllByRecursion}
+use Rattle.cob_source.specs.declared.joined.Joined.{Joined}
 use Rattle.cob_source.specs.declared.token.Cell.{Cell}
 use Rattle.cob_source.specs.declared.token.Cutting.{Cutting}
+use Rattle.cob_source.specs.declared.token.Token.{Token}
 use Rattle.cob_source.specs.declared.lines.LineKind.TheVariants.{Plain}
 use Rattle.cob_source.specs.declared.fault.SourceRule.{SourceRule}
 use Rattle.cob_source.specs.declared.fault.SourceRule.TheVariants.{OpenLiteral, BadContinuation, TooLong, Memory}
-use Rattle.cob_source.specs.Tokens.{Lexeme}
+use Rattle.cob_source.specs.Tokens.{Lexeme, lexemes}
 use Rattle.cob_source.specs.Cuts.{open_with, open_quote, Cuts}
 use Rattle.cob_source.specs.Lines.{filled, kind_of_line, joined_of, last_joined, continued}
 use Rattle.cob_source.specs.Words.{ends_quoted, breaks, AreFit, is_bad_continuation}
@@ -51,6 +53,15 @@ pub record HasRead (m : Cutting) (before : List (List ℕ)) (cells : List Cell) 
   pub cut : Cuts m done words
   pub last_is : last ≡ last_joined before
   pub fit : AreFit before
+
+-- These lines are read to these words and stops, and to the last joined line.
+abbrev pub HasReadLines : Cutting → List (List ℕ) → Joined → List Token → Type 0
+HasReadLines m before joined tokens = HasRead m before joined.cells.items joined.quote joined.last (lexemes tokens)
+
+-- Whatever the lines before the one with this number are, where they are read so, this is true of them.
+abbrev pub AfterLines : Cutting → ℕ → Joined → List Token → (List (List ℕ) → Type 0) → Type 0
+AfterLines m number joined tokens P =
+    (before : List (List ℕ)) → number ≡ length before + 1 → HasReadLines m before joined tokens → P before
 
 -- a literal is left open, or memory is refused
 abbrev pub EndRefused : SourceRule → ℕ → Option ℕ → ℕ → Type 0

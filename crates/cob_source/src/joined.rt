@@ -1,7 +1,7 @@
 ghost use Rattle.std.specs.Prelude.{◌≡◌, ℕ, ◌+◌, ◌<◌, ◌≤◌, List, [], ◌∷◌, ◌++◌, ◌-◌, length, take, drop, slice_index_or, true, is_some, OnOk, IfErr, IfSome, Some, None};
 ghost use Rattle.cob_source.specs.Tokens.{Lexeme, lexemes};
 ghost use Rattle.cob_source.specs.Cuts.{open_with, open_quote, is_quote, Cuts};
-ghost use Rattle.cob_source.specs.Lines.{filled, program_text, kind_of_line, trim_end, continued_text, left_out, cells_from, cells_behind, line_end};
+ghost use Rattle.cob_source.specs.Lines.{filled, program_text, kind_of_line, trim_end, continued_text, left_out, cells_from, cells_behind, line_end, with_columns};
 ghost use Rattle.cob_source.specs.Words.{ends_quoted, first_character, is_misfit, is_bad_continuation};
 ghost use Rattle.cob_source.specs.Reading.{LeavesOutSpaces, EndsInSpaces, open_in, EndRefused, ContinuationRefused, IsContinued};
 ghost use Rattle.cob_source.specs.declared.lines.LineKind.TheVariants.{Continuation};
@@ -108,8 +108,8 @@ fn add_columns(
     requires few { skipped ≤ 65 }
     requires short { length text.now ≤ 65 }
     requires quote { joined.old.quote ≡ open_quote joined.old.cells.items }
-    ensures cells { OnOk result (LeavesOutSpaces joined.new.cells.items (joined.old.cells.items
-        ++ cells_from number (8 + skipped) (drop skipped (filled text.now)))) }
+    ensures cells { OnOk result (LeavesOutSpaces joined.new.cells.items
+        (with_columns number skipped text.now joined.old.cells.items)) }
     ensures quote { OnOk result (joined.new.quote ≡ open_quote joined.new.cells.items) }
     ensures last { OnOk result (joined.new.last ≡ number) }
 {

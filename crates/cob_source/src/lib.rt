@@ -11,7 +11,8 @@
 //! refusal names a rule that is broken, on the line that breaks it (`refused`), and one that takes the lines before it
 //! together (an open literal, a continuation that doesn't fit) only where none of these breaks a rule. A text has its words
 //! in one way (`words_are_one`, `paragraph_words_are_one`); where it has them it breaks no rule (`words_break_no_rule`),
-//! its lines fit one behind the other (`lines_of_words_fit`), and no literal is open (`open_literal_has_no_words`).
+//! its lines fit one behind the other (`lines_of_words_fit`), and no literal is open (`open_literal_has_no_words`). A line may end
+//! in CR LF: [`without_return`] takes the carriage return off (`cut_return`).
 //!
 //! The definitions stand in `specs/`: `Lines` joins columns 8 to 72 of the plain and continuation lines to one text, `Pieces`
 //! is the cut at brackets and commas, `Cuts` cuts a joined text into words, literals and stops, `Words` says which rules a
@@ -34,5 +35,6 @@ pub use laws::{
     lines_of_words_fit, open_literal_has_no_words, paragraph_words_are_one, words_are_one,
     words_break_no_rule,
 };
+pub use lines::without_return;
 pub use reader::{paragraph_tokens, tokens};
 pub use token::{Kind, Token};

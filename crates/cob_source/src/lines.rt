@@ -30,8 +30,8 @@ fn line_len(text: &[u8]) -> usize
     text.len()
 }
 
-/// The bytes without one carriage return at their end.
-fn without_return(line: &[u8]) -> &[u8]
+/// The bytes of a line without one carriage return at their end.
+pub fn without_return(line: &[u8]) -> &[u8]
     ensures { result.now ≡ cut_return line.now }
 {
     let Some((last, front)) = line.split_last() else {

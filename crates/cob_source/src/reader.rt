@@ -2,7 +2,7 @@ ghost use Rattle.std.specs.Prelude.{◌≡◌, ℕ, ◌+◌, ◌<◌, ◌≤◌,
 ghost use Rattle.cob_source.specs.Tokens.{Lexeme, lexemes};
 ghost use Rattle.cob_source.specs.Cuts.{open_quote};
 ghost use Rattle.cob_source.specs.Words.{IsSourceRefusal, AreCutsOf, AreWordsOf, AreParagraphWordsOf};
-ghost use Rattle.cob_source.specs.Reading.{HasRead, LineRefused};
+ghost use Rattle.cob_source.specs.Reading.{AfterLines, HasReadLines, LineRefused};
 ghost use Rattle.cob_source.specs.declared.fault.SourceRule.TheVariants.{Memory};
 
 use crate::fault::{SourceFault, SourceRule};
@@ -25,13 +25,10 @@ fn take_line(
     out: &mut Vec<Token>,
 ) -> Result<(), SourceFault>
     requires { joined.old.quote ≡ open_quote joined.old.cells.items }
-    ensures ok { (before : List (List ℕ)) → number ≡ length before + 1
-        → HasRead cutting before joined.old.cells.items joined.old.quote joined.old.last
-        (lexemes out.old.items) → OnOk result (HasRead cutting (before ++ line.now ∷ [])
-        joined.new.cells.items joined.new.quote joined.new.last (lexemes out.new.items)) }
-    ensures fault { (before : List (List ℕ)) → number ≡ length before + 1
-        → HasRead cutting before joined.old.cells.items joined.old.quote joined.old.last
-        (lexemes out.old.items) → IfErr result (λ f. LineRefused f.rule f.line before line.now) }
+    ensures ok { AfterLines cutting number joined.old out.old.items (λ before. OnOk result
+        (HasReadLines cutting (before ++ line.now ∷ []) joined.new out.new.items)) }
+    ensures fault { AfterLines cutting number joined.old out.old.items (λ before.
+        IfErr result (λ f. LineRefused f.rule f.line before line.now)) }
 {
     if let Some(rule) = character_fault(line) {
         return Err(SourceFault { rule, line: number });

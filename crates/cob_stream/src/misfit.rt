@@ -1,13 +1,13 @@
 //! Whether a record that came is one of its layout.
 
-ghost use Rattle.std.specs.Prelude.{◌≡◌, ℕ, List, length, Err, IfErr, OnOk};
+ghost use Rattle.std.specs.Prelude.{◌≡◌, ℕ, List, length, Err, IfErr, IsFalse, IsTrue, OnOk};
 ghost use Rattle.cob_copybook_tree.specs.Forests.{Forest, entries_in};
 ghost use Rattle.cob_copybook_tree.specs.Nodes.{Resolved};
 ghost use Rattle.cob_layout.specs.Counting.{CountsOf};
 ghost use Rattle.cob_layout.specs.Storage.{greatest_length};
 ghost use Rattle.cob_records.specs.Frame.{IsRecord};
 ghost use Rattle.cob_records.specs.declared.records.Form.TheVariants.{Variable};
-ghost use Rattle.cob_stream.specs.Sizes.{IsMeasureFault, IsSized};
+ghost use Rattle.cob_stream.specs.Sizes.{IsFitting, IsMeasureFault, IsSized};
 
 use cob_layout::{Counts, Layout};
 use cob_layout_places::CountFault;
@@ -22,7 +22,7 @@ pub enum MeasureFault {
     Length,
 }
 
-/// The fault of a record of form v whose counts give none.
+/// The misfit of a record whose counts give no length.
 fn measure_fault_of(fault: CountFault) -> MeasureFault
     ensures { (tree : Forest Resolved) (input : List ℕ)
         → CountsOf tree input (Err fault) → IsMeasureFault Variable tree input result }
@@ -53,12 +53,23 @@ fn measure_current(layout: &Layout, input: &[u8], counts: &mut Counts) -> Result
     }
 }
 
+/// Whether a record that came whole has the length that its counts give: in form f it is as long as at most, whatever they say.
+pub fn is_fitting(form: Form, current: u16, count: usize) -> bool
+    ensures must { IsTrue result → IsFitting form current count }
+    ensures only { IsFalse result → IsFitting form current count → ⊥ }
+{
+    match form {
+        Form::Fixed => true,
+        Form::Variable | Form::Blocked(_) => count == usize::from(current),
+    }
+}
+
 /// Whether a record that came in a frame is one of its layout. In form f no count is looked at. The counts are those of the record
 /// where they were taken.
 ///
 /// # Errors
 ///
-/// In form v a count of the record that isn't valid, or a length other than that which its counts give.
+/// In forms v and b a count of the record that isn't valid, or a length other than that which its counts give.
 pub fn measure(
     layout: &Layout,
     form: Form,
@@ -74,5 +85,6 @@ pub fn measure(
     match form {
         Form::Fixed => Ok(()),
         Form::Variable => measure_current(layout, input, counts),
+        Form::Blocked(_) => measure_current(layout, input, counts),
     }
 }

@@ -1,23 +1,24 @@
-//! Writing a record and counting what the sink took.
+//! Writing records and counting what the sink took.
 
-ghost use Rattle.std.specs.Prelude.{◌≡◌, ◌<◌, ◌≤◌, true, length, take, Err, IfErr, IfOk, is_err};
+ghost use Rattle.std.specs.Prelude.{◌≡◌, ◌<◌, ◌≤◌, true, length, take, Err, IfErr, IfOk, OnErr, OnOk, is_err};
 ghost use Rattle.cob_limits.specs.Limits.{longest_record};
 ghost use Rattle.cob_copybook_tree.specs.Forests.{entries_in};
 ghost use Rattle.cob_layout.specs.Counting.{CountsOf};
 ghost use Rattle.cob_layout.specs.Storage.{greatest_length};
 ghost use Rattle.cob_records.specs.Device.{Took, counted};
-ghost use Rattle.cob_records.specs.Frame.{frame_size, is_write_error, is_write_fault};
-ghost use Rattle.cob_stream.specs.Output.{IsOutputOf, WritesRecord};
+ghost use Rattle.cob_records.specs.Frame.{is_write_error, is_write_fault};
+ghost use Rattle.cob_records.specs.Forms.{FitsIn, emptied, pending_in, outlet_with, written_by};
+ghost use Rattle.cob_stream.specs.Output.{IsOutputOf, PutsCounted, taken_in};
 
 use cob_layout::{Counts, Layout};
 use cob_layout_places::CountFault;
-use cob_records::{Form, RecordFault, Sink, put_record};
+use cob_records::{Form, Outlet, RecordFault, Sink};
 
-/// How many bytes of an output storage are written: all in form f, and in form v its current part.
+/// How many bytes of an output storage are written: all in form f, and in forms v and b its current part.
 ///
 /// # Errors
 ///
-/// The first count of the storage that isn't valid, in both forms.
+/// The first count of the storage that isn't valid, in every form.
 pub fn written_length(
     layout: &Layout,
     form: Form,
@@ -38,45 +39,70 @@ pub fn written_length(
     let made = match form {
         Form::Fixed => greatest,
         Form::Variable => layout.length(counts),
+        Form::Blocked(_) => layout.length(counts),
     };
     Ok(usize::from(made))
 }
 
-/// How many bytes a record's frame has.
-fn frame_length(form: Form, length: usize) -> u64
-    requires { length ≤ longest_record }
-    ensures { result ≡ frame_size form length }
+/// How many bytes the sink took, where so many were to be written and this was the answer.
+fn taken_by(answer: Result<(), RecordFault>, whole: u16) -> u64
+    ensures { result ≡ taken_in whole answer }
 {
-    match form {
-        Form::Fixed => length as u64,
-        Form::Variable => length as u64 + 4,
+    match answer {
+        Ok(()) => u64::from(whole),
+        Err(fault) => fault.taken() as u64,
     }
 }
 
-/// Writes the frame of a record of 1 to 32,752 bytes, and adds to `written` the bytes that the sink took of it, up to the greatest `u64`.
+/// Writes a record by way of an outlet, and adds to `written` the bytes that the sink took, up to the greatest `u64`: in forms f and v its
+/// frame; in form b the open block, where the frame does not fit into it.
 ///
 /// # Errors
 ///
-/// Those of [`put_record`]: the sink took a beginning of the frame.
+/// Those of [`Outlet::add`]: the sink took a beginning of the frame, or of the block.
 pub fn write_record<W: Sink>(
     sink: &mut W,
-    form: Form,
+    outlet: &mut Outlet,
     body: &[u8],
     written: &mut u64,
 ) -> Result<(), RecordFault>
     requires low { 0 < length body.now }
     requires high { length body.now ≤ longest_record }
-    ensures frame { Took (W.taken sink.old) (W.taken sink.new)
-        (WritesRecord form body.now result written.old written.new) }
+    requires fits { FitsIn outlet.old body.now }
+    ensures puts { Took (W.taken sink.old) (W.taken sink.new)
+        (PutsCounted (written_by outlet.old body.now) result written.old written.new) }
+    ensures added { OnOk result (outlet.new ≡ outlet_with outlet.old body.now) }
+    ensures emptied { OnErr result (outlet.new ≡ emptied outlet.old) }
     ensures kind { IfErr result (λ fault. is_write_fault fault ≡ true) }
     ensures cause { W.failures sink.new ≡ counted (is_err result) (W.failures sink.old) }
     ensures errors { W.errors sink.new ≡ counted (is_write_error result) (W.errors sink.old) }
 {
-    let answer = put_record(sink, form, body);
-    let taken = match answer {
-        Ok(()) => frame_length(form, body.len()),
-        Err(fault) => fault.taken() as u64,
-    };
-    *written = written.saturating_add(taken);
+    let whole = outlet.written_by(body);
+    let answer = outlet.add(sink, body);
+    *written = written.saturating_add(taken_by(answer, whole));
+    answer
+}
+
+/// Writes what an outlet holds back, in form b the open block, and adds to `written` the bytes that the sink took of it, up to the greatest
+/// `u64`. Then nothing is held back.
+///
+/// # Errors
+///
+/// Those of [`Outlet::finish`]: the sink took a beginning of the block.
+pub fn write_pending<W: Sink>(
+    sink: &mut W,
+    outlet: &mut Outlet,
+    written: &mut u64,
+) -> Result<(), RecordFault>
+    ensures puts { Took (W.taken sink.old) (W.taken sink.new)
+        (PutsCounted (pending_in outlet.old) result written.old written.new) }
+    ensures emptied { outlet.new ≡ emptied outlet.old }
+    ensures kind { IfErr result (λ fault. is_write_fault fault ≡ true) }
+    ensures cause { W.failures sink.new ≡ counted (is_err result) (W.failures sink.old) }
+    ensures errors { W.errors sink.new ≡ counted (is_write_error result) (W.errors sink.old) }
+{
+    let whole = outlet.pending();
+    let answer = outlet.finish(sink);
+    *written = written.saturating_add(taken_by(answer, whole));
     answer
 }

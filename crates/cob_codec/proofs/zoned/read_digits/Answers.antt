@@ -2,8 +2,8 @@ use Rattle.std.proofs.Common.{◌<◌, length, arith}
 use Rattle.cob_codec.proofs.ZonedLemmas.{digit_byte}
 use Rattle.cob_codec.proofs.zoned.read_digits.Goals as goal
 
-pub returns-then-byte-lt240-clause-none : goal.returns-then-byte-lt240-clause-none
-returns-then-byte-lt240-clause-none c = λ digits valid text.
+pub returns-then-byte-lt-ZERO-clause-none : goal.returns-then-byte-lt-ZERO-clause-none
+returns-then-byte-lt-ZERO-clause-none c = λ digits valid text.
     let within : c.loop-byte.byte-index < length c.args.bytes.now = omega arith in
     let both = digit_byte c.args.bytes.now digits c.loop-byte.byte-index valid text within in
     omega (arith, both.0)

@@ -1,40 +1,100 @@
-use Rattle.std.proofs.Common.{rules, arith, take, Err}
-use Rattle.cob_convert.proofs.Carried.{step, input_exit, stop_exit, write_exit, put_in}
+use Rattle.std.proofs.Common.{ℕ, rules, arith, take, Some, ◌∙◌, ap}
+use Rattle.cob_records.specs.Device.{counted}
+use Rattle.cob_stream.specs.declared.fault.Reason.{Reason}
+use Rattle.cob_stream.specs.declared.fault.RunFault.{RunFault}
+use Rattle.cob_stream.specs.Reasons.{is_read_cause, reason_of}
+use Rattle.cob_convert.proofs.Carried.{clean_exit, emptied_again, fits_in, input_exit, limit_exit, reads_closed, step, stop_exit, write_exit}
 use Rattle.cob_convert.proofs.run.run_over.Goals as goal
+
+-- the fault of a record for this reason
+abbrev fault_at : ℕ → Reason → ℕ → RunFault
+fault_at number why written = record { number = number; side = why.side; offset = why.offset; cause = why.cause; written = written }
+
+pub returns-in-Ok-None-clause-ran : goal.returns-in-Ok-None-clause-ran
+returns-in-Ok-None-clause-ran g c =
+    clean_exit c.args.conversion.now c.loop-done.done c.loop-done.written c.loop-done.left c.next_input.new.left c.loop-done.outlet c.next_input.new.slot c.close.result
+    _ (g.R.Source.coming c.loop-done.source) _ _ (g.W.Sink.taken c.loop-done.sink) _
+    c.loop-done.invariant.so_far (rw c.in-Ok-None.field-0-is at c.in-Ok-None.ensures.reads) (omega arith) c.close.ensures.closes
 
 pub returns-in-Err-clause-ran : goal.returns-in-Err-clause-ran
 returns-in-Err-clause-ran g c =
-    let read = rw c.in-Err.is at c.next_input.ensures.reads in
-    rw c.stop_behind.ensures (input_exit c.args.conversion.now c.loop-done.done c.loop-done.written c.in-Err.why c.next_input.new.slot
-    _ (g.R.Source.coming c.loop-done.source) _ _ (g.W.Sink.taken c.loop-done.sink)
-    c.loop-done.invariant.so_far read (omega arith))
+    input_exit c.args.conversion.now c.loop-done.done c.loop-done.written c.loop-done.left c.next_input.new.left c.loop-done.outlet c.in-Err.why c.next_input.new.slot c.close-in-Err.result
+    _ (g.R.Source.coming c.loop-done.source) _ _ (g.W.Sink.taken c.loop-done.sink) _
+    c.loop-done.invariant.so_far (rw c.in-Err.is at c.next_input.ensures.reads) (omega arith) c.close-in-Err.ensures.closes
+
+pub returns-in-Err-clause-reads : goal.returns-in-Err-clause-reads
+returns-in-Err-clause-reads g c =
+    reads_closed c.args.conversion.now c.loop-done.done c.loop-done.written c.loop-done.left c.loop-done.outlet (Some c.in-Err.why) c.close-in-Err.result
+    _ (g.R.Source.coming c.loop-done.source) _ (g.W.Sink.taken c.loop-done.sink) _ _ _ _
+    c.loop-done.invariant.so_far c.close-in-Err.ensures.closes (c.in-Err.ensures.cause ∙ ap (counted (is_read_cause c.in-Err.why.cause)) c.loop-done.invariant.reads)
 
 pub returns-in-Err-convert-clause-ran : goal.returns-in-Err-convert-clause-ran
 returns-in-Err-convert-clause-ran g c =
-    let read = rw c.in-Ok-Some.field-0-is at c.in-Ok-Some.ensures.reads in
-    let judged = rw c.in-Ok-Some.field-0-is at c.in-Ok-Some.ensures.judged in
-    rw c.stop_behind-in-Err-convert.ensures (stop_exit c.args.conversion.now c.loop-done.done c.loop-done.written c.in-Ok-Some.count c.reason_of_stop.result c.in-Err-convert.stop c.next_input.new.slot
-    _ (g.R.Source.coming c.loop-done.source) _ _ (g.W.Sink.taken c.loop-done.sink)
-    c.loop-done.invariant.so_far read judged c.in-Err-convert.ensures.stops c.reason_of_stop.ensures (omega arith))
+    stop_exit c.args.conversion.now c.loop-done.done c.loop-done.written c.loop-done.left c.next_input.new.left c.in-Ok-Some.count c.loop-done.outlet c.reason_of_stop.result c.in-Err-convert.stop c.next_input.new.slot c.close-in-Err-convert.result
+    _ (g.R.Source.coming c.loop-done.source) _ _ (g.W.Sink.taken c.loop-done.sink) _
+    c.loop-done.invariant.so_far (rw c.in-Ok-Some.field-0-is at c.in-Ok-Some.ensures.reads) (rw c.in-Ok-Some.field-0-is at c.in-Ok-Some.ensures.judged)
+    c.in-Err-convert.ensures.stops c.reason_of_stop.ensures.reason (omega arith) c.close-in-Err-convert.ensures.closes
+
+pub write_record-requires-clause-fits : goal.write_record-requires-clause-fits
+write_record-requires-clause-fits g c =
+    fits_in c.args.conversion.now c.loop-done.done c.loop-done.written c.loop-done.left c.loop-done.outlet (take c.in-Ok.made c.convert.new.output)
+    _ (g.R.Source.coming c.loop-done.source) _ (g.W.Sink.taken c.loop-done.sink)
+    c.loop-done.invariant.so_far c.requires.fits (search rules)
 
 pub returns-in-Err-write_record-clause-ran : goal.returns-in-Err-write_record-clause-ran
 returns-in-Err-write_record-clause-ran g c =
-    let read = rw c.in-Ok-Some.field-0-is at c.in-Ok-Some.ensures.reads in
-    let judged = rw c.in-Ok-Some.field-0-is at c.in-Ok-Some.ensures.judged in
-    rw c.stop_behind-in-Err-write_record.ensures (write_exit c.args.conversion.now c.loop-done.done c.loop-done.written c.write_record.new.written c.in-Ok-Some.count c.in-Ok.made c.in-Err-write_record.fault c.next_input.new.slot c.convert.new.output
+    write_exit c.args.conversion.now c.loop-done.done c.loop-done.written c.write_record.new.written c.loop-done.left c.next_input.new.left c.in-Ok-Some.count c.in-Ok.made c.loop-done.outlet c.in-Err-write_record.fault _ c.next_input.new.slot c.convert.new.output
     _ (g.R.Source.coming c.loop-done.source) _ _ (g.W.Sink.taken c.loop-done.sink) _
-    c.loop-done.invariant.so_far read judged c.in-Ok.ensures.converts (put_in c.out_form-out_form.result c.args.conversion.now.out_form _ _ (take c.in-Ok.made c.convert.new.output) (Err c.in-Err-write_record.fault) c.loop-done.written c.write_record.new.written c.out_form-out_form.ensures c.in-Err-write_record.ensures.frame) (omega arith))
+    c.loop-done.invariant.so_far (rw c.in-Ok-Some.field-0-is at c.in-Ok-Some.ensures.reads) (rw c.in-Ok-Some.field-0-is at c.in-Ok-Some.ensures.judged) c.in-Ok.ensures.converts (omega arith)
+    c.in-Err-write_record.ensures.puts
+    (ap reason_of c.stop_behind.ensures ∙ ap (λ (r : Reason). reason_of (fault_at 0 r 0)) c.reason_of_write.ensures)
+    (omega (arith, c.loop-done.invariant.so_far.few, c.from-held.ensures, c.held.ensures, ap (λ (f : RunFault). f.number) c.stop_behind.ensures))
+    (ap (λ (f : RunFault). f.written) c.stop_behind.ensures)
+
+pub returns-in-Err-write_record-clause-outlet : goal.returns-in-Err-write_record-clause-outlet
+returns-in-Err-write_record-clause-outlet g c =
+    emptied_again c.args.conversion.now c.loop-done.done c.loop-done.written c.loop-done.left c.loop-done.outlet _ _
+    _ (g.R.Source.coming c.loop-done.source) _ (g.W.Sink.taken c.loop-done.sink)
+    c.loop-done.invariant.so_far c.requires.outlet c.in-Err-write_record.ensures.emptied
 
 pub loop-done-preserved : goal.loop-done-preserved
-loop-done-preserved g c =
-    let read = rw c.in-Ok-Some.field-0-is at c.in-Ok-Some.ensures.reads in
-    let judged = rw c.in-Ok-Some.field-0-is at c.in-Ok-Some.ensures.judged in
-    record {
-      so_far = step c.args.conversion.now c.loop-done.done c.loop-done.written c.write_record.new.written c.in-Ok-Some.count c.in-Ok.made c.next_input.new.slot c.convert.new.output
-          _ (g.R.Source.coming c.loop-done.source) _ _ (g.W.Sink.taken c.loop-done.sink) _
-          c.loop-done.invariant.so_far read judged c.in-Ok.ensures.converts (rw c.out_form-out_form.ensures at c.in_default.ensures.frame);
-      reads = search rules;
-      room = search rules;
-      writes = search rules;
-      errors = search rules;
-    }
+loop-done-preserved g c = record {
+  so_far = step c.args.conversion.now c.loop-done.done c.loop-done.written c.write_record.new.written c.in-Ok-Some.count c.in-Ok.made c.loop-done.left c.next_input.new.left c.loop-done.outlet c.write_record.new.outlet c.next_input.new.slot c.convert.new.output
+      _ (g.R.Source.coming c.loop-done.source) _ _ (g.W.Sink.taken c.loop-done.sink) _
+      c.loop-done.invariant.so_far (rw c.in-Ok-Some.field-0-is at c.in-Ok-Some.ensures.reads) (rw c.in-Ok-Some.field-0-is at c.in-Ok-Some.ensures.judged) c.in-Ok.ensures.converts
+      c.in_default.ensures.puts c.in_default.ensures.added;
+  reads = search rules;
+  writes = search rules;
+  room = search rules;
+  errors = search rules;
+}
+
+pub returns-clause-ran : goal.returns-clause-ran
+returns-clause-ran g c =
+    limit_exit c.args.conversion.now c.loop-done.done c.loop-done.written c.loop-done.left c.loop-done.outlet c.close-2.result
+    _ (g.R.Source.coming c.loop-done.source) _ (g.W.Sink.taken c.loop-done.sink) _
+    c.loop-done.invariant.so_far (search rules) c.close-2.ensures.closes
+
+pub returns-in-Ok-None-clause-outlet : goal.returns-in-Ok-None-clause-outlet
+returns-in-Ok-None-clause-outlet g c =
+    emptied_again c.args.conversion.now c.loop-done.done c.loop-done.written c.loop-done.left c.loop-done.outlet _ _
+    _ (g.R.Source.coming c.loop-done.source) _ (g.W.Sink.taken c.loop-done.sink)
+    c.loop-done.invariant.so_far c.requires.outlet c.close.ensures.emptied
+
+pub returns-in-Err-clause-outlet : goal.returns-in-Err-clause-outlet
+returns-in-Err-clause-outlet g c =
+    emptied_again c.args.conversion.now c.loop-done.done c.loop-done.written c.loop-done.left c.loop-done.outlet _ _
+    _ (g.R.Source.coming c.loop-done.source) _ (g.W.Sink.taken c.loop-done.sink)
+    c.loop-done.invariant.so_far c.requires.outlet c.close-in-Err.ensures.emptied
+
+pub returns-in-Err-convert-clause-outlet : goal.returns-in-Err-convert-clause-outlet
+returns-in-Err-convert-clause-outlet g c =
+    emptied_again c.args.conversion.now c.loop-done.done c.loop-done.written c.loop-done.left c.loop-done.outlet _ _
+    _ (g.R.Source.coming c.loop-done.source) _ (g.W.Sink.taken c.loop-done.sink)
+    c.loop-done.invariant.so_far c.requires.outlet c.close-in-Err-convert.ensures.emptied
+
+pub returns-clause-outlet : goal.returns-clause-outlet
+returns-clause-outlet g c =
+    emptied_again c.args.conversion.now c.loop-done.done c.loop-done.written c.loop-done.left c.loop-done.outlet _ _
+    _ (g.R.Source.coming c.loop-done.source) _ (g.W.Sink.taken c.loop-done.sink)
+    c.loop-done.invariant.so_far c.requires.outlet c.close-2.ensures.emptied

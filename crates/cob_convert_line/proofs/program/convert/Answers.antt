@@ -13,6 +13,8 @@ returns c =
     let two = c.in_ok-arg-2.ensures.shape c.required-2.ensures.local ∙ ap₂ with_rule one c.required-2.ensures.rule in
     let three = c.in_ok-arg-3.ensures.shape c.form.ensures.local ∙ ap₂ with_rule two c.form.ensures.rule in
     let four = c.in_ok-arg-4.ensures.shape c.form-2.ensures.local ∙ ap₂ with_rule three c.form-2.ensures.rule in
-    let five = c.in_ok-arg-5.ensures.shape c.reading.ensures.local ∙ ap₂ with_rule four c.reading.ensures.rule in
-    let six = c.in_ok-arg-6.ensures.shape c.alone.ensures.local ∙ ap₂ with_rule five c.alone.ensures.rule in
-    IfOk-weaker c.arg-7.result _ _ (λ made h. h.shape c.alone-2.ensures.local ∙ ap₂ with_rule six c.alone-2.ensures.rule) c.arg-7.ensures
+    let five = c.in_ok-arg-5.ensures.shape c.block.ensures.local ∙ ap₂ with_rule four c.block.ensures.rule in
+    let six = c.in_ok-arg-6.ensures.shape c.block-2.ensures.local ∙ ap₂ with_rule five c.block-2.ensures.rule in
+    let seven = c.in_ok-arg-7.ensures.shape c.reading.ensures.local ∙ ap₂ with_rule six c.reading.ensures.rule in
+    let eight = c.in_ok-arg-8.ensures.shape c.alone.ensures.local ∙ ap₂ with_rule seven c.alone.ensures.rule in
+    IfOk-weaker c.arg-9.result _ _ (λ made h. h.shape c.alone-2.ensures.local ∙ ap₂ with_rule eight c.alone-2.ensures.rule) c.arg-9.ensures

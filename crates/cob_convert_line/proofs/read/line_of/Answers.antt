@@ -19,7 +19,7 @@ free : is_simple_and_free program_app ≡ true
 free = refl
 
 pub returns-then-is_empty : goal.returns-then-is_empty
-returns-then-is_empty g c = record { options = none_said g.S.AsStr.text c.args.words.now (sym c.is_empty.ensures ∙ c.if-is_empty.true); refused = tt; fault = tt }
+returns-then-is_empty g c = record { options = none_said g.S.AsStr.text c.args.words.now (sym c.is_empty.ensures ∙ c.if-is_empty.true); refused = tt; fault = tt; blocks = tt }
 
 pub command_line-requires : goal.command_line-requires
 command_line-requires g c =

@@ -1,6 +1,6 @@
 use Rattle.std.proofs.Common.{List, ℕ, refl, subst}
-use Rattle.cob_convert.specs.Run.{Ran, is_read_stop}
-use Rattle.cob_convert.proofs.Headline.{not_raised}
+use Rattle.cob_convert.specs.Run.{Ran}
+use Rattle.cob_convert.proofs.Headline.{not_unread}
 use Rattle.cob_job.proofs.jobs.run_over_data.Goals as goal
 
 pub returns-clause-ran : goal.returns-clause-ran
@@ -10,4 +10,4 @@ returns-clause-ran g c = (
 )
 
 pub returns-clause-read : goal.returns-clause-read
-returns-clause-read g c = not_raised (is_read_stop c.run.result) 0 0 c.run.ensures.reads refl
+returns-clause-read g c = not_unread c.args.converter.now.out_form c.run.result 0 0 c.run.ensures.reads refl

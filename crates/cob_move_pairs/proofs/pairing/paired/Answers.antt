@@ -1,10 +1,11 @@
-use Rattle.std.proofs.Common.{◌∙◌, map, ap, sym, List}
+use Rattle.std.proofs.Common.{◌∙◌, ◌||◌, Bool, map, ap, ap₂, sym, List}
 use Rattle.std.proofs.lemmas.Result.{err_from_is_err_and}
 use Rattle.cob_copybook_tree.specs.Nodes.{tree_of}
 use Rattle.cob_move_pairs.specs.declared.subordinate.Subordinate.{Subordinate as Listed}
 use Rattle.cob_move_pairs.specs.declared.pair.Pair.{Pair as Paired}
 use Rattle.cob_move_pairs.specs.Pairing.{pair_numbers}
 use Rattle.cob_move_pairs.specs.Listed.{subordinates_listed, pairs}
+use Rattle.cob_move_pairs.proofs.NodeLemmas.{elementary_node}
 use Rattle.cob_move_pairs.proofs.GroupLemmas.{pairing, pairing_fault}
 use Rattle.cob_move_pairs.proofs.pairing.paired.Goals as goal
 
@@ -24,4 +25,4 @@ returns-clause-found c =
     (ap (λ (bs : List Listed). subordinates_listed bs) c.in_ok-receivers.ensures ∙ c.in_ok-entries.ensures)
     c.in_ok-list.ensures.found c.in_ok-list.ensures.once
     (c.in_ok-numbers.ensures.found ∙ ap (λ (ps : List Paired). map pair_numbers (pairs ps)) c.as_slice-2.ensures.value)
-    (sym c.is_no_group.ensures ∙ c.if-is_no_group.false)
+    (ap₂ (λ (a b : Bool). a || b) (elementary_node c.args.from.now) (elementary_node c.args.to.now) ∙ sym c.is_no_group.ensures ∙ c.if-is_no_group.false)

@@ -1,26 +1,51 @@
+use Rattle.std.proofs.Common.{◌∙◌, ap, subst, sym}
 use Rattle.std.proofs.lemmas.Result.{err_from_is_err_and}
-use Rattle.cob_convert.proofs.Refused.{out_refused, paragraph_too}
+use Rattle.cob_copybook.specs.Books.{IsBookOf}
+use Rattle.cob_copybook.specs.declared.role.Role.TheVariants.{In, Out}
+use Rattle.cob_layout.specs.Storage.{greatest_length}
+use Rattle.cob_records.specs.Forms.{FitsForm}
+use Rattle.cob_convert.specs.Means.{Means}
+use Rattle.cob_convert.proofs.Refused.{block_refused, block_refused_not, out_refused, paragraph_too}
 use Rattle.cob_convert.proofs.converter.Converter.prepare.Goals as goal
 
 pub returns-in_err-input-clause-only : goal.returns-in_err-input-clause-only
-returns-in_err-input-clause-only c = λ m says.
+returns-in_err-input-clause-only c = λ m says fits.
     let p = err_from_is_err_and c.from_residual.result c.from_residual.ensures.1 in
     rw (p.1, p.2) ((c.in_err-input.ensures.only m.records.input says.input).1)
 
 pub returns-in_err-output-clause-refused : goal.returns-in_err-output-clause-refused
 returns-in_err-output-clause-refused c =
     let p = err_from_is_err_and c.from_residual-in_err-output.result c.from_residual-in_err-output.ensures.1 in
-    rw (p.1, p.2) (out_refused c.in_err-output.field-0.0 c.args.in_book.now c.args.out_book.now c.args.moves.now
+    rw (p.1, p.2) (out_refused c.args.out_form c.in_err-output.field-0.0 c.args.in_book.now c.args.out_book.now c.args.moves.now
     (c.in_ok-input.input, c.in_ok-input.ensures.found) c.in_err-output.ensures.refused)
 
 pub returns-in_err-output-clause-only : goal.returns-in_err-output-clause-only
-returns-in_err-output-clause-only c = λ m says.
+returns-in_err-output-clause-only c = λ m says fits.
     let p = err_from_is_err_and c.from_residual-in_err-output.result c.from_residual-in_err-output.ensures.1 in
     rw (p.1, p.2) ((c.in_err-output.ensures.only m.records.output says.output).1)
 
 pub returns-in_err-conversion-clause-only : goal.returns-in_err-conversion-clause-only
-returns-in_err-conversion-clause-only c = λ m says.
+returns-in_err-conversion-clause-only c = λ m says fits.
     let p = err_from_is_err_and c.from_residual-in_err-conversion.result c.from_residual-in_err-conversion.ensures.1 in
     let input = (c.in_ok-input.ensures.only m.records.input says.input).0 in
     let output = (c.in_ok-output.ensures.only m.records.output says.output).0 in
     rw (p.1, p.2) (c.in_err-conversion.ensures.only m.moves (paragraph_too c.args.moves.now _ _ _ _ m.moves input output says.paragraph))
+
+pub returns-in_err-check_block-clause-only : goal.returns-in_err-check_block-clause-only
+returns-in_err-check_block-clause-only c = λ m says fits.
+    let output = (c.in_ok-output.ensures.only m.records.output says.output).0 in
+    let same = c.out_length.ensures.value ∙ ap greatest_length (c.in_ok-conversion.ensures.output ∙ output) in
+    absurd (block_refused_not c.args.out_form c.in_err-check_block.field-0.0 c.out_length.result (subst (FitsForm c.args.out_form) (sym same) fits) c.in_err-check_block.ensures.refused)
+
+pub returns-in_err-check_block-clause-refused : goal.returns-in_err-check_block-clause-refused
+returns-in_err-check_block-clause-refused c =
+    let p = err_from_is_err_and c.from_residual-in_err-check_block.result c.from_residual-in_err-check_block.ensures.1 in
+    let made = c.in_ok-conversion.conversion in
+    let input = c.in_ok-conversion.ensures.input in
+    let output = c.in_ok-conversion.ensures.output in
+    let means : Means c.args.in_book.now c.args.out_book.now c.args.moves.now made = record {
+      input = subst (IsBookOf In c.args.in_book.now) (sym input) c.in_ok-input.ensures.found;
+      output = subst (IsBookOf Out c.args.out_book.now) (sym output) c.in_ok-output.ensures.found;
+      paragraph = paragraph_too c.args.moves.now _ _ _ _ made.moves input output c.in_ok-conversion.ensures.paragraph;
+    } in
+    rw (p.1, p.2) (block_refused c.args.out_form c.in_err-check_block.field-0.0 c.out_length.result c.args.in_book.now c.args.out_book.now c.args.moves.now made means c.out_length.ensures.value c.in_err-check_block.ensures.refused)

@@ -16,6 +16,6 @@ returns-clause-records c =
     subst (λ (made : Conversion). HasBytes made.records.input × HasBytes made.records.output) (sym c.with_reading.ensures) c.in_ok-pictured.ensures.records
 
 pub returns-in_err-pictured-clause-only : goal.returns-in_err-pictured-clause-only
-returns-in_err-pictured-clause-only c = λ m says.
+returns-in_err-pictured-clause-only c = λ m says fits.
     let p = err_from_is_err_and c.from_residual.result c.from_residual.ensures.1 in
-    rw (p.1, p.2) (c.in_err-pictured.ensures.only m says)
+    rw (p.1, p.2) (c.in_err-pictured.ensures.only m says fits)

@@ -6,8 +6,8 @@ use Rattle.cob_convert_record.proofs.conversion.Conversion.with_reading.Goals as
 pub invariant_of-result : goal.invariant_of-result
 invariant_of-result c =
     let r : Records = record { input = c.self.inside.input; output = c.self.inside.output } in
-    let (ready, image, long) = c.self.invariant in
-    (c.with_reading.ensures.prepared r ready, image, long)
+    let (ready, image, long, comes, goes) = c.self.invariant in
+    (c.with_reading.ensures.prepared r ready, image, long, comes, goes)
 
 pub returns : goal.returns
 returns c =

@@ -7,7 +7,7 @@ returns-in-Record-clause-passed c = λ bytes h.
     let old = c.args.self.now in
     let part = take c.move_to-in-Record.result c.args.piece.now in
     let len = whole_take c.move_to-in-Record.result c.args.piece.now c.move_to-in-Record.ensures.count in
-    c.move_to-in-Record.ensures.passed bytes part h len (record_step old.form old.greatest c.in-Record.left (length c.args.piece.now) old.place part c.in-Record.is len (omega arith))
+    c.move_to-in-Record.ensures.passed bytes part h len (record_step old.form old.greatest c.in-Record.left c.in-Record.room (length c.args.piece.now) old.place part c.in-Record.is len (omega arith))
 
 pub returns-in-Lost-clause-passed : goal.returns-in-Lost-clause-passed
 returns-in-Lost-clause-passed c = λ bytes h.

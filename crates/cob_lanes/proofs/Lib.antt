@@ -1,0 +1,12 @@
+pub mod LaneLemmas
+pub mod HalfLemmas
+pub mod WindowLemmas
+pub mod EndLemmas
+pub mod ZonedReading
+pub mod SeparateReading
+pub mod PackedReading
+pub mod WantedLemmas
+pub mod Writing
+pub mod WordLemmas
+pub mod WordReading
+pub mod WordWriting

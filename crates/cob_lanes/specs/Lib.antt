@@ -1,0 +1,6 @@
+pub mod Lanes
+pub mod Windows
+pub mod Readers
+pub mod Writers
+pub mod Texts
+pub mod Words

@@ -1,0 +1,63 @@
+-- What a reader of lanes takes of a window, and what it is to read a kind of item.
+use Rattle.std.specs.Prelude.{◌≡◌, ℕ, ◌-◌, ◌/◌, ◌%◌, ◌==◌, ◌<◌, ◌≤◌, ℤ, pos, ◌-ℤ◌, Bool, true, false, if◌then◌else◌, List, length, slice_index, Option, Some, None}
+use Rattle.cob_decimal.specs.Decimal.{IsDigits, number_of, digit_at}
+use Rattle.cob_codec.specs.Sign.{sign_meaning, IsSigned}
+use Rattle.cob_lanes.specs.Lanes.{AreBounded, IsVector, halves_at}
+use Rattle.cob_lanes.specs.Windows.{last_bytes}
+use Rattle.cob_lanes.specs.declared.signs.SignByte.{SignByte}
+use Rattle.cob_lanes.specs.declared.signs.SignByte.TheVariants.{Zone, LowHalf, Own}
+use Rattle.cob_lanes.specs.declared.reader.LaneReader.{LaneReader}
+
+-- What a sign's byte says where it is the whole byte: 4E is a plus, 60 a minus, and all else no sign.
+abbrev pub own_meaning : ℕ → Option Bool
+own_meaning byte = if byte == 0x4E then Some false else (if byte == 0x60 then Some true else None)
+
+-- What the byte of a sign says, by where in it the sign is: plus, or, where it is true, minus.
+abbrev pub byte_meaning : SignByte → Bool → ℕ → Option Bool
+byte_meaning Zone signed byte = sign_meaning signed (byte / 16)
+byte_meaning LowHalf signed byte = sign_meaning signed (byte % 16)
+byte_meaning Own signed byte = own_meaning byte
+
+-- The window passes the reader: its half bytes are within the bounds, and the sign's byte is a sign, a minus or not.
+pub record LanesPass (r : LaneReader) (v : List ℕ) (minus : Bool) : Type 0 where
+  pub within : AreBounded r.bounds.least_high r.bounds.most_high r.bounds.most_low v
+  pub sign : byte_meaning r.sign r.signed (slice_index v r.place) ≡ Some minus
+
+-- The lanes that the reader takes of the window.
+pub record AreTaken (r : LaneReader) (v digits : List ℕ) : Type 0 where
+  pub long : length digits ≡ 16
+  pub each : (i : ℕ) → i < 16 → slice_index digits i ≡ halves_at v (slice_index r.high.lanes i) (slice_index r.low.lanes i)
+
+-- The first lanes, as many as are wanted, are the digits of the number when it is moved left by so many places; all others are 0.
+pub record AreWanted (wanted : ℕ) (shift : ℤ) (number : ℕ) (digits : List ℕ) : Type 0 where
+  pub long : length digits ≡ 16
+  pub each : (j : ℕ) → j < wanted → slice_index digits j ≡ digit_at number (pos (wanted - 1 - j) -ℤ shift)
+  pub rest : (j : ℕ) → wanted ≤ j → j < 16 → slice_index digits j ≡ 0
+
+-- The bytes represent a number with this sign, and these digits of it are kept.
+pub record AreRead (represents : Bool → List ℕ → Type 0) (wanted : ℕ) (shift : ℤ) (minus : Bool) (kept : List ℕ) : Type 0 where
+  pub negative : Bool
+  pub digits : List ℕ
+  pub represented : represents negative digits
+  pub valid : IsDigits digits
+  pub sign : IsSigned minus digits negative
+  pub held : AreWanted wanted shift (number_of digits) kept
+
+-- The reader reads items of so many bytes at the end of windows: those that pass represent a number, of which it keeps the digits that are
+-- wanted, and those that represent a number pass.
+pub record IsReaderOf (represents : List ℕ → Bool → List ℕ → Type 0) (size wanted : ℕ) (shift : ℤ) (r : LaneReader) : Type 0 where
+  pub fits : size ≤ 16
+  pub room : wanted ≤ 16
+  pub reads : (v kept : List ℕ) (minus : Bool) → IsVector v → LanesPass r v minus → AreTaken r v kept
+      → AreRead (represents (last_bytes size v)) wanted shift minus kept
+  pub passes : (v : List ℕ) (negative : Bool) (digits : List ℕ) → IsVector v → represents (last_bytes size v) negative digits
+      → (minus : Bool) × LanesPass r v minus
+
+-- What was read of the item at the end of bytes: of a window that ends with the same bytes, whether it passes, and the lanes that were taken.
+pub record IsLanesRead (r : LaneReader) (bytes : List ℕ) (is_number minus : Bool) (digits : List ℕ) : Type 0 where
+  pub window : List ℕ
+  pub vector : IsVector window
+  pub same : (size : ℕ) → size ≤ 16 → size ≤ length bytes → last_bytes size window ≡ last_bytes size bytes
+  pub number : is_number ≡ true → LanesPass r window minus
+  pub nothing : is_number ≡ false → (m : Bool) → ¬ LanesPass r window m
+  pub taken : AreTaken r window digits

@@ -1,0 +1,164 @@
+//! Sixteen lanes at once.
+
+ghost use Rattle.std.specs.Prelude.{◌≡◌, ◌==◌, ℕ, ◌+◌, ◌-◌, ◌*◌, ◌/◌, ◌%◌, ◌<◌, ◌↔◌, Bool, ◌&&◌, not, true, length, slice_index, IsTrue};
+ghost use Rattle.std.specs.List.{prefix_len};
+ghost use Rattle.cob_lanes.specs.Lanes.{first_set, is_pick, picked_at, halves_at, AreZero, AreBounded};
+
+use std::simd::prelude::*;
+
+/// The lane that is none.
+pub const NO_LANE: u8 = 128;
+
+/// For each lane the number of the lane that it is taken from, or none.
+#[derive(Clone, Copy, Debug)]
+pub struct Picks {
+    pub lanes: [u8; 16],
+    pub ghost long: { length lanes ≡ 16 },
+    pub ghost valid: { (i : ℕ) → i < 16 → is_pick (slice_index lanes i) ≡ true },
+}
+
+/// The lanes of these numbers, and 0 for none.
+#[inline(always)]
+pub(crate) fn picked(v: u8x16, at: &Picks) -> u8x16
+    ensures long { length result ≡ 16 }
+    ensures lanes { (i : ℕ) → i < 16
+        → slice_index result i ≡ picked_at v (slice_index at.now.lanes i) }
+{
+    v.swizzle_dyn(u8x16::from_array(at.lanes))
+}
+
+/// The high half of each byte.
+#[inline(always)]
+fn highs(v: u8x16) -> u8x16
+    ensures long { length result ≡ 16 }
+    ensures lanes { (i : ℕ) → i < 16 → slice_index result i ≡ slice_index v i / 16 }
+{
+    v >> u8x16::splat(4)
+}
+
+/// The low half of each byte.
+#[inline(always)]
+fn lows(v: u8x16) -> u8x16
+    ensures long { length result ≡ 16 }
+    ensures lanes { (i : ℕ) → i < 16 → slice_index result i ≡ slice_index v i % 16 }
+{
+    v & u8x16::splat(15)
+}
+
+/// How much each lane is more than the other's.
+#[inline(always)]
+fn excess(a: u8x16, b: u8x16) -> u8x16
+    ensures long { length result ≡ 16 }
+    ensures lanes { (i : ℕ) → i < 16 → slice_index result i ≡ slice_index a i - slice_index b i }
+{
+    a.saturating_sub(b)
+}
+
+/// What is 0 where both are.
+#[inline(always)]
+fn either(a: u8x16, b: u8x16) -> u8x16
+    ensures { AreZero result ↔ (AreZero a × AreZero b) }
+{
+    a | b
+}
+
+/// Whether all lanes are 0.
+#[inline(always)]
+pub(crate) fn are_zero(v: u8x16) -> bool
+    ensures { IsTrue result ↔ AreZero v }
+{
+    v.simd_ne(u8x16::splat(0)).to_bitmask() == 0
+}
+
+/// Whether a minus stays with digits: one of them is not 0.
+#[inline(always)]
+pub fn keeps_minus(minus: bool, digits: u8x16) -> bool
+    ensures { (zero : Bool) × (IsTrue zero ↔ AreZero digits) × (result ≡ (minus && not zero)) }
+{
+    let zero = are_zero(digits);
+    minus && !zero
+}
+
+/// The number of the lowest bit of a mask that is set, and 16 where none is.
+#[inline(always)]
+fn first_set(mask: u64) -> usize
+    ensures { result ≡ first_set mask }
+{
+    if mask == 0 {
+        16
+    } else {
+        mask.trailing_zeros() as usize
+    }
+}
+
+/// How many lanes stand before the first that is not 0.
+#[inline(always)]
+pub fn zeros_before(digits: u8x16) -> usize
+    ensures { result ≡ prefix_len (λ d. d == 0) digits }
+{
+    first_set(digits.simd_ne(u8x16::splat(0)).to_bitmask())
+}
+
+/// The sum of each two lanes, which is cut to a byte.
+#[inline(always)]
+pub(crate) fn sums(a: u8x16, b: u8x16) -> u8x16
+    ensures long { length result ≡ 16 }
+    ensures lanes { (i : ℕ) → i < 16
+        → slice_index result i ≡ (slice_index a i + slice_index b i) % 256 }
+{
+    a + b
+}
+
+/// Each lane in the high half of its byte.
+#[inline(always)]
+pub(crate) fn raised(v: u8x16) -> u8x16
+    ensures long { length result ≡ 16 }
+    ensures lanes { (i : ℕ) → i < 16 → slice_index result i ≡ slice_index v i * 16 % 256 }
+{
+    v << u8x16::splat(4)
+}
+
+/// The least and the greatest that the half bytes of sixteen bytes may be.
+#[derive(Clone, Copy, Debug)]
+pub struct Bounds {
+    pub least_high: [u8; 16],
+    pub most_high: [u8; 16],
+    pub most_low: [u8; 16],
+}
+
+/// Whether the half bytes of sixteen bytes are within their bounds.
+#[inline(always)]
+fn are_within(v: u8x16, high: u8x16, low: u8x16, by: &Bounds) -> bool
+    requires high { (i : ℕ) → i < 16 → slice_index high i ≡ slice_index v i / 16 }
+    requires low { (i : ℕ) → i < 16 → slice_index low i ≡ slice_index v i % 16 }
+    ensures { IsTrue result
+        ↔ AreBounded by.now.least_high by.now.most_high by.now.most_low v }
+{
+    let least = excess(u8x16::from_array(by.least_high), high);
+    let most = excess(high, u8x16::from_array(by.most_high));
+    let more = excess(low, u8x16::from_array(by.most_low));
+    are_zero(either(either(least, most), more))
+}
+
+/// Half bytes that were taken, and whether all are within their bounds.
+#[derive(Clone, Copy)]
+pub(crate) struct Taken {
+    pub(crate) is_within: bool,
+    pub(crate) digits: u8x16,
+}
+
+/// The half bytes of sixteen bytes at the lanes of these numbers.
+#[inline(always)]
+pub(crate) fn take_halves(v: u8x16, bounds: &Bounds, high: &Picks, low: &Picks) -> Taken
+    ensures long { length result.digits ≡ 16 }
+    ensures within { IsTrue result.is_within
+        ↔ AreBounded bounds.now.least_high bounds.now.most_high bounds.now.most_low v }
+    ensures lanes { (i : ℕ) → i < 16 → slice_index result.digits i
+        ≡ halves_at v (slice_index high.now.lanes i) (slice_index low.now.lanes i) }
+{
+    let upper = highs(v);
+    let lower = lows(v);
+    let is_within = are_within(v, upper, lower, bounds);
+    let digits = sums(picked(upper, high), picked(lower, low));
+    Taken { is_within, digits }
+}

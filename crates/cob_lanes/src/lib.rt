@@ -1,0 +1,45 @@
+//! Numbers of at most sixteen digits as lanes of a vector: numeric items read to digits and written from digits, sixteen bytes at a time.
+//!
+//! A [`LaneReader`] reads items of one kind and shape, each at the end of a window of sixteen bytes, and keeps the digits that are
+//! [`Wanted`] when the number is moved by the point; a [`LaneWriter`] writes items of one kind and shape from such digits. Both are
+//! made ready once, by [`LaneReader::zoned`], `separate` and `packed` and by [`LaneWriter::zoned`], `separate` and `packed`, and hold
+//! nothing but bounds, positions and what is added: no length, scale or sign is looked at while numbers are read and written.
+//!
+//! What is promised: [`LaneReader::read`] answers whether a window passes the reader, and the lanes that it takes (`IsLanesRead` of
+//! specs/Readers.antt), and of a reader that was made ready it is proved that this is reading (`IsReaderOf`): bytes pass exactly where they
+//! represent a number by the definitions of `cob_codec`, and what is taken then is that number's digits, aligned (`AreRead`).
+//! [`LaneWriter::write`] leaves the bytes that it makes of digits and a sign (`AreMade` of specs/Writers.antt), and of a writer that was
+//! made ready these are the stored form (`IsWriterOf`). [`LaneText::write`] leaves a text of digits (`AreShown` of specs/Texts.antt): what
+//! each byte shows of them, and what is added to it. [`keeps_minus`] says whether a minus stays with digits, and [`zeros_before`] how many
+//! of them are zeros in front.
+//!
+//! It stands on cob_codec for what bytes represent and what is stored, on cob_decimal for digits and alignment, and on `std::simd`. It
+//! knows no record and no move, and nothing here takes memory.
+#![tactic(auto)]
+
+mod binary;
+mod binary_reading;
+mod binary_writing;
+mod filling;
+mod lanes;
+mod picks;
+mod reader;
+mod readers;
+mod reading;
+mod signs;
+mod text;
+mod wanted;
+mod width;
+mod words;
+mod writer;
+mod writers;
+
+pub use binary::{BinaryReader, BinaryWriter};
+pub use lanes::{Bounds, NO_LANE, Picks, keeps_minus, zeros_before};
+pub use reader::LaneReader;
+pub use reading::LanesRead;
+pub use signs::SignByte;
+pub use text::LaneText;
+pub use wanted::Wanted;
+pub use width::Width;
+pub use writer::LaneWriter;

@@ -1,0 +1,23 @@
+//! What reads numbers of items.
+
+ghost use Rattle.std.specs.Prelude.{◌<◌};
+
+use crate::lanes::{Bounds, Picks};
+use crate::signs::SignByte;
+
+/// What reads the number of items of one kind, each at the end of sixteen bytes, and keeps the digits that are wanted.
+#[derive(Clone, Copy, Debug)]
+pub struct LaneReader {
+    pub bounds: Bounds,
+    /// The high halves of bytes that are digits, for the lanes of the digits that are kept.
+    pub high: Picks,
+    /// The low halves likewise.
+    pub low: Picks,
+    /// Where in its byte the sign is.
+    pub sign: SignByte,
+    /// Whether the item is signed.
+    pub signed: bool,
+    /// Which of the sixteen bytes has the sign.
+    pub place: u8,
+    pub ghost within: { place < 16 },
+}

@@ -1,0 +1,101 @@
+//! Makes single moves by prepared steps, and prints sums of what the receivers hold.
+//!
+//! Numbers are moved between each two kinds of items, of each number of digits, and to edited items; characters between entries of each
+//! length; figurative constants to entries of each length. Scales, bytes and signs are drawn, the same in each run. A line tells how many
+//! moves were made, how many senders represented no number, how many moves had no step, and the sum. `tools/lane_sums` works the same out
+//! from the rules alone.
+#![tactic(auto)]
+
+mod characters;
+mod draws;
+mod edited;
+mod kinds;
+mod numbers;
+mod senders;
+mod tally;
+
+use crate::characters::{CharacterMove, figuratives, try_characters, try_figurative};
+use crate::draws::Draws;
+use crate::edited::{edited_kinds, try_edited};
+use crate::kinds::{all_kinds, kinds};
+use crate::numbers::try_kinds;
+use crate::tally::Tally;
+use std::io;
+
+/// Prints what came of moves.
+fn print_tally(rt: HostRuntime, from: &str, to: &str, tally: &Tally) -> io::Result<()> {
+    let (moved, no_number, no_step, sum) = tally.parts();
+    println!(rt;
+        "{from} to {to}: {moved} moved, {no_number} no number, {no_step} no step, sum {sum}"
+    )
+}
+
+/// Numbers.
+fn print_numbers(rt: HostRuntime, draws: &mut Draws) -> io::Result<()> {
+    let kinds = kinds();
+    for from in &kinds {
+        for to in &kinds {
+            let tally = try_kinds(rt.alloc(), from, to, draws)?;
+            print_tally(rt, from.name, to.name, &tally)?;
+        }
+    }
+    Ok(())
+}
+
+/// Numbers from and to binary items.
+fn print_binary(rt: HostRuntime, draws: &mut Draws) -> io::Result<()> {
+    let kinds = all_kinds();
+    for from in &kinds {
+        for to in &kinds {
+            if from.is_binary() || to.is_binary() {
+                let tally = try_kinds(rt.alloc(), from, to, draws)?;
+                print_tally(rt, from.name, to.name, &tally)?;
+            }
+        }
+    }
+    Ok(())
+}
+
+/// Edited numbers.
+fn print_edited(rt: HostRuntime, draws: &mut Draws) -> io::Result<()> {
+    let kinds = all_kinds();
+    for from in &kinds {
+        for to in &edited_kinds() {
+            let tally = try_edited(rt.alloc(), from, to, draws)?;
+            print_tally(rt, from.name, to.picture, &tally)?;
+        }
+    }
+    Ok(())
+}
+
+/// Characters.
+fn print_characters(rt: HostRuntime, draws: &mut Draws) -> io::Result<()> {
+    for (from, to, which) in [
+        ("characters", "characters", CharacterMove::Plain),
+        ("characters", "JUSTIFIED", CharacterMove::Justified),
+        ("group", "JUSTIFIED", CharacterMove::FromGroup),
+        ("characters", "group", CharacterMove::ToGroup),
+    ] {
+        let tally = try_characters(rt.alloc(), which, draws)?;
+        print_tally(rt, from, to, &tally)?;
+    }
+    Ok(())
+}
+
+/// Constants.
+fn print_constants(rt: HostRuntime) -> io::Result<()> {
+    for (name, figurative) in figuratives() {
+        let tally = try_figurative(rt.alloc(), figurative)?;
+        print_tally(rt, name, "all", &tally)?;
+    }
+    Ok(())
+}
+
+fn main(rt: HostRuntime) -> io::Result<()> {
+    let mut draws = Draws::new(1985);
+    print_numbers(rt, &mut draws)?;
+    print_edited(rt, &mut draws)?;
+    print_characters(rt, &mut draws)?;
+    print_constants(rt)?;
+    print_binary(rt, &mut draws)
+}

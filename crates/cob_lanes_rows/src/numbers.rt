@@ -1,0 +1,111 @@
+//! Moves of numbers between items.
+
+ghost use Rattle.std.specs.Prelude.{◌<◌, ◌≤◌, length};
+
+use crate::draws::Draws;
+use crate::kinds::{ItemKind, drawn_scale, push_picture};
+use crate::senders::drawn_record;
+use crate::tally::Tally;
+use cob_copybook_tree::Item;
+use cob_move_prepared::{BinaryStep, NumberStep};
+use cob_picture::Picture;
+use std::alloc::{AllocError, Global};
+
+/// How often a move is tried between items of the same kinds and numbers of digits.
+pub const TRIES: u32 = 2;
+
+/// What stands in a receiver's bytes before the move.
+pub const UNWRITTEN: u8 = 0xAA;
+
+/// An item of a kind, of so many digits and a drawn scale.
+pub fn drawn_item(
+    alloc: Global,
+    kind: &ItemKind,
+    digits: u32,
+    draws: &mut Draws,
+) -> Result<Option<Item>, AllocError>
+    requires some { 0 < digits }
+    requires most { digits ≤ 16 }
+{
+    let scale = drawn_scale(draws, digits);
+    let mut text = String::new(alloc);
+    push_picture(&mut text, kind.signed, digits, scale)?;
+    match Picture::read(text.as_bytes()) {
+        Ok(picture) => Ok(Some(Item {
+            picture,
+            usage: kind.usage,
+            sign: kind.sign,
+            justified: false,
+            blank: false,
+        })),
+        Err(_) => Ok(None),
+    }
+}
+
+/// Moves the number at the end of a record to a receiver's bytes, where there is a step.
+fn moved(sender: &Item, receiver: &Item, record: &[u8], to: &mut [u8]) -> Option<bool>
+    requires { length to.old ≤ 16 }
+{
+    if let Some(step) = NumberStep::prepare(sender, receiver) {
+        return Some(step.run(record, to));
+    }
+    let step = BinaryStep::prepare(sender, receiver)?;
+    Some(step.run(record, to))
+}
+
+/// Moves the number at the end of a record to a receiver, and counts what came of it.
+fn tally_move(sender: &Item, receiver: &Item, record: &[u8], tally: &mut Tally) {
+    let size = usize::from(receiver.size());
+    if size > 16 {
+        tally.count_none();
+        return;
+    }
+    let mut bytes = [UNWRITTEN; 16];
+    match moved(sender, receiver, record, &mut bytes[..size]) {
+        Some(moved) => tally.count(moved, &bytes[..size]),
+        None => tally.count_none(),
+    }
+}
+
+/// Tries a move between items of two kinds and numbers of digits.
+fn try_move(
+    alloc: Global,
+    from: &ItemKind,
+    to: &ItemKind,
+    sent: u32,
+    received: u32,
+    draws: &mut Draws,
+    tally: &mut Tally,
+) -> Result<(), AllocError>
+    requires some_sent { 0 < sent }
+    requires most_sent { sent ≤ 16 }
+    requires some_received { 0 < received }
+    requires most_received { received ≤ 16 }
+{
+    let sender = drawn_item(alloc, from, sent, draws)?;
+    let receiver = drawn_item(alloc, to, received, draws)?;
+    let record = drawn_record(alloc, from, sent as usize, draws)?;
+    match (&sender, &receiver) {
+        (Some(sender), Some(receiver)) => tally_move(sender, receiver, record.as_slice(), tally),
+        _ => tally.count_none(),
+    }
+    Ok(())
+}
+
+/// Tries the moves between items of two kinds.
+pub fn try_kinds(
+    alloc: Global,
+    from: &ItemKind,
+    to: &ItemKind,
+    draws: &mut Draws,
+) -> Result<Tally, AllocError> {
+    let mut tally = Tally::new();
+    for sent in 1..from.most_digits() + 1 {
+        for received in 1..to.most_digits() + 1 {
+            for _ in 0..TRIES {
+                try_move(alloc, from, to, sent, received, draws, &mut tally)?;
+            }
+        }
+    }
+    Ok(tally)
+}

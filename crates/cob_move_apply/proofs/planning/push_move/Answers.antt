@@ -1,0 +1,66 @@
+use Rattle.std.proofs.Common.{◌∙◌, [], ◌∷◌, List, ap, arith, length, refl, subst, sym}
+use Rattle.std.proofs.lemmas.List.{length-map}
+use Rattle.std.proofs.lemmas.Result.{on_ok_weaker}
+use Rattle.cob_layout_places.specs.declared.reference.Ref.{Ref}
+use Rattle.cob_layout_places.specs.Moves.{Records, move_by, operand_in}
+use Rattle.cob_move_apply.specs.Planned.{records_between}
+use Rattle.cob_move_apply.specs.Steps.{Gains, singles_of}
+use Rattle.cob_move_apply.proofs.CutLemmas.{cut_selves, cut_singles}
+use Rattle.cob_move_apply.proofs.InLemmas.{in_whole, move_with, none_left, some_left}
+use Rattle.cob_move_apply.proofs.JoinLemmas.{more_empty, more_unsteady, more_whole}
+use Rattle.cob_move_apply.proofs.planning.push_move.Goals.{else-is_steady-via-then-is_steady+else-not-is_empty, else-is_steady-via-else-is_steady}
+use Rattle.cob_move_apply.proofs.planning.push_move.Goals as goal
+
+pub returns-then-not-is_empty-clause-gains : goal.returns-then-not-is_empty-clause-gains
+returns-then-not-is_empty-clause-gains c =
+    let r : Records = records_between c.args.both.now in
+    on_ok_weaker c.push_singles.result
+    (λ so x. (
+      singles_of (move_by x r c.args.one.now),
+      cut_singles (move_by x r c.args.one.now) (c.is_steady.ensures.yes x r c.if-is_steady.true)
+          (some_left (operand_in c.args.both.now.output.now) c.args.one.now.receivers.items _ (sym c.is_empty.ensures ∙ c.if-not-is_empty.true) (omega (arith, c.args.one.now.receivers.ok.0))),
+      so x,
+    ))
+    c.push_singles.ensures.gains
+
+pub returns-then-not-is_empty-clause-more : goal.returns-then-not-is_empty-clause-more
+returns-then-not-is_empty-clause-more c =
+    let r : Records = records_between c.args.both.now in
+    on_ok_weaker c.push_singles.result
+    (λ so x. more_whole r (move_by x r c.args.one.now) c.args.plan.now.steps.items c.push_singles.new.plan.steps.items
+    (some_left (operand_in c.args.both.now.output.now) c.args.one.now.receivers.items _ (sym c.is_empty.ensures ∙ c.if-not-is_empty.true) (omega (arith, c.args.one.now.receivers.ok.0)))
+    (so x))
+    c.push_singles.ensures.more
+
+pub push_part-requires : goal.push_part-requires
+push_part-requires c = record { part = in_whole _ _ _ c.args.one.now c.requires.at c.requires.legal refl refl c.as_slice.ensures.value }
+
+pub returns-clause-gains : goal.returns-clause-gains
+returns-clause-gains c =
+    let r : Records = records_between c.args.both.now in
+    on_ok_weaker c.push_part.result
+    (λ so x. (
+      move_by x r c.args.one.now ∷ [],
+      cut_selves (move_by x r c.args.one.now ∷ []),
+      subst (λ (rs : List Ref). Gains x r c.args.given.now (move_with x r c.args.one.now.sender rs ∷ []) c.args.plan.now c.push_part.new.plan) c.as_slice.ensures.value (so x),
+    ))
+    c.push_part.ensures.gains
+
+pub returns-clause-more : goal.returns-clause-more
+returns-clause-more c =
+    let r : Records = records_between c.args.both.now in
+    elim c.else-is_steady.branch [
+      | else-is_steady-via-then-is_steady+else-not-is_empty w ↦
+          on_ok_weaker c.push_part.result
+          (λ h x. let (p, added, count) = h in
+          more_empty r (move_by x r c.args.one.now) p c.args.plan.now.steps.items c.push_part.new.plan.steps.items
+          (none_left (operand_in c.args.both.now.output.now) c.args.one.now.receivers.items _ (sym w.is_empty.ensures ∙ w.if-not-is_empty.false) (omega (arith, c.args.one.now.receivers.ok.0)))
+          added (count ∙ ap length c.as_slice.ensures.value ∙ sym (length-map c.args.one.now.receivers.items (operand_in c.args.both.now.output.now))))
+          c.push_part.ensures.added
+      | else-is_steady-via-else-is_steady w ↦
+          on_ok_weaker c.push_part.result
+          (λ h x. let (p, added, count) = h in
+          more_unsteady r (move_by x r c.args.one.now) p c.args.plan.now.steps.items c.push_part.new.plan.steps.items (c.is_steady.ensures.only x r w.if-is_steady.false)
+          added (count ∙ ap length c.as_slice.ensures.value ∙ sym (length-map c.args.one.now.receivers.items (operand_in c.args.both.now.output.now))))
+          c.push_part.ensures.added
+    ]

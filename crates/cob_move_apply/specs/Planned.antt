@@ -1,0 +1,130 @@
+-- What plans are made from: statements, and the parts of their moves.
+use Rattle.std.specs.Prelude.{◌≡◌, ℕ, ◌+◌, ◌<◌, ◌≤◌, List, [], ◌∷◌, ◌++◌, length, get_or, map, Option, Some, None}
+use Rattle.cob_codec.specs.declared.reading.Reading.{Reading}
+use Rattle.cob_limits.specs.Limits.{longest_record}
+use Rattle.cob_layout_places.specs.declared.operands.PairMoves.{PairMoves}
+use Rattle.cob_layout_places.specs.declared.operands.Sender as code_sender
+use Rattle.cob_layout_places.specs.declared.operands.Side.TheVariants.{In}
+use Rattle.cob_layout_places.specs.declared.operands.StatementMoves.{StatementMoves}
+use Rattle.cob_layout_places.specs.declared.reference.Ref.{Ref}
+use Rattle.cob_layout_places.specs.Moves.{Entry, IsMove, Move, Records, numbered_move_by, operand_in, sender, sender_by}
+use Rattle.cob_move_apply.specs.Joined.{CopyEnds, copies_of, copy_ends, last_end, neither_varies, steps_behind}
+use Rattle.cob_move_apply.specs.Steps.{Gains, GainsCut, HasPart, IsPreparedMove, alone, pair_at, part_of}
+use Rattle.cob_move_apply.specs.Written.{AreCopied}
+use Rattle.cob_move_apply.specs.declared.step.Plan.{Plan}
+use Rattle.cob_move_apply.specs.declared.step.PreparedMove.{PreparedMove}
+use Rattle.cob_move_prepared.specs.declared.pool.MoveSteps.{MoveSteps}
+use Rattle.cob_move_apply.specs.declared.step.CopyPlaces.{CopyPlaces}
+use Rattle.cob_move_apply.specs.declared.step.Step.{Step}
+use Rattle.cob_move_apply.specs.declared.step.Step.TheVariants as step
+use Rattle.cob_move_apply.specs.declared.planning.Between.{Between}
+use Rattle.cob_move_apply.specs.declared.planning.StatementPart.{StatementPart}
+
+-- the records that a plan is made between
+abbrev pub records_between : Between → Records
+records_between b = record { input = b.input.now; output = b.output.now }
+
+-- what is noted of them holds
+abbrev pub AreBetween : Between → Type 0
+AreBetween b = b.is_fixed ≡ neither_varies (records_between b)
+
+-- the move of an entry of the input record to one of the output record
+abbrev pub copied_move : Reading → Records → Ref → Ref → Move
+copied_move reading r sent receiver =
+    alone (Entry In reading (operand_in r.input sent)) (operand_in r.output receiver)
+
+-- the move that a part is, its sender read so
+abbrev pub meant : Reading → Records → StatementPart → Move
+meant reading r p = record { sender = sender_by reading r p.sender.now; receivers = map (operand_in r.output) p.receivers.now }
+
+-- the statement with this number is this one
+abbrev pub IsStatementAt : List StatementMoves → ℕ → StatementMoves → Type 0
+IsStatementAt given number s = (number < length given) × (s ≡ get_or given number s)
+
+-- the statements have this part, which is a move between the records
+pub record IsPartIn (r : Records) (given : List StatementMoves) (p : StatementPart) : Type 0 where
+  pub statement : StatementMoves
+  pub at : IsStatementAt given p.statement statement
+  pub has : HasPart statement p.first (length p.receivers.now)
+  pub is : (reading : Reading) → meant reading r p ≡ part_of reading r statement p.first (length p.receivers.now)
+  pub move : IsMove r (record { sender = sender r p.sender.now; receivers = map (operand_in r.output) p.receivers.now })
+
+-- both places of a copy end within the longest record
+pub record AreWithinLongest (c : CopyPlaces) : Type 0 where
+  pub from : c.from.offset + c.from.length ≤ longest_record
+  pub to : c.to.offset + c.to.length ≤ longest_record
+
+-- for how many steps a step is counted: a part for each of its receivers
+abbrev pub step_count : Step → ℕ
+step_count (step.Part p) = p.count
+step_count (step.Prepared p) = 1
+step_count (step.Copy c) = 1
+
+-- for how many these are
+abbrev pub counted_steps : List Step → ℕ
+counted_steps [] = 0
+counted_steps (s ∷ ss) = step_count s + counted_steps ss
+
+-- where a step ends that is a copy
+abbrev pub step_ends : Step → Option CopyEnds
+step_ends (step.Part p) = None
+step_ends (step.Prepared p) = None
+step_ends (step.Copy c) = Some (copy_ends c)
+
+-- where the last of these steps ends, if it is a copy
+abbrev pub last_step_ends : List Step → Option CopyEnds
+last_step_ends [] = None
+last_step_ends (s ∷ []) = step_ends s
+last_step_ends (s ∷ t ∷ ss) = last_step_ends (t ∷ ss)
+
+-- where the last single move of moves ends, if it is a copy
+abbrev pub end_behind : Records → Option CopyEnds → List Move → Option CopyEnds
+end_behind r before [] = before
+end_behind r before (m ∷ ms) = end_behind r (last_end (copies_of r m)) ms
+
+-- steps became these, which are as many more as the moves make
+pub record AreMore (r : Records) (ms : List Move) (before now : List Step) : Type 0 where
+  pub counts : counted_steps now ≡ counted_steps before + steps_behind r (last_step_ends before) ms
+  pub last : last_step_ends now ≡ end_behind r (last_step_ends before) ms
+
+-- steps became these by one more, which is counted once and is no copy
+abbrev pub HasOneMore : List Step → List Step → Type 0
+HasOneMore before now = (s : Step) × (now ≡ before ++ s ∷ []) × (step_count s ≡ 1) × (step_ends s ≡ None)
+
+-- ---- whatever the reading
+
+-- the move of a part, by itself
+abbrev pub part_alone : Between → StatementPart → Reading → List Move
+part_alone b p reading = meant reading (records_between b) p ∷ []
+
+-- the move of a pair, by itself
+abbrev pub pair_alone : Between → PairMoves → ℕ → Reading → List Move
+pair_alone b g number reading = numbered_move_by reading (records_between b) g (pair_at g number) ∷ []
+
+-- the single move of a sender, by itself
+abbrev pub single_alone : Between → code_sender.Sender → Ref → Reading → List Move
+single_alone b s receiver reading = alone (sender_by reading (records_between b) s) (operand_in b.output.now receiver) ∷ []
+
+-- the single move of an entry of the input record, by itself
+abbrev pub entry_alone : Between → Ref → Ref → Reading → List Move
+entry_alone b sent receiver reading = copied_move reading (records_between b) sent receiver ∷ []
+
+-- Whatever the reading, a plan became another, with steps for these moves behind those before.
+abbrev pub AlwaysGains : Between → List StatementMoves → (Reading → List Move) → (before now : Plan) → Type 0
+AlwaysGains b given ms before now = (reading : Reading) → Gains reading (records_between b) given (ms reading) before now
+
+-- The same, with steps for what these moves are cut into.
+abbrev pub AlwaysGainsCut : Between → List StatementMoves → (Reading → List Move) → (before now : Plan) → Type 0
+AlwaysGainsCut b given ms before now = (reading : Reading) → GainsCut reading (records_between b) given (ms reading) before now
+
+-- Whatever the reading, steps became these, which are as many more as the moves make.
+abbrev pub AlwaysMore : Between → (Reading → List Move) → (before now : List Step) → Type 0
+AlwaysMore b ms before now = (reading : Reading) → AreMore (records_between b) (ms reading) before now
+
+-- Whatever the reading, moves are a copy between these places.
+abbrev pub AlwaysCopied : Between → CopyPlaces → (Reading → List Move) → Type 0
+AlwaysCopied b c ms = (reading : Reading) → AreCopied (records_between b) c.from c.to (ms reading)
+
+-- Whatever the reading, moves are a single one that was made ready so, by one of these steps.
+abbrev pub AlwaysPrepared : Between → MoveSteps → PreparedMove → (Reading → List Move) → Type 0
+AlwaysPrepared b steps p ms = (reading : Reading) → IsPreparedMove reading (records_between b) steps p (ms reading)

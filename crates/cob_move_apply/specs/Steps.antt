@@ -1,0 +1,126 @@
+-- Steps: what is carried out in the place of moves.
+use Rattle.std.specs.Prelude.{◌≡◌, ◌⊎◌, ℕ, ◌+◌, ◌<◌, ◌≤◌, List, [], ◌∷◌, ◌++◌, length, get_or, map, take, drop}
+use Rattle.cob_codec.specs.declared.reading.Reading.{Reading}
+use Rattle.cob_layout_places.specs.declared.operands.Side.TheVariants.{In, Out}
+use Rattle.cob_layout_places.specs.declared.operands.Operand.{Operand}
+use Rattle.cob_layout_places.specs.declared.operands.Move as code_move
+use Rattle.cob_layout_places.specs.declared.operands.NumberedPair.{NumberedPair}
+use Rattle.cob_layout_places.specs.declared.operands.PairMoves.{PairMoves}
+use Rattle.cob_layout_places.specs.declared.operands.StatementMoves.{StatementMoves}
+use Rattle.cob_layout_places.specs.declared.operands.StatementMoves.TheVariants.{Single, Pairs}
+use Rattle.cob_layout_places.specs.Moves.{Move, Records, Sender, Entry, Literal, numbered_move_by, operand_in, sender_by}
+use Rattle.cob_move_apply.specs.Placed.{IsPlacedMove}
+use Rattle.cob_move_apply.specs.Written.{AreCopied, IsFixedMove}
+use Rattle.cob_move_prepared.specs.Pool.{IsMoveStep, MoveKinds}
+use Rattle.cob_move_prepared.specs.declared.pool.MoveSteps.{MoveSteps}
+use Rattle.cob_move_apply.specs.declared.basis.Basis.{Basis}
+use Rattle.cob_move_apply.specs.declared.step.Part.{Part}
+use Rattle.cob_move_apply.specs.declared.step.Plan.{Plan}
+use Rattle.cob_move_apply.specs.declared.step.PreparedMove.{PreparedMove}
+use Rattle.cob_move_apply.specs.declared.step.Step.{Step}
+use Rattle.cob_move_apply.specs.declared.step.Step.TheVariants as step
+
+-- the pair of two groups with this number
+abbrev pub pair_at : PairMoves → ℕ → NumberedPair
+pair_at g number = get_or g.pairs.items number (record { from = 0; to = 0 })
+
+-- a move with so many of its receivers, behind those that are left out
+abbrev pub with_some : Reading → Records → code_move.Move → (first count : ℕ) → Move
+with_some reading r m first count =
+    record { sender = sender_by reading r m.sender; receivers = map (operand_in r.output) (take count (drop first m.receivers.items)) }
+
+-- the move that a part of a statement's moves is: one with some of the receivers, or that of one pair
+abbrev pub part_of : Reading → Records → StatementMoves → (first count : ℕ) → Move
+part_of reading r (Single m) first count = with_some reading r m first count
+part_of reading r (Pairs g) first count = numbered_move_by reading r g (pair_at g first)
+
+-- a statement's moves have this part
+abbrev pub HasPart : StatementMoves → (first count : ℕ) → Type 0
+HasPart (Single m) first count = first + count ≤ length m.receivers.items
+HasPart (Pairs g) first count = (first < length g.pairs.items) × (count ≡ 1)
+
+-- the bases of a move's operands stand at the front of these
+abbrev pub BeginsWith : Records → Move → List Basis → Type 0
+BeginsWith r m bs = (own behind : List Basis) × (bs ≡ own ++ behind) × IsPlacedMove r m own
+
+-- a part of the moves of a statement is this move, and the bases of its operands begin where it says
+pub record IsMoveOfPart (reading : Reading) (r : Records) (given : List StatementMoves) (bases : List Basis) (p : Part) (m : Move) : Type 0 where
+  pub statement : StatementMoves
+  pub below : p.statement < length given
+  pub at : statement ≡ get_or given p.statement statement
+  pub has : HasPart statement p.first p.count
+  pub is : m ≡ part_of reading r statement p.first p.count
+  pub within : p.base ≤ length bases
+  pub placed : BeginsWith r m (drop p.base bases)
+
+-- what steps rest on: the bases of the operands of parts, and the single moves that were made ready
+pub record Support : Type 0 where
+  pub bases : List Basis
+  pub prepared : MoveSteps
+
+-- what the steps of a plan rest on
+abbrev pub support_of : Plan → Support
+support_of plan = record { bases = plan.bases.items; prepared = plan.prepared }
+
+-- these are a single move that was made ready so, by one of these steps
+abbrev pub IsPreparedMove : Reading → Records → MoveSteps → PreparedMove → List Move → Type 0
+IsPreparedMove reading r steps p own = (k : MoveKinds) × IsMoveStep steps k p.step × IsFixedMove reading r p k own
+
+-- a step stands for these moves: for one part, for a single move that was made ready, or for those that are a copy
+abbrev pub IsStep : Reading → Records → List StatementMoves → Support → Step → List Move → Type 0
+IsStep reading r given on (step.Part p) own = (m : Move) × (own ≡ m ∷ []) × IsMoveOfPart reading r given on.bases p m
+IsStep reading r given on (step.Prepared p) own = IsPreparedMove reading r on.prepared p own
+IsStep reading r given on (step.Copy places) own = AreCopied r places.from places.to own
+
+-- steps stand for these moves, one step's behind another's
+abbrev pub AreSteps : Reading → Records → List StatementMoves → Support → List Step → List Move → Type 0
+AreSteps reading r given on [] parts = parts ≡ []
+AreSteps reading r given on (s ∷ ss) parts =
+    (own rest : List Move) × (parts ≡ own ++ rest) × IsStep reading r given on s own × AreSteps reading r given on ss rest
+
+-- moves of one sender to these receivers together, in their order
+abbrev pub AreReceived : Sender → List Move → List Operand → Type 0
+AreReceived s [] os = os ≡ []
+AreReceived s (p ∷ ps) os = (p.sender ≡ s) × ((rest : List Operand) × (os ≡ p.receivers ++ rest) × AreReceived s ps rest)
+
+-- a sender with one receiver
+abbrev pub alone : Sender → Operand → Move
+alone s o = record { sender = s; receivers = o ∷ [] }
+
+-- a sender with each of some receivers by itself
+abbrev pub singles : Sender → List Operand → List Move
+singles s os = map (alone s) os
+
+-- the single moves of a move
+abbrev pub singles_of : Move → List Move
+singles_of m = singles m.sender m.receivers
+
+-- what is sent is the same before and behind a receiver: an entry of the input record, or a constant
+abbrev pub IsSteady : Sender → Type 0
+IsSteady (Entry In reading o) = Unit {0}
+IsSteady (Entry Out reading o) = ⊥
+IsSteady (Literal c) = Unit {0}
+
+-- A move is cut into these: it is one, or what it sends is the same before and behind each receiver.
+abbrev pub IsMoveCut : Move → List Move → Type 0
+IsMoveCut m [] = ⊥
+IsMoveCut m (p ∷ ps) = ((p ≡ m) × (ps ≡ [])) ⊎ (IsSteady m.sender × AreReceived m.sender (p ∷ ps) m.receivers)
+
+-- moves are cut into these, one move's behind another's
+abbrev pub AreMovesCut : List Move → List Move → Type 0
+AreMovesCut [] parts = parts ≡ []
+AreMovesCut (m ∷ ms) parts = (own rest : List Move) × (parts ≡ own ++ rest) × IsMoveCut m own × AreMovesCut ms rest
+
+-- Steps stand for moves: for those into which these are cut.
+abbrev pub StandFor : Reading → Records → List StatementMoves → List Step → Support → List Move → Type 0
+StandFor reading r given steps on ms = (parts : List Move) × AreSteps reading r given on steps parts × AreMovesCut ms parts
+
+-- a plan became another, with steps for these moves behind those before
+abbrev pub Gains : Reading → Records → List StatementMoves → List Move → (before now : Plan) → Type 0
+Gains reading r given own before now =
+    (parts : List Move) → AreSteps reading r given (support_of before) before.steps.items parts
+    → AreSteps reading r given (support_of now) now.steps.items (parts ++ own)
+
+-- a plan became another, with steps for what these moves are cut into behind those before
+abbrev pub GainsCut : Reading → Records → List StatementMoves → List Move → (before now : Plan) → Type 0
+GainsCut reading r given ms before now = (own : List Move) × AreMovesCut ms own × Gains reading r given own before now

@@ -1,0 +1,66 @@
+-- What moves write at a place that is the same in every storage, and how a single move between two such places ends.
+use Rattle.std.specs.Prelude.{◌≡◌, ℕ, ◌+◌, ◌≤◌, List, length, Ok, Option, Some, None}
+use Rattle.cob_codec.specs.declared.reading.Reading.{Reading}
+use Rattle.cob_copybook_tree.specs.Forests.{Forest}
+use Rattle.cob_copybook_tree.specs.Nodes.{Resolved}
+use Rattle.cob_layout.specs.declared.fields.Place.{Place}
+use Rattle.cob_layout.specs.Fields.{field_of, with_field}
+use Rattle.cob_layout.specs.Counting.{CountsOf}
+use Rattle.cob_layout.specs.Storage.{greatest_length, IsStorage}
+use Rattle.cob_layout_places.specs.declared.operands.Side.TheVariants.{In}
+use Rattle.cob_layout_places.specs.Moves.{Move, Records}
+use Rattle.cob_move_prepared.specs.Pool.{MoveKinds}
+use Rattle.cob_move_receive.specs.Received.{Received}
+use Rattle.cob_move_receive.specs.Sent as sent
+use Rattle.cob_move_apply.specs.Applied.{Applied, Ending, done, stopped}
+use Rattle.cob_move_apply.specs.Located.{stop_at}
+use Rattle.cob_move_apply.specs.declared.step.PreparedMove.{PreparedMove}
+use Rattle.cob_move_apply.specs.declared.stop.StopCause.TheVariants.{NoValue}
+
+-- Whatever bytes come to this place, the counts of a storage stay as they are.
+abbrev pub LeavesCounts : Forest Resolved → Place → Type 0
+LeavesCounts tree p = (counts before field : List ℕ) → p.offset + p.length ≤ length before → length field ≡ p.length
+    → CountsOf tree before (Ok counts) → CountsOf tree (with_field before p field) (Ok counts)
+
+-- Moves write bytes at a place of the output record, which follow from the input alone: no other byte changes, and no count.
+pub record AreWritten (r : Records) (to : Place) (bytes : List ℕ → List ℕ) (ms : List Move) : Type 0 where
+  pub within : to.offset + to.length ≤ greatest_length r.output
+  pub leaves : LeavesCounts r.output to
+  pub long : (input : List ℕ) → IsStorage r.input input → length (bytes input) ≡ to.length
+  pub written : (input before : List ℕ) → IsStorage r.input input → length before ≡ greatest_length r.output
+      → Applied r ms input before (done (with_field before to (bytes input)))
+
+-- Moves of entries of the input record are a copy of bytes: of all that they send, to all that receives.
+pub record AreCopied (r : Records) (from to : Place) (ms : List Move) : Type 0 where
+  pub same : from.length ≡ to.length
+  pub reads : (input : List ℕ) → IsStorage r.input input → from.offset + from.length ≤ length input
+  pub are : AreWritten r to (field_of from) ms
+
+-- the place of both, where the second begins where the first ends
+pub record IsBoth (front next both : Place) : Type 0 where
+  pub meets : next.offset ≡ front.offset + front.length
+  pub offset : both.offset ≡ front.offset
+  pub length : both.length ≡ front.length + next.length
+
+-- How a single move between the places of an input and an output record ends: the receiver's bytes stand in their place, or the sender has no value,
+-- and the move stops there.
+abbrev pub received_at : PreparedMove → List ℕ → Option (List ℕ) → Ending
+received_at p before (Some bytes) = done (with_field before p.to bytes)
+received_at p before None = stopped (stop_at In p.from.offset NoValue) before
+
+-- these kinds have as many bytes as the places
+pub record HasPlaces (p : PreparedMove) (k : MoveKinds) : Type 0 where
+  pub sent : k.sent ≡ p.from.length
+  pub received : k.received ≡ p.to.length
+
+-- what the receiver holds after the move, or none, whatever the reading
+abbrev pub IsReceivedFrom : PreparedMove → MoveKinds → List ℕ → Option (List ℕ) → Type 0
+IsReceivedFrom p k input outcome = (reading : Reading) → Received (sent.Entry k.sender (field_of p.from input) reading) k.receiver k.received outcome
+
+-- Moves are the single move of an entry of the input record to one of the output record, each of which stands at its place in every storage.
+pub record IsFixedMove (reading : Reading) (r : Records) (p : PreparedMove) (k : MoveKinds) (ms : List Move) : Type 0 where
+  pub places : HasPlaces p k
+  pub reads : (input : List ℕ) → IsStorage r.input input → p.from.offset + p.from.length ≤ length input
+  pub within : p.to.offset + p.to.length ≤ greatest_length r.output
+  pub ends : (input before : List ℕ) (outcome : Option (List ℕ)) → IsStorage r.input input → length before ≡ greatest_length r.output
+      → Received (sent.Entry k.sender (field_of p.from input) reading) k.receiver k.received outcome → Applied r ms input before (received_at p before outcome)

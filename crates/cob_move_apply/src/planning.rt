@@ -1,0 +1,548 @@
+//! Plans: the steps that stand for moves, made before a record comes. Plain copies that meet on both sides are one step.
+
+ghost use Rattle.std.specs.Prelude.{◌≡◌, ◌<◌, ◌+◌, ◌++◌, [], ◌∷◌, List, length, true, IfNone, IfOk, IfSome, IsFalse, OnOk, IsTrue, Some};
+ghost use Rattle.cob_codec.specs.declared.reading.Reading.{Reading};
+ghost use Rattle.cob_layout_places.specs.Moves.{
+  AreMoves,
+  Entry,
+  IsMove,
+  IsOperand,
+  Move as Meant,
+  Records,
+  move,
+  move_by,
+  moves,
+  moves_by,
+  numbered_move,
+  numbered_move_by,
+  operand_in,
+  sender,
+  sender_by,
+  statement_moves,
+  statement_moves_by,
+};
+ghost use Rattle.cob_layout_places.specs.declared.operands.Side.TheVariants.{In};
+ghost use Rattle.cob_layout_places.specs.declared.operands.StatementMoves.{StatementMoves as Said};
+ghost use Rattle.cob_layout_places.specs.declared.operands.StatementMoves.TheVariants.{Pairs, Single};
+ghost use Rattle.cob_move_apply.specs.Joined.{begun, copy_ends, neither_varies, plain_copy, steps_in};
+ghost use Rattle.cob_move_apply.specs.Planned.{AlwaysCopied, AlwaysGains, AlwaysGainsCut, AlwaysMore, AlwaysPrepared, AreBetween, AreMore, AreWithinLongest, HasOneMore, IsPartIn, IsStatementAt, records_between, counted_steps, entry_alone, last_step_ends, pair_alone, part_alone, single_alone, step_count, step_ends};
+ghost use Rattle.cob_move_apply.specs.Steps.{AreSteps, Gains, GainsCut, IsSteady, IsStep, StandFor, Support, alone, pair_at, singles_of, support_of};
+ghost use Rattle.cob_move_prepared.specs.Pool.{KeepsSteps};
+ghost use Rattle.cob_move_apply.specs.Written.{AreCopied};
+ghost use Rattle.cob_move_apply.specs.declared.step.Part as code_part;
+ghost use Rattle.cob_move_apply.specs.declared.step.Step.TheVariants.{Part as StepPart};
+
+use crate::basis::entry_kind;
+use crate::pairs::entry_below;
+use crate::preparation::push_bases;
+use crate::step::{CopyPlaces, Part, Plan, PreparedMove, Step, both_copies};
+use cob_layout::{Layout, Ref, places_lie_in_storage, records_are_sound, tables};
+use cob_layout_places::{Move, PairMoves, Sender, Side, StatementMoves};
+use cob_move_prepared::MoveSteps;
+use cob_move_receive::copies_bytes;
+use std::alloc::{AllocError, Global};
+use std::slice;
+
+/// The layouts of both records, while a plan is made.
+#[derive(Clone, Copy)]
+pub(crate) struct Between<'a> {
+    pub(crate) input: &'a Layout,
+    pub(crate) output: &'a Layout,
+    /// Whether neither record has a table that varies.
+    pub(crate) is_fixed: bool,
+}
+
+/// A sender, and some of its receivers in a statement, or those of one of its pairs.
+#[derive(Clone, Copy)]
+pub(crate) struct StatementPart<'a> {
+    pub(crate) statement: usize,
+    pub(crate) first: usize,
+    pub(crate) sender: &'a Sender,
+    pub(crate) receivers: &'a [Ref],
+}
+
+/// Whether neither record has a table that varies.
+///
+/// # Errors
+///
+/// Where no memory is left.
+fn neither_varies(alloc: Global, input: &Layout, output: &Layout) -> Result<bool, AllocError>
+    ensures { IfOk result
+        (λ b. b ≡ neither_varies (record { input = input.now; output = output.now })) }
+{
+    let sending = tables(alloc, input.root())?;
+    let receiving = tables(alloc, output.root())?;
+    Ok(sending.is_empty() && receiving.is_empty())
+}
+
+/// The places of a plain copy from an entry of the input record to one of the output record; None where the move is no such copy.
+fn plain_copy(sent: &Ref, receiver: &Ref, both: &Between<'_>) -> Option<CopyPlaces>
+    requires fixed { neither_varies (records_between both.now) ≡ true }
+    requires sent { IsOperand both.now.input.now (operand_in both.now.input.now sent.now) }
+    requires receiver { IsOperand both.now.output.now
+        (operand_in both.now.output.now receiver.now) }
+    ensures copied { IfSome result (λ c. AlwaysCopied both.now c
+        (entry_alone both.now sent.now receiver.now)) }
+    ensures short { IfSome result AreWithinLongest }
+    ensures value { (reading : Reading) → result ≡ plain_copy (records_between both.now)
+        (Entry In reading (operand_in both.now.input.now sent.now))
+        (operand_in both.now.output.now receiver.now) }
+{
+    places_lie_in_storage();
+    records_are_sound();
+    let _ = both.input.greatest();
+    let _ = both.output.greatest();
+    let from = both.input.fixed_place(sent, false)?;
+    let to = both.output.fixed_place(receiver, true)?;
+    let sends = entry_kind(both.input, sent);
+    let receives = entry_kind(both.output, receiver);
+    if from.length == to.length && copies_bytes(sends, receives) {
+        Some(CopyPlaces { from, to })
+    } else {
+        None
+    }
+}
+
+/// The places of the copy that a single move is, where it is a plain one and neither record has a table that varies.
+fn copy_of(given: &Sender, receiver: &Ref, both: &Between<'_>) -> Option<CopyPlaces>
+    requires both { AreBetween both.now }
+    requires legal { IsMove (records_between both.now)
+        (alone (sender (records_between both.now) given.now)
+        (operand_in both.now.output.now receiver.now)) }
+    ensures copied { IfSome result (λ c. AlwaysCopied both.now c
+        (single_alone both.now given.now receiver.now)) }
+    ensures short { IfSome result AreWithinLongest }
+    ensures value { (reading : Reading) → result ≡ plain_copy (records_between both.now)
+        (sender_by reading (records_between both.now) given.now)
+        (operand_in both.now.output.now receiver.now) }
+{
+    if !both.is_fixed {
+        return None;
+    }
+    match given {
+        Sender::Entry { side, entry } => match *side {
+            Side::In => plain_copy(entry, receiver, both),
+            Side::Out => None,
+        },
+        Sender::Constant(_) => None,
+    }
+}
+
+/// The single move of an entry of the input record to one of the output record, made ready; None where one of them doesn't stand at one place in
+/// every storage, or nothing carries such moves out.
+///
+/// # Errors
+///
+/// Where no memory is left.
+fn prepared_entry(
+    sent: &Ref,
+    receiver: &Ref,
+    both: &Between<'_>,
+    prepared: &mut MoveSteps,
+) -> Result<Option<PreparedMove>, AllocError>
+    requires sent { IsOperand both.now.input.now (operand_in both.now.input.now sent.now) }
+    requires receiver { IsOperand both.now.output.now
+        (operand_in both.now.output.now receiver.now) }
+    ensures step { IfOk result (λ found. IfSome found
+        (λ one. AlwaysPrepared both.now prepared.new one
+        (entry_alone both.now sent.now receiver.now))) }
+    ensures kept { KeepsSteps prepared.old prepared.new }
+{
+    places_lie_in_storage();
+    records_are_sound();
+    let _ = both.input.greatest();
+    let _ = both.output.greatest();
+    let Some(from) = both.input.fixed_place(sent, false) else {
+        return Ok(None);
+    };
+    let Some(to) = both.output.fixed_place(receiver, true) else {
+        return Ok(None);
+    };
+    let sends = entry_kind(both.input, sent);
+    let receives = entry_kind(both.output, receiver);
+    match prepared.prepare(sends, from.length, receives, to.length)? {
+        Some(step) => Ok(Some(PreparedMove { from, to, step })),
+        None => Ok(None),
+    }
+}
+
+/// A single move, made ready; None where nothing carries it out.
+///
+/// # Errors
+///
+/// Where no memory is left.
+fn prepared_of(
+    given: &Sender,
+    receiver: &Ref,
+    both: &Between<'_>,
+    prepared: &mut MoveSteps,
+) -> Result<Option<PreparedMove>, AllocError>
+    requires legal { IsMove (records_between both.now)
+        (alone (sender (records_between both.now) given.now)
+        (operand_in both.now.output.now receiver.now)) }
+    ensures step { IfOk result (λ found. IfSome found
+        (λ one. AlwaysPrepared both.now prepared.new one
+        (single_alone both.now given.now receiver.now))) }
+    ensures kept { KeepsSteps prepared.old prepared.new }
+{
+    match given {
+        Sender::Entry { side, entry } => match *side {
+            Side::In => prepared_entry(entry, receiver, both, prepared),
+            Side::Out => Ok(None),
+        },
+        Sender::Constant(_) => Ok(None),
+    }
+}
+
+/// A step and a copy behind it as one copy, where the step is a copy that ends on both sides where the other begins.
+fn joined(last: Step, places: CopyPlaces) -> Option<Step>
+    requires short { AreWithinLongest places }
+    ensures copied { IfSome result (λ both. (reading : Reading) (r : Records) (given : List Said)
+        (on : Support) (own next : List Meant)
+        → IsStep reading r given on last own → AreCopied r places.from places.to next
+        → IsStep reading r given on both (own ++ next)) }
+    ensures joins { IfSome result (λ both. begun (step_ends last) (Some places) ≡ 0) }
+    ensures counts { IfSome result (λ both. step_count both ≡ step_count last) }
+    ensures ends { IfSome result (λ both. step_ends both ≡ Some (copy_ends places)) }
+    ensures none { IfNone result (begun (step_ends last) (Some places) ≡ 1) }
+{
+    match last {
+        Step::Part(_) | Step::Prepared(_) => None,
+        Step::Copy(front) => Some(Step::Copy(both_copies(front, places)?)),
+    }
+}
+
+/// Puts a copy behind the steps so far, into the last one where they meet.
+///
+/// # Errors
+///
+/// Where no memory is left.
+fn push_copy(places: CopyPlaces, steps: &mut Vec<Step>) -> Result<(), AllocError>
+    requires short { AreWithinLongest places }
+    ensures steps { OnOk result ((reading : Reading) (r : Records) (given : List Said)
+        (on : Support) (parts next : List Meant)
+        → AreSteps reading r given on steps.old.items parts
+        → AreCopied r places.from places.to next
+        → AreSteps reading r given on steps.new.items (parts ++ next)) }
+    ensures count { OnOk result (counted_steps steps.new.items
+        ≡ counted_steps steps.old.items + begun (last_step_ends steps.old.items) (Some places)) }
+    ensures ends { OnOk result (last_step_ends steps.new.items ≡ Some (copy_ends places)) }
+{
+    let Some(last) = steps.pop() else {
+        steps.push(Step::Copy(places))?;
+        return Ok(());
+    };
+    if let Some(both) = joined(last, places) {
+        steps.push(both)?;
+        return Ok(());
+    }
+    steps.push(last)?;
+    steps.push(Step::Copy(places))?;
+    Ok(())
+}
+
+/// Puts a part behind the steps so far, whose places and categories are looked at as it is carried out.
+///
+/// # Errors
+///
+/// Where no memory is left.
+fn push_part(
+    given: &[StatementMoves],
+    part: &StatementPart<'_>,
+    both: &Between<'_>,
+    plan: &mut Plan,
+) -> Result<(), AllocError>
+    requires part { IsPartIn (records_between both.now) given.now part.now }
+    ensures gains { OnOk result (AlwaysGains both.now given.now
+        (part_alone both.now part.now) plan.old plan.new) }
+    ensures added { OnOk result ((p : code_part.Part)
+        × (plan.new.steps.items ≡ plan.old.steps.items ++ StepPart p ∷ [])
+        × (p.count ≡ length part.now.receivers.now)) }
+{
+    let base = plan.bases.len();
+    push_bases(
+        part.sender,
+        part.receivers,
+        both.input,
+        both.output,
+        &mut plan.bases,
+    )?;
+    plan.steps.push(Step::Part(Part {
+        statement: part.statement,
+        first: part.first,
+        count: part.receivers.len(),
+        base,
+    }))?;
+    Ok(())
+}
+
+/// Puts the step of a single move that is no plain copy behind those so far: made ready, where something carries it out, and else as a part.
+///
+/// # Errors
+///
+/// Where no memory is left.
+fn push_other(
+    given: &[StatementMoves],
+    part: &StatementPart<'_>,
+    both: &Between<'_>,
+    plan: &mut Plan,
+) -> Result<(), AllocError>
+    requires part { IsPartIn (records_between both.now) given.now part.now }
+    requires one { length part.now.receivers.now ≡ 1 }
+    ensures gains { OnOk result (AlwaysGains both.now given.now
+        (part_alone both.now part.now) plan.old plan.new) }
+    ensures added { OnOk result (HasOneMore plan.old.steps.items plan.new.steps.items) }
+{
+    let receiver = &part.receivers[0];
+    match prepared_of(part.sender, receiver, both, &mut plan.prepared)? {
+        Some(one) => {
+            plan.steps.push(Step::Prepared(one))?;
+            Ok(())
+        }
+        None => push_part(given, part, both, plan),
+    }
+}
+
+/// Puts the step of a single move behind those so far.
+///
+/// # Errors
+///
+/// Where no memory is left.
+fn push_single(
+    given: &[StatementMoves],
+    part: &StatementPart<'_>,
+    both: &Between<'_>,
+    plan: &mut Plan,
+) -> Result<(), AllocError>
+    requires both { AreBetween both.now }
+    requires part { IsPartIn (records_between both.now) given.now part.now }
+    requires one { length part.now.receivers.now ≡ 1 }
+    ensures gains { OnOk result (AlwaysGains both.now given.now
+        (part_alone both.now part.now) plan.old plan.new) }
+    ensures more { OnOk result (AlwaysMore both.now (part_alone both.now part.now)
+        plan.old.steps.items plan.new.steps.items) }
+{
+    match copy_of(part.sender, &part.receivers[0], both) {
+        Some(places) => push_copy(places, &mut plan.steps),
+        None => push_other(given, part, both, plan),
+    }
+}
+
+/// Puts the steps of a move's single moves behind those so far.
+///
+/// # Errors
+///
+/// Where no memory is left.
+fn push_singles(
+    given: &[StatementMoves],
+    number: usize,
+    one: &Move,
+    both: &Between<'_>,
+    plan: &mut Plan,
+) -> Result<(), AllocError>
+    requires both { AreBetween both.now }
+    requires at { IsStatementAt given.now number (Single one.now) }
+    requires legal { IsMove (records_between both.now) (move (records_between both.now) one.now) }
+    ensures gains { OnOk result (AlwaysGains both.now given.now
+        (λ reading. singles_of (move_by reading (records_between both.now) one.now))
+        plan.old plan.new) }
+    ensures more { OnOk result (AlwaysMore both.now
+        (λ reading. singles_of (move_by reading (records_between both.now) one.now))
+        plan.old.steps.items plan.new.steps.items) }
+{
+    let receivers = one.receivers.as_slice();
+    for (first, receiver) in receivers.iter().enumerate() {
+        let part = StatementPart {
+            statement: number,
+            first,
+            sender: &one.sender,
+            receivers: slice::from_ref(receiver),
+        };
+        push_single(given, &part, both, plan)?;
+    }
+    Ok(())
+}
+
+/// Whether what a sender gives is the same before and behind each receiver.
+fn is_steady(given: &Sender) -> bool
+    ensures yes { (reading : Reading) (r : Records)
+        → IsTrue result → IsSteady (sender_by reading r given.now) }
+    ensures only { (reading : Reading) (r : Records)
+        → IsFalse result → IsSteady (sender_by reading r given.now) → ⊥ }
+{
+    !matches!(
+        given,
+        Sender::Entry {
+            side: Side::Out,
+            ..
+        }
+    )
+}
+
+/// Puts the steps of a move behind those so far: of its single moves where what it sends stays the same, and else one of the whole.
+///
+/// # Errors
+///
+/// Where no memory is left.
+fn push_move(
+    given: &[StatementMoves],
+    number: usize,
+    one: &Move,
+    both: &Between<'_>,
+    plan: &mut Plan,
+) -> Result<(), AllocError>
+    requires both { AreBetween both.now }
+    requires at { IsStatementAt given.now number (Single one.now) }
+    requires legal { IsMove (records_between both.now) (move (records_between both.now) one.now) }
+    ensures gains { OnOk result (AlwaysGainsCut both.now given.now
+        (λ reading. move_by reading (records_between both.now) one.now ∷ [])
+        plan.old plan.new) }
+    ensures more { OnOk result (AlwaysMore both.now
+        (λ reading. move_by reading (records_between both.now) one.now ∷ [])
+        plan.old.steps.items plan.new.steps.items) }
+{
+    if is_steady(&one.sender) && !one.receivers.is_empty() {
+        return push_singles(given, number, one, both, plan);
+    }
+    let part = StatementPart {
+        statement: number,
+        first: 0,
+        sender: &one.sender,
+        receivers: one.receivers.as_slice(),
+    };
+    push_part(given, &part, both, plan)
+}
+
+/// Puts the step of one pair of two groups behind those so far.
+///
+/// # Errors
+///
+/// Where no memory is left.
+fn push_pair(
+    given: &[StatementMoves],
+    number: usize,
+    group: &PairMoves,
+    first: usize,
+    both: &Between<'_>,
+    plan: &mut Plan,
+) -> Result<(), AllocError>
+    requires both { AreBetween both.now }
+    requires at { IsStatementAt given.now number (Pairs group.now) }
+    requires below { first < length group.now.pairs.items }
+    requires legal { IsMove (records_between both.now)
+        (numbered_move (records_between both.now) group.now
+        (pair_at group.now first)) }
+    ensures gains { OnOk result (AlwaysGains both.now given.now
+        (pair_alone both.now group.now first) plan.old plan.new) }
+    ensures more { OnOk result (AlwaysMore both.now (pair_alone both.now group.now first)
+        plan.old.steps.items plan.new.steps.items) }
+{
+    let pair = &group.pairs[first];
+    let sender = Sender::Entry {
+        side: group.side,
+        entry: entry_below(&group.from, pair.from),
+    };
+    let receiver = entry_below(&group.to, pair.to);
+    let part = StatementPart {
+        statement: number,
+        first,
+        sender: &sender,
+        receivers: slice::from_ref(&receiver),
+    };
+    push_single(given, &part, both, plan)
+}
+
+/// Puts the steps of the pairs of two groups behind those so far.
+///
+/// # Errors
+///
+/// Where no memory is left.
+fn push_pairs(
+    given: &[StatementMoves],
+    number: usize,
+    group: &PairMoves,
+    both: &Between<'_>,
+    plan: &mut Plan,
+) -> Result<(), AllocError>
+    requires both { AreBetween both.now }
+    requires at { IsStatementAt given.now number (Pairs group.now) }
+    requires moves { AreMoves (records_between both.now)
+        (statement_moves (records_between both.now) (Pairs group.now)) }
+    ensures gains { OnOk result (AlwaysGains both.now given.now
+        (λ reading. statement_moves_by reading (records_between both.now) (Pairs group.now))
+        plan.old plan.new) }
+    ensures more { OnOk result (AlwaysMore both.now
+        (λ reading. statement_moves_by reading (records_between both.now) (Pairs group.now))
+        plan.old.steps.items plan.new.steps.items) }
+{
+    for first in 0..group.pairs.len() {
+        push_pair(given, number, group, first, both, plan)?;
+    }
+    Ok(())
+}
+
+/// Puts the steps of a statement's moves behind those so far.
+///
+/// # Errors
+///
+/// Where no memory is left.
+fn push_statement(
+    given: &[StatementMoves],
+    number: usize,
+    both: &Between<'_>,
+    plan: &mut Plan,
+) -> Result<(), AllocError>
+    requires both { AreBetween both.now }
+    requires below { number < length given.now }
+    requires moves { (s : Said) → IsStatementAt given.now number s
+        → AreMoves (records_between both.now) (statement_moves (records_between both.now) s) }
+    ensures gains { OnOk result ((reading : Reading) (s : Said) → IsStatementAt given.now number s
+        → GainsCut reading (records_between both.now) given.now
+        (statement_moves_by reading (records_between both.now) s) plan.old plan.new) }
+    ensures more { OnOk result ((reading : Reading) (s : Said) → IsStatementAt given.now number s
+        → AreMore (records_between both.now)
+        (statement_moves_by reading (records_between both.now) s)
+        plan.old.steps.items plan.new.steps.items) }
+{
+    match &given[number] {
+        StatementMoves::Single(single) => push_move(given, number, single, both, plan),
+        StatementMoves::Pairs(group) => push_pairs(given, number, group, both, plan),
+    }
+}
+
+/// The plan of moves between the records of these layouts.
+///
+/// # Errors
+///
+/// Where no memory is left.
+pub(crate) fn plan_of(
+    alloc: Global,
+    given: &[StatementMoves],
+    input: &Layout,
+    output: &Layout,
+) -> Result<Plan, AllocError>
+    requires given { AreMoves (record { input = input.now; output = output.now })
+        (moves (record { input = input.now; output = output.now }) given.now) }
+    ensures stand { IfOk result (λ plan. (reading : Reading)
+        → StandFor reading (record { input = input.now; output = output.now }) given.now
+        plan.steps.items (support_of plan)
+        (moves_by reading (record { input = input.now; output = output.now }) given.now)) }
+    ensures count { IfOk result (λ plan. (reading : Reading) → counted_steps plan.steps.items
+        ≡ steps_in (record { input = input.now; output = output.now })
+        (moves_by reading (record { input = input.now; output = output.now }) given.now)) }
+{
+    let both = Between {
+        input,
+        output,
+        is_fixed: neither_varies(alloc, input, output)?,
+    };
+    let mut plan = Plan {
+        steps: Vec::with_capacity(alloc, given.len())?,
+        bases: Vec::new(alloc),
+        prepared: MoveSteps::new(alloc),
+    };
+    for number in 0..given.len() {
+        push_statement(given, number, &both, &mut plan)?;
+    }
+    Ok(plan)
+}

@@ -1,0 +1,53 @@
+//! Single moves that were made ready, carried out.
+
+ghost use Rattle.std.specs.Prelude.{◌≡◌, ◌+◌, ◌≤◌, List, ℕ, Option, length};
+ghost use Rattle.cob_layout.specs.Storage.{greatest_length};
+ghost use Rattle.cob_move_apply.specs.Applied.{ending};
+ghost use Rattle.cob_move_apply.specs.Surveyed.{IsWorkspace, records};
+ghost use Rattle.cob_move_apply.specs.Written.{HasPlaces, IsReceivedFrom, received_at};
+ghost use Rattle.cob_move_prepared.specs.Pool.{IsMoveStep, MoveKinds};
+
+use crate::step::PreparedMove;
+use crate::stop::{Stop, StopCause};
+use crate::workspace::{Layouts, Workspace};
+use cob_layout_places::Side;
+use cob_move_prepared::MoveSteps;
+
+/// Carries out a single move that was made ready. It is inlined, so that it costs no call.
+///
+/// # Errors
+///
+/// A value of the sender is missing. The storage is as it was then.
+#[inline(always)]
+pub(crate) fn make_prepared(
+    prepared: &MoveSteps,
+    one: PreparedMove,
+    layouts: &Layouts<'_>,
+    input: &[u8],
+    output: &mut [u8],
+    space: &mut Workspace,
+) -> Result<(), Stop>
+    requires step { (k : MoveKinds) × IsMoveStep prepared.now k one.step × HasPlaces one k }
+    requires reads { one.from.offset + one.from.length ≤ length input.now }
+    requires writes { one.to.offset + one.to.length ≤ greatest_length layouts.now.output.now }
+    requires output { length output.old ≡ greatest_length layouts.now.output.now }
+    requires space { IsWorkspace (records layouts.now) input.now output.old space.old }
+    ensures made { (k : MoveKinds) → IsMoveStep prepared.now k one.step → HasPlaces one k
+        → (outcome : Option (List ℕ)) × IsReceivedFrom one k input.now outcome
+        × (ending result output.new ≡ received_at one output.old outcome) }
+    ensures space { IsWorkspace (records layouts.now) input.now output.new space.new }
+{
+    let sent = one.from.offset as usize + one.from.length as usize;
+    let start = one.to.offset as usize;
+    let end = start + one.to.length as usize;
+    if prepared.run(one.step, &input[..sent], &mut output[start..end]) {
+        space.output.change(layouts.output, one.to);
+        Ok(())
+    } else {
+        Err(Stop {
+            side: Side::In,
+            offset: one.from.offset,
+            cause: StopCause::NoValue,
+        })
+    }
+}

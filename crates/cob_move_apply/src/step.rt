@@ -1,0 +1,137 @@
+//! Steps: what is carried out in the place of moves.
+
+ghost use Rattle.std.specs.Prelude.{◌≡◌, ◌+◌, ◌≤◌, false, length, min, IfNone, IfSome};
+ghost use Rattle.cob_limits.specs.Limits.{longest_record};
+ghost use Rattle.cob_layout.specs.Fields.{field_of, with_field};
+ghost use Rattle.cob_move_apply.specs.Joined.{copy_ends, meets};
+ghost use Rattle.cob_move_apply.specs.Planned.{AreWithinLongest, counted_steps, step_count};
+ghost use Rattle.cob_move_apply.specs.Told.{most_moves_told};
+ghost use Rattle.cob_move_apply.specs.Written.{IsBoth};
+
+use crate::basis::Basis;
+use cob_layout::{Place, field};
+use cob_move_prepared::{MoveStep, MoveSteps};
+
+/// A part of the moves of a statement: its one move with so many of the receivers, or the move of one pair.
+#[derive(Clone, Copy, Debug)]
+pub(crate) struct Part {
+    /// The number of the statement.
+    pub(crate) statement: usize,
+    /// The number of the first of these receivers, or of the pair.
+    pub(crate) first: usize,
+    /// How many receivers these are.
+    pub(crate) count: usize,
+    /// Where the bases of the sender and of these receivers begin.
+    pub(crate) base: usize,
+}
+
+/// Where bytes are copied from in the input record, and to in the output record.
+#[derive(Clone, Copy, Debug)]
+pub(crate) struct CopyPlaces {
+    pub(crate) from: Place,
+    pub(crate) to: Place,
+}
+
+/// A single move between two places that are the same in every storage, made ready.
+#[derive(Clone, Copy, Debug)]
+pub(crate) struct PreparedMove {
+    /// Where the sender stands in the input record.
+    pub(crate) from: Place,
+    /// Where the receiver stands in the output record.
+    pub(crate) to: Place,
+    /// What carries the move out.
+    pub(crate) step: MoveStep,
+}
+
+/// What is carried out at once.
+#[derive(Clone, Copy, Debug)]
+pub(crate) enum Step {
+    /// Places and categories are looked at as the step is carried out.
+    Part(Part),
+    /// A single move was made ready.
+    Prepared(PreparedMove),
+    /// Bytes of the input record are copied: one single move, or several, each of which begins on both sides where the one before ends.
+    Copy(CopyPlaces),
+}
+
+/// Steps that stand for moves, and what these rest on.
+#[derive(Debug, Drop)]
+pub(crate) struct Plan {
+    pub(crate) steps: Vec<Step>,
+    /// What the places of the operands of parts rest on, one part's behind another's.
+    pub(crate) bases: Vec<Basis>,
+    /// What carries out the single moves that were made ready.
+    pub(crate) prepared: MoveSteps,
+}
+
+/// The place of both, where the second begins where the first ends.
+fn both_places(front: Place, next: Place) -> Option<Place>
+    requires short { next.offset + next.length ≤ longest_record }
+    ensures both { IfSome result (IsBoth front next) }
+    ensures none { IfNone result (front.offset + front.length ≡ next.offset → ⊥) }
+{
+    let end = u64::from(front.offset) + u64::from(front.length);
+    if end != u64::from(next.offset) {
+        return None;
+    }
+    Some(Place {
+        offset: front.offset,
+        length: front.length + next.length,
+    })
+}
+
+/// Two copies as one, where the second begins on both sides where the first ends.
+pub(crate) fn both_copies(front: CopyPlaces, next: CopyPlaces) -> Option<CopyPlaces>
+    requires short { AreWithinLongest next }
+    ensures from { IfSome result (λ both. IsBoth front.from next.from both.from) }
+    ensures to { IfSome result (λ both. IsBoth front.to next.to both.to) }
+    ensures none { IfNone result (meets (copy_ends front) next ≡ false) }
+{
+    let from = both_places(front.from, next.from)?;
+    let to = both_places(front.to, next.to)?;
+    Some(CopyPlaces { from, to })
+}
+
+/// Copies the bytes of a place of the input to a place of the output.
+pub(crate) fn copy_across(places: CopyPlaces, input: &[u8], output: &mut [u8])
+    requires reads { places.from.offset + places.from.length ≤ length input.now }
+    requires writes { places.to.offset + places.to.length ≤ length output.old }
+    requires same { places.from.length ≡ places.to.length }
+    ensures { output.new ≡ with_field output.old places.to (field_of places.from input.now) }
+{
+    let start = places.to.offset as usize;
+    let end = start + places.to.length as usize;
+    output[start..end].copy_from_slice(field(input, places.from));
+}
+
+/// For how many steps a step is counted: a part for each of its receivers.
+fn step_count(step: Step) -> usize
+    ensures { result ≡ step_count step }
+{
+    match step {
+        Step::Part(part) => part.count,
+        Step::Prepared(_) | Step::Copy(_) => 1,
+    }
+}
+
+/// A number, or the greatest u32 where it is more.
+pub(crate) fn at_most_u32(count: usize) -> u32
+    ensures { result ≡ min count most_moves_told }
+{
+    if count < u32::MAX as usize {
+        count as u32
+    } else {
+        u32::MAX
+    }
+}
+
+/// For how many steps these are counted. More than a u32 holds come as the greatest u32.
+pub(crate) fn counted(steps: &[Step]) -> u32
+    ensures { result ≡ min (counted_steps steps.now) most_moves_told }
+{
+    let mut count: usize = 0;
+    for step in steps {
+        count = count.saturating_add(step_count(*step));
+    }
+    at_most_u32(count)
+}

@@ -1,0 +1,86 @@
+-- What reads the number of one item, and what writes that of another, binary ones too.
+use Rattle.std.specs.Prelude.{◌≡◌, ◌⊎◌, ◌≤◌, ◌-ℤ◌, ℕ, true, List, length, ◌<◌, Bool, IsTrue, take}
+use Rattle.cob_decimal.specs.Decimal.{number_of}
+use Rattle.cob_picture.specs.Counts.{digits, scale, signed}
+use Rattle.cob_codec.specs.declared.reading.Reading.{Reading}
+use Rattle.cob_codec.specs.declared.reading.Reading.TheVariants.{Pictured}
+use Rattle.cob_copybook_tree.specs.declared.node.Item.{Item}
+use Rattle.cob_copybook_tree.specs.Items.{IsNumberItem, IsSentBy}
+use Rattle.cob_copybook_tree.specs.Lengths.{item_size}
+use Rattle.cob_lanes.specs.Lanes.{AreTens}
+use Rattle.cob_lanes.specs.Windows.{last_bytes}
+use Rattle.cob_lanes.specs.Words.{IsBinaryReaderOf, IsBinaryWriterOf, IsNumberRead}
+use Rattle.cob_lanes.specs.declared.binary.BinaryReader.{BinaryReader}
+use Rattle.cob_lanes.specs.declared.binary.BinaryWriter.{BinaryWriter}
+use Rattle.cob_move_prepared.specs.Steps.{is_binary, IsLaneItem, IsReaderFor, IsWriterFor, received_form}
+use Rattle.cob_move_prepared.specs.declared.binary_step.BinaryStep.{BinaryStep}
+use Rattle.cob_move_prepared.specs.declared.number_ends.NumberReader.{NumberReader}
+use Rattle.cob_move_prepared.specs.declared.number_ends.NumberReader.TheVariants as reader
+use Rattle.cob_move_prepared.specs.declared.number_ends.NumberWriter.{NumberWriter}
+use Rattle.cob_move_prepared.specs.declared.number_ends.NumberWriter.TheVariants as writer
+
+-- how many digits an item has
+abbrev pub item_digits : Item → ℕ
+item_digits i = digits i.picture.positions
+
+-- The item is a binary number of at most sixteen digits.
+pub record IsWordItem (i : Item) : Type 0 where
+  pub number : IsNumberItem i
+  pub binary : is_binary i.usage ≡ true
+  pub few : item_digits i ≤ 16
+
+-- The item is a number whose digits sixteen lanes hold.
+abbrev pub IsShortNumber : Item → Type 0
+IsShortNumber i = IsLaneItem i ⊎ IsWordItem i
+
+-- The reader reads the binary numbers of an item, and keeps the digits that another item has places for.
+pub record IsWordReaderFor (from to : Item) (r : BinaryReader) : Type 0 where
+  pub binary : is_binary from.usage ≡ true
+  pub reads : IsBinaryReaderOf (item_digits from) (signed from.picture.positions) (item_digits to) (scale to.picture.positions -ℤ scale from.picture.positions) r
+
+-- The writer writes the binary numbers of an item.
+pub record IsWordWriterFor (to : Item) (w : BinaryWriter) : Type 0 where
+  pub binary : is_binary to.usage ≡ true
+  pub writes : IsBinaryWriterOf (item_digits to) (signed to.picture.positions) w
+
+-- The reader is one for the item's kind of storage.
+abbrev pub IsOwnReader : Item → Item → NumberReader → Type 0
+IsOwnReader from to (reader.Lanes r) = IsReaderFor from to r
+IsOwnReader from to (reader.Binary r) = IsWordReaderFor from to r
+
+-- The writer is one for the item's kind of storage.
+abbrev pub IsOwnWriter : Item → NumberWriter → Type 0
+IsOwnWriter to (writer.Lanes w) = IsWriterFor to w
+IsOwnWriter to (writer.Binary w) = IsWordWriterFor to w
+
+-- The reader reads the numbers of an item, and keeps the digits that another item has places for.
+pub record IsNumberReaderFor (from to : Item) (r : NumberReader) : Type 0 where
+  pub number : IsNumberItem from
+  pub own : IsOwnReader from to r
+
+-- The writer writes the numbers of an item, of at most sixteen digits.
+pub record IsNumberWriterFor (to : Item) (w : NumberWriter) : Type 0 where
+  pub number : IsNumberItem to
+  pub few : item_digits to ≤ 16
+  pub own : IsOwnWriter to w
+
+-- A binary sender is read as its picture says.
+abbrev pub SuitsReading : Item → Reading → Type 0
+SuitsReading from reading = is_binary from.usage ≡ true → reading ≡ Pictured
+
+-- What was read of the item at the end of bytes, for each two items whose reader this is.
+abbrev pub IsItemRead : NumberReader → List ℕ → (is_number minus : Bool) → List ℕ → Type 0
+IsItemRead r bytes is_number minus kept =
+    (from to : Item) (reading : Reading) → IsNumberReaderFor from to r → SuitsReading from reading → item_size from ≤ length bytes
+    → IsNumberRead (IsSentBy reading from (last_bytes (item_size from) bytes)) (item_digits to) (scale to.picture.positions -ℤ scale from.picture.positions) is_number minus kept
+
+-- What was written into n bytes, for each item whose writer this is: its first digits, which are not all 0 below zero.
+abbrev pub IsItemWritten : NumberWriter → List ℕ → Bool → ℕ → List ℕ → Type 0
+IsItemWritten w digits minus n bytes =
+    (item : Item) → IsNumberWriterFor item w → n ≡ item_size item → AreTens digits → (IsTrue minus → 0 < number_of (take (item_digits item) digits))
+    → bytes ≡ received_form item minus (take (item_digits item) digits)
+
+-- The step moves the number of one item to another.
+pub record IsBinaryStep (from to : Item) (step : BinaryStep) : Type 0 where
+  pub reader : IsNumberReaderFor from to step.reader
+  pub writer : IsNumberWriterFor to step.writer

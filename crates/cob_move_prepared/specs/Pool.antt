@@ -1,0 +1,89 @@
+-- What carries out single moves between entries, by what these describe.
+use Rattle.std.specs.Prelude.{◌≡◌, ◌⊎◌, ◌<◌, ℕ, false, true, List, length, get_or, Option}
+use Rattle.cob_codec.specs.declared.reading.Reading.{Reading}
+use Rattle.cob_copybook_tree.specs.declared.node.Item.{Item}
+use Rattle.cob_copybook_tree.specs.declared.node.Kind.{Kind}
+use Rattle.cob_copybook_tree.specs.declared.node.Kind.TheVariants.{Group, Item as ItemKind}
+use Rattle.cob_lanes.specs.Windows.{last_bytes}
+use Rattle.cob_move_receive.specs.Received.{Received}
+use Rattle.cob_move_receive.specs.Sent.{Entry, Occupies}
+use Rattle.cob_move_prepared.specs.Copies.{IsCharactersStep, gives_bytes}
+use Rattle.cob_move_prepared.specs.Edits.{IsEditedItem, IsEditStep}
+use Rattle.cob_move_prepared.specs.Ends.{IsBinaryStep, IsShortNumber}
+use Rattle.cob_move_prepared.specs.Steps.{IsLaneItem, IsNumberStep, is_binary}
+use Rattle.cob_move_prepared.specs.declared.binary_step.BinaryStep.{BinaryStep}
+use Rattle.cob_move_prepared.specs.declared.edit_step.EditStep.{EditStep}
+use Rattle.cob_move_prepared.specs.declared.pool.MoveStep.{MoveStep}
+use Rattle.cob_move_prepared.specs.declared.pool.MoveStep.TheVariants as move_step
+use Rattle.cob_move_prepared.specs.declared.pool.MoveSteps.{MoveSteps}
+use Rattle.cob_move_prepared.specs.declared.step.NumberStep.{NumberStep}
+
+-- what a single move is between: what sender and receiver describe, and how many bytes they have
+pub record MoveKinds : Type 0 where
+  pub sender : Kind
+  pub sent : ℕ
+  pub receiver : Kind
+  pub received : ℕ
+
+-- there are bytes enough for what either describes
+pub record AreOccupied (k : MoveKinds) : Type 0 where
+  pub sender : Occupies k.sender k.sent
+  pub receiver : Occupies k.receiver k.received
+
+-- What the receiver holds after the move of the sender whose bytes end these, whatever the reading; or none.
+abbrev pub IsReceived : MoveKinds → List ℕ → Option (List ℕ) → Type 0
+IsReceived k bytes outcome = (reading : Reading) → Received (Entry k.sender (last_bytes k.sent bytes) reading) k.receiver k.received outcome
+
+-- between two items
+abbrev pub BetweenItems : (Item → Item → Type 0) → Kind → Kind → Type 0
+BetweenItems holds (ItemKind from) (ItemKind to) = holds from to
+BetweenItems holds (ItemKind from) Group = ⊥
+BetweenItems holds Group to = ⊥
+
+-- the step moves the number of one item to another, both of which lanes hold
+abbrev pub MovesNumber : NumberStep → Item → Item → Type 0
+MovesNumber step from to = IsNumberStep from to step
+
+-- the step moves the number of an item that isn't binary to another
+abbrev pub MovesToBinary : BinaryStep → Item → Item → Type 0
+MovesToBinary step from to = (is_binary from.usage ≡ false) × IsBinaryStep from to step
+
+-- the step moves the number of an item that isn't binary to an edited one
+abbrev pub MovesToEdited : EditStep → Item → Item → Type 0
+MovesToEdited step from to = (is_binary from.usage ≡ false) × IsEditStep from to step
+
+-- the step with this number among these is one that is meant
+pub record IsStepAt (T : Type 0) (moves : T → Type 0) (steps : List T) (number : ℕ) : Type 0 where
+  pub step : T
+  pub below : number < length steps
+  pub at : step ≡ get_or steps number step
+  pub is : moves step
+
+-- the step, one of these, is one between these kinds
+abbrev pub IsStepBetween : MoveSteps → MoveKinds → MoveStep → Type 0
+IsStepBetween steps k (move_step.Number number) = IsStepAt NumberStep (λ step. BetweenItems (MovesNumber step) k.sender k.receiver) steps.numbers.items number
+IsStepBetween steps k (move_step.Binary number) = IsStepAt BinaryStep (λ step. BetweenItems (MovesToBinary step) k.sender k.receiver) steps.binaries.items number
+IsStepBetween steps k (move_step.Edited number) = IsStepAt EditStep (λ step. BetweenItems (MovesToEdited step) k.sender k.receiver) steps.edits.items number
+IsStepBetween steps k (move_step.Characters step) = IsCharactersStep k.sender k.sent k.receiver step
+
+-- The step, one of these, carries out the move of the sender to the receiver.
+pub record IsMoveStep (steps : MoveSteps) (k : MoveKinds) (step : MoveStep) : Type 0 where
+  pub occupied : AreOccupied k
+  pub between : IsStepBetween steps k step
+
+-- the sender is a short number that isn't binary, and the receiver one of any kind of storage, or edits one
+pub record HaveShortNumbers (from to : Item) : Type 0 where
+  pub sends : IsLaneItem from
+  pub receives : IsShortNumber to ⊎ IsEditedItem to
+
+-- there is a step between these kinds: the sender gives its bytes as characters, or both are items with short numbers
+abbrev pub HaveStep : Kind → Kind → Type 0
+HaveStep from to = (gives_bytes from to ≡ true) ⊎ BetweenItems HaveShortNumbers from to
+
+-- no step of a move was lost
+abbrev pub KeepsSteps : MoveSteps → MoveSteps → Type 0
+KeepsSteps before now = (k : MoveKinds) (step : MoveStep) → IsMoveStep before k step → IsMoveStep now k step
+
+-- there is no step of a number
+abbrev pub HasNoSteps : MoveSteps → Type 0
+HasNoSteps steps = (length steps.numbers.items ≡ 0) × (length steps.binaries.items ≡ 0) × (length steps.edits.items ≡ 0)

@@ -1,0 +1,40 @@
+-- Steps carried out.
+use Rattle.std.specs.Prelude.{◌≡◌, ◌≤◌, ℕ, List, length, Option}
+use Rattle.cob_codec.specs.declared.reading.Reading.{Reading}
+use Rattle.cob_copybook_tree.specs.Lengths.{item_size}
+use Rattle.cob_copybook_tree.specs.declared.node.Item.{Item}
+use Rattle.cob_copybook_tree.specs.declared.node.Kind.TheVariants.{Item as ItemKind}
+use Rattle.cob_lanes.specs.Windows.{last_bytes}
+use Rattle.cob_move_receive.specs.Received.{Received}
+use Rattle.cob_move_receive.specs.Sent.{Entry}
+use Rattle.cob_move_prepared.specs.Steps.{IsNumberStep}
+use Rattle.cob_move_prepared.specs.Edits.{IsEditStep}
+use Rattle.cob_move_prepared.specs.Ends.{IsBinaryStep, SuitsReading}
+use Rattle.cob_move_prepared.specs.declared.binary_step.BinaryStep.{BinaryStep}
+use Rattle.cob_move_prepared.specs.declared.step.NumberStep.{NumberStep}
+use Rattle.cob_move_prepared.specs.declared.edit_step.EditStep.{EditStep}
+
+-- What a receiver of n bytes holds after the move of the item that ends these bytes, whatever the reading; or none.
+abbrev pub ReceivedAtEnd : Item → Item → List ℕ → ℕ → Option (List ℕ) → Type 0
+ReceivedAtEnd from to bytes n outcome =
+    (reading : Reading) → Received (Entry (ItemKind from) (last_bytes (item_size from) bytes) reading) (ItemKind to) n outcome
+
+-- The same for each two items whose step this is, where the bytes have the sender at their end and n is the receiver's size.
+abbrev pub IsCarriedOut : NumberStep → List ℕ → ℕ → Option (List ℕ) → Type 0
+IsCarriedOut step bytes n outcome =
+    (from to : Item) → IsNumberStep from to step → item_size from ≤ length bytes → n ≡ item_size to → ReceivedAtEnd from to bytes n outcome
+
+-- The same of a sender that is read as it suits: a binary one as its picture says.
+abbrev pub ReceivedWhereRead : Item → Item → List ℕ → ℕ → Option (List ℕ) → Type 0
+ReceivedWhereRead from to bytes n outcome =
+    (reading : Reading) → SuitsReading from reading → Received (Entry (ItemKind from) (last_bytes (item_size from) bytes) reading) (ItemKind to) n outcome
+
+-- The same of a step from or to a binary item.
+abbrev pub IsBinaryCarriedOut : BinaryStep → List ℕ → ℕ → Option (List ℕ) → Type 0
+IsBinaryCarriedOut step bytes n outcome =
+    (from to : Item) → IsBinaryStep from to step → item_size from ≤ length bytes → n ≡ item_size to → ReceivedWhereRead from to bytes n outcome
+
+-- The same of a step to an edited item.
+abbrev pub IsEditCarriedOut : EditStep → List ℕ → ℕ → Option (List ℕ) → Type 0
+IsEditCarriedOut step bytes n outcome =
+    (from to : Item) → IsEditStep from to step → item_size from ≤ length bytes → n ≡ item_size to → ReceivedWhereRead from to bytes n outcome

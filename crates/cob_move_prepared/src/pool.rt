@@ -1,0 +1,200 @@
+//! Steps of single moves, one for each move that has one.
+
+ghost use Rattle.std.specs.Prelude.{◌≡◌, ◌≤◌, false, length, IfOk, IfSome, IsSome};
+ghost use Rattle.cob_move_prepared.specs.Pool.{AreOccupied, BetweenItems, HasNoSteps, HaveShortNumbers, HaveStep, IsMoveStep, IsReceived, KeepsSteps, MoveKinds, MovesNumber, MovesToBinary, MovesToEdited};
+ghost use Rattle.cob_copybook_tree.specs.declared.node.Kind.TheVariants.{Item as ItemKind};
+ghost use Rattle.cob_move_receive.specs.Received.{outcome};
+
+use crate::binary_step::BinaryStep;
+use crate::characters_step::CharactersStep;
+use crate::edit_step::EditStep;
+use crate::step::NumberStep;
+use crate::storage::lane_storage;
+use cob_copybook_tree::{Item, Kind};
+use std::alloc::{AllocError, Global};
+use std::fmt;
+
+/// Which step carries out a single move.
+#[derive(Clone, Copy, Debug)]
+pub enum MoveStep {
+    /// The step of a number from one item to another that has this number among them.
+    Number(usize),
+    /// That of a number to a binary item.
+    Binary(usize),
+    /// That of a number to an edited item.
+    Edited(usize),
+    /// The step of characters, as it is.
+    Characters(CharactersStep),
+}
+
+/// Steps of single moves. They become more, and none of them changes.
+#[derive(Drop)]
+pub struct MoveSteps {
+    alloc: Global,
+    pub(crate) numbers: Vec<NumberStep>,
+    pub(crate) binaries: Vec<BinaryStep>,
+    pub(crate) edits: Vec<EditStep>,
+}
+
+impl fmt::Debug for MoveSteps {
+    fn fmt<W: fmt::Write>(&self, f: &mut fmt::Formatter<W>) -> fmt::Result {
+        let numbers = self.numbers.len();
+        let binaries = self.binaries.len();
+        let edits = self.edits.len();
+        write!(
+            f,
+            "MoveSteps {{ numbers: {numbers}, binaries: {binaries}, edits: {edits} }}"
+        )
+    }
+}
+
+impl MoveSteps {
+    /// No steps yet.
+    pub fn new(alloc: Global) -> MoveSteps
+        ensures { HasNoSteps result }
+    {
+        MoveSteps {
+            alloc,
+            numbers: Vec::new(alloc),
+            binaries: Vec::new(alloc),
+            edits: Vec::new(alloc),
+        }
+    }
+
+    /// Puts the step of a number behind those so far.
+    ///
+    /// # Errors
+    ///
+    /// Where no memory is left.
+    fn put_number(&mut self, step: NumberStep) -> Result<MoveStep, AllocError>
+        ensures step { IfOk result (λ put. (k : MoveKinds) → AreOccupied k
+            → BetweenItems (MovesNumber step) k.sender k.receiver → IsMoveStep self.new k put) }
+        ensures kept { KeepsSteps self.old self.new }
+    {
+        let number = self.numbers.len();
+        self.numbers.push(step)?;
+        Ok(MoveStep::Number(number))
+    }
+
+    /// Puts the step of a number to a binary item behind those so far.
+    ///
+    /// # Errors
+    ///
+    /// Where no memory is left.
+    fn put_binary(&mut self, step: BinaryStep) -> Result<MoveStep, AllocError>
+        ensures step { IfOk result (λ put. (k : MoveKinds) → AreOccupied k
+            → BetweenItems (MovesToBinary step) k.sender k.receiver → IsMoveStep self.new k put) }
+        ensures kept { KeepsSteps self.old self.new }
+    {
+        let number = self.binaries.len();
+        self.binaries.push(step)?;
+        Ok(MoveStep::Binary(number))
+    }
+
+    /// Puts the step of a number to an edited item behind those so far.
+    ///
+    /// # Errors
+    ///
+    /// Where no memory is left.
+    fn put_edited(&mut self, step: EditStep) -> Result<MoveStep, AllocError>
+        ensures step { IfOk result (λ put. (k : MoveKinds) → AreOccupied k
+            → BetweenItems (MovesToEdited step) k.sender k.receiver → IsMoveStep self.new k put) }
+        ensures kept { KeepsSteps self.old self.new }
+    {
+        let number = self.edits.len();
+        self.edits.push(step)?;
+        Ok(MoveStep::Edited(number))
+    }
+
+    /// Makes the step of the move of one item to another ready.
+    ///
+    /// # Errors
+    ///
+    /// Where no memory is left.
+    fn prepare_items(&mut self, from: &Item, to: &Item) -> Result<Option<MoveStep>, AllocError>
+        ensures step { IfOk result (λ found. IfSome found (λ put. (k : MoveKinds) → AreOccupied k
+            → k.sender ≡ ItemKind from.now → k.receiver ≡ ItemKind to.now
+            → IsMoveStep self.new k put)) }
+        ensures must { HaveShortNumbers from.now to.now → IfOk result (λ found. IsSome found) }
+        ensures kept { KeepsSteps self.old self.new }
+    {
+        // A sender that isn't binary is read in one way.
+        if lane_storage(from).is_none() {
+            return Ok(None);
+        }
+        if let Some(step) = NumberStep::prepare(from, to) {
+            return Ok(Some(self.put_number(step)?));
+        }
+        if let Some(step) = BinaryStep::prepare(from, to) {
+            return Ok(Some(self.put_binary(step)?));
+        }
+        match EditStep::prepare(self.alloc, from, to)? {
+            Some(step) => Ok(Some(self.put_edited(step)?)),
+            None => Ok(None),
+        }
+    }
+
+    /// Makes the step of the move of an entry to another ready, by what they describe and how many bytes they have. There is one where the sender
+    /// gives its bytes as characters, and the receiver takes them without insertions; and where the sender is a number of at most sixteen digits
+    /// and bytes that isn't binary, and the receiver is one of any kind of storage or edits one in at most sixteen digits and bytes. The steps so
+    /// far stay.
+    ///
+    /// # Errors
+    ///
+    /// Where no memory is left.
+    pub fn prepare(
+        &mut self,
+        sender: &Kind,
+        sent: u32,
+        receiver: &Kind,
+        received: u32,
+    ) -> Result<Option<MoveStep>, AllocError>
+        requires { AreOccupied (record {
+          sender = sender.now;
+          sent = sent;
+          receiver = receiver.now;
+          received = received;
+        }) }
+        ensures step { IfOk result (λ found. IfSome found (IsMoveStep self.new (record {
+          sender = sender.now;
+          sent = sent;
+          receiver = receiver.now;
+          received = received;
+        }))) }
+        ensures must { HaveStep sender.now receiver.now → IfOk result (λ found. IsSome found) }
+        ensures kept { KeepsSteps self.old self.new }
+    {
+        if let Some(step) = CharactersStep::prepare(sender, sent as usize, receiver) {
+            return Ok(Some(MoveStep::Characters(step)));
+        }
+        match sender {
+            Kind::Group => Ok(None),
+            Kind::Item(from) => match receiver {
+                Kind::Group => Ok(None),
+                Kind::Item(to) => self.prepare_items(from, to),
+            },
+        }
+    }
+
+    /// Moves the sender that ends bytes to a receiver's bytes: best the bytes of a record up to the sender's last.
+    ///
+    /// False where the receiver asks for a value and the sender's bytes represent none: the receiver's bytes are as they were then.
+    #[inline(always)]
+    pub fn run(&self, step: MoveStep, from: &[u8], to: &mut [u8]) -> bool
+        requires { (k : MoveKinds) × IsMoveStep self.now k step × (k.sent ≤ length from.now)
+            × (length to.old ≡ k.received) }
+        ensures gets { (k : MoveKinds) → IsMoveStep self.now k step → k.sent ≤ length from.now
+            → length to.old ≡ k.received → IsReceived k from.now (outcome result to.new) }
+        ensures same { result ≡ false → to.new ≡ to.old }
+    {
+        match step {
+            MoveStep::Number(number) => self.numbers[number].run(from, to),
+            MoveStep::Binary(number) => self.binaries[number].run(from, to),
+            MoveStep::Edited(number) => self.edits[number].run(from, to),
+            MoveStep::Characters(step) => {
+                step.run(from, to);
+                true
+            }
+        }
+    }
+}

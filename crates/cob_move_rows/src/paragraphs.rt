@@ -1,0 +1,68 @@
+//! Paragraphs of MOVE statements: how statements are written, what references name, which moves there are, and the pairs of CORRESPONDING.
+//!
+//! A row is the question, the copybook of the input record and that of the output record, and the paragraph: for `read` as lines that are
+//! parted by bars, from column 8 on; for `raw` as the whole text. The answer is the number of single moves, and where steps are asked for
+//! the number of steps that they make behind it; or the rule that the paragraph breaks with its line.
+
+use crate::books::layout_at;
+use cob_copybook::Role;
+use cob_layout::Layout;
+use cob_move::{MoveFault, MoveRule, Paragraph};
+use cob_rows::{Row, RowFault};
+use std::alloc::Global;
+use std::fmt::Write;
+
+/// The paragraph of a row.
+fn text_of(alloc: Global, row: &Row) -> Result<Vec<u8>, RowFault> {
+    match row.field(0)? {
+        "read" => row.lines(alloc, 3),
+        "raw" => row.text(alloc, 3),
+        _ => Err(RowFault::BadRow),
+    }
+}
+
+/// The paragraph of a text.
+fn read(
+    alloc: Global,
+    input: &Layout,
+    output: &Layout,
+    text: &[u8],
+) -> Result<Paragraph, MoveFault> {
+    Paragraph::read(alloc, input, output, text)
+}
+
+/// Writes how many moves a paragraph has, and how many steps where these are asked for; or why there is none.
+fn push_read(
+    out: &mut String,
+    read: &Result<Paragraph, MoveFault>,
+    has_steps: bool,
+) -> Result<(), RowFault> {
+    match read {
+        Ok(paragraph) if has_steps => {
+            write!(
+                out,
+                "moves {} steps {}",
+                paragraph.moves(),
+                paragraph.steps()
+            )?;
+        }
+        Ok(paragraph) => write!(out, "moves {}", paragraph.moves())?,
+        Err(fault) if fault.rule == MoveRule::Memory => return Err(RowFault::Memory),
+        Err(fault) => write!(out, "{fault}")?,
+    }
+    Ok(())
+}
+
+/// Writes the answer to a row's question about a paragraph.
+pub(crate) fn answer(
+    alloc: Global,
+    row: &Row,
+    has_steps: bool,
+    out: &mut String,
+) -> Result<(), RowFault> {
+    let input = layout_at(alloc, Role::In, row, 1)?;
+    let output = layout_at(alloc, Role::Out, row, 2)?;
+    let text = text_of(alloc, row)?;
+    let read = read(alloc, &input, &output, text.as_slice());
+    push_read(out, &read, has_steps)
+}

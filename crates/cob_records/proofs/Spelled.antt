@@ -1,0 +1,23 @@
+-- A word that says a size of blocks, digit by digit.
+use Rattle.std.proofs.Common.{◌≡◌, ◌∙◌, ℕ, ◌+◌, ◌-◌, ◌*◌, ◌<◌, ◌≤◌, true, false, List, [], ◌∷◌, length, min, refl, sym, ap, subst, arith, Some}
+use Rattle.std.specs.Char.{is_ascii_digit}
+use Rattle.cob_records.specs.BlockSize.{SpellsBehind}
+
+-- So far digits were read that spell m: what the rest of the word spells behind m is what the word spells.
+pub record SpelledSoFar (word rest : List ℕ) (number : ℕ) : Type 0 where
+  pub m : ℕ
+  pub kept : number ≡ min m 65535
+  pub from : (n : ℕ) → SpellsBehind m rest n → SpellsBehind 0 word n
+  pub to : (n : ℕ) → SpellsBehind 0 word n → SpellsBehind m rest n
+
+pub none_spelled : (word : List ℕ) → SpelledSoFar word word 0
+none_spelled word = record { m = 0; kept = refl; from = λ n h. h; to = λ n h. h }
+
+pub digit_spelled : (word rest : List ℕ) (c number next : ℕ) → SpelledSoFar word (c ∷ rest) number → is_ascii_digit c ≡ true
+    → next ≡ min (min (number * 10) 65535 + (c - 48)) 65535 → SpelledSoFar word rest next
+digit_spelled word rest c number next so_far digit is = record {
+  m = so_far.m * 10 + (c - 48);
+  kept = omega (arith, is, so_far.kept);
+  from = λ n h. so_far.from n ((digit, h.0), h.1);
+  to = λ n h. (((so_far.to n h).0).1, (so_far.to n h).1);
+}

@@ -1,0 +1,123 @@
+//! Frames in blocks, in memory.
+
+use cob_records::{
+    Form, Gather, MemSink, MemSource, Outlet, RecordFault, block_reading_is_one, block_size_of,
+    blocks_are_greedy, forms_are_frames, next_blocked, next_in_form, next_is_one,
+};
+use std::test::Fail;
+
+/// Two blocks: records of one and of two bytes in the first, of three in the second.
+const BLOCKS: &[u8] =
+    b"\x00\x0F\x00\x00\x00\x05\x00\x00\xC1\x00\x06\x00\x00\xC2\xC2\x00\x0B\x00\x00\x00\x07\x00\x00\xC3\xC3\xC3";
+
+#[test]
+fn reads_blocks(rt: HostRuntime) {
+    block_reading_is_one();
+    next_is_one();
+    let mut slot = [0u8; 8];
+    let mut left = 0;
+    let mut source = MemSource::new(BLOCKS);
+    for (size, behind, rest) in [(1, 6, 17), (2, 0, 11), (3, 0, 0)] {
+        let read = next_blocked(&mut source, 32_760, 8, &mut slot, &mut left);
+        assert_eq!(rt; read, Ok(Some(size)));
+        assert_eq!(rt; left, behind);
+        assert_eq!(rt; source.rest().len(), rest);
+    }
+    assert_eq!(rt;
+        slot.as_slice(),
+        b"\xC3\xC3\xC3\x00\x00\x00\x00\x00".as_slice()
+    );
+    let read = next_in_form(&mut source, Form::Blocked(32_760), 8, &mut slot, &mut left);
+    assert_eq!(rt; read, Ok(None));
+}
+
+/// What is refused is told as that, nothing past it is read, and no block is open behind it.
+#[test]
+fn refuses_what_is_no_block(rt: HostRuntime) {
+    let rows: [(&[u8], RecordFault, usize); 8] = [
+        (b"\x00\x07\x00\x00\xC1", RecordFault::BlockDescriptor, 1),
+        (b"\x00\x29\x00\x00\xC1", RecordFault::BlockDescriptor, 1),
+        (b"\x00\x09\x01\x00\xC1", RecordFault::BlockDescriptor, 1),
+        (
+            b"\x00\x09\x00\x00\x00\x06\x00\x00\xC1",
+            RecordFault::PastBlock,
+            1,
+        ),
+        (
+            b"\x00\x09\x00\x00\x00\x06\x01\x00\xC1",
+            RecordFault::Spanned,
+            1,
+        ),
+        (b"\x00\x09", RecordFault::Truncated { seen: 2 }, 0),
+        (b"\x00\x09\x00\x00", RecordFault::Truncated { seen: 4 }, 0),
+        (
+            b"\x00\x0A\x00\x00\x00\x06\x00\x00\xC1",
+            RecordFault::Truncated { seen: 9 },
+            0,
+        ),
+    ];
+    for (bytes, fault, rest) in rows {
+        let mut slot = [0u8; 8];
+        let mut left = 0;
+        let mut source = MemSource::new(bytes);
+        let read = next_blocked(&mut source, 40, 8, &mut slot, &mut left);
+        assert_eq!(rt; read, Err(fault));
+        assert_eq!(rt; left, 0);
+        assert_eq!(rt; source.rest().len(), rest);
+    }
+}
+
+/// A record goes into the open block as long as its frame has room there.
+#[test]
+fn gathers_blocks(rt: HostRuntime) -> Result<(), Fail> {
+    blocks_are_greedy();
+    let mut room = [0u8; 26];
+    let mut sink = MemSink::new(&mut room);
+    let mut gather = Gather::new(rt.alloc(), 15)?;
+    assert_eq!(rt; gather.add(&mut sink, b"\xC1"), Ok(()));
+    assert_eq!(rt; gather.add(&mut sink, b"\xC2\xC2"), Ok(()));
+    assert_eq!(rt; gather.held(), 2);
+    assert_eq!(rt; sink.taken().len(), 0);
+    assert_eq!(rt; gather.written_by(b"\xC3\xC3\xC3"), 15);
+    assert_eq!(rt; gather.add(&mut sink, b"\xC3\xC3\xC3"), Ok(()));
+    assert_eq!(rt; sink.taken(), &BLOCKS[..15]);
+    assert_eq!(rt; gather.pending(), 11);
+    assert_eq!(rt; gather.finish(&mut sink), Ok(()));
+    assert_eq!(rt; gather.finish(&mut sink), Ok(()));
+    assert_eq!(rt; sink.taken(), BLOCKS);
+    Ok(())
+}
+
+/// A block that is not written whole is lost, and what comes next begins another.
+#[test]
+fn forgets_a_block_that_failed(rt: HostRuntime) -> Result<(), Fail> {
+    forms_are_frames();
+    let mut room = [0u8; 12];
+    let mut sink = MemSink::new(&mut room);
+    let mut outlet = Outlet::new(rt.alloc(), Form::Blocked(15))?;
+    assert_eq!(rt; outlet.add(&mut sink, b"\xC1"), Ok(()));
+    assert_eq!(rt; outlet.add(&mut sink, b"\xC2\xC2"), Ok(()));
+    let full = outlet.add(&mut sink, b"\xC3\xC3\xC3");
+    assert_eq!(rt; full, Err(RecordFault::TookNothing { taken: 12 }));
+    assert_eq!(rt; outlet.held(), 0);
+    assert_eq!(rt; outlet.finish(&mut sink), Ok(()));
+    Ok(())
+}
+
+#[test]
+fn reads_sizes_of_blocks(rt: HostRuntime) {
+    let rows: [(&[u8], Option<u16>); 9] = [
+        (b"8", Some(8)),
+        (b"00008", Some(8)),
+        (b"32760", Some(32_760)),
+        (b"7", None),
+        (b"32761", None),
+        (b"99999", None),
+        (b"000008", None),
+        (b"1x", None),
+        (b"", None),
+    ];
+    for (word, size) in rows {
+        assert_eq!(rt; block_size_of(word), size);
+    }
+}

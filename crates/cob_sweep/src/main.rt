@@ -1,0 +1,139 @@
+//! Draws jobs, each from its number alone, and has each public call that takes memory do its part of each.
+//!
+//! Its arguments are numbers of lines, of which 50 tell of a thousand jobs. A line tells of twenty: in how many each call gave what was asked,
+//! how many records came, and a sum over all bytes that were written. Where a call refuses, it prints the job's number and the call, and draws
+//! and does the job again. At another argument it reads a paragraph as long as one may be, of MOVE CORRESPONDING alone, and one of a byte more.
+//!
+//! What must be printed comes from a program of its own, `tools/sweep_oracle`, which draws the same jobs and works them by the rules.
+//!
+//! A job's random numbers are the states of a linear congruential generator of 64 bits: the first state is the job's number, the next one
+//! is 6364136223846793005 times the state before plus 1442695040888963407, modulo 2 to the 64, and a number below n is the state that
+//! comes next without its 33 lowest bits, modulo n. What is drawn, and in which order, is said where it is drawn:
+//!
+//! - the style of the names, the levels and the records (`style`);
+//! - the forms of both sides (`job`);
+//! - the entries of the input record, to depth 4: items from a table of clauses, groups, tables, tables that vary with their counts before
+//!   them, redefinitions (`entries`);
+//! - the output record: the same names in another order, with clauses that the sender can be moved to, and a statement for each of them
+//!   (`receivers`, `statements`);
+//! - one to three records (`values`).
+//!
+//! A sum is taken over bytes in their order: each makes of the sum 1099511628211 times itself, and adds itself, modulo 2 to the 64.
+#![tactic(auto)]
+
+mod calls;
+mod draw;
+mod entries;
+mod figures;
+mod job;
+mod longest;
+mod receivers;
+mod rows;
+mod statements;
+mod style;
+mod values;
+
+use crate::calls::{Refused, do_job};
+use crate::figures::Figures;
+use crate::job::SweepJob;
+use crate::longest::moves_of;
+use crate::rows::{Tables, rows_of};
+use std::alloc::Global;
+use std::rt::Env;
+use std::{env, fs, io};
+
+/// How many jobs a line tells of.
+const JOBS_A_LINE: u64 = 20;
+/// How many bytes one call writes at most.
+const ROOM: usize = 100_000;
+
+/// How many bytes a paragraph has at most.
+const MOST_BYTES: usize = 1_000_000;
+
+/// Draws a job, does it, and adds to the figures.
+fn draw_and_do(
+    alloc: Global,
+    tables: &Tables<'_>,
+    number: u64,
+    room: &mut [u8],
+    figures: &mut Figures,
+) -> Result<(), Refused> {
+    let job = SweepJob::draw(alloc, tables, number)?;
+    do_job(alloc, &job, room, figures)
+}
+
+/// Draws a job and does it, and adds to the figures. Where a call refuses, it prints which, and begins again.
+fn try_job<R: AllocGlobal + Print>(
+    rt: &R,
+    tables: &Tables<'_>,
+    number: u64,
+    room: &mut [u8],
+    figures: &mut Figures,
+) -> io::Result<()> {
+    let before = *figures;
+    if let Err(refused) = draw_and_do(rt.alloc(), tables, number, room, figures) {
+        println!(rt; "job {number}: {} refused", refused.call)?;
+        *figures = before;
+        if draw_and_do(rt.alloc(), tables, number, room, figures).is_err() {
+            *figures = before;
+        }
+    }
+    Ok(())
+}
+
+/// Does the jobs of a line, and prints it.
+fn try_line<R: AllocGlobal + Print>(
+    rt: &R,
+    tables: &Tables<'_>,
+    line: u64,
+    room: &mut [u8],
+) -> io::Result<()> {
+    let mut figures = Figures::new();
+    let last = line.saturating_mul(JOBS_A_LINE);
+    let before = last.saturating_sub(JOBS_A_LINE);
+    for place in 0..JOBS_A_LINE {
+        try_job(
+            rt,
+            tables,
+            before.saturating_add(place + 1),
+            room,
+            &mut figures,
+        )?;
+    }
+    let first = before.saturating_add(1);
+    let Figures { ok, records, sum } = figures;
+    println!(rt; "jobs {first} to {last}: {ok} ok, {records} records, sum {sum}")
+}
+
+/// Reads the paragraph of so many bytes, and prints how many single moves it has, or the rule that it breaks.
+fn try_paragraph<R: AllocGlobal + Print>(rt: &R, bytes: usize) -> io::Result<()> {
+    match moves_of(rt.alloc(), bytes) {
+        Ok(Ok(moves)) => println!(rt; "paragraph of {bytes} bytes: {moves} moves"),
+        Ok(Err(fault)) => println!(rt; "paragraph of {bytes} bytes: {fault}"),
+        Err(refused) => println!(rt; "paragraph of {bytes} bytes: {} refused", refused.call),
+    }
+}
+
+/// Draws from the tables of these texts, and does what each argument asks for.
+fn try_words<R: AllocGlobal + Env + Print>(rt: &R, items: &str, counts: &str) -> io::Result<()> {
+    let tables = Tables {
+        items: rows_of(rt.alloc(), items)?,
+        counts: rows_of(rt.alloc(), counts)?,
+    };
+    let mut room = vec![in rt.alloc(); 0u8; ROOM]?;
+    for word in env::args(rt)?.skip(1) {
+        if let Ok(line) = word.parse::<u64>() {
+            try_line(rt, &tables, line, &mut room)?;
+        } else {
+            try_paragraph(rt, MOST_BYTES)?;
+            try_paragraph(rt, MOST_BYTES + 1)?;
+        }
+    }
+    Ok(())
+}
+
+fn main(rt: HostRuntime) -> io::Result<()> {
+    let items = fs::read_to_string(&rt, "items.rows")?;
+    let counts = fs::read_to_string(&rt, "counts.rows")?;
+    try_words(&rt, items.as_str(), counts.as_str())
+}

@@ -1,0 +1,256 @@
+"""Paragraphs: MOVE statements, and the moves that they mean between two records."""
+
+import re
+from collections import deque, namedtuple
+
+from .books import MOST_DIGITS, MOST_LITERAL
+from .entries import FIGURATIVE, Constant, is_name, number_of
+from .faults import Refused
+from .layouts import Ref
+from .trees import above, bears, dimensions, size_of
+from .words import paragraph_words_of
+
+# A single statement: one sender and its receivers, each a reference; the sender's side and theirs.
+Move = namedtuple("Move", "side sender receivers")
+# A name as it is written in a statement.
+Named = namedtuple("Named", "name qualifiers subscripts")
+
+# Which categories of receivers an elementary sender of a category may be moved to.
+CHARACTERS = {"alphabetic", "alphanumeric", "alphanumeric-edited"}
+NUMBERS = {"numeric", "numeric-edited"}
+ALLOWED = {
+    "alphabetic": CHARACTERS, "alphanumeric": CHARACTERS | NUMBERS, "alphanumeric-edited": CHARACTERS,
+    "numeric": CHARACTERS | NUMBERS, "numeric-edited": NUMBERS | CHARACTERS - {"alphabetic"},
+}
+
+
+class Statements:
+    """The words of a paragraph, taken from the front."""
+
+    def __init__(self, words):
+        self.words, self.line = deque(words), words[0].line if words else 1
+
+    def refuse(self, rule):
+        raise Refused(rule, self.line)
+
+    def next(self):
+        return self.words[0].text if self.words and self.words[0].kind == "word" else ""
+
+    def take(self):
+        if not self.words:
+            self.refuse("M1")
+        return self.words.popleft()
+
+    def take_if(self, *wanted):
+        if self.next() and self.next() in wanted:
+            return self.take()
+        return None
+
+    def stops(self):
+        """Takes any number of periods; the answer is whether there is one."""
+        some = False
+        while self.words and self.words[0].kind == "stop":
+            some = self.take() is not None
+        return some
+
+    def named(self):
+        """A reference as it is written."""
+        names, subscripts = [], []
+        while True:
+            if not is_name(self.next()):
+                self.refuse("M1")
+            names.append(self.take().text)
+            if not self.take_if("OF", "IN"):
+                break
+        if self.take_if("("):
+            while not self.take_if(")"):
+                if not re.fullmatch(r"\d+", self.next()):
+                    self.refuse("M1")
+                subscripts.append(self.take().text)
+            if not subscripts:
+                self.refuse("M1")
+        return Named(names[0], names[1:], subscripts)
+
+    def sender(self):
+        """A literal, a figurative constant, or a reference."""
+        if self.words and self.words[0].kind == "literal":
+            return Constant("quoted", self.take().text, None)
+        if self.take_if("ALL"):
+            if self.words and self.words[0].kind == "literal":
+                return Constant("all", self.take().text, None)
+            if self.next() not in FIGURATIVE:
+                self.refuse("M1")
+        if self.next() in FIGURATIVE:
+            return Constant("figurative", None, FIGURATIVE[self.take().text])
+        if number_of(self.next()):
+            return Constant("number", self.take().text, None)
+        return self.named()
+
+
+def statements_of(text):
+    """The statements of a paragraph: their line, whether they are CORRESPONDING, the sender and the receivers."""
+    reader, found = Statements(paragraph_words_of(text)), []
+    if is_name(reader.next()):
+        reader.take()
+        if not reader.words or reader.take().kind != "stop":
+            reader.refuse("M1")
+    behind_stop = True
+    while reader.words or not found:
+        if behind_stop or reader.next() == "MOVE":
+            reader.line = reader.words[0].line if reader.words else reader.line
+        if not reader.take_if("MOVE"):
+            reader.refuse("M1")
+        together = reader.take_if("CORRESPONDING", "CORR") is not None
+        sender = reader.named() if together else reader.sender()
+        if not reader.take_if("TO"):
+            reader.refuse("M1")
+        receivers = [reader.named()]
+        while not together and is_name(reader.next()):
+            receivers.append(reader.named())
+        found.append((reader.line, together, sender, receivers))
+        behind_stop = reader.stops()
+    return found
+
+
+class Paragraph:
+    """The moves of a paragraph between the records of two books."""
+
+    def __init__(self, source, target, text):
+        self.bearers = {}
+        for side, book in (("in", source), ("out", target)):
+            for entry in book.entries:
+                self.bearers.setdefault(entry.name, []).append((side, entry))
+        self.moves = []
+        for line, together, sender, receivers in statements_of(text):
+            self.line = line
+            self.moves += self.corresponding(sender, receivers[0]) if together else [self.single(sender, receivers)]
+
+    def refuse(self, rule):
+        raise Refused(rule, self.line)
+
+    def reference(self, named):
+        """The side and the reference that a written name means."""
+        found = [(side, entry) for side, entry in self.bearers.get(named.name, []) if bears(entry, named.name, named.qualifiers)]
+        if len(found) != 1:
+            self.refuse("M3" if found else "M2")
+        (side, entry), subscripts = found[0], named.subscripts
+        tables = dimensions(entry)
+        if len(subscripts) != len(tables) or any(len(s) > MOST_DIGITS for s in subscripts):
+            self.refuse("M4")
+        if any(not 1 <= int(s) <= table.occurs.most for s, table in zip(subscripts, tables)):
+            self.refuse("M4")
+        return side, Ref(entry, [int(s) for s in subscripts])
+
+    def single(self, sender, receivers):
+        """The move of a statement."""
+        side, sent = self.reference(sender) if isinstance(sender, Named) else (None, sender)
+        targets = []
+        for receiver in receivers:
+            other, ref = self.reference(receiver)
+            if other != "out":
+                self.refuse("M5")
+            self.check(sent, ref.entry)
+            targets.append(ref)
+        return Move(side, sent, targets)
+
+    def check(self, sent, receiver):
+        """The rules of one move."""
+        rule = constant_rule(sent, receiver) if isinstance(sent, Constant) else entry_rule(sent.entry, receiver)
+        if rule is not None:
+            self.refuse(rule)
+
+    def corresponding(self, sender, receiver):
+        """The moves of the pairs of two groups."""
+        (side, sent), (other, to) = self.reference(sender), self.reference(receiver)
+        if other != "out":
+            self.refuse("M5")
+        if sent.entry.picture is not None or to.entry.picture is not None:
+            self.refuse("M8")
+        found = pairs(sent.entry, to.entry)
+        if any(len({id(pair[k]) for pair in found}) < len(found) for k in (0, 1)):
+            self.refuse("M9")
+        moves = []
+        for one, two in found:
+            self.check(Ref(one, []), two)
+            moves.append(Move(side, Ref(one, sent.subscripts), [Ref(two, to.subscripts)]))
+        return moves
+
+
+def is_whole(item):
+    return item.picture.scale <= 0
+
+
+def entry_rule(sender, receiver):
+    """The rule that forbids the move of an entry."""
+    if sender.picture is None or receiver.picture is None:
+        return None
+    if not is_allowed(sender, receiver):
+        return "M6"
+    long = sender.category == "alphanumeric" and receiver.category in NUMBERS and size_of(sender) > MOST_DIGITS
+    return "M10" if long else None
+
+
+def is_allowed(sender, receiver):
+    """Whether the table of moves has a move between two items."""
+    to = receiver.category
+    if sender.category == "numeric" and to in CHARACTERS:
+        return to != "alphabetic" and is_whole(sender)
+    return to in ALLOWED[sender.category]
+
+
+def constant_rule(constant, receiver):
+    """The rule that forbids the move of a literal or a figurative constant."""
+    to = receiver.category
+    if constant.kind == "figurative":
+        forbidden = {"alphabetic"} if constant.byte == 0xF0 else NUMBERS
+        return "M6" if to in forbidden else None
+    if constant.kind == "number":
+        return number_rule(constant.text, to)
+    if not 1 <= len(constant.text) <= MOST_LITERAL:
+        return "M7"
+    if to not in NUMBERS:
+        return None
+    if constant.kind == "all":
+        return "M6"
+    if not re.fullmatch(r"[0-9]+", constant.text):
+        return "M7"
+    return "M10" if len(constant.text) > MOST_DIGITS else None
+
+
+def number_rule(text, to):
+    """The rule that forbids the move of a numeric literal."""
+    sign, whole, part = number_of(text)
+    if len(whole) + len(part) > MOST_DIGITS or to == "group" and (sign or part):
+        return "M7"
+    return "M6" if to == "alphabetic" or part and to not in NUMBERS else None
+
+
+def paired_name(entry, group):
+    """The names from an entry up to a group, named groups alone between."""
+    between = []
+    for holder in above(entry):
+        if holder is group:
+            return entry.name, between
+        between += [holder.name] if holder.name else []
+    return None
+
+
+def subordinates(group):
+    """The entries beneath a group that may be paired: none that redefines or occurs, or stands in one that does."""
+    found = []
+    for entry in group.children:
+        if entry.area is None and entry.occurs is None:
+            found += [entry] + subordinates(entry)
+    return found
+
+
+def pairs(sender, receiver):
+    """The pairs of two groups, in the order of the sending one."""
+    found = []
+    for one in subordinates(sender):
+        for two in subordinates(receiver):
+            same = one.name and paired_name(one, sender) == paired_name(two, receiver)
+            elementary = one.picture is not None or two.picture is not None
+            if same and elementary and entry_rule(one, two) != "M6":
+                found.append((one, two))
+    return found
