@@ -17,8 +17,8 @@ use Rattle.cob_stream.specs.declared.fault.Reason.{Reason}
 use Rattle.cob_stream.specs.declared.fault.RunFault.{RunFault}
 use Rattle.cob_stream.specs.Input.{IsJudged, ReadsRecord, Remains, records_in}
 use Rattle.cob_stream.specs.Output.{PutsCounted}
-use Rattle.cob_stream.specs.Reasons.{is_write_cause, reason_of}
-use Rattle.cob_convert.specs.Run.{ByEnd, ByRecord, Closes, CountsReads, InConversion, InLayout, InRead, IsConverted, IsOver, Ran, is_read_end, is_write_stop, limit_reason, most_records, outlet_behind, records_out, stop_reason, write_reason}
+use Rattle.cob_stream.specs.Reasons.{is_write_cause, reason_of, write_reason}
+use Rattle.cob_convert.specs.Run.{ByEnd, ByRecord, Closes, CountsReads, InConversion, InLayout, InRead, IsConverted, IsOver, Ran, is_read_end, is_write_stop, limit_reason, most_records, outlet_behind, records_out, stop_reason}
 use Rattle.cob_convert.proofs.Outlets.{at_end, come_one, emptied_behind, fits_behind, held_more, holds_none, none_pending, records_in_more, records_out_more, with_one_more, written_more}
 
 -- ---- a run so far

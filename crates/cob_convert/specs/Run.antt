@@ -10,14 +10,14 @@ use Rattle.cob_records.specs.Forms.{Come, ComesFirst, ReadsInForm, records_held,
 use Rattle.cob_records.specs.Frame.{IsRecord, Puts, is_unblocked}
 use Rattle.cob_convert_record.specs.Conversion.{Conversion, in_length}
 use Rattle.cob_move_apply.specs.declared.stop.Stop.{Stop}
-use Rattle.cob_layout_places.specs.declared.operands.Side.TheVariants.{In, Out}
+use Rattle.cob_layout_places.specs.declared.operands.Side.TheVariants.{In}
 use Rattle.cob_move_apply.specs.declared.stop.StopCause.{StopCause}
 use Rattle.cob_stream.specs.declared.fault.Cause.{Cause}
 use Rattle.cob_stream.specs.declared.fault.Cause.TheVariants.{NoValue, Count, Subscript, Limit, Record}
 use Rattle.cob_move_apply.specs.declared.stop.StopCause.TheVariants.{NoValue as StopNoValue, Count as StopCount, Subscript as StopSubscript}
 use Rattle.cob_stream.specs.declared.fault.Reason.{Reason}
 use Rattle.cob_stream.specs.declared.fault.RunFault.{RunFault}
-use Rattle.cob_stream.specs.Reasons.{frame_reason, is_error_cause, is_read_cause, is_write_cause, misfit_reason, reason_of}
+use Rattle.cob_stream.specs.Reasons.{frame_reason, is_error_cause, is_read_cause, is_write_cause, misfit_reason, reason_of, write_reason}
 use Rattle.cob_stream.specs.declared.misfit.MeasureFault.{MeasureFault}
 use Rattle.cob_stream.specs.Input.{Remains, records_in}
 use Rattle.cob_stream.specs.Sizes.{IsSized, IsMeasureFault}
@@ -54,10 +54,6 @@ stop_reason stop = record { side = stop.side; offset = stop.offset; cause = caus
 -- the reason where as many records were converted as a run converts at most
 abbrev pub limit_reason : Reason
 limit_reason = record { side = In; offset = 0; cause = Limit }
-
--- the reason of a write that failed
-abbrev pub write_reason : RecordFault → Reason
-write_reason fault = record { side = Out; offset = 0; cause = Record fault }
 
 -- a whole frame was left first, and just this was read
 pub record Came (conversion : Conversion) (input : List ℕ) (at : Remains) : Type 0 where

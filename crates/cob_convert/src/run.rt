@@ -4,11 +4,11 @@ ghost use Rattle.cob_records.specs.Forms.{FitsForm, emptied, records_held, outle
 ghost use Rattle.cob_convert_record.specs.Rooms.{capacity_for};
 ghost use Rattle.cob_convert_record.specs.Conversion.{in_length, out_length};
 ghost use Rattle.cob_stream.specs.Reasons.{is_error_cause, is_write_cause};
-ghost use Rattle.cob_convert.specs.Run.{Closes, CountsReads, Ran, cause_from, is_write_stop, is_write_error_stop, limit_reason, stop_reason, write_reason};
+ghost use Rattle.cob_convert.specs.Run.{Closes, CountsReads, Ran, cause_from, is_write_stop, is_write_error_stop, limit_reason, stop_reason};
 ghost use Rattle.cob_convert.specs.declared.run.TheConstants.{LIMIT};
 
 use cob_convert_record::{Conversion, Room, Stop, StopCause};
-use cob_records::{Outlet, RecordFault, Sink, Source};
+use cob_records::{Outlet, Sink, Source};
 use cob_stream::{Cause, Reason, RunFault, Side, sized_are_storages, write_pending, write_record};
 
 /// How many records a run converts at most.
@@ -34,17 +34,6 @@ fn reason_of_stop(stop: Stop) -> Reason
         side: stop.side,
         offset: stop.offset,
         cause: cause_of(stop.cause),
-    }
-}
-
-/// The reason of a write that failed.
-fn reason_of_write(fault: RecordFault) -> Reason
-    ensures { result ≡ write_reason fault }
-{
-    Reason {
-        side: Side::Out,
-        offset: 0,
-        cause: Cause::Record(fault),
     }
 }
 
@@ -94,7 +83,7 @@ fn close<W: Sink>(
     let held = u64::from(outlet.held());
     let mut written = written;
     if let Err(fault) = write_pending(sink, outlet, &mut written) {
-        return Err(stop_behind(done - held, reason_of_write(fault), written));
+        return Err(stop_behind(done - held, Reason::of_write(fault), written));
     }
     match why {
         None => Ok(done),
@@ -143,7 +132,7 @@ pub fn run_over<R: Source, W: Sink>(
         };
         let held = u64::from(outlet.held());
         if let Err(fault) = write_record(sink, outlet, &output[..made], &mut written) {
-            return Err(stop_behind(done - held, reason_of_write(fault), written));
+            return Err(stop_behind(done - held, Reason::of_write(fault), written));
         }
     }
     let why = Reason {

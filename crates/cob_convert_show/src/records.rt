@@ -15,8 +15,8 @@ ghost use Rattle.cob_records.specs.Forms.{HasBlockSize};
 ghost use Rattle.cob_records.specs.Frame.{IsRecord, is_write_error, is_write_fault};
 ghost use Rattle.cob_convert_show.specs.Records.{stopped_by, HoldsAny, HoldsRecord, IsStop, IsShowFault};
 ghost use Rattle.cob_convert_show.specs.declared.records.ShowFault.TheVariants.{Memory, Run};
-ghost use Rattle.cob_layout_places.specs.declared.operands.Side.TheVariants.{In, Out};
-ghost use Rattle.cob_stream.specs.declared.fault.Cause.TheVariants.{Limit, Record};
+ghost use Rattle.cob_layout_places.specs.declared.operands.Side.TheVariants.{In};
+ghost use Rattle.cob_stream.specs.declared.fault.Cause.TheVariants.{Limit};
 
 use crate::elements::{Contents, put_items};
 use crate::named::{Named, named_items};
@@ -179,17 +179,6 @@ fn put_lines<W: Sink>(
     put_items(sink, sent, contents, items)
 }
 
-/// The reason of lines that cannot be written.
-fn line_reason(fault: RecordFault) -> Reason
-    ensures { result ≡ record { side = Out; offset = 0; cause = Record fault } }
-{
-    Reason {
-        side: Side::Out,
-        offset: 0,
-        cause: Cause::Record(fault),
-    }
-}
-
 /// The reason of records that are more than are shown.
 fn limit_reason() -> Reason
     ensures { result ≡ record { side = In; offset = 0; cause = Limit } }
@@ -257,7 +246,7 @@ fn show_records<R: Source, W: Sink>(
             bytes: &bytes[..count],
         };
         if let Err(fault) = put_lines(sink, &mut written, done + 1, contents, shown.items) {
-            return Err(stop_at(done + 1, line_reason(fault), written));
+            return Err(stop_at(done + 1, Reason::of_write(fault), written));
         }
     }
     Err(stop_at(LIMIT + 1, limit_reason(), written))

@@ -3,7 +3,7 @@ use Rattle.std.specs.Prelude.{ℕ, Bool, false, Option, Ok, Err, Result}
 use Rattle.cob_records.specs.declared.records.RecordFault.{RecordFault}
 use Rattle.cob_records.specs.declared.records.RecordFault.TheVariants.{Length}
 use Rattle.cob_records.specs.Frame.{is_read_failure, is_write_error, is_write_fault}
-use Rattle.cob_layout_places.specs.declared.operands.Side.TheVariants.{In}
+use Rattle.cob_layout_places.specs.declared.operands.Side.TheVariants.{In, Out}
 use Rattle.cob_stream.specs.declared.fault.Cause.{Cause}
 use Rattle.cob_stream.specs.declared.fault.Cause.TheVariants.{Count, Record}
 use Rattle.cob_stream.specs.declared.fault.Reason.{Reason}
@@ -33,6 +33,10 @@ reason_of fault = record { side = fault.side; offset = fault.offset; cause = fau
 -- the reason of a frame that can't be read
 abbrev pub frame_reason : RecordFault → Reason
 frame_reason fault = record { side = In; offset = 0; cause = Record fault }
+
+-- the reason of a write that failed
+abbrev pub write_reason : RecordFault → Reason
+write_reason fault = record { side = Out; offset = 0; cause = Record fault }
 
 -- the cause of a misfit: its count, or its length as a fault of the record
 abbrev pub refusal_from : MeasureFault → Cause

@@ -1,7 +1,7 @@
 //! Where and why a record stops a run.
 
 ghost use Rattle.std.specs.Prelude.{◌≡◌, false};
-ghost use Rattle.cob_stream.specs.Reasons.{frame_reason, is_write_cause, misfit_reason};
+ghost use Rattle.cob_stream.specs.Reasons.{frame_reason, is_write_cause, misfit_reason, write_reason};
 
 use crate::misfit::MeasureFault;
 use cob_layout_places::Side;
@@ -51,6 +51,17 @@ impl Reason {
     {
         Reason {
             side: Side::In,
+            offset: 0,
+            cause: Cause::Record(fault),
+        }
+    }
+
+    /// The reason of a write that failed.
+    pub fn of_write(fault: RecordFault) -> Reason
+        ensures { result ≡ write_reason fault }
+    {
+        Reason {
+            side: Side::Out,
             offset: 0,
             cause: Cause::Record(fault),
         }

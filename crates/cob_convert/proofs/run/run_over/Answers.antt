@@ -47,7 +47,7 @@ returns-in-Err-write_record-clause-ran g c =
     _ (g.R.Source.coming c.loop-done.source) _ _ (g.W.Sink.taken c.loop-done.sink) _
     c.loop-done.invariant.so_far (rw c.in-Ok-Some.field-0-is at c.in-Ok-Some.ensures.reads) (rw c.in-Ok-Some.field-0-is at c.in-Ok-Some.ensures.judged) c.in-Ok.ensures.converts (omega arith)
     c.in-Err-write_record.ensures.puts
-    (ap reason_of c.stop_behind.ensures ∙ ap (λ (r : Reason). reason_of (fault_at 0 r 0)) c.reason_of_write.ensures)
+    (ap reason_of c.stop_behind.ensures ∙ ap (λ (r : Reason). reason_of (fault_at 0 r 0)) c.of_write.ensures)
     (omega (arith, c.loop-done.invariant.so_far.few, c.from-held.ensures, c.held.ensures, ap (λ (f : RunFault). f.number) c.stop_behind.ensures))
     (ap (λ (f : RunFault). f.written) c.stop_behind.ensures)
 

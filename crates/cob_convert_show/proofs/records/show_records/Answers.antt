@@ -52,7 +52,7 @@ returns-in-Err-put_lines-clause-shows g c =
     let legible = rw c.in-Ok-Some.field-0-is at c.in-Ok-Some.ensures.legible in
     write_end c.args.shown.form c.args.shown.layout.now c.loop-done.done c.loop-done.written c.put_lines.new.sent c.loop-done.left c.read_record.new.left c.in-Ok-Some.count c.in-Err-put_lines.fault c.read_record.new.bytes c.read_record.new.places
     (AreRecordLines r (c.loop-done.done + 1)) (Err c.stop_at-in-Err-put_lines.result) _ (g.R.Source.coming c.loop-done.source) _ _ (g.W.Sink.taken c.loop-done.sink) _ c.loop-done.invariant.so_far (omega (arith, c.loop-done-test.true)) next whole legible
-    c.in-Err-put_lines.ensures.lines (ap (λ (f : ShowFault). Err f) (c.stop_at-in-Err-put_lines.ensures ∙ ap (fault_for (c.loop-done.done + 1) c.put_lines.new.sent) c.line_reason.ensures))
+    c.in-Err-put_lines.ensures.lines (ap (λ (f : ShowFault). Err f) (c.stop_at-in-Err-put_lines.ensures ∙ ap (fault_for (c.loop-done.done + 1) c.put_lines.new.sent) c.of_write.ensures))
 
 pub returns-clause-shows : goal.returns-clause-shows
 returns-clause-shows g c =
