@@ -60,10 +60,15 @@ def is_bytes(field):
     return re.fullmatch(r"[0-9A-F ]+", field) is not None
 
 
+def is_template(question):
+    """Whether a row asks about all texts of a template."""
+    return "{" in question
+
+
 def rows(text):
     """The rows that are answered here, each with what it must be answered."""
     for line in text.splitlines():
         question, arrow, printed = line.rpartition(" -> ")
         fields = question.split(" | ")
-        if arrow and fields[0] in ANSWERS and len(fields) > 1 and not is_bytes(fields[1]):
+        if arrow and fields[0] in ANSWERS and len(fields) > 1 and not is_bytes(fields[1]) and not is_template(question):
             yield fields, wanted(fields, printed)

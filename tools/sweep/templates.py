@@ -9,7 +9,7 @@ from .faults import Refused
 from .layouts import whole
 from .paragraphs import Paragraph
 
-DATA = os.path.join(os.path.dirname(os.path.realpath(__file__)), "..", "..", "crates", "cob_template_rows", "data")
+DATA = os.path.join(os.path.dirname(os.path.realpath(__file__)), "..", "..", "crates", "cob_move_rows", "data")
 ESCAPED = re.compile(r"\\x([0-9A-F]{2})|\\(.)")
 CONTROLS = {"n": "\n", "r": "\r", "t": "\t", "\\": "\\"}
 
@@ -29,7 +29,7 @@ def source_of(question, text):
 
 def reader_of(table, fields):
     """What the texts of a row are read by, which answers the size of each, and what these sizes are."""
-    if table != "paragraphs":
+    if table != "paragraph_templates":
         return (lambda text: whole(Book("IN-RECORD", text).root, {})), "lengths"
     books = [Book(name, source_of("lines", entries)) for name, entries in zip(("IN-RECORD", "OUT-RECORD"), fields[1:])]
     return (lambda text: sum(len(move.receivers) for move in Paragraph(*books, text).moves)), "moves"

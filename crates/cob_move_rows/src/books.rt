@@ -20,11 +20,8 @@ fn row_fault(fault: BookFault) -> RowFault {
 }
 
 /// The book of a text.
-fn read(alloc: Global, role: Role, text: &[u8]) -> Result<Book, RowFault> {
-    match Book::read(alloc, role, text) {
-        Ok(book) => Ok(book),
-        Err(fault) => Err(row_fault(fault)),
-    }
+pub(crate) fn read_book(alloc: Global, role: Role, text: &[u8]) -> Result<Book, BookFault> {
+    Book::read(alloc, role, text)
 }
 
 /// The book of a field.
@@ -34,7 +31,11 @@ pub(crate) fn book_at(
     row: &Row,
     place: usize,
 ) -> Result<Book, RowFault> {
-    read(alloc, role, row.lines(alloc, place)?.as_slice())
+    let text = row.lines(alloc, place)?;
+    match read_book(alloc, role, text.as_slice()) {
+        Ok(book) => Ok(book),
+        Err(fault) => Err(row_fault(fault)),
+    }
 }
 
 /// The book of a row: its second field.

@@ -1,5 +1,5 @@
 //! Answers tables of rows about records and moves between them: places and lengths under counts, the counts that places need, bytes in
-//! places, the storage before the first move, single moves, and whole paragraphs.
+//! places, the storage before the first move, single moves, whole paragraphs, and each text of templates of copybooks and of paragraphs.
 //!
 //! A program's arguments name its tables; each table belongs to one module, which says how its rows are read. Mostly the first field of a
 //! row is the question, and a record is written as the entries of its copybook, parted by bars, one a line. What must be printed stands in
@@ -8,15 +8,19 @@
 
 mod asked;
 mod books;
+mod choices;
 mod constants;
 mod counted;
 mod layouts;
 mod moves;
 mod paragraphs;
 mod places;
+mod reader;
 mod refusal;
 mod storage;
 mod tables;
+mod template;
+mod templates;
 
 use cob_rows::{Family, Row, RowFault, print_rows};
 use std::alloc::Global;
@@ -39,6 +43,8 @@ impl Family for MoveRows {
                 paragraphs::answer(alloc, row, false, out)
             }
             "steps" => paragraphs::answer(alloc, row, true, out),
+            "copybook_templates" | "line_templates" => templates::read_copybooks(alloc, row, out),
+            "paragraph_templates" => templates::read_paragraphs(alloc, row, out),
             _ => Err(RowFault::BadRow),
         }
     }

@@ -22,7 +22,7 @@ fn text_of(alloc: Global, row: &Row) -> Result<Vec<u8>, RowFault> {
 }
 
 /// The paragraph of a text.
-fn read(
+pub(crate) fn read_paragraph(
     alloc: Global,
     input: &Layout,
     output: &Layout,
@@ -63,6 +63,6 @@ pub(crate) fn answer(
     let input = layout_at(alloc, Role::In, row, 1)?;
     let output = layout_at(alloc, Role::Out, row, 2)?;
     let text = text_of(alloc, row)?;
-    let read = read(alloc, &input, &output, text.as_slice());
+    let read = read_paragraph(alloc, &input, &output, text.as_slice());
     push_read(out, &read, has_steps)
 }

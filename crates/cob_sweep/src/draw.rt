@@ -26,12 +26,10 @@ impl Draw {
         (self.state >> 33) % limit
     }
 
-    /// One of the elements of a list, none where it is empty.
-    pub(crate) fn one_of<'a, T>(&mut self, list: &'a [T]) -> Option<&'a T> {
-        if list.is_empty() {
-            return None;
-        }
-        let place = self.below(list.len() as u64);
-        list.get(place as usize)
+    /// One of the parts of a text that are parted by this character.
+    pub(crate) fn part_of<'a>(&mut self, text: &'a str, between: char) -> &'a str {
+        let parts = text.split(between).count().max(1);
+        let place = self.below(parts as u64);
+        text.split(between).nth(place as usize).unwrap_or("")
     }
 }

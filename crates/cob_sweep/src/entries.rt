@@ -1,7 +1,7 @@
 //! The entries of an input record, as they are drawn.
 
 use crate::draw::Draw;
-use crate::rows::{ItemRow, Tables};
+use crate::rows::{ItemRow, Tables, row_of};
 use std::alloc::{AllocError, Global};
 
 /// How many levels may stand below the record.
@@ -28,66 +28,79 @@ pub(crate) enum Times {
 /// What an entry is.
 #[derive(Clone, Copy)]
 pub(crate) enum Shape<'a> {
-    Item(&'a ItemRow<'a>),
+    Item(ItemRow<'a>),
     /// The count of tables.
-    Count(&'a ItemRow<'a>),
+    Count(ItemRow<'a>),
     /// A redefinition of the item of this number.
-    Redefinition(u64, &'a ItemRow<'a>),
+    Redefinition(u64, ItemRow<'a>),
     Group,
 }
 
-/// An entry with those beneath it.
-#[derive(Drop)]
+/// An entry. Those beneath a group stand behind it.
+#[derive(Clone, Copy)]
 pub(crate) struct Entry<'a> {
     pub(crate) number: u64,
     pub(crate) named: bool,
     /// How many levels it stands below the record.
     pub(crate) depth: u64,
     pub(crate) times: Times,
+    /// How often the entries occur that it stands in, and it itself, each by its depth.
+    pub(crate) tables: [Times; DEPTHS],
     pub(crate) shape: Shape<'a>,
-    pub(crate) children: Vec<Entry<'a>>,
 }
 
-/// A record as it is drawn: where its items come from, and the number of its last entry.
+/// A record as it is drawn: where its items come from, the number of its last entry, and its entries in their order.
 #[derive(Drop)]
 pub(crate) struct Sketch<'a> {
-    pub(crate) alloc: Global,
     pub(crate) draw: Draw,
-    pub(crate) tables: &'a Tables<'a>,
+    pub(crate) tables: Tables<'a>,
     pub(crate) last: u64,
+    pub(crate) entries: Vec<Entry<'a>>,
 }
 
-/// An item that stands alone.
-fn item_of<'a>(alloc: Global, number: u64, named: bool, depth: u64, shape: Shape<'a>) -> Entry<'a> {
-    Entry {
-        number,
-        named,
-        depth,
-        times: Times::Once,
-        shape,
-        children: Vec::new(alloc),
+/// The innermost of tables that an entry stands in.
+fn innermost(tables: [Times; DEPTHS]) -> Times {
+    let mut found = Times::Once;
+    for times in tables.iter() {
+        if !matches!(times, Times::Once) {
+            found = *times;
+        }
     }
+    found
+}
+
+/// The tables that entries stand in beneath one of this depth, which stands in others.
+fn with_table(mut tables: [Times; DEPTHS], depth: u64, times: Times) -> [Times; DEPTHS] {
+    if let Some(own) = tables.get_mut(depth as usize) {
+        *own = times;
+    }
+    tables
 }
 
 impl<'a> Sketch<'a> {
+    /// A record without entries yet.
+    pub(crate) fn new(alloc: Global, draw: Draw, tables: Tables<'a>) -> Sketch<'a> {
+        Sketch {
+            draw,
+            tables,
+            last: 0,
+            entries: Vec::new(alloc),
+        }
+    }
+
     /// The number of the next entry.
     fn number(&mut self) -> u64 {
         self.last = self.last.saturating_add(1);
         self.last
     }
 
-    /// Draws how often an entry occurs, which stands in this table or in none: once, so many times, or as often as a count says. A table
-    /// that varies and stands in none gets its count before it.
-    fn times(
-        &mut self,
-        above: Times,
-        depth: u64,
-        entries: &mut Vec<Entry<'a>>,
-    ) -> Result<Times, AllocError> {
-        match (self.draw.below(6), above) {
+    /// Draws how often an entry occurs, which stands in these tables: once, so many times, or as often as a count says. A table that
+    /// varies and stands in none gets its count before it.
+    fn times(&mut self, depth: u64, tables: [Times; DEPTHS]) -> Result<Times, AllocError> {
+        match (self.draw.below(6), innermost(tables)) {
             (0, _) => Ok(Times::Fixed(1 + self.draw.below(3))),
             (1, Times::Once) => {
-                let count = self.count(depth, entries)?;
+                let count = self.count(depth, tables)?;
                 Ok(self.varying(count))
             }
             (1, Times::Varies(table)) => Ok(self.varying(table.count)),
@@ -103,103 +116,78 @@ impl<'a> Sketch<'a> {
     }
 
     /// Draws the item of a count, and answers its number.
-    fn count(&mut self, depth: u64, entries: &mut Vec<Entry<'a>>) -> Result<u64, AllocError> {
+    fn count(&mut self, depth: u64, tables: [Times; DEPTHS]) -> Result<u64, AllocError> {
         let number = self.number();
-        let rows = self.tables.counts.as_slice();
-        if let Some(row) = self.draw.one_of(rows) {
-            entries.push(item_of(self.alloc, number, true, depth, Shape::Count(row)))?;
-        }
+        let row = row_of(self.draw.part_of(self.tables.counts, '\n'));
+        self.entries.push(Entry {
+            number,
+            named: true,
+            depth,
+            times: Times::Once,
+            tables,
+            shape: Shape::Count(row),
+        })?;
         Ok(number)
     }
 
-    /// Draws what an item holds, and perhaps a redefinition of it.
-    fn item(
-        &mut self,
-        mut entry: Entry<'a>,
-        entries: &mut Vec<Entry<'a>>,
-    ) -> Result<(), AllocError> {
-        let rows = self.tables.items.as_slice();
-        let Some(row) = self.draw.one_of(rows) else {
-            return Ok(());
-        };
-        let Entry {
+    /// Draws an entry that has no entries and no item yet.
+    fn entry(&mut self, depth: u64, above: [Times; DEPTHS]) -> Result<Entry<'a>, AllocError> {
+        let times = self.times(depth, above)?;
+        let number = self.number();
+        Ok(Entry {
             number,
-            named,
+            named: self.draw.below(8) != 0,
             depth,
             times,
-            ..
-        } = entry;
+            tables: with_table(above, depth, times),
+            shape: Shape::Group,
+        })
+    }
+
+    /// Draws what an item holds, and perhaps a redefinition of it.
+    fn item(&mut self, mut entry: Entry<'a>) -> Result<(), AllocError> {
+        let row = row_of(self.draw.part_of(self.tables.items, '\n'));
         entry.shape = Shape::Item(row);
-        entries.push(entry)?;
-        if named && matches!(times, Times::Once) && self.draw.below(4) == 0 {
-            let own = self.number();
-            let shape = Shape::Redefinition(number, row);
-            entries.push(item_of(self.alloc, own, true, depth, shape))?;
+        self.entries.push(entry)?;
+        if entry.named && matches!(entry.times, Times::Once) && self.draw.below(4) == 0 {
+            entry.shape = Shape::Redefinition(entry.number, row);
+            entry.number = self.number();
+            self.entries.push(entry)?;
         }
         Ok(())
     }
 
-    /// Draws the entries of a group so deep below the record, which is this table, stands in it or in none.
-    fn entries(&mut self, depth: u64, above: Times) -> Result<Vec<Entry<'a>>, AllocError> {
-        let mut entries = Vec::new(self.alloc);
+    /// Draws the entries of a group so deep below the record, which stand in these tables.
+    pub(crate) fn beneath(
+        &mut self,
+        depth: u64,
+        tables: [Times; DEPTHS],
+    ) -> Result<(), AllocError> {
         let least = if depth == 1 { 3 } else { 1 };
         for _ in 0..least + self.draw.below(3) {
-            let times = self.times(above, depth, &mut entries)?;
-            let number = self.number();
-            let named = self.draw.below(8) != 0;
-            let mut entry = item_of(self.alloc, number, named, depth, Shape::Group);
-            entry.times = times;
+            let entry = self.entry(depth, tables)?;
             if depth < MOST_DEPTH && self.draw.below(3) == 0 {
-                entry.children = self.entries(depth + 1, nearest(times, above))?;
-                entries.push(entry)?;
+                self.entries.push(entry)?;
+                self.beneath(depth + 1, entry.tables)?;
             } else {
-                self.item(entry, &mut entries)?;
+                self.item(entry)?;
             }
         }
-        Ok(entries)
-    }
-
-    /// Draws the entries of a record.
-    pub(crate) fn record(&mut self) -> Result<Entry<'a>, AllocError> {
-        let mut record = item_of(self.alloc, 0, false, 0, Shape::Group);
-        record.children = self.entries(1, Times::Once)?;
-        Ok(record)
+        Ok(())
     }
 }
 
-/// The table that an entry is, or else the one that it stands in.
-fn nearest(own: Times, above: Times) -> Times {
-    match own {
-        Times::Once => above,
-        table => table,
-    }
-}
-
-/// A named entry, with the tables that it stands in or is.
-#[derive(Drop)]
-pub(crate) struct Listed<'a, 'b> {
-    pub(crate) entry: &'b Entry<'a>,
-    pub(crate) tables: [Times; DEPTHS],
-}
-
-/// Lists the named entries beneath one, in their order; these are the tables that it stands in or is.
-pub(crate) fn list_beneath<'a, 'b>(
-    entry: &'b Entry<'a>,
-    tables: [Times; DEPTHS],
-    listed: &mut Vec<Listed<'a, 'b>>,
-) -> Result<(), AllocError> {
-    for child in entry.children.iter() {
-        let mut own = tables;
-        if let Some(times) = own.get_mut(child.depth as usize) {
-            *times = child.times;
+/// The named entries of a record: those that are counts, or the others.
+pub(crate) fn named<'a>(
+    alloc: Global,
+    entries: &[Entry<'a>],
+    counts: bool,
+) -> Result<Vec<Entry<'a>>, AllocError> {
+    let mut found = Vec::new(alloc);
+    for entry in entries {
+        if entry.named && counts == matches!(entry.shape, Shape::Count(_)) {
+            found.push(*entry)?;
         }
-        if child.named {
-            listed.push(Listed {
-                entry: child,
-                tables: own,
-            })?;
-        }
-        list_beneath(child, own, listed)?;
     }
-    Ok(())
+    Ok(found)
 }

@@ -3,8 +3,8 @@
 ghost use Rattle.cob_records.specs.Forms.{HasBlockSize};
 
 use crate::draw::Draw;
-use crate::entries::{DEPTHS, Entry, Listed, Shape, Sketch, Times, list_beneath};
-use crate::receivers::{push_beneath, push_receivers};
+use crate::entries::{DEPTHS, Entry, Sketch, Times, named};
+use crate::receivers::{push_receivers, push_senders};
 use crate::rows::Tables;
 use crate::statements::push_statements;
 use crate::style::Style;
@@ -46,83 +46,88 @@ fn letter(form: Form) -> &'static str {
     }
 }
 
-/// The named entries of a record: counts, and others.
-#[derive(Drop)]
-struct NamedEntries<'a, 'b> {
-    counts: Vec<Listed<'a, 'b>>,
-    others: Vec<Listed<'a, 'b>>,
-}
-
-/// Lists the named entries of a record.
-fn list_named<'a, 'b>(
-    alloc: Global,
-    record: &'b Entry<'a>,
-) -> Result<NamedEntries<'a, 'b>, AllocError> {
-    let mut all = Vec::new(alloc);
-    list_beneath(record, [Times::Once; DEPTHS], &mut all)?;
-    let mut counts = Vec::new(alloc);
-    let mut others = Vec::new(alloc);
-    for listed in all {
-        match listed.entry.shape {
-            Shape::Count(_) => counts.push(listed)?,
-            _ => others.push(listed)?,
-        }
-    }
-    Ok(NamedEntries { counts, others })
-}
-
 impl SweepJob {
     /// Draws the job of a number.
     pub(crate) fn draw(
         alloc: Global,
-        tables: &Tables<'_>,
+        tables: Tables<'_>,
         number: u64,
     ) -> Result<SweepJob, AllocError> {
         let mut draw = Draw::new(number);
         let style = Style::draw(&mut draw);
-        let in_form = form(&mut draw);
-        let out_form = form(&mut draw);
-        let mut sketch = Sketch {
-            alloc,
-            draw,
-            tables,
-            last: 0,
-        };
-        let record = sketch.record()?;
         let mut job = SweepJob {
-            in_form,
-            out_form,
-            in_book: String::from_str(alloc, style.input.entry)?,
-            out_book: String::from_str(alloc, style.output.entry)?,
+            in_form: form(&mut draw),
+            out_form: form(&mut draw),
+            in_book: String::new(alloc),
+            out_book: String::new(alloc),
             moves: String::new(alloc),
             data: Vec::new(alloc),
         };
-        job.fill(alloc, sketch.draw, &style, &record, sketch.last)?;
+        job.fill(alloc, draw, tables, &style)?;
         Ok(job)
     }
 
-    /// Writes the texts and the data.
+    /// Draws the record, and writes the texts and the data.
     fn fill(
         &mut self,
         alloc: Global,
-        mut draw: Draw,
+        draw: Draw,
+        tables: Tables<'_>,
         style: &Style,
-        record: &Entry<'_>,
+    ) -> Result<(), AllocError> {
+        let mut sketch = Sketch::new(alloc, draw, tables);
+        sketch.beneath(1, [Times::Once; DEPTHS])?;
+        let mut draw = sketch.draw;
+        let entries = sketch.entries.as_slice();
+        self.write_texts(alloc, &mut draw, style, entries)?;
+        self.write_data(alloc, &mut draw, entries, sketch.last)
+    }
+
+    /// Writes the texts.
+    fn write_texts(
+        &mut self,
+        alloc: Global,
+        draw: &mut Draw,
+        style: &Style,
+        entries: &[Entry<'_>],
+    ) -> Result<(), AllocError> {
+        self.in_book.push_str(style.input.entry)?;
+        push_senders(&mut self.in_book, style, entries)?;
+        let counts = named(alloc, entries, true)?;
+        let others = named(alloc, entries, false)?;
+        self.write_receivers(draw, style, counts.as_slice(), others.as_slice())
+    }
+
+    /// Writes the output record, and the paragraph.
+    fn write_receivers(
+        &mut self,
+        draw: &mut Draw,
+        style: &Style,
+        counts: &[Entry<'_>],
+        others: &[Entry<'_>],
+    ) -> Result<(), AllocError> {
+        self.out_book.push_str(style.output.entry)?;
+        push_receivers(&mut self.out_book, draw, style, counts, others)?;
+        push_statements(&mut self.moves, draw, style, counts, others)
+    }
+
+    /// Writes one to three records.
+    fn write_data(
+        &mut self,
+        alloc: Global,
+        draw: &mut Draw,
+        entries: &[Entry<'_>],
         last: u64,
     ) -> Result<(), AllocError> {
-        push_beneath(&mut self.in_book, style, record)?;
-        let NamedEntries { counts, others } = list_named(alloc, record)?;
-        push_receivers(&mut self.out_book, &mut draw, style, &counts, &others)?;
-        push_statements(&mut self.moves, &mut draw, style, &counts, &others)?;
         for _ in 0..1 + draw.below(3) {
-            push_record(alloc, &mut draw, record, last, self.in_form, &mut self.data)?;
+            push_record(alloc, draw, entries, last, self.in_form, &mut self.data)?;
         }
         Ok(())
     }
 
-    /// The job as one text.
-    pub(crate) fn text(&self, alloc: Global) -> Result<String, AllocError> {
-        let mut text = String::from_str(alloc, "=IN ")?;
+    /// Writes the job as one text.
+    pub(crate) fn push_text(&self, text: &mut String) -> Result<(), AllocError> {
+        text.push_str("=IN ")?;
         text.push_str(letter(self.in_form))?;
         text.push_str(self.in_book.as_str())?;
         text.push_str("=OUT ")?;
@@ -131,8 +136,7 @@ impl SweepJob {
         text.push_str("=MOVE\n")?;
         text.push_str(self.moves.as_str())?;
         text.push_str("=DATA\n")?;
-        push_digits(&mut text, &self.data)?;
-        text.push('\n')?;
-        Ok(text)
+        push_digits(text, &self.data)?;
+        text.push('\n')
     }
 }

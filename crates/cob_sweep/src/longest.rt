@@ -1,10 +1,9 @@
 //! The longest paragraph, of MOVE CORRESPONDING alone.
 
-use crate::calls::{Refused, layout_of, read_book};
+use crate::calls::{Refused, layout_of, read_book, read_paragraph};
 use cob_copybook::Role;
 use cob_layout::Layout;
-use cob_move::Paragraph;
-use cob_move_statements::MoveFault;
+use cob_move_statements::{MoveFault, MoveRule};
 use std::alloc::{AllocError, Global};
 
 const SENDING: &[u8] = b"       01  A.\n           05  X PIC X.\n";
@@ -15,14 +14,18 @@ const STATEMENT: &[u8] = b"       MOVE CORRESPONDING A TO B.\n";
 /// How many bytes it has.
 const STATEMENT_BYTES: usize = 34;
 
-/// A paragraph of so many bytes: as many statements as there is room for, and line feeds.
-fn paragraph_of(alloc: Global, bytes: usize) -> Result<Vec<u8>, AllocError> {
-    let mut text = Vec::new(alloc);
+/// What is told where memory was refused.
+const MEMORY: MoveFault = MoveFault {
+    rule: MoveRule::Memory,
+    line: 0,
+};
+
+/// Writes a paragraph of so many bytes: as many statements as there is room for, and line feeds.
+fn push_paragraph(text: &mut Vec<u8>, bytes: usize) -> Result<(), AllocError> {
     for _ in 0..bytes / STATEMENT_BYTES {
         text.extend_from_slice(STATEMENT)?;
     }
-    text.resize(bytes, b'\n')?;
-    Ok(text)
+    text.resize(bytes, b'\n')
 }
 
 /// The layout of the copybook that a text is.
@@ -31,13 +34,22 @@ fn layout_of_text(alloc: Global, role: Role, text: &[u8]) -> Result<Layout, Refu
     layout_of(alloc, &book)
 }
 
+/// How many single moves a paragraph has between the two records, or the rule that it breaks.
+fn moves_between(alloc: Global, text: &[u8]) -> Result<u32, MoveFault> {
+    let Ok(input) = layout_of_text(alloc, Role::In, SENDING) else {
+        return Err(MEMORY);
+    };
+    let Ok(output) = layout_of_text(alloc, Role::Out, RECEIVING) else {
+        return Err(MEMORY);
+    };
+    read_paragraph(alloc, &input, &output, text)
+}
+
 /// How many single moves the paragraph of so many bytes has, or the rule that it breaks.
-pub(crate) fn moves_of(alloc: Global, bytes: usize) -> Result<Result<u32, MoveFault>, Refused> {
-    let input = layout_of_text(alloc, Role::In, SENDING)?;
-    let output = layout_of_text(alloc, Role::Out, RECEIVING)?;
-    let text = paragraph_of(alloc, bytes)?;
-    match Paragraph::read(alloc, &input, &output, text.as_slice()) {
-        Ok(paragraph) => Ok(Ok(paragraph.moves())),
-        Err(fault) => Ok(Err(fault)),
+pub(crate) fn moves_of(alloc: Global, bytes: usize) -> Result<u32, MoveFault> {
+    let mut text = Vec::new(alloc);
+    if push_paragraph(&mut text, bytes).is_err() {
+        return Err(MEMORY);
     }
+    moves_between(alloc, text.as_slice())
 }

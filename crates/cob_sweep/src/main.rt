@@ -37,7 +37,7 @@ use crate::calls::{Refused, do_job};
 use crate::figures::Figures;
 use crate::job::SweepJob;
 use crate::longest::moves_of;
-use crate::rows::{Tables, rows_of};
+use crate::rows::Tables;
 use std::alloc::Global;
 use std::rt::Env;
 use std::{env, fs, io};
@@ -53,7 +53,7 @@ const MOST_BYTES: usize = 1_000_000;
 /// Draws a job, does it, and adds to the figures.
 fn draw_and_do(
     alloc: Global,
-    tables: &Tables<'_>,
+    tables: Tables<'_>,
     number: u64,
     room: &mut [u8],
     figures: &mut Figures,
@@ -65,7 +65,7 @@ fn draw_and_do(
 /// Draws a job and does it, and adds to the figures. Where a call refuses, it prints which, and begins again.
 fn try_job<R: AllocGlobal + Print>(
     rt: &R,
-    tables: &Tables<'_>,
+    tables: Tables<'_>,
     number: u64,
     room: &mut [u8],
     figures: &mut Figures,
@@ -84,7 +84,7 @@ fn try_job<R: AllocGlobal + Print>(
 /// Does the jobs of a line, and prints it.
 fn try_line<R: AllocGlobal + Print>(
     rt: &R,
-    tables: &Tables<'_>,
+    tables: Tables<'_>,
     line: u64,
     room: &mut [u8],
 ) -> io::Result<()> {
@@ -92,13 +92,8 @@ fn try_line<R: AllocGlobal + Print>(
     let last = line.saturating_mul(JOBS_A_LINE);
     let before = last.saturating_sub(JOBS_A_LINE);
     for place in 0..JOBS_A_LINE {
-        try_job(
-            rt,
-            tables,
-            before.saturating_add(place + 1),
-            room,
-            &mut figures,
-        )?;
+        let number = before.saturating_add(place + 1);
+        try_job(rt, tables, number, room, &mut figures)?;
     }
     let first = before.saturating_add(1);
     let Figures { ok, records, sum } = figures;
@@ -108,26 +103,32 @@ fn try_line<R: AllocGlobal + Print>(
 /// Reads the paragraph of so many bytes, and prints how many single moves it has, or the rule that it breaks.
 fn try_paragraph<R: AllocGlobal + Print>(rt: &R, bytes: usize) -> io::Result<()> {
     match moves_of(rt.alloc(), bytes) {
-        Ok(Ok(moves)) => println!(rt; "paragraph of {bytes} bytes: {moves} moves"),
-        Ok(Err(fault)) => println!(rt; "paragraph of {bytes} bytes: {fault}"),
-        Err(refused) => println!(rt; "paragraph of {bytes} bytes: {} refused", refused.call),
+        Ok(moves) => println!(rt; "paragraph of {bytes} bytes: {moves} moves"),
+        Err(fault) => println!(rt; "paragraph of {bytes} bytes: {fault}"),
     }
 }
 
-/// Draws from the tables of these texts, and does what each argument asks for.
-fn try_words<R: AllocGlobal + Env + Print>(rt: &R, items: &str, counts: &str) -> io::Result<()> {
-    let tables = Tables {
-        items: rows_of(rt.alloc(), items)?,
-        counts: rows_of(rt.alloc(), counts)?,
-    };
+/// Does what an argument asks for.
+fn try_word<R: AllocGlobal + Print>(
+    rt: &R,
+    tables: Tables<'_>,
+    word: &str,
+    room: &mut [u8],
+) -> io::Result<()> {
+    match word.parse::<u64>() {
+        Ok(line) => try_line(rt, tables, line, room),
+        Err(_) => {
+            try_paragraph(rt, MOST_BYTES)?;
+            try_paragraph(rt, MOST_BYTES + 1)
+        }
+    }
+}
+
+/// Draws from tables, and does what each argument asks for.
+fn try_words<R: AllocGlobal + Env + Print>(rt: &R, tables: Tables<'_>) -> io::Result<()> {
     let mut room = vec![in rt.alloc(); 0u8; ROOM]?;
     for word in env::args(rt)?.skip(1) {
-        if let Ok(line) = word.parse::<u64>() {
-            try_line(rt, &tables, line, &mut room)?;
-        } else {
-            try_paragraph(rt, MOST_BYTES)?;
-            try_paragraph(rt, MOST_BYTES + 1)?;
-        }
+        try_word(rt, tables, word.as_str(), &mut room)?;
     }
     Ok(())
 }
@@ -135,5 +136,9 @@ fn try_words<R: AllocGlobal + Env + Print>(rt: &R, items: &str, counts: &str) ->
 fn main(rt: HostRuntime) -> io::Result<()> {
     let items = fs::read_to_string(&rt, "items.rows")?;
     let counts = fs::read_to_string(&rt, "counts.rows")?;
-    try_words(&rt, items.as_str(), counts.as_str())
+    let tables = Tables {
+        items: items.trim_end(),
+        counts: counts.trim_end(),
+    };
+    try_words(&rt, tables)
 }

@@ -1,10 +1,9 @@
 //! The copybooks of both records.
 
 use crate::draw::Draw;
-use crate::entries::{Entry, Listed, Shape, Times};
-use crate::style::Style;
+use crate::entries::{Entry, Shape, Times};
+use crate::style::{Style, push_number};
 use std::alloc::AllocError;
-use std::fmt::Write;
 
 /// Writes the clauses of an entry of the input record.
 fn push_sending(text: &mut String, style: &Style, entry: &Entry<'_>) -> Result<(), AllocError> {
@@ -17,27 +16,32 @@ fn push_sending(text: &mut String, style: &Style, entry: &Entry<'_>) -> Result<(
         Shape::Redefinition(of, row) => {
             text.push_str("\n           REDEFINES\n           ")?;
             style.push_name(text, of)?;
-            write!(text, "\n           PIC X({})", row.halves.len() / 2)
+            text.push_str("\n           PIC X(")?;
+            push_number(text, row.halves.len() as u64 / 2)?;
+            text.push(')')
         }
     }
 }
 
-/// Writes the entries beneath one of the input record.
-pub(crate) fn push_beneath(
+/// The number of a named entry.
+fn number_of(entry: &Entry<'_>) -> Option<u64> {
+    if entry.named {
+        Some(entry.number)
+    } else {
+        None
+    }
+}
+
+/// Writes the entries of the input record.
+pub(crate) fn push_senders(
     text: &mut String,
     style: &Style,
-    entry: &Entry<'_>,
+    entries: &[Entry<'_>],
 ) -> Result<(), AllocError> {
-    for child in entry.children.iter() {
-        let number = if child.named {
-            Some(child.number)
-        } else {
-            None
-        };
-        style.begin_entry(text, child.depth, number)?;
-        push_sending(text, style, child)?;
-        style.end_entry(text, child.times)?;
-        push_beneath(text, style, child)?;
+    for entry in entries {
+        style.begin_entry(text, entry.depth, number_of(entry))?;
+        push_sending(text, style, entry)?;
+        style.end_entry(text, entry.times)?;
     }
     Ok(())
 }
@@ -47,10 +51,7 @@ fn receiving<'a>(draw: &mut Draw, entry: &Entry<'a>) -> &'a str {
     match entry.shape {
         Shape::Group => "PIC X(9)",
         Shape::Redefinition(_, _) => "PIC X(6)",
-        Shape::Item(row) | Shape::Count(row) => match draw.one_of(row.receivers.as_slice()) {
-            Some(clauses) => *clauses,
-            None => "PIC X",
-        },
+        Shape::Item(row) | Shape::Count(row) => draw.part_of(row.receivers, '|'),
     }
 }
 
@@ -74,11 +75,11 @@ pub(crate) fn push_receivers(
     text: &mut String,
     draw: &mut Draw,
     style: &Style,
-    counts: &[Listed<'_, '_>],
-    others: &[Listed<'_, '_>],
+    counts: &[Entry<'_>],
+    others: &[Entry<'_>],
 ) -> Result<(), AllocError> {
-    for listed in counts {
-        push_receiver(text, draw, style, 1, listed.entry)?;
+    for entry in counts {
+        push_receiver(text, draw, style, 1, entry)?;
     }
     if others.is_empty() {
         return Ok(());
@@ -86,13 +87,13 @@ pub(crate) fn push_receivers(
     let first = draw.below(others.len() as u64) as usize;
     let (front, back) = others.split_at(first + 1);
     let mut depth = 1;
-    for (place, listed) in front.iter().rev().chain(back.iter().rev()).enumerate() {
+    for (place, entry) in front.iter().rev().chain(back.iter().rev()).enumerate() {
         if place % 3 == 2 {
             style.begin_entry(text, 1, None)?;
             style.end_entry(text, Times::Once)?;
             depth = 2;
         }
-        push_receiver(text, draw, style, depth, listed.entry)?;
+        push_receiver(text, draw, style, depth, entry)?;
     }
     Ok(())
 }

@@ -1,47 +1,30 @@
 //! Tables of items that can be drawn.
 
-use std::alloc::{AllocError, Global};
-
 /// An item that can be drawn.
-#[derive(Drop)]
+#[derive(Clone, Copy)]
 pub(crate) struct ItemRow<'a> {
     /// The clauses of the sender.
     pub(crate) clauses: &'a str,
     /// The half bytes of its value: a hexadecimal digit as it is, or a small letter for one that is drawn.
     pub(crate) halves: &'a str,
-    /// The clauses of its receivers.
-    pub(crate) receivers: Vec<&'a str>,
+    /// The clauses of its receivers, with bars between them.
+    pub(crate) receivers: &'a str,
 }
 
-/// The tables of items, and of items that are counts.
-#[derive(Drop)]
+/// The texts of the tables of items, and of items that are counts: a line for each item.
+#[derive(Clone, Copy)]
 pub(crate) struct Tables<'a> {
-    pub(crate) items: Vec<ItemRow<'a>>,
-    pub(crate) counts: Vec<ItemRow<'a>>,
+    pub(crate) items: &'a str,
+    pub(crate) counts: &'a str,
 }
 
-/// The rows of a table: three fields in a line, parted by tabs, and in the third one bars between the receivers.
-pub(crate) fn rows_of(alloc: Global, text: &str) -> Result<Vec<ItemRow<'_>>, AllocError> {
-    let mut rows = Vec::new(alloc);
-    for line in text.lines() {
-        if let Some((clauses, behind)) = line.split_once('\t') {
-            if let Some((halves, receivers)) = behind.split_once('\t') {
-                rows.push(ItemRow {
-                    clauses,
-                    halves,
-                    receivers: parts_of(alloc, receivers)?,
-                })?;
-            }
-        }
+/// The item of a line: three fields, parted by tabs.
+pub(crate) fn row_of(line: &str) -> ItemRow<'_> {
+    let (clauses, behind) = line.split_once('\t').unwrap_or((line, ""));
+    let (halves, receivers) = behind.split_once('\t').unwrap_or((behind, ""));
+    ItemRow {
+        clauses,
+        halves,
+        receivers,
     }
-    Ok(rows)
-}
-
-/// The parts of a text between bars.
-fn parts_of(alloc: Global, text: &str) -> Result<Vec<&str>, AllocError> {
-    let mut parts = Vec::new(alloc);
-    for part in text.split('|') {
-        parts.push(part)?;
-    }
-    Ok(parts)
 }

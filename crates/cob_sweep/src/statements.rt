@@ -1,10 +1,9 @@
 //! The statements of a job.
 
 use crate::draw::Draw;
-use crate::entries::{DEPTHS, Listed, Times};
-use crate::style::{Record, Style};
+use crate::entries::{Entry, Times};
+use crate::style::{Record, Style, push_number};
 use std::alloc::AllocError;
-use std::fmt::Write;
 
 /// A subscript of a table, which is there whatever its count is.
 fn subscript(draw: &mut Draw, times: Times) -> Option<u64> {
@@ -21,7 +20,8 @@ fn push_subscripts(text: &mut String, draw: &mut Draw, tables: &[Times]) -> Resu
     let mut before = " (";
     for times in tables {
         if let Some(subscript) = subscript(draw, *times) {
-            write!(text, "{before}{subscript}")?;
+            text.push_str(before)?;
+            push_number(text, subscript)?;
             before = " ";
         }
     }
@@ -43,7 +43,8 @@ fn push_reference(
 ) -> Result<(), AllocError> {
     text.push_str("\n               ")?;
     style.push_name(text, number)?;
-    write!(text, " OF {}", record.name)?;
+    text.push_str(" OF ")?;
+    text.push_str(record.name)?;
     push_subscripts(text, draw, tables)
 }
 
@@ -52,20 +53,13 @@ fn push_move(
     text: &mut String,
     draw: &mut Draw,
     style: &Style,
-    listed: &Listed<'_, '_>,
+    entry: &Entry<'_>,
 ) -> Result<(), AllocError> {
-    let number = listed.entry.number;
+    let number = entry.number;
     text.push_str("           MOVE")?;
-    push_reference(text, draw, style, number, style.input, &listed.tables)?;
+    push_reference(text, draw, style, number, style.input, &entry.tables)?;
     text.push_str("\n               TO")?;
-    push_reference(
-        text,
-        draw,
-        style,
-        number,
-        style.output,
-        &[listed.entry.times],
-    )?;
+    push_reference(text, draw, style, number, style.output, &[entry.times])?;
     text.push_str(".\n")
 }
 
@@ -74,18 +68,18 @@ pub(crate) fn push_statements(
     text: &mut String,
     draw: &mut Draw,
     style: &Style,
-    counts: &[Listed<'_, '_>],
-    others: &[Listed<'_, '_>],
+    counts: &[Entry<'_>],
+    others: &[Entry<'_>],
 ) -> Result<(), AllocError> {
-    for listed in counts {
-        push_move(text, draw, style, listed)?;
-    }
-    for listed in others {
-        push_move(text, draw, style, listed)?;
+    for entry in counts.iter().chain(others.iter()) {
+        push_move(text, draw, style, entry)?;
     }
     if draw.below(3) != 0 {
         return Ok(());
     }
-    let (from, to) = (style.input.name, style.output.name);
-    writeln!(text, "           MOVE CORRESPONDING {from} TO {to}.")
+    text.push_str("           MOVE CORRESPONDING ")?;
+    text.push_str(style.input.name)?;
+    text.push_str(" TO ")?;
+    text.push_str(style.output.name)?;
+    text.push_str(".\n")
 }

@@ -1,7 +1,7 @@
 //! How a job writes its texts: the names and the levels of its entries, and the names of its records.
 
 use crate::draw::Draw;
-use crate::entries::Times;
+use crate::entries::{Times, Varying};
 use std::alloc::AllocError;
 use std::fmt::Write;
 
@@ -37,6 +37,22 @@ fn record_in_style(draw: &mut Draw, named: Record, implied: &'static str) -> Rec
     }
 }
 
+/// Writes a number.
+pub(crate) fn push_number(text: &mut String, number: u64) -> Result<(), AllocError> {
+    write!(text, "{number}")
+}
+
+/// Writes a number below a thousand with at least two digits, or at least three.
+fn push_digits(text: &mut String, number: u64, digits: u64) -> Result<(), AllocError> {
+    if digits == 3 && number < 100 {
+        text.push('0')?;
+    }
+    if number < 10 {
+        text.push('0')?;
+    }
+    push_number(text, number)
+}
+
 impl Style {
     /// Draws a style.
     pub(crate) fn draw(draw: &mut Draw) -> Style {
@@ -62,7 +78,8 @@ impl Style {
 
     /// Writes the name of the entry of this number.
     pub(crate) fn push_name(&self, text: &mut String, number: u64) -> Result<(), AllocError> {
-        write!(text, "{}{number:03}", self.prefix)
+        text.push_str(self.prefix)?;
+        push_digits(text, number, 3)
     }
 
     /// Begins an entry: its level, and its name or FILLER.
@@ -73,26 +90,34 @@ impl Style {
         number: Option<u64>,
     ) -> Result<(), AllocError> {
         let level = depth.saturating_mul(self.step).saturating_add(1);
-        write!(text, "       {level:02}  ")?;
+        text.push_str("       ")?;
+        push_digits(text, level, 2)?;
+        text.push_str("  ")?;
         match number {
             Some(number) => self.push_name(text, number),
             None => text.push_str("FILLER"),
         }
     }
 
+    /// Writes how often a table occurs that varies.
+    fn push_varying(&self, text: &mut String, table: Varying) -> Result<(), AllocError> {
+        text.push_str("\n           OCCURS ")?;
+        push_number(text, table.least)?;
+        text.push_str(" TO ")?;
+        push_number(text, table.most)?;
+        text.push_str(" DEPENDING ON\n           ")?;
+        self.push_name(text, table.count)
+    }
+
     /// Ends an entry: how often it occurs, and the period.
     pub(crate) fn end_entry(&self, text: &mut String, times: Times) -> Result<(), AllocError> {
         match times {
             Times::Once => {}
-            Times::Fixed(most) => write!(text, "\n           OCCURS {most}")?,
-            Times::Varies(table) => {
-                write!(
-                    text,
-                    "\n           OCCURS {} TO {} DEPENDING ON\n           ",
-                    table.least, table.most
-                )?;
-                self.push_name(text, table.count)?;
+            Times::Fixed(most) => {
+                text.push_str("\n           OCCURS ")?;
+                push_number(text, most)?;
             }
+            Times::Varies(table) => self.push_varying(text, table)?,
         }
         text.push_str(".\n")
     }

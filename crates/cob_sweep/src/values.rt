@@ -1,6 +1,6 @@
 //! The bytes of input records.
 
-ghost use Rattle.std.specs.Prelude.{◌<◌};
+ghost use Rattle.std.specs.Prelude.{◌<◌, ◌≤◌, length};
 
 use crate::draw::Draw;
 use crate::entries::{Entry, Shape, Times};
@@ -27,7 +27,7 @@ fn half_byte(draw: &mut Draw, symbol: u8, count: u8) -> u8
 /// Writes the bytes of a value.
 fn push_value(
     draw: &mut Draw,
-    row: &ItemRow<'_>,
+    row: ItemRow<'_>,
     count: u8,
     content: &mut Vec<u8>,
 ) -> Result<(), AllocError> {
@@ -40,125 +40,147 @@ fn push_value(
     Ok(())
 }
 
-/// The counts of a record, by the numbers of their entries.
-#[derive(Drop)]
-struct Counts {
-    numbers: Vec<u8>,
+/// Draws the count of this number.
+fn draw_count(draw: &mut Draw, counts: &mut [u8], number: u64) -> u8 {
+    let count = 1 + draw.below(3) as u8;
+    if let Some(own) = counts.get_mut(number as usize) {
+        *own = count;
+    }
+    count
 }
 
-impl Counts {
-    /// The count of this number.
-    fn of(&self, number: u64) -> u8 {
-        match self.numbers.get(number as usize) {
-            Some(count) => *count,
-            None => 0,
-        }
-    }
-
-    /// Draws the count of this number.
-    fn draw(&mut self, draw: &mut Draw, number: u64) -> u8 {
-        let count = 1 + draw.below(3) as u8;
-        if let Some(own) = self.numbers.get_mut(number as usize) {
-            *own = count;
-        }
-        count
-    }
-}
-
-/// Writes what an element of an entry itself holds.
+/// Writes what an element of an entry itself holds; a count is drawn.
 fn push_own(
     draw: &mut Draw,
     entry: &Entry<'_>,
-    counts: &mut Counts,
+    counts: &mut [u8],
     content: &mut Vec<u8>,
 ) -> Result<(), AllocError> {
     match entry.shape {
         Shape::Item(row) => push_value(draw, row, 0, content),
         Shape::Count(row) => {
-            let count = counts.draw(draw, entry.number);
+            let count = draw_count(draw, counts, entry.number);
             push_value(draw, row, count, content)
         }
         Shape::Redefinition(_, _) | Shape::Group => Ok(()),
     }
 }
 
-/// How many elements an entry has.
-fn elements(entry: &Entry<'_>, counts: &Counts) -> u64 {
+/// How many elements an entry has under the counts that were drawn.
+fn elements(entry: &Entry<'_>, counts: &[u8]) -> u64 {
     match entry.times {
         Times::Once => 1,
         Times::Fixed(most) => most,
-        Times::Varies(table) => u64::from(counts.of(table.count)),
+        Times::Varies(table) => match counts.get(table.count as usize) {
+            Some(count) => u64::from(*count),
+            None => 0,
+        },
     }
 }
 
-/// Writes the elements of an entry; the counts are drawn where their items stand.
-fn push_elements(
-    draw: &mut Draw,
-    entry: &Entry<'_>,
-    counts: &mut Counts,
-    content: &mut Vec<u8>,
-) -> Result<(), AllocError> {
-    for _ in 0..elements(entry, counts) {
-        push_own(draw, entry, counts, content)?;
-        for child in entry.children.iter() {
-            push_elements(draw, child, counts, content)?;
+/// How many of the entries behind one stand beneath it.
+fn beneath(entry: &Entry<'_>, behind: &[Entry<'_>]) -> usize
+    ensures { result ≤ length behind.now }
+{
+    for (place, other) in behind.iter().enumerate() {
+        if other.depth <= entry.depth {
+            return place;
         }
     }
-    Ok(())
+    behind.len()
 }
 
-/// How many bytes an entry has where each table has its greatest number of elements.
-fn greatest_length(entry: &Entry<'_>) -> usize {
-    let mut length: usize = match entry.shape {
-        Shape::Item(row) | Shape::Count(row) => row.halves.len() / 2,
-        Shape::Redefinition(_, _) | Shape::Group => 0,
+/// Writes the elements of entries; the counts are drawn where their items stand.
+fn push_elements(
+    draw: &mut Draw,
+    entries: &[Entry<'_>],
+    counts: &mut [u8],
+    content: &mut Vec<u8>,
+) -> Result<(), AllocError> {
+    let Some((entry, behind)) = entries.split_first() else {
+        return Ok(());
     };
-    for child in entry.children.iter() {
-        length = length.saturating_add(greatest_length(child));
+    let (beneath, others) = behind.split_at(beneath(entry, behind));
+    for _ in 0..elements(entry, counts) {
+        push_own(draw, entry, counts, content)?;
+        push_elements(draw, beneath, counts, content)?;
     }
-    let most = match entry.times {
+    push_elements(draw, others, counts, content)
+}
+
+/// How many elements a table has at most.
+fn most_elements(times: Times) -> u64 {
+    match times {
         Times::Once => 1,
         Times::Fixed(most) => most,
         Times::Varies(table) => table.most,
-    };
-    length.saturating_mul(most as usize)
+    }
 }
 
-/// The bytes of one record without its frame.
-fn record(
-    alloc: Global,
-    draw: &mut Draw,
-    entry: &Entry<'_>,
-    last: u64,
-) -> Result<Vec<u8>, AllocError> {
-    let mut counts = Counts {
-        numbers: vec![in alloc; 0u8; (last as usize).saturating_add(1)]?,
+/// How many bytes all elements of an entry have by themselves, where each table has its greatest number.
+fn greatest_size(entry: &Entry<'_>) -> u64 {
+    let mut size = match entry.shape {
+        Shape::Item(row) | Shape::Count(row) => row.halves.len() as u64 / 2,
+        Shape::Redefinition(_, _) | Shape::Group => 0,
     };
-    let mut content = Vec::new(alloc);
-    push_elements(draw, entry, &mut counts, &mut content)?;
-    Ok(content)
+    for times in entry.tables.iter() {
+        size = size.saturating_mul(most_elements(*times));
+    }
+    size
 }
 
-/// Writes one record in its form: of a fixed length, with spaces up to it, or behind its descriptor.
-pub(crate) fn push_record(
+/// How many bytes entries have where each table has its greatest number of elements.
+fn greatest_length(entries: &[Entry<'_>]) -> u64 {
+    let mut length: u64 = 0;
+    for entry in entries {
+        length = length.saturating_add(greatest_size(entry));
+    }
+    length
+}
+
+/// Writes the bytes of one record without its frame.
+fn push_content(
     alloc: Global,
     draw: &mut Draw,
-    entry: &Entry<'_>,
+    entries: &[Entry<'_>],
     last: u64,
+    content: &mut Vec<u8>,
+) -> Result<(), AllocError> {
+    let mut counts = vec![in alloc; 0u8; (last as usize).saturating_add(1)]?;
+    push_elements(draw, entries, &mut counts, content)
+}
+
+/// Writes a record in its form: of a fixed length, with spaces up to it, or behind its descriptor.
+fn push_framed(
     form: Form,
+    content: &[u8],
+    greatest: u64,
     data: &mut Vec<u8>,
 ) -> Result<(), AllocError> {
-    let content = record(alloc, draw, entry, last)?;
     if matches!(form, Form::Variable) {
         let length = (content.len() % 32_768) as u16 + 4;
         data.extend_from_slice(&length.to_be_bytes())?;
         data.extend_from_slice(&[0, 0])?;
-        data.extend_from_slice(&content)?;
+        data.extend_from_slice(content)
     } else {
-        data.extend_from_slice(&content)?;
-        for _ in content.len()..greatest_length(entry) {
+        data.extend_from_slice(content)?;
+        for _ in content.len() as u64..greatest {
             data.push(0x40)?;
         }
+        Ok(())
     }
-    Ok(())
+}
+
+/// Writes one record in its form.
+pub(crate) fn push_record(
+    alloc: Global,
+    draw: &mut Draw,
+    entries: &[Entry<'_>],
+    last: u64,
+    form: Form,
+    data: &mut Vec<u8>,
+) -> Result<(), AllocError> {
+    let mut content = Vec::new(alloc);
+    push_content(alloc, draw, entries, last, &mut content)?;
+    push_framed(form, content.as_slice(), greatest_length(entries), data)
 }

@@ -3,7 +3,7 @@ use Rattle.std.proofs.Common.{◌≡◌, ℕ, ◌+◌, ◌*◌, ◌/◌, ◌%◌
 use Rattle.std.proofs.Math.ListN.{drop_of_length-le}
 use Rattle.std.proofs.Math.Nat.{add-mul-mod_self_left, add-mul-div_left, mod-add-div, mod-lt, div-lt_iff_lt-mul, mod-eq_of_lt, div-eq_of_lt, mul-le-mul_left}
 use Rattle.std.proofs.lemmas.List.{append-nil}
-use Rattle.cob_template_rows.specs.Choices.{product, AreChoices, rank_of}
+use Rattle.cob_move_rows.specs.Choices.{product, AreChoices, rank_of}
 
 -- the choices of a rank
 abbrev pub chosen : List ℕ → ℕ → List ℕ

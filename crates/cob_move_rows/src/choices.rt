@@ -1,6 +1,6 @@
 //! Choices of one thing at each of several places, and their ranks.
 
-ghost use Rattle.cob_template_rows.specs.Choices.{AreChoices, product, rank_of};
+ghost use Rattle.cob_move_rows.specs.Choices.{AreChoices, product, rank_of};
 ghost use Rattle.std.specs.Prelude.{◌≡◌, ◌<◌, List, ℕ, IfOk, IfSome};
 
 use std::alloc::{AllocError, Global};

@@ -1,7 +1,7 @@
 use Rattle.std.proofs.Common.{◌≡◌, ◌<◌, ◌++◌, drop}
-use Rattle.cob_template_rows.specs.Choices.{product}
-use Rattle.cob_template_rows.proofs.Ranks.{chosen}
-use Rattle.cob_template_rows.proofs.choices.choices_of.Given as goal
+use Rattle.cob_move_rows.specs.Choices.{product}
+use Rattle.cob_move_rows.proofs.Ranks.{chosen}
+use Rattle.cob_move_rows.proofs.choices.choices_of.Given as goal
 
 -- the choices so far and those of what is left are the choices of the rank
 abbrev pub invariant-loop-size : goal.invariant-loop-size

@@ -1,7 +1,7 @@
 use Rattle.std.proofs.Common.{◌≡◌, List, ℕ, arith, ap, sym, subst, ◌∙◌}
-use Rattle.cob_template_rows.specs.Choices.{AreChoices, rank_of}
-use Rattle.cob_template_rows.proofs.Ranks.{chosen, ended, are_choices, ranked, chosen_again}
-use Rattle.cob_template_rows.proofs.choices.choices_of.Goals as goal
+use Rattle.cob_move_rows.specs.Choices.{AreChoices, rank_of}
+use Rattle.cob_move_rows.proofs.Ranks.{chosen, ended, are_choices, ranked, chosen_again}
+use Rattle.cob_move_rows.proofs.choices.choices_of.Goals as goal
 
 pub returns-clause-found : goal.returns-clause-found
 returns-clause-found c =

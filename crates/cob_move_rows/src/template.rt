@@ -1,6 +1,6 @@
 //! Templates of texts.
 
-ghost use Rattle.cob_template_rows.specs.Choices.{product};
+ghost use Rattle.cob_move_rows.specs.Choices.{product};
 ghost use Rattle.std.specs.Prelude.{◌≡◌, ◌<◌, IfSome};
 
 use crate::choices::{choices_of, ways};
