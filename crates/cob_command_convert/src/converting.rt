@@ -10,7 +10,7 @@ use cob_command_faults::{CommandFault, Texts, printed, tell_fault, telling};
 use cob_convert::Converter;
 use cob_convert_files::{part_name, put_in_place};
 use cob_convert_line::ConvertLine;
-use cob_job::Status;
+use cob_status::Status;
 use std::io::{Eprint, Input, Print};
 use std::rt::{Clock, Files};
 

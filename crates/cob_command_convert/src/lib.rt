@@ -17,7 +17,7 @@
 //!
 //! It stands on `cob_convert_line` for the command line, on `cob_command_faults` for faults and texts, on `cob_convert` for what is done, on
 //! `cob_convert_files` for identities of files and outputs that replace a file, on `cob_records` for the ends over files, on `cob_codec` for the reading
-//! of binary items, and on `cob_job` for statuses.
+//! of binary items, and on `cob_status` for statuses.
 #![tactic(auto)]
 
 mod checking;

@@ -1,6 +1,6 @@
 -- How a command ends by the fault that its outcome has, if it has one.
 use Rattle.std.proofs.Common.{Result, Ok, Err, IfErr}
-use Rattle.cob_job.specs.declared.jobs.Status.{Status}
+use Rattle.cob_status.specs.declared.status.Status.{Status}
 use Rattle.cob_command_faults.specs.declared.fault.CommandFault.{CommandFault}
 use Rattle.cob_command_faults.specs.Ends.{AllDone, EndsAmong, EndsAs, HasFault, status_of_outcome}
 

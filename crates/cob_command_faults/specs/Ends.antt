@@ -1,7 +1,7 @@
 -- How a command ends: by what it came to, and whether its last line could be printed.
 use Rattle.std.specs.Prelude.{◌≡◌, ◌⊎◌, Result, Ok, Err}
-use Rattle.cob_job.specs.declared.jobs.Status.{Status}
-use Rattle.cob_job.specs.declared.jobs.Status.TheVariants as status
+use Rattle.cob_status.specs.declared.status.Status.{Status}
+use Rattle.cob_status.specs.declared.status.Status.TheVariants as status
 use Rattle.cob_command_faults.specs.Faults.{status_of}
 use Rattle.cob_command_faults.specs.declared.fault.CommandFault.{CommandFault}
 

@@ -1,9 +1,9 @@
 -- What a command is told to come to that is not done, and the status of that.
 use Rattle.cob_convert.specs.declared.fault.PrepareFault.{PrepareFault}
 use Rattle.cob_convert.specs.declared.fault.PrepareFault.TheVariants as prepare
-use Rattle.cob_job.specs.Jobs.{status_of_prepare_fault, status_of_stop}
-use Rattle.cob_job.specs.declared.jobs.Status.{Status}
-use Rattle.cob_job.specs.declared.jobs.Status.TheVariants as status
+use Rattle.cob_status.specs.Statuses.{status_of_prepare_fault, status_of_stop}
+use Rattle.cob_status.specs.declared.status.Status.{Status}
+use Rattle.cob_status.specs.declared.status.Status.TheVariants as status
 use Rattle.cob_stream.specs.declared.fault.Cause.{Cause}
 use Rattle.cob_stream.specs.declared.fault.Cause.TheVariants as cause
 use Rattle.cob_stream.specs.declared.fault.RunFault.{RunFault}

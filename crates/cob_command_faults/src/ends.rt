@@ -1,10 +1,10 @@
 ghost use Rattle.std.specs.Prelude.{◌≡◌};
-ghost use Rattle.cob_job.specs.JobAnswers.{printed_status};
+ghost use Rattle.cob_status.specs.Statuses.{printed_status};
 ghost use Rattle.cob_command_faults.specs.Faults.{status_of};
 ghost use Rattle.cob_command_faults.specs.Ends.{EndsAs};
 
 use crate::fault::CommandFault;
-use cob_job::Status;
+use cob_status::Status;
 use std::io;
 use std::io::Eprint;
 

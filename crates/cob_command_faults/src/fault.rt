@@ -6,8 +6,8 @@ ghost use Rattle.cob_command_faults.specs.declared.fault.CommandFault.TheVariant
 use cob_convert::{BookFault, BookRule, Cause, PrepareFault, RunFault};
 use cob_convert_files::TextFault;
 use cob_convert_show::ShowFault;
-use cob_job::Status;
 use cob_records::{OpenFault, RecordFault};
+use cob_status::Status;
 use std::alloc::AllocError;
 use std::fmt;
 use thiserror::Error;

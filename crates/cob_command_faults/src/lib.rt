@@ -11,7 +11,7 @@
 //!
 //! Which words tell a fault, and what a terminal is, is shown by `cob_jobs` and `tools/try_files`.
 //!
-//! It stands on `cob_convert`, `cob_convert_show`, `cob_convert_files`, `cob_records` and `cob_job` for the faults that become those of a command and
+//! It stands on `cob_convert`, `cob_convert_show`, `cob_convert_files`, `cob_records` and `cob_status` for the faults that become those of a command and
 //! for statuses, on `cob_codec` for the reading of binary items, and on `thiserror` for what faults print.
 #![tactic(auto)]
 

@@ -9,8 +9,8 @@ use crate::copybook::{Listed, read_book};
 use cob_command_faults::{CommandFault, tell_fault};
 use cob_convert_line::LayoutLine;
 use cob_convert_show::layout_text;
-use cob_job::Status;
 use cob_records::{DeviceFault, WriteSink, create_sink};
+use cob_status::Status;
 use std::io::{BufWriter, Eprint, Print, Write};
 use std::rt::Files;
 

@@ -9,7 +9,7 @@
 //! by `cob_convert_show`.
 //!
 //! It stands on `cob_convert_line` for the command line, on `cob_convert_show` for listings, on `cob_command_faults` for faults and texts, on
-//! `cob_records` for the ends over files, and on `cob_job` for statuses.
+//! `cob_records` for the ends over files, and on `cob_status` for statuses.
 #![tactic(auto)]
 
 mod copybook;

@@ -12,10 +12,10 @@ use crate::copybook::{Listed, read_book};
 use cob_command_faults::{CommandFault, FileName, opened, printed, tell_fault, telling};
 use cob_convert_line::ShowLine;
 use cob_convert_show::{ShowFault, show};
-use cob_job::Status;
 use cob_records::{
     DeviceFault, Form, Progress, Sink, Source, Telling, WriteSink, create_sink, open_source,
 };
+use cob_status::Status;
 use std::io::{BufWriter, Eprint, Input, Print, Write};
 use std::rt::{Clock, Files};
 

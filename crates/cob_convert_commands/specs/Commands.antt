@@ -6,9 +6,9 @@ use Rattle.cob_convert_line.specs.declared.line.Line.{Line}
 use Rattle.cob_convert_line.specs.declared.line.Line.TheVariants as line
 use Rattle.cob_convert_line.specs.declared.fault.LineFault.{LineFault}
 use Rattle.cob_convert_line.specs.declared.fault.LineFault.TheVariants as refusal
-use Rattle.cob_job.specs.Jobs.{code_of}
-use Rattle.cob_job.specs.declared.jobs.Status.{Status}
-use Rattle.cob_job.specs.declared.jobs.Status.TheVariants as status
+use Rattle.cob_status.specs.Statuses.{code_of}
+use Rattle.cob_status.specs.declared.status.Status.{Status}
+use Rattle.cob_status.specs.declared.status.Status.TheVariants as status
 use Rattle.cob_command_faults.specs.Ends.{EndsAmong, EndsAs}
 use Rattle.cob_command_convert.specs.Ends.{MayEndCheck, MayEndConvert}
 use Rattle.cob_command_lists.specs.Ends.{MayEndLayout, MayEndShow}

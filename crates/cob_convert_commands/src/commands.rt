@@ -7,7 +7,7 @@ use cob_command_convert::{do_check, do_convert};
 use cob_command_faults::printed;
 use cob_command_lists::{do_layout, do_show};
 use cob_convert_line::{Line, LineFault, line_of};
-use cob_job::Status;
+use cob_status::Status;
 use std::convert::AsStr;
 use std::io::{Eprint, Input, Print};
 use std::rt::{Clock, Files};

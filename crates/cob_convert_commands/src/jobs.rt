@@ -1,18 +1,19 @@
 ghost use Rattle.std.specs.Prelude.{◌≡◌, [], OnOk};
 ghost use Rattle.std.specs.Io.Buffered.{writer_buffer};
 ghost use Rattle.cob_records.specs.Streams.{sink_failures, sink_writer};
-ghost use Rattle.cob_job.specs.Jobs.{code_of};
-ghost use Rattle.cob_job.specs.JobAnswers.{printed_status};
-ghost use Rattle.cob_job.specs.declared.jobs.Status.{Status};
-ghost use Rattle.cob_job.specs.declared.jobs.Status.TheVariants.{Memory};
+ghost use Rattle.cob_status.specs.Statuses.{code_of};
+ghost use Rattle.cob_status.specs.Statuses.{printed_status};
+ghost use Rattle.cob_status.specs.declared.status.Status.{Status};
+ghost use Rattle.cob_status.specs.declared.status.Status.TheVariants.{Memory};
 ghost use Rattle.cob_command_faults.specs.Ends.{EndsAs};
 ghost use Rattle.cob_convert_line.specs.declared.line.Line.TheVariants.{Job};
 ghost use Rattle.cob_convert_commands.specs.Commands.{IsEndOfLine};
 ghost use Rattle.cob_convert_commands.specs.Jobs.{EndsUntold};
 
 use cob_command_faults::{asks_a_person, printed};
-use cob_job::{Status, job};
+use cob_job::job;
 use cob_records::{DeviceFault, Source, WriteSink, create_sink, open_source};
+use cob_status::Status;
 use std::alloc::Global;
 use std::io::{BufWriter, Eprint, Input, Print, Write};
 use std::rt::Files;

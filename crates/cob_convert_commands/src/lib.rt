@@ -10,7 +10,7 @@
 //! lines of `cob_jobs`.
 //!
 //! It stands on `cob_convert_line` for the command line, on `cob_command_convert` and `cob_command_lists` for the commands, on
-//! `cob_command_faults` for how a command ends, on `cob_job` for the job and on `cob_records` for its ends.
+//! `cob_command_faults` for how a command ends, on `cob_job` for the job, on `cob_status` for statuses and on `cob_records` for its ends.
 #![tactic(auto)]
 
 mod commands;

@@ -25,9 +25,10 @@ use Rattle.cob_job.specs.declared.job_data.DataFault.TheVariants.{Line, Memory a
 use Rattle.cob_convert.specs.declared.fault.PrepareFault.TheVariants as prepare
 use Rattle.cob_job.specs.declared.fault.JobFault.{JobFault}
 use Rattle.cob_job.specs.declared.fault.JobFault.TheVariants.{CannotRead, Malformed, Refused, Stopped, Memory}
-use Rattle.cob_job.specs.declared.jobs.Status.{Status}
-use Rattle.cob_job.specs.declared.jobs.Status.TheVariants as status
-use Rattle.cob_job.specs.JobAnswers.{PutsEnd, ComesTo, InData, InText, InRun, IsOutcome, PrintsOutput, HasEnded, IsDone, IsJobPrinted, IsUnreadFault, PrintsAnswer, job_ends, sink_state, job_text, output_line, printed_status}
+use Rattle.cob_status.specs.declared.status.Status.{Status}
+use Rattle.cob_status.specs.declared.status.Status.TheVariants as status
+use Rattle.cob_job.specs.JobAnswers.{PutsEnd, ComesTo, InData, InText, InRun, IsOutcome, PrintsOutput, HasEnded, IsDone, IsJobPrinted, IsUnreadFault, PrintsAnswer, job_ends, sink_state, job_text, output_line}
+use Rattle.cob_status.specs.Statuses.{printed_status}
 use Rattle.cob_job.specs.JobData.{IsData, IsRefusedBy}
 use Rattle.cob_job.specs.Jobs.{TellsAnswer, begun_end, code_of, data_refusal, end_text, is_output_stop, is_unread, is_unread_fault, run_answer, status_of_answer, text_refusal}
 use Rattle.cob_job.specs.Marks.{IsJobOf, IsNoJob, Parts, first_line_of}

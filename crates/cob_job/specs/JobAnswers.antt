@@ -16,10 +16,11 @@ use Rattle.cob_convert.specs.Converted.{Converted}
 use Rattle.cob_job.specs.declared.job_data.DataFault.{DataFault}
 use Rattle.cob_job.specs.declared.fault.JobFault.{JobFault}
 use Rattle.cob_job.specs.declared.fault.JobFault.TheVariants as job
-use Rattle.cob_job.specs.declared.jobs.Status.{Status}
-use Rattle.cob_job.specs.declared.jobs.Status.TheVariants as status
+use Rattle.cob_status.specs.declared.status.Status.{Status}
+use Rattle.cob_status.specs.declared.status.Status.TheVariants as status
+use Rattle.cob_status.specs.Statuses.{code_of, printed_status}
 use Rattle.cob_job.specs.JobData.{IsData, IsRefusedBy}
-use Rattle.cob_job.specs.Jobs.{TellsAnswer, code_of, end_text, data_refusal, is_output_stop, is_unread, run_answer, status_of_answer, text_refusal}
+use Rattle.cob_job.specs.Jobs.{TellsAnswer, end_text, data_refusal, is_output_stop, is_unread, run_answer, status_of_answer, text_refusal}
 use Rattle.cob_job.specs.Marks.{IsJobOf, IsNoJob, Parts, first_line_of}
 use Rattle.cob_job.specs.Printed.{IsBegunBy, owes_begun, with_due}
 
@@ -117,11 +118,6 @@ sink_state taken failed = record { taken = taken; failed = failed }
 -- A sink took what ends a job with this answer, or a beginning of it where that was not put whole.
 abbrev pub PutsEnd : Result ℕ JobFault → Option ℕ → Bool → Result (Unit {0}) RecordFault → Option (List ℕ) → Option (List ℕ) → Type 0
 PutsEnd answer due begun put before now = (words : List ℕ) × TellsAnswer answer words × Took before now (Puts (end_text due begun words) put)
-
--- the status where a line was put, or was not: a line that is not printed is a device's failure, whatever it tells
-abbrev pub printed_status : {E : Type 0} → Result ⊤ E → Status → Status
-printed_status (Ok printed) told = told
-printed_status (Err failed) told = status.Device
 
 -- The end of a job was printed with this status: nothing more, where the output had failed; else the line of the answer, or a beginning of it.
 pub record HasEnded (answer : Result ℕ JobFault) (due : Option ℕ) (begun : Bool) (before now : SinkState) (end : Status) : Type 0 where

@@ -1,11 +1,8 @@
 -- Why a job is not done, what each fault of its parts is for the job, and the line and the status with which it ends: want of memory is told as that,
 -- and never as a fault of a text.
 use Rattle.std.specs.Prelude.{◌≡◌, ℕ, Bool, true, false, List, [], ◌∷◌, ◌++◌, codes, decimal, Option, Result, Ok, Err, ⊤}
-use Rattle.cob_records.specs.declared.records.RecordFault.TheVariants.{ReadFailed, WriteFailed, TookNothing}
 use Rattle.cob_convert_files.specs.declared.texts.TextFault.{TextFault}
 use Rattle.cob_convert_files.specs.declared.texts.TextFault.TheVariants as text
-use Rattle.cob_stream.specs.declared.fault.Cause.{Cause}
-use Rattle.cob_stream.specs.declared.fault.Cause.TheVariants as cause
 use Rattle.cob_stream.specs.declared.fault.RunFault.{RunFault}
 use Rattle.cob_convert.specs.Run.{is_write_stop}
 use Rattle.cob_convert.specs.declared.fault.PrepareFault.{PrepareFault}
@@ -15,8 +12,9 @@ use Rattle.cob_job.specs.declared.job_data.DataFault.{DataFault}
 use Rattle.cob_job.specs.declared.job_data.DataFault.TheVariants as digits
 use Rattle.cob_job.specs.declared.fault.JobFault.{JobFault}
 use Rattle.cob_job.specs.declared.fault.JobFault.TheVariants as job
-use Rattle.cob_job.specs.declared.jobs.Status.{Status}
-use Rattle.cob_job.specs.declared.jobs.Status.TheVariants as status
+use Rattle.cob_status.specs.declared.status.Status.{Status}
+use Rattle.cob_status.specs.declared.status.Status.TheVariants as status
+use Rattle.cob_status.specs.Statuses.{status_of_prepare_fault, status_of_stop}
 
 -- what the refusal of a text is for the job
 abbrev pub text_refusal : PrepareFault → JobFault
@@ -53,27 +51,6 @@ is_unread (Err fault) = is_unread_fault fault
 abbrev pub is_output_stop : Result ℕ JobFault → Bool
 is_output_stop (Err (job.Stopped stopped)) = is_write_stop (Err stopped)
 is_output_stop answer = false
-
--- the number of a status, which the system gets
-abbrev pub code_of : Status → ℕ
-code_of status.Done = 0
-code_of status.Stopped = 1
-code_of status.Malformed = 2
-code_of status.Refused = 3
-code_of status.Device = 4
-code_of status.Memory = 5
-
--- a read or a write that failed is a device's, all else that stops a run is a record's
-abbrev pub status_of_stop : Cause → Status
-status_of_stop (cause.Record ReadFailed) = status.Device
-status_of_stop (cause.Record (WriteFailed taken)) = status.Device
-status_of_stop (cause.Record (TookNothing taken)) = status.Device
-status_of_stop stopped = status.Stopped
-
--- a text that is refused is told as that; blocks of the output without room are a fault of the job
-abbrev pub status_of_prepare_fault : PrepareFault → Status
-status_of_prepare_fault (prepare.Block least) = status.Malformed
-status_of_prepare_fault refused = status.Refused
 
 -- the status of a job that is not done
 abbrev pub status_of_fault : JobFault → Status

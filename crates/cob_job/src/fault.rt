@@ -3,10 +3,10 @@ ghost use Rattle.cob_job.specs.Jobs.{data_refusal, is_output_stop, read_refusal,
 ghost use Rattle.cob_job.specs.declared.fault.JobFault.TheVariants.{Memory, Stopped};
 
 use crate::job_data::DataFault;
-use crate::jobs::Status;
 use cob_convert::PrepareFault;
 use cob_convert_files::TextFault;
 use cob_records::RecordFault;
+use cob_status::Status;
 use cob_stream::{Cause, RunFault};
 use std::alloc::AllocError;
 use thiserror::Error;

@@ -4,7 +4,8 @@ ghost use Rattle.cob_records.specs.Device.{Took, counted};
 ghost use Rattle.cob_records.specs.Forms.{HasBlockSize};
 ghost use Rattle.cob_convert_files.specs.Texts.{IsReadOf, IsWhole};
 ghost use Rattle.cob_convert.specs.Run.{is_read_stop, is_write_stop};
-ghost use Rattle.cob_job.specs.Jobs.{code_of, is_output_stop, is_unread, run_answer, status_of_answer, status_of_prepare_fault, status_of_stop};
+ghost use Rattle.cob_job.specs.Jobs.{is_output_stop, is_unread, run_answer, status_of_answer};
+ghost use Rattle.cob_status.specs.Statuses.{code_of};
 ghost use Rattle.cob_job.specs.JobAnswers.{ComesTo, EndsWith, HasEnded, IsDone, IsOutcome, IsUnreadFault, PrintsAnswer, PrintsOutput, RunsOver, job_ends, sink_state};
 ghost use Rattle.cob_job.specs.Parts.{parts_of};
 ghost use Rattle.cob_job.specs.Printed.{owes_begun, with_due};
@@ -14,73 +15,14 @@ use crate::fault::JobFault;
 use crate::hex::{HexSink, Opening};
 use crate::job_data::decode;
 use crate::job_text::JobText;
-use cob_convert::{Converter, PrepareFault};
+use cob_convert::Converter;
 use cob_convert_files::read_whole;
 use cob_limits::MAX_JOB_BYTES;
 use cob_records::{MemSource, RecordFault, Sink, Source};
-use cob_stream::{Cause, RunFault};
+use cob_status::Status;
+use cob_stream::RunFault;
 use std::alloc::Global;
 use std::marker::Brand;
-
-/// How a program ends.
-#[derive(Clone, Copy, Debug, PartialEq, Eq)]
-pub enum Status {
-    /// All records were converted.
-    Done,
-    /// A record stopped the run.
-    Stopped,
-    /// The command line or the job is malformed, or the blocks of the output are too short.
-    Malformed,
-    /// A text was refused.
-    Refused,
-    /// A device failed.
-    Device,
-    /// Memory was refused.
-    Memory,
-}
-
-impl Status {
-    /// The status of a run that stopped for this cause: whether a record stopped it, or a device failed.
-    pub fn of_stop(cause: Cause) -> Status
-        ensures { result ≡ status_of_stop cause }
-    {
-        match cause {
-            Cause::Record(
-                RecordFault::ReadFailed
-                | RecordFault::WriteFailed { .. }
-                | RecordFault::TookNothing { .. },
-            ) => Status::Device,
-            _ => Status::Stopped,
-        }
-    }
-
-    /// The status of a conversion that is not prepared: a text is refused, or the blocks of the output are too short.
-    pub fn of_prepare_fault(refused: PrepareFault) -> Status
-        ensures { result ≡ status_of_prepare_fault refused }
-    {
-        match refused {
-            PrepareFault::Block { .. } => Status::Malformed,
-            PrepareFault::InBook(_)
-            | PrepareFault::OutBook(_)
-            | PrepareFault::Moves(_)
-            | PrepareFault::Memory => Status::Refused,
-        }
-    }
-
-    /// The number that the system gets.
-    pub fn code(self) -> u8
-        ensures { result ≡ code_of self }
-    {
-        match self {
-            Status::Done => 0,
-            Status::Stopped => 1,
-            Status::Malformed => 2,
-            Status::Refused => 3,
-            Status::Device => 4,
-            Status::Memory => 5,
-        }
-    }
-}
 
 /// Reads a job whole, or past its greatest length.
 fn read_job<R: Source>(alloc: Global, source: &mut R) -> Result<Vec<u8>, JobFault>

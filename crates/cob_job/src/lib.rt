@@ -16,7 +16,7 @@
 //!
 //! Which words tell a refused text or a stop is shown by tests.
 //!
-//! It stands on `cob_convert` for the conversion, on `cob_stream` for what stops a run, on `cob_convert_files` for texts that are
+//! It stands on `cob_convert` for the conversion, on `cob_status` for how a program ends, on `cob_stream` for what stops a run, on `cob_convert_files` for texts that are
 //! read whole, on `cob_records` for ends, on `cob_source` for what the lines of a text are, on `arrayvec` and `itoa` for lines without
 //! memory, on `memchr` for the ends of lines and on `thiserror` for what faults print.
 #![tactic(auto)]
@@ -28,4 +28,4 @@ mod job_data;
 mod job_text;
 mod jobs;
 
-pub use jobs::{Status, job, job_into};
+pub use jobs::{job, job_into};
