@@ -28,9 +28,9 @@ use Rattle.cob_job.specs.declared.fault.JobFault.TheVariants.{CannotRead, Malfor
 use Rattle.cob_status.specs.declared.status.Status.{Status}
 use Rattle.cob_status.specs.declared.status.Status.TheVariants as status
 use Rattle.cob_job.specs.JobAnswers.{PutsEnd, ComesTo, InData, InText, InRun, IsOutcome, PrintsOutput, HasEnded, IsDone, IsJobPrinted, IsUnreadFault, PrintsAnswer, job_ends, sink_state, job_text, output_line}
-use Rattle.cob_status.specs.Statuses.{printed_status}
+use Rattle.cob_status.specs.Statuses.{code_of, printed_status}
 use Rattle.cob_job.specs.JobData.{IsData, IsRefusedBy}
-use Rattle.cob_job.specs.Jobs.{TellsAnswer, begun_end, code_of, data_refusal, end_text, is_output_stop, is_unread, is_unread_fault, run_answer, status_of_answer, text_refusal}
+use Rattle.cob_job.specs.Jobs.{TellsAnswer, begun_end, data_refusal, end_text, is_output_stop, is_unread, is_unread_fault, run_answer, status_of_answer, text_refusal}
 use Rattle.cob_job.specs.Marks.{IsJobOf, IsNoJob, Parts, first_line_of}
 use Rattle.cob_job.specs.Printed.{IsBegunBy, IsTextBehind, bytes_behind, bytes_in, due_text, known_or_none, owes_begun, says_some, with_due}
 use Rattle.cob_job.proofs.Digits.{ends}
