@@ -82,8 +82,8 @@ fn elements(entry: &Entry<'_>, counts: &[u8]) -> u64 {
 fn beneath(entry: &Entry<'_>, behind: &[Entry<'_>]) -> usize
     ensures { result ≤ length behind.now }
 {
-    for (place, other) in behind.iter().enumerate() {
-        if other.depth <= entry.depth {
+    for place in 0..behind.len() {
+        if behind[place].depth <= entry.depth {
             return place;
         }
     }
