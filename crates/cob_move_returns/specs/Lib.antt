@@ -1,0 +1,5 @@
+pub mod Apart
+pub mod Wider
+pub mod Singles
+pub mod Returns
+pub mod Laws
