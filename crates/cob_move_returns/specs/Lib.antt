@@ -2,4 +2,5 @@ pub mod Apart
 pub mod Wider
 pub mod Singles
 pub mod Returns
+pub mod Lossless
 pub mod Laws
