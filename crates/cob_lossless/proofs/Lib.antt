@@ -1,0 +1,3 @@
+pub mod KeepLaw
+pub mod ComeLemmas
+pub mod RunLaw

@@ -1,0 +1,23 @@
+//! Conversions there and back: what a conversion takes of each record, another one may bring back.
+//!
+//! What is promised, as laws about the definitions of conversions:
+//!
+//! - Conversions that lose nothing keep what the first one converts ([`lossless_keep`]). They lose nothing (`AreLossless` of specs/Keeps.antt) where their
+//!   records agree crosswise, but for the names of the records, stand in one way, without redefinitions and tables that vary, and the moves of the one
+//!   bring back what those of the other take (`IsLossless` of cob_move_returns). They keep it (`Keeps`) where each input record that the first one
+//!   converts becomes a record of the second, which this converts without a stop, and each occurrence of each named elementary item then represents the
+//!   same value as in the input record, or has the same bytes where it is of characters; in all record forms.
+//! - Where a run of the first one ends clean, a run of the second over what was written, in the form in which it was written, ends clean, with as many
+//!   records, and what it writes holds again, record by record, what the first run read ([`lossless_runs`]; `ComeAllBack` of specs/Laws.antt).
+//!
+//! What holds of every conversion that `prepare` makes is a premise here (`IsPrepared`): its records are record descriptions, its output has a storage
+//! before the first move, and its moves are moves between its records.
+//!
+//! It stands on cob_move_returns for moves there and back, on cob_convert for whole runs, on cob_convert_record for what becomes of one record, on
+//! cob_stream and cob_records for records in their frames, on cob_move_initial for the storage before the first move, and on cob_copybook, cob_layout and
+//! the crates below them for records.
+#![tactic(auto)]
+
+mod laws;
+
+pub use laws::{lossless_keep, lossless_runs};

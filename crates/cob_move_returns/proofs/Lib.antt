@@ -1,0 +1,9 @@
+pub mod NumberLemmas
+pub mod TextLemmas
+pub mod ReturnLaw
+pub mod ApartLaw
+pub mod SteadyLemmas
+pub mod MoveLemmas
+pub mod KeepsLaw
+pub mod FillLaw
+pub mod SoundLaw
