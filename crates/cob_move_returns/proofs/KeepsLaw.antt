@@ -31,8 +31,8 @@ use Rattle.cob_copybook_same.specs.Same.{IsSameRecord, told_name, unnamed}
 use Rattle.cob_move_returns.specs.Apart.{OccurrencesApart, StandsOneWay}
 use Rattle.cob_move_returns.specs.Laws.{IsSoundItem, ItemsAreSound, ItemsFill, ItemsReturn, ReturnsKeep}
 use Rattle.cob_move_returns.specs.Wider.{IsReadPictured, IsSameIn, LosesNothing}
-use Rattle.cob_move_returns.specs.Singles.{Goes, IsElementary, IsOneOf, ReceiveOnce, Receives, SendsPictured, SingleMove, occurrence_of, singles}
-use Rattle.cob_move_returns.specs.Returns.{AreTurned, HoldsAgain, IsNamed, IsNamedItem, IsReturned, Returns}
+use Rattle.cob_move_returns.specs.Singles.{Goes, IsElementary, IsOneOf, ReceiveOnce, Receives, SendsPictured, SingleMove, occurrence_of, all_singles}
+use Rattle.cob_move_returns.specs.Returns.{AreTurned, HoldsAgain, BearsName, IsNamedItem, IsReturned, Returns}
 use Rattle.cob_move_returns.proofs.SteadyLemmas.{IsSteady, steady}
 use Rattle.cob_move_returns.proofs.MoveLemmas.{Gained, Ground, IsGood, Puts, all_good, from_puts, goes_through, holds, one_good, puts_length, to_puts}
 
@@ -67,11 +67,11 @@ one_receiver s t (u ∷ us) once (inr h) (inr k) e = one_receiver s t us once.1 
 
 -- each of these receives into a named entry
 abbrev AllNamed : Forest Resolved → List SingleMove → Type 0
-AllNamed t ss = AllByRecursion (λ (s : SingleMove). IsNamed s.receiver.entry.node t) ss
+AllNamed t ss = AllByRecursion (λ (s : SingleMove). BearsName s.receiver.entry.node t) ss
 
-named_one : (t : Forest Resolved) (s : SingleMove) (ss : List SingleMove) → IsOneOf s ss → AllNamed t ss → IsNamed s.receiver.entry.node t
+named_one : (t : Forest Resolved) (s : SingleMove) (ss : List SingleMove) → IsOneOf s ss → AllNamed t ss → BearsName s.receiver.entry.node t
 named_one t s [] h all = absurd h
-named_one t s (u ∷ us) (inl e) all = subst (λ (x : SingleMove). IsNamed x.receiver.entry.node t) (sym e) all.0
+named_one t s (u ∷ us) (inl e) all = subst (λ (x : SingleMove). BearsName x.receiver.entry.node t) (sym e) all.0
 named_one t s (u ∷ us) (inr h) all = named_one t s us h all.1
 
 -- ---- one place, one kind
@@ -134,12 +134,12 @@ record Trip (r s : Records) (there back : List Move) (input before after : List 
   items : ItemsReturn
   one : OneReceived
   returns : Returns r.input there back
-  good : AllByRecursion (IsGood r) (singles there)
-  good_back : AllByRecursion (IsGood s) (singles back)
-  named : AllNamed r.input (singles back)
+  good : AllByRecursion (IsGood r) (all_singles there)
+  good_back : AllByRecursion (IsGood s) (all_singles back)
+  named : AllNamed r.input (all_singles back)
   size : length input ≡ greatest_length r.input
   begins : length before ≡ greatest_length r.output
-  puts : Puts r (singles there) input before after
+  puts : Puts r (all_singles there) input before after
 
 field_size : (p : Place) (bytes : List ℕ) → p.offset + p.length ≤ length bytes → length (field_of p bytes) ≡ p.length
 field_size p bytes h = length-take-le p.length (drop p.offset bytes) (omega (arith, h, length-drop p.offset bytes))
@@ -147,12 +147,12 @@ field_size p bytes h = length-take-le p.length (drop p.offset bytes) (omega (ari
 -- what a single move back finds to store, for the occurrence of a named item
 comes_back : (r s : Records) (there back : List Move) (input before after : List ℕ) → Trip r s there back input before after
     → (x : Occurrence) (i : Item) (f : Found) (m : SingleMove) (good : IsGood s m) (p : Place) → IsNamedItem r.input x i
-    → place_of greatest_number x.number r.input 0 0 x.subscripts ≡ Some f → IsOneOf m (singles back) → occurrence_of m.receiver ≡ x → IsSteady s.input good.from p
+    → place_of greatest_number x.number r.input 0 0 x.subscripts ≡ Some f → IsOneOf m (all_singles back) → occurrence_of m.receiver ≡ x → IsSteady s.input good.from p
     → (c : List ℕ) × Gained s m good p after c × IsSameIn i (part_of f input) c
 comes_back r s there back input before after trip x i f m good p named at is reaches from =
-    let ret : IsReturned (singles there) (singles back) x i = trip.returns.returned x i named in
-    let same : m ≡ ret.home = one_receiver m ret.home (singles back) trip.returns.once_back is ret.came (reaches ∙ sym ret.comes.reaches) in
-    let out : IsGood r ret.out = one_good r ret.out (singles there) ret.sent trip.good in
+    let ret : IsReturned (all_singles there) (all_singles back) x i = trip.returns.returned x i named in
+    let same : m ≡ ret.home = one_receiver m ret.home (all_singles back) trip.returns.once_back is ret.came (reaches ∙ sym ret.comes.reaches) in
+    let out : IsGood r ret.out = one_good r ret.out (all_singles there) ret.sent trip.good in
     let (p_out, from_out) = steady trip.ground.ends r.input out.from trip.ground.input (trip.ground.sound r.input trip.ground.input) trip.ground.plain_input.steady out.from_is in
     let (q_out, to_out) = steady trip.ground.ends r.output ret.out.receiver trip.ground.output (trip.ground.sound r.output trip.ground.output) trip.ground.plain_output.steady out.to_is in
     let out_from : occurrence_of out.from ≡ x = ap occurrence_of (sender_is out.reading ret.goes.reading out.from ret.goes.operand (sym out.sends ∙ ret.goes.sends)) ∙ ret.goes.leaves in
@@ -168,7 +168,7 @@ comes_back r s there back input before after trip x i f m good p named at is rea
     same_kind r.output good.from.entry.node ret.out.receiver.entry.node good.from.kind ret.out.receiver.kind good.from_item ret.other (ap (λ (y : Occurrence). y.number) away) sent out.to_is.is good.from_kind ret.kind in
     let place : p ≡ q_out = same_place s.input r.output good.from ret.out.receiver p q_out (sym trip.turned.middle) from to_out away in
     let gained : Gained r ret.out out p_out input (field_of q_out after) =
-    holds r (singles there) input before after ret.out out p_out q_out trip.ground trip.good trip.returns.once ret.sent from_out to_out trip.begins trip.puts in
+    holds r (all_singles there) input before after ret.out out p_out q_out trip.ground trip.good trip.returns.once ret.sent from_out to_out trip.begins trip.puts in
     let found_is : found_place p_out ≡ f =
     some_is (found_place p_out) f (sym from_out.found ∙ ap (λ (y : Occurrence). place_of greatest_number y.number r.input 0 0 y.subscripts) out_from ∙ at) in
     let held : length (field_of p_out input) ≡ item_size i =
@@ -229,28 +229,28 @@ returns_keep needed ends sound apart fill items law one r s there back input bef
       begins = begins;
       puts = to_puts r there input before after returns.elementary applied;
     } in
-    let (last, puts) = goes_through s (singles back) after start ground_back good_back starts
+    let (last, puts) = goes_through s (all_singles back) after start ground_back good_back starts
     (λ m good p is from.
     let (q, to) = steady ends s.output m.receiver end_is (sound s.output end_is) plain_end.steady good.to_is in
     let refers = refers_tree m.receiver.entry.node m.receiver.entry.subscripts.items s.output r.input (sym turned.ends) good.to_is.refers in
     let kind = kind_tree m.receiver.entry.node r.input s.output turned.ends ∙ good.to_is.is ∙ ap (λ (k : Kind). Some k) good.to_kind in
     let at = place_tree m.receiver.entry.node m.receiver.entry.subscripts.items r.input s.output turned.ends ∙ to.found in
     let (c, gained, same) = comes_back r s there back input before after trip (occurrence_of m.receiver) good.to_item (found_place q) m good p
-    (record { refers = refers; kind = kind; named = named_one r.input m (singles back) is returns.named }) at is refl from in
+    (record { refers = refers; kind = kind; named = named_one r.input m (all_singles back) is returns.named }) at is refl from in
     (c, gained)) in (
-      puts_length r (singles there) input before after ground trip.good begins trip.puts,
+      puts_length r (all_singles there) input before after ground trip.good begins trip.puts,
       (
         last,
         from_puts s back after start last ground_back are_back returns.elementary_back puts,
-        puts_length s (singles back) after start last ground_back good_back starts puts,
+        puts_length s (all_singles back) after start last ground_back good_back starts puts,
         λ x i f item at.
-            let ret : IsReturned (singles there) (singles back) x i = returns.returned x i item in
-            let good : IsGood s ret.home = one_good s ret.home (singles back) ret.came good_back in
+            let ret : IsReturned (all_singles there) (all_singles back) x i = returns.returned x i item in
+            let good : IsGood s ret.home = one_good s ret.home (all_singles back) ret.came good_back in
             let (p, from) = steady ends s.input good.from middle_is (sound s.input middle_is) plain_middle.steady good.from_is in
             let (q, to) = steady ends s.output ret.home.receiver end_is (sound s.output end_is) plain_end.steady good.to_is in
             let (c, gained, same) = comes_back r s there back input before after trip x i f ret.home good p item at ret.came ret.comes.reaches from in
             let ended : Gained s ret.home good p after (field_of q last) =
-            holds s (singles back) after start last ret.home good p q ground_back good_back returns.once_back ret.came from to starts puts in
+            holds s (all_singles back) after start last ret.home good p q ground_back good_back returns.once_back ret.came from to starts puts in
             let is : field_of q last ≡ c =
             some_is (field_of q last) c (one (SentEntry (ItemKind good.from_item) (field_of p after) good.reading) (ItemKind good.to_item) (item_size good.to_item) (Some (field_of q last)) (Some c) ended gained) in
             let found_is : found_place q ≡ f =

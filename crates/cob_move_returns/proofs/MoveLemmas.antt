@@ -33,7 +33,7 @@ use Rattle.cob_codec.specs.declared.reading.Reading.{Reading}
 use Rattle.cob_move_returns.specs.Apart.{AreApart, OccurrencesApart, StandsOneWay}
 use Rattle.cob_move_returns.specs.Laws.{IsSoundItem, ItemsAreSound, ItemsFill}
 use Rattle.cob_move_returns.specs.Wider.{IsReadPictured}
-use Rattle.cob_move_returns.specs.Singles.{IsElementary, IsInputItem, IsItemKind, IsKindReadPictured, IsOneOf, IsSenderReadPictured, ReceiveOnce, Receives, SendsPictured, SingleMove, occurrence_of, singles, singles_from}
+use Rattle.cob_move_returns.specs.Singles.{IsElementary, IsInputItem, IsItemKind, IsKindReadPictured, IsOneOf, IsSenderReadPictured, ReceiveOnce, Receives, SendsPictured, SingleMove, occurrence_of, all_singles, singles_from}
 use Rattle.cob_move_returns.proofs.SteadyLemmas.{IsSteady, steady}
 
 -- ---- single moves, one after another
@@ -88,11 +88,11 @@ all_front : {X : Type 0} (P : X → Type 0) (xs ys : List X) → AllByRecursion 
 all_front P [] ys h = (tt, h)
 all_front P (x ∷ xs) ys h = let (front, behind) = all_front P xs ys h.1 in ((h.0, front), behind)
 
-pub to_puts : (r : Records) (ms : List Move) (input before after : List ℕ) → AllByRecursion IsElementary (singles ms) → Applied r ms input before (done after) → Puts r (singles ms) input before after
+pub to_puts : (r : Records) (ms : List Move) (input before after : List ℕ) → AllByRecursion IsElementary (all_singles ms) → Applied r ms input before (done after) → Puts r (all_singles ms) input before after
 to_puts r [] input before after all e = done_is after before e
 to_puts r (m ∷ ms) input before after all (inl (mid, inl (c, gives, got), rest)) =
-    let (own, others) = all_front IsElementary (singles_from m.sender m.receivers) (singles ms) all in
-    puts_append r (singles_from m.sender m.receivers) (singles ms) input before mid after (all_puts r m.sender m.receivers input before mid c own gives got)
+    let (own, others) = all_front IsElementary (singles_from m.sender m.receivers) (all_singles ms) all in
+    puts_append r (singles_from m.sender m.receivers) (all_singles ms) input before mid after (all_puts r m.sender m.receivers input before mid c own gives got)
     (to_puts r ms input mid after others rest)
 to_puts r (m ∷ ms) input before after all (inl (mid, inr (stop, gives, e), rest)) = absurd (not_stopped mid before stop e)
 to_puts r (m ∷ ms) input before after all (inr (stop, mid, moved, e)) = absurd (not_stopped after mid stop e)
@@ -141,12 +141,12 @@ given_now r (Entry Out reading o) input before g is =
     (content_at Out reading o before p, (p, at.located Out false before, refl))
 given_now r (Literal l) input before g is = (record { sent = LiteralSent l; side = Out; offset = 0 }, refl)
 
-pub from_puts : (r : Records) (ms : List Move) (input before after : List ℕ) → Ground r → AreMoves r ms → AllByRecursion IsElementary (singles ms) → Puts r (singles ms) input before after
+pub from_puts : (r : Records) (ms : List Move) (input before after : List ℕ) → Ground r → AreMoves r ms → AllByRecursion IsElementary (all_singles ms) → Puts r (all_singles ms) input before after
     → Applied r ms input before (done after)
 from_puts r [] input before after g are all e = ap done e
 from_puts r (m ∷ ms) input before after g are all puts =
-    let (mid, front, back) = puts_split r (singles_from m.sender m.receivers) (singles ms) input before after puts in
-    let (own, others) = all_front IsElementary (singles_from m.sender m.receivers) (singles ms) all in
+    let (mid, front, back) = puts_split r (singles_from m.sender m.receivers) (all_singles ms) input before after puts in
+    let (own, others) = all_front IsElementary (singles_from m.sender m.receivers) (all_singles ms) all in
     let (c, gives) = given_now r m.sender input before g are.0.sender in
     inl (mid, inl (c, gives, all_get g.one r m.sender m.receivers input before mid c own gives front), from_puts r ms input mid after g are.1 others back)
 
@@ -199,12 +199,12 @@ all_append : {X : Type 0} (P : X → Type 0) (xs ys : List X) → AllByRecursion
 all_append P [] ys h k = k
 all_append P (x ∷ xs) ys h k = (h.0, all_append P xs ys h.1 k)
 
-pub all_good : (r : Records) (ms : List Move) → AreMoves r ms → AllByRecursion IsElementary (singles ms) → AllByRecursion SendsPictured (singles ms) → AllByRecursion (IsGood r) (singles ms)
+pub all_good : (r : Records) (ms : List Move) → AreMoves r ms → AllByRecursion IsElementary (all_singles ms) → AllByRecursion SendsPictured (all_singles ms) → AllByRecursion (IsGood r) (all_singles ms)
 all_good r [] are all read = tt
 all_good r (m ∷ ms) are all read =
-    let (own, others) = all_front IsElementary (singles_from m.sender m.receivers) (singles ms) all in
-    let (own_read, others_read) = all_front SendsPictured (singles_from m.sender m.receivers) (singles ms) read in
-    all_append (IsGood r) (singles_from m.sender m.receivers) (singles ms) (good_from r m.sender m.receivers own own_read are.0.sender are.0.receivers) (all_good r ms are.1 others others_read)
+    let (own, others) = all_front IsElementary (singles_from m.sender m.receivers) (all_singles ms) all in
+    let (own_read, others_read) = all_front SendsPictured (singles_from m.sender m.receivers) (all_singles ms) read in
+    all_append (IsGood r) (singles_from m.sender m.receivers) (all_singles ms) (good_from r m.sender m.receivers own own_read are.0.sender are.0.receivers) (all_good r ms are.1 others others_read)
 
 pub one_good : (r : Records) (s : SingleMove) (ss : List SingleMove) → IsOneOf s ss → AllByRecursion (IsGood r) ss → IsGood r s
 one_good r s [] h all = absurd h

@@ -13,19 +13,19 @@ use Rattle.cob_layout_places.specs.declared.places.Found.{Found}
 use Rattle.cob_layout_places.specs.Places.{place_of}
 use Rattle.cob_layout_places.specs.References.{Refers}
 use Rattle.cob_layout_places.specs.Moves.{Move, Records}
-use Rattle.cob_move_returns.specs.Singles.{Goes, IsElementary, IsOneOf, ReceiveOnce, SendsPictured, SingleMove, singles}
+use Rattle.cob_move_returns.specs.Singles.{Goes, IsElementary, IsOneOf, ReceiveOnce, SendsPictured, SingleMove, all_singles}
 use Rattle.cob_move_returns.specs.Wider.{IsSameIn, LosesNothing}
 
 -- the entry with this number has a name
-abbrev pub IsNamed : ℕ → Forest Resolved → Type 0
-IsNamed r NoEntries = ⊥
-IsNamed r (AnEntry e children more) = ((e.number ≡ r) × IsSome e.name) ⊎ (IsNamed r children ⊎ IsNamed r more)
+abbrev pub BearsName : ℕ → Forest Resolved → Type 0
+BearsName r NoEntries = ⊥
+BearsName r (AnEntry e children more) = ((e.number ≡ r) × IsSome e.name) ⊎ (BearsName r children ⊎ BearsName r more)
 
 -- an occurrence of a named elementary item
 pub record IsNamedItem (tree : Forest Resolved) (x : Occurrence) (i : Item) : Type 0 where
   pub refers : Refers x.number x.subscripts tree
   pub kind : kind_in x.number tree ≡ Some (ItemKind i)
-  pub named : IsNamed x.number tree
+  pub named : BearsName x.number tree
 
 -- The occurrence of an item is moved there to another one, which loses nothing of it, and moved back from where it came.
 pub record IsReturned (there back : List SingleMove) (x : Occurrence) (i : Item) : Type 0 where
@@ -55,14 +55,14 @@ pub record BringsHome (there : List SingleMove) (m : SingleMove) (x : Occurrence
 -- occurrence receives twice there, and none back; each receiver back has a name in the record, as the receivers of a paragraph have; and each
 -- occurrence of a named elementary item of the record is returned.
 pub record Returns (from : Forest Resolved) (there back : List Move) : Type 0 where
-  pub elementary : AllByRecursion IsElementary (singles there)
-  pub elementary_back : AllByRecursion IsElementary (singles back)
-  pub pictured : AllByRecursion SendsPictured (singles there)
-  pub pictured_back : AllByRecursion SendsPictured (singles back)
-  pub once : ReceiveOnce (singles there)
-  pub once_back : ReceiveOnce (singles back)
-  pub named : AllByRecursion (λ (s : SingleMove). IsNamed s.receiver.entry.node from) (singles back)
-  pub returned : (x : Occurrence) (i : Item) → IsNamedItem from x i → IsReturned (singles there) (singles back) x i
+  pub elementary : AllByRecursion IsElementary (all_singles there)
+  pub elementary_back : AllByRecursion IsElementary (all_singles back)
+  pub pictured : AllByRecursion SendsPictured (all_singles there)
+  pub pictured_back : AllByRecursion SendsPictured (all_singles back)
+  pub once : ReceiveOnce (all_singles there)
+  pub once_back : ReceiveOnce (all_singles back)
+  pub named : AllByRecursion (λ (s : SingleMove). BearsName s.receiver.entry.node from) (all_singles back)
+  pub returned : (x : Occurrence) (i : Item) → IsNamedItem from x i → IsReturned (all_singles there) (all_singles back) x i
 
 -- each occurrence of a named elementary item holds in these bytes what it holds in those: the same value, or the same characters
 abbrev pub HoldsAgain : Forest Resolved → List ℕ → List ℕ → Type 0

@@ -21,9 +21,9 @@ singles_from s [] = []
 singles_from s (o ∷ os) = record { sender = s; receiver = o } ∷ singles_from s os
 
 -- the single moves of moves, in their order
-abbrev pub singles : List Move → List SingleMove
-singles [] = []
-singles (m ∷ ms) = singles_from m.sender m.receivers ++ singles ms
+abbrev pub all_singles : List Move → List SingleMove
+all_singles [] = []
+all_singles (m ∷ ms) = singles_from m.sender m.receivers ++ all_singles ms
 
 -- the occurrence of an entry that an operand is
 abbrev pub occurrence_of : Operand → Occurrence
