@@ -5,14 +5,26 @@ ghost use Rattle.cob_command_convert.specs.Ends.{MayEndConvert};
 
 use crate::ends::{Ends, open_ends};
 use crate::inputs::is_standard_output;
-use crate::running::{placed, run_to_end};
+use crate::running::{placed, run_to_end, told_counted_from};
 use cob_command_faults::{CommandFault, Texts, printed, tell_fault, telling};
 use cob_convert::Converter;
 use cob_convert_files::{part_name, put_in_place};
 use cob_convert_line::ConvertLine;
+use cob_records::Telling;
 use cob_status::Status;
 use std::io::{Eprint, Input, Print};
 use std::rt::{Clock, Files};
+
+/// How a run tells how far it is in its piece of the input, where that is asked for.
+fn telling_piece<R: Files>(rt: &R, line: &ConvertLine<'_>) -> Option<Telling> {
+    let telling = telling(rt, line.input, line.progress)?;
+    let left = telling.size.map(|size| size.saturating_sub(line.from));
+    let size = match (left, line.bytes) {
+        (Some(left), Some(bytes)) => Some(left.min(bytes)),
+        _ => left,
+    };
+    Some(Telling { size, ..telling })
+}
 
 /// Converts into the output itself, which is made, or emptied where it is there.
 fn convert_into<R: AllocGlobal + Files + Input + Print + Eprint + Clock>(
@@ -24,8 +36,9 @@ fn convert_into<R: AllocGlobal + Files + Input + Print + Eprint + Clock>(
     ensures { IfErr result (MayEndConvert line.now.atomic) }
 {
     let Ends { source, mut sink } = open_ends(rt, line, None)?;
-    let telling = telling(rt, line.input, line.progress);
-    run_to_end(rt, line.in_form, telling, converter, source, &mut sink).finished()
+    let telling = telling_piece(rt, line);
+    let ending = run_to_end(rt, line.in_form, telling, converter, source, &mut sink);
+    told_counted_from(line.first, ending.finished())
 }
 
 /// Converts into the part of the output, and puts it in its place when all is done. Where it is not, the output is as it was, and the part has
@@ -41,9 +54,11 @@ fn convert_beside<R: AllocGlobal + Files + Input + Print + Eprint + Clock>(
 {
     let part = part_name(rt.alloc(), line.output)?;
     let Ends { source, mut sink } = open_ends(rt, line, Some(&part))?;
-    let telling = telling(rt, line.input, line.progress);
-    let done = run_to_end(rt, line.in_form, telling, converter, source, &mut sink).finished()?;
-    placed(done, put_in_place(rt, sink, &part, line.output))
+    let telling = telling_piece(rt, line);
+    let ending = run_to_end(rt, line.in_form, telling, converter, source, &mut sink);
+    let done = told_counted_from(line.first, ending.finished())?;
+    let place = put_in_place(rt, sink, &part, line.output);
+    told_counted_from(line.first, placed(done, place))
 }
 
 /// Converts the records of the file that `--in` names, and answers how many there were. The texts are read and prepared before the input is

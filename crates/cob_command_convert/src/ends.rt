@@ -7,7 +7,8 @@ use crate::inputs::judge_output;
 use cob_command_faults::{CommandFault, FileName, opened};
 use cob_convert_files::create_part;
 use cob_convert_line::ConvertLine;
-use cob_records::{FileSink, FileSource, create_sink, open_source};
+use cob_pieces::{PartSource, open_part};
+use cob_records::{FileSink, create_sink};
 use std::io::{Input, Print, Printer};
 use std::rt::Files;
 
@@ -47,7 +48,7 @@ fn output_of<'a, R: AllocGlobal + Files + Print>(
     }
 }
 
-/// Opens the ends of a conversion: the records that come, and then its output or the part that stands in for it. Neither is opened where the
+/// Opens the ends of a conversion: the records that come, of which only a piece is read where one is named, and then its output or the part that stands in for it. Neither is opened where the
 /// output or the part is a file that is read, and the output is not made where the records are not opened.
 ///
 /// # Errors
@@ -57,11 +58,14 @@ pub fn open_ends<'a, R: AllocGlobal + Files + Input + Print>(
     rt: &'a R,
     line: &ConvertLine<'_>,
     part: Option<&str>,
-) -> Result<Ends<FileSource<R::File, R::Reader>, FileSink<R::File, Printer<'a, R>>>, CommandFault>
+) -> Result<Ends<PartSource<R::File, R::Reader>, FileSink<R::File, Printer<'a, R>>>, CommandFault>
     ensures { IfErr result LacksEnds }
 {
     judge_outputs(rt, line, part)?;
-    let source = opened(open_source(rt, line.input), FileName::In)?;
+    let source = opened(
+        open_part(rt, line.input, line.from, line.bytes),
+        FileName::In,
+    )?;
     let sink = output_of(rt, line, part)?;
     Ok(Ends { source, sink })
 }

@@ -6,7 +6,7 @@ ghost use Rattle.cob_records.specs.Streams.{sink_writer};
 ghost use Rattle.cob_convert.specs.Run.{is_write_stop};
 ghost use Rattle.cob_command_convert.specs.Ends.{LacksPlace, StopsRun};
 ghost use Rattle.cob_command_convert.specs.Ran.{RanFrom};
-ghost use Rattle.cob_command_convert.specs.Finished.{finished_run, placed_run, stops_writing, unflushed_fault};
+ghost use Rattle.cob_command_convert.specs.Finished.{counted_from, finished_run, placed_run, stops_writing, told_counted_from, unflushed_fault};
 
 use cob_command_faults::CommandFault;
 use cob_convert::{Cause, Converter, RunFault};
@@ -64,6 +64,34 @@ impl Ending {
             Ok(()) => Ok(self.answer?),
             Err(DeviceFault) => Err(unflushed(self.answer)),
         }
+    }
+}
+
+/// A fault with its records counted from this one.
+fn counted_from(first: u64, fault: CommandFault) -> CommandFault
+    ensures { result ≡ counted_from first fault }
+{
+    match fault {
+        CommandFault::Stopped(stopped) => CommandFault::Stopped(RunFault {
+            number: stopped.number.saturating_add(first.saturating_sub(1)),
+            ..stopped
+        }),
+        CommandFault::Unflushed { last } => CommandFault::Unflushed {
+            last: last.saturating_add(first.saturating_sub(1)),
+        },
+        other => other,
+    }
+}
+
+/// What a command came to, its records counted from this one.
+pub fn told_counted_from(first: u64, outcome: Result<u64, CommandFault>) -> Result<u64, CommandFault>
+    ensures told { result ≡ told_counted_from first outcome }
+    ensures stops { IfErr outcome StopsRun → IfErr result StopsRun }
+    ensures lacks { IfErr outcome LacksPlace → IfErr result LacksPlace }
+{
+    match outcome {
+        Ok(done) => Ok(done),
+        Err(fault) => Err(counted_from(first, fault)),
     }
 }
 

@@ -3,7 +3,7 @@ ghost use Rattle.cob_command_faults.specs.Faults.{refused_book, show_fault, refu
 ghost use Rattle.cob_command_faults.specs.Texts.{LacksConverter, LacksFile, LacksLayout, LacksText, StopsListing};
 ghost use Rattle.cob_command_faults.specs.declared.fault.CommandFault.TheVariants.{Memory, Stopped};
 
-use cob_convert::{BookFault, BookRule, Cause, PrepareFault, RunFault};
+use cob_convert::{BookFault, BookRule, Cause, MoveFault, PrepareFault, RunFault};
 use cob_convert_files::TextFault;
 use cob_convert_show::ShowFault;
 use cob_records::{OpenFault, RecordFault};
@@ -27,6 +27,10 @@ pub enum FileName {
     In,
     /// The records that are written.
     Out,
+    /// The paragraph of `lossless` that converts.
+    There,
+    /// The paragraph of `lossless` that converts back.
+    Back,
 }
 
 impl fmt::Display for FileName {
@@ -38,6 +42,8 @@ impl fmt::Display for FileName {
             FileName::Book => "book",
             FileName::In => "in",
             FileName::Out => "out",
+            FileName::There => "there",
+            FileName::Back => "back",
         };
         write!(f, "{name}")
     }
@@ -55,6 +61,9 @@ pub enum CommandFault {
     /// A text of a conversion breaks a rule.
     #[error("{0}")]
     Refused(PrepareFault),
+    /// One of two paragraphs breaks a rule, by the option that names it.
+    #[error("{0} {1}")]
+    Paragraph(FileName, MoveFault),
     /// The copybook of a listing breaks a rule.
     #[error("book {0}")]
     Book(BookFault),
@@ -147,7 +156,7 @@ impl CommandFault {
             | CommandFault::NotRenamed
             | CommandFault::Unprinted => Status::Device,
             CommandFault::Refused(refused) => Status::of_prepare_fault(refused),
-            CommandFault::Book(_) => Status::Refused,
+            CommandFault::Paragraph(_, _) | CommandFault::Book(_) => Status::Refused,
             CommandFault::OneFile(_) => Status::Malformed,
             CommandFault::Stopped(fault) => Status::of_stop(fault.cause),
             CommandFault::Memory => Status::Memory,

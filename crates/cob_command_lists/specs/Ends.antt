@@ -1,4 +1,4 @@
--- Which faults the commands `layout` and `show` can have.
+-- Which faults the commands `layout`, `show` and `pieces` can have.
 use Rattle.std.specs.Prelude.{◌≡◌, ◌⊎◌}
 use Rattle.cob_command_faults.specs.declared.fault.FileName.TheVariants as name
 use Rattle.cob_command_faults.specs.declared.fault.CommandFault.{CommandFault}
@@ -9,6 +9,6 @@ use Rattle.cob_command_faults.specs.Texts.{LacksFile, LacksLayout, StopsListing}
 abbrev pub MayEndLayout : CommandFault → Type 0
 MayEndLayout told = LacksLayout told ⊎ (told ≡ fault.Unprinted)
 
--- The faults that `show` can have: of its copybook, of the file with the records, or what stops a listing of them.
-abbrev pub MayEndShow : CommandFault → Type 0
-MayEndShow told = LacksLayout told ⊎ LacksFile name.In told ⊎ StopsListing told
+-- The faults that `show` and `pieces` can have: of their copybook, of the file with the records, or what stops a listing of them or of its pieces.
+abbrev pub MayEndListing : CommandFault → Type 0
+MayEndListing told = LacksLayout told ⊎ LacksFile name.In told ⊎ StopsListing told

@@ -1,5 +1,5 @@
 -- What a list comes to: what was shown, and whether all of it was handed to the device.
-use Rattle.std.specs.Prelude.{ℕ, List, Option, Result, Ok, Err, ⊤}
+use Rattle.std.specs.Prelude.{ℕ, List, Option, Result, Ok, Err, ⊤, ◌+◌}
 use Rattle.cob_copybook_tree.specs.Forests.{Forest}
 use Rattle.cob_copybook_tree.specs.Nodes.{Resolved}
 use Rattle.cob_records.specs.Device.{Told}
@@ -7,13 +7,23 @@ use Rattle.cob_records.specs.declared.device.DeviceFault.{DeviceFault}
 use Rattle.cob_records.specs.declared.records.Form.{Form}
 use Rattle.cob_convert_show.specs.Runs.{Shows}
 use Rattle.cob_convert_show.specs.declared.records.ShowFault.{ShowFault}
+use Rattle.cob_layout_places.specs.declared.operands.Side.TheVariants.{In}
+use Rattle.cob_stream.specs.declared.fault.Cause.{Cause}
+use Rattle.cob_stream.specs.declared.fault.Cause.TheVariants.{Record, Limit as OverLimit}
+use Rattle.cob_pieces.specs.Cut.{most_records_cut}
+use Rattle.cob_pieces.specs.declared.piece.PiecesFault.{PiecesFault}
+use Rattle.cob_pieces.specs.declared.piece.PiecesFault.TheVariants.{Frame, Limit, Memory}
 use Rattle.cob_command_faults.specs.Faults.{show_fault}
 use Rattle.cob_command_faults.specs.declared.fault.CommandFault.{CommandFault}
 use Rattle.cob_command_faults.specs.declared.fault.CommandFault.TheVariants as fault
 
+-- Records were listed from a source that told these bytes to come, and tells that these are left.
+abbrev pub Lists : Form → Forest Resolved → Result ℕ ShowFault → (coming left before now : Option (List ℕ)) → Type 0
+Lists form tree answer coming left before now = Told coming left (Shows form tree answer before now)
+
 -- Records were listed from a source that told these bytes to come, and that is let go behind the listing.
-abbrev pub ShowsFrom : Form → Forest Resolved → Result ℕ ShowFault → Option (List ℕ) → Option (List ℕ) → Option (List ℕ) → Type 0
-ShowsFrom form tree answer coming before now = (left : Option (List ℕ)) × Told coming left (Shows form tree answer before now)
+abbrev pub ListsFrom : Form → Forest Resolved → Result ℕ ShowFault → (coming before now : Option (List ℕ)) → Type 0
+ListsFrom form tree answer coming before now = (left : Option (List ℕ)) × Lists form tree answer coming left before now
 
 -- what a list of entries comes to: where it was not handed over, a line was not printed
 abbrev pub listed_entries : Result ⊤ DeviceFault → Result ⊤ CommandFault
@@ -25,3 +35,13 @@ abbrev pub listed_records : Result (Result ℕ ShowFault) DeviceFault → Result
 listed_records (Ok (Ok done)) = Ok done
 listed_records (Ok (Err stopped)) = Err (show_fault stopped)
 listed_records (Err failed) = Err fault.Unprinted
+
+-- what stops the cutting of a file at a record, as a conversion tells it
+abbrev pub uncut_at : ℕ → Cause → CommandFault
+uncut_at number cause = fault.Stopped (record { number = number; side = In; offset = 0; cause = cause; written = 0 })
+
+-- what is told of a file that is not cut
+abbrev pub uncut_fault : PiecesFault → CommandFault
+uncut_fault (Frame number why) = uncut_at number (Record why)
+uncut_fault Limit = uncut_at (most_records_cut + 1) OverLimit
+uncut_fault Memory = fault.Memory

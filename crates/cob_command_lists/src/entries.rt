@@ -1,12 +1,13 @@
 ghost use Rattle.std.specs.Prelude.{◌≡◌, [], IfErr, OnOk};
 ghost use Rattle.std.specs.Io.Buffered.{writer_buffer};
 ghost use Rattle.cob_records.specs.Streams.{sink_writer};
-ghost use Rattle.cob_command_faults.specs.Ends.{EndsAmong, EndsAs, status_of_outcome};
+ghost use Rattle.cob_command_faults.specs.Ends.{EndsAmong};
 ghost use Rattle.cob_command_lists.specs.Ends.{MayEndLayout};
 ghost use Rattle.cob_command_lists.specs.Listed.{listed_entries};
 
 use crate::copybook::{Listed, read_book};
-use cob_command_faults::{CommandFault, tell_fault};
+use crate::ends::tell_listed;
+use cob_command_faults::CommandFault;
 use cob_convert_line::LayoutLine;
 use cob_convert_show::layout_text;
 use cob_records::{DeviceFault, WriteSink, create_sink};
@@ -53,16 +54,6 @@ pub fn list_entries<R: AllocGlobal + Files + Print>(
         return Err(CommandFault::Memory);
     };
     listed(list_to_end(&book, &mut sink))
-}
-
-/// Prints the fault of a list of entries, whose lines are printed, and answers how it ends.
-fn tell_listed<R: Eprint>(rt: &R, outcome: Result<(), CommandFault>) -> Status
-    ensures { EndsAs (status_of_outcome outcome) result }
-{
-    match outcome {
-        Ok(()) => Status::Done,
-        Err(fault) => tell_fault(rt, fault),
-    }
 }
 
 /// Lists the entries of a copybook, prints what is at fault, and answers how the program ends.

@@ -5,41 +5,67 @@ ghost use Rattle.cob_records.specs.Streams.{sink_writer};
 ghost use Rattle.cob_command_faults.specs.Texts.{StopsListing};
 ghost use Rattle.cob_convert_show.specs.Records.{IsShowFault};
 ghost use Rattle.cob_command_faults.specs.Ends.{EndsAmong, EndsAs, status_of_outcome};
-ghost use Rattle.cob_command_lists.specs.Ends.{MayEndShow};
-ghost use Rattle.cob_command_lists.specs.Listed.{ShowsFrom, listed_records};
+ghost use Rattle.cob_command_lists.specs.Ends.{MayEndListing};
+ghost use Rattle.cob_command_lists.specs.Listed.{ListsFrom, Lists, listed_records};
 
 use crate::copybook::{Listed, read_book};
 use cob_command_faults::{CommandFault, FileName, opened, printed, tell_fault, telling};
-use cob_convert_line::ShowLine;
+use cob_convert_line::{Listing, ShowLine};
 use cob_convert_show::{ShowFault, show};
+use cob_convert_values::{show_csv, show_json};
 use cob_records::{
     DeviceFault, Form, Progress, Sink, Source, Telling, WriteSink, create_sink, open_source,
 };
 use cob_status::Status;
+use std::alloc::Global;
 use std::io::{BufWriter, Eprint, Input, Print, Write};
 use std::rt::{Clock, Files};
+
+/// What a listing of records comes to, in the form that is asked for.
+fn listed_as<S: Source, K: Sink>(
+    alloc: Global,
+    listed: &Listed,
+    form: Form,
+    listing: Listing,
+    source: &mut S,
+    sink: &mut K,
+) -> Result<u64, ShowFault>
+    requires listed { listed.now.book ≡ listed.now.layout }
+    requires block { HasBlockSize form }
+    ensures shows { listing ≡ Listing.Text → Lists form listed.now.layout result
+        (S.coming source.old) (S.coming source.new) (K.taken sink.old) (K.taken sink.new) }
+    ensures fault { listing ≡ Listing.Text → IfErr result IsShowFault }
+{
+    let Listed { book, layout } = listed;
+    match listing {
+        Listing::Text => show(alloc, book, layout, form, source, sink),
+        Listing::Json => show_json(alloc, layout, form, source, sink),
+        Listing::Csv => show_csv(alloc, book, layout, form, source, sink),
+    }
+}
 
 /// What a listing of records comes to, which tells on standard error how far it is where that is asked for.
 fn shown<R: AllocGlobal + Eprint + Clock, S: Source + Drop, K: Sink>(
     rt: &R,
     listed: &Listed,
     form: Form,
+    listing: Listing,
     telling: Option<Telling>,
     mut source: S,
     sink: &mut K,
 ) -> Result<u64, ShowFault>
     requires listed { listed.now.book ≡ listed.now.layout }
     requires block { HasBlockSize form }
-    ensures shows { ShowsFrom form listed.now.layout result
+    ensures shows { listing ≡ Listing.Text → ListsFrom form listed.now.layout result
         (S.coming source) (K.taken sink.old) (K.taken sink.new) }
-    ensures fault { IfErr result IsShowFault }
+    ensures fault { listing ≡ Listing.Text → IfErr result IsShowFault }
 {
-    let Listed { book, layout } = listed;
     match telling {
-        None => show(rt.alloc(), book, layout, form, &mut source, sink),
+        None => listed_as(rt.alloc(), listed, form, listing, &mut source, sink),
         Some(telling) => {
-            let mut told = Progress::new(source, rt, form, layout.greatest(), telling);
-            let answer = show(rt.alloc(), book, layout, form, &mut told, sink);
+            let greatest = listed.layout.greatest();
+            let mut told = Progress::new(source, rt, form, greatest, telling);
+            let answer = listed_as(rt.alloc(), listed, form, listing, &mut told, sink);
             told.finish();
             answer
         }
@@ -51,6 +77,7 @@ fn show_to_end<R: AllocGlobal + Eprint + Clock, S: Source + Drop, W: Write + Dro
     rt: &R,
     listed: &Listed,
     form: Form,
+    listing: Listing,
     telling: Option<Telling>,
     source: S,
     sink: &mut WriteSink<BufWriter<W>>,
@@ -59,7 +86,7 @@ fn show_to_end<R: AllocGlobal + Eprint + Clock, S: Source + Drop, W: Write + Dro
     requires block { HasBlockSize form }
     ensures { OnOk result (writer_buffer (sink_writer sink.new) ≡ []) }
 {
-    let answer = shown(rt, listed, form, telling, source, sink);
+    let answer = shown(rt, listed, form, listing, telling, source, sink);
     sink.flush()?;
     Ok(answer)
 }
@@ -86,7 +113,7 @@ pub fn list_records<R: AllocGlobal + Files + Input + Print + Eprint + Clock>(
     line: &ShowLine<'_>,
 ) -> Result<u64, CommandFault>
     requires { HasBlockSize line.now.form }
-    ensures { IfErr result MayEndShow }
+    ensures { IfErr result MayEndListing }
 {
     let book = read_book(rt, line.book)?;
     let source = opened(open_source(rt, line.input), FileName::In)?;
@@ -94,14 +121,27 @@ pub fn list_records<R: AllocGlobal + Files + Input + Print + Eprint + Clock>(
         return Err(CommandFault::Memory);
     };
     let telling = telling(rt, line.input, line.progress);
-    listed(show_to_end(rt, &book, line.form, telling, source, &mut sink))
+    let (form, listing) = (line.form, line.listing);
+    listed(show_to_end(rt, &book, form, listing, telling, source, &mut sink))
 }
 
-/// Prints how many records were listed or the fault of the listing, and answers how it ends.
-fn tell_shown<R: Print + Eprint>(rt: &R, outcome: Result<u64, CommandFault>) -> Status
+/// Whether a listing is for programs, which would read the number of records as one of them.
+fn is_for_programs(listing: Listing) -> bool {
+    matches!(listing, Listing::Json | Listing::Csv)
+}
+
+/// Prints how many records were listed, on standard error where the listing is for programs, or the fault of the listing, and answers how it ends.
+fn tell_shown<R: Print + Eprint>(
+    rt: &R,
+    listing: Listing,
+    outcome: Result<u64, CommandFault>,
+) -> Status
     ensures { EndsAs (status_of_outcome outcome) result }
 {
     match outcome {
+        Ok(done) if is_for_programs(listing) => {
+            printed(eprintln!(rt; "done {done}"), Status::Done)
+        }
         Ok(done) => printed(println!(rt; "done {done}"), Status::Done),
         Err(fault) => tell_fault(rt, fault),
     }
@@ -113,7 +153,7 @@ pub fn do_show<R: AllocGlobal + Files + Input + Print + Eprint + Clock>(
     line: &ShowLine<'_>,
 ) -> Status
     requires { HasBlockSize line.now.form }
-    ensures { EndsAmong MayEndShow result }
+    ensures { EndsAmong MayEndListing result }
 {
-    tell_shown(rt, list_records(rt, line))
+    tell_shown(rt, line.listing, list_records(rt, line))
 }

@@ -38,19 +38,19 @@ pub record Carried (conversion : Conversion) (n written opened : ℕ) (outlet : 
   pub came : Told r0 r (λ bytes rest. Come conversion.in_form 0 (records_in pairs) bytes opened rest)
   pub appended : w ≡ append_known w0 (sent_for conversion pairs)
 
-told_same : (form : Form) (r : Option (List ℕ)) → Told r r (λ bytes rest. Come form 0 [] bytes 0 rest)
+pub told_same : (form : Form) (r : Option (List ℕ)) → Told r r (λ bytes rest. Come form 0 [] bytes 0 rest)
 told_same form None = tt
 told_same form (Some xs) = (refl, refl)
 
-append_none : (w : Option (List ℕ)) → w ≡ append_known w []
+pub append_none : (w : Option (List ℕ)) → w ≡ append_known w []
 append_none None = refl
 append_none (Some xs) = ap Some (sym (append-nil xs))
 
-append_twice : (a b : List ℕ) (w0 w1 w2 : Option (List ℕ)) → w1 ≡ append_known w0 a → w2 ≡ append_known w1 b → w2 ≡ append_known w0 (a ++ b)
+pub append_twice : (a b : List ℕ) (w0 w1 w2 : Option (List ℕ)) → w1 ≡ append_known w0 a → w2 ≡ append_known w1 b → w2 ≡ append_known w0 (a ++ b)
 append_twice a b None w1 w2 e1 e2 = rw e1 at e2
 append_twice a b (Some xs) w1 w2 e1 e2 = (rw e1 at e2) ∙ ap Some (append_assoc xs a b)
 
-told_both : (r0 r1 r2 : Option (List ℕ)) (P Q S : List ℕ → List ℕ → Type 0) → Told r0 r1 P → Told r1 r2 Q
+pub told_both : (r0 r1 r2 : Option (List ℕ)) (P Q S : List ℕ → List ℕ → Type 0) → Told r0 r1 P → Told r1 r2 Q
     → ((bytes mid rest : List ℕ) → P bytes mid → Q mid rest → S bytes rest) → Told r0 r2 S
 told_both None r1 r2 P Q S p q f = tt
 told_both (Some xs) None r2 P Q S p q f = absurd p
@@ -230,7 +230,7 @@ stop_exit conversion n written opened after count outlet why stop slot answer r0
       }),
     ))
 
-told_here : (r : Option (List ℕ)) → Told r r (λ left rest. rest ≡ left)
+pub told_here : (r : Option (List ℕ)) → Told r r (λ left rest. rest ≡ left)
 told_here None = tt
 told_here (Some xs) = refl
 

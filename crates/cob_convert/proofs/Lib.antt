@@ -3,3 +3,7 @@ pub mod Carried
 pub mod Headline
 pub mod One
 pub mod Refused
+pub mod Sifted
+pub mod Rejections
+pub mod AsideOne
+pub mod AsideRun

@@ -24,18 +24,18 @@ use Rattle.cob_convert.proofs.Carried.{remains}
 use Rattle.cob_convert.proofs.Headline.{not_in_write}
 
 -- what is determined of records that come, and of what becomes of one record
-record IsSettled (conversion : Conversion) : Type 0 where
-  low : 0 < in_length conversion
-  high : in_length conversion ≤ 32752
-  block : HasBlockSize conversion.in_form
-  next : NextIsOne
-  one_output : (i a b : List ℕ) → Becomes conversion i a → Becomes conversion i b → a ≡ b
-  one_stop : (i : List ℕ) (s t : Stop) → StopsAt conversion i s → StopsAt conversion i t → s ≡ t
-  not_both : (i o : List ℕ) (s : Stop) → Becomes conversion i o → StopsAt conversion i s → ⊥
-  one_misfit : (i : List ℕ) (v w : MeasureFault) → IsMeasureFault conversion.in_form conversion.records.input i v → IsMeasureFault conversion.in_form conversion.records.input i w → v ≡ w
-  fits_or_not : (i : List ℕ) (w : MeasureFault) → IsSized conversion.in_form conversion.records.input i → IsMeasureFault conversion.in_form conversion.records.input i w → ⊥
+pub record IsSettled (conversion : Conversion) : Type 0 where
+  pub low : 0 < in_length conversion
+  pub high : in_length conversion ≤ 32752
+  pub block : HasBlockSize conversion.in_form
+  pub next : NextIsOne
+  pub one_output : (i a b : List ℕ) → Becomes conversion i a → Becomes conversion i b → a ≡ b
+  pub one_stop : (i : List ℕ) (s t : Stop) → StopsAt conversion i s → StopsAt conversion i t → s ≡ t
+  pub not_both : (i o : List ℕ) (s : Stop) → Becomes conversion i o → StopsAt conversion i s → ⊥
+  pub one_misfit : (i : List ℕ) (v w : MeasureFault) → IsMeasureFault conversion.in_form conversion.records.input i v → IsMeasureFault conversion.in_form conversion.records.input i w → v ≡ w
+  pub fits_or_not : (i : List ℕ) (w : MeasureFault) → IsSized conversion.in_form conversion.records.input i → IsMeasureFault conversion.in_form conversion.records.input i w → ⊥
 
-is_settled : NextIsOne → ConversionsAreDecided → (conversion : Conversion) → HasBytes conversion.records.input → HasBlockSize conversion.in_form → IsSettled conversion
+pub is_settled : NextIsOne → ConversionsAreDecided → (conversion : Conversion) → HasBytes conversion.records.input → HasBlockSize conversion.in_form → IsSettled conversion
 is_settled next settled conversion bytes block = record {
   low = bytes.some;
   high = bytes.most;
@@ -54,7 +54,7 @@ whole_take : (xs : List ℕ) → take (length xs) xs ≡ xs
 whole_take xs = grind (arith, common_steps)
 
 -- a record that comes first can be read
-reads_of : (form : Form) (greatest left : ℕ) (body bytes : List ℕ) (after : ℕ) (rest : List ℕ) → IsRecord form greatest body → ComesFirst form left body bytes after rest
+pub reads_of : (form : Form) (greatest left : ℕ) (body bytes : List ℕ) (after : ℕ) (rest : List ℕ) → IsRecord form greatest body → ComesFirst form left body bytes after rest
     → ReadsInForm form greatest left body (Ok (Some (length body))) after bytes rest
 reads_of Fixed greatest left body bytes after rest whole (frame, is) = rw (whole_take body) ((omega arith, whole, frame), is)
 reads_of Variable greatest left body bytes after rest whole (frame, is) = rw (whole_take body) ((omega arith, whole, frame), is)
@@ -67,7 +67,7 @@ end_of Variable greatest opened left rest none gone end = ((gone, end), sym none
 end_of (Blocked most) greatest opened left rest none gone end = (none, refl, gone, end)
 
 -- records that come first are one
-one_first : (conversion : Conversion) (opened : ℕ) (a b bytes : List ℕ) (after later : ℕ) (rest other : List ℕ) → IsSettled conversion
+pub one_first : (conversion : Conversion) (opened : ℕ) (a b bytes : List ℕ) (after later : ℕ) (rest other : List ℕ) → IsSettled conversion
     → IsRecord conversion.in_form (in_length conversion) a → IsRecord conversion.in_form (in_length conversion) b
     → ComesFirst conversion.in_form opened a bytes after rest → ComesFirst conversion.in_form opened b bytes later other → (a ≡ b) × (after ≡ later) × (rest ≡ other)
 one_first conversion opened a b bytes after later rest other settled is_a is_b p q =
@@ -76,7 +76,7 @@ one_first conversion opened a b bytes after later rest other settled is_a is_b p
     (sym (whole_take a) ∙ records ∙ whole_take b, afters, rests)
 
 -- where a record comes first, nothing is refused
-not_refused : (conversion : Conversion) (opened : ℕ) (a bytes : List ℕ) (after later : ℕ) (rest other : List ℕ) (fault : RecordFault) → IsSettled conversion
+pub not_refused : (conversion : Conversion) (opened : ℕ) (a bytes : List ℕ) (after later : ℕ) (rest other : List ℕ) (fault : RecordFault) → IsSettled conversion
     → IsRecord conversion.in_form (in_length conversion) a → ComesFirst conversion.in_form opened a bytes after rest
     → ReadsInForm conversion.in_form (in_length conversion) opened [] (Err fault) later bytes other → is_read_failure (Err fault) ≡ false → ⊥
 not_refused conversion opened a bytes after later rest other fault settled is_a p q works =
@@ -84,21 +84,21 @@ not_refused conversion opened a bytes after later rest other fault settled is_a 
     (reads_of conversion.in_form (in_length conversion) opened a bytes after rest is_a p) q refl works in cc
 
 -- nor is the input at its end
-not_ended : (conversion : Conversion) (n opened : ℕ) (a bytes : List ℕ) (after : ℕ) (rest other : List ℕ) → IsSettled conversion
+pub not_ended : (conversion : Conversion) (n opened : ℕ) (a bytes : List ℕ) (after : ℕ) (rest other : List ℕ) → IsSettled conversion
     → IsRecord conversion.in_form (in_length conversion) a → ComesFirst conversion.in_form opened a bytes after rest → InputEnds n (remains opened bytes other) → ⊥
 not_ended conversion n opened a bytes after rest other settled is_a p e =
     let (answers, records, afters, rests) = settled.next conversion.in_form (in_length conversion) opened bytes a [] rest other (Ok (Some (length a))) (Ok None) after 0 settled.block settled.low settled.high
     (reads_of conversion.in_form (in_length conversion) opened a bytes after rest is_a p) (end_of conversion.in_form (in_length conversion) opened bytes other e.closed e.none e.rest) refl refl in cc
 
 -- and at the end of the input nothing is refused
-end_not_refused : (conversion : Conversion) (n opened : ℕ) (bytes : List ℕ) (after : ℕ) (rest other : List ℕ) (fault : RecordFault) → IsSettled conversion
+pub end_not_refused : (conversion : Conversion) (n opened : ℕ) (bytes : List ℕ) (after : ℕ) (rest other : List ℕ) (fault : RecordFault) → IsSettled conversion
     → InputEnds n (remains opened bytes rest) → ReadsInForm conversion.in_form (in_length conversion) opened [] (Err fault) after bytes other → is_read_failure (Err fault) ≡ false → ⊥
 end_not_refused conversion n opened bytes after rest other fault settled e q works =
     let (answers, records, afters, rests) = settled.next conversion.in_form (in_length conversion) opened bytes [] [] rest other (Ok None) (Err fault) 0 after settled.block settled.low settled.high
     (end_of conversion.in_form (in_length conversion) opened bytes rest e.closed e.none e.rest) q refl works in cc
 
 -- two refusals of the same bytes are one
-same_refusal : (conversion : Conversion) (f g : RecordFault) (opened : ℕ) (left : List ℕ) (after later : ℕ) (rest other : List ℕ) → IsSettled conversion
+pub same_refusal : (conversion : Conversion) (f g : RecordFault) (opened : ℕ) (left : List ℕ) (after later : ℕ) (rest other : List ℕ) → IsSettled conversion
     → ReadsInForm conversion.in_form (in_length conversion) opened [] (Err f) after left rest → ReadsInForm conversion.in_form (in_length conversion) opened [] (Err g) later left other
     → is_read_failure (Err f) ≡ false → is_read_failure (Err g) ≡ false → (f ≡ g) × (rest ≡ other)
 same_refusal conversion f g opened left after later rest other settled a b u v =
@@ -108,11 +108,11 @@ same_refusal conversion f g opened left after later rest other settled a b u v =
 -- ---- why a run is over
 
 -- the reason of a frame that can't be read decides whether a read failed
-read_works : (why : Reason) (f : RecordFault) → why ≡ frame_reason f → is_read_cause why.cause ≡ false → is_read_failure (Err f) ≡ false
+pub read_works : (why : Reason) (f : RecordFault) → why ≡ frame_reason f → is_read_cause why.cause ≡ false → is_read_failure (Err f) ≡ false
 read_works why f is works = sym (ap (λ (r : Reason). is_read_cause r.cause) is) ∙ works
 
 -- whole frames that stand first in the same bytes are one
-one_frame : (conversion : Conversion) (opened : ℕ) (left a b rest other : List ℕ) → IsSettled conversion
+pub one_frame : (conversion : Conversion) (opened : ℕ) (left a b rest other : List ℕ) → IsSettled conversion
     → Came conversion a (remains opened left rest) → Came conversion b (remains opened left other) → (a ≡ b) × (rest ≡ other)
 one_frame conversion opened left a b rest other settled p q =
     let (inputs, afters, rests) = one_first conversion opened a b left p.after q.after rest other settled p.whole q.whole p.frame q.frame in (inputs, rests)

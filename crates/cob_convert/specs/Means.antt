@@ -99,7 +99,8 @@ abbrev pub IsPrepareRefusal : Form → PrepareFault → List ℕ → List ℕ �
 IsPrepareRefusal out_form (InBook f) in_book out_book moves = BreaksRule In f in_book
 IsPrepareRefusal out_form (OutBook f) in_book out_book moves = IsBook In in_book × BreaksRule Out f out_book
 IsPrepareRefusal out_form (Moves f) in_book out_book moves =
-    (input : Forest Resolved) × (output : Forest Resolved) × IsBookOf In in_book input × IsBookOf Out out_book output × BreaksMoveRule f moves input output
+    (input : Forest Resolved) × (output : Forest Resolved) × IsBookOf In in_book input × IsBookOf Out out_book output
+    × BreaksMoveRule f moves input output
 IsPrepareRefusal out_form (Block least) in_book out_book moves =
     (conversion : Conversion) × Means in_book out_book moves conversion × IsTooShort out_form (out_length conversion) least
 IsPrepareRefusal out_form Memory in_book out_book moves = Unit {0}

@@ -1,19 +1,21 @@
 -- A whole run: the records that came, what they became, and how the run ended.
-use Rattle.std.specs.Prelude.{◌≡◌, ℕ, ◌+◌, ◌-◌, ◌^◌, ◌<◌, Bool, true, false, min, List, [], ◌++◌, ◌⊎◌, length, map, Option, None, Some, Ok, Err, Result}
+use Rattle.std.specs.Prelude.{◌≡◌, ℕ, ◌+◌, ◌-◌, ◌^◌, ◌<◌, Bool, true, false, min, List, []}
+use Rattle.std.specs.Prelude.{◌++◌, ◌⊎◌, length, map, Option, None, Some, Ok, Err, Result}
 use Rattle.std.specs.List.{AllByRecursion}
 use Rattle.std.specs.Io.KnownBytes.{append_known}
 use Rattle.cob_records.specs.Device.{counted, greatest_count}
 use Rattle.cob_records.specs.declared.outlet.Outlet.{Outlet}
 use Rattle.cob_records.specs.declared.records.Form.{Form}
 use Rattle.cob_records.specs.declared.records.RecordFault.{RecordFault}
-use Rattle.cob_records.specs.Forms.{Come, ComesFirst, ReadsInForm, records_held, outlet_of, pending_in, outlet_with_all, written_by, written_by_all, written_of}
+use Rattle.cob_records.specs.Forms.{Come, ComesFirst, ReadsInForm, records_held, outlet_of}
+use Rattle.cob_records.specs.Forms.{pending_in, outlet_with_all, written_by, written_by_all, written_of}
 use Rattle.cob_records.specs.Frame.{IsRecord, Puts, is_unblocked}
 use Rattle.cob_convert_record.specs.Conversion.{Conversion, in_length}
 use Rattle.cob_move_apply.specs.declared.stop.Stop.{Stop}
 use Rattle.cob_layout_places.specs.declared.operands.Side.TheVariants.{In}
 use Rattle.cob_move_apply.specs.declared.stop.StopCause.{StopCause}
 use Rattle.cob_stream.specs.declared.fault.Cause.{Cause}
-use Rattle.cob_stream.specs.declared.fault.Cause.TheVariants.{NoValue, Count, Subscript, Limit, Record}
+use Rattle.cob_stream.specs.declared.fault.Cause.TheVariants.{NoValue, Count, Subscript, Limit}
 use Rattle.cob_move_apply.specs.declared.stop.StopCause.TheVariants.{NoValue as StopNoValue, Count as StopCount, Subscript as StopSubscript}
 use Rattle.cob_stream.specs.declared.fault.Reason.{Reason}
 use Rattle.cob_stream.specs.declared.fault.RunFault.{RunFault}
@@ -123,7 +125,8 @@ pub data IsToWrite (conversion : Conversion) (pairs : List (List ℕ × List ℕ
 
 -- A write failed: of what was to be written a part went out, behind what these records had written before. The fault names the first record of it:
 -- in forms f and v the one behind these, in form b the first in the block.
-pub record WriteStops (conversion : Conversion) (pairs : List (List ℕ × List ℕ)) (at : Remains) (sent part : List ℕ) (number : ℕ) (why : Reason) : Type 0 where
+pub record WriteStops (conversion : Conversion) (pairs : List (List ℕ × List ℕ)) (at : Remains) (sent part : List ℕ) (number : ℕ)
+    (why : Reason) : Type 0 where
   pub fault : RecordFault
   pub bytes : List ℕ
   pub to_write : IsToWrite conversion pairs at bytes
@@ -133,7 +136,8 @@ pub record WriteStops (conversion : Conversion) (pairs : List (List ℕ × List 
   pub reason : why ≡ write_reason fault
 
 -- these records stop a run behind them, and all that they became is written
-pub record StopsBehind (conversion : Conversion) (pairs : List (List ℕ × List ℕ)) (at : Remains) (sent part : List ℕ) (number : ℕ) (why : Reason) : Type 0 where
+pub record StopsBehind (conversion : Conversion) (pairs : List (List ℕ × List ℕ)) (at : Remains) (sent part : List ℕ) (number : ℕ)
+    (why : Reason) : Type 0 where
   pub stops : StopsFor conversion (length pairs) at why
   pub next : number ≡ length pairs + 1
   pub all : sent ≡ written_of conversion.out_form (records_out pairs)
@@ -149,7 +153,8 @@ pub record EndsClean (conversion : Conversion) (pairs : List (List ℕ × List �
 -- a run stops behind these records, for the next one or for a write that failed
 pub record EndsFaulty (conversion : Conversion) (pairs : List (List ℕ × List ℕ)) (at : Remains) (sent part : List ℕ) (fault : RunFault) : Type 0 where
   pub written : fault.written ≡ min (length sent + length part) greatest_count
-  pub stops : StopsBehind conversion pairs at sent part fault.number (reason_of fault) ⊎ WriteStops conversion pairs at sent part fault.number (reason_of fault)
+  pub stops : StopsBehind conversion pairs at sent part fault.number (reason_of fault)
+      ⊎ WriteStops conversion pairs at sent part fault.number (reason_of fault)
 
 -- How a run ends behind these records, for which these bytes were written and a part of more: with the number of records where no byte was left, and
 -- else with the fault.
@@ -199,7 +204,8 @@ Closes o n written why (Ok number) part = (why ≡ None) × (number ≡ n) × (p
 Closes o n written why (Err fault) part =
     (fault.written ≡ min (written + length part) greatest_count)
     × (((why ≡ Some (reason_of fault)) × (fault.number ≡ n + 1) × (part ≡ pending_in o))
-    ⊎ ((cause : RecordFault) × (reason_of fault ≡ write_reason cause) × (fault.number + records_held o ≡ n + 1) × Puts (pending_in o) (Err cause) part))
+    ⊎ ((cause : RecordFault) × (reason_of fault ≡ write_reason cause) × (fault.number + records_held o ≡ n + 1)
+    × Puts (pending_in o) (Err cause) part))
 
 -- why a run is over: a read failed
 abbrev pub is_read_end : Option Reason → Bool

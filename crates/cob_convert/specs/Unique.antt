@@ -16,6 +16,7 @@ pub record HasBytes (tree : Forest Resolved) : Type 0 where
 
 -- two conversions of the same bytes have written the same bytes, have one answer and leave the same rest
 abbrev pub ConversionIsOne : Type 0
-ConversionIsOne = (conversion : Conversion) (bytes rest left written other : List ℕ) (answer second : Result ℕ RunFault) → HasBytes conversion.records.input
-    → HasBlockSize conversion.in_form → Converted conversion bytes rest written answer → Converted conversion bytes left other second
+ConversionIsOne = (conversion : Conversion) (bytes rest left written other : List ℕ) (answer second : Result ℕ RunFault)
+    → HasBytes conversion.records.input → HasBlockSize conversion.in_form
+    → Converted conversion bytes rest written answer → Converted conversion bytes left other second
     → (written ≡ other) × (answer ≡ second) × (rest ≡ left)

@@ -10,7 +10,7 @@ ghost use Rattle.cob_copybook.specs.declared.role.Role.TheVariants.{In, Out};
 ghost use Rattle.cob_convert.specs.declared.fault.PrepareFault.TheVariants.{Memory};
 
 use crate::fault::PrepareFault;
-use cob_move::{Book, BookFault, BookRule, Role};
+use cob_copybook::{Book, BookFault, BookRule, Role};
 use std::alloc::Global;
 
 /// Whether a book is refused for want of memory.

@@ -10,12 +10,16 @@ ghost use Rattle.cob_convert.specs.Unique.{HasBytes};
 ghost use Rattle.cob_records.specs.Forms.{FitsForm, HasBlockSize};
 ghost use Rattle.cob_convert.specs.Means.{Means, MeansBy, IsBlockRefusal, IsMovesRefusal, IsPrepareRefusal};
 
+use crate::aside::{AsideFault, Tally, run_over_aside};
 use crate::books;
 use crate::fault::PrepareFault;
+use crate::notes::Notes;
 use crate::run::run_over;
 use cob_codec::Reading;
 use cob_convert_record::{Conversion, Room};
-use cob_move::{Book, Layout, Paragraph};
+use cob_copybook::Book;
+use cob_layout::Layout;
+use cob_move::Paragraph;
 use cob_records::{Form, Outlet, Sink, Source};
 use cob_stream::RunFault;
 use std::alloc::{AllocError, Global};
@@ -45,7 +49,12 @@ impl Model for Converter {
 
     ghost view = { λ c. c.conversion };
 
-    ghost invariant = { λ c. (vec_len c.input ≡ in_length c.conversion) × (vec_len c.output ≡ out_length c.conversion) × (c.room ≡ capacity_for c.conversion.records) × (c.outlet ≡ outlet_of c.conversion.out_form) × FitsForm c.conversion.out_form (out_length c.conversion) };
+    ghost invariant = { λ c.
+        (vec_len c.input ≡ in_length c.conversion)
+        × (vec_len c.output ≡ out_length c.conversion)
+        × (c.room ≡ capacity_for c.conversion.records)
+        × (c.outlet ≡ outlet_of c.conversion.out_form)
+        × FitsForm c.conversion.out_form (out_length c.conversion) };
 }
 
 /// The conversion that a paragraph says between the records of two books.
@@ -114,6 +123,8 @@ fn check_block(form: Form, greatest: u16) -> Result<(), PrepareFault>
 impl Converter {
     ghost use Rattle.cob_convert.specs.Run.{CountsReads, Ran, is_write_stop, is_write_error_stop};
     ghost use Rattle.cob_convert.specs.Converted.{Writes};
+    ghost use Rattle.cob_convert.specs.Aside.{CountsUnlessSink, RanAside, is_aside_error};
+    ghost use Rattle.cob_convert.specs.Aside.{is_aside_fault, is_read_fault, is_sink_error, is_sink_fault};
 
     /// A converter for a conversion, with all the room that its runs need.
     fn of(alloc: Global, conversion: Conversion) -> Result<Converter, AllocError>
@@ -219,6 +230,13 @@ impl Converter {
         Ok(pictured.with_reading(reading))
     }
 
+    /// What is done to each record.
+    pub fn conversion(&self) -> &Conversion
+        ensures { result.now ≡ self.now }
+    {
+        &self.conversion
+    }
+
     /// How many bytes an input record has at most.
     pub fn in_length(&self) -> u16
         ensures value { result ≡ in_length self.now }
@@ -272,6 +290,55 @@ impl Converter {
             &mut self.room,
             source,
             sink,
+        )
+    }
+
+    /// Converts the records of a source, one after another, sets aside those that are rejected, as they came, and notes why: those that came whole
+    /// and aren't of the layout, or whose conversion stops. It goes up to the end of the source, a stop for another reason, or the record behind
+    /// `most` rejected ones, and answers how many it converted and how many it rejected. Each record that came stands in one of the two outputs, in
+    /// order. After a stop the converter is as `prepare` left it.
+    ///
+    /// # Errors
+    ///
+    /// [`AsideFault`]: the record and the device where the run stopped.
+    pub fn run_aside<R: Source, W: Sink, A: Sink, N: Notes>(
+        &mut self,
+        source: &mut R,
+        sink: &mut W,
+        aside: &mut A,
+        notes: &mut N,
+        most: u64,
+    ) -> Result<Tally, AsideFault>
+        // The records that came, what became of each, and what was written, set aside and noted of them; and how the run ended, also where a call
+        // failed. Nothing past the frame of the last record was read.
+        ensures ran { Told (R.coming source.old) (R.coming source.new) (λ bytes rest.
+            RanAside self.old most result bytes rest
+            (record { sink = W.taken sink.old; aside = A.taken aside.old; notes = N.told notes.old })
+            (record { sink = W.taken sink.new; aside = A.taken aside.new; notes = N.told notes.new })) }
+        // A write of what records become failed or took nothing exactly where that is the answer (F6, F7), and it failed exactly where that is (F6).
+        // The other ends failed exactly where that is the answer, or in form b a failed write in its place.
+        ensures reads { CountsUnlessSink self.old.out_form result (is_read_fault result)
+            (R.failures source.old) (R.failures source.new) }
+        ensures writes { W.failures sink.new
+            ≡ counted (is_sink_fault result) (W.failures sink.old) }
+        ensures errors { W.errors sink.new ≡ counted (is_sink_error result) (W.errors sink.old) }
+        ensures aside_writes { CountsUnlessSink self.old.out_form result (is_aside_fault result)
+            (A.failures aside.old) (A.failures aside.new) }
+        ensures aside_errors { CountsUnlessSink self.old.out_form result (is_aside_error result)
+            (A.errors aside.old) (A.errors aside.new) }
+        ensures same { self.new ≡ self.old }
+    {
+        run_over_aside(
+            &self.conversion,
+            &mut self.input,
+            &mut self.output,
+            &mut self.outlet,
+            &mut self.room,
+            source,
+            sink,
+            aside,
+            notes,
+            most,
         )
     }
 }

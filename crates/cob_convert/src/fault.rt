@@ -2,7 +2,8 @@ ghost use Rattle.std.specs.Prelude.{◌≡◌};
 ghost use Rattle.cob_convert.specs.declared.fault.PrepareFault.TheVariants.{Memory};
 ghost use Rattle.cob_convert.specs.Means.{moves_refusal};
 
-use cob_move::{BookFault, MoveFault, MoveRule};
+use cob_copybook::BookFault;
+use cob_move::{MoveFault, MoveRule};
 use std::alloc::AllocError;
 use thiserror::Error;
 

@@ -12,7 +12,7 @@ use cob_records::{Outlet, Sink, Source};
 use cob_stream::{Cause, Reason, RunFault, Side, sized_are_storages, write_pending, write_record};
 
 /// How many records a run converts at most.
-const LIMIT: u64 = u64::MAX - 1;
+pub(crate) const LIMIT: u64 = u64::MAX - 1;
 
 /// A conversion's cause as a run's.
 fn cause_of(cause: StopCause) -> Cause
@@ -26,7 +26,7 @@ fn cause_of(cause: StopCause) -> Cause
 }
 
 /// The reason of a conversion that stopped.
-fn reason_of_stop(stop: Stop) -> Reason
+pub(crate) fn reason_of_stop(stop: Stop) -> Reason
     ensures reason { result ≡ stop_reason stop }
     ensures kind { is_write_cause result.cause ≡ false }
 {

@@ -11,7 +11,8 @@ use Rattle.cob_status.specs.declared.status.Status.{Status}
 use Rattle.cob_status.specs.declared.status.Status.TheVariants as status
 use Rattle.cob_command_faults.specs.Ends.{EndsAmong, EndsAs}
 use Rattle.cob_command_convert.specs.Ends.{MayEndCheck, MayEndConvert}
-use Rattle.cob_command_lists.specs.Ends.{MayEndLayout, MayEndShow}
+use Rattle.cob_command_lists.specs.Ends.{MayEndLayout, MayEndListing}
+use Rattle.cob_command_lossless.specs.Ends.{MayEndLossless}
 
 -- How a command line ends, by what it asks for: with the status of what its command came to, which may have the faults of that command. With which
 -- status a job ends is promised by `cob_job`.
@@ -20,7 +21,9 @@ EndsLine line.Job end = ⊤
 EndsLine (line.Convert options) end = EndsAmong (MayEndConvert options.atomic) end
 EndsLine (line.Check options) end = EndsAmong MayEndCheck end
 EndsLine (line.Layout options) end = EndsAmong MayEndLayout end
-EndsLine (line.Show options) end = EndsAmong MayEndShow end
+EndsLine (line.Show options) end = EndsAmong MayEndListing end
+EndsLine (line.Pieces options) end = EndsAmong MayEndListing end
+EndsLine (line.Lossless options) end = EndsAmong MayEndLossless end
 
 -- the number of a status with which this command line ends
 abbrev pub IsEndOfLine : Line → ℕ → Type 0
@@ -33,6 +36,9 @@ status_of_refusal (refusal.Words error) = if is_answer_kind (kind_of error) then
 status_of_refusal refusal.Form = status.Malformed
 status_of_refusal refusal.Reading = status.Malformed
 status_of_refusal refusal.Block = status.Malformed
+status_of_refusal refusal.Piece = status.Malformed
+status_of_refusal refusal.Pieces = status.Malformed
+status_of_refusal refusal.Listing = status.Malformed
 status_of_refusal refusal.NotText = status.Malformed
 status_of_refusal refusal.Memory = status.Memory
 

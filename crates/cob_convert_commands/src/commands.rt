@@ -5,7 +5,8 @@ ghost use Rattle.cob_convert_commands.specs.Commands.{IsEndOfLine, IsEndOfRefusa
 use crate::jobs::do_job;
 use cob_command_convert::{do_check, do_convert};
 use cob_command_faults::printed;
-use cob_command_lists::{do_layout, do_show};
+use cob_command_lists::{do_layout, do_pieces, do_show};
+use cob_command_lossless::do_lossless;
 use cob_convert_line::{Line, LineFault, line_of};
 use cob_status::Status;
 use std::convert::AsStr;
@@ -26,6 +27,8 @@ pub fn perform<R: AllocGlobal + Files + Input + Print + Eprint + Clock>(
         Line::Check(line) => do_check(rt, line).code(),
         Line::Layout(line) => do_layout(rt, line).code(),
         Line::Show(line) => do_show(rt, line).code(),
+        Line::Pieces(line) => do_pieces(rt, line).code(),
+        Line::Lossless(line) => do_lossless(rt, line).code(),
     }
 }
 

@@ -1,15 +1,16 @@
 -- What the parser says of a command, and of what it found, in the words of this crate.
-use Rattle.std.proofs.Common.{rules, codes, subst, ◌∙◌, ◌≡◌, ◌&&◌, ◌==◌, ℕ, arith, length, map, eqb-true, Bool, List, [], ◌∷◌, Option, Some, None, option_map, true, false, refl, sym, ap, ap₂, true≢false}
+use Rattle.std.proofs.Common.{rules, codes, subst, ◌∙◌, ◌≡◌, inl, inr, ◌&&◌, ◌==◌, ℕ, arith, length, map, eqb-true, Bool, List, [], ◌∷◌, Option, Some, None, option_map, true, false, refl, sym, ap, ap₂, true≢false}
 use Rattle.std.specs.Prelude.{IsSome, not, is_some, unwrap_or}
 use Rattle.std.proofs.lemmas.Bool.Decides.{nat_tests}
 use Rattle.clap.specs.Words.{Row, Text, app_of}
 use Rattle.clap.specs.declared.builder.command.Command.{Command}
 use Rattle.clap.specs.declared.builder.command.Command.TheViews.{out-Command}
-use Rattle.cob_convert_line.specs.Lines.{HaveForms, IsCommandLineOf, IsFaultIn, LacksABlock, LacksAForm, LacksForm, LacksReading, Look, NamesBlock, form_by_letter, letter_of, reading_by_word, sized_by, word_of}
+use Rattle.cob_convert_line.specs.Lines.{HaveForms, IsCommandLineOf, IsFaultIn, LacksABlock, LacksAForm, LacksBlock, LacksForm, LacksNumber, LacksPiece, LacksSize, LacksReading, Look, NamesBlock, form_by_letter, letter_of, reading_by_word, sized_by, word_of, LacksListing}
 use Rattle.cob_convert_line.specs.declared.fault.LineFault.{LineFault}
 use Rattle.cob_convert_line.specs.declared.fault.LineFault.TheVariants as fault
 use Rattle.cob_codec.specs.declared.reading.Reading.{Reading}
 use Rattle.cob_codec.specs.declared.reading.Reading.TheVariants.{Pictured, Whole}
+use Rattle.cob_records.specs.BlockSize.{SaysBlockSize}
 use Rattle.cob_records.specs.declared.records.Form.{Form}
 use Rattle.cob_records.specs.declared.records.Form.TheVariants.{Fixed, Variable, Blocked}
 use Rattle.cob_convert_line.specs.declared.line.Line.TheVariants as line
@@ -64,7 +65,7 @@ other_letter a b letter differ p q =
     itself n = grind (arith, nat_tests)
 
 -- an option that names a form does not lack one
-has_form : (look : Look) (name : Text) (f : Form) → look name ≡ Some (letter_of f) → LacksForm look name → ⊥
+pub has_form : (look : Look) (name : Text) (f : Form) → look name ≡ Some (letter_of f) → LacksForm look name → ⊥
 has_form look name f named (letter, is, none) = true≢false (sym (ap is_some (sym none ∙ ap form_by_letter same) ∙ back f))
   where
     back : (f : Form) → is_some (form_by_letter (letter_of f)) ≡ true
@@ -105,6 +106,23 @@ block_beside look name (Blocked m) (Blocked n) size same is = is
 pub same_letter : (look : Look) (name : Text) (f g : Form) → look name ≡ Some (letter_of f) → look name ≡ Some (letter_of g) → letter_of f ≡ letter_of g
 same_letter look name f g p q = ap (λ o. unwrap_or o (letter_of f)) (sym p ∙ q)
 
+-- an option that names a size of blocks does not lack one
+has_size : (look : Look) (name : Text) (f : Form) (size : ℕ) → NamesBlock look name f size → LacksSize look name f → ⊥
+has_size look name Fixed size is lacks = lacks
+has_size look name Variable size is lacks = lacks
+has_size look name (Blocked most) size (word, named, says) (other, is, none) =
+    none size (subst (λ (w : Text). SaysBlockSize w size) (ap (λ o. unwrap_or o word) (sym named ∙ is)) says)
+
+has_block : (look : Look) (form_name block_name : Text) (f : Form) (size : ℕ) → look form_name ≡ Some (letter_of f) → NamesBlock look block_name f size
+    → LacksBlock look form_name block_name → ⊥
+has_block look form_name block_name f size named names (g, is, lacks) =
+    has_size look block_name g size (block_beside look block_name f g size (same_letter look form_name f g named is) names) lacks
+
+pub have_blocks : (look : Look) (f g : Form) (m n : ℕ) → look (codes "in-form") ≡ Some (letter_of f) → look (codes "out-form") ≡ Some (letter_of g)
+    → NamesBlock look (codes "in-block") f m → NamesBlock look (codes "out-block") g n → LacksABlock look → ⊥
+have_blocks look f g m n from to in_size out_size (inl lacks) = has_block look (codes "in-form") (codes "in-block") f m from in_size lacks
+have_blocks look f g m n from to in_size out_size (inr lacks) = has_block look (codes "out-form") (codes "out-block") g n to out_size lacks
+
 letter_sized : (size : ℕ) (f : Form) → letter_of (sized_by size f) ≡ letter_of f
 letter_sized size Fixed = refl
 letter_sized size Variable = refl
@@ -124,12 +142,21 @@ named_sized look name f g size is named = named ∙ ap Some (sym (letter_sized s
 pub block_sized : (look : Look) (name : Text) (f g : Form) (size : ℕ) → g ≡ sized_by size f → NamesBlock look name f size → NamesBlock look name g size
 block_sized look name f g size is named = block_beside look name f g size (sym (letter_sized size f) ∙ ap letter_of (sym is)) named
 
--- what a fault is of an option that names no form, no reading, or no size of blocks
+-- what a fault is of an option that names no form, no reading, no size of blocks, or no listing
 pub of_block : (look : Look) (f : LineFault) → f ≡ fault.Block → HaveForms look → (LacksReading look → ⊥) → LacksABlock look → IsFaultIn look f
 of_block look f is have reads lacks = subst (IsFaultIn look) (sym is) (have, reads, lacks)
+
+pub of_piece : (look : Look) (f : LineFault) → f ≡ fault.Piece → HaveForms look → (LacksReading look → ⊥) → (LacksABlock look → ⊥) → LacksPiece look → IsFaultIn look f
+of_piece look f is have reads sized lacks = subst (IsFaultIn look) (sym is) (have, reads, sized, lacks)
+
+pub of_pieces : (look : Look) (f : LineFault) (form : Form) → f ≡ fault.Pieces → look (codes "form") ≡ Some (letter_of form) → LacksNumber look (codes "pieces") 1 → IsFaultIn look f
+of_pieces look f form is named lacks = subst (IsFaultIn look) (sym is) (has_form look (codes "form") form named, lacks)
 
 pub of_form : (look : Look) (f : LineFault) → f ≡ fault.Form → LacksAForm look → IsFaultIn look f
 of_form look f is lacks = subst (IsFaultIn look) (sym is) lacks
 
 pub of_reading : (look : Look) (f : LineFault) → f ≡ fault.Reading → HaveForms look → LacksReading look → IsFaultIn look f
 of_reading look f is have lacks = subst (IsFaultIn look) (sym is) (have, lacks)
+
+pub of_listing : (look : Look) (f : LineFault) → f ≡ fault.Listing → (LacksForm look (codes "form") → ⊥) → LacksListing look → IsFaultIn look f
+of_listing look f is fine lacks = subst (IsFaultIn look) (sym is) (fine, lacks)

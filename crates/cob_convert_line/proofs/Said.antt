@@ -11,7 +11,7 @@ use Rattle.cob_convert_line.specs.declared.fault.LineFault.{LineFault}
 use Rattle.cob_convert_line.specs.declared.fault.LineFault.TheVariants.{Memory}
 use Rattle.cob_convert_line.proofs.Turns.{not_nil}
 use Rattle.cob_convert_line.specs.Options.{AreThere, Given, Options, found_at, taken}
-use Rattle.cob_convert_line.specs.Lines.{NamesBlock, IsCheck, IsCommand, IsCommandLineOf, IsConvert, IsLayout, IsShow, check_options, commands, convert_options, fault_by_kind, layout_options, show_options, words_fault}
+use Rattle.cob_convert_line.specs.Lines.{check_options, commands, convert_options, fault_by_kind, IsCheck, IsCommand, IsCommandLineOf, IsConvert, IsLayout, IsLosslessLine, IsPieces, IsShow, layout_options, lossless_options, NamesBlock, NamesBound, NamesNumber, pieces_options, show_options, words_fault}
 use Rattle.cob_convert_line.specs.Program.{program_app}
 use Rattle.cob_convert_line.specs.declared.line.Line.{Line}
 use Rattle.cob_convert_line.specs.declared.line.Line.TheVariants as line
@@ -19,6 +19,8 @@ use Rattle.cob_convert_line.specs.declared.line.ConvertLine.{ConvertLine}
 use Rattle.cob_convert_line.specs.declared.line.CheckLine.{CheckLine}
 use Rattle.cob_convert_line.specs.declared.line.LayoutLine.{LayoutLine}
 use Rattle.cob_convert_line.specs.declared.line.ShowLine.{ShowLine}
+use Rattle.cob_convert_line.specs.declared.line.PiecesLine.{PiecesLine}
+use Rattle.cob_convert_line.specs.declared.line.LosslessLine.{LosslessLine}
 use Rattle.cob_records.specs.declared.records.Form.{Form}
 use Rattle.cob_records.specs.declared.records.Form.TheVariants.{Fixed, Variable, Blocked}
 use Rattle.cob_convert_line.proofs.Level.{level_complete, level_rows, level_sound, look_is, rows_of_given}
@@ -33,6 +35,14 @@ same_block : (look other : Text → Option Text) (name : Text) (form : Form) (si
 same_block look other name Fixed size same is = is
 same_block look other name Variable size same is = is
 same_block look other name (Blocked most) size same (word, named, says) = (word, sym same ∙ named, says)
+
+-- an option that names the same in two looks names the same number
+same_number : (look other : Text → Option Text) (name : Text) (least number : ℕ) → look name ≡ other name → NamesNumber look name least number → NamesNumber other name least number
+same_number look other name least number same (word, named, says, low) = (word, sym same ∙ named, says, low)
+
+same_bound : (look other : Text → Option Text) (name : Text) (most : Option ℕ) → look name ≡ other name → NamesBound look name most → NamesBound other name most
+same_bound look other name None same is = sym same ∙ is
+same_bound look other name (Some number) same is = same_number look other name 0 number same is
 
 -- rows name what options do
 convert_said : (given : Given) (said : ConvertLine) → IsConvert (λ id. first_of id (rows_of_given convert_options given)) said → IsConvert (taken convert_options given) said
@@ -53,6 +63,12 @@ convert_said given said h = record {
   reading = sym (look_is convert_options given (codes "binary") refl) ∙ h.reading;
   atomic = sym (ap flag_read (look_is convert_options given (codes "atomic") refl)) ∙ h.atomic;
   progress = sym (ap flag_read (look_is convert_options given (codes "progress") refl)) ∙ h.progress;
+  from = same_number (λ id. first_of id (rows_of_given convert_options given)) (taken convert_options given) (codes "from") 0 said.from
+      (look_is convert_options given (codes "from") refl) h.from;
+  bytes = same_bound (λ id. first_of id (rows_of_given convert_options given)) (taken convert_options given) (codes "bytes") said.bytes
+      (look_is convert_options given (codes "bytes") refl) h.bytes;
+  first = same_number (λ id. first_of id (rows_of_given convert_options given)) (taken convert_options given) (codes "record") 1 said.first
+      (look_is convert_options given (codes "record") refl) h.first;
 }
 
 check_said : (given : Given) (said : CheckLine) → IsCheck (λ id. first_of id (rows_of_given check_options given)) said → IsCheck (taken check_options given) said
@@ -71,7 +87,27 @@ show_said given said h = record {
   input = sym (look_is show_options given (codes "in") refl) ∙ h.input;
   form = sym (look_is show_options given (codes "form") refl) ∙ h.form;
   sized = h.sized;
+  listed = sym (look_is show_options given (codes "as") refl) ∙ h.listed;
   progress = sym (ap flag_read (look_is show_options given (codes "progress") refl)) ∙ h.progress;
+}
+
+pieces_said : (given : Given) (said : PiecesLine) → IsPieces (λ id. first_of id (rows_of_given pieces_options given)) said → IsPieces (taken pieces_options given) said
+pieces_said given said h = record {
+  book = sym (look_is pieces_options given (codes "book") refl) ∙ h.book;
+  input = sym (look_is pieces_options given (codes "in") refl) ∙ h.input;
+  form = sym (look_is pieces_options given (codes "form") refl) ∙ h.form;
+  sized = h.sized;
+  pieces = same_number (λ id. first_of id (rows_of_given pieces_options given)) (taken pieces_options given) (codes "pieces") 1 said.pieces
+      (look_is pieces_options given (codes "pieces") refl) h.pieces;
+}
+
+lossless_said : (given : Given) (said : LosslessLine) → IsLosslessLine (λ id. first_of id (rows_of_given lossless_options given)) said
+    → IsLosslessLine (taken lossless_options given) said
+lossless_said given said h = record {
+  in_book = sym (look_is lossless_options given (codes "in-book") refl) ∙ h.in_book;
+  out_book = sym (look_is lossless_options given (codes "out-book") refl) ∙ h.out_book;
+  there = sym (look_is lossless_options given (codes "there") refl) ∙ h.there;
+  back = sym (look_is lossless_options given (codes "back") refl) ∙ h.back;
 }
 
 -- the options of the command of this name
@@ -101,6 +137,16 @@ said_of w os given (line.Show o) is h = (
   subst (λ (x : Options). IsShow (λ id. first_of id (rows_of_given x given)) o → IsShow (taken x given) o)
       (named_options w (codes "show") os show_options is h.0 refl) (show_said given o) h.1,
 )
+said_of w os given (line.Pieces o) is h = (
+  h.0,
+  subst (λ (x : Options). IsPieces (λ id. first_of id (rows_of_given x given)) o → IsPieces (taken x given) o)
+      (named_options w (codes "pieces") os pieces_options is h.0 refl) (pieces_said given o) h.1,
+)
+said_of w os given (line.Lossless o) is h = (
+  h.0,
+  subst (λ (x : Options). IsLosslessLine (λ id. first_of id (rows_of_given x given)) o → IsLosslessLine (taken x given) o)
+      (named_options w (codes "lossless") os lossless_options is h.0 refl) (lossless_said given o) h.1,
+)
 
 -- words that pass say what the parser finds in them
 pub said_by : (words : List Text) (name : Text) (rows : List Row) (said : Line) → (words ≡ [] → ⊥) → fault_of program_app words ≡ []
@@ -125,8 +171,8 @@ is_given (Some u) v e = (u, refl)
 convert_back : (given : Given) (said : ConvertLine) → IsConvert (taken convert_options given) said
     → AreNames convert_options × AreThere convert_options given × IsConvert (λ id. first_of id (rows_of_given convert_options given)) said
 convert_back given said h = (
-  ((refl, refl), ((refl, refl), ((refl, refl), ((refl, refl), ((refl, refl), ((refl, refl), ((refl, refl), ((refl, refl), ((refl, refl), ((refl, refl), ((refl, refl), ((refl, refl), ((refl, refl), tt))))))))))))),
-  (is_given _ _ h.in_book, (is_given _ _ h.out_book, (is_given _ _ h.moves, (is_given _ _ h.input, (is_given _ _ h.output, (tt, (tt, (tt, (tt, (tt, (tt, (tt, (tt, tt))))))))))))),
+  ((refl, refl), ((refl, refl), ((refl, refl), ((refl, refl), ((refl, refl), ((refl, refl), ((refl, refl), ((refl, refl), ((refl, refl), ((refl, refl), ((refl, refl), ((refl, refl), ((refl, refl), ((refl, refl), ((refl, refl), ((refl, refl), tt)))))))))))))))),
+  (is_given _ _ h.in_book, (is_given _ _ h.out_book, (is_given _ _ h.moves, (is_given _ _ h.input, (is_given _ _ h.output, (tt, (tt, (tt, (tt, (tt, (tt, (tt, (tt, (tt, (tt, (tt, tt)))))))))))))))),
   record {
     in_book = look_is convert_options given (codes "in-book") refl ∙ h.in_book;
     out_book = look_is convert_options given (codes "out-book") refl ∙ h.out_book;
@@ -144,6 +190,12 @@ convert_back given said h = (
     reading = look_is convert_options given (codes "binary") refl ∙ h.reading;
     atomic = ap flag_read (look_is convert_options given (codes "atomic") refl) ∙ h.atomic;
     progress = ap flag_read (look_is convert_options given (codes "progress") refl) ∙ h.progress;
+    from = same_number (taken convert_options given) (λ id. first_of id (rows_of_given convert_options given)) (codes "from") 0 said.from
+        (sym (look_is convert_options given (codes "from") refl)) h.from;
+    bytes = same_bound (taken convert_options given) (λ id. first_of id (rows_of_given convert_options given)) (codes "bytes") said.bytes
+        (sym (look_is convert_options given (codes "bytes") refl)) h.bytes;
+    first = same_number (taken convert_options given) (λ id. first_of id (rows_of_given convert_options given)) (codes "record") 1 said.first
+        (sym (look_is convert_options given (codes "record") refl)) h.first;
   },
 )
 
@@ -166,14 +218,43 @@ layout_back given said h = (((refl, refl), ((refl, refl), tt)), (is_given _ _ h.
 show_back : (given : Given) (said : ShowLine) → IsShow (taken show_options given) said
     → AreNames show_options × AreThere show_options given × IsShow (λ id. first_of id (rows_of_given show_options given)) said
 show_back given said h = (
-  ((refl, refl), ((refl, refl), ((refl, refl), ((refl, refl), ((refl, refl), tt))))),
-  (is_given _ _ h.book, (is_given _ _ h.input, (tt, (tt, (tt, tt))))),
+  ((refl, refl), ((refl, refl), ((refl, refl), ((refl, refl), ((refl, refl), ((refl, refl), tt)))))),
+  (is_given _ _ h.book, (is_given _ _ h.input, (tt, (tt, (tt, (tt, tt)))))),
   record {
     book = look_is show_options given (codes "book") refl ∙ h.book;
     input = look_is show_options given (codes "in") refl ∙ h.input;
     form = look_is show_options given (codes "form") refl ∙ h.form;
     sized = h.sized;
+    listed = look_is show_options given (codes "as") refl ∙ h.listed;
     progress = ap flag_read (look_is show_options given (codes "progress") refl) ∙ h.progress;
+  },
+)
+
+pieces_back : (given : Given) (said : PiecesLine) → IsPieces (taken pieces_options given) said
+    → AreNames pieces_options × AreThere pieces_options given × IsPieces (λ id. first_of id (rows_of_given pieces_options given)) said
+pieces_back given said h = (
+  ((refl, refl), ((refl, refl), ((refl, refl), ((refl, refl), ((refl, refl), tt))))),
+  (is_given _ _ h.book, (is_given _ _ h.input, (tt, (is_given _ _ h.pieces.1, (tt, tt))))),
+  record {
+    book = look_is pieces_options given (codes "book") refl ∙ h.book;
+    input = look_is pieces_options given (codes "in") refl ∙ h.input;
+    form = look_is pieces_options given (codes "form") refl ∙ h.form;
+    sized = h.sized;
+    pieces = same_number (taken pieces_options given) (λ id. first_of id (rows_of_given pieces_options given)) (codes "pieces") 1 said.pieces
+        (sym (look_is pieces_options given (codes "pieces") refl)) h.pieces;
+  },
+)
+
+lossless_back : (given : Given) (said : LosslessLine) → IsLosslessLine (taken lossless_options given) said
+    → AreNames lossless_options × AreThere lossless_options given × IsLosslessLine (λ id. first_of id (rows_of_given lossless_options given)) said
+lossless_back given said h = (
+  ((refl, refl), ((refl, refl), ((refl, refl), ((refl, refl), ((refl, refl), tt))))),
+  (is_given _ _ h.in_book, (is_given _ _ h.out_book, (is_given _ _ h.there, (is_given _ _ h.back, (tt, tt))))),
+  record {
+    in_book = look_is lossless_options given (codes "in-book") refl ∙ h.in_book;
+    out_book = look_is lossless_options given (codes "out-book") refl ∙ h.out_book;
+    there = look_is lossless_options given (codes "there") refl ∙ h.there;
+    back = look_is lossless_options given (codes "back") refl ∙ h.back;
   },
 )
 
@@ -197,6 +278,14 @@ back_of w os given (line.Layout o) is h =
 back_of w os given (line.Show o) is h =
     let found = subst (λ (x : Options). IsShow (taken x given) o → AreNames x × AreThere x given × IsShow (λ id. first_of id (rows_of_given x given)) o)
     (named_options w (codes "show") os show_options is h.0 refl) (show_back given o) h.1 in
+    (found.0, found.1, (h.0, found.2))
+back_of w os given (line.Pieces o) is h =
+    let found = subst (λ (x : Options). IsPieces (taken x given) o → AreNames x × AreThere x given × IsPieces (λ id. first_of id (rows_of_given x given)) o)
+    (named_options w (codes "pieces") os pieces_options is h.0 refl) (pieces_back given o) h.1 in
+    (found.0, found.1, (h.0, found.2))
+back_of w os given (line.Lossless o) is h =
+    let found = subst (λ (x : Options). IsLosslessLine (taken x given) o → AreNames x × AreThere x given × IsLosslessLine (λ id. first_of id (rows_of_given x given)) o)
+    (named_options w (codes "lossless") os lossless_options is h.0 refl) (lossless_back given o) h.1 in
     (found.0, found.1, (h.0, found.2))
 
 pub found_by : (words : List Text) (said : Line) → (words ≡ [] → ⊥) → IsCommandLineOf words said

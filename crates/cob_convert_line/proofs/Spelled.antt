@@ -1,5 +1,5 @@
 -- What words spell, and which fault they have that spell nothing.
-use Rattle.std.proofs.Common.{◌≡◌, ◌∙◌, ◌⊎◌, inl, inr, Bool, true, false, refl, sym, ap, List, [], ◌∷◌, Option, Some, None, is_some, option_map, codes, subst, true≢false}
+use Rattle.std.proofs.Common.{◌≡◌, ◌∙◌, ◌⊎◌, inl, inr, ℕ, Bool, true, false, refl, sym, ap, List, [], ◌∷◌, Option, Some, None, is_some, option_map, codes, cond, find, subst, true≢false}
 use Rattle.std.specs.Prelude.{unwrap_or}
 use Rattle.std.specs.Option.{option_or}
 use Rattle.std.specs.Str.{bytes_eq}
@@ -11,12 +11,13 @@ use Rattle.clap.specs.declared.error.Error.{Error}
 use Rattle.clap.specs.declared.error.kind.ErrorKind.{ErrorKind}
 use Rattle.clap.specs.declared.error.kind.ErrorKind.TheVariants as kind
 use Rattle.cob_convert_line.specs.declared.fault.LineFault.{LineFault}
-use Rattle.cob_convert_line.specs.declared.fault.LineFault.TheVariants.{Block, Form, Memory, NotText, Reading, Words}
+use Rattle.cob_convert_line.specs.declared.fault.LineFault.TheVariants.{Block, Form, Memory, NotText, Piece, Pieces, Reading, Words, Listing}
 use Rattle.cob_convert_line.specs.Options.{AreThere, Given, Options, default_of, found_at, taken}
 use Rattle.cob_records.specs.declared.records.Form.{Form as RecordForm}
 use Rattle.cob_records.specs.declared.records.Form.TheVariants.{Fixed, Variable, Blocked}
-use Rattle.cob_convert_line.specs.Lines.{AreNamed, HaveForms, IsComplete, IsFaultIn, IsFaultOf, IsFormName, LacksABlock, LacksAForm, LacksBlock, LacksForm, LacksReading, LacksSize, Spells, check_options, commands, convert_options, fault_by_kind, layout_options, show_options, words_fault}
+use Rattle.cob_convert_line.specs.Lines.{AreNamed, check_options, commands, convert_options, fault_by_kind, HaveForms, IsComplete, IsFaultIn, IsFaultOf, IsFormName, LacksABlock, LacksAForm, LacksBlock, LacksForm, LacksListing, LacksNumber, LacksPiece, LacksReading, LacksSize, layout_options, lossless_options, pieces_options, show_options, Spells, words_fault}
 use Rattle.cob_convert_line.specs.Program.{program_app}
+use Rattle.cob_convert_line.proofs.Rules.{same_text}
 use Rattle.cob_convert_line.proofs.Level.{defaults_in, level_complete, level_sound, level_there, look_is, rows_of_given, value_in}
 use Rattle.cob_convert_line.proofs.Turns.{not_nil}
 use Rattle.cob_convert_line.proofs.Walks.{AreNames}
@@ -35,15 +36,35 @@ each_found P (o ∷ cs) w os all is = go (bytes_eq o.0 w) refl is (each_found P 
     go true e here later = subst P (ap (λ x. unwrap_or x o.1) (sym (ap (λ b. option_map (λ it. it.1) (Rattle.std.proofs.Common.cond b (Some o) (Rattle.std.proofs.Common.find (λ it. bytes_eq it.0 w) cs))) e) ∙ here)) all.0
     go false e here later = later (sym (ap (λ b. option_map (λ it. it.1) (Rattle.std.proofs.Common.cond b (Some o) (Rattle.std.proofs.Common.find (λ it. bytes_eq it.0 w) cs))) e) ∙ here)
 
+-- a name that is none of these commands' names
+abbrev pub IsNone : Text → Commands → Type 0
+IsNone w [] = Unit {0}
+IsNone w (o ∷ cs) = (w ≡ o.0 → ⊥) × IsNone w cs
+
+-- names none of them
+pub no_command : (cs : Commands) (w : Text) (os : Options) → IsNone w cs → found_at w cs ≡ Some os → ⊥
+no_command [] w os none is = true≢false (sym (ap is_some is))
+no_command (o ∷ cs) w os none is = go (bytes_eq o.0 w) refl is (no_command cs w os none.1)
+  where
+    go : (b : Bool) → bytes_eq o.0 w ≡ b → found_at w (o ∷ cs) ≡ Some os → (found_at w cs ≡ Some os → ⊥) → ⊥
+    go true e here later = none.0 (sym (same_text o.0 w e))
+    go false e here later = later (sym (ap (λ b. option_map (λ it. it.1) (cond b (Some o) (find (λ it. bytes_eq it.0 w) cs))) e) ∙ here)
+
 -- the options of a command have names
 names_of : (w : Text) (os : Options) → found_at w commands ≡ Some os → AreNames os
 names_of w os is = each_found AreNames commands w os (
-  ((refl, refl), ((refl, refl), ((refl, refl), ((refl, refl), ((refl, refl), ((refl, refl), ((refl, refl), ((refl, refl), ((refl, refl), ((refl, refl), ((refl, refl), ((refl, refl), ((refl, refl), tt))))))))))))),
+  ((refl, refl), ((refl, refl), ((refl, refl), ((refl, refl), ((refl, refl), ((refl, refl), ((refl, refl), ((refl, refl), ((refl, refl), ((refl, refl), ((refl, refl), ((refl, refl), ((refl, refl), ((refl, refl), ((refl, refl), ((refl, refl), tt)))))))))))))))),
   (
     ((refl, refl), ((refl, refl), ((refl, refl), ((refl, refl), tt)))),
     (
       ((refl, refl), ((refl, refl), tt)),
-      (((refl, refl), ((refl, refl), ((refl, refl), ((refl, refl), ((refl, refl), tt))))), tt),
+      (
+        ((refl, refl), ((refl, refl), ((refl, refl), ((refl, refl), ((refl, refl), ((refl, refl), tt)))))),
+        (
+          ((refl, refl), ((refl, refl), ((refl, refl), ((refl, refl), ((refl, refl), tt))))),
+          (((refl, refl), ((refl, refl), ((refl, refl), ((refl, refl), ((refl, refl), tt))))), tt),
+        ),
+      ),
     ),
   ),
 ) is
@@ -121,7 +142,22 @@ convert_names given h = let os = convert_options in (
                 default_names os given (codes "in-block") (codes "32760") refl refl,
                 (
                   default_names os given (codes "out-block") (codes "32760") refl refl,
-                  (default_names os given (codes "binary") (codes "pictured") refl refl, (tt, (tt, (tt, tt)))),
+                  (
+                    default_names os given (codes "binary") (codes "pictured") refl refl,
+                    (
+                      tt,
+                      (
+                        tt,
+                        (
+                          default_names os given (codes "from") (codes "0") refl refl,
+                          (
+                            default_names os given (codes "bytes") (codes "all") refl refl,
+                            (default_names os given (codes "record") (codes "1") refl refl, (tt, tt)),
+                          ),
+                        ),
+                      ),
+                    ),
+                  ),
                 ),
               ),
             ),
@@ -141,12 +177,31 @@ layout_names given h = (given_names layout_options given (codes "book") refl h.0
 
 show_names : Names show_options
 show_names given h = let os = show_options in
-    (given_names os given (codes "book") refl h.0, (given_names os given (codes "in") refl h.1.0, (default_names os given (codes "form") (codes "f") refl refl, (tt, (tt, tt)))))
+    (given_names os given (codes "book") refl h.0, (given_names os given (codes "in") refl h.1.0, (default_names os given (codes "form") (codes "f") refl refl, (default_names os given (codes "as") (codes "text") refl refl, (tt, (tt, tt))))))
+
+pieces_names : Names pieces_options
+pieces_names given h = let os = pieces_options in (
+  given_names os given (codes "book") refl h.0,
+  (
+    given_names os given (codes "in") refl h.1.0,
+    (default_names os given (codes "form") (codes "f") refl refl, (given_names os given (codes "pieces") refl h.1.1.1.0, (tt, tt))),
+  ),
+)
+
+lossless_names : Names lossless_options
+lossless_names given h = let os = lossless_options in (
+  given_names os given (codes "in-book") refl h.0,
+  (
+    given_names os given (codes "out-book") refl h.1.0,
+    (given_names os given (codes "there") refl h.1.1.0, (given_names os given (codes "back") refl h.1.1.1.0, (tt, tt))),
+  ),
+)
 
 pub complete_by : (words : List Text) (name : Text) (rows : List Row) → Found words name rows → IsComplete name (λ id. first_of id rows)
 complete_by [] name rows f = absurd f.spells
 complete_by (w ∷ rest) name rows f =
-    let all = each_found Names commands name f.os (convert_names, (check_names, (layout_names, (show_names, tt)))) f.known in
+    let all = each_found Names commands name f.os
+    (convert_names, (check_names, (layout_names, (show_names, (pieces_names, (lossless_names, tt)))))) f.known in
     (f.os, f.known, subst (λ (r : List Row). AreNamed f.os (λ id. first_of id r)) (sym f.same) (all f.given f.spells.2))
 
 -- an option for a form has one default
@@ -167,7 +222,7 @@ forms_of name os known = each_found HasForms commands name os (
     by_name check_options refl refl refl,
     (
       by_name layout_options refl refl refl,
-      (by_name show_options refl refl refl, tt),
+      (by_name show_options refl refl refl, (by_name pieces_options refl refl refl, (by_name lossless_options refl refl refl, tt))),
     ),
   ),
 ) known
@@ -177,7 +232,7 @@ abbrev HasReading : Options → Type 0
 HasReading os = value_in (defaults_in (codes "binary") os) ≡ default_of (found_at (codes "binary") os)
 
 reading_of : (name : Text) (os : Options) → found_at name commands ≡ Some os → HasReading os
-reading_of name os known = each_found HasReading commands name os (refl, (refl, (refl, (refl, tt)))) known
+reading_of name os known = each_found HasReading commands name os (refl, (refl, (refl, (refl, (refl, (refl, tt)))))) known
 
 -- what is found in rows is what the words name
 row_is : (words : List Text) (name : Text) (rows : List Row) (f : Found words name rows) (option : Text)
@@ -209,7 +264,7 @@ HasSizes os = (value_in (defaults_in (codes "in-block") os) ≡ default_of (foun
     × (value_in (defaults_in (codes "out-block") os) ≡ default_of (found_at (codes "out-block") os))
 
 sizes_of : (name : Text) (os : Options) → found_at name commands ≡ Some os → HasSizes os
-sizes_of name os known = each_found HasSizes commands name os ((refl, refl), ((refl, refl), ((refl, refl), ((refl, refl), tt)))) known
+sizes_of name os known = each_found HasSizes commands name os ((refl, refl), ((refl, refl), ((refl, refl), ((refl, refl), ((refl, refl), ((refl, refl), tt)))))) known
 
 lacks_size : (look other : Text → Option Text) (name : Text) (form : RecordForm) → look name ≡ other name → LacksSize look name form → LacksSize other name form
 lacks_size look other name Fixed same lacks = lacks
@@ -239,6 +294,85 @@ block_fault words name rows f have reads lacks = (
   ],
 )
 
+-- so has the option for the number of pieces
+abbrev HasPieces : Options → Type 0
+HasPieces os = value_in (defaults_in (codes "pieces") os) ≡ default_of (found_at (codes "pieces") os)
+
+counted_pieces : (name : Text) (os : Options) → found_at name commands ≡ Some os → HasPieces os
+counted_pieces name os known = each_found HasPieces commands name os (refl, (refl, (refl, (refl, (refl, (refl, tt)))))) known
+
+pieces_fault : (words : List Text) (name : Text) (rows : List Row) → Found words name rows → (LacksForm (λ id. first_of id rows) (codes "form") → ⊥)
+    → LacksNumber (λ id. first_of id rows) (codes "pieces") 1 → IsFaultOf words Pieces
+pieces_fault words name rows f have (word, named, none) = (
+  f.os,
+  f.given,
+  f.spells,
+  form_stays words name rows f (codes "form") (inl refl) have,
+  (word, sym (row_is words name rows f (codes "pieces") (counted_pieces name f.os f.known)) ∙ named, none),
+)
+
+-- so have the options for a piece
+abbrev HasPiece : Options → Type 0
+HasPiece os = (value_in (defaults_in (codes "from") os) ≡ default_of (found_at (codes "from") os))
+    × (value_in (defaults_in (codes "bytes") os) ≡ default_of (found_at (codes "bytes") os))
+    × (value_in (defaults_in (codes "record") os) ≡ default_of (found_at (codes "record") os))
+
+piece_of : (name : Text) (os : Options) → found_at name commands ≡ Some os → HasPiece os
+piece_of name os known = each_found HasPiece commands name os
+    ((refl, refl, refl), ((refl, refl, refl), ((refl, refl, refl), ((refl, refl, refl), ((refl, refl, refl), ((refl, refl, refl), tt)))))) known
+
+block_stays : (words : List Text) (name : Text) (rows : List Row) (f : Found words name rows) (form_name block_name : Text) → IsFormName form_name
+    → value_in (defaults_in block_name f.os) ≡ default_of (found_at block_name f.os) → (LacksBlock (λ id. first_of id rows) form_name block_name → ⊥)
+    → LacksBlock (taken f.os f.given) form_name block_name → ⊥
+block_stays words name rows f form_name block_name is default fine (form, named, lacks) = fine (
+  form,
+  row_is words name rows f form_name (forms_of name f.os f.known form_name is) ∙ named,
+  lacks_size (taken f.os f.given) (λ id. first_of id rows) block_name form (sym (row_is words name rows f block_name default)) lacks,
+)
+
+lacks_number : (look other : Text → Option Text) (name : Text) (least : ℕ) → look name ≡ other name → LacksNumber look name least → LacksNumber other name least
+lacks_number look other name least same (word, named, none) = (word, sym same ∙ named, none)
+
+piece_fault : (words : List Text) (name : Text) (rows : List Row) → Found words name rows → HaveForms (λ id. first_of id rows) → (LacksReading (λ id. first_of id rows) → ⊥)
+    → (LacksABlock (λ id. first_of id rows) → ⊥) → LacksPiece (λ id. first_of id rows) → IsFaultOf words Piece
+piece_fault words name rows f have reads sized lacks = (
+  f.os,
+  f.given,
+  f.spells,
+  (form_stays words name rows f (codes "in-form") (inr (inl refl)) have.0, form_stays words name rows f (codes "out-form") (inr (inr refl)) have.1),
+  λ lacking. reads (lacking.0, row_is words name rows f (codes "binary") (reading_of name f.os f.known) ∙ lacking.1, lacking.2),
+  λ lacking. elim lacking [
+    | inl in_side ↦ block_stays words name rows f (codes "in-form") (codes "in-block") (inr (inl refl)) (sizes_of name f.os f.known).0 (λ h. sized (inl h)) in_side
+    | inr out_side ↦ block_stays words name rows f (codes "out-form") (codes "out-block") (inr (inr refl)) (sizes_of name f.os f.known).1 (λ h. sized (inr h)) out_side
+  ],
+  piece_lacks words name rows f lacks,
+)
+  where
+    piece_lacks : (words : List Text) (name : Text) (rows : List Row) (f : Found words name rows) → LacksPiece (λ id. first_of id rows) → LacksPiece (taken f.os f.given)
+    piece_lacks words name rows f (inl from) =
+        inl (lacks_number (λ id. first_of id rows) (taken f.os f.given) (codes "from") 0 (row_is words name rows f (codes "from") (piece_of name f.os f.known).0) from)
+    piece_lacks words name rows f (inr (inl (word, named, other, none))) =
+        inr (inl (word, sym (row_is words name rows f (codes "bytes") (piece_of name f.os f.known).1) ∙ named, other, none))
+    piece_lacks words name rows f (inr (inr first)) =
+        inr (inr (lacks_number (λ id. first_of id rows) (taken f.os f.given) (codes "record") 1 (row_is words name rows f (codes "record") (piece_of name f.os f.known).2) first))
+
+-- so has the option for a listing
+abbrev HasListing : Options → Type 0
+HasListing os = value_in (defaults_in (codes "as") os) ≡ default_of (found_at (codes "as") os)
+
+listing_of : (name : Text) (os : Options) → found_at name commands ≡ Some os → HasListing os
+listing_of name os known = each_found HasListing commands name os (refl, (refl, (refl, (refl, (refl, (refl, tt)))))) known
+
+listing_fault : (words : List Text) (name : Text) (rows : List Row) → Found words name rows → (LacksForm (λ id. first_of id rows) (codes "form") → ⊥)
+    → LacksListing (λ id. first_of id rows) → IsFaultOf words Listing
+listing_fault words name rows f fine (word, named, none) = (
+  f.os,
+  f.given,
+  f.spells,
+  form_stays words name rows f (codes "form") (inl refl) fine,
+  (word, sym (row_is words name rows f (codes "as") (listing_of name f.os f.known)) ∙ named, none),
+)
+
 -- what an option names that is none is a fault of the words
 pub option_fault : (words : List Text) (name : Text) (rows : List Row) (fault : LineFault) → Found words name rows → IsFaultIn (λ id. first_of id rows) fault
     → (fault ≡ Memory) ⊎ IsFaultOf words fault
@@ -246,6 +380,9 @@ option_fault words name rows (Words error) f h = absurd h
 option_fault words name rows Form f h = inr (form_fault words name rows f h)
 option_fault words name rows Reading f h = inr (reading_fault words name rows f h.0 h.1)
 option_fault words name rows Block f h = inr (block_fault words name rows f h.0 h.1 h.2)
+option_fault words name rows Piece f h = inr (piece_fault words name rows f h.0 h.1 h.2 h.3)
+option_fault words name rows Listing f h = inr (listing_fault words name rows f h.0 h.1)
+option_fault words name rows Pieces f h = inr (pieces_fault words name rows f h.0 h.1)
 option_fault words name rows NotText f h = absurd h
 option_fault words name rows Memory f h = absurd h
 

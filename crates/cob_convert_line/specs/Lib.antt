@@ -1,3 +1,4 @@
+pub mod Numbers
 pub mod Program
 pub mod Options
 pub mod Lines

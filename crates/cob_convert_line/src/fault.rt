@@ -23,6 +23,15 @@ pub enum LineFault {
     /// A greatest size of blocks that is no number of one to five digits from 8 to 32,760.
     #[error("bad block")]
     Block,
+    /// An offset, a length or a number of a record that is none.
+    #[error("bad piece")]
+    Piece,
+    /// A number of pieces that is none, or 0.
+    #[error("bad pieces")]
+    Pieces,
+    /// A listing of values that is none of text, json and csv.
+    #[error("bad listing")]
+    Listing,
     /// A word is no text in UTF-8, so that no option can take it.
     #[error("a word is not text in UTF-8")]
     NotText,
@@ -60,6 +69,9 @@ impl LineFault {
             LineFault::Form
             | LineFault::Reading
             | LineFault::Block
+            | LineFault::Piece
+            | LineFault::Pieces
+            | LineFault::Listing
             | LineFault::NotText
             | LineFault::Memory => false,
         }

@@ -14,6 +14,21 @@ pub enum Line<'a> {
     Layout(LayoutLine<'a>),
     /// Lists the values of a file of records.
     Show(ShowLine<'a>),
+    /// Lists the pieces that a file of records may be cut in.
+    Pieces(PiecesLine<'a>),
+    /// Says whether a second paragraph brings back all that a first one takes.
+    Lossless(LosslessLine<'a>),
+}
+
+/// How the values of records are listed.
+#[derive(Clone, Copy, Debug, PartialEq, Eq)]
+pub enum Listing {
+    /// A line for each value, with its name and its offset.
+    Text,
+    /// A line for each record, which is a JSON object.
+    Json,
+    /// A line for each record, of values that commas part, behind a line of their names.
+    Csv,
 }
 
 /// The options of `convert`.
@@ -43,6 +58,12 @@ pub struct ConvertLine<'a> {
     pub atomic: bool,
     /// Whether it tells on standard error how far it is.
     pub progress: bool,
+    /// How many bytes of the input stand before those that are converted.
+    pub from: u64,
+    /// How many bytes of the input are converted, where they are not all that are left.
+    pub bytes: Option<u64>,
+    /// The number from which records are counted: that of the first one that is converted.
+    pub first: u64,
 }
 
 /// The options of `check`.
@@ -72,6 +93,34 @@ pub struct ShowLine<'a> {
     pub input: &'a str,
     /// How the records stand.
     pub form: Form,
+    /// How their values are listed.
+    pub listing: Listing,
     /// Whether it tells on standard error how far it is.
     pub progress: bool,
+}
+
+/// The options of `pieces`.
+#[derive(Clone, Copy, Debug, PartialEq, Eq)]
+pub struct PiecesLine<'a> {
+    /// The file with the copybook of the records.
+    pub book: &'a str,
+    /// The file that the records stand in.
+    pub input: &'a str,
+    /// How the records stand.
+    pub form: Form,
+    /// How many pieces there may be, one at least.
+    pub pieces: u64,
+}
+
+/// The options of `lossless`.
+#[derive(Clone, Copy, Debug, PartialEq, Eq)]
+pub struct LosslessLine<'a> {
+    /// The file with the copybook of the records that are converted.
+    pub in_book: &'a str,
+    /// The file with the copybook of what they become.
+    pub out_book: &'a str,
+    /// The file with the paragraph that converts them.
+    pub there: &'a str,
+    /// The file with the paragraph that converts them back.
+    pub back: &'a str,
 }

@@ -1,6 +1,6 @@
 ghost use Rattle.std.specs.Prelude.{◌≡◌, IfOk, codes, false};
 ghost use Rattle.clap.specs.Words.{app_of, new_app, rule_of};
-ghost use Rattle.cob_convert_line.specs.Program.{alone_rule, block_rule, check_app, convert_app, form_rule, layout_app, program_app, reading_rule, required_rule, show_app, with_texts_app};
+ghost use Rattle.cob_convert_line.specs.Program.{alone_rule, bare_app, block_rule, check_app, convert_app, form_rule, layout_app, listing_rule, lossless_app, number_rule, pieces_app, program_app, reading_rule, required_rule, show_app, with_texts_app};
 
 use clap::{Arg, ArgAction, Command};
 use std::alloc::{AllocError, Global};
@@ -8,9 +8,17 @@ use std::alloc::{AllocError, Global};
 /// What `--version` prints after the program's name: its version, and the toolchain that proved and built it.
 const VERSION: &str = "1.0.0\nrattle-kit-13f logic dac8208d650f15bf";
 
+// Which dataset has which form, as a binary transfer leaves it.
+const FORM_HELP: &str =
+    "How the records stand after a transfer:\nf: RECFM F or FB, records of a fixed length\nv: V or VB with its RDWs, a descriptor word a record\nb: VB with its BDWs too, such records in blocks\nV or VB without its RDWs is lost";
+
 // What `--binary` names.
 const BINARY_HELP: &str =
     "How binary senders are read: pictured, as far as the\ndigits of their picture hold them, or whole, as the\nnumber of all their bytes";
+
+// What `--as` names.
+const LISTING_HELP: &str =
+    "How values are listed: text, a line for each;\njson or csv, a line for each record";
 
 // What `--atomic` and `--progress` do.
 const ATOMIC_HELP: &str = "Write OUT.part first, and rename it when all is done";
@@ -66,6 +74,25 @@ In a paragraph:
 The statuses: 0 done, 1 a record stopped the run, 2 the command line or the job
 is malformed, 3 a text is refused, 4 a device failed, 5 memory was refused";
 
+// What a line of `pieces` holds.
+const PIECES_NOTES: &str =
+    "A line for each piece: its offset, its bytes, the number of its first record.
+Pieces are whole records, in form b whole blocks, of nearly equal size.
+
+Example: cobconv pieces --book old.cpy --in old.dat --form v --pieces 8";
+
+// How the words of `lossless` stand, in two lines.
+const LOSSLESS_USAGE: &str = "cobconv lossless --in-book <FILE> --out-book <FILE>
+                        --there <FILE> --back <FILE>";
+
+const LOSSLESS_NOTES: &str = "Example:
+  cobconv lossless --in-book old.cpy --out-book new.cpy --there there.cbl \\
+    --back back.cbl
+
+yes  each named item comes back with its value, in every record that the
+     paragraph of --there converts
+no   that is not shown: something may be lost";
+
 // An option that has to be there, with a value.
 fn required<'a>(alloc: Global, name: &'a str, value: &'a str, help: &'a str) -> Arg<'a>
     ensures rule { rule_of result ≡ required_rule name.entry.now }
@@ -111,6 +138,36 @@ fn reading<'a>(alloc: Global, name: &'a str, help: &'a str) -> Arg<'a>
         .long(name)
         .value_name("READING")
         .default_value("pictured")
+        .help(help)
+}
+
+// The option that names a listing of values.
+fn listing<'a>(alloc: Global, name: &'a str, help: &'a str) -> Arg<'a>
+    ensures rule { rule_of result ≡ listing_rule name.entry.now }
+    ensures local { result.global ≡ false }
+{
+    Arg::new(alloc, name)
+        .long(name)
+        .value_name("LISTING")
+        .default_value("text")
+        .help(help)
+}
+
+// An option for a number, in whose place a word stands where the option is not there.
+fn number<'a>(
+    alloc: Global,
+    name: &'a str,
+    value: &'a str,
+    default: &'a str,
+    help: &'a str,
+) -> Arg<'a>
+    ensures rule { rule_of result ≡ number_rule name.entry.now default.entry.now }
+    ensures local { result.global ≡ false }
+{
+    Arg::new(alloc, name)
+        .long(name)
+        .value_name(value)
+        .default_value(default)
         .help(help)
 }
 
@@ -160,17 +217,22 @@ fn convert<'a>(alloc: Global) -> Result<Command<'a>, AllocError>
             "FILE",
             "Where the converted records go; - is standard output",
         ))?
-        .arg(form(
-            alloc,
-            "in-form",
-            "How the input's records stand: f of fixed length,\nv with a descriptor word before each, b like v in\nblocks",
-        ))?
+        .arg(form(alloc, "in-form", FORM_HELP))?
         .arg(form(alloc, "out-form", "How the output's records stand: f, v, b"))?
         .arg(block(alloc, "in-block", "Greatest size of the input's blocks"))?
         .arg(block(alloc, "out-block", "Greatest size of the output's blocks"))?
         .arg(reading(alloc, "binary", BINARY_HELP))?
         .arg(alone(alloc, "atomic", ATOMIC_HELP))?
-        .arg(alone(alloc, "progress", PROGRESS_HELP))
+        .arg(alone(alloc, "progress", PROGRESS_HELP))?
+        .arg(number(alloc, "from", "OFFSET", "0", "Where in the input to begin"))?
+        .arg(number(
+            alloc,
+            "bytes",
+            "LENGTH",
+            "all",
+            "How many bytes of the input to convert",
+        ))?
+        .arg(number(alloc, "record", "R", "1", "The number of the first record"))
 }
 
 fn check<'a>(alloc: Global) -> Result<Command<'a>, AllocError>
@@ -199,12 +261,53 @@ fn show<'a>(alloc: Global) -> Result<Command<'a>, AllocError>
         .after_help("Example: cobconv show --book old.cpy --in old.dat --form v")
         .arg(required(alloc, "book", "FILE", "The copybook of the records"))?
         .arg(required(alloc, "in", "FILE", "The records; - is standard input"))?
+        .arg(form(alloc, "form", FORM_HELP))?
+        .arg(listing(alloc, "as", LISTING_HELP))?
+        .arg(alone(alloc, "progress", PROGRESS_HELP))
+}
+
+fn pieces<'a>(alloc: Global) -> Result<Command<'a>, AllocError>
+    ensures { IfOk result (λ made. app_of made ≡ pieces_app) }
+{
+    Command::new(alloc, "pieces")
+        .about("Print where the pieces of a file of records begin")
+        .after_help(PIECES_NOTES)
+        .arg(required(alloc, "book", "FILE", "The copybook of the records"))?
+        .arg(required(alloc, "in", "FILE", "The records"))?
         .arg(form(
             alloc,
             "form",
             "How the records stand: f of fixed length,\nv with a descriptor word before each, b like v in\nblocks",
         ))?
-        .arg(alone(alloc, "progress", PROGRESS_HELP))
+        .arg(required(alloc, "pieces", "N", "How many pieces there may be"))
+}
+
+fn lossless<'a>(alloc: Global) -> Result<Command<'a>, AllocError>
+    ensures { IfOk result (λ made. app_of made ≡ lossless_app) }
+{
+    Command::new(alloc, "lossless")
+        .about("Print whether one paragraph brings back all that another one moves")
+        .override_usage(LOSSLESS_USAGE)
+        .after_help(LOSSLESS_NOTES)
+        .arg(required(
+            alloc,
+            "in-book",
+            "FILE",
+            "The copybook of the records to convert",
+        ))?
+        .arg(required(
+            alloc,
+            "out-book",
+            "FILE",
+            "The copybook of what they become",
+        ))?
+        .arg(required(alloc, "there", "FILE", "The paragraph that converts them"))?
+        .arg(required(
+            alloc,
+            "back",
+            "FILE",
+            "The paragraph that converts what they become back",
+        ))
 }
 
 // The program's name, and what its help says beside its commands.
@@ -219,18 +322,29 @@ fn titled<'a>(alloc: Global) -> Command<'a>
         .after_help(PROGRAM_NOTES)
 }
 
+// The program without its commands: one has to be named, and the words that it parses are those after its name.
+fn bare<'a>(alloc: Global) -> Result<Command<'a>, AllocError>
+    ensures { IfOk result (λ made. app_of made ≡ bare_app) }
+{
+    Ok(
+        titled(alloc)
+            .bin_name("cobconv")?
+            .version(VERSION)
+            .no_binary_name(true)
+            .subcommand_required(true)
+            .disable_help_subcommand(true),
+    )
+}
+
 /// The program and its commands, as `clap` takes them; the words it parses are those after the program's name.
 pub fn program<'a>(alloc: Global) -> Result<Command<'a>, AllocError>
     ensures { IfOk result (λ made. app_of made ≡ program_app) }
 {
-    titled(alloc)
-        .bin_name("cobconv")?
-        .version(VERSION)
-        .no_binary_name(true)
-        .subcommand_required(true)
-        .disable_help_subcommand(true)
+    bare(alloc)?
         .subcommand(convert(alloc)?)?
         .subcommand(check(alloc)?)?
         .subcommand(layout(alloc)?)?
-        .subcommand(show(alloc)?)
+        .subcommand(show(alloc)?)?
+        .subcommand(pieces(alloc)?)?
+        .subcommand(lossless(alloc)?)
 }

@@ -11,7 +11,8 @@ pub record IsDecided (conversion : Conversion) : Type 0 where
   pub sized_or_misfit : (input : List ℕ) (why : MeasureFault)
       → IsSized conversion.in_form conversion.records.input input → IsMeasureFault conversion.in_form conversion.records.input input why → ⊥
   pub one_misfit : (input : List ℕ) (a b : MeasureFault)
-      → IsMeasureFault conversion.in_form conversion.records.input input a → IsMeasureFault conversion.in_form conversion.records.input input b → a ≡ b
+      → IsMeasureFault conversion.in_form conversion.records.input input a → IsMeasureFault conversion.in_form conversion.records.input input b
+      → a ≡ b
   pub one_output : (input a b : List ℕ) → Becomes conversion input a → Becomes conversion input b → a ≡ b
   pub one_stop : (input : List ℕ) (a b : Stop) → StopsAt conversion input a → StopsAt conversion input b → a ≡ b
   pub not_both : (input written : List ℕ) (stop : Stop) → Becomes conversion input written → StopsAt conversion input stop → ⊥

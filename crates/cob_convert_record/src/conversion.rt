@@ -12,7 +12,7 @@ use cob_codec::Reading;
 use cob_move_apply::{Book, Counts, Layout, Moves, Side, Stop, StopCause};
 use cob_move_initial::initial;
 use cob_records::{Form, Source};
-use cob_stream::{Reason, read_record, written_length};
+use cob_stream::{Reason, judge, next_whole, read_record, written_length};
 use std::alloc::{AllocError, Global};
 use std::marker::Model;
 
@@ -42,9 +42,19 @@ impl Model for Conversion {
 
     ghost coded = { Prim.hlevel (codes, coded_forest) };
 
-    ghost view = { λ c. record { in_form = c.in_form; out_form = c.out_form; records = record { input = c.input; output = c.output }; moves = moves_of (record { input = c.input; output = c.output }) c.moves } };
+    ghost view = { λ c. record {
+      in_form = c.in_form;
+      out_form = c.out_form;
+      records = record { input = c.input; output = c.output };
+      moves = moves_of (record { input = c.input; output = c.output }) c.moves;
+    } };
 
-    ghost invariant = { λ c. ArePrepared (record { input = c.input; output = c.output }) c.moves × IsInitial c.output c.image.items × (length c.image.items ≡ greatest_length c.output) × HasBlockSize c.in_form × HasBlockSize c.out_form };
+    ghost invariant = { λ c.
+        ArePrepared (record { input = c.input; output = c.output }) c.moves
+        × IsInitial c.output c.image.items
+        × (length c.image.items ≡ greatest_length c.output)
+        × HasBlockSize c.in_form
+        × HasBlockSize c.out_form };
 }
 
 /// How many bytes of the output record's storage are written.
@@ -83,11 +93,13 @@ impl Conversion {
     ghost use Rattle.cob_move_apply.specs.Prepared.{ArePrepared, most_moves_told, moves_of, single_moves};
     ghost use Rattle.cob_layout.specs.Storage.{IsStorage};
     ghost use Rattle.cob_move_initial.specs.Initial.{IsInitial};
-    ghost use Rattle.cob_convert_record.specs.Conversion.{conversion_by, in_length, out_length};
+    ghost use Rattle.cob_convert_record.specs.Conversion.{HasImage, conversion_by, conversion_for, in_length, out_length};
+    ghost use Rattle.cob_layout_places.specs.Moves.{AreMoves};
     ghost use Rattle.cob_records.specs.Device.{Told, counted};
     ghost use Rattle.cob_stream.specs.Input.{IsInputReason, IsJudged, ReadsRecord};
     ghost use Rattle.cob_stream.specs.Reasons.{is_read_cause, is_refused_for, is_write_cause};
     ghost use Rattle.cob_stream.specs.Sizes.{IsSized, IsMeasureFault};
+    ghost use Rattle.cob_stream.specs.Whole.{IsMisfitReason, IsWholeRecord, ReadsWhole};
     ghost use Rattle.cob_convert_record.specs.Becoming.{Becomes, StopsAt};
     ghost use Rattle.cob_convert_record.specs.Rooms.{capacity_for};
 
@@ -109,12 +121,8 @@ impl Conversion {
         requires out_block { HasBlockSize out_form }
         requires moves { ArePrepared (record { input = input; output = output }) moves }
         requires book { out_book.now ≡ output }
-        ensures { IfOk result (λ made. made ≡ record {
-          in_form = in_form;
-          out_form = out_form;
-          records = record { input = input; output = output };
-          moves = moves_of (record { input = input; output = output }) moves;
-        }) }
+        ensures { IfOk result (λ made. made ≡ conversion_for in_form out_form
+            (record { input = input; output = output }) moves) }
     {
         let mut image = vec![in alloc; 0u8; usize::from(output.greatest())]?;
         initial(&output, out_book, image.as_mut_slice());
@@ -163,6 +171,15 @@ impl Conversion {
         ensures { self.now.records ≡ record { input = result.0.now; output = result.1.now } }
     {
         (&self.input, &self.output)
+    }
+
+    /// The moves, which are moves between its records. Its output record has a storage before the first of them.
+    pub fn moves(&self) -> &Moves
+        ensures value { moves_of self.now.records result.now ≡ self.now.moves }
+        ensures between { AreMoves self.now.records self.now.moves }
+        ensures image { HasImage self.now.records.output }
+    {
+        &self.moves
     }
 
     /// How many bytes an input record has at most.
@@ -224,6 +241,47 @@ impl Conversion {
     {
         let counts = &mut room.in_counts;
         read_record(source, &self.input, self.in_form, slot, left, counts)
+    }
+
+    /// Reads the next input record into the front of the slice as it came, whole in its frame, and answers how many bytes it has, or `None` where no
+    /// byte is left. Whether it is one of the input layout is for [`Conversion::judge`] to say. `left` is what the open block still holds: 0 before
+    /// the first record, and always without blocks. It asks for no memory.
+    ///
+    /// # Errors
+    ///
+    /// The fault of a frame that can't be read.
+    pub fn next_whole<R: Source>(
+        &self,
+        source: &mut R,
+        slot: &mut [u8],
+        left: &mut u16,
+    ) -> Result<Option<usize>, Reason>
+        requires slot { length slot.old ≡ in_length self.now }
+        ensures reads { Told (R.coming source.old) (R.coming source.new)
+            (ReadsWhole self.now.in_form self.now.records.input left.old slot.new result left.new) }
+        ensures whole { IfOk result (λ found. IfSome found
+            (IsWholeRecord self.now.in_form self.now.records.input slot.new)) }
+        ensures kind { IfErr result (λ why. is_write_cause why.cause ≡ false) }
+        ensures cause { R.failures source.new
+            ≡ counted (is_refused_for is_read_cause result) (R.failures source.old) }
+    {
+        next_whole(source, &self.input, self.in_form, slot, left)
+    }
+
+    /// Judges an input record that came whole by the input layout, as [`Conversion::next_input`] does.
+    ///
+    /// # Errors
+    ///
+    /// In forms v and b a count of the record that isn't valid, or a length other than that which its counts give.
+    pub fn judge(&self, input: &[u8], room: &mut Room) -> Result<(), Reason>
+        requires record { IsRecord self.now.in_form (in_length self.now) input.now }
+        requires room { room.old ≡ capacity_for self.now.records }
+        ensures sized { OnOk result (IsSized self.now.in_form self.now.records.input input.now) }
+        ensures misfit { IfErr result
+            (IsMisfitReason self.now.in_form self.now.records.input input.now) }
+        ensures room { room.new ≡ room.old }
+    {
+        judge(&self.input, self.in_form, input, &mut room.in_counts)
     }
 
     /// Begins an output record: its storage holds its initial values, and nothing of a record before.

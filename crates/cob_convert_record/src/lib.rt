@@ -4,9 +4,12 @@
 //! A [`Conversion`] has the forms in which records come and go, the layouts of both records, the moves between them and the storage that each
 //! output record begins from. What is promised:
 //!
-//! - [`Conversion::new`] keeps what it is given (its clause).
+//! - [`Conversion::new`] keeps what it is given (its clause), and [`Conversion::moves`] are moves between its records (`between`), of which the
+//!   output record has a storage before the first move (`image`).
 //! - [`Conversion::next_input`] reads the next record that comes in and judges it by the input layout (`reads`, `judged`, `reason`, `cause`), as
 //!   `cob_stream` says it, in the form in which records come.
+//! - [`Conversion::next_whole`] reads the next record as it came, and [`Conversion::judge`] judges one that was read so, for who sets aside what
+//!   isn't one of the layout (`reads`, `whole`, `sized`, `misfit`).
 //! - [`Conversion::convert`] makes the output record: its storage goes from the initial values through all moves, and then every count of the
 //!   output is valid; what is written is the whole storage in form f, and its current part in forms v and b (`converts`, by `Becomes` of
 //!   specs/Becoming.antt). Nothing of an earlier record is left in it. It stops at the first move that stops, or behind all moves at the first
@@ -23,7 +26,7 @@ mod conversion;
 mod laws;
 mod room;
 
-pub use cob_move_apply::{Book, Layout, Side, Stop, StopCause};
+pub use cob_move_apply::{Book, Layout, Moves, Side, Stop, StopCause};
 pub use cob_stream::{Cause, MeasureFault, Reason};
 pub use conversion::Conversion;
 pub use laws::conversions_are_decided;

@@ -38,7 +38,7 @@ fn push_further(line: &mut Line, subscripts: &[u32])
 }
 
 /// Adds subscripts in brackets, parted by commas, where there are some.
-fn push_subscripts(line: &mut Line, subscripts: &[u32])
+pub fn push_subscripts(line: &mut Line, subscripts: &[u32])
     requires many { length subscripts.now ≤ most_dimensions }
     requires room { length line.old.items ≤ longest_name }
     ensures text { line.new.items ≡ line.old.items ++ subscripts_text subscripts.now }

@@ -7,6 +7,9 @@
 //! - [`show`] reads records and writes for each named elementary item, and for each of its occurrences, a line with its name,
 //!   offset and value. It asks for memory before the first record alone; that it asks for none later is shown by tests.
 //!
+//! What reads and judges a record, and what prints names, numbers and bytes, is called by other listings of the same values too: [`read_record`],
+//! [`items_of`], [`push_subscripts`], [`number_text`], [`shown_byte`] and [`digits_of`], with [`put`] and what names a stop.
+//!
 //! What is promised of [`show`]:
 //!
 //! - the records that it lists are the frames that came whole and are legible up to the first that stops it, the sink took just the
@@ -45,5 +48,9 @@ mod text;
 mod values;
 
 pub use cob_layout::{Book, BookRule, Layout, Role};
+pub use elements::push_subscripts;
 pub use entries::layout_text;
-pub use records::{ShowFault, show};
+pub use named::Named;
+pub use records::{LIMIT, ShowFault, items_of, limit_reason, read_record, show, stop_at};
+pub use text::{Line, push_text, put};
+pub use values::{digits_of, number_text, shown_byte};

@@ -11,13 +11,13 @@ use std::alloc::{AllocError, Global};
 
 /// A named elementary item.
 #[derive(Debug, Drop)]
-pub(crate) struct Named {
+pub struct Named {
     /// The number of its entry.
-    pub(crate) number: usize,
-    pub(crate) name: Name,
-    pub(crate) item: Item,
+    pub number: usize,
+    pub name: Name,
+    pub item: Item,
     /// The tables that hold it or that it is.
-    pub(crate) tables: Tables,
+    pub tables: Tables,
 }
 
 /// Adds an entry where it is a named elementary item; it stands in these tables.

@@ -45,7 +45,7 @@ impl From<AllocError> for ShowFault {
 }
 
 /// How many records are shown at most.
-const LIMIT: u64 = u64::MAX - 1;
+pub const LIMIT: u64 = u64::MAX - 1;
 
 /// What the records are that are shown.
 #[derive(Clone, Copy)]
@@ -100,7 +100,7 @@ fn fits_counts(layout: &Layout, form: Form, places: &Places, count: usize) -> bo
 
 /// Reads the next record and its places, and says how many bytes it has, where there was one. It is as long as its counts say, and in form f
 /// as at most. `left` is what the open block still holds.
-fn read_record<R: Source>(
+pub fn read_record<R: Source>(
     layout: &Layout,
     form: Form,
     source: &mut R,
@@ -180,7 +180,7 @@ fn put_lines<W: Sink>(
 }
 
 /// The reason of records that are more than are shown.
-fn limit_reason() -> Reason
+pub fn limit_reason() -> Reason
     ensures { result ≡ record { side = In; offset = 0; cause = Limit } }
 {
     Reason {
@@ -191,7 +191,7 @@ fn limit_reason() -> Reason
 }
 
 /// The fault of a record that stopped it, for this reason.
-fn stop_at(number: u64, reason: Reason, written: u64) -> ShowFault
+pub fn stop_at(number: u64, reason: Reason, written: u64) -> ShowFault
     ensures { result ≡ Run record {
       number = number;
       side = reason.side;
@@ -257,7 +257,7 @@ fn show_records<R: Source, W: Sink>(
 /// # Errors
 ///
 /// Where no memory is left.
-fn items_of(alloc: Global, book: &Book) -> Result<Vec<Named>, AllocError>
+pub fn items_of(alloc: Global, book: &Book) -> Result<Vec<Named>, AllocError>
     ensures { IfOk result (λ items. map named_item items.items ≡ named_in [] book.now) }
 {
     records_are_sound();

@@ -15,7 +15,7 @@ use itoa::Buffer;
 const ROOM: usize = 256;
 
 /// The text of a line or of a part of one, made up before it is written.
-pub(crate) type Line = ArrayVec<u8, ROOM>;
+pub type Line = ArrayVec<u8, ROOM>;
 
 /// How many bytes of a text of so many went out in a call that answers so.
 fn taken_by(answer: Result<(), RecordFault>, long: usize) -> usize
@@ -28,7 +28,7 @@ fn taken_by(answer: Result<(), RecordFault>, long: usize) -> usize
 }
 
 /// Writes a text, all of it. To what was sent so far it adds how many bytes the sink took, up to the greatest number.
-pub(crate) fn put<W: Sink>(sink: &mut W, sent: &mut u64, text: &[u8]) -> Result<(), RecordFault>
+pub fn put<W: Sink>(sink: &mut W, sent: &mut u64, text: &[u8]) -> Result<(), RecordFault>
     requires some { 0 < length text.now }
     requires most { length text.now ≤ longest_record }
     // The sink took the text, or where it failed a beginning that is less than the whole.
@@ -45,7 +45,7 @@ pub(crate) fn put<W: Sink>(sink: &mut W, sent: &mut u64, text: &[u8]) -> Result<
 }
 
 /// Adds a text.
-pub(crate) fn push_text(line: &mut Line, text: &[u8])
+pub fn push_text(line: &mut Line, text: &[u8])
     requires { length line.old.items + length text.now ≤ 256 }
     ensures text { line.new.items ≡ line.old.items ++ text.now }
 {

@@ -58,7 +58,7 @@ fn plain_character(byte: u8) -> Option<u8>
 
 /// How a byte is shown among characters: as its character, or where it has none, or is a quotation mark or a backslash, as `\x`
 /// and its two hexadecimal digits.
-fn shown_byte(byte: u8) -> ArrayVec<u8, 4>
+pub fn shown_byte(byte: u8) -> ArrayVec<u8, 4>
     ensures plain { (character : ℕ) → IsCoded character byte → is_escaped byte ≡ false
         → result.items ≡ character ∷ [] }
     ensures mark { is_escaped byte ≡ true → result.items ≡ escaped byte }
@@ -81,7 +81,7 @@ fn shown_byte(byte: u8) -> ArrayVec<u8, 4>
 }
 
 /// The text of the number that the bytes of an item represent, where they represent one.
-fn number_text(item: &Item, bytes: &[u8]) -> Option<ArrayVec<u8, 64>>
+pub fn number_text(item: &Item, bytes: &[u8]) -> Option<ArrayVec<u8, 64>>
     requires number { IsNumberItem item.now }
     requires long { length bytes.now ≡ item_size item.now }
     ensures found { IfSome result (λ text. IsNumberShown item.now bytes.now text.items) }
@@ -104,7 +104,7 @@ pub(crate) enum Notation {
 }
 
 /// The hexadecimal digits of a byte.
-fn digits_of(byte: u8) -> ArrayVec<u8, 4>
+pub fn digits_of(byte: u8) -> ArrayVec<u8, 4>
     ensures digits { result.items ≡ byte_text byte }
     ensures long { length result.items ≤ 4 }
 {

@@ -4,6 +4,8 @@
 #![tactic(auto)]
 
 #[cfg(test)]
+mod aside;
+#[cfg(test)]
 mod blocks;
 #[cfg(test)]
 mod jobs;

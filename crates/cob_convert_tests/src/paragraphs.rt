@@ -1,6 +1,8 @@
 //! What is read of paragraphs: the longest text, and memory that is refused.
 
-use cob_convert::{Book, Layout, MoveFault, MoveRule, Paragraph, Role};
+use cob_copybook::{Book, Role};
+use cob_layout::Layout;
+use cob_move::{MoveFault, MoveRule, Paragraph};
 use cob_rows::lines_of;
 use cob_source::SourceRule;
 use std::alloc::Global;

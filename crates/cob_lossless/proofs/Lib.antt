@@ -1,3 +1,4 @@
 pub mod KeepLaw
 pub mod ComeLemmas
 pub mod RunLaw
+pub mod AnswerLemmas

@@ -1,23 +1,16 @@
 -- What conversions keep that lose nothing.
-use Rattle.std.specs.Prelude.{◌≡◌, ℕ, List, [], length, Ok}
+use Rattle.std.specs.Prelude.{◌≡◌, ℕ, List, [], Ok}
 use Rattle.std.specs.List.{AllByRecursion}
 use Rattle.cob_records.specs.Forms.{Come, FitsForm, written_of}
-use Rattle.cob_copybook_tree.specs.Forests.{Forest}
-use Rattle.cob_copybook_tree.specs.Nodes.{Resolved}
 use Rattle.cob_copybook.specs.Books.{IsRecordDescription}
-use Rattle.cob_layout.specs.Storage.{greatest_length}
 use Rattle.cob_layout_places.specs.Moves.{AreMoves}
-use Rattle.cob_move_initial.specs.Initial.{IsInitial}
 use Rattle.cob_stream.specs.Input.{records_in}
+pub use Rattle.cob_convert_record.specs.Conversion.{HasImage}
 use Rattle.cob_convert_record.specs.Conversion.{Conversion, out_length}
 use Rattle.cob_convert.specs.Converted.{Converted}
 use Rattle.cob_convert.specs.Run.{records_out}
 use Rattle.cob_move_returns.specs.Returns.{HoldsAgain}
 use Rattle.cob_lossless.specs.Keeps.{AreLossless, Keeps}
-
--- the record has a storage before the first move, of the greatest length
-abbrev pub HasImage : Forest Resolved → Type 0
-HasImage tree = (image : List ℕ) × IsInitial tree image × (length image ≡ greatest_length tree)
 
 -- what holds of each conversion: its records are record descriptions, its output has a storage before the first move, and its moves are moves between them
 pub record IsPrepared (conversion : Conversion) : Type 0 where

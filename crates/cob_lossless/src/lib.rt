@@ -1,7 +1,10 @@
 //! Conversions there and back: what a conversion takes of each record, another one may bring back.
 //!
-//! What is promised, as laws about the definitions of conversions:
+//! What is promised:
 //!
+//! - [`lossless`] answers of two converters whether they lose nothing (`exactly`, by `AreLossless` of specs/Keeps.antt); where it says yes, the second one
+//!   keeps what the first one converts (`keeps`, by `Keeps`). [`first_loss`] answers the first point in which they may lose something, none exactly where
+//!   they lose nothing; [`carried`] are the moves of a conversion, between the layouts of its records.
 //! - Conversions that lose nothing keep what the first one converts ([`lossless_keep`]). They lose nothing (`AreLossless` of specs/Keeps.antt) where their
 //!   records agree crosswise, but for the names of the records, stand in one way, without redefinitions and tables that vary, and the moves of the one
 //!   bring back what those of the other take (`IsLossless` of cob_move_returns). They keep it (`Keeps`) where each input record that the first one
@@ -10,14 +13,17 @@
 //! - Where a run of the first one ends clean, a run of the second over what was written, in the form in which it was written, ends clean, with as many
 //!   records, and what it writes holds again, record by record, what the first run read ([`lossless_runs`]; `ComeAllBack` of specs/Laws.antt).
 //!
-//! What holds of every conversion that `prepare` makes is a premise here (`IsPrepared`): its records are record descriptions, its output has a storage
-//! before the first move, and its moves are moves between its records.
+//! What holds of every conversion is a premise of the laws (`IsPrepared`): its records are record descriptions, its output has a storage before the first
+//! move, and its moves are moves between its records.
 //!
-//! It stands on cob_move_returns for moves there and back, on cob_convert for whole runs, on cob_convert_record for what becomes of one record, on
+//! It stands on cob_move_lossless and cob_move_returns for moves there and back, on cob_convert for whole runs, on cob_convert_record for what becomes of one record, on
 //! cob_stream and cob_records for records in their frames, on cob_move_initial for the storage before the first move, and on cob_copybook, cob_layout and
 //! the crates below them for records.
 #![tactic(auto)]
 
+mod converters;
 mod laws;
 
+pub use cob_move_lossless::{Loss, MovesBetween, Way};
+pub use converters::{carried, first_loss, lossless};
 pub use laws::{lossless_keep, lossless_runs};

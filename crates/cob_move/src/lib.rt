@@ -45,11 +45,13 @@ mod paragraph;
 mod senders;
 mod single;
 
-pub use cob_move_apply::{
-    Book, BookFault, BookRule, CountFault, Counts, Figurative, Layout, Node, Place, PlaceFault,
-    Reading, Ref, Role, Scratch, Stop, StopCause, Text, Value, field, field_mut, tables, times_of,
-};
-pub use cob_move_initial::{initial, one_initial, write_group};
+pub use cob_codec::Reading;
+pub use cob_copybook::Book;
+pub use cob_copybook_tree::Node;
+pub use cob_layout::Layout;
+pub use cob_layout_places::{Side, StatementMoves};
+pub use cob_move_apply::{Moves, Scratch, Stop, StopCause};
+pub use cob_move_initial::{initial, one_initial};
 pub use cob_move_pairs::pairs;
 pub use cob_move_statements::{MoveFault, MoveRule};
 pub use laws::{one_paragraph, paragraph_breaks_no_rule};

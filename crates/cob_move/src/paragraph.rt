@@ -15,7 +15,10 @@ ghost use Rattle.cob_move.specs.Paragraphs.{IsParagraphOf, IsReadyFor, IsRefusal
 use crate::laws::{one_paragraph, paragraph_breaks_no_rule};
 use crate::meaning::all_meant;
 use crate::meaning_laws::meant_are_moves;
-use cob_move_apply::{Layout, Moves, Reading, Scratch, StatementMoves, Stop};
+use cob_codec::Reading;
+use cob_layout::Layout;
+use cob_layout_places::StatementMoves;
+use cob_move_apply::{Moves, Scratch, Stop};
 use cob_move_statements::{MoveFault, statements};
 use cob_source::paragraph_tokens;
 use std::alloc::Global;

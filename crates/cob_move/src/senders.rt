@@ -14,7 +14,10 @@ ghost use Rattle.cob_move_references.specs.Directory.{entries_named};
 ghost use Rattle.cob_move_statements.specs.Written.{SentConstant, SentReference, written_reference, written_sender};
 
 use crate::entries::Entries;
-use cob_move_apply::{BookRule, Sender, Value, ValueClause, value_of};
+use cob_copybook_clauses::ValueClause;
+use cob_copybook_entries::value_of;
+use cob_entry::{BookRule, Value};
+use cob_layout_places::Sender;
 use cob_move_statements::{MoveRule, Reference, StatementSender};
 
 /// What the constant of a sender means.

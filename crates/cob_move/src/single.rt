@@ -33,7 +33,8 @@ ghost use Rattle.cob_move_statements.specs.Written.{
 
 use crate::entries::Entries;
 use crate::senders::sender_of;
-use cob_move_apply::{Kind, Move, Ref, Sender, Side};
+use cob_copybook_tree::Kind;
+use cob_layout_places::{Move, Ref, Sender, Side};
 use cob_move_initial::{Refusal, SenderKind, refusal_of};
 use cob_move_statements::{MoveRule, Reference, StatementSender};
 use std::alloc::Global;

@@ -3,10 +3,10 @@
 //!
 //! [`Moves`] are the moves of a paragraph between two records, ready to be carried out. What is promised:
 //!
-//! - [`Moves::new`]: they are the moves that were given, in their order (`made`), ready for the two records (`prepared`): a place that no count
-//!   decides is the same in every storage, and is found here, once; [`Moves::with_reading`] are the same moves with their binary senders read otherwise (`read_by`);
-//!   [`Moves::single_moves`] counts them, each receiver for one, and [`Moves::steps`] the steps that they make (`steps_in` of
-//!   specs/Joined.antt).
+//! - [`Moves::new`]: they are the moves that were given, in their order (`made`), ready for the two records (`prepared`), between which they are: a
+//!   place that no count decides is the same in every storage, and is found here, once; [`Moves::with_reading`] are the same moves with their binary
+//!   senders read otherwise (`read_by`). [`Moves::statements`] lends what was given, and [`Moves::reading`] tells how binary senders are read;
+//!   [`Moves::single_moves`] counts them, each receiver for one, and [`Moves::steps`] the steps that they make (`steps_in` of specs/Joined.antt).
 //! - [`Moves::apply`] makes of the output record's storage what `Applied` of specs/Applied.antt says (`applied`), a stop included, which is
 //!   then the answer: the sender's place and bytes are taken once, as its move begins; each receiver's place is found in the storage as it
 //!   then is, just before it is stored; there the bytes become what `Received` of cob_move_receive says, and all others stay. The first thing

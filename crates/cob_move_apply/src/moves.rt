@@ -3,7 +3,7 @@
 ghost use Rattle.std.specs.Prelude.{◌≡◌, length, map, min, IfOk};
 ghost use Rattle.cob_codec.specs.declared.reading.Reading.{Reading as Read};
 ghost use Rattle.cob_layout.specs.Storage.{greatest_length, IsStorage};
-ghost use Rattle.cob_layout_places.specs.Moves.{AreMoves, Records, moves, read_by, statement_moves_by};
+ghost use Rattle.cob_layout_places.specs.Moves.{AreMoves, Records, moves, moves_by, read_by, statement_moves_by};
 ghost use Rattle.cob_move_apply.specs.Applied.{Applied, ending};
 ghost use Rattle.cob_move_apply.specs.Joined.{steps_in};
 ghost use Rattle.cob_move_apply.specs.Told.{most_moves_told, single_moves};
@@ -82,6 +82,20 @@ impl Moves {
             plan: self.plan,
             reading,
         }
+    }
+
+    /// The moves of each statement, in the order of the statements.
+    pub fn statements(&self) -> &[StatementMoves]
+        ensures { (r : Records) → moves_of r self.now ≡ moves_by self.now.reading r result.now }
+    {
+        self.statements.as_slice()
+    }
+
+    /// How their binary senders are read.
+    pub fn reading(&self) -> Reading
+        ensures { result ≡ self.now.reading }
+    {
+        self.reading
     }
 
     /// How many single moves these are: each is a sender with one of its receivers. More than a u32 holds come as the greatest u32.

@@ -36,7 +36,7 @@ written Fixed bodies single = let (a, b) = written_fixed bodies in ap (λ (o : O
 written Variable bodies single = let (a, b) = written_variable bodies in ap (λ (o : Outlet). written_by_all UnblockedVariable bodies ++ pending_in o) b ∙ append-nil (written_by_all UnblockedVariable bodies) ∙ a
 written (Blocked most) bodies single = absurd (cc)
 
-written_blocks : (b : OpenBlock) (bodies : List (List ℕ)) → written_by_all (Blocks b) bodies ++ pending_in (outlet_with_all (Blocks b) bodies) ≡ blocks_from b (map (framed Variable) bodies)
+pub written_blocks : (b : OpenBlock) (bodies : List (List ℕ)) → written_by_all (Blocks b) bodies ++ pending_in (outlet_with_all (Blocks b) bodies) ≡ blocks_from b (map (framed Variable) bodies)
 written_blocks b [] = refl
 written_blocks b (body ∷ bodies) =
     let next = with_frame b (framed Variable body) in

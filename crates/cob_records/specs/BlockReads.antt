@@ -1,8 +1,10 @@
 -- Frames in blocks, as a reader sees them: what stands before the next one, what refuses it, and what a reader says of it.
-use Rattle.std.specs.Prelude.{◌≡◌, ◌⊎◌, ℕ, zero, suc, ◌+◌, ◌<◌, ◌≤◌, Bool, true, false, ◌==◌, nat_lt, ◌||◌, not, List, [], ◌++◌, length, take, slice_index, None, Some, Option, Ok, Err, Result}
+use Rattle.std.specs.Prelude.{◌≡◌, ◌⊎◌, ℕ, zero, suc, ◌+◌, ◌<◌, ◌≤◌, Bool, true, false, ◌==◌, nat_lt, ◌||◌, not}
+use Rattle.std.specs.Prelude.{List, [], ◌++◌, length, take, slice_index, None, Some, Option, Ok, Err, Result}
 use Rattle.cob_records.specs.declared.records.Form.TheVariants.{Variable}
 use Rattle.cob_records.specs.declared.records.RecordFault.{RecordFault}
-use Rattle.cob_records.specs.declared.records.RecordFault.TheVariants.{Truncated, Descriptor, Spanned, Length, ReadFailed, WriteFailed, TookNothing, BlockDescriptor, PastBlock}
+use Rattle.cob_records.specs.declared.records.RecordFault.TheVariants.{Truncated, Descriptor, Spanned, Length, ReadFailed}
+use Rattle.cob_records.specs.declared.records.RecordFault.TheVariants.{WriteFailed, TookNothing, BlockDescriptor, PastBlock}
 use Rattle.cob_records.specs.Frame.{IsRecord, descriptor, framed, number_in, refusal}
 
 -- No block descriptor word: its third or fourth byte isn't zero, or its number is below 8 or over the greatest length of a block.
@@ -42,7 +44,8 @@ ComesInBlock most left body bytes after rest =
 -- a refused descriptor of a record stands first in the block, and nothing past it was read
 abbrev pub RefusesInBlock : (most greatest left : ℕ) → RecordFault → List ℕ → List ℕ → Type 0
 RefusesInBlock most greatest left fault bytes rest =
-    (room : ℕ) × (lead head : List ℕ) × Leads most left room lead × (4 ≤ room) × (length head ≡ 4) × (refusal greatest head ≡ Some fault) × (bytes ≡ lead ++ (head ++ rest))
+    (room : ℕ) × (lead head : List ℕ) × Leads most left room lead × (4 ≤ room) × (length head ≡ 4) × (refusal greatest head ≡ Some fault)
+    × (bytes ≡ lead ++ (head ++ rest))
 
 -- What the answer to a call that reads the next frame in blocks says, where the open block still holds so many bytes: of the bytes that were to come,
 -- of the record at the front of the caller's slice, of what the block holds behind it, and of what is still to come.
@@ -77,7 +80,8 @@ OpensBlock most (Err _) bytes rest = ⊥
 
 -- a refused descriptor of a record stands first, and nothing past it was read
 abbrev pub RefusesFrame : (greatest room : ℕ) → RecordFault → List ℕ → List ℕ → Type 0
-RefusesFrame greatest room fault bytes rest = (head : List ℕ) × (4 ≤ room) × (length head ≡ 4) × (refusal greatest head ≡ Some fault) × (bytes ≡ head ++ rest)
+RefusesFrame greatest room fault bytes rest =
+    (head : List ℕ) × (4 ≤ room) × (length head ≡ 4) × (refusal greatest head ≡ Some fault) × (bytes ≡ head ++ rest)
 
 -- what the answer to a call that reads the next frame of a block says, which still holds so many bytes
 abbrev pub ReadsFrame : (greatest room : ℕ) → List ℕ → Result ℕ RecordFault → List ℕ → List ℕ → Type 0

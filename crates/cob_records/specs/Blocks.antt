@@ -85,6 +85,7 @@ MayStandInBlock size frame = (0 < length frame) × (4 + length frame ≤ size)
 
 -- What a sink writes of frames are their greedy blocks, and these are the only ones.
 pub record BlocksAreGreedy : Type 0 where
-  pub greedy : (size : ℕ) (frames : List (List ℕ)) → AllByRecursion (MayStandInBlock size) frames → AreBlocksOf size frames (blocks_from (empty size) frames)
+  pub greedy : (size : ℕ) (frames : List (List ℕ)) → AllByRecursion (MayStandInBlock size) frames
+      → AreBlocksOf size frames (blocks_from (empty size) frames)
   pub only : (size : ℕ) (frames : List (List ℕ)) (bytes : List ℕ) → AllByRecursion (MayStandInBlock size) frames → AreBlocksOf size frames bytes
       → bytes ≡ blocks_from (empty size) frames

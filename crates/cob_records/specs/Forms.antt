@@ -112,8 +112,8 @@ written_of form bodies = written_by_all (outlet_of form) bodies ++ pending_in (o
 abbrev pub MayBeBlocked : ℕ → List ℕ → Type 0
 MayBeBlocked size body = (0 < length body) × (8 + length body ≤ size)
 
--- Without blocks, records that come are their frames, one behind another, and so are those that are written; in blocks, what is written of records are
--- the greedy blocks of their frames.
+-- Without blocks, records that come are their frames, one behind another, and so are those that are written; in blocks, what is written of records
+-- are the greedy blocks of their frames.
 pub record FormsAreFrames : Type 0 where
   pub come : (form : Form) (left : ℕ) (bodies : List (List ℕ)) (bytes : List ℕ) (after : ℕ) (rest : List ℕ) → is_unblocked form ≡ true
       → Come form left bodies bytes after rest → (bytes ≡ flat_map (framed form) bodies ++ rest) × (after ≡ left)

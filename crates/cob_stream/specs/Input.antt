@@ -59,4 +59,5 @@ abbrev pub ReadsRecord : Form → Forest Resolved → ℕ → List ℕ → Resul
 ReadsRecord form tree left slice (Ok None) after bytes rest = ReadsInForm form (greatest_length tree) left slice (Ok None) after bytes rest
 ReadsRecord form tree left slice (Ok (Some count)) after bytes rest =
     IsJudged form tree slice count × ComesFirst form left (take count slice) bytes after rest
-ReadsRecord form tree left slice (Err why) after bytes rest = IsUnread form tree left after bytes rest why ⊎ IsUnfit form tree left after bytes rest why
+ReadsRecord form tree left slice (Err why) after bytes rest =
+    IsUnread form tree left after bytes rest why ⊎ IsUnfit form tree left after bytes rest why

@@ -3,3 +3,4 @@ pub mod Sizes
 pub mod Input
 pub mod Output
 pub mod Laws
+pub mod Whole

@@ -13,6 +13,8 @@
 //!   which as much was read as `Reads` of cob_records says; or a whole frame came whose record isn't one of the layout. At any source what is
 //!   answered is a record of the layout that stands in the slice (`judged`), or a frame that can't be read or a misfit of the record that stands
 //!   there (`reason`), and a read failed exactly where that is the reason (`cause`).
+//! - [`next_whole`] reads the next record as it came, before it is measured (`reads`, by `ReadsWhole` of specs/Whole.antt), and [`judge`] measures
+//!   one that was read so (`sized`, `misfit`): who sets a record aside that isn't one of its layout has it whole.
 //! - [`written_length`] says how many bytes of an output storage are written: all of them in form f, its current part in forms v and b, where in
 //!   every form every count is valid (`written`, by `IsOutputOf` of specs/Output.antt); else it names the first that isn't (`faulty`).
 //! - [`write_record`] writes a record in its frame, or in form b gathers it, and first writes the open block where the frame does not fit into it;
@@ -31,6 +33,7 @@ mod fault;
 mod laws;
 mod misfit;
 mod reading;
+mod whole;
 mod writing;
 
 pub use cob_layout::{Counts, Layout};
@@ -39,4 +42,5 @@ pub use fault::{Cause, Reason, RunFault};
 pub use laws::{records_are_judged_once, sized_are_storages};
 pub use misfit::{MeasureFault, is_fitting, measure};
 pub use reading::read_record;
+pub use whole::{judge, next_whole};
 pub use writing::{write_pending, write_record, written_length};

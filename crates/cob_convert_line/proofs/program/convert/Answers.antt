@@ -17,4 +17,7 @@ returns c =
     let six = c.in_ok-arg-6.ensures.shape c.block-2.ensures.local ∙ ap₂ with_rule five c.block-2.ensures.rule in
     let seven = c.in_ok-arg-7.ensures.shape c.reading.ensures.local ∙ ap₂ with_rule six c.reading.ensures.rule in
     let eight = c.in_ok-arg-8.ensures.shape c.alone.ensures.local ∙ ap₂ with_rule seven c.alone.ensures.rule in
-    IfOk-weaker c.arg-9.result _ _ (λ made h. h.shape c.alone-2.ensures.local ∙ ap₂ with_rule eight c.alone-2.ensures.rule) c.arg-9.ensures
+    let nine = c.in_ok-arg-9.ensures.shape c.alone-2.ensures.local ∙ ap₂ with_rule eight c.alone-2.ensures.rule in
+    let ten = c.in_ok-arg-10.ensures.shape c.number.ensures.local ∙ ap₂ with_rule nine c.number.ensures.rule in
+    let eleven = c.in_ok-arg-11.ensures.shape c.number-2.ensures.local ∙ ap₂ with_rule ten c.number-2.ensures.rule in
+    IfOk-weaker c.arg-12.result _ _ (λ made h. h.shape c.number-3.ensures.local ∙ ap₂ with_rule eleven c.number-3.ensures.rule) c.arg-12.ensures

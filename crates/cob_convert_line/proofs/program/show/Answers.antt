@@ -9,4 +9,5 @@ returns c =
     let one = c.in_ok-arg.ensures.shape c.required.ensures.local ∙ ap₂ with_rule start c.required.ensures.rule in
     let two = c.in_ok-arg-2.ensures.shape c.required-2.ensures.local ∙ ap₂ with_rule one c.required-2.ensures.rule in
     let three = c.in_ok-arg-3.ensures.shape c.form.ensures.local ∙ ap₂ with_rule two c.form.ensures.rule in
-    IfOk-weaker c.arg-4.result _ _ (λ made h. h.shape c.alone.ensures.local ∙ ap₂ with_rule three c.alone.ensures.rule) c.arg-4.ensures
+    let four = c.in_ok-arg-4.ensures.shape c.listing.ensures.local ∙ ap₂ with_rule three c.listing.ensures.rule in
+    IfOk-weaker c.arg-5.result _ _ (λ made h. h.shape c.alone.ensures.local ∙ ap₂ with_rule four c.alone.ensures.rule) c.arg-5.ensures

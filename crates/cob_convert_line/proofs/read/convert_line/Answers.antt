@@ -1,7 +1,7 @@
 use Rattle.std.proofs.Common.{codes, inl, inr, refl, sym, ◌∙◌}
 use Rattle.clap.specs.Words.{first_of, found_of, rows_of}
 use Rattle.cob_convert_line.specs.Lines.{Look}
-use Rattle.cob_convert_line.proofs.Apps.{block_beside, block_sized, has_reading, have_forms, named_sized, of_block, of_form, of_reading, same_letter, sized_again}
+use Rattle.cob_convert_line.proofs.Apps.{block_beside, block_sized, has_reading, have_blocks, have_forms, named_sized, of_block, of_form, of_piece, of_reading, same_letter, sized_again}
 use Rattle.cob_convert_line.proofs.Said.{told}
 use Rattle.cob_convert_line.proofs.read.convert_line.Goals as goal
 
@@ -56,6 +56,36 @@ returns-in_err-out_block-clause-lacks c =
     (block_beside look (codes "out-block") line.out_form c.in_ok-out_form.out_form line.out_block (same_letter look (codes "out-form") line.out_form c.in_ok-out_form.out_form says.out_form c.in_ok-out_form.ensures.named) says.out_block))
     c.from_residual-in_err-out_block.ensures.1
 
+pub returns-in_err-from-clause-fault : goal.returns-in_err-from-clause-fault
+returns-in_err-from-clause-fault c =
+    let look : Look = λ id. first_of id (rows_of (found_of c.args.options.now)) in
+    told c.from_residual-in_err-from.result _ _
+    (λ fault is. of_piece look fault (is ∙ c.in_err-from.ensures.fault.0) (have_forms look _ _ c.in_ok-in_form.ensures.named c.in_ok-out_form.ensures.named)
+    (has_reading look _ c.in_ok-reading.ensures.named)
+    (have_blocks look _ _ _ _ c.in_ok-in_form.ensures.named c.in_ok-out_form.ensures.named c.in_ok-in_block.ensures.named c.in_ok-out_block.ensures.named)
+    (inl c.in_err-from.ensures.fault.1))
+    c.from_residual-in_err-from.ensures.1
+
+pub returns-in_err-bytes-clause-fault : goal.returns-in_err-bytes-clause-fault
+returns-in_err-bytes-clause-fault c =
+    let look : Look = λ id. first_of id (rows_of (found_of c.args.options.now)) in
+    told c.from_residual-in_err-bytes.result _ _
+    (λ fault is. of_piece look fault (is ∙ c.in_err-bytes.ensures.fault.0) (have_forms look _ _ c.in_ok-in_form.ensures.named c.in_ok-out_form.ensures.named)
+    (has_reading look _ c.in_ok-reading.ensures.named)
+    (have_blocks look _ _ _ _ c.in_ok-in_form.ensures.named c.in_ok-out_form.ensures.named c.in_ok-in_block.ensures.named c.in_ok-out_block.ensures.named)
+    (inr (inl c.in_err-bytes.ensures.fault.1)))
+    c.from_residual-in_err-bytes.ensures.1
+
+pub returns-in_err-first-clause-fault : goal.returns-in_err-first-clause-fault
+returns-in_err-first-clause-fault c =
+    let look : Look = λ id. first_of id (rows_of (found_of c.args.options.now)) in
+    told c.from_residual-in_err-first.result _ _
+    (λ fault is. of_piece look fault (is ∙ c.in_err-first.ensures.fault.0) (have_forms look _ _ c.in_ok-in_form.ensures.named c.in_ok-out_form.ensures.named)
+    (has_reading look _ c.in_ok-reading.ensures.named)
+    (have_blocks look _ _ _ _ c.in_ok-in_form.ensures.named c.in_ok-out_form.ensures.named c.in_ok-in_block.ensures.named c.in_ok-out_block.ensures.named)
+    (inr (inr c.in_err-first.ensures.fault.1)))
+    c.from_residual-in_err-first.ensures.1
+
 pub returns-clause-options : goal.returns-clause-options
 returns-clause-options c =
     let look : Look = λ id. first_of id (rows_of (found_of c.args.options.now)) in record {
@@ -73,4 +103,7 @@ returns-clause-options c =
       reading = c.in_ok-reading.ensures.named;
       atomic = sym c.flag.ensures;
       progress = sym c.flag-2.ensures;
+      from = c.in_ok-from.ensures.named;
+      bytes = c.in_ok-bytes.ensures.named;
+      first = c.in_ok-first.ensures.named;
     }

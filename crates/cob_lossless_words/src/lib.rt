@@ -1,0 +1,33 @@
+//! Why two conversions may lose something, in words: the first point that fails, with its item and its statement.
+//!
+//! [`told_loss`] finds what is to be told of a [`Loss`] that `cob_move_lossless` answers of moves there and back: the entry that redefines another one or varies, the
+//! single move that isn't as is asked, the second of two single moves to one occurrence, or the first occurrence of an item that doesn't come back,
+//! and why it doesn't. [`ToldLoss`] prints it in one line, as `E OF OUT-REC, PIC ZZ9.99, has no sign, and N OF IN-REC has one: there line 2`:
+//!
+//! - an occurrence by its name with those of the groups that hold it, and its subscripts in brackets;
+//! - a picture by its symbols, with repeats as they are written;
+//! - the place by the option that names the text, `there`, `back`, `in-book` or `out-book`, and the line in it where there is one.
+//!
+//! What is promised: of two items, what the second one lacks ([`lack_of`]; `Lacks` of specs/Lacks.antt), nothing exactly where it loses nothing of the
+//! first (`LosesNothing` of `cob_move_returns`); and the lines of a paragraph's statements ([`lines_of`]; `AreLinesOf` of specs/Lines.antt). Which words tell
+//! a loss is shown by `cob_jobs`.
+//!
+//! It stands on `cob_move_lossless` and `cob_move_returns` for what is lost, on `cob_move_statements` and `cob_source` for the lines of statements, on
+//! `cob_layout` and `cob_layout_places` for layouts and for moves as data, and on `cob_copybook_tree` and the crates below it for entries.
+#![tactic(auto)]
+
+mod items;
+mod lacks;
+mod lines;
+mod names;
+mod occurrences;
+mod pictures;
+mod reasons;
+mod singles;
+mod storage;
+mod words;
+
+pub use lacks::{Lack, lack_of};
+pub use lines::lines_of;
+pub use names::Named;
+pub use reasons::{LinedMoves, Position, Reason, ToldLoss, told_loss};

@@ -1,0 +1,12 @@
+pub mod LeftLemmas
+pub mod StandingLemmas
+pub mod NamedLemmas
+pub mod KindLemmas
+pub mod EachLemmas
+pub mod OnceLemmas
+pub mod AscendLemmas
+pub mod SomeLemmas
+pub mod ReturnedLemmas
+pub mod WalkLemmas
+pub mod MeantLemmas
+pub mod LossLemmas

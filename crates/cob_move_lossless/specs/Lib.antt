@@ -1,0 +1,7 @@
+pub mod Tested
+pub mod Received
+pub mod Some
+pub mod Brought
+pub mod Ascending
+pub mod Walk
+pub mod Losses

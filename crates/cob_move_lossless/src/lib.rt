@@ -1,0 +1,46 @@
+//! Whether moves there and back lose nothing, decided by their records and themselves, without memory.
+//!
+//! What is answered, each exactly:
+//!
+//! - whether moves there and back lose nothing ([`is_lossless`]), and the first point in which they may lose something ([`first_loss`]); whether they
+//!   do so but for records that may disagree crosswise ([`returns`]);
+//! - whether a record stands in one way ([`stands_one_way`]): no entry redefines another, and no table varies;
+//! - of the single moves of a paragraph's statements, whether each is elementary ([`are_elementary`]), whether each sender is read as its picture
+//!   says ([`are_read_pictured`]), whether no occurrence receives twice ([`receive_once`]), and whether each receiver's entry has a name in a record
+//!   ([`are_named`]);
+//! - whether two copybooks, or two layouts, are of one record, but for its name ([`is_same_book`], [`is_same_layout`]).
+//!
+//! Each occurrence of each named item of a record is gone through where it stands (src/walk.rt). Among all single moves back the one that brings it
+//! home is looked for, and among those there the one that carries it to where that one comes from, to an item that loses nothing of it
+//! (src/returned.rt). A search begins near where the last one ended, and goes round once (src/some.rt): so the time grows with the single moves where
+//! they stand in the order of the record or against it, and else with the occurrences times the single moves. Receivers that ascend receive once
+//! (src/ascend.rt); others are compared with each other (src/once.rt).
+//!
+//! What these words mean stands in cob_move_returns (specs/Apart.antt, Singles.antt, Returns.antt, Lossless.antt) and in cob_copybook_same; the
+//! points of the list stand in specs/Losses.antt.
+//!
+//! It stands on cob_move_returns for what is decided, on cob_copybook_same for records that are one but for their names, on cob_layout and
+//! cob_layout_places for layouts and for moves as data, and on cob_copybook_tree and the crates below it for entries and what they describe.
+#![tactic(auto)]
+
+mod ascend;
+mod books;
+mod each;
+mod kinds;
+mod lossless;
+mod named;
+mod once;
+mod returned;
+mod single;
+mod some;
+mod standing;
+mod walk;
+mod wider;
+
+pub use books::{is_same_book, is_same_layout};
+pub use each::{are_elementary, are_named, are_read_pictured};
+pub use lossless::{Loss, Way, first_loss, is_lossless, returns};
+pub use once::receive_once;
+pub use single::Layouts;
+pub use some::MovesBetween;
+pub use standing::stands_one_way;
