@@ -9,7 +9,7 @@ ghost use Rattle.cob_lossless_words.specs.Lacks.{ArePaired, Lacks};
 
 use cob_copybook_tree::Item;
 use cob_move_receive::is_of_characters;
-use cob_picture::{Category, Picture};
+use cob_picture::Picture;
 
 /// What the second of two items lacks to lose nothing of the first.
 #[derive(Clone, Copy, Debug, PartialEq, Eq)]
@@ -43,7 +43,8 @@ pub(crate) fn digits_before(picture: &Picture) -> i16
 fn is_edited_text(item: &Item) -> bool
     ensures { IsTrue result → item.now.picture.category ≡ AlphanumericEdited }
 {
-    matches!(item.picture.category(), Category::AlphanumericEdited)
+    let category = item.picture.category();
+    category.is_edited() && !category.shows_number()
 }
 
 /// What the second of two numeric or numeric edited items lacks.

@@ -24,7 +24,8 @@ use Rattle.cob_move_pairs.specs.Pairing.{IsTwice}
 use Rattle.cob_move_pairs.specs.Pairs.{AreOnce, Pair, is_elementary}
 use Rattle.cob_move.specs.declared.corresponding.TwoGroups.{TwoGroups}
 use Rattle.cob_move.specs.Meaning.{AreGroupsOf, AreMovesOf, IsAllowedMove, pair_move, pairs_of}
-use Rattle.cob_move.specs.Refusals.{BreaksBetween, BreaksPair, BreaksStatement, LacksGroup, SomeOf}
+use Rattle.cob_move_apply.specs.Some.{SomeOf}
+use Rattle.cob_move.specs.Refusals.{BreaksBetween, BreaksPair, BreaksStatement, LacksGroup}
 use Rattle.cob_move.specs.Between.{MayMoveBetween, numbered, numbers_of}
 use Rattle.cob_move.proofs.OwnLemmas.{own_operand}
 use Rattle.cob_move.proofs.SomeLemmas.{next, none_of, some_here}

@@ -24,7 +24,8 @@ use Rattle.cob_move_references.specs.References.{BreaksReceiver, BreaksReference
 use Rattle.cob_move_pairs.specs.Pairs.{AreOnce, Pair, is_elementary}
 use Rattle.cob_move.specs.declared.corresponding.TwoGroups.{TwoGroups}
 use Rattle.cob_move.specs.Meaning.{AreMeanings, AreReceiversOf, IsAllowedMove, IsMeaning, IsSenderOf, kind_of_sender, pair_move, pairs_of}
-use Rattle.cob_move.specs.Refusals.{BreaksMove, BreaksOn, BreaksPair, BreaksReceiving, BreaksStatement, IsNoGroup, SomeBreak, SomeOf, fault_on, receivers, references, sent_references, sent_constant}
+use Rattle.cob_move_apply.specs.Some.{SomeOf}
+use Rattle.cob_move.specs.Refusals.{BreaksMove, BreaksOn, BreaksPair, BreaksReceiving, BreaksStatement, IsNoGroup, SomeBreak, fault_on, receivers, references, sent_references, sent_constant}
 use Rattle.cob_move.specs.MeaningLaws.{MeaningsBreakNoRule, MeantBreakNoRule}
 use Rattle.cob_move.proofs.OneLemmas.{one_groups, one_sender}
 use Rattle.cob_move.proofs.SomeLemmas.{all_append, clash}

@@ -14,7 +14,8 @@ use Rattle.cob_move_statements.specs.Written.{WrittenReference, WrittenSender, S
 use Rattle.cob_move_references.specs.Candidates.{Candidate}
 use Rattle.cob_move_references.specs.References.{NamesOperand, BreaksReference, BreaksReceiver}
 use Rattle.cob_move.specs.Meaning.{AreReceiversOf, IsSenderOf}
-use Rattle.cob_move.specs.Refusals.{BreaksReceipt, BreaksReceiving, BreaksSender, BreaksStatement, SomeOf, sent_references}
+use Rattle.cob_move_apply.specs.Some.{SomeOf}
+use Rattle.cob_move.specs.Refusals.{BreaksReceipt, BreaksReceiving, BreaksSender, BreaksStatement, sent_references}
 use Rattle.cob_move.proofs.SomeLemmas.{all_append, left, right, next, none_of, some_behind, some_front, some_map}
 
 pub sender_reference : (r : MoveRule) (all : List Candidate) (w : WrittenReference) → BreaksReference r all w → BreaksSender r all (SentReference w)

@@ -2,7 +2,7 @@
 use Rattle.std.proofs.Common.{◌≡◌, ℕ, ◌+◌, ◌<◌, List, [], ◌∷◌, ◌++◌, length, get_or, map, drop, sym, ap, subst, ◌∙◌, inl, inr, ◌⊎◌}
 use Rattle.std.proofs.lemmas.List.{at_drop_more}
 use Rattle.std.specs.List.{AllByRecursion}
-use Rattle.cob_move.specs.Refusals.{SomeOf}
+use Rattle.cob_move_apply.specs.Some.{SomeOf}
 
 pub left : {P Q : Type 0} → (Q → ⊥) → P ⊎ Q → P
 left f (inl p) = p

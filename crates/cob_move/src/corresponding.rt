@@ -13,7 +13,8 @@ ghost use Rattle.cob_move.specs.Among.{
   pairs_in,
   written_corresponding,
 };
-ghost use Rattle.cob_move.specs.Refusals.{BreaksBetween, BreaksPair, SomeOf};
+ghost use Rattle.cob_move_apply.specs.Some.{SomeOf};
+ghost use Rattle.cob_move.specs.Refusals.{BreaksBetween, BreaksPair};
 ghost use Rattle.cob_move_pairs.specs.Between.{ends};
 ghost use Rattle.cob_move_pairs.specs.Pairing.{IsTwice};
 ghost use Rattle.cob_move_pairs.specs.Pairs.{AreOnce, is_elementary};

@@ -12,7 +12,8 @@ ghost use Rattle.cob_move.specs.Among.{
   nameable,
 };
 ghost use Rattle.cob_move.specs.Meaning.{kind_of_sender};
-ghost use Rattle.cob_move.specs.Refusals.{BreaksMove, SomeOf};
+ghost use Rattle.cob_move_apply.specs.Some.{SomeOf};
+ghost use Rattle.cob_move.specs.Refusals.{BreaksMove};
 ghost use Rattle.cob_layout_places.specs.declared.operands.Side.TheVariants.{Out};
 ghost use Rattle.cob_layout_places.specs.Moves.{
   IsOperand,

@@ -14,7 +14,7 @@ use Rattle.cob_move_returns.specs.Returns.{BringsHome, IsReturned}
 use Rattle.cob_move_returns.specs.Singles.{Goes, IsOneOf, SingleMove, occurrence_of}
 use Rattle.cob_move_returns.specs.Wider.{LosesNothing}
 use Rattle.cob_move_lossless.specs.Brought.{IsCarried, LosesNothingAs, occurrence_at}
-use Rattle.cob_move_lossless.specs.Some.{SomeByRecursion}
+use Rattle.cob_move_apply.specs.Some.{SomeOf}
 use Rattle.cob_move_lossless.specs.Tested.{ref_of, sender_of, single_of}
 use Rattle.cob_move_lossless.specs.declared.single.Element.{Element}
 use Rattle.cob_move_lossless.specs.declared.single.Layouts.{Layouts}
@@ -24,12 +24,12 @@ use Rattle.cob_move_lossless.specs.declared.single.Single.{Single}
 
 -- ---- one of some
 
-some_one : (P : SingleMove → Type 0) (ss : List SingleMove) → SomeByRecursion P ss → (s : SingleMove) × IsOneOf s ss × P s
+some_one : (P : SingleMove → Type 0) (ss : List SingleMove) → SomeOf P ss → (s : SingleMove) × IsOneOf s ss × P s
 some_one P [] h = absurd h
 some_one P (s ∷ ss) (inl h) = (s, inl refl, h)
 some_one P (s ∷ ss) (inr h) = let (t, one, is) = some_one P ss h in (t, inr one, is)
 
-one_some : (P : SingleMove → Type 0) (s : SingleMove) (ss : List SingleMove) → IsOneOf s ss → P s → SomeByRecursion P ss
+one_some : (P : SingleMove → Type 0) (s : SingleMove) (ss : List SingleMove) → IsOneOf s ss → P s → SomeOf P ss
 one_some P s [] one is = one
 one_some P s (t ∷ ts) (inl e) is = inl (subst P e is)
 one_some P s (t ∷ ts) (inr one) is = inr (one_some P s ts one is)
@@ -77,7 +77,7 @@ not_carried s from x to i a isnt (one, only) goes = (
 pub never_carried : (s : SingleMove) (x to : Occurrence) (i : Item) → ((from : Occurrence) → Goes s from to → ⊥) → Decides false (IsCarried x to i s)
 never_carried s x to i none = (λ h. absurd (cc), λ h. absurd (none x h.goes))
 
-pub home : (there : List SingleMove) (m : SingleMove) (x away : Occurrence) (i : Item) (b : Bool) → Goes m away x → Decides b (SomeByRecursion (IsCarried x away i) there)
+pub home : (there : List SingleMove) (m : SingleMove) (x away : Occurrence) (i : Item) (b : Bool) → Goes m away x → Decides b (SomeOf (IsCarried x away i) there)
     → Decides b (BringsHome there m x i)
 home there m x away i b comes (one, only) = (
   λ does.
@@ -100,7 +100,7 @@ home there m x away i b comes (one, only) = (
 pub never_home : (there : List SingleMove) (m : SingleMove) (x : Occurrence) (i : Item) → ((from : Occurrence) → Goes m from x → ⊥) → Decides false (BringsHome there m x i)
 never_home there m x i none = (λ h. absurd (cc), λ h. absurd (none h.away h.comes))
 
-pub returned : (there back : List SingleMove) (x : Occurrence) (i : Item) (b : Bool) → Decides b (SomeByRecursion (λ (s : SingleMove). BringsHome there s x i) back)
+pub returned : (there back : List SingleMove) (x : Occurrence) (i : Item) (b : Bool) → Decides b (SomeOf (λ (s : SingleMove). BringsHome there s x i) back)
     → Decides b (IsReturned there back x i)
 returned there back x i b (one, only) = (
   λ does.

@@ -18,20 +18,20 @@ use Rattle.cob_layout_places.specs.declared.reference.Ref.{Ref}
 use Rattle.cob_layout_places.specs.Moves.{AreMoves, IsMove, IsOperand, Move, Records, Sender, entry_below, move_by, numbered_move_by, operand_in, sender_by, statement_moves_by}
 use Rattle.cob_move_apply.proofs.ListLemmas.{at, below, left_first, left_more, next, past}
 use Rattle.cob_move_returns.specs.Singles.{SingleMove, all_singles, singles_from}
-use Rattle.cob_move_lossless.specs.Some.{SomeByRecursion}
+use Rattle.cob_move_apply.specs.Some.{SomeOf}
 use Rattle.cob_move_lossless.proofs.EachLemmas.{one_move, singles_behind}
 use Rattle.cob_move_lossless.proofs.LeftLemmas.{Both}
 
-some_front : (P : SingleMove → Type 0) (xs ys : List SingleMove) → SomeByRecursion P xs → SomeByRecursion P (xs ++ ys)
+some_front : (P : SingleMove → Type 0) (xs ys : List SingleMove) → SomeOf P xs → SomeOf P (xs ++ ys)
 some_front P [] ys h = absurd h
 some_front P (x ∷ xs) ys (inl h) = inl h
 some_front P (x ∷ xs) ys (inr h) = inr (some_front P xs ys h)
 
-some_behind : (P : SingleMove → Type 0) (xs ys : List SingleMove) → SomeByRecursion P ys → SomeByRecursion P (xs ++ ys)
+some_behind : (P : SingleMove → Type 0) (xs ys : List SingleMove) → SomeOf P ys → SomeOf P (xs ++ ys)
 some_behind P [] ys h = h
 some_behind P (x ∷ xs) ys h = inr (some_behind P xs ys h)
 
-some_split : (P : SingleMove → Type 0) (xs ys : List SingleMove) → SomeByRecursion P (xs ++ ys) → SomeByRecursion P xs ⊎ SomeByRecursion P ys
+some_split : (P : SingleMove → Type 0) (xs ys : List SingleMove) → SomeOf P (xs ++ ys) → SomeOf P xs ⊎ SomeOf P ys
 some_split P [] ys h = inr h
 some_split P (x ∷ xs) ys (inl h) = inl (inl h)
 some_split P (x ∷ xs) ys (inr h) = elim (some_split P xs ys h) [ inl front ↦ inl (inr front) | inr behind ↦ inr behind ]
@@ -39,10 +39,10 @@ some_split P (x ∷ xs) ys (inr h) = elim (some_split P xs ys h) [ inl front ↦
 -- ---- what is left, and all
 
 -- the next ones have one that is so
-pub met : (P : SingleMove → Type 0) (now front after : List SingleMove) (b : Bool) (Q : Type 0) → now ≡ front ++ after → b ≡ true → Decides b (SomeByRecursion P front)
-    → Both (SomeByRecursion P now) Q → Decides true Q
+pub met : (P : SingleMove → Type 0) (now front after : List SingleMove) (b : Bool) (Q : Type 0) → now ≡ front ++ after → b ≡ true → Decides b (SomeOf P front)
+    → Both (SomeOf P now) Q → Decides true Q
 met P now front after b Q is does (one, only) (goes, back) = (
-  λ h. goes (subst (λ (ss : List SingleMove). SomeByRecursion P ss) (sym is) (some_front P front after (one does))),
+  λ h. goes (subst (λ (ss : List SingleMove). SomeOf P ss) (sym is) (some_front P front after (one does))),
   λ q. refl,
 )
 
@@ -50,22 +50,22 @@ never : (b : Bool) → b ≡ false → b ≡ true → ⊥
 never b e f = cc
 
 -- they have none
-pub unmet : (P : SingleMove → Type 0) (now front after : List SingleMove) (b : Bool) (Q : Type 0) → now ≡ front ++ after → b ≡ false → Decides b (SomeByRecursion P front)
-    → Both (SomeByRecursion P now) Q → Both (SomeByRecursion P after) Q
+pub unmet : (P : SingleMove → Type 0) (now front after : List SingleMove) (b : Bool) (Q : Type 0) → now ≡ front ++ after → b ≡ false → Decides b (SomeOf P front)
+    → Both (SomeOf P now) Q → Both (SomeOf P after) Q
 unmet P now front after b Q is doesnt (one, only) (goes, back) = (
-  λ h. goes (subst (λ (ss : List SingleMove). SomeByRecursion P ss) (sym is) (some_behind P front after h)),
-  λ q. elim (some_split P front after (subst (λ (ss : List SingleMove). SomeByRecursion P ss) is (back q))) [
+  λ h. goes (subst (λ (ss : List SingleMove). SomeOf P ss) (sym is) (some_behind P front after h)),
+  λ q. elim (some_split P front after (subst (λ (ss : List SingleMove). SomeOf P ss) is (back q))) [
     | inl h ↦ absurd (never b doesnt (only h))
     | inr h ↦ h
   ],
 )
 
 -- there are no next ones
-pub ended : (P : SingleMove → Type 0) (now : List SingleMove) (Q : Type 0) → now ≡ [] → Both (SomeByRecursion P now) Q → Decides false Q
-ended P now Q is (goes, back) = (λ h. absurd (cc), λ q. absurd (subst (λ (ss : List SingleMove). SomeByRecursion P ss) is (back q)))
+pub ended : (P : SingleMove → Type 0) (now : List SingleMove) (Q : Type 0) → now ≡ [] → Both (SomeOf P now) Q → Decides false Q
+ended P now Q is (goes, back) = (λ h. absurd (cc), λ q. absurd (subst (λ (ss : List SingleMove). SomeOf P ss) is (back q)))
 
 -- a single move by itself
-pub alone : (P : SingleMove → Type 0) (s : SingleMove) (b : Bool) → Decides b (P s) → Decides b (SomeByRecursion P (s ∷ []))
+pub alone : (P : SingleMove → Type 0) (s : SingleMove) (b : Bool) → Decides b (P s) → Decides b (SomeOf P (s ∷ []))
 alone P s b (one, only) = (λ is. inl (one is), λ h. elim h [ inl it ↦ only it | inr none ↦ absurd none ])
 
 -- ---- the next ones
@@ -123,24 +123,24 @@ receiver_first : (s : Sender) (tree : Forest Resolved) (rs : List Ref) (i : ℕ)
 receiver_first s tree rs i r lt is = receiver_next s (map (operand_in tree) rs) i (operand_in tree r) (below (operand_in tree) rs i lt) (at (operand_in tree) rs i r lt is)
 
 -- a single move by itself, as the code has it
-as_had : (P : SingleMove → Type 0) (s t : SingleMove) (b : Bool) → s ≡ t → Decides b (P s) → Decides b (SomeByRecursion P (t ∷ []))
+as_had : (P : SingleMove → Type 0) (s t : SingleMove) (b : Bool) → s ≡ t → Decides b (P s) → Decides b (SomeOf P (t ∷ []))
 as_had P s t b is h = alone P t b (subst (λ (u : SingleMove). Decides b (P u)) is h)
 
 pub receiver_met : (P : SingleMove → Type 0) (s : Sender) (tree : Forest Resolved) (rs : List Ref) (i : ℕ) (r : Ref) (one : SingleMove) (b : Bool) (Q : Type 0) → i < length rs → r ≡ get_or rs i r
-    → one ≡ the_single s (operand_in tree r) → b ≡ true → Decides b (P one) → Both (SomeByRecursion P (singles_from s (drop i (map (operand_in tree) rs)))) Q → Decides true Q
+    → one ≡ the_single s (operand_in tree r) → b ≡ true → Decides b (P one) → Both (SomeOf P (singles_from s (drop i (map (operand_in tree) rs)))) Q → Decides true Q
 receiver_met P s tree rs i r one b Q lt is same does h both =
     met P (singles_from s (drop i (map (operand_in tree) rs))) (the_single s (operand_in tree r) ∷ []) (singles_from s (drop (i + 1) (map (operand_in tree) rs))) b Q
     (receiver_first s tree rs i r lt is) does (as_had P one (the_single s (operand_in tree r)) b same h) both
 
 pub receiver_unmet : (P : SingleMove → Type 0) (s : Sender) (tree : Forest Resolved) (rs : List Ref) (i : ℕ) (r : Ref) (one : SingleMove) (b : Bool) (Q : Type 0) → i < length rs → r ≡ get_or rs i r
-    → one ≡ the_single s (operand_in tree r) → b ≡ false → Decides b (P one) → Both (SomeByRecursion P (singles_from s (drop i (map (operand_in tree) rs)))) Q
-    → Both (SomeByRecursion P (singles_from s (drop (i + 1) (map (operand_in tree) rs)))) Q
+    → one ≡ the_single s (operand_in tree r) → b ≡ false → Decides b (P one) → Both (SomeOf P (singles_from s (drop i (map (operand_in tree) rs)))) Q
+    → Both (SomeOf P (singles_from s (drop (i + 1) (map (operand_in tree) rs)))) Q
 receiver_unmet P s tree rs i r one b Q lt is same doesnt h both =
     unmet P (singles_from s (drop i (map (operand_in tree) rs))) (the_single s (operand_in tree r) ∷ []) (singles_from s (drop (i + 1) (map (operand_in tree) rs))) b Q
     (receiver_first s tree rs i r lt is) doesnt (as_had P one (the_single s (operand_in tree r)) b same h) both
 
 pub receivers_none : (P : SingleMove → Type 0) (s : Sender) (tree : Forest Resolved) (rs : List Ref) (i : ℕ) (Q : Type 0) → length rs ≤ i
-    → Both (SomeByRecursion P (singles_from s (drop i (map (operand_in tree) rs)))) Q → Decides false Q
+    → Both (SomeOf P (singles_from s (drop i (map (operand_in tree) rs)))) Q → Decides false Q
 receivers_none P s tree rs i Q le both =
     ended P (singles_from s (drop i (map (operand_in tree) rs))) Q (receivers_end s (map (operand_in tree) rs) i (past (operand_in tree) rs i le)) both
 
@@ -165,38 +165,38 @@ pair_first : (x : Reading) (r : Records) (g : PairMoves) (ps : List NumberedPair
 pair_first x r g ps i p lt is = move_next (map (numbered_move_by x r g) ps) i (numbered_move_by x r g p) (below (numbered_move_by x r g) ps i lt) (at (numbered_move_by x r g) ps i p lt is)
 
 pub pair_met : (P : SingleMove → Type 0) (x : Reading) (r : Records) (g : PairMoves) (ps : List NumberedPair) (i : ℕ) (p : NumberedPair) (one : SingleMove) (b : Bool) (Q : Type 0) → i < length ps → p ≡ get_or ps i p
-    → one ≡ pair_single_of x r g p → b ≡ true → Decides b (P one) → Both (SomeByRecursion P (all_singles (drop i (map (numbered_move_by x r g) ps)))) Q → Decides true Q
+    → one ≡ pair_single_of x r g p → b ≡ true → Decides b (P one) → Both (SomeOf P (all_singles (drop i (map (numbered_move_by x r g) ps)))) Q → Decides true Q
 pair_met P x r g ps i p one b Q lt is same does h both =
     met P (all_singles (drop i (map (numbered_move_by x r g) ps))) (pair_single_of x r g p ∷ []) (all_singles (drop (i + 1) (map (numbered_move_by x r g) ps))) b Q
     (pair_first x r g ps i p lt is) does (as_had P one (pair_single_of x r g p) b same h) both
 
 pub pair_unmet : (P : SingleMove → Type 0) (x : Reading) (r : Records) (g : PairMoves) (ps : List NumberedPair) (i : ℕ) (p : NumberedPair) (one : SingleMove) (b : Bool) (Q : Type 0) → i < length ps → p ≡ get_or ps i p
-    → one ≡ pair_single_of x r g p → b ≡ false → Decides b (P one) → Both (SomeByRecursion P (all_singles (drop i (map (numbered_move_by x r g) ps)))) Q
-    → Both (SomeByRecursion P (all_singles (drop (i + 1) (map (numbered_move_by x r g) ps)))) Q
+    → one ≡ pair_single_of x r g p → b ≡ false → Decides b (P one) → Both (SomeOf P (all_singles (drop i (map (numbered_move_by x r g) ps)))) Q
+    → Both (SomeOf P (all_singles (drop (i + 1) (map (numbered_move_by x r g) ps)))) Q
 pair_unmet P x r g ps i p one b Q lt is same doesnt h both =
     unmet P (all_singles (drop i (map (numbered_move_by x r g) ps))) (pair_single_of x r g p ∷ []) (all_singles (drop (i + 1) (map (numbered_move_by x r g) ps))) b Q
     (pair_first x r g ps i p lt is) doesnt (as_had P one (pair_single_of x r g p) b same h) both
 
 pub pairs_none : (P : SingleMove → Type 0) (x : Reading) (r : Records) (g : PairMoves) (ps : List NumberedPair) (i : ℕ) (Q : Type 0) → length ps ≤ i
-    → Both (SomeByRecursion P (all_singles (drop i (map (numbered_move_by x r g) ps)))) Q → Decides false Q
+    → Both (SomeOf P (all_singles (drop i (map (numbered_move_by x r g) ps)))) Q → Decides false Q
 pairs_none P x r g ps i Q le both =
     ended P (all_singles (drop i (map (numbered_move_by x r g) ps))) Q (moves_end (map (numbered_move_by x r g) ps) i (past (numbered_move_by x r g) ps i le)) both
 
 -- ---- statements
 
 pub statement_met : (P : SingleMove → Type 0) (f : StatementMoves → List Move) (ss : List StatementMoves) (i : ℕ) (s : StatementMoves) (b : Bool) (Q : Type 0) → i < length ss → s ≡ get_or ss i s → b ≡ true
-    → Decides b (SomeByRecursion P (all_singles (f s))) → Both (SomeByRecursion P (all_singles (flat_map f (drop i ss)))) Q → Decides true Q
+    → Decides b (SomeOf P (all_singles (f s))) → Both (SomeOf P (all_singles (flat_map f (drop i ss)))) Q → Decides true Q
 statement_met P f ss i s b Q lt is does one both =
     met P (all_singles (flat_map f (drop i ss))) (all_singles (f s)) (all_singles (flat_map f (drop (i + 1) ss))) b Q (element_next f ss i s lt is) does one both
 
 pub statement_unmet : (P : SingleMove → Type 0) (f : StatementMoves → List Move) (ss : List StatementMoves) (i : ℕ) (s : StatementMoves) (b : Bool) (Q : Type 0) → i < length ss → s ≡ get_or ss i s → b ≡ false
-    → Decides b (SomeByRecursion P (all_singles (f s))) → Both (SomeByRecursion P (all_singles (flat_map f (drop i ss)))) Q
-    → Both (SomeByRecursion P (all_singles (flat_map f (drop (i + 1) ss)))) Q
+    → Decides b (SomeOf P (all_singles (f s))) → Both (SomeOf P (all_singles (flat_map f (drop i ss)))) Q
+    → Both (SomeOf P (all_singles (flat_map f (drop (i + 1) ss)))) Q
 statement_unmet P f ss i s b Q lt is doesnt one both =
     unmet P (all_singles (flat_map f (drop i ss))) (all_singles (f s)) (all_singles (flat_map f (drop (i + 1) ss))) b Q (element_next f ss i s lt is) doesnt one both
 
 pub statements_none : (P : SingleMove → Type 0) (f : StatementMoves → List Move) (ss : List StatementMoves) (i : ℕ) (Q : Type 0) → length ss ≤ i
-    → Both (SomeByRecursion P (all_singles (flat_map f (drop i ss)))) Q → Decides false Q
+    → Both (SomeOf P (all_singles (flat_map f (drop i ss)))) Q → Decides false Q
 statements_none P f ss i Q le both = ended P (all_singles (flat_map f (drop i ss))) Q (elements_end f ss i le) both
 
 -- ---- statements in two parts
@@ -219,25 +219,25 @@ pub legal_in_two : (r : Records) (f : StatementMoves → List Move) (front behin
 legal_in_two r f front behind all is h =
     all_split r (flat_map f front) (flat_map f behind) (subst (λ (ms : List Move). AreMoves r ms) (ap (flat_map f) is ∙ flat_map-append f front behind) h)
 
-pub met_behind : (P : SingleMove → Type 0) (f : StatementMoves → List Move) (front behind all : List StatementMoves) → all ≡ front ++ behind → SomeByRecursion P (all_singles (flat_map f behind))
-    → Decides true (SomeByRecursion P (all_singles (flat_map f all)))
+pub met_behind : (P : SingleMove → Type 0) (f : StatementMoves → List Move) (front behind all : List StatementMoves) → all ≡ front ++ behind → SomeOf P (all_singles (flat_map f behind))
+    → Decides true (SomeOf P (all_singles (flat_map f all)))
 met_behind P f front behind all is h = (
-  λ e. subst (λ (ss : List SingleMove). SomeByRecursion P ss) (sym (in_two f front behind all is)) (some_behind P (all_singles (flat_map f front)) (all_singles (flat_map f behind)) h),
+  λ e. subst (λ (ss : List SingleMove). SomeOf P ss) (sym (in_two f front behind all is)) (some_behind P (all_singles (flat_map f front)) (all_singles (flat_map f behind)) h),
   λ g. refl,
 )
 
-pub met_front : (P : SingleMove → Type 0) (f : StatementMoves → List Move) (front behind all : List StatementMoves) → all ≡ front ++ behind → SomeByRecursion P (all_singles (flat_map f front))
-    → Decides true (SomeByRecursion P (all_singles (flat_map f all)))
+pub met_front : (P : SingleMove → Type 0) (f : StatementMoves → List Move) (front behind all : List StatementMoves) → all ≡ front ++ behind → SomeOf P (all_singles (flat_map f front))
+    → Decides true (SomeOf P (all_singles (flat_map f all)))
 met_front P f front behind all is h = (
-  λ e. subst (λ (ss : List SingleMove). SomeByRecursion P ss) (sym (in_two f front behind all is)) (some_front P (all_singles (flat_map f front)) (all_singles (flat_map f behind)) h),
+  λ e. subst (λ (ss : List SingleMove). SomeOf P ss) (sym (in_two f front behind all is)) (some_front P (all_singles (flat_map f front)) (all_singles (flat_map f behind)) h),
   λ g. refl,
 )
 
-pub met_nowhere : (P : SingleMove → Type 0) (f : StatementMoves → List Move) (front behind all : List StatementMoves) → all ≡ front ++ behind → (SomeByRecursion P (all_singles (flat_map f front)) → ⊥)
-    → (SomeByRecursion P (all_singles (flat_map f behind)) → ⊥) → Decides false (SomeByRecursion P (all_singles (flat_map f all)))
+pub met_nowhere : (P : SingleMove → Type 0) (f : StatementMoves → List Move) (front behind all : List StatementMoves) → all ≡ front ++ behind → (SomeOf P (all_singles (flat_map f front)) → ⊥)
+    → (SomeOf P (all_singles (flat_map f behind)) → ⊥) → Decides false (SomeOf P (all_singles (flat_map f all)))
 met_nowhere P f front behind all is none others = (
   λ e. absurd (cc),
-  λ h. absurd (elim (some_split P (all_singles (flat_map f front)) (all_singles (flat_map f behind)) (subst (λ (ss : List SingleMove). SomeByRecursion P ss) (in_two f front behind all is) h)) [
+  λ h. absurd (elim (some_split P (all_singles (flat_map f front)) (all_singles (flat_map f behind)) (subst (λ (ss : List SingleMove). SomeOf P ss) (in_two f front behind all is) h)) [
     | inl g ↦ none g
     | inr g ↦ others g
   ]),
@@ -252,14 +252,14 @@ pub pairs_legal : (x : Reading) (r : Records) (given : StatementMoves) (g : Pair
 pairs_legal x r given g is h = subst (λ (s : StatementMoves). AreMoves r (statement_moves_by x r s)) is h
 
 pub single_decided : (P : SingleMove → Type 0) (x : Reading) (r : Records) (given : StatementMoves) (m : code_move.Move) (rs : List Ref) (b : Bool) → given ≡ Single m → rs ≡ m.receivers.items
-    → Decides b (SomeByRecursion P (singles_from (sender_by x r m.sender) (map (operand_in r.output) rs))) → Decides b (SomeByRecursion P (all_singles (statement_moves_by x r given)))
+    → Decides b (SomeOf P (singles_from (sender_by x r m.sender) (map (operand_in r.output) rs))) → Decides b (SomeOf P (all_singles (statement_moves_by x r given)))
 single_decided P x r given m rs b is receives h =
-    subst (λ (g : StatementMoves). Decides b (SomeByRecursion P (all_singles (statement_moves_by x r g)))) (sym is)
-    (subst (λ (ss : List SingleMove). Decides b (SomeByRecursion P ss)) (sym (one_move (move_by x r m)))
-    (subst (λ (qs : List Ref). Decides b (SomeByRecursion P (singles_from (sender_by x r m.sender) (map (operand_in r.output) qs)))) receives h))
+    subst (λ (g : StatementMoves). Decides b (SomeOf P (all_singles (statement_moves_by x r g)))) (sym is)
+    (subst (λ (ss : List SingleMove). Decides b (SomeOf P ss)) (sym (one_move (move_by x r m)))
+    (subst (λ (qs : List Ref). Decides b (SomeOf P (singles_from (sender_by x r m.sender) (map (operand_in r.output) qs)))) receives h))
 
 pub pairs_decided : (P : SingleMove → Type 0) (x : Reading) (r : Records) (given : StatementMoves) (g : PairMoves) (ps : List NumberedPair) (b : Bool) → given ≡ Pairs g → ps ≡ g.pairs.items
-    → Decides b (SomeByRecursion P (all_singles (map (numbered_move_by x r g) ps))) → Decides b (SomeByRecursion P (all_singles (statement_moves_by x r given)))
+    → Decides b (SomeOf P (all_singles (map (numbered_move_by x r g) ps))) → Decides b (SomeOf P (all_singles (statement_moves_by x r given)))
 pairs_decided P x r given g ps b is same h =
-    subst (λ (s : StatementMoves). Decides b (SomeByRecursion P (all_singles (statement_moves_by x r s)))) (sym is)
-    (subst (λ (qs : List NumberedPair). Decides b (SomeByRecursion P (all_singles (map (numbered_move_by x r g) qs)))) same h)
+    subst (λ (s : StatementMoves). Decides b (SomeOf P (all_singles (statement_moves_by x r s)))) (sym is)
+    (subst (λ (qs : List NumberedPair). Decides b (SomeOf P (all_singles (map (numbered_move_by x r g) qs)))) same h)

@@ -6,7 +6,7 @@ ghost use Rattle.std.specs.List.{AllByRecursion};
 ghost use Rattle.cob_layout_places.specs.Moves.{IsOperand, IsSender};
 ghost use Rattle.cob_move_returns.specs.Singles.{SingleMove, all_singles};
 ghost use Rattle.cob_move_lossless.specs.Brought.{AreLegal, moves_between, singles_in};
-ghost use Rattle.cob_move_lossless.specs.Some.{SomeByRecursion};
+ghost use Rattle.cob_move_apply.specs.Some.{SomeOf};
 ghost use Rattle.cob_move_lossless.specs.Tested.{
   AreMovesBetween,
   AreSound,
@@ -93,7 +93,7 @@ fn some_receiver_meets<C: Condition>(
     requires sender { IsSender (layout_records layouts.now) (sender_between layouts.now one.now) }
     requires receivers { AllByRecursion (IsOperand layouts.now.output.now)
         (operands_between layouts.now receivers.now) }
-    ensures { Decides result (SomeByRecursion (C.met condition.now)
+    ensures { Decides result (SomeOf (C.met condition.now)
         (singles_between layouts.now one.now receivers.now)) }
 {
     for receiver in receivers {
@@ -116,7 +116,7 @@ fn some_pair_meets<C: Condition>(
     requires ready { C.ready condition.now }
     requires sound { AreSound layouts.now }
     requires moves { AreMovesBetween layouts.now (moves_of_pairs layouts.now group.now pairs.now) }
-    ensures { Decides result (SomeByRecursion (C.met condition.now) (all_singles
+    ensures { Decides result (SomeOf (C.met condition.now) (all_singles
         (moves_of_pairs layouts.now group.now pairs.now))) }
 {
     for pair in pairs {
@@ -138,7 +138,7 @@ fn some_of_statement_meets<C: Condition>(
     requires ready { C.ready condition.now }
     requires sound { AreSound layouts.now }
     requires moves { AreMovesBetween layouts.now (moves_of_statement layouts.now statement.now) }
-    ensures { Decides result (SomeByRecursion (C.met condition.now) (all_singles
+    ensures { Decides result (SomeOf (C.met condition.now) (all_singles
         (moves_of_statement layouts.now statement.now))) }
 {
     match statement {
@@ -169,9 +169,9 @@ fn first_that_meets<C: Condition>(
     requires ready { C.ready condition.now }
     requires sound { AreSound layouts.now }
     requires moves { AreMovesBetween layouts.now (moves_between layouts.now statements.now) }
-    ensures some { IfSome result (λ (i : ℕ). SomeByRecursion (C.met condition.now)
+    ensures some { IfSome result (λ (i : ℕ). SomeOf (C.met condition.now)
         (all_singles (moves_between layouts.now statements.now))) }
-    ensures none { IfNone result (SomeByRecursion (C.met condition.now)
+    ensures none { IfNone result (SomeOf (C.met condition.now)
         (all_singles (moves_between layouts.now statements.now)) → ⊥) }
     ensures below { IfSome result (λ i. i < length statements.now) }
 {
@@ -192,7 +192,7 @@ pub(crate) fn some_meets<C: Condition>(
 ) -> bool
     requires ready { C.ready condition.now }
     requires legal { AreLegal moves.now }
-    ensures { Decides result (SomeByRecursion (C.met condition.now) (singles_in moves.now)) }
+    ensures { Decides result (SomeOf (C.met condition.now) (singles_in moves.now)) }
 {
     let middle = starts.of(way).min(moves.statements.len());
     let (front, behind) = moves.statements.split_at(middle);

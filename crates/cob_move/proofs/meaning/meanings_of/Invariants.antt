@@ -2,7 +2,8 @@ use Rattle.std.proofs.Common.{◌++◌, drop, List}
 use Rattle.cob_move.specs.Between.{ArePairsOf}
 use Rattle.cob_move.specs.Entries.{records_of}
 use Rattle.cob_move.specs.Meaning.{AreMeanings}
-use Rattle.cob_move.specs.Refusals.{BreaksOn, SomeOf}
+use Rattle.cob_move_apply.specs.Some.{SomeOf}
+use Rattle.cob_move.specs.Refusals.{BreaksOn}
 use Rattle.cob_layout_places.specs.Moves.{Move, moves}
 use Rattle.cob_move_references.specs.Directory.{entries_named}
 use Rattle.cob_move_statements.specs.declared.fault.MoveFault.{MoveFault}

@@ -1,7 +1,8 @@
 use Rattle.std.proofs.Common.{◌++◌, drop, List, map}
 use Rattle.std.specs.List.{AllByRecursion}
 use Rattle.cob_move.specs.Meaning.{AreReceiversOf, kind_of_sender}
-use Rattle.cob_move.specs.Refusals.{BreaksReceipt, SomeOf}
+use Rattle.cob_move_apply.specs.Some.{SomeOf}
+use Rattle.cob_move.specs.Refusals.{BreaksReceipt}
 use Rattle.cob_layout_places.specs.declared.operands.Operand.{Operand}
 use Rattle.cob_layout_places.specs.Moves.{operand_in, sender}
 use Rattle.cob_move.specs.Entries.{records_of}

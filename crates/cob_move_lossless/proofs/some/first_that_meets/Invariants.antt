@@ -2,7 +2,7 @@ use Rattle.std.proofs.Common.{drop}
 use Rattle.cob_layout_places.specs.Moves.{AreMoves}
 use Rattle.cob_move_returns.specs.Singles.{all_singles}
 use Rattle.cob_move_lossless.specs.Brought.{moves_between}
-use Rattle.cob_move_lossless.specs.Some.{SomeByRecursion}
+use Rattle.cob_move_apply.specs.Some.{SomeOf}
 use Rattle.cob_move_lossless.specs.Tested.{layout_records}
 use Rattle.cob_move_lossless.proofs.LeftLemmas.{Both}
 use Rattle.cob_move_lossless.proofs.some.first_that_meets.Given as goal
@@ -10,6 +10,6 @@ use Rattle.cob_move_lossless.proofs.some.first_that_meets.Given as goal
 abbrev pub invariant-loop-place : goal.invariant-loop-place
 invariant-loop-place g l = record {
   left : AreMoves (layout_records l.layouts) (moves_between l.layouts (drop l.place l.statements));
-  some : Both (SomeByRecursion (g.C.Condition.met l.condition) (all_singles (moves_between l.layouts (drop l.place l.statements))))
-      (SomeByRecursion (g.C.Condition.met l.condition) (all_singles (moves_between l.layouts l.statements)));
+  some : Both (SomeOf (g.C.Condition.met l.condition) (all_singles (moves_between l.layouts (drop l.place l.statements))))
+      (SomeOf (g.C.Condition.met l.condition) (all_singles (moves_between l.layouts l.statements)));
 }

@@ -1,7 +1,7 @@
 use Rattle.std.proofs.Common.{drop, map}
 use Rattle.cob_layout_places.specs.Moves.{AreMoves, numbered_move_by}
 use Rattle.cob_move_returns.specs.Singles.{all_singles}
-use Rattle.cob_move_lossless.specs.Some.{SomeByRecursion}
+use Rattle.cob_move_apply.specs.Some.{SomeOf}
 use Rattle.cob_move_lossless.specs.Tested.{layout_records}
 use Rattle.cob_move_lossless.proofs.LeftLemmas.{Both}
 use Rattle.cob_move_lossless.proofs.some.some_pair_meets.Given as goal
@@ -9,6 +9,6 @@ use Rattle.cob_move_lossless.proofs.some.some_pair_meets.Given as goal
 abbrev pub invariant-loop-pair : goal.invariant-loop-pair
 invariant-loop-pair g l = record {
   left : AreMoves (layout_records l.layouts) (drop l.pair-index (map (numbered_move_by l.layouts.reading (layout_records l.layouts) l.group) l.pairs));
-  some : Both (SomeByRecursion (g.C.Condition.met l.condition) (all_singles (drop l.pair-index (map (numbered_move_by l.layouts.reading (layout_records l.layouts) l.group) l.pairs))))
-      (SomeByRecursion (g.C.Condition.met l.condition) (all_singles (map (numbered_move_by l.layouts.reading (layout_records l.layouts) l.group) l.pairs)));
+  some : Both (SomeOf (g.C.Condition.met l.condition) (all_singles (drop l.pair-index (map (numbered_move_by l.layouts.reading (layout_records l.layouts) l.group) l.pairs))))
+      (SomeOf (g.C.Condition.met l.condition) (all_singles (map (numbered_move_by l.layouts.reading (layout_records l.layouts) l.group) l.pairs)));
 }

@@ -2,7 +2,7 @@ use Rattle.std.proofs.Common.{drop, map}
 use Rattle.std.specs.List.{AllByRecursion}
 use Rattle.cob_layout_places.specs.Moves.{IsOperand, operand_in, sender_by}
 use Rattle.cob_move_returns.specs.Singles.{singles_from}
-use Rattle.cob_move_lossless.specs.Some.{SomeByRecursion}
+use Rattle.cob_move_apply.specs.Some.{SomeOf}
 use Rattle.cob_move_lossless.specs.Tested.{layout_records}
 use Rattle.cob_move_lossless.proofs.LeftLemmas.{Both}
 use Rattle.cob_move_lossless.proofs.some.some_receiver_meets.Given as goal
@@ -12,6 +12,6 @@ invariant-loop-receiver g l =
     let sender = sender_by l.layouts.reading (layout_records l.layouts) l.one.sender in
     record {
       left : AllByRecursion (IsOperand l.layouts.output.now) (drop l.receiver-index (map (operand_in l.layouts.output.now) l.receivers));
-      some : Both (SomeByRecursion (g.C.Condition.met l.condition) (singles_from sender (drop l.receiver-index (map (operand_in l.layouts.output.now) l.receivers))))
-          (SomeByRecursion (g.C.Condition.met l.condition) (singles_from sender (map (operand_in l.layouts.output.now) l.receivers)));
+      some : Both (SomeOf (g.C.Condition.met l.condition) (singles_from sender (drop l.receiver-index (map (operand_in l.layouts.output.now) l.receivers))))
+          (SomeOf (g.C.Condition.met l.condition) (singles_from sender (map (operand_in l.layouts.output.now) l.receivers)));
     }
