@@ -3,7 +3,7 @@
 use cob_convert_files::{PlaceFault, put_in_place};
 use cob_records::{FileSink, Opened, WriteSink};
 use std::fs::OpenFile;
-use std::io::{Print, Printer};
+use std::io::{Print, Printer, Write};
 use std::rt::Files;
 
 /// The names of the files that stand in for the output and for the file of rejected records until all is done.
@@ -33,7 +33,9 @@ fn is_synced<F: OpenFile, S>(opened: &Opened<F, S>) -> bool {
 /// # Errors
 ///
 /// Where the system could not.
-fn synced<F: OpenFile + Drop, S: Drop>(sink: FileSink<F, S>) -> Result<FileSink<F, S>, PlaceFault> {
+fn synced<F: OpenFile + Write + Drop, S: Write + Drop>(
+    sink: FileSink<F, S>,
+) -> Result<FileSink<F, S>, PlaceFault> {
     let writer = sink.into_inner();
     if is_synced(writer.get_ref()) {
         Ok(WriteSink::new(writer))

@@ -43,6 +43,7 @@ status_of_refusal refusal.Form = status.Malformed
 status_of_refusal refusal.Reading = status.Malformed
 status_of_refusal refusal.Block = status.Malformed
 status_of_refusal refusal.Piece = status.Malformed
+status_of_refusal refusal.Number = status.Malformed
 status_of_refusal refusal.Pieces = status.Malformed
 status_of_refusal refusal.Listing = status.Malformed
 status_of_refusal refusal.NotText = status.Malformed
