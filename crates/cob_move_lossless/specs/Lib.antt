@@ -1,6 +1,5 @@
 pub mod Tested
 pub mod Received
-pub mod Some
 pub mod Brought
 pub mod Ascending
 pub mod Walk
