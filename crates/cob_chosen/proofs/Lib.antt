@@ -1,3 +1,4 @@
+pub mod Beginning
 pub mod Giving
 pub mod InFront
 pub mod Stepping

@@ -1,12 +1,14 @@
 -- A source that gives the chosen records of another: what it has given, and what a read gives.
-use Rattle.std.specs.Prelude.{◌≡◌, ◌⊎◌, ℕ, Bool, true, false, List, [], ◌++◌, length, None, Some, Option, Err}
+use Rattle.std.specs.Prelude.{◌≡◌, ◌⊎◌, ◌≤◌, ℕ, ⊤, Bool, true, false, List, [], ◌++◌, length, None, Some, Option, Err}
 use Rattle.cob_records.specs.Device.{Told}
-use Rattle.cob_records.specs.Frame.{is_read_failure}
+use Rattle.cob_records.specs.Frame.{is_read_failure, is_write_fault}
 use Rattle.cob_records.specs.declared.records.Form.{Form}
 use Rattle.cob_chosen.specs.Choices.{HasStopped}
 use Rattle.cob_chosen.specs.Helds.{held_bytes}
 use Rattle.cob_chosen.specs.Walks.{IsAt}
 use Rattle.cob_chosen.specs.declared.walk.Walk.{Walk}
+use Rattle.cob_chosen.specs.declared.choice.ChoiceFault.{ChoiceFault}
+use Rattle.cob_chosen.specs.declared.choice.ChoiceFault.TheVariants as choice
 use Rattle.cob_chosen.specs.declared.choice.Stopped.{Stopped}
 use Rattle.cob_chosen.specs.declared.chosen.Chosen.{Chosen}
 
@@ -34,6 +36,16 @@ chosen_walk source = source.walk
 -- that are chosen of what came.
 abbrev pub HasGiven : {R : Type 0} → (first now : Option (List ℕ)) → List ℕ → Chosen R → Type 0
 HasGiven first now given source = Told first now (IsAt source.walk (given ++ held_bytes source.held))
+
+-- Those before the chosen ones have passed, or no byte is left of a source that first told these bytes and tells those now.
+abbrev pub IsPassedTo : {R : Type 0} → (first now : Option (List ℕ)) → Chosen R → Type 0
+IsPassedTo first now source = (source.walk.skip ≤ source.walk.number) ⊎ Told first now (λ bytes rest. rest ≡ [])
+
+-- Why none of the chosen ones comes of a source that first told these bytes: the frame of one that is passed over can't be read, or memory was refused.
+abbrev pub StopsPassing : Form → (greatest skip : ℕ) → (first : Option (List ℕ)) → ChoiceFault → Type 0
+StopsPassing form greatest skip first (choice.Stopped stop) =
+    (is_write_fault stop.fault ≡ false) × ((left : Option (List ℕ)) × Told first left (HasStopped form greatest skip stop []))
+StopsPassing form greatest skip first choice.Memory = ⊤
 
 -- these bytes are given behind whatever was given before
 abbrev pub Gives : {R : Type 0} → (R → Option (List ℕ)) → List ℕ → Chosen R → Chosen R → Type 0

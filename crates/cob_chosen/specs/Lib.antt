@@ -2,4 +2,5 @@ pub mod Choices
 pub mod Fronts
 pub mod Gives
 pub mod Helds
+pub mod Incomings
 pub mod Walks

@@ -1,5 +1,5 @@
 -- How far a stream of records has come, of which some are chosen, and one more.
-use Rattle.std.specs.Prelude.{◌≡◌, ℕ, List, [], ◌++◌, Option}
+use Rattle.std.specs.Prelude.{◌≡◌, ◌⊎◌, ◌≤◌, ℕ, List, [], ◌++◌, Option}
 use Rattle.cob_records.specs.Device.{Told}
 use Rattle.cob_chosen.specs.Choices.{HasCome, HasStopped}
 use Rattle.cob_chosen.specs.declared.choice.Stopped.{Stopped}
@@ -21,6 +21,10 @@ PassesOver before now coming left = (first : Option (List ℕ)) (chosen : List �
 abbrev pub EndsAt : Walk → Walk → (coming left : Option (List ℕ)) → Type 0
 EndsAt before now coming left =
     (first : Option (List ℕ)) (chosen : List ℕ) → Told first coming (IsAt before chosen) → Told first left (λ bytes rest. IsAt now chosen bytes rest × (rest ≡ []))
+
+-- The first record that is chosen is the next one, or no byte is left.
+abbrev pub ReachesFirst : Walk → Walk → (coming left : Option (List ℕ)) → Type 0
+ReachesFirst before now coming left = (now.skip ≤ now.number) ⊎ EndsAt before now coming left
 
 -- Behind whatever was chosen of what came before, these bytes are chosen too.
 abbrev pub Takes : List ℕ → Walk → Walk → (coming left : Option (List ℕ)) → Type 0

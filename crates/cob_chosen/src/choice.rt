@@ -21,6 +21,15 @@ pub struct Stopped {
     pub fault: RecordFault,
 }
 
+/// Why the first record that is chosen does not come.
+#[derive(Clone, Copy, Debug, PartialEq, Eq)]
+pub enum ChoiceFault {
+    /// The frame of a record that is passed over can't be read.
+    Stopped(Stopped),
+    /// Memory was refused, before a record was read.
+    Memory,
+}
+
 impl Choice {
     /// Whether all records are chosen.
     pub fn is_all(self) -> bool

@@ -1,18 +1,18 @@
 //! A source that gives the chosen records of another.
 
-ghost use Rattle.std.specs.Prelude.{◌≡◌, ℕ, ◌<◌, ◌≤◌, List, [], None, Option, false, true, length, take, IfOk, IfSome, OnErr, OnOk, is_err};
+ghost use Rattle.std.specs.Prelude.{◌≡◌, ◌<◌, ◌≤◌, [], None, false, true, length, take, IfErr, IfOk, IfSome, OnErr, OnOk, is_err};
 ghost use Rattle.cob_limits.specs.Limits.{longest_record};
 ghost use Rattle.cob_records.specs.Device.{counted};
 ghost use Rattle.cob_records.specs.Forms.{HasBlockSize};
 ghost use Rattle.cob_records.specs.Frame.{is_write_fault};
 ghost use Rattle.cob_chosen.specs.Choices.{stops_reading};
 
-use crate::choice::{Choice, Stopped};
+use crate::choice::{Choice, ChoiceFault, Stopped};
 use crate::held::Held;
-use crate::refill::refill;
+use crate::refill::{pass_over, refill};
 use crate::walk::Walk;
 use cob_records::{DeviceFault, Form, Source};
-use std::alloc::{AllocError, Global};
+use std::alloc::Global;
 
 /// A source round another that gives just the records that are chosen of it, each as it stands by itself in a stream of the same form. It does
 /// not tell its bytes: what it gives is said by what has come of the source inside.
@@ -27,49 +27,59 @@ pub struct Chosen<R> {
     ghost kind: { stops_reading stopped ≡ true },
 }
 
-impl<R: Drop> Chosen<R> {
+impl<R: Source + Drop> Chosen<R> {
     ghost use Rattle.cob_chosen.specs.Choices.{last_chosen};
-    ghost use Rattle.cob_chosen.specs.Gives.{HasGiven, chosen_failures, chosen_inner, chosen_stop, chosen_walk};
+    ghost use Rattle.cob_chosen.specs.Gives.{HasGiven, IsPassedTo, StopsPassing, chosen_failures, chosen_inner, chosen_stop, chosen_walk};
 
-    /// A source that gives the records of this choice of another, which stand in this form and have at most this length: 1 to 32,752.
+    /// A source that gives the records of this choice of another, which stand in this form and have at most this length: 1 to 32,752. Those before
+    /// the chosen ones are passed over at once, as far as there are so many.
     ///
     /// # Errors
     ///
-    /// Where no memory is left for a record.
+    /// A record that is passed over whose frame can't be read; where no memory is left for a record.
     pub fn new(
         alloc: Global,
-        inner: R,
+        mut inner: R,
         form: Form,
         greatest: u16,
         choice: Choice,
-    ) -> Result<Chosen<R>, AllocError>
+    ) -> Result<Chosen<R>, ChoiceFault>
         requires block { HasBlockSize form }
         requires low { 0 < greatest }
         requires high { greatest ≤ longest_record }
-        ensures inner { IfOk result (λ source. chosen_inner source ≡ inner) }
         ensures form { IfOk result (λ source. (chosen_walk source).form ≡ form) }
         ensures greatest { IfOk result (λ source. (chosen_walk source).greatest ≡ greatest) }
         ensures skip { IfOk result (λ source. (chosen_walk source).skip ≡ choice.skip) }
         ensures last { IfOk result (λ source. (chosen_walk source).last ≡ last_chosen choice) }
-        ensures none { IfOk result (λ source. (coming : Option (List ℕ)) → HasGiven coming coming [] source) }
+        // Nothing is given yet, and those before the chosen ones have passed, or it is at its end.
+        ensures none { IfOk result (λ source. HasGiven (R.coming inner) (R.coming (chosen_inner source)) [] source) }
+        ensures passed { IfOk result (λ source. IsPassedTo (R.coming inner) (R.coming (chosen_inner source)) source) }
         ensures runs { IfOk result (λ source. chosen_stop source ≡ None) }
         ensures failures { IfOk result (λ source. chosen_failures source ≡ 0) }
+        ensures reads { IfOk result (λ source. R.failures (chosen_inner source) ≡ R.failures inner) }
+        ensures stops { IfErr result (StopsPassing form greatest choice.skip (R.coming inner)) }
     {
-        let held = Held::new(alloc, greatest)?;
-        Ok(Chosen {
-            inner,
-            walk: Walk {
-                form,
-                greatest,
-                skip: choice.skip,
-                last: choice.last(),
-                number: 0,
-                left: 0,
-            },
-            held,
-            stopped: None,
-            failures: 0,
-        })
+        let Ok(mut held) = Held::new(alloc, greatest) else {
+            return Err(ChoiceFault::Memory);
+        };
+        let mut walk = Walk {
+            form,
+            greatest,
+            skip: choice.skip,
+            last: choice.last(),
+            number: 0,
+            left: 0,
+        };
+        match pass_over(&mut inner, &mut walk, &mut held.body) {
+            Ok(_) => Ok(Chosen {
+                inner,
+                walk,
+                held,
+                stopped: None,
+                failures: 0,
+            }),
+            Err(stop) => Err(ChoiceFault::Stopped(stop)),
+        }
     }
 }
 

@@ -16,11 +16,13 @@
 mod choice;
 mod chosen;
 mod held;
+mod incoming;
 mod refill;
 mod step;
 mod walk;
 mod whole;
 
-pub use choice::{Choice, Stopped};
+pub use choice::{Choice, ChoiceFault, Stopped};
 pub use chosen::Chosen;
+pub use incoming::{Incoming, choose};
 pub use whole::{Whole, whole_records};

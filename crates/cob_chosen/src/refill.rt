@@ -5,7 +5,7 @@ ghost use Rattle.cob_records.specs.Device.{counted};
 ghost use Rattle.cob_records.specs.Frame.{is_write_fault};
 ghost use Rattle.cob_chosen.specs.Choices.{is_failed_read};
 ghost use Rattle.cob_chosen.specs.Helds.{IsSpent, held_bytes};
-ghost use Rattle.cob_chosen.specs.Walks.{EndsAt, IsSameChoice, PassesOver, StopsAt, Takes};
+ghost use Rattle.cob_chosen.specs.Walks.{EndsAt, IsSameChoice, PassesOver, ReachesFirst, StopsAt, Takes};
 
 use crate::choice::Stopped;
 use crate::held::Held;
@@ -18,12 +18,18 @@ use cob_records::Source;
 /// # Errors
 ///
 /// A frame that can't be read.
-fn pass_over<R: Source>(source: &mut R, walk: &mut Walk, body: &mut [u8]) -> Result<bool, Stopped>
+pub(crate) fn pass_over<R: Source>(
+    source: &mut R,
+    walk: &mut Walk,
+    body: &mut [u8],
+) -> Result<bool, Stopped>
     requires room { length body.old ≡ walk.old.greatest }
     ensures room { length body.new ≡ length body.old }
     ensures same { IsSameChoice walk.old walk.new }
-    ensures passes { IfOk result (λ all. IsTrue all
-        → PassesOver walk.old walk.new (R.coming source.old) (R.coming source.new)) }
+    ensures passes { IfOk result (λ _.
+        PassesOver walk.old walk.new (R.coming source.old) (R.coming source.new)) }
+    ensures reaches { IfOk result (λ _.
+        ReachesFirst walk.old walk.new (R.coming source.old) (R.coming source.new)) }
     ensures behind { IfOk result (λ all. IsTrue all → walk.new.skip ≤ walk.new.number) }
     ensures ends { IfOk result (λ all. IsFalse all
         → EndsAt walk.old walk.new (R.coming source.old) (R.coming source.new)) }
