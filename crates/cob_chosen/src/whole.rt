@@ -5,13 +5,13 @@ ghost use Rattle.cob_chosen.specs.Choices.{AreInFront};
 
 /// Whole records, and how many bytes they have.
 #[derive(Clone, Copy, Debug, PartialEq, Eq)]
-pub struct Whole {
-    pub records: u64,
-    pub bytes: u64,
+pub(crate) struct Whole {
+    pub(crate) records: u64,
+    pub(crate) bytes: u64,
 }
 
 /// The first whole records of so many bytes, where each has the same length, `skip` of them at most.
-pub fn whole_records(skip: u64, size: u64, greatest: u16) -> Whole
+pub(crate) fn whole_records(skip: u64, size: u64, greatest: u16) -> Whole
     requires { 0 < greatest }
     ensures few { result.records ≤ skip }
     ensures bytes { result.bytes ≡ result.records * greatest }
