@@ -1,7 +1,7 @@
 -- A source that gives the chosen records of another: what it has given, and what a read gives.
 use Rattle.std.specs.Prelude.{◌≡◌, ◌⊎◌, ◌≤◌, ℕ, ⊤, Bool, true, false, List, [], ◌++◌, length, None, Some, Option, Err}
 use Rattle.cob_records.specs.Device.{Told}
-use Rattle.cob_records.specs.Frame.{is_read_failure, is_write_fault}
+use Rattle.cob_records.specs.Frame.{is_read_failure}
 use Rattle.cob_records.specs.declared.records.Form.{Form}
 use Rattle.cob_chosen.specs.Choices.{HasStopped}
 use Rattle.cob_chosen.specs.Helds.{held_bytes}
@@ -43,9 +43,13 @@ IsPassedTo first now source = (source.walk.skip ≤ source.walk.number) ⊎ Told
 
 -- Why none of the chosen ones comes of a source that first told these bytes: the frame of one that is passed over can't be read, or memory was refused.
 abbrev pub StopsPassing : Form → (greatest skip : ℕ) → (first : Option (List ℕ)) → ChoiceFault → Type 0
-StopsPassing form greatest skip first (choice.Stopped stop) =
-    (is_write_fault stop.fault ≡ false) × ((left : Option (List ℕ)) × Told first left (HasStopped form greatest skip stop []))
+StopsPassing form greatest skip first (choice.Stopped stop) = (left : Option (List ℕ)) × Told first left (HasStopped form greatest skip stop [])
 StopsPassing form greatest skip first choice.Memory = ⊤
+
+-- what is true of where it stopped, where that is why
+abbrev pub IfStopped : ChoiceFault → (Stopped → Type 0) → Type 0
+IfStopped (choice.Stopped stop) P = P stop
+IfStopped choice.Memory P = ⊤
 
 -- these bytes are given behind whatever was given before
 abbrev pub Gives : {R : Type 0} → (R → Option (List ℕ)) → List ℕ → Chosen R → Chosen R → Type 0

@@ -29,7 +29,7 @@ pub struct Chosen<R> {
 
 impl<R: Source + Drop> Chosen<R> {
     ghost use Rattle.cob_chosen.specs.Choices.{last_chosen};
-    ghost use Rattle.cob_chosen.specs.Gives.{HasGiven, IsPassedTo, StopsPassing, chosen_failures, chosen_inner, chosen_stop, chosen_walk};
+    ghost use Rattle.cob_chosen.specs.Gives.{HasGiven, IfStopped, IsPassedTo, StopsPassing, chosen_failures, chosen_inner, chosen_stop, chosen_walk};
 
     /// A source that gives the records of this choice of another, which stand in this form and have at most this length: 1 to 32,752. Those before
     /// the chosen ones are passed over at once, as far as there are so many.
@@ -58,6 +58,7 @@ impl<R: Source + Drop> Chosen<R> {
         ensures failures { IfOk result (λ source. chosen_failures source ≡ 0) }
         ensures reads { IfOk result (λ source. R.failures (chosen_inner source) ≡ R.failures inner) }
         ensures stops { IfErr result (StopsPassing form greatest choice.skip (R.coming inner)) }
+        ensures kind { IfErr result (λ fault. IfStopped fault (λ stop. is_write_fault stop.fault ≡ false)) }
     {
         let Ok(mut held) = Held::new(alloc, greatest) else {
             return Err(ChoiceFault::Memory);

@@ -3,8 +3,9 @@
 ghost use Rattle.std.specs.Prelude.{◌≡◌, ◌<◌, ◌≤◌, Ok, false, true, IfErr, IfOk};
 ghost use Rattle.cob_limits.specs.Limits.{longest_record};
 ghost use Rattle.cob_records.specs.Forms.{HasBlockSize};
+ghost use Rattle.cob_records.specs.Frame.{is_write_fault};
 ghost use Rattle.cob_chosen.specs.Choices.{chooses_all};
-ghost use Rattle.cob_chosen.specs.Gives.{StopsPassing};
+ghost use Rattle.cob_chosen.specs.Gives.{IfStopped, StopsPassing};
 ghost use Rattle.cob_chosen.specs.Incomings.{GivesChosen};
 ghost use Rattle.cob_chosen.specs.declared.incoming.Incoming.TheVariants as incoming;
 
@@ -41,6 +42,7 @@ pub fn choose<R: Source + Drop>(
     ensures all { chooses_all choice ≡ true → result ≡ Ok (incoming.All source) }
     ensures some { chooses_all choice ≡ false → IfOk result (GivesChosen R.coming form greatest choice (R.coming source)) }
     ensures stops { IfErr result (StopsPassing form greatest choice.skip (R.coming source)) }
+    ensures kind { IfErr result (λ fault. IfStopped fault (λ stop. is_write_fault stop.fault ≡ false)) }
 {
     if choice.is_all() {
         return Ok(Incoming::All(source));

@@ -8,11 +8,6 @@ returns-in-Ok-pass_over-clause-passed g c =
     c.in-Ok-pass_over.ensures.reaches
 
 pub returns-in-Err-clause-stops : goal.returns-in-Err-clause-stops
-returns-in-Err-clause-stops g c = (
-  c.in-Err.ensures.kind,
-  (
-    g.R.Source.coming c.pass_over.new.source,
-    c.in-Err.ensures.stops (g.R.Source.coming c.args.inner) []
-        (told_begun c.args.form c.args.greatest c.args.choice.skip (g.R.Source.coming c.args.inner)),
-  ),
-)
+returns-in-Err-clause-stops g c =
+    let coming = g.R.Source.coming c.args.inner in
+    (g.R.Source.coming c.pass_over.new.source, c.in-Err.ensures.stops coming [] (told_begun c.args.form c.args.greatest c.args.choice.skip coming))
