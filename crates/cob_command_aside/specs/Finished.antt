@@ -1,5 +1,7 @@
 -- What a conversion that sets rejected records aside comes to behind its run: whether its outputs were handed to their devices, and put in their places.
 use Rattle.std.specs.Prelude.{◌==◌, ◌||◌, ◌+◌, ◌-◌, ℕ, Bool, true, false, Option, None, Some, Result, Ok, Err, ⊤, if◌then◌else◌}
+use Rattle.cob_chosen.specs.declared.choice.Stopped.{Stopped}
+use Rattle.cob_command_input.specs.Stops.{cause_told}
 use Rattle.cob_stream.specs.declared.fault.RunFault.{RunFault}
 use Rattle.cob_convert.specs.declared.aside.AsideFault.{AsideFault}
 use Rattle.cob_convert.specs.declared.aside.AsideFault.TheVariants as aside
@@ -22,6 +24,11 @@ use Rattle.cob_command_aside.specs.Marks.{last_put}
 abbrev pub most_of : Option ℕ → ℕ
 most_of None = greatest_count
 most_of (Some most) = most
+
+-- the fault of a run over chosen records, where one of these couldn't be read
+abbrev pub aside_cause : Option Stopped → AsideFault → AsideFault
+aside_cause stop (aside.Stopped told) = aside.Stopped (cause_told stop told)
+aside_cause stop (aside.NotSetAside number cause written) = aside.NotSetAside number cause written
 
 -- an output failed: a record could not be written, or a rejected one not be set aside
 abbrev pub fails_output : AsideFault → Bool
