@@ -104,7 +104,7 @@ fn convert_into<R: AllocGlobal + Files + Input + Print + Eprint + Clock>(
     let how = how_of(rt, line);
     let mut notes = rejections_of(rt, line, how);
     let ending = run_aside_to_end(
-        rt, how, converter, source, &mut sink, &mut aside, &mut notes,
+        rt, how, converter, incoming, &mut sink, &mut aside, &mut notes,
     );
     aside_told_from(
         first_of(line),
@@ -157,7 +157,7 @@ fn convert_parts<R: AllocGlobal + Files + Input + Print + Eprint + Clock>(
     let how = how_of(rt, line);
     let mut notes = rejections_of(rt, line, how);
     let ending = run_aside_to_end(
-        rt, how, converter, source, &mut sink, &mut aside, &mut notes,
+        rt, how, converter, incoming, &mut sink, &mut aside, &mut notes,
     );
     let names = Parts {
         output: line.output,
