@@ -1,6 +1,6 @@
 -- Occurrences that are noted once receive once.
-use Rattle.std.proofs.Common.{◌≡◌, ◌≢◌, ℕ, ◌+◌, ◌<◌, ◌≤◌, true, false, List, [], ◌∷◌, ◌++◌, length, get_or, drop, set, refl, sym, ap, subst, ◌∙◌, append-nil, append_assoc, arith, inl, inr}
-use Rattle.std.specs.Prelude.{Option, Some, None, Ok, Err, option_map, IfNone, IsSome, is_some}
+use Rattle.std.proofs.Common.{◌≡◌, ℕ, ◌+◌, ◌<◌, ◌≤◌, true, false, List, [], ◌∷◌, ◌++◌, length, get_or, drop, set, refl, sym, ap, subst, ◌∙◌, append-nil, append_assoc, inl, inr}
+use Rattle.std.specs.Prelude.{Bool, Result, Option, Some, None, Ok, Err, option_map, IfNone, IsSome, is_some}
 use Rattle.std.proofs.lemmas.List.{drop_all, get_or-set_same, get_or-set_other}
 use Rattle.std.proofs.lemmas.Bool.{cases_eq}
 use Rattle.cob_codec.specs.declared.reading.Reading.{Reading}
@@ -9,6 +9,7 @@ use Rattle.cob_copybook_tree.specs.Nodes.{Resolved}
 use Rattle.cob_layout.specs.Counting.{greatest_counts}
 use Rattle.cob_layout.specs.Placed.{placed, placed_under}
 use Rattle.cob_layout.specs.declared.fields.Place.{Place}
+use Rattle.cob_layout.specs.declared.layout.PlaceFault.{PlaceFault}
 use Rattle.cob_layout_places.specs.Cover.{Occurrence}
 use Rattle.cob_layout_places.specs.Lengths.{times}
 use Rattle.cob_layout_places.specs.Places.{place_of}
@@ -22,21 +23,24 @@ use Rattle.cob_layout_places.specs.declared.reference.Ref.{Ref}
 use Rattle.cob_layout_places.specs.Moves.{Records, move_by, sender_by}
 use Rattle.cob_move_apply.proofs.ListLemmas.{next}
 use Rattle.cob_move_returns.specs.Singles.{ReceiveOnce, SingleMove, occurrence_of}
-use Rattle.cob_move_lossless.specs.Noting.{BeginsAt, IsNoted, IsNotedAt, IsNotedFirst, NotesFirst, NotesOnce, ReceiveFirst}
+use Rattle.cob_move_lossless.specs.Noting.{BeginsAt, IsNotedAt, NotesFirst, NotesOnce, ReceiveFirst}
 use Rattle.cob_move_lossless.specs.Received.{occurrence, singles_by_pairs, singles_by_statement, singles_to}
 use Rattle.cob_move_lossless.proofs.EachLemmas.{one_move}
 
 -- ---- where an occurrence begins
 
+begins_where : (o l : ℕ) (within : Bool) (p : Place) → placed (record { offset = o; length = l; within = within }) ≡ Ok p → o ≡ p.offset
+begins_where o l true p h =
+    let e : ◌≡◌ {A = Result Place PlaceFault} (Ok (record { offset = o; length = l })) (Ok p) = h in
+    let same : record { offset = o; length = l } ≡ p = cc in
+    ap (λ (q : Place). q.offset) same
+begins_where o l false p h = let e : ◌≡◌ {A = Result Place PlaceFault} (Err (record { offset = o })) (Ok p) = h in absurd (cc)
+
 found_begins : (tree : Forest Resolved) (x : Occurrence) (o : Option Found) (p : Place) → place_of (times (greatest_counts tree)) x.number tree 0 0 x.subscripts ≡ o
     → option_map placed o ≡ Some (Ok p) → BeginsAt tree x p.offset
 found_begins tree x None p is h = absurd (cc)
-found_begins tree x (Some (record { offset = o; length = l; within = true })) p is h = record {
-  found = record { offset = o; length = l; within = true };
-  place = is;
-  begins = let e : Some (Ok (record { offset = o; length = l })) ≡ Some (Ok p) = h in cc;
-}
-found_begins tree x (Some (record { offset = o; length = l; within = false })) p is h = absurd (cc)
+found_begins tree x (Some f) p is h =
+    let same : placed f ≡ Ok p = cc in record { found = f; place = is; begins = begins_where f.offset f.length f.within p same }
 
 pub begins_by : (tree : Forest Resolved) (r : Ref) (n : ℕ) (xs : List ℕ) (p : Place) → r.node ≡ n → r.subscripts.items ≡ xs
     → placed_under (greatest_counts tree) tree r ≡ Some (Ok p) → BeginsAt tree (occurrence n xs) p.offset
@@ -55,21 +59,21 @@ one_beginning tree x a b h k =
 
 still_noted : (noted : List (Option ℕ)) (at statement other : ℕ) → at < length noted → IsNotedAt noted other → IsNotedAt (set noted at (Some statement)) other
 still_noted noted at statement other lt h = elim (cases_eq other at) [
-  | inl is ↦ subst (λ (o : ℕ). IsNotedAt (set noted at (Some statement)) o) (sym is) (subst IsSome (sym (get_or-set_same noted at (Some statement) None lt)) tt)
+  | inl is ↦ subst (λ (o : ℕ). IsNotedAt (set noted at (Some statement)) o) (sym is) (subst IsSome (sym (get_or-set_same noted at (Some statement) None lt)) refl)
   | inr differs ↦ subst IsSome (sym (get_or-set_other noted at other (Some statement) None differs)) h
 ]
 
 pub noted_step : (tree : Forest Resolved) (noted after : List (Option ℕ)) (s : SingleMove) → NotesFirst tree noted (occurrence_of s.receiver) after → NotesOnce tree noted (s ∷ []) after
 noted_step tree noted after s h = λ others k.
     let x = occurrence_of s.receiver in
-    let here : IsNotedAt after h.at = subst (λ (ns : List (Option ℕ)). IsNotedAt ns h.at) (sym h.first.made) (subst IsSome (sym (get_or-set_same noted h.at (Some h.statement) None h.first.within)) tt) in
+    let here : IsNotedAt after h.at = subst (λ (ns : List (Option ℕ)). IsNotedAt ns h.at) (sym h.first.made) (subst IsSome (sym (get_or-set_same noted h.at (Some h.statement) None h.first.within)) refl) in
     record {
       once = (k.fresh x (record { at = h.at; begins = h.begins; there = here }), k.once);
       fresh = λ y was e. elim e [
         | inl is ↦
             let same : h.at ≡ was.at = one_beginning tree y h.at was.at (subst (λ (z : Occurrence). BeginsAt tree z h.at) is h.begins) was.begins in
-            let none : IsSome (None {A = ℕ}) = subst IsSome h.first.none (subst (λ (o : ℕ). IsNotedAt noted o) (sym same) was.there) in
-            none
+            let none : false ≡ true = subst (λ (o : Option ℕ). IsSome o) h.first.none (subst (λ (o : ℕ). IsNotedAt noted o) (sym same) was.there) in
+            cc
         | inr again ↦ k.fresh y (record {
           at = was.at;
           begins = was.begins;

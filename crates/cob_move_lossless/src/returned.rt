@@ -35,9 +35,9 @@ pub(crate) struct ItemElement<'a> {
 
 /// That a single move carries an occurrence of an item to another one, which loses nothing of it.
 #[derive(Clone, Copy)]
-struct Carried<'a> {
+struct Carried<'a, 'b> {
     from: ItemElement<'a>,
-    to: Element<'a>,
+    to: Element<'b>,
 }
 
 /// That a single move brings an occurrence of an item home: one there carries it to where this one comes from.
@@ -96,7 +96,7 @@ fn loses_nothing_at(layouts: &Layouts<'_>, element: &Element<'_>, item: &Item) -
 
 /// Whether a single move that goes from this element to where it is to be carried carries the occurrence.
 fn is_carried_from(
-    carried: &Carried<'_>,
+    carried: &Carried<'_, '_>,
     layouts: &Layouts<'_>,
     single: &Single<'_>,
     from: &Element<'_>,
@@ -113,7 +113,7 @@ fn is_carried_from(
     loses_nothing_at(layouts, &single.receiver, carried.from.item)
 }
 
-impl Condition for Carried<'_> {
+impl Condition for Carried<'_, '_> {
     ghost met = { λ c s. Carries c s };
 
     ghost ready = { λ c. Unit {0} };
@@ -134,6 +134,7 @@ impl Condition for BroughtHome<'_> {
     ghost ready = { λ b. AreLegal b.there.now };
 
     fn is_met(&self, layouts: &Layouts<'_>, single: &Single<'_>) -> bool {
+        let there = self.there;
         match origin(layouts, single, self.to.number, self.to.subscripts) {
             None => false,
             Some(away) => some_meets(
@@ -141,10 +142,10 @@ impl Condition for BroughtHome<'_> {
                     from: self.to,
                     to: away,
                 },
-                self.there,
+                there,
                 noted_for(
                     self.noted,
-                    self.there.layouts.output,
+                    there.layouts.output,
                     away.number,
                     away.subscripts.as_slice(),
                 ),

@@ -8,10 +8,10 @@ use Rattle.cob_move_lossless.proofs.noted.note_all.Goals as goal
 pub loop-place-preserved : goal.loop-place-preserved
 loop-place-preserved c x r =
     noted_next (λ (ss : List StatementMoves). singles_by x r ss) c.args.statements.now c.loop-place.place c.index-statements-place.result (singles_by_statement x r c.index-statements-place.result)
-    c.args.output.now c.args.noted.now c.loop-place.noted.now c.note_statement-before.new.noted c.loop-place-test.true c.index-statements-place.is (λ ss. cut_singles x r c.index-statements-place.result ss)
+    c.args.output.now c.args.noted.now c.loop-place.noted c.note_statement-before.new.noted c.loop-place-test.true c.index-statements-place.is (λ ss. cut_singles x r c.index-statements-place.result ss)
     (unless_some c.note_statement-before.result (search rules) c.note_statement-before.ensures x r) (c.loop-place.invariant x r)
 
 pub returns : goal.returns
 returns c x r =
-    noted_all (λ (ss : List StatementMoves). singles_by x r ss) c.args.statements.now c.loop-place.place c.args.output.now c.args.noted.now c.loop-place.noted.now
+    noted_all (λ (ss : List StatementMoves). singles_by x r ss) c.args.statements.now c.loop-place.place c.args.output.now c.args.noted.now c.loop-place.noted
     c.loop-place-test.false refl (c.loop-place.invariant x r)

@@ -8,4 +8,4 @@ use Rattle.cob_move_lossless.proofs.noted.note_all.Given as goal
 
 abbrev pub invariant-loop-place : goal.invariant-loop-place
 invariant-loop-place l = (x : Reading) (r : Records)
-    → Noted (λ (ss : List StatementMoves). singles_by x r ss) l.statements l.place l.output.now l.fn.noted l.noted
+    → Noted (λ (ss : List StatementMoves). singles_by x r ss) l.statements l.place l.output l.fn.noted l.noted

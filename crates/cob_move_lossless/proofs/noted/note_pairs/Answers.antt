@@ -13,10 +13,10 @@ loop-pair-preserved c x r =
     let is : p ≡ get_or c.args.pairs.now c.loop-pair.pair-index p = read_is c.args.pairs.now c.loop-pair.pair-index none c.loop-pair-test.true in
     let first = unless_some c.note-before.result (search rules) c.note-before.ensures in
     noted_next (λ (ps : List NumberedPair). singles_by_pairs x r g ps) c.args.pairs.now c.loop-pair.pair-index p (of_pair x r g p ∷ [])
-    c.args.output.now c.args.noted.now c.loop-pair.noted.now c.note-before.new.noted c.loop-pair-test.true is (λ ps. refl)
-    (noted_step c.args.output.now c.loop-pair.noted.now c.note-before.new.noted (of_pair x r g p) first) (c.loop-pair.invariant x r)
+    c.args.output.now c.args.noted.now c.loop-pair.noted c.note-before.new.noted c.loop-pair-test.true is (λ ps. refl)
+    (noted_step c.args.output.now c.loop-pair.noted c.note-before.new.noted (of_pair x r g p) first) (c.loop-pair.invariant x r)
 
 pub returns : goal.returns
 returns c x r =
-    noted_all (λ (ps : List NumberedPair). singles_by_pairs x r c.args.group.now ps) c.args.pairs.now c.loop-pair.pair-index c.args.output.now c.args.noted.now c.loop-pair.noted.now
+    noted_all (λ (ps : List NumberedPair). singles_by_pairs x r c.args.group.now ps) c.args.pairs.now c.loop-pair.pair-index c.args.output.now c.args.noted.now c.loop-pair.noted
     c.loop-pair-test.false refl (c.loop-pair.invariant x r)

@@ -8,4 +8,4 @@ use Rattle.cob_move_lossless.proofs.noted.note_pairs.Given as goal
 
 abbrev pub invariant-loop-pair : goal.invariant-loop-pair
 invariant-loop-pair l = (x : Reading) (r : Records)
-    → Noted (λ (ps : List NumberedPair). singles_by_pairs x r l.group ps) l.pairs l.pair-index l.output.now l.fn.noted l.noted
+    → Noted (λ (ps : List NumberedPair). singles_by_pairs x r l.group ps) l.pairs l.pair-index l.output l.fn.noted l.noted

@@ -7,4 +7,4 @@ use Rattle.cob_move_lossless.proofs.noted.note_receivers.Given as goal
 
 abbrev pub invariant-loop-receiver : goal.invariant-loop-receiver
 invariant-loop-receiver l = (s : Sender) (r : Records)
-    → Noted (λ (rs : List Ref). singles_to s r rs) l.receivers l.receiver-index l.output.now l.fn.noted l.noted
+    → Noted (λ (rs : List Ref). singles_to s r rs) l.receivers l.receiver-index l.output l.fn.noted l.noted

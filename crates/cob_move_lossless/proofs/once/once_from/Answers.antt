@@ -1,4 +1,4 @@
-use Rattle.std.proofs.Common.{List, subst}
+use Rattle.std.proofs.Common.{List, ◌++◌, subst}
 use Rattle.std.proofs.lemmas.Bool.Decides.{not_from_Decides}
 use Rattle.cob_layout_places.specs.declared.operands.StatementMoves.{StatementMoves}
 use Rattle.cob_layout_places.specs.Moves.{moves_by}
