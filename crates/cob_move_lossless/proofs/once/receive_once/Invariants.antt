@@ -3,7 +3,7 @@ use Rattle.cob_codec.specs.declared.reading.Reading.{Reading}
 use Rattle.cob_layout_places.specs.Moves.{Records, moves_by}
 use Rattle.cob_move_returns.specs.Singles.{ReceiveOnce, all_singles}
 use Rattle.cob_move_lossless.proofs.LeftLemmas.{Both}
-use Rattle.cob_move_lossless.proofs.once.receive_once_compared.Given as goal
+use Rattle.cob_move_lossless.proofs.once.receive_once.Given as goal
 
 abbrev pub invariant-loop-statement : goal.invariant-loop-statement
 invariant-loop-statement l = (x : Reading) (r : Records)

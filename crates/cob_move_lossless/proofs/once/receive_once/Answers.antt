@@ -4,7 +4,7 @@ use Rattle.cob_layout_places.specs.Moves.{moves_by}
 use Rattle.cob_move_returns.specs.Singles.{ReceiveOnce, all_singles}
 use Rattle.cob_move_lossless.proofs.LeftLemmas.{never, rest_fails, rest_next, rest_none}
 use Rattle.cob_move_lossless.proofs.OnceLemmas.{LastStatement, cuts_once}
-use Rattle.cob_move_lossless.proofs.once.receive_once_compared.Goals as goal
+use Rattle.cob_move_lossless.proofs.once.receive_once.Goals as goal
 
 pub returns-then-not-statement_once : goal.returns-then-not-statement_once
 returns-then-not-statement_once c x r =
