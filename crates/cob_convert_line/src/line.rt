@@ -62,8 +62,16 @@ pub struct ConvertLine<'a> {
     pub from: u64,
     /// How many bytes of the input are converted, where they are not all that are left.
     pub bytes: Option<u64>,
-    /// The number from which records are counted: that of the first one that is converted.
+    /// The number from which records are counted: that of the first one of those bytes.
     pub first: u64,
+    /// How many records of those bytes are passed over.
+    pub skip: u64,
+    /// How many records behind these are converted at most, where it is not all.
+    pub records: Option<u64>,
+    /// The file that the records go to that do not convert, where the run goes on behind them.
+    pub rejects: Option<&'a str>,
+    /// How many records may be set aside, where there is a bound.
+    pub most_rejects: Option<u64>,
 }
 
 /// The options of `check`.
@@ -97,6 +105,10 @@ pub struct ShowLine<'a> {
     pub listing: Listing,
     /// Whether it tells on standard error how far it is.
     pub progress: bool,
+    /// How many records are passed over.
+    pub skip: u64,
+    /// How many records behind these are listed at most, where it is not all.
+    pub records: Option<u64>,
 }
 
 /// The options of `pieces`.

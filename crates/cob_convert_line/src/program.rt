@@ -1,6 +1,7 @@
 ghost use Rattle.std.specs.Prelude.{◌≡◌, IfOk, codes, false};
 ghost use Rattle.clap.specs.Words.{app_of, new_app, rule_of};
-ghost use Rattle.cob_convert_line.specs.Program.{alone_rule, bare_app, block_rule, check_app, convert_app, form_rule, layout_app, listing_rule, lossless_app, number_rule, pieces_app, program_app, reading_rule, required_rule, show_app, with_texts_app};
+ghost use Rattle.cob_convert_line.specs.Commands.{check_options, choice_options, convert_options, ends_options, forms_options, layout_options, lossless_options, piece_options, pieces_options, rejects_options, show_options, texts_options};
+ghost use Rattle.cob_convert_line.specs.Program.{alone_rule, bare_app, command_app, default_rule, optional_rule, program_app, required_rule, with_options};
 
 use clap::{Arg, ArgAction, Command};
 use std::alloc::{AllocError, Global};
@@ -105,69 +106,32 @@ fn required<'a>(alloc: Global, name: &'a str, value: &'a str, help: &'a str) -> 
         .help(help)
 }
 
-// An option that names a form of records.
-fn form<'a>(alloc: Global, name: &'a str, help: &'a str) -> Arg<'a>
-    ensures rule { rule_of result ≡ form_rule name.entry.now }
-    ensures local { result.global ≡ false }
-{
-    Arg::new(alloc, name)
-        .long(name)
-        .value_name("FORM")
-        .default_value("f")
-        .help(help)
-}
-
-// An option that names the greatest size of blocks.
-fn block<'a>(alloc: Global, name: &'a str, help: &'a str) -> Arg<'a>
-    ensures rule { rule_of result ≡ block_rule name.entry.now }
-    ensures local { result.global ≡ false }
-{
-    Arg::new(alloc, name)
-        .long(name)
-        .value_name("SIZE")
-        .default_value("32760")
-        .help(help)
-}
-
-// The option that names a reading of binary items.
-fn reading<'a>(alloc: Global, name: &'a str, help: &'a str) -> Arg<'a>
-    ensures rule { rule_of result ≡ reading_rule name.entry.now }
-    ensures local { result.global ≡ false }
-{
-    Arg::new(alloc, name)
-        .long(name)
-        .value_name("READING")
-        .default_value("pictured")
-        .help(help)
-}
-
-// The option that names a listing of values.
-fn listing<'a>(alloc: Global, name: &'a str, help: &'a str) -> Arg<'a>
-    ensures rule { rule_of result ≡ listing_rule name.entry.now }
-    ensures local { result.global ≡ false }
-{
-    Arg::new(alloc, name)
-        .long(name)
-        .value_name("LISTING")
-        .default_value("text")
-        .help(help)
-}
-
-// An option for a number, in whose place a word stands where the option is not there.
-fn number<'a>(
+// An option with a value, in whose place a word stands where the option is not there.
+fn defaulted<'a>(
     alloc: Global,
     name: &'a str,
     value: &'a str,
     default: &'a str,
     help: &'a str,
 ) -> Arg<'a>
-    ensures rule { rule_of result ≡ number_rule name.entry.now default.entry.now }
+    ensures rule { rule_of result ≡ default_rule name.entry.now default.entry.now }
     ensures local { result.global ≡ false }
 {
     Arg::new(alloc, name)
         .long(name)
         .value_name(value)
         .default_value(default)
+        .help(help)
+}
+
+// An option with a value that may be left out.
+fn optional<'a>(alloc: Global, name: &'a str, value: &'a str, help: &'a str) -> Arg<'a>
+    ensures rule { rule_of result ≡ optional_rule name.entry.now }
+    ensures local { result.global ≡ false }
+{
+    Arg::new(alloc, name)
+        .long(name)
+        .value_name(value)
         .help(help)
 }
 
@@ -184,7 +148,7 @@ fn alone<'a>(alloc: Global, name: &'a str, help: &'a str) -> Arg<'a>
 
 // A command with the options for the three texts.
 fn with_texts<'a>(alloc: Global, command: Command<'a>) -> Result<Command<'a>, AllocError>
-    ensures { IfOk result (λ made. app_of made ≡ with_texts_app (app_of command.entry)) }
+    ensures { IfOk result (λ made. app_of made ≡ with_options (app_of command.entry) texts_options) }
 {
     command
         .arg(required(alloc, "in-book", "FILE", "The copybook of the input record"))?
@@ -197,14 +161,11 @@ fn with_texts<'a>(alloc: Global, command: Command<'a>) -> Result<Command<'a>, Al
         .arg(required(alloc, "moves", "FILE", "The paragraph of MOVE statements"))
 }
 
-fn convert<'a>(alloc: Global) -> Result<Command<'a>, AllocError>
-    ensures { IfOk result (λ made. app_of made ≡ convert_app) }
+// A command with the options for the files that records come from and go to.
+fn with_ends<'a>(alloc: Global, command: Command<'a>) -> Result<Command<'a>, AllocError>
+    ensures { IfOk result (λ made. app_of made ≡ with_options (app_of command.entry) ends_options) }
 {
-    let command = Command::new(alloc, "convert")
-        .about("Convert a file of records by two copybooks and a paragraph")
-        .override_usage(CONVERT_USAGE)
-        .after_help(CONVERT_NOTES);
-    with_texts(alloc, command)?
+    command
         .arg(required(
             alloc,
             "in",
@@ -216,27 +177,99 @@ fn convert<'a>(alloc: Global) -> Result<Command<'a>, AllocError>
             "out",
             "FILE",
             "Where the converted records go; - is standard output",
+        ))
+}
+
+// A command with the options for the forms of both files, the greatest sizes of their blocks, and the reading of binary items.
+fn with_forms<'a>(alloc: Global, command: Command<'a>) -> Result<Command<'a>, AllocError>
+    ensures { IfOk result (λ made. app_of made ≡ with_options (app_of command.entry) forms_options) }
+{
+    command
+        .arg(defaulted(alloc, "in-form", "FORM", "f", FORM_HELP))?
+        .arg(defaulted(
+            alloc,
+            "out-form",
+            "FORM",
+            "f",
+            "How the output's records stand: f, v, b",
         ))?
-        .arg(form(alloc, "in-form", FORM_HELP))?
-        .arg(form(alloc, "out-form", "How the output's records stand: f, v, b"))?
-        .arg(block(alloc, "in-block", "Greatest size of the input's blocks"))?
-        .arg(block(alloc, "out-block", "Greatest size of the output's blocks"))?
-        .arg(reading(alloc, "binary", BINARY_HELP))?
-        .arg(alone(alloc, "atomic", ATOMIC_HELP))?
-        .arg(alone(alloc, "progress", PROGRESS_HELP))?
-        .arg(number(alloc, "from", "OFFSET", "0", "Where in the input to begin"))?
-        .arg(number(
+        .arg(defaulted(
+            alloc,
+            "in-block",
+            "SIZE",
+            "32760",
+            "Greatest size of the input's blocks",
+        ))?
+        .arg(defaulted(
+            alloc,
+            "out-block",
+            "SIZE",
+            "32760",
+            "Greatest size of the output's blocks",
+        ))?
+        .arg(defaulted(alloc, "binary", "READING", "pictured", BINARY_HELP))
+}
+
+// A command with the options for a piece of the input.
+fn with_piece<'a>(alloc: Global, command: Command<'a>) -> Result<Command<'a>, AllocError>
+    ensures { IfOk result (λ made. app_of made ≡ with_options (app_of command.entry) piece_options) }
+{
+    command
+        .arg(defaulted(alloc, "from", "OFFSET", "0", "Where in the input to begin"))?
+        .arg(defaulted(
             alloc,
             "bytes",
             "LENGTH",
             "all",
             "How many bytes of the input to convert",
         ))?
-        .arg(number(alloc, "record", "R", "1", "The number of the first record"))
+        .arg(defaulted(alloc, "record", "R", "1", "The number of the first record"))
+}
+
+// A command with the options that choose among records by their numbers.
+fn with_choice<'a>(alloc: Global, command: Command<'a>) -> Result<Command<'a>, AllocError>
+    ensures { IfOk result (λ made. app_of made ≡ with_options (app_of command.entry) choice_options) }
+{
+    command
+        .arg(defaulted(alloc, "skip", "N", "0", "Pass over the first N records"))?
+        .arg(defaulted(alloc, "records", "K", "all", "Take at most K records"))
+}
+
+// A command with the options for records that are set aside.
+fn with_rejects<'a>(alloc: Global, command: Command<'a>) -> Result<Command<'a>, AllocError>
+    ensures { IfOk result (λ made. app_of made ≡ with_options (app_of command.entry) rejects_options) }
+{
+    command
+        .arg(optional(
+            alloc,
+            "rejects",
+            "FILE",
+            "Set records aside that do not convert, and go on",
+        ))?
+        .arg(defaulted(
+            alloc,
+            "most-rejects",
+            "N",
+            "all",
+            "Stop at the record behind N set aside",
+        ))
+}
+
+fn convert<'a>(alloc: Global) -> Result<Command<'a>, AllocError>
+    ensures { IfOk result (λ made. app_of made ≡ command_app (codes "convert") convert_options) }
+{
+    let command = Command::new(alloc, "convert")
+        .about("Convert a file of records by two copybooks and a paragraph")
+        .override_usage(CONVERT_USAGE)
+        .after_help(CONVERT_NOTES);
+    let command = with_forms(alloc, with_ends(alloc, with_texts(alloc, command)?)?)?
+        .arg(alone(alloc, "atomic", ATOMIC_HELP))?
+        .arg(alone(alloc, "progress", PROGRESS_HELP))?;
+    with_rejects(alloc, with_choice(alloc, with_piece(alloc, command)?)?)
 }
 
 fn check<'a>(alloc: Global) -> Result<Command<'a>, AllocError>
-    ensures { IfOk result (λ made. app_of made ≡ check_app) }
+    ensures { IfOk result (λ made. app_of made ≡ command_app (codes "check") check_options) }
 {
     let command = Command::new(alloc, "check")
         .about("Read the three texts, and print both lengths and the number of moves")
@@ -245,7 +278,7 @@ fn check<'a>(alloc: Global) -> Result<Command<'a>, AllocError>
 }
 
 fn layout<'a>(alloc: Global) -> Result<Command<'a>, AllocError>
-    ensures { IfOk result (λ made. app_of made ≡ layout_app) }
+    ensures { IfOk result (λ made. app_of made ≡ command_app (codes "layout") layout_options) }
 {
     Command::new(alloc, "layout")
         .about("Print a copybook's entries with their offsets, lengths and kinds")
@@ -254,36 +287,33 @@ fn layout<'a>(alloc: Global) -> Result<Command<'a>, AllocError>
 }
 
 fn show<'a>(alloc: Global) -> Result<Command<'a>, AllocError>
-    ensures { IfOk result (λ made. app_of made ≡ show_app) }
+    ensures { IfOk result (λ made. app_of made ≡ command_app (codes "show") show_options) }
 {
-    Command::new(alloc, "show")
+    let command = Command::new(alloc, "show")
         .about("Print the value of each named item of each record of a file")
         .after_help("Example: cobconv show --book old.cpy --in old.dat --form v")
         .arg(required(alloc, "book", "FILE", "The copybook of the records"))?
         .arg(required(alloc, "in", "FILE", "The records; - is standard input"))?
-        .arg(form(alloc, "form", FORM_HELP))?
-        .arg(listing(alloc, "as", LISTING_HELP))?
-        .arg(alone(alloc, "progress", PROGRESS_HELP))
+        .arg(defaulted(alloc, "form", "FORM", "f", FORM_HELP))?
+        .arg(defaulted(alloc, "as", "LISTING", "text", LISTING_HELP))?
+        .arg(alone(alloc, "progress", PROGRESS_HELP))?;
+    with_choice(alloc, command)
 }
 
 fn pieces<'a>(alloc: Global) -> Result<Command<'a>, AllocError>
-    ensures { IfOk result (λ made. app_of made ≡ pieces_app) }
+    ensures { IfOk result (λ made. app_of made ≡ command_app (codes "pieces") pieces_options) }
 {
     Command::new(alloc, "pieces")
         .about("Print where the pieces of a file of records begin")
         .after_help(PIECES_NOTES)
         .arg(required(alloc, "book", "FILE", "The copybook of the records"))?
         .arg(required(alloc, "in", "FILE", "The records"))?
-        .arg(form(
-            alloc,
-            "form",
-            "How the records stand: f of fixed length,\nv with a descriptor word before each, b like v in\nblocks",
-        ))?
+        .arg(defaulted(alloc, "form", "FORM", "f", FORM_HELP))?
         .arg(required(alloc, "pieces", "N", "How many pieces there may be"))
 }
 
 fn lossless<'a>(alloc: Global) -> Result<Command<'a>, AllocError>
-    ensures { IfOk result (λ made. app_of made ≡ lossless_app) }
+    ensures { IfOk result (λ made. app_of made ≡ command_app (codes "lossless") lossless_options) }
 {
     Command::new(alloc, "lossless")
         .about("Print whether one paragraph brings back all that another one moves")

@@ -8,5 +8,5 @@ returns c =
     let start : app_of c.after_help.result ≡ new_app (codes "pieces") = search rules in
     let one = c.in_ok-arg.ensures.shape c.required.ensures.local ∙ ap₂ with_rule start c.required.ensures.rule in
     let two = c.in_ok-arg-2.ensures.shape c.required-2.ensures.local ∙ ap₂ with_rule one c.required-2.ensures.rule in
-    let three = c.in_ok-arg-3.ensures.shape c.form.ensures.local ∙ ap₂ with_rule two c.form.ensures.rule in
+    let three = c.in_ok-arg-3.ensures.shape c.defaulted.ensures.local ∙ ap₂ with_rule two c.defaulted.ensures.rule in
     IfOk-weaker c.arg-4.result _ _ (λ made h. h.shape c.required-3.ensures.local ∙ ap₂ with_rule three c.required-3.ensures.rule) c.arg-4.ensures

@@ -1,0 +1,5 @@
+pub mod Beginning
+pub mod Behind
+pub mod Giving
+pub mod InFront
+pub mod Stepping

@@ -1,0 +1,29 @@
+//! Records of a stream chosen by their places: the first so many are passed over, and of the others so many are taken at most.
+//!
+//! - [`Chosen`] goes round a source and gives just the records of a [`Choice`], each as it stands by itself in a stream of the same form: in the forms
+//!   f and v its frame, in form b a block that holds just it, so that choosing may begin and end within a block. A reader finds just these records
+//!   there (`alone_is_one_record` of `cob_records`). The source inside is read once, from its front, and only as far as the last record that is chosen:
+//!   so it may be standard input.
+//! - What is promised (`HasGiven` of specs/Gives.antt): what it has given and still holds are, one behind another, the records behind the first ones that
+//!   are passed over, of those that came whole; and where it says that nothing is left, the last one that is chosen has come, or the source inside is
+//!   at its end. A frame that can't be read, of a record that is passed over or taken, is a read that fails; [`Chosen::stopped`] tells then the number
+//!   of the record among all and why, as a reader of the whole stream would (`HasStopped`). A read of the source inside failed exactly where that is why.
+//! - [`whole_records`] says how many records of one length may be passed over by a seek: by arithmetic on the size of a file.
+//!
+//! One buffer is made for all records. It stands on `cob_records` for the frames and on `cob_limits`.
+#![tactic(auto)]
+
+mod choice;
+mod chosen;
+mod held;
+mod incoming;
+mod part;
+mod refill;
+mod step;
+mod walk;
+mod whole;
+
+pub use choice::{Choice, ChoiceFault, Stopped};
+pub use chosen::Chosen;
+pub use incoming::{Incoming, choose};
+pub use part::Part;

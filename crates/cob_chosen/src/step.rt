@@ -1,0 +1,56 @@
+//! The next records of a stream, of which some are chosen.
+
+ghost use Rattle.std.specs.Prelude.{◌≡◌, ◌+◌, ◌<◌, ◌≤◌, false, true, length, take, IfErr, IfNone, IfOk, IfSome};
+ghost use Rattle.cob_records.specs.Alone.{framed_alone};
+ghost use Rattle.cob_records.specs.Device.{counted};
+ghost use Rattle.cob_records.specs.Frame.{is_write_fault};
+ghost use Rattle.cob_chosen.specs.Choices.{is_failed_read};
+ghost use Rattle.cob_chosen.specs.Walks.{EndsAt, IsSameChoice, PassesOver, StopsAt, Takes};
+
+use crate::choice::Stopped;
+use crate::walk::Walk;
+use cob_records::{Source, next_in_form};
+
+/// Reads the next record into the front of the slice and answers its length, or `None` where no byte is left.
+///
+/// # Errors
+///
+/// A frame that can't be read.
+pub(crate) fn next_body<R: Source>(
+    source: &mut R,
+    walk: &mut Walk,
+    body: &mut [u8],
+) -> Result<Option<usize>, Stopped>
+    requires room { length body.old ≡ walk.old.greatest }
+    requires more { walk.old.number < walk.old.last }
+    ensures room { length body.new ≡ length body.old }
+    ensures same { IsSameChoice walk.old walk.new }
+    ensures passes { IfOk result (λ found. IfSome found (λ _. walk.old.number < walk.old.skip
+        → PassesOver walk.old walk.new (R.coming source.old) (R.coming source.new))) }
+    ensures takes { IfOk result (λ found. IfSome found (λ count. walk.old.skip ≤ walk.old.number
+        → Takes (framed_alone walk.old.form (take count body.new)) walk.old walk.new
+        (R.coming source.old) (R.coming source.new))) }
+    ensures some { IfOk result (λ found. IfSome found (λ count. 0 < count)) }
+    ensures most { IfOk result (λ found. IfSome found (λ count. count ≤ walk.old.greatest)) }
+    ensures counts { IfOk result (λ found. IfSome found (λ _. walk.new.number ≡ walk.old.number + 1)) }
+    ensures ends { IfOk result (λ found. IfNone found
+        (EndsAt walk.old walk.new (R.coming source.old) (R.coming source.new))) }
+    ensures stays { IfOk result (λ found. IfNone found (walk.new.number ≡ walk.old.number)) }
+    ensures stops { IfErr result (λ stop. StopsAt stop walk.old
+        (R.coming source.old) (R.coming source.new)) }
+    ensures kind { IfErr result (λ stop. is_write_fault stop.fault ≡ false) }
+    ensures cause { R.failures source.new ≡ counted (is_failed_read result) (R.failures source.old) }
+{
+    let (form, greatest) = (walk.form, walk.greatest);
+    match next_in_form(source, form, greatest, body, &mut walk.left) {
+        Ok(Some(count)) => {
+            walk.number += 1;
+            Ok(Some(count))
+        }
+        Ok(None) => Ok(None),
+        Err(fault) => Err(Stopped {
+            number: walk.number + 1,
+            fault,
+        }),
+    }
+}

@@ -1,0 +1,92 @@
+//! The records of a file that a command reads.
+
+ghost use Rattle.std.specs.Prelude.{◌≡◌, ◌<◌, ◌≤◌, IfErr};
+ghost use Rattle.cob_limits.specs.Limits.{longest_record};
+ghost use Rattle.cob_records.specs.Forms.{HasBlockSize};
+ghost use Rattle.cob_command_input.specs.Jumps.{JumpsIn};
+ghost use Rattle.cob_command_input.specs.Stops.{LacksRecords};
+
+use crate::stops::not_chosen;
+use cob_chosen::{Choice, Incoming, Part, choose};
+use cob_command_faults::{CommandFault, FileName, opened};
+use cob_pieces::{PartSource, open_part};
+use cob_records::{Form, size_of};
+use std::io::Input;
+use std::rt::Files;
+
+/// Which records of which file a command reads.
+#[derive(Clone, Copy, Debug, PartialEq, Eq)]
+pub struct Wanted<'a> {
+    /// The file; `-` is standard input.
+    pub input: &'a str,
+    /// How its records stand.
+    pub form: Form,
+    /// The greatest length of a record.
+    pub greatest: u16,
+    /// How many bytes of the file stand before the piece that is read.
+    pub from: u64,
+    /// How many bytes that piece has, where it isn't all that are left.
+    pub bytes: Option<u64>,
+    /// The number of its first record.
+    pub first: u64,
+    /// Which of its records are chosen.
+    pub choice: Choice,
+}
+
+/// A part of a file, of whose records the first ones are jumped over where that is possible: they have one length, and the size of the file is known.
+fn jumped_in(form: Form, greatest: u16, size: Option<u64>, part: Part) -> Part
+    requires { 0 < greatest }
+    ensures jumps { JumpsIn form greatest size part result }
+{
+    match (form, size) {
+        (Form::Fixed, Some(size)) => part.jumped(size, greatest),
+        _ => part,
+    }
+}
+
+/// The part of the file that is read, behind the records that are jumped over. The file is asked for its size only where some are passed over.
+fn part_of<R: Files>(rt: &R, wanted: Wanted<'_>) -> Part
+    requires { 0 < wanted.greatest }
+{
+    let Wanted {
+        from,
+        bytes,
+        choice: Choice { skip, .. },
+        ..
+    } = wanted;
+    let part = Part { from, bytes, skip };
+    if skip == 0 {
+        return part;
+    }
+    jumped_in(wanted.form, wanted.greatest, size_of(rt, wanted.input), part)
+}
+
+/// Opens the file that `--in` names, moves to the piece that is wanted, and passes over its records before the chosen ones.
+///
+/// # Errors
+///
+/// A file that is not opened, or has no places where a piece of it is wanted; the frame of a record that is passed over and can't be read; want of memory.
+pub fn open_records<R: AllocGlobal + Files + Input>(
+    rt: &R,
+    wanted: Wanted<'_>,
+) -> Result<Incoming<PartSource<R::File, R::Reader>>, CommandFault>
+    requires block { HasBlockSize wanted.form }
+    requires low { 0 < wanted.greatest }
+    requires high { wanted.greatest ≤ longest_record }
+    ensures { IfErr result LacksRecords }
+{
+    let part = part_of(rt, wanted);
+    let end = open_part(rt, wanted.input, part.from, part.bytes);
+    let source = opened(end, FileName::In)?;
+    let choice = Choice {
+        skip: part.skip,
+        ..wanted.choice
+    };
+    match choose(rt.alloc(), source, wanted.form, wanted.greatest, choice) {
+        Ok(incoming) => Ok(incoming),
+        Err(fault) => {
+            let jumped = wanted.choice.skip.saturating_sub(part.skip);
+            Err(not_chosen(wanted.first, jumped, fault))
+        }
+    }
+}
