@@ -16,7 +16,7 @@ use std::io::{Eprint, Input, Print};
 use std::rt::{Clock, Files};
 
 /// How a run tells how far it is in its piece of the input, where that is asked for.
-fn telling_piece<R: Files>(rt: &R, line: &ConvertLine<'_>) -> Option<Telling> {
+pub fn telling_piece<R: Files>(rt: &R, line: &ConvertLine<'_>) -> Option<Telling> {
     let telling = telling(rt, line.input, line.progress)?;
     let left = telling.size.map(|size| size.saturating_sub(line.from));
     let size = match (left, line.bytes) {

@@ -19,7 +19,7 @@ pub struct Inputs {
 
 impl Inputs {
     /// The files that the options of a conversion name for reading.
-    fn of<R: Files>(rt: &R, line: &ConvertLine<'_>) -> Inputs {
+    pub fn of<R: Files>(rt: &R, line: &ConvertLine<'_>) -> Inputs {
         let in_book = FileIdentity::of(rt, line.in_book);
         let out_book = FileIdentity::of(rt, line.out_book);
         let moves = FileIdentity::of(rt, line.moves);
@@ -33,7 +33,7 @@ impl Inputs {
     }
 
     /// The first of them, in the order in which they are read, that an output would lose.
-    fn lost_by(&self, output: Option<FileIdentity>) -> Option<FileName>
+    pub fn lost_by(&self, output: Option<FileIdentity>) -> Option<FileName>
         ensures lost { IfSome result (λ name. Loses output (input_named self.now name)) }
         ensures none { IfNone result (LosesNone output self.now) }
         ensures input { IfSome result NamesInput }

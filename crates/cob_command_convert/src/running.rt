@@ -68,7 +68,7 @@ impl Ending {
 }
 
 /// A fault with its records counted from this one.
-fn counted_from(first: u64, fault: CommandFault) -> CommandFault
+pub fn counted_from(first: u64, fault: CommandFault) -> CommandFault
     ensures { result ≡ counted_from first fault }
 {
     match fault {

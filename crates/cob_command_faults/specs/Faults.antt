@@ -1,4 +1,6 @@
 -- What a command is told to come to that is not done, and the status of that.
+use Rattle.cob_convert.specs.declared.aside.AsideFault.{AsideFault}
+use Rattle.cob_convert.specs.declared.aside.AsideFault.TheVariants as aside
 use Rattle.cob_convert.specs.declared.fault.PrepareFault.{PrepareFault}
 use Rattle.cob_convert.specs.declared.fault.PrepareFault.TheVariants as prepare
 use Rattle.cob_status.specs.Statuses.{status_of_prepare_fault, status_of_stop}
@@ -57,7 +59,13 @@ abbrev pub show_fault : ShowFault → CommandFault
 show_fault listing.Memory = fault.Memory
 show_fault (listing.Run stopped) = show_fault_by stopped.cause stopped
 
--- The status of each fault: a file that is not opened or not read is a device's.
+-- what a stopped run is for a command that sets rejected records aside
+abbrev pub aside_fault : AsideFault → CommandFault
+aside_fault (aside.Stopped stopped) = fault.Stopped stopped
+aside_fault (aside.NotSetAside number cause written) = fault.NotSetAside number cause
+
+-- The status of each fault: a file that is not opened or not read is a device's, and a run that rejected records ends as one that a record
+-- stopped.
 abbrev pub status_of : CommandFault → Status
 status_of (fault.CannotOpen name) = status.Device
 status_of (fault.CannotRead name) = status.Device
@@ -66,7 +74,12 @@ status_of (fault.Stopped stopped) = status_of_stop stopped.cause
 status_of (fault.Paragraph name refused) = status.Refused
 status_of (fault.Book refused) = status.Refused
 status_of (fault.OneFile name) = status.Malformed
+status_of (fault.OneFileAside name) = status.Malformed
 status_of (fault.Unflushed last) = status.Device
+status_of (fault.NotSetAside number cause) = status.Device
+status_of (fault.UnflushedAside last) = status.Device
+status_of (fault.SetAside converted rejected) = status.Stopped
 status_of fault.NotRenamed = status.Device
+status_of fault.NotRenamedAside = status.Device
 status_of fault.Unprinted = status.Device
 status_of fault.Memory = status.Memory

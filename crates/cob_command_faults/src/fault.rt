@@ -1,9 +1,9 @@
 ghost use Rattle.std.specs.Prelude.{◌≡◌};
-ghost use Rattle.cob_command_faults.specs.Faults.{refused_book, show_fault, refused_text, status_of, unopened_file, unread_text};
+ghost use Rattle.cob_command_faults.specs.Faults.{aside_fault, refused_book, show_fault, refused_text, status_of, unopened_file, unread_text};
 ghost use Rattle.cob_command_faults.specs.Texts.{LacksConverter, LacksFile, LacksLayout, LacksText, StopsListing};
 ghost use Rattle.cob_command_faults.specs.declared.fault.CommandFault.TheVariants.{Memory, Stopped};
 
-use cob_convert::{BookFault, BookRule, Cause, MoveFault, PrepareFault, RunFault};
+use cob_convert::{AsideFault, BookFault, BookRule, Cause, MoveFault, PrepareFault, RunFault};
 use cob_convert_files::TextFault;
 use cob_convert_show::ShowFault;
 use cob_records::{OpenFault, RecordFault};
@@ -27,6 +27,8 @@ pub enum FileName {
     In,
     /// The records that are written.
     Out,
+    /// The rejected records that are set aside.
+    Rejects,
     /// The paragraph of `lossless` that converts.
     There,
     /// The paragraph of `lossless` that converts back.
@@ -42,6 +44,7 @@ impl fmt::Display for FileName {
             FileName::Book => "book",
             FileName::In => "in",
             FileName::Out => "out",
+            FileName::Rejects => "rejects",
             FileName::There => "there",
             FileName::Back => "back",
         };
@@ -70,15 +73,30 @@ pub enum CommandFault {
     /// A file that is read and the output of a conversion are one file, whose bytes making the output would lose.
     #[error("{0} and out are one file")]
     OneFile(FileName),
+    /// A file of a conversion and the one that its rejected records are set aside in are one file.
+    #[error("{0} and rejects are one file")]
+    OneFileAside(FileName),
     /// A record stopped the run, or a device failed at it.
     #[error("{0}")]
     Stopped(RunFault),
     /// The last bytes of the output could not be handed to the device, so that this record, the last one that was put, is not written whole.
     #[error("record {last} out offset 0 F6")]
     Unflushed { last: u64 },
+    /// The record of this number is rejected, and it could not be set aside.
+    #[error("record {number} rejects offset 0 {cause}")]
+    NotSetAside { number: u64, cause: RecordFault },
+    /// The last bytes that were set aside could not be handed to the device, so that this record, the last rejected one, is not set aside whole.
+    #[error("record {last} rejects offset 0 F6")]
+    UnflushedAside { last: u64 },
+    /// So many records were converted, and these were rejected and set aside.
+    #[error("done {converted} rejected {rejected}")]
+    SetAside { converted: u64, rejected: u64 },
     /// The system did not give the output, which is written whole under the name of its part, its own name.
     #[error("cannot rename out")]
     NotRenamed,
+    /// The system did not give the file of rejected records, which is written whole under the name of its part, its own name.
+    #[error("cannot rename rejects")]
+    NotRenamedAside,
     /// What is printed could not be, or the device of an output without records failed, so that no fault line is printed either.
     #[error("cannot print")]
     Unprinted,
@@ -111,6 +129,19 @@ impl From<RunFault> for CommandFault {
 
     fn from(fault: RunFault) -> CommandFault {
         CommandFault::Stopped(fault)
+    }
+}
+
+impl From<AsideFault> for CommandFault {
+    ghost from_gives = { λ stopped fault. fault ≡ aside_fault stopped };
+
+    fn from(fault: AsideFault) -> CommandFault {
+        match fault {
+            AsideFault::Stopped(stopped) => CommandFault::Stopped(stopped),
+            AsideFault::NotSetAside { number, cause, .. } => {
+                CommandFault::NotSetAside { number, cause }
+            }
+        }
     }
 }
 
@@ -153,12 +184,16 @@ impl CommandFault {
             CommandFault::CannotOpen(_)
             | CommandFault::CannotRead(_)
             | CommandFault::Unflushed { .. }
+            | CommandFault::NotSetAside { .. }
+            | CommandFault::UnflushedAside { .. }
             | CommandFault::NotRenamed
+            | CommandFault::NotRenamedAside
             | CommandFault::Unprinted => Status::Device,
             CommandFault::Refused(refused) => Status::of_prepare_fault(refused),
             CommandFault::Paragraph(_, _) | CommandFault::Book(_) => Status::Refused,
-            CommandFault::OneFile(_) => Status::Malformed,
+            CommandFault::OneFile(_) | CommandFault::OneFileAside(_) => Status::Malformed,
             CommandFault::Stopped(fault) => Status::of_stop(fault.cause),
+            CommandFault::SetAside { .. } => Status::Stopped,
             CommandFault::Memory => Status::Memory,
         }
     }

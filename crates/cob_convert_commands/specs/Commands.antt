@@ -1,5 +1,5 @@
 -- With which number the program ends: that of the status of what its words came to.
-use Rattle.std.specs.Prelude.{◌≡◌, ◌⊎◌, ℕ, List, ⊤, if◌then◌else◌}
+use Rattle.std.specs.Prelude.{◌≡◌, ◌⊎◌, ℕ, Bool, List, Option, None, Some, ⊤, if◌then◌else◌}
 use Rattle.clap.specs.Words.{Text, kind_of}
 use Rattle.cob_convert_line.specs.Lines.{IsCommandLineOf, IsFaultOf, is_answer_kind}
 use Rattle.cob_convert_line.specs.declared.line.Line.{Line}
@@ -10,15 +10,21 @@ use Rattle.cob_status.specs.Statuses.{code_of}
 use Rattle.cob_status.specs.declared.status.Status.{Status}
 use Rattle.cob_status.specs.declared.status.Status.TheVariants as status
 use Rattle.cob_command_faults.specs.Ends.{EndsAmong, EndsAs}
+use Rattle.cob_command_aside.specs.Ends.{MayEndAside}
 use Rattle.cob_command_convert.specs.Ends.{MayEndCheck, MayEndConvert}
 use Rattle.cob_command_lists.specs.Ends.{MayEndLayout, MayEndListing}
 use Rattle.cob_command_lossless.specs.Ends.{MayEndLossless}
+
+-- how a conversion ends, by whether rejected records are set aside in a file
+abbrev pub EndsConvert : Option (List ℕ) → Bool → Status → Type 0
+EndsConvert None atomic end = EndsAmong (MayEndConvert atomic) end
+EndsConvert (Some rejects) atomic end = EndsAmong (MayEndAside atomic) end
 
 -- How a command line ends, by what it asks for: with the status of what its command came to, which may have the faults of that command. With which
 -- status a job ends is promised by `cob_job`.
 abbrev pub EndsLine : Line → Status → Type 0
 EndsLine line.Job end = ⊤
-EndsLine (line.Convert options) end = EndsAmong (MayEndConvert options.atomic) end
+EndsLine (line.Convert options) end = EndsConvert options.rejects options.atomic end
 EndsLine (line.Check options) end = EndsAmong MayEndCheck end
 EndsLine (line.Layout options) end = EndsAmong MayEndLayout end
 EndsLine (line.Show options) end = EndsAmong MayEndListing end

@@ -1,17 +1,34 @@
 ghost use Rattle.std.specs.Prelude.{◌≡◌, map};
 ghost use Rattle.cob_convert_line.specs.Lines.{HasBlocks};
-ghost use Rattle.cob_convert_commands.specs.Commands.{IsEndOfLine, IsEndOfRefusal, IsEndOfWords, status_of_refusal};
+ghost use Rattle.cob_records.specs.Forms.{HasBlockSize};
+ghost use Rattle.cob_convert_commands.specs.Commands.{EndsConvert, IsEndOfLine, IsEndOfRefusal, IsEndOfWords, status_of_refusal};
 
 use crate::jobs::do_job;
+use cob_command_aside::do_convert_aside;
 use cob_command_convert::{do_check, do_convert};
 use cob_command_faults::printed;
 use cob_command_lists::{do_layout, do_pieces, do_show};
 use cob_command_lossless::do_lossless;
-use cob_convert_line::{Line, LineFault, line_of};
+use cob_convert_line::{ConvertLine, Line, LineFault, line_of};
 use cob_status::Status;
 use std::convert::AsStr;
 use std::io::{Eprint, Input, Print};
 use std::rt::{Clock, Files};
+
+/// Converts a file of records: up to the first that does not convert, or past those, which are set aside.
+fn do_conversion<R: AllocGlobal + Files + Input + Print + Eprint + Clock>(
+    rt: &R,
+    line: &ConvertLine<'_>,
+) -> Status
+    requires in_block { HasBlockSize line.now.in_form }
+    requires out_block { HasBlockSize line.now.out_form }
+    ensures { EndsConvert line.now.rejects line.now.atomic result }
+{
+    match line.rejects {
+        None => do_convert(rt, line),
+        Some(rejects) => do_convert_aside(rt, line, rejects),
+    }
+}
 
 /// Carries out what a command line asks for, prints what comes of it, and answers the program's status.
 pub fn perform<R: AllocGlobal + Files + Input + Print + Eprint + Clock>(
@@ -23,7 +40,7 @@ pub fn perform<R: AllocGlobal + Files + Input + Print + Eprint + Clock>(
 {
     match line {
         Line::Job => do_job(rt),
-        Line::Convert(line) => do_convert(rt, line).code(),
+        Line::Convert(line) => do_conversion(rt, line).code(),
         Line::Check(line) => do_check(rt, line).code(),
         Line::Layout(line) => do_layout(rt, line).code(),
         Line::Show(line) => do_show(rt, line).code(),

@@ -1,7 +1,7 @@
 use Rattle.cob_convert_commands.proofs.commands.perform.Goals as goal
 
 pub returns-in-Convert : goal.returns-in-Convert
-returns-in-Convert g c = (_, rw c.in-Convert.is c.do_convert.ensures, c.code.ensures)
+returns-in-Convert g c = (_, rw c.in-Convert.is c.do_conversion.ensures, c.code.ensures)
 
 pub returns-in-Check : goal.returns-in-Check
 returns-in-Check g c = (_, rw c.in-Check.is c.do_check.ensures, c.code-in-Check.ensures)

@@ -1,0 +1,201 @@
+//! A run that sets rejected records aside, to its end and behind it.
+
+ghost use Rattle.std.specs.Prelude.{◌≡◌, ◌<◌, Bool, [], IfErr, OnOk};
+ghost use Rattle.std.specs.Io.Buffered.{writer_buffer};
+ghost use Rattle.cob_records.specs.Device.{counted};
+ghost use Rattle.cob_records.specs.Forms.{HasBlockSize};
+ghost use Rattle.cob_records.specs.Streams.{sink_writer};
+ghost use Rattle.cob_convert.specs.Aside.{CountsUnlessSink, is_aside_fault, is_sink_fault};
+ghost use Rattle.cob_command_aside.specs.Ends.{LacksOutputs, StopsAside};
+ghost use Rattle.cob_command_aside.specs.Finished.{fails_output, finished_aside, lacking, lacking_aside, lacking_output, placed_aside, records_before};
+ghost use Rattle.cob_command_aside.specs.Ran.{RanAsideFrom};
+
+use crate::marks::Marks;
+use crate::places::PlacesFault;
+use crate::rejections::Rejections;
+use cob_command_faults::CommandFault;
+use cob_convert::{AsideFault, Cause, Converter, Notes, RunFault, Tally};
+use cob_convert_files::PlaceFault;
+use cob_records::{DeviceFault, Form, Progress, RecordFault, Sink, Source, Telling, WriteSink};
+use std::io::{BufWriter, Eprint, Write};
+use std::rt::Clock;
+
+/// Whether an output failed.
+fn is_failed_output(fault: AsideFault) -> bool
+    ensures { result ≡ fails_output fault }
+{
+    matches!(
+        fault,
+        AsideFault::NotSetAside { .. }
+            | AsideFault::Stopped(RunFault {
+                cause: Cause::Record(
+                    RecordFault::WriteFailed { .. } | RecordFault::TookNothing { .. },
+                ),
+                ..
+            },)
+    )
+}
+
+/// How many records came whole and were converted or set aside.
+fn records_before(answer: Result<Tally, AsideFault>) -> u64
+    ensures { result ≡ records_before answer }
+{
+    match answer {
+        Ok(tally) => tally.converted.saturating_add(tally.rejected),
+        Err(AsideFault::Stopped(stopped)) => stopped.number.saturating_sub(1),
+        Err(AsideFault::NotSetAside { number, .. }) => number.saturating_sub(1),
+    }
+}
+
+/// What is told of a run an output of which was not handed to its device, whose last record is this one, 0 where there is none: that it is not there
+/// whole, unless an output failed before or none is lacking.
+fn lacking(answer: Result<Tally, AsideFault>, last: u64, unflushed: CommandFault) -> CommandFault
+    requires { 0 < last → StopsAside unflushed }
+    ensures told { result ≡ lacking answer last unflushed }
+    ensures stops { StopsAside result }
+{
+    match answer {
+        Ok(_) if last == 0 => CommandFault::Unprinted,
+        Err(stop) if last == 0 || is_failed_output(stop) => CommandFault::from(stop),
+        _ => unflushed,
+    }
+}
+
+/// What a run comes to, where its rejected records stand, and whether the last of what it wrote and of what it set aside was handed to its device.
+#[derive(Clone, Copy)]
+pub struct AsideEnding {
+    answer: Result<Tally, AsideFault>,
+    /// Where the rejected records stand.
+    pub marks: Marks,
+    flushed: Result<(), DeviceFault>,
+    aside_flushed: Result<(), DeviceFault>,
+}
+
+impl AsideEnding {
+    /// What is told where the output was not handed to its device, or is not on it.
+    fn lacks_output(self) -> CommandFault
+        ensures told { result ≡ lacking_output self.answer self.marks }
+        ensures stops { StopsAside result }
+    {
+        let last = self.marks.last_put(records_before(self.answer));
+        lacking(self.answer, last, CommandFault::Unflushed { last })
+    }
+
+    /// What is told where the rejected records were not handed to their device, or are not on it.
+    fn lacks_rejects(self) -> CommandFault
+        ensures told { result ≡ lacking_aside self.answer self.marks }
+        ensures stops { StopsAside result }
+    {
+        let last = self.marks.last;
+        lacking(self.answer, last, CommandFault::UnflushedAside { last })
+    }
+
+    /// What a run comes to behind its last flush.
+    ///
+    /// # Errors
+    ///
+    /// A record or a device that stopped it, an output that was not handed over whole.
+    pub fn finished(self) -> Result<Tally, CommandFault>
+        ensures finished { result ≡ finished_aside self.answer self.marks self.flushed self.aside_flushed }
+        ensures stops { (atomic : Bool) → IfErr result (LacksOutputs atomic) }
+    {
+        match (self.flushed, self.aside_flushed) {
+            (Err(DeviceFault), _) => Err(self.lacks_output()),
+            (Ok(()), Err(DeviceFault)) => Err(self.lacks_rejects()),
+            (Ok(()), Ok(())) => Ok(self.answer?),
+        }
+    }
+}
+
+/// What so many records come to behind what was done to put them in their places.
+///
+/// # Errors
+///
+/// An output that is not on its device, or was not renamed.
+pub fn placed(
+    tally: Tally,
+    marks: Marks,
+    place: Result<(), PlacesFault>,
+) -> Result<Tally, CommandFault>
+    ensures placed { result ≡ placed_aside tally marks place }
+    ensures lacks { IfErr result (LacksOutputs Bool.true) }
+{
+    let ending = AsideEnding {
+        answer: Ok(tally),
+        marks,
+        flushed: Ok(()),
+        aside_flushed: Ok(()),
+    };
+    match place {
+        Ok(()) => Ok(tally),
+        Err(PlacesFault::Output(PlaceFault::NotSynced)) => Err(ending.lacks_output()),
+        Err(PlacesFault::Output(PlaceFault::NotRenamed)) => Err(CommandFault::NotRenamed),
+        Err(PlacesFault::Rejects(PlaceFault::NotSynced)) => Err(ending.lacks_rejects()),
+        Err(PlacesFault::Rejects(PlaceFault::NotRenamed)) => Err(CommandFault::NotRenamedAside),
+    }
+}
+
+/// How a run is done: the form of its input, how it tells how far it is, and how many records it may reject.
+#[derive(Clone, Copy)]
+pub struct How {
+    pub form: Form,
+    pub telling: Option<Telling>,
+    pub most: u64,
+}
+
+/// The answer of a run, which tells on standard error how far it is where that is asked for.
+fn answer_of<T: Eprint + Clock, S: Source + Drop, K: Sink, A: Sink, N: Notes>(
+    rt: &T,
+    how: How,
+    converter: &mut Converter,
+    mut source: S,
+    sink: &mut K,
+    aside: &mut A,
+    notes: &mut N,
+) -> Result<Tally, AsideFault>
+    requires { HasBlockSize how.form }
+    ensures ran { RanAsideFrom converter.old how.most result (S.coming source)
+        (record { sink = K.taken sink.old; aside = A.taken aside.old; notes = N.told notes.old })
+        (record { sink = K.taken sink.new; aside = A.taken aside.new; notes = N.told notes.new }) }
+    ensures writes { K.failures sink.new ≡ counted (is_sink_fault result) (K.failures sink.old) }
+    ensures aside_writes { CountsUnlessSink converter.old.out_form result (is_aside_fault result)
+        (A.failures aside.old) (A.failures aside.new) }
+{
+    match how.telling {
+        None => converter.run_aside(&mut source, sink, aside, notes, how.most),
+        Some(telling) => {
+            let length = converter.in_length();
+            let mut told = Progress::new(source, rt, how.form, length, telling);
+            let answer = converter.run_aside(&mut told, sink, aside, notes, how.most);
+            told.finish();
+            answer
+        }
+    }
+}
+
+/// Runs to the end, and hands what both sinks still hold to their devices, whatever the run came to. It tells on standard error how far it is where
+/// that is asked for, and why records were rejected.
+pub fn run_aside_to_end<T: Eprint + Clock, S: Source + Drop, W: Write + Drop, V: Write + Drop>(
+    rt: &T,
+    how: How,
+    converter: &mut Converter,
+    source: S,
+    sink: &mut WriteSink<BufWriter<W>>,
+    aside: &mut WriteSink<BufWriter<V>>,
+    notes: &mut Rejections<'_, T>,
+) -> AsideEnding
+    requires { HasBlockSize how.form }
+    ensures output { OnOk result.flushed (writer_buffer (sink_writer sink.new) ≡ []) }
+    ensures rejects { OnOk result.aside_flushed (writer_buffer (sink_writer aside.new) ≡ []) }
+    ensures marks { result.marks ≡ notes.new.marks }
+{
+    let answer = answer_of(rt, how, converter, source, sink, aside, notes);
+    let flushed = sink.flush();
+    let aside_flushed = aside.flush();
+    AsideEnding {
+        answer,
+        marks: notes.marks,
+        flushed,
+        aside_flushed,
+    }
+}
