@@ -5,6 +5,7 @@ use Rattle.cob_command_faults.specs.declared.fault.FileName.TheVariants as name
 use Rattle.cob_command_faults.specs.declared.fault.CommandFault.{CommandFault}
 use Rattle.cob_command_faults.specs.declared.fault.CommandFault.TheVariants as fault
 use Rattle.cob_command_faults.specs.Texts.{LacksConverter, LacksFile}
+use Rattle.cob_command_input.specs.Stops.{LacksRecords}
 
 -- the option names a file that a conversion reads
 abbrev pub NamesInput : FileName → Type 0
@@ -19,9 +20,9 @@ abbrev pub LosesInput : CommandFault → Type 0
 LosesInput (fault.OneFile option) = NamesInput option
 LosesInput other = ⊥
 
--- An end of a conversion is not there: the records are not opened, the output is not made, or it would lose a file that is read.
+-- An end of a conversion is not there: the records that are read are not, the output is not made, or it would lose a file that is read.
 abbrev pub LacksEnds : CommandFault → Type 0
-LacksEnds told = LacksFile name.In told ⊎ LacksFile name.Out told ⊎ LosesInput told
+LacksEnds told = LacksRecords told ⊎ LacksFile name.Out told ⊎ LosesInput told
 
 -- A run is not done: a record or a device stopped it, or its last bytes were not handed to the device, and then a record is not written whole, or
 -- there was none.

@@ -1,10 +1,17 @@
 -- A run whose source is let go behind it.
-use Rattle.std.specs.Prelude.{ℕ, List, Option, Result}
+use Rattle.std.specs.Prelude.{ℕ, ⊤, List, Option, Result}
 use Rattle.cob_records.specs.Device.{Told}
 use Rattle.cob_stream.specs.declared.fault.RunFault.{RunFault}
+use Rattle.cob_chosen.specs.declared.incoming.Incoming.{Incoming}
+use Rattle.cob_chosen.specs.declared.incoming.Incoming.TheVariants as incoming
 use Rattle.cob_convert_record.specs.Conversion.{Conversion}
 use Rattle.cob_convert.specs.Run.{Ran}
 
 -- A converter was run over a source that told these bytes to come, and that is let go behind the run.
 abbrev pub RanFrom : Conversion → Result ℕ RunFault → Option (List ℕ) → Option (List ℕ) → Option (List ℕ) → Type 0
 RanFrom conversion answer coming before now = (left : Option (List ℕ)) × Told coming left (λ bytes rest. Ran conversion answer bytes rest before now)
+
+-- A converter was run over all records that come of a source, or over those that are chosen, whose source tells no bytes.
+abbrev pub RanOver : {S : Type 0} → (S → Option (List ℕ)) → Conversion → Result ℕ RunFault → Incoming S → Option (List ℕ) → Option (List ℕ) → Type 0
+RanOver coming conversion answer (incoming.All source) before now = RanFrom conversion answer (coming source) before now
+RanOver coming conversion answer (incoming.Some chosen) before now = ⊤

@@ -1,9 +1,10 @@
-ghost use Rattle.std.specs.Prelude.{◌≡◌, IfErr, true};
+ghost use Rattle.std.specs.Prelude.{◌≡◌, ◌+◌, IfErr, true};
 ghost use Rattle.cob_command_faults.specs.Ends.{EndsAmong, EndsAs, status_of_outcome};
 ghost use Rattle.cob_records.specs.Forms.{HasBlockSize};
+ghost use Rattle.cob_records.specs.Progress.{kept_count};
 ghost use Rattle.cob_command_convert.specs.Ends.{MayEndConvert};
 
-use crate::ends::{Ends, open_ends};
+use crate::ends::{Ends, choice_of, open_ends};
 use crate::inputs::is_standard_output;
 use crate::running::{placed, run_to_end, told_counted_from};
 use cob_command_faults::{CommandFault, Texts, printed, tell_fault, telling};
@@ -15,15 +16,28 @@ use cob_status::Status;
 use std::io::{Eprint, Input, Print};
 use std::rt::{Clock, Files};
 
-/// How a run tells how far it is in its piece of the input, where that is asked for.
+/// How a run tells how far it is in its piece of the input, where that is asked for. How many bytes the chosen records of a piece have isn't known.
 pub fn telling_piece<R: Files>(rt: &R, line: &ConvertLine<'_>) -> Option<Telling> {
     let telling = telling(rt, line.input, line.progress)?;
+    if !choice_of(line).is_all() {
+        return Some(Telling {
+            size: None,
+            ..telling
+        });
+    }
     let left = telling.size.map(|size| size.saturating_sub(line.from));
     let size = match (left, line.bytes) {
         (Some(left), Some(bytes)) => Some(left.min(bytes)),
         _ => left,
     };
     Some(Telling { size, ..telling })
+}
+
+/// The number of the first record that is converted.
+pub fn first_of(line: &ConvertLine<'_>) -> u64
+    ensures { result ≡ kept_count (line.now.first + line.now.skip) }
+{
+    line.first.saturating_add(line.skip)
 }
 
 /// Converts into the output itself, which is made, or emptied where it is there.
@@ -35,10 +49,10 @@ fn convert_into<R: AllocGlobal + Files + Input + Print + Eprint + Clock>(
     requires { HasBlockSize line.now.in_form }
     ensures { IfErr result (MayEndConvert line.now.atomic) }
 {
-    let Ends { source, mut sink } = open_ends(rt, line, None)?;
+    let Ends { source, mut sink } = open_ends(rt, line, converter.in_length(), None)?;
     let telling = telling_piece(rt, line);
     let ending = run_to_end(rt, line.in_form, telling, converter, source, &mut sink);
-    told_counted_from(line.first, ending.finished())
+    told_counted_from(first_of(line), ending.finished())
 }
 
 /// Converts into the part of the output, and puts it in its place when all is done. Where it is not, the output is as it was, and the part has
@@ -53,12 +67,12 @@ fn convert_beside<R: AllocGlobal + Files + Input + Print + Eprint + Clock>(
     ensures { IfErr result (MayEndConvert line.now.atomic) }
 {
     let part = part_name(rt.alloc(), line.output)?;
-    let Ends { source, mut sink } = open_ends(rt, line, Some(&part))?;
+    let Ends { source, mut sink } = open_ends(rt, line, converter.in_length(), Some(&part))?;
     let telling = telling_piece(rt, line);
     let ending = run_to_end(rt, line.in_form, telling, converter, source, &mut sink);
-    let done = told_counted_from(line.first, ending.finished())?;
+    let done = told_counted_from(first_of(line), ending.finished())?;
     let place = put_in_place(rt, sink, &part, line.output);
-    told_counted_from(line.first, placed(done, place))
+    told_counted_from(first_of(line), placed(done, place))
 }
 
 /// Converts the records of the file that `--in` names, and answers how many there were. The texts are read and prepared before the input is

@@ -1,13 +1,17 @@
-ghost use Rattle.std.specs.Prelude.{IfErr};
+ghost use Rattle.std.specs.Prelude.{◌≡◌, ◌<◌, ◌≤◌, IfErr};
+ghost use Rattle.cob_limits.specs.Limits.{longest_record};
+ghost use Rattle.cob_records.specs.Forms.{HasBlockSize};
 ghost use Rattle.cob_command_faults.specs.Texts.{LacksFile};
 ghost use Rattle.cob_command_faults.specs.declared.fault.FileName.TheVariants.{Out};
 ghost use Rattle.cob_command_convert.specs.Ends.{LacksEnds};
 
 use crate::inputs::judge_output;
+use cob_chosen::{Choice, Incoming};
 use cob_command_faults::{CommandFault, FileName, opened};
+use cob_command_input::{Wanted, open_records};
 use cob_convert_files::create_part;
 use cob_convert_line::ConvertLine;
-use cob_pieces::{PartSource, open_part};
+use cob_pieces::PartSource;
 use cob_records::{FileSink, create_sink};
 use std::io::{Input, Print, Printer};
 use std::rt::Files;
@@ -48,25 +52,61 @@ fn output_of<'a, R: AllocGlobal + Files + Print>(
     }
 }
 
-/// Opens the ends of a conversion: the records that come, of which only a piece is read where one is named, and then its output or the part that
-/// stands in for it. Neither is opened where the output or the part is a file that is read, and the output is not made where the records are not
-/// opened.
+/// Which records a conversion chooses of its piece.
+pub fn choice_of(line: &ConvertLine<'_>) -> Choice
+    ensures skip { result.skip ≡ line.now.skip }
+    ensures records { result.records ≡ line.now.records }
+{
+    Choice {
+        skip: line.skip,
+        records: line.records,
+    }
+}
+
+/// Which records a conversion reads, of at most this length.
+fn wanted_by<'a>(line: &ConvertLine<'a>, greatest: u16) -> Wanted<'a>
+    ensures form { result.form ≡ line.now.in_form }
+    ensures greatest { result.greatest ≡ greatest }
+    ensures from { result.from ≡ line.now.from }
+    ensures bytes { result.bytes ≡ line.now.bytes }
+    ensures first { result.first ≡ line.now.first }
+    ensures skip { result.choice.skip ≡ line.now.skip }
+    ensures records { result.choice.records ≡ line.now.records }
+{
+    Wanted {
+        input: line.input,
+        form: line.in_form,
+        greatest,
+        from: line.from,
+        bytes: line.bytes,
+        first: line.first,
+        choice: choice_of(line),
+    }
+}
+
+/// Opens the ends of a conversion: the records that come, which have at most this length, of which only a piece is read where one is named and only those that
+/// are chosen are given, and then its output or the part that stands in for it. Neither is opened where the output or the part is a file that is read, and the
+/// output is not made where the records are not there.
 ///
 /// # Errors
 ///
-/// An output that is a file that is read, a file that is not opened or not made, want of memory.
+/// An output that is a file that is read, a file that is not opened or not made, a record that is passed over and can't be read, want of memory.
 pub fn open_ends<'a, R: AllocGlobal + Files + Input + Print>(
     rt: &'a R,
     line: &ConvertLine<'_>,
+    greatest: u16,
     part: Option<&str>,
-) -> Result<Ends<PartSource<R::File, R::Reader>, FileSink<R::File, Printer<'a, R>>>, CommandFault>
+) -> Result<
+    Ends<Incoming<PartSource<R::File, R::Reader>>, FileSink<R::File, Printer<'a, R>>>,
+    CommandFault,
+>
+    requires block { HasBlockSize line.now.in_form }
+    requires low { 0 < greatest }
+    requires high { greatest ≤ longest_record }
     ensures { IfErr result LacksEnds }
 {
     judge_outputs(rt, line, part)?;
-    let source = opened(
-        open_part(rt, line.input, line.from, line.bytes),
-        FileName::In,
-    )?;
+    let source = open_records(rt, wanted_by(line, greatest))?;
     let sink = output_of(rt, line, part)?;
     Ok(Ends { source, sink })
 }

@@ -2,8 +2,9 @@
 //!
 //! [`do_convert`] and [`do_check`] carry them out, print what comes of them and answer how the program ends: by [`convert`] and [`check`], which
 //! do the work without printing. The files for texts are opened and read in the order of the options, and the texts are prepared before any file
-//! for records is opened; the output is made last, and not where it is one of the files that are read, by whatever name: so a text that is
-//! refused leaves no output, and nothing that is read is lost. With `--atomic` the output is as it was until all of the new one is on its device.
+//! for records is opened; the output is made last, and not where it is one of the files that are read, by whatever name: so neither a text
+//! that is refused nor a record that is passed over and can't be read leaves an output, and nothing that is read is lost. With `--atomic` the output is
+//! as it was until all of the new one is on its device.
 //!
 //! What is promised:
 //!
@@ -15,7 +16,8 @@
 //!
 //! What files hold and what is printed is shown by the stored command lines of `cob_jobs`.
 //!
-//! It stands on `cob_convert_line` for the command line, on `cob_command_faults` for faults and texts, on `cob_convert` for what is done, on
+//! It stands on `cob_convert_line` for the command line, on `cob_command_faults` for faults and texts, on `cob_command_input` and `cob_chosen` for the
+//! records that it reads, on `cob_convert` for what is done, on
 //! `cob_convert_files` for identities of files and outputs that replace a file, on `cob_records` for the ends over files, on `cob_codec` for the reading
 //! of binary items, and on `cob_status` for statuses.
 #![tactic(auto)]

@@ -5,10 +5,12 @@ ghost use Rattle.cob_records.specs.Forms.{HasBlockSize};
 ghost use Rattle.cob_records.specs.Streams.{sink_writer};
 ghost use Rattle.cob_convert.specs.Run.{is_write_stop};
 ghost use Rattle.cob_command_convert.specs.Ends.{LacksPlace, StopsRun};
-ghost use Rattle.cob_command_convert.specs.Ran.{RanFrom};
+ghost use Rattle.cob_command_convert.specs.Ran.{RanFrom, RanOver};
 ghost use Rattle.cob_command_convert.specs.Finished.{counted_from, finished_run, placed_run, stops_writing, told_counted_from, unflushed_fault};
 
+use cob_chosen::Incoming;
 use cob_command_faults::CommandFault;
+use cob_command_input::with_cause;
 use cob_convert::{Cause, Converter, RunFault};
 use cob_convert_files::PlaceFault;
 use cob_records::{DeviceFault, Form, Progress, RecordFault, Sink, Source, Telling, WriteSink};
@@ -125,6 +127,29 @@ fn answer_of<T: Eprint + Clock, S: Source + Drop, K: Sink>(
     }
 }
 
+/// The answer of a run over all records that come, or over those that are chosen. Where one of these can't be read, that is why it stops.
+fn answer_over<T: Eprint + Clock, S: Source + Drop, K: Sink>(
+    rt: &T,
+    form: Form,
+    telling: Option<Telling>,
+    converter: &mut Converter,
+    incoming: Incoming<S>,
+    sink: &mut K,
+) -> Result<u64, RunFault>
+    requires { HasBlockSize form }
+    ensures ran { RanOver S.coming converter.old result incoming (K.taken sink.old) (K.taken sink.new) }
+{
+    match incoming {
+        Incoming::All(source) => answer_of(rt, form, telling, converter, source, sink),
+        Incoming::Some(mut chosen) => {
+            match answer_of(rt, form, telling, converter, &mut chosen, sink) {
+                Ok(done) => Ok(done),
+                Err(fault) => Err(with_cause(chosen.stopped(), fault)),
+            }
+        }
+    }
+}
+
 /// Runs to the end, and hands what the sink still holds to the device, whatever the run came to. It tells on standard error how far it is where
 /// that is asked for.
 pub fn run_to_end<T: Eprint + Clock, S: Source + Drop, W: Write + Drop>(
@@ -132,13 +157,13 @@ pub fn run_to_end<T: Eprint + Clock, S: Source + Drop, W: Write + Drop>(
     form: Form,
     telling: Option<Telling>,
     converter: &mut Converter,
-    source: S,
+    incoming: Incoming<S>,
     sink: &mut WriteSink<BufWriter<W>>,
 ) -> Ending
     requires { HasBlockSize form }
     ensures { OnOk result.flushed (writer_buffer (sink_writer sink.new) ≡ []) }
 {
-    let answer = answer_of(rt, form, telling, converter, source, sink);
+    let answer = answer_over(rt, form, telling, converter, incoming, sink);
     let flushed = sink.flush();
     Ending { answer, flushed }
 }

@@ -58,7 +58,12 @@ fn part_of<R: Files>(rt: &R, wanted: Wanted<'_>) -> Part
     if skip == 0 {
         return part;
     }
-    jumped_in(wanted.form, wanted.greatest, size_of(rt, wanted.input), part)
+    jumped_in(
+        wanted.form,
+        wanted.greatest,
+        size_of(rt, wanted.input),
+        part,
+    )
 }
 
 /// Opens the file that `--in` names, moves to the piece that is wanted, and passes over its records before the chosen ones.

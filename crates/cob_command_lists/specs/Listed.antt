@@ -7,6 +7,12 @@ use Rattle.cob_records.specs.declared.device.DeviceFault.{DeviceFault}
 use Rattle.cob_records.specs.declared.records.Form.{Form}
 use Rattle.cob_convert_show.specs.Runs.{Shows}
 use Rattle.cob_convert_show.specs.declared.records.ShowFault.{ShowFault}
+use Rattle.cob_convert_show.specs.declared.records.ShowFault.TheVariants as show
+use Rattle.cob_chosen.specs.declared.choice.Stopped.{Stopped}
+use Rattle.cob_chosen.specs.declared.incoming.Incoming.{Incoming}
+use Rattle.cob_chosen.specs.declared.incoming.Incoming.TheVariants as incoming
+use Rattle.cob_command_input.specs.Stops.{cause_told}
+use Rattle.cob_records.specs.Progress.{kept_count}
 use Rattle.cob_layout_places.specs.declared.operands.Side.TheVariants.{In}
 use Rattle.cob_stream.specs.declared.fault.Cause.{Cause}
 use Rattle.cob_stream.specs.declared.fault.Cause.TheVariants.{Record, Limit as OverLimit}
@@ -24,6 +30,21 @@ Lists form tree answer coming left before now = Told coming left (Shows form tre
 -- Records were listed from a source that told these bytes to come, and that is let go behind the listing.
 abbrev pub ListsFrom : Form → Forest Resolved → Result ℕ ShowFault → (coming before now : Option (List ℕ)) → Type 0
 ListsFrom form tree answer coming before now = (left : Option (List ℕ)) × Lists form tree answer coming left before now
+
+-- All records that come of a source were listed, or those that are chosen, whose source tells no bytes.
+abbrev pub ListsOver : {S : Type 0} → (S → Option (List ℕ)) → Form → Forest Resolved → Result ℕ ShowFault → Incoming S → (before now : Option (List ℕ)) → Type 0
+ListsOver coming form tree answer (incoming.All source) before now = ListsFrom form tree answer (coming source) before now
+ListsOver coming form tree answer (incoming.Some chosen) before now = ⊤
+
+-- the fault of a listing of chosen records, which stopped here if it did
+abbrev pub show_fault_told : Option Stopped → ShowFault → ShowFault
+show_fault_told stop (show.Run told) = show.Run (cause_told stop told)
+show_fault_told stop show.Memory = show.Memory
+
+-- what a listing comes to, its records counted behind so many that are passed over
+abbrev pub told_counted_behind : ℕ → Result ℕ CommandFault → Result ℕ CommandFault
+told_counted_behind skip (Err (fault.Stopped stopped)) = Err (fault.Stopped (record stopped { number = kept_count (stopped.number + skip) }))
+told_counted_behind skip outcome = outcome
 
 -- what a list of entries comes to: where it was not handed over, a line was not printed
 abbrev pub listed_entries : Result ⊤ DeviceFault → Result ⊤ CommandFault

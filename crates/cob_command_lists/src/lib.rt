@@ -9,7 +9,8 @@
 //! ends otherwise than by a device that fails, nothing of what it prints is still held (`list_to_end`, `show_to_end`). What the lists hold is
 //! promised by `cob_convert_show`, and where pieces begin by `cob_pieces`.
 //!
-//! It stands on `cob_convert_line` for the command line, on `cob_convert_show` for listings, on `cob_pieces` for pieces, on `cob_stream` for
+//! It stands on `cob_convert_line` for the command line, on `cob_convert_show` for listings, on `cob_pieces` for pieces, on `cob_command_input` and `cob_chosen`
+//! for the records that `show` reads, on `cob_stream` for
 //! the fault of a record, on `cob_command_faults` for faults and texts, on
 //! `cob_records` for the ends over files, and on `cob_status` for statuses.
 #![tactic(auto)]

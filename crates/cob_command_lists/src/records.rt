@@ -1,4 +1,4 @@
-ghost use Rattle.std.specs.Prelude.{◌≡◌, [], IfErr, OnOk};
+ghost use Rattle.std.specs.Prelude.{◌≡◌, [], IfErr, None, OnOk};
 ghost use Rattle.std.specs.Io.Buffered.{writer_buffer};
 ghost use Rattle.cob_records.specs.Forms.{HasBlockSize};
 ghost use Rattle.cob_records.specs.Streams.{sink_writer};
@@ -6,17 +6,18 @@ ghost use Rattle.cob_command_faults.specs.Texts.{StopsListing};
 ghost use Rattle.cob_convert_show.specs.Records.{IsShowFault};
 ghost use Rattle.cob_command_faults.specs.Ends.{EndsAmong, EndsAs, status_of_outcome};
 ghost use Rattle.cob_command_lists.specs.Ends.{MayEndListing};
-ghost use Rattle.cob_command_lists.specs.Listed.{ListsFrom, Lists, listed_records};
+ghost use Rattle.cob_command_lists.specs.Listed.{ListsFrom, ListsOver, Lists, listed_records, show_fault_told, told_counted_behind};
 
 use crate::copybook::{Listed, read_book};
-use cob_command_faults::{CommandFault, FileName, opened, printed, tell_fault, telling};
+use cob_chosen::{Choice, Incoming, Stopped};
+use cob_command_faults::{CommandFault, printed, tell_fault, telling};
+use cob_command_input::{Wanted, open_records, with_cause};
 use cob_convert_line::{Listing, ShowLine};
 use cob_convert_show::{ShowFault, show};
 use cob_convert_values::{show_csv, show_json};
-use cob_records::{
-    DeviceFault, Form, Progress, Sink, Source, Telling, WriteSink, create_sink, open_source,
-};
+use cob_records::{DeviceFault, Form, Progress, Sink, Source, Telling, WriteSink, create_sink};
 use cob_status::Status;
+use cob_stream::RunFault;
 use std::alloc::Global;
 use std::io::{BufWriter, Eprint, Input, Print, Write};
 use std::rt::{Clock, Files};
@@ -41,6 +42,16 @@ fn listed_as<S: Source, K: Sink>(
         Listing::Text => show(alloc, book, layout, form, source, sink),
         Listing::Json => show_json(alloc, layout, form, source, sink),
         Listing::Csv => show_csv(alloc, book, layout, form, source, sink),
+    }
+}
+
+/// The fault of a listing of chosen records: where a read failed because a frame can't be read, that is why.
+fn caused_by(stop: Option<Stopped>, fault: ShowFault) -> ShowFault
+    ensures { result ≡ show_fault_told stop fault }
+{
+    match fault {
+        ShowFault::Run(fault) => ShowFault::Run(with_cause(stop, fault)),
+        ShowFault::Memory => ShowFault::Memory,
     }
 }
 
@@ -72,6 +83,32 @@ fn shown<R: AllocGlobal + Eprint + Clock, S: Source + Drop, K: Sink>(
     }
 }
 
+/// What a listing of all records that come comes to, or of those that are chosen. Where one of these can't be read, that is why it stops.
+fn shown_over<R: AllocGlobal + Eprint + Clock, S: Source + Drop, K: Sink>(
+    rt: &R,
+    listed: &Listed,
+    form: Form,
+    listing: Listing,
+    telling: Option<Telling>,
+    incoming: Incoming<S>,
+    sink: &mut K,
+) -> Result<u64, ShowFault>
+    requires listed { listed.now.book ≡ listed.now.layout }
+    requires block { HasBlockSize form }
+    ensures shows { listing ≡ Listing.Text → ListsOver S.coming form listed.now.layout result incoming
+        (K.taken sink.old) (K.taken sink.new) }
+{
+    match incoming {
+        Incoming::All(source) => shown(rt, listed, form, listing, telling, source, sink),
+        Incoming::Some(mut chosen) => {
+            match shown(rt, listed, form, listing, telling, &mut chosen, sink) {
+                Ok(done) => Ok(done),
+                Err(fault) => Err(caused_by(chosen.stopped(), fault)),
+            }
+        }
+    }
+}
+
 /// Lists records, and hands all of the list to the device, whatever the listing came to.
 fn show_to_end<R: AllocGlobal + Eprint + Clock, S: Source + Drop, W: Write + Drop>(
     rt: &R,
@@ -79,14 +116,14 @@ fn show_to_end<R: AllocGlobal + Eprint + Clock, S: Source + Drop, W: Write + Dro
     form: Form,
     listing: Listing,
     telling: Option<Telling>,
-    source: S,
+    incoming: Incoming<S>,
     sink: &mut WriteSink<BufWriter<W>>,
 ) -> Result<Result<u64, ShowFault>, DeviceFault>
     requires listed { listed.now.book ≡ listed.now.layout }
     requires block { HasBlockSize form }
     ensures { OnOk result (writer_buffer (sink_writer sink.new) ≡ []) }
 {
-    let answer = shown(rt, listed, form, listing, telling, source, sink);
+    let answer = shown_over(rt, listed, form, listing, telling, incoming, sink);
     sink.flush()?;
     Ok(answer)
 }
@@ -99,6 +136,65 @@ fn listed(handed: Result<Result<u64, ShowFault>, DeviceFault>) -> Result<u64, Co
     match handed {
         Ok(answer) => Ok(answer?),
         Err(DeviceFault) => Err(CommandFault::Unprinted),
+    }
+}
+
+/// What a listing comes to, its records counted behind so many that are passed over.
+fn counted_behind(skip: u64, outcome: Result<u64, CommandFault>) -> Result<u64, CommandFault>
+    ensures counted { result ≡ told_counted_behind skip outcome }
+    ensures stops { IfErr outcome StopsListing → IfErr result StopsListing }
+{
+    match outcome {
+        Err(CommandFault::Stopped(stopped)) => Err(CommandFault::Stopped(RunFault {
+            number: stopped.number.saturating_add(skip),
+            ..stopped
+        })),
+        other => other,
+    }
+}
+
+/// Which records a listing chooses of its file.
+fn choice_of(line: &ShowLine<'_>) -> Choice
+    ensures skip { result.skip ≡ line.now.skip }
+    ensures records { result.records ≡ line.now.records }
+{
+    Choice {
+        skip: line.skip,
+        records: line.records,
+    }
+}
+
+/// Which records a listing reads, of at most this length.
+fn wanted_by<'a>(line: &ShowLine<'a>, greatest: u16) -> Wanted<'a>
+    ensures form { result.form ≡ line.now.form }
+    ensures greatest { result.greatest ≡ greatest }
+    ensures from { result.from ≡ 0 }
+    ensures bytes { result.bytes ≡ None }
+    ensures first { result.first ≡ 1 }
+    ensures skip { result.choice.skip ≡ line.now.skip }
+    ensures records { result.choice.records ≡ line.now.records }
+{
+    Wanted {
+        input: line.input,
+        form: line.form,
+        greatest,
+        from: 0,
+        bytes: None,
+        first: 1,
+        choice: choice_of(line),
+    }
+}
+
+/// How a listing tells how far it is, where that is asked for. How many bytes the chosen records have isn't known.
+fn telling_chosen<R: Files>(rt: &R, line: &ShowLine<'_>) -> Option<Telling> {
+    let telling = telling(rt, line.input, line.progress)?;
+    if choice_of(line).is_all() {
+        Some(telling)
+    } else {
+        Some(Telling {
+            size: None,
+            ..telling
+        })
     }
 }
 
@@ -116,13 +212,14 @@ pub fn list_records<R: AllocGlobal + Files + Input + Print + Eprint + Clock>(
     ensures { IfErr result MayEndListing }
 {
     let book = read_book(rt, line.book)?;
-    let source = opened(open_source(rt, line.input), FileName::In)?;
+    let incoming = open_records(rt, wanted_by(line, book.layout.greatest()))?;
     let Ok(mut sink) = create_sink(rt, "-") else {
         return Err(CommandFault::Memory);
     };
-    let telling = telling(rt, line.input, line.progress);
+    let telling = telling_chosen(rt, line);
     let (form, listing) = (line.form, line.listing);
-    listed(show_to_end(rt, &book, form, listing, telling, source, &mut sink))
+    let handed = show_to_end(rt, &book, form, listing, telling, incoming, &mut sink);
+    counted_behind(line.skip, listed(handed))
 }
 
 /// Whether a listing is for programs, which would read the number of records as one of them.
