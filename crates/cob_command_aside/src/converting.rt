@@ -1,9 +1,8 @@
 //! The command itself.
 
-ghost use Rattle.std.specs.Prelude.{◌≡◌, ◌+◌, Bool, IfErr, true};
+ghost use Rattle.std.specs.Prelude.{◌≡◌, Bool, IfErr, true};
 ghost use Rattle.cob_command_faults.specs.Ends.{EndsAmong, EndsAs, status_of_outcome};
 ghost use Rattle.cob_records.specs.Forms.{HasBlockSize};
-ghost use Rattle.cob_records.specs.Progress.{kept_count};
 ghost use Rattle.cob_command_aside.specs.Ends.{EndsRun, LacksOutputs, MayEndAside};
 ghost use Rattle.cob_command_aside.specs.Finished.{aside_counted_from, aside_told_from, most_of, told_run};
 
@@ -11,7 +10,7 @@ use crate::ends::{AsideEnds, open_aside_ends};
 use crate::places::{Parts, put_both_in_place};
 use crate::rejections::{Rejections, counted_on};
 use crate::running::{AsideEnding, How, placed, run_aside_to_end};
-use cob_command_convert::{counted_from, is_standard_output, telling_piece};
+use cob_command_convert::{counted_from, first_of, is_standard_output, telling_piece};
 use cob_command_faults::{CommandFault, Texts, printed, tell_fault};
 use cob_convert::{Converter, Tally};
 use cob_convert_files::part_name;
@@ -66,13 +65,6 @@ fn aside_told_from(first: u64, outcome: Result<u64, CommandFault>) -> Result<u64
     }
 }
 
-/// The number of the first record that is converted.
-fn first_of(line: &ConvertLine<'_>) -> u64
-    ensures { result ≡ kept_count (line.now.first + line.now.skip) }
-{
-    line.first.saturating_add(line.skip)
-}
-
 /// How a command line wants a run done.
 fn how_of<R: Files>(rt: &R, line: &ConvertLine<'_>) -> How
     ensures form { result.form ≡ line.now.in_form }
@@ -108,7 +100,7 @@ fn convert_into<R: AllocGlobal + Files + Input + Print + Eprint + Clock>(
         source,
         mut sink,
         mut aside,
-    } = open_aside_ends(rt, line, rejects, None)?;
+    } = open_aside_ends(rt, line, rejects, converter.in_length(), None)?;
     let how = how_of(rt, line);
     let mut notes = rejections_of(rt, line, how);
     let ending = run_aside_to_end(
@@ -161,7 +153,7 @@ fn convert_parts<R: AllocGlobal + Files + Input + Print + Eprint + Clock>(
         source,
         mut sink,
         mut aside,
-    } = open_aside_ends(rt, line, rejects, Some(parts))?;
+    } = open_aside_ends(rt, line, rejects, converter.in_length(), Some(parts))?;
     let how = how_of(rt, line);
     let mut notes = rejections_of(rt, line, how);
     let ending = run_aside_to_end(

@@ -1,9 +1,12 @@
 //! The ends of a conversion that sets rejected records aside.
 
-ghost use Rattle.std.specs.Prelude.{IfErr};
+ghost use Rattle.std.specs.Prelude.{◌<◌, ◌≤◌, IfErr};
+ghost use Rattle.cob_limits.specs.Limits.{longest_record};
+ghost use Rattle.cob_records.specs.Forms.{HasBlockSize};
 ghost use Rattle.cob_command_aside.specs.Ends.{LacksAside, LacksAsideEnds, LosesOther};
 
 use crate::places::Parts;
+use cob_chosen::Incoming;
 use cob_command_convert::{Ends, Inputs, open_ends};
 use cob_command_faults::{CommandFault, FileName, opened};
 use cob_convert_files::{FileIdentity, create_part, lead_to_one_file};
@@ -92,26 +95,30 @@ fn rejects_part<'a, R: AllocGlobal + Files + Print>(
     }
 }
 
-/// Opens the ends of a conversion: the records that come, then its output, and last the file for rejected records; or the parts that stand in for
-/// these two. None is opened where a file that is made is one that is read, or where both that are made are one file that is there.
+/// Opens the ends of a conversion: the records that come, which have at most this length, then its output, and last the file for rejected records; or the
+/// parts that stand in for these two. None is opened where a file that is made is one that is read, or where both that are made are one file that is there.
 ///
 /// # Errors
 ///
-/// A file that is made and is another one, a file that is not opened or not made, want of memory.
+/// A file that is made and is another one, a file that is not opened or not made, a record that is passed over and can't be read, want of memory.
 pub fn open_aside_ends<'a, R: AllocGlobal + Files + Input + Print>(
     rt: &'a R,
     line: &ConvertLine<'_>,
     rejects: &str,
+    greatest: u16,
     parts: Option<Parts<'_>>,
 ) -> Result<
-    AsideEnds<PartSource<R::File, R::Reader>, FileSink<R::File, Printer<'a, R>>>,
+    AsideEnds<Incoming<PartSource<R::File, R::Reader>>, FileSink<R::File, Printer<'a, R>>>,
     CommandFault,
 >
+    requires block { HasBlockSize line.now.in_form }
+    requires low { 0 < greatest }
+    requires high { greatest ≤ longest_record }
     ensures { IfErr result LacksAsideEnds }
 {
     judge_rejects(rt, line, rejects, parts)?;
     let part = parts.map(|parts| parts.output);
-    let Ends { source, sink } = open_ends(rt, line, part)?;
+    let Ends { source, sink } = open_ends(rt, line, greatest, part)?;
     let made = match parts {
         Some(parts) => rejects_part(rt, rejects, parts),
         None => rejects_itself(rt, line, rejects),

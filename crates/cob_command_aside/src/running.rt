@@ -8,12 +8,14 @@ ghost use Rattle.cob_records.specs.Streams.{sink_writer};
 ghost use Rattle.cob_convert.specs.Aside.{CountsUnlessSink, is_aside_fault, is_sink_fault};
 ghost use Rattle.cob_command_aside.specs.Ends.{LacksOutputs, StopsAside};
 ghost use Rattle.cob_command_aside.specs.Finished.{fails_output, finished_aside, lacking, lacking_aside, lacking_output, placed_aside, records_before};
-ghost use Rattle.cob_command_aside.specs.Ran.{RanAsideFrom};
+ghost use Rattle.cob_command_aside.specs.Ran.{RanAsideFrom, RanAsideOver, aside_cause_told};
 
 use crate::marks::Marks;
 use crate::places::PlacesFault;
 use crate::rejections::Rejections;
+use cob_chosen::{Incoming, Stopped};
 use cob_command_faults::CommandFault;
+use cob_command_input::with_cause;
 use cob_convert::{AsideFault, Cause, Converter, Notes, RunFault, Tally};
 use cob_convert_files::PlaceFault;
 use cob_records::{DeviceFault, Form, Progress, RecordFault, Sink, Source, Telling, WriteSink};
@@ -173,13 +175,49 @@ fn answer_of<T: Eprint + Clock, S: Source + Drop, K: Sink, A: Sink, N: Notes>(
     }
 }
 
+/// The fault of a run over chosen records: where a read failed because a frame can't be read, that is why.
+fn with_aside_cause(stop: Option<Stopped>, fault: AsideFault) -> AsideFault
+    ensures { result ≡ aside_cause_told stop fault }
+{
+    match fault {
+        AsideFault::Stopped(stopped) => AsideFault::Stopped(with_cause(stop, stopped)),
+        other => other,
+    }
+}
+
+/// The answer of a run over all records that come, or over those that are chosen. Where one of these can't be read, that is why it stops.
+fn answer_over<T: Eprint + Clock, S: Source + Drop, K: Sink, A: Sink, N: Notes>(
+    rt: &T,
+    how: How,
+    converter: &mut Converter,
+    incoming: Incoming<S>,
+    sink: &mut K,
+    aside: &mut A,
+    notes: &mut N,
+) -> Result<Tally, AsideFault>
+    requires { HasBlockSize how.form }
+    ensures ran { RanAsideOver S.coming converter.old how.most result incoming
+        (record { sink = K.taken sink.old; aside = A.taken aside.old; notes = N.told notes.old })
+        (record { sink = K.taken sink.new; aside = A.taken aside.new; notes = N.told notes.new }) }
+{
+    match incoming {
+        Incoming::All(source) => answer_of(rt, how, converter, source, sink, aside, notes),
+        Incoming::Some(mut chosen) => {
+            match answer_of(rt, how, converter, &mut chosen, sink, aside, notes) {
+                Ok(tally) => Ok(tally),
+                Err(fault) => Err(with_aside_cause(chosen.stopped(), fault)),
+            }
+        }
+    }
+}
+
 /// Runs to the end, and hands what both sinks still hold to their devices, whatever the run came to. It tells on standard error how far it is where
 /// that is asked for, and why records were rejected.
 pub fn run_aside_to_end<T: Eprint + Clock, S: Source + Drop, W: Write + Drop, V: Write + Drop>(
     rt: &T,
     how: How,
     converter: &mut Converter,
-    source: S,
+    incoming: Incoming<S>,
     sink: &mut WriteSink<BufWriter<W>>,
     aside: &mut WriteSink<BufWriter<V>>,
     notes: &mut Rejections<'_, T>,
@@ -189,7 +227,7 @@ pub fn run_aside_to_end<T: Eprint + Clock, S: Source + Drop, W: Write + Drop, V:
     ensures rejects { OnOk result.aside_flushed (writer_buffer (sink_writer aside.new) ≡ []) }
     ensures marks { result.marks ≡ notes.new.marks }
 {
-    let answer = answer_of(rt, how, converter, source, sink, aside, notes);
+    let answer = answer_over(rt, how, converter, incoming, sink, aside, notes);
     let flushed = sink.flush();
     let aside_flushed = aside.flush();
     AsideEnding {

@@ -29,7 +29,7 @@ mod inputs;
 mod running;
 
 pub use checking::{Checked, check, do_check};
-pub use converting::{convert, do_convert, telling_piece};
+pub use converting::{convert, do_convert, first_of, telling_piece};
 pub use ends::{Ends, open_ends};
 pub use inputs::{Inputs, is_standard_output};
 pub use running::counted_from;
