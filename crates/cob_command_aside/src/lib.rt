@@ -18,7 +18,8 @@
 //!
 //! It stands on `cob_command_convert` for the ends of a conversion, on `cob_convert` for what is done, on `cob_convert_line` for the command line, on
 //! `cob_command_faults` for faults and texts, on `cob_convert_files` for identities of files and outputs that replace a file, on `cob_records` for the
-//! ends over files, on `cob_stream` for the fault of a record, on `cob_pieces` for pieces of a file, and on `cob_status` for statuses.
+//! ends over files, on `cob_stream` for the fault of a record, on `cob_chosen`, `cob_command_input` and `cob_pieces` for the
+//! records that it reads, and on `cob_status` for statuses.
 #![tactic(auto)]
 
 mod converting;

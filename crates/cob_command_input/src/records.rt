@@ -1,9 +1,10 @@
 //! The records of a file that a command reads.
 
-ghost use Rattle.std.specs.Prelude.{◌≡◌, ◌<◌, ◌≤◌, IfErr};
+ghost use Rattle.std.specs.Prelude.{◌≡◌, ◌<◌, ◌≤◌, None, IfErr, IfOk};
 ghost use Rattle.cob_limits.specs.Limits.{longest_record};
 ghost use Rattle.cob_records.specs.Forms.{HasBlockSize};
 ghost use Rattle.cob_command_input.specs.Jumps.{JumpsIn};
+ghost use Rattle.cob_command_input.specs.Records.{GivesWanted, JumpsOver, part_before};
 ghost use Rattle.cob_command_input.specs.Stops.{LacksRecords};
 
 use crate::stops::not_chosen;
@@ -37,6 +38,7 @@ pub struct Wanted<'a> {
 fn jumped_in(form: Form, greatest: u16, size: Option<u64>, part: Part) -> Part
     requires { 0 < greatest }
     ensures jumps { JumpsIn form greatest size part result }
+    ensures none { size ≡ None → result ≡ part }
 {
     match (form, size) {
         (Form::Fixed, Some(size)) => part.jumped(size, greatest),
@@ -78,7 +80,9 @@ pub fn open_records<R: AllocGlobal + Files + Input>(
     requires block { HasBlockSize wanted.form }
     requires low { 0 < wanted.greatest }
     requires high { wanted.greatest ≤ longest_record }
-    ensures { IfErr result LacksRecords }
+    // They are those of the part behind the records that are jumped over, and none but the chosen ones.
+    ensures gives { IfOk result (GivesWanted wanted.entry.form wanted.entry.greatest wanted.entry.choice.records) }
+    ensures lacks { IfErr result LacksRecords }
 {
     let part = part_of(rt, wanted);
     let end = open_part(rt, wanted.input, part.from, part.bytes);

@@ -1,0 +1,24 @@
+-- Which records a command reads.
+use Rattle.std.specs.Prelude.{◌≡◌, ℕ, true, Option}
+use Rattle.cob_records.specs.declared.records.Form.{Form}
+use Rattle.cob_chosen.specs.Choices.{is_unbounded, last_behind}
+use Rattle.cob_chosen.specs.declared.incoming.Incoming.{Incoming}
+use Rattle.cob_chosen.specs.declared.incoming.Incoming.TheVariants as incoming
+use Rattle.cob_chosen.specs.declared.part.Part.{Part}
+use Rattle.cob_command_input.specs.Jumps.{JumpsIn}
+use Rattle.cob_command_input.specs.declared.records.Wanted.{Wanted}
+
+-- the part of the file that is wanted, before any record of it is jumped over
+abbrev pub part_before : Wanted → Part
+part_before wanted = record { from = wanted.from; bytes = wanted.bytes; skip = wanted.choice.skip }
+
+-- Of that part records are jumped over, as the size allows that the system tells, or none where it tells none.
+abbrev pub JumpsOver : Wanted → Part → Type 0
+JumpsOver wanted now = (size : Option ℕ) × JumpsIn wanted.form wanted.greatest size (part_before wanted) now
+
+-- Records of this form and of at most this length are given: all, where no number of them is asked for and none is left to be passed over; else those
+-- behind the ones that are passed over, as many as are asked for.
+abbrev pub GivesWanted : {R : Type 0} → Form → (greatest : ℕ) → (records : Option ℕ) → Incoming R → Type 0
+GivesWanted form greatest records (incoming.All source) = is_unbounded records ≡ true
+GivesWanted form greatest records (incoming.Some source) =
+    (source.walk.form ≡ form) × (source.walk.greatest ≡ greatest) × (source.walk.last ≡ last_behind source.walk.skip records)
