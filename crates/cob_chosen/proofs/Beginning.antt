@@ -3,7 +3,7 @@ use Rattle.std.proofs.Common.{◌≡◌, ◌⊎◌, ℕ, zero, suc, ◌≤◌, L
 use Rattle.cob_records.specs.Device.{Told}
 use Rattle.cob_records.specs.declared.records.Form.{Form}
 use Rattle.cob_chosen.specs.Choices.{HasCome, all_alone}
-use Rattle.cob_chosen.specs.Walks.{IsAt}
+use Rattle.cob_chosen.specs.Walks.{HasWalkedTo}
 use Rattle.cob_chosen.specs.declared.walk.Walk.{Walk}
 
 drop_none : {X : Type 0} (n : ℕ) → drop {A = X} n [] ≡ []
@@ -24,7 +24,7 @@ told_end (Some bytes) (Some rest) P told = told.1
 
 pub passed_to : (form : Form) (greatest skip : ℕ) (now : Walk) (r0 r1 : Option (List ℕ))
     → (now.skip ≤ now.number) ⊎ ((first : Option (List ℕ)) (chosen : List ℕ) → Told first r0 (HasCome form greatest skip 0 0 chosen)
-    → Told first r1 (λ bytes rest. IsAt now chosen bytes rest × (rest ≡ [])))
+    → Told first r1 (λ bytes rest. HasWalkedTo now chosen bytes rest × (rest ≡ [])))
     → (now.skip ≤ now.number) ⊎ Told r0 r1 (λ bytes rest. rest ≡ [])
 passed_to form greatest skip now r0 r1 (inl behind) = inl behind
-passed_to form greatest skip now r0 r1 (inr ends) = inr (told_end r0 r1 (IsAt now []) (ends r0 [] (told_begun form greatest skip r0)))
+passed_to form greatest skip now r0 r1 (inr ends) = inr (told_end r0 r1 (HasWalkedTo now []) (ends r0 [] (told_begun form greatest skip r0)))

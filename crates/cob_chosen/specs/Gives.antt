@@ -5,7 +5,7 @@ use Rattle.cob_records.specs.Frame.{is_read_failure}
 use Rattle.cob_records.specs.declared.records.Form.{Form}
 use Rattle.cob_chosen.specs.Choices.{HasStopped}
 use Rattle.cob_chosen.specs.Helds.{held_bytes}
-use Rattle.cob_chosen.specs.Walks.{IsAt}
+use Rattle.cob_chosen.specs.Walks.{HasWalkedTo}
 use Rattle.cob_chosen.specs.declared.walk.Walk.{Walk}
 use Rattle.cob_chosen.specs.declared.choice.ChoiceFault.{ChoiceFault}
 use Rattle.cob_chosen.specs.declared.choice.ChoiceFault.TheVariants as choice
@@ -35,7 +35,7 @@ chosen_walk source = source.walk
 -- These bytes were given, of records that came from a source that first told those, and tells these now: with what is held they are the records
 -- that are chosen of what came.
 abbrev pub HasGiven : {R : Type 0} → (first now : Option (List ℕ)) → List ℕ → Chosen R → Type 0
-HasGiven first now given source = Told first now (IsAt source.walk (given ++ held_bytes source.held))
+HasGiven first now given source = Told first now (HasWalkedTo source.walk (given ++ held_bytes source.held))
 
 -- Those before the chosen ones have passed, or no byte is left of a source that first told these bytes and tells those now.
 abbrev pub IsPassedTo : {R : Type 0} → (first now : Option (List ℕ)) → Chosen R → Type 0
@@ -52,8 +52,8 @@ IfStopped (choice.Stopped stop) P = P stop
 IfStopped choice.Memory P = ⊤
 
 -- these bytes are given behind whatever was given before
-abbrev pub Gives : {R : Type 0} → (R → Option (List ℕ)) → List ℕ → Chosen R → Chosen R → Type 0
-Gives coming part before now = (first : Option (List ℕ)) (given : List ℕ) → HasGiven first (coming before.inner) given before
+abbrev pub GivesBehind : {R : Type 0} → (R → Option (List ℕ)) → List ℕ → Chosen R → Chosen R → Type 0
+GivesBehind coming part before now = (first : Option (List ℕ)) (given : List ℕ) → HasGiven first (coming before.inner) given before
     → HasGiven first (coming now.inner) (given ++ part) now
 
 -- no byte is left of a source that told what came before, where that is what had been given
@@ -62,16 +62,16 @@ HasNoneLeft coming before now = (first : Option (List ℕ)) (given : List ℕ) �
     → Told first (coming now.inner) (λ bytes rest. rest ≡ [])
 
 -- Nothing more is given: the last record that is chosen has come, or no byte is left.
-abbrev pub IsDone : {R : Type 0} → (R → Option (List ℕ)) → Chosen R → Chosen R → Type 0
-IsDone coming before now = (now.walk.number ≡ now.walk.last) ⊎ HasNoneLeft coming before now
+abbrev pub IsExhausted : {R : Type 0} → (R → Option (List ℕ)) → Chosen R → Chosen R → Type 0
+IsExhausted coming before now = (now.walk.number ≡ now.walk.last) ⊎ HasNoneLeft coming before now
 
 -- where nothing is held, nothing more is given
 abbrev pub IsRefilled : {R : Type 0} → (R → Option (List ℕ)) → Chosen R → Chosen R → Type 0
-IsRefilled coming before now = length (held_bytes now.held) ≡ 0 → IsDone coming before now
+IsRefilled coming before now = length (held_bytes now.held) ≡ 0 → IsExhausted coming before now
 
 -- nothing is held, and nothing more is given
-abbrev pub IsOver : {R : Type 0} → (R → Option (List ℕ)) → Chosen R → Chosen R → Type 0
-IsOver coming before now = (held_bytes now.held ≡ []) × IsDone coming before now
+abbrev pub IsDrained : {R : Type 0} → (R → Option (List ℕ)) → Chosen R → Chosen R → Type 0
+IsDrained coming before now = (held_bytes now.held ≡ []) × IsExhausted coming before now
 
 -- It stops at this record: behind whatever was given before, its frame can't be read.
 abbrev pub StopsGivingAt : {R : Type 0} → (R → Option (List ℕ)) → Option Stopped → Chosen R → Chosen R → Type 0

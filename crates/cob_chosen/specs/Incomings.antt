@@ -9,7 +9,7 @@ use Rattle.cob_chosen.specs.declared.incoming.Incoming.{Incoming}
 use Rattle.cob_chosen.specs.declared.incoming.Incoming.TheVariants as incoming
 
 -- It gives the records of this choice, of a source that first told these bytes and tells those now, and none is given yet.
-pub record IsBefore {R : Type 0} (form : Form) (greatest : ℕ) (choice : Choice) (first now : Option (List ℕ)) (source : Chosen R) : Type 0 where
+pub record GivesAllBehind {R : Type 0} (form : Form) (greatest : ℕ) (choice : Choice) (first now : Option (List ℕ)) (source : Chosen R) : Type 0 where
   pub form_is : source.walk.form ≡ form
   pub greatest_is : source.walk.greatest ≡ greatest
   pub skip_is : source.walk.skip ≡ choice.skip
@@ -21,4 +21,4 @@ pub record IsBefore {R : Type 0} (form : Form) (greatest : ℕ) (choice : Choice
 -- it gives just the records of this choice
 abbrev pub GivesChosen : {R : Type 0} → (R → Option (List ℕ)) → Form → (greatest : ℕ) → Choice → (first : Option (List ℕ)) → Incoming R → Type 0
 GivesChosen coming form greatest choice first (incoming.All source) = ⊥
-GivesChosen coming form greatest choice first (incoming.Some source) = IsBefore form greatest choice first (coming source.inner) source
+GivesChosen coming form greatest choice first (incoming.Some source) = GivesAllBehind form greatest choice first (coming source.inner) source

@@ -6,8 +6,8 @@ use Rattle.cob_chosen.specs.declared.choice.Stopped.{Stopped}
 use Rattle.cob_chosen.specs.declared.walk.Walk.{Walk}
 
 -- A stream has come so far, and these bytes are the records that are chosen of what came.
-abbrev pub IsAt : Walk → (chosen bytes rest : List ℕ) → Type 0
-IsAt walk chosen bytes rest = HasCome walk.form walk.greatest walk.skip walk.number walk.left chosen bytes rest
+abbrev pub HasWalkedTo : Walk → (chosen bytes rest : List ℕ) → Type 0
+HasWalkedTo walk chosen bytes rest = HasCome walk.form walk.greatest walk.skip walk.number walk.left chosen bytes rest
 
 -- the same records are chosen of a stream in the same form
 abbrev pub IsSameChoice : Walk → Walk → Type 0
@@ -15,12 +15,12 @@ IsSameChoice before now = (now.form ≡ before.form) × (now.greatest ≡ before
 
 -- Whatever was chosen of what came before is what is chosen of what has come now.
 abbrev pub PassesOver : Walk → Walk → (coming left : Option (List ℕ)) → Type 0
-PassesOver before now coming left = (first : Option (List ℕ)) (chosen : List ℕ) → Told first coming (IsAt before chosen) → Told first left (IsAt now chosen)
+PassesOver before now coming left = (first : Option (List ℕ)) (chosen : List ℕ) → Told first coming (HasWalkedTo before chosen) → Told first left (HasWalkedTo now chosen)
 
 -- The same, and no byte is left.
 abbrev pub EndsAt : Walk → Walk → (coming left : Option (List ℕ)) → Type 0
 EndsAt before now coming left =
-    (first : Option (List ℕ)) (chosen : List ℕ) → Told first coming (IsAt before chosen) → Told first left (λ bytes rest. IsAt now chosen bytes rest × (rest ≡ []))
+    (first : Option (List ℕ)) (chosen : List ℕ) → Told first coming (HasWalkedTo before chosen) → Told first left (λ bytes rest. HasWalkedTo now chosen bytes rest × (rest ≡ []))
 
 -- The first record that is chosen is the next one, or no byte is left.
 abbrev pub ReachesFirst : Walk → Walk → (coming left : Option (List ℕ)) → Type 0
@@ -29,10 +29,10 @@ ReachesFirst before now coming left = (now.skip ≤ now.number) ⊎ EndsAt befor
 -- Behind whatever was chosen of what came before, these bytes are chosen too.
 abbrev pub Takes : List ℕ → Walk → Walk → (coming left : Option (List ℕ)) → Type 0
 Takes part before now coming left =
-    (first : Option (List ℕ)) (chosen : List ℕ) → Told first coming (IsAt before chosen) → Told first left (IsAt now (chosen ++ part))
+    (first : Option (List ℕ)) (chosen : List ℕ) → Told first coming (HasWalkedTo before chosen) → Told first left (HasWalkedTo now (chosen ++ part))
 
 -- Behind whatever was chosen of what came before, the frame of the next record can't be read.
-abbrev pub StopsAt : Stopped → Walk → (coming left : Option (List ℕ)) → Type 0
-StopsAt stop before coming left =
-    (first : Option (List ℕ)) (chosen : List ℕ) → Told first coming (IsAt before chosen)
+abbrev pub StopsWalkAt : Stopped → Walk → (coming left : Option (List ℕ)) → Type 0
+StopsWalkAt stop before coming left =
+    (first : Option (List ℕ)) (chosen : List ℕ) → Told first coming (HasWalkedTo before chosen)
     → Told first left (HasStopped before.form before.greatest before.skip stop chosen)

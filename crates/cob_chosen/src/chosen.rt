@@ -97,7 +97,7 @@ impl<R> Chosen<R> {
 }
 
 impl<R: Source> Chosen<R> {
-    ghost use Rattle.cob_chosen.specs.Gives.{Gives, IsRefilled, StopsGiving, chosen_failures, chosen_inner, chosen_stop, chosen_walk, is_failed_stop};
+    ghost use Rattle.cob_chosen.specs.Gives.{GivesBehind, IsRefilled, StopsGiving, chosen_failures, chosen_inner, chosen_stop, chosen_walk, is_failed_stop};
     ghost use Rattle.cob_chosen.specs.Walks.{IsSameChoice};
 
     // Holds the next record that is chosen, where none is held and there is one.
@@ -105,7 +105,7 @@ impl<R: Source> Chosen<R> {
         requires { chosen_stop self.old ≡ None }
         ensures cause { chosen_failures self.new ≡ counted (is_err result) (chosen_failures self.old) }
         ensures same { IsSameChoice (chosen_walk self.old) (chosen_walk self.new) }
-        ensures gives { OnOk result (Gives R.coming [] self.old self.new) }
+        ensures gives { OnOk result (GivesBehind R.coming [] self.old self.new) }
         ensures over { OnOk result (IsRefilled R.coming self.old self.new) }
         ensures runs { OnOk result (chosen_stop self.new ≡ None) }
         ensures stops { OnErr result (StopsGiving R.coming self.old self.new) }
@@ -127,7 +127,7 @@ impl<R: Source> Chosen<R> {
 }
 
 impl<R: Source> Source for Chosen<R> {
-    ghost use Rattle.cob_chosen.specs.Gives.{Gives, IsOver, StopsGiving, chosen_failures, chosen_inner, chosen_stop, chosen_walk, is_failed_stop};
+    ghost use Rattle.cob_chosen.specs.Gives.{GivesBehind, IsDrained, StopsGiving, chosen_failures, chosen_inner, chosen_stop, chosen_walk, is_failed_stop};
     ghost use Rattle.cob_chosen.specs.Walks.{IsSameChoice};
 
     ghost coming = { λ _. None };
@@ -140,8 +140,8 @@ impl<R: Source> Source for Chosen<R> {
         ensures cause { chosen_failures self.new ≡ counted (is_err result) (chosen_failures self.old) }
         // The same records are chosen, and what it gave stands behind what it had given; where it gave nothing, it is over.
         ensures same { IsSameChoice (chosen_walk self.old) (chosen_walk self.new) }
-        ensures gives { IfOk result (λ n. Gives R.coming (take n piece.new) self.old self.new) }
-        ensures over { IfOk result (λ n. n ≡ 0 → 0 < length piece.new → IsOver R.coming self.old self.new) }
+        ensures gives { IfOk result (λ n. GivesBehind R.coming (take n piece.new) self.old self.new) }
+        ensures over { IfOk result (λ n. n ≡ 0 → 0 < length piece.new → IsDrained R.coming self.old self.new) }
         // It fails where a frame can't be read, and from then on; a read of the source inside failed exactly where that is why.
         ensures runs { OnOk result (chosen_stop self.new ≡ None) }
         ensures stops { OnErr result (chosen_stop self.old ≡ None → StopsGiving R.coming self.old self.new) }

@@ -5,7 +5,7 @@ ghost use Rattle.cob_records.specs.Device.{counted};
 ghost use Rattle.cob_records.specs.Frame.{is_write_fault};
 ghost use Rattle.cob_chosen.specs.Choices.{is_failed_read};
 ghost use Rattle.cob_chosen.specs.Helds.{IsSpent, held_bytes};
-ghost use Rattle.cob_chosen.specs.Walks.{EndsAt, IsSameChoice, PassesOver, ReachesFirst, StopsAt, Takes};
+ghost use Rattle.cob_chosen.specs.Walks.{EndsAt, IsSameChoice, PassesOver, ReachesFirst, StopsWalkAt, Takes};
 
 use crate::choice::Stopped;
 use crate::held::Held;
@@ -33,7 +33,7 @@ pub(crate) fn pass_over<R: Source>(
     ensures behind { IfOk result (λ all. IsTrue all → walk.new.skip ≤ walk.new.number) }
     ensures ends { IfOk result (λ all. IsFalse all
         → EndsAt walk.old walk.new (R.coming source.old) (R.coming source.new)) }
-    ensures stops { IfErr result (λ stop. StopsAt stop walk.old
+    ensures stops { IfErr result (λ stop. StopsWalkAt stop walk.old
         (R.coming source.old) (R.coming source.new)) }
     ensures kind { IfErr result (λ stop. is_write_fault stop.fault ≡ false) }
     ensures cause { R.failures source.new ≡ counted (is_failed_read result) (R.failures source.old) }
@@ -63,7 +63,7 @@ fn take_next<R: Source>(source: &mut R, walk: &mut Walk, held: &mut Held) -> Res
         (R.coming source.old) (R.coming source.new)) }
     ensures over { OnOk result (length (held_bytes held.new) ≡ 0 → (walk.new.number ≡ walk.new.last)
         ⊎ EndsAt walk.old walk.new (R.coming source.old) (R.coming source.new)) }
-    ensures stops { IfErr result (λ stop. StopsAt stop walk.old
+    ensures stops { IfErr result (λ stop. StopsWalkAt stop walk.old
         (R.coming source.old) (R.coming source.new)) }
     ensures kind { IfErr result (λ stop. is_write_fault stop.fault ≡ false) }
     ensures cause { R.failures source.new ≡ counted (is_failed_read result) (R.failures source.old) }
@@ -99,7 +99,7 @@ pub(crate) fn refill<R: Source>(
         (R.coming source.old) (R.coming source.new)) }
     ensures over { OnOk result (length (held_bytes held.new) ≡ 0 → (walk.new.number ≡ walk.new.last)
         ⊎ EndsAt walk.old walk.new (R.coming source.old) (R.coming source.new)) }
-    ensures stops { IfErr result (λ stop. StopsAt stop walk.old
+    ensures stops { IfErr result (λ stop. StopsWalkAt stop walk.old
         (R.coming source.old) (R.coming source.new)) }
     ensures kind { IfErr result (λ stop. is_write_fault stop.fault ≡ false) }
     ensures cause { R.failures source.new ≡ counted (is_failed_read result) (R.failures source.old) }

@@ -5,7 +5,7 @@ ghost use Rattle.cob_records.specs.Alone.{framed_alone};
 ghost use Rattle.cob_records.specs.Device.{counted};
 ghost use Rattle.cob_records.specs.Frame.{is_write_fault};
 ghost use Rattle.cob_chosen.specs.Choices.{is_failed_read};
-ghost use Rattle.cob_chosen.specs.Walks.{EndsAt, IsSameChoice, PassesOver, StopsAt, Takes};
+ghost use Rattle.cob_chosen.specs.Walks.{EndsAt, IsSameChoice, PassesOver, StopsWalkAt, Takes};
 
 use crate::choice::Stopped;
 use crate::walk::Walk;
@@ -36,7 +36,7 @@ pub(crate) fn next_body<R: Source>(
     ensures ends { IfOk result (λ found. IfNone found
         (EndsAt walk.old walk.new (R.coming source.old) (R.coming source.new))) }
     ensures stays { IfOk result (λ found. IfNone found (walk.new.number ≡ walk.old.number)) }
-    ensures stops { IfErr result (λ stop. StopsAt stop walk.old
+    ensures stops { IfErr result (λ stop. StopsWalkAt stop walk.old
         (R.coming source.old) (R.coming source.new)) }
     ensures kind { IfErr result (λ stop. is_write_fault stop.fault ≡ false) }
     ensures cause { R.failures source.new ≡ counted (is_failed_read result) (R.failures source.old) }

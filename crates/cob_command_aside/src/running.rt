@@ -6,7 +6,7 @@ ghost use Rattle.cob_records.specs.Device.{counted};
 ghost use Rattle.cob_records.specs.Forms.{HasBlockSize};
 ghost use Rattle.cob_records.specs.Streams.{sink_writer};
 ghost use Rattle.cob_convert.specs.Aside.{CountsUnlessSink, is_aside_fault, is_sink_fault};
-ghost use Rattle.cob_command_aside.specs.Ends.{LacksOutputs, StopsAside};
+ghost use Rattle.cob_command_aside.specs.Ends.{LacksOutputs, StopsRunAside};
 ghost use Rattle.cob_command_aside.specs.Finished.{aside_cause, fails_output, finished_aside, lacking, lacking_aside, lacking_output, placed_aside, records_before};
 ghost use Rattle.cob_command_aside.specs.Ran.{RanAsideFrom, RanAsideOver};
 
@@ -52,9 +52,9 @@ fn records_before(answer: Result<Tally, AsideFault>) -> u64
 /// What is told of a run an output of which was not handed to its device, whose last record is this one, 0 where there is none: that it is not there
 /// whole, unless an output failed before or none is lacking.
 fn lacking(answer: Result<Tally, AsideFault>, last: u64, unflushed: CommandFault) -> CommandFault
-    requires { 0 < last → StopsAside unflushed }
+    requires { 0 < last → StopsRunAside unflushed }
     ensures told { result ≡ lacking answer last unflushed }
-    ensures stops { StopsAside result }
+    ensures stops { StopsRunAside result }
 {
     match answer {
         Ok(_) if last == 0 => CommandFault::Unprinted,
@@ -77,7 +77,7 @@ impl AsideEnding {
     /// What is told where the output was not handed to its device, or is not on it.
     fn lacks_output(self) -> CommandFault
         ensures told { result ≡ lacking_output self.answer self.marks }
-        ensures stops { StopsAside result }
+        ensures stops { StopsRunAside result }
     {
         let last = self.marks.last_put(records_before(self.answer));
         lacking(self.answer, last, CommandFault::Unflushed { last })
@@ -86,7 +86,7 @@ impl AsideEnding {
     /// What is told where the rejected records were not handed to their device, or are not on it.
     fn lacks_rejects(self) -> CommandFault
         ensures told { result ≡ lacking_aside self.answer self.marks }
-        ensures stops { StopsAside result }
+        ensures stops { StopsRunAside result }
     {
         let last = self.marks.last;
         lacking(self.answer, last, CommandFault::UnflushedAside { last })

@@ -5,7 +5,7 @@
 //! - [`Line`] and [`Rectangle`] print as elements of a drawing.
 //!
 //! What each prints is promised whole (`output`). That no text can leave its place is a law: what is written of it are plain characters and escapes, one
-//! behind another ([`escapes_read_back`]; `Reads` of specs/Escapes.antt), and such a writing is read in one way, as the text ([`reading_is_one`]). So it
+//! behind another ([`escapes_read_back`]; `ReadsAs` of specs/Escapes.antt), and such a writing is read in one way, as the text ([`reading_is_one`]). So it
 //! holds no `<`, `>` or `"`, and no `&` but at the front of an escape.
 //!
 //! It stands on std alone, and takes no memory.
