@@ -16,7 +16,7 @@ use Rattle.cob_command_lists.specs.Ends.{MayEndLayout, MayEndListing}
 use Rattle.cob_command_lossless.specs.Ends.{MayEndLossless}
 
 -- how a conversion ends, by whether rejected records are set aside in a file
-abbrev pub EndsConvert : Option (List ℕ) → Bool → Status → Type 0
+abbrev pub EndsConvert : {A : Type 0} → Option A → Bool → Status → Type 0
 EndsConvert None atomic end = EndsAmong (MayEndConvert atomic) end
 EndsConvert (Some rejects) atomic end = EndsAmong (MayEndAside atomic) end
 
