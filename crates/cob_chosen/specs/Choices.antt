@@ -36,9 +36,9 @@ stops_reading None = true
 stops_reading (Some stop) = not (is_write_fault stop.fault)
 
 -- the answer is that a read failed
-abbrev pub is_failed_read : {A : Type 0} → Result A Stopped → Bool
-is_failed_read (Ok done) = false
-is_failed_read (Err stop) = is_read_failure (Err stop.fault)
+abbrev pub stops_by_read : {A : Type 0} → Result A Stopped → Bool
+stops_by_read (Ok done) = false
+stops_by_read (Err stop) = is_read_failure (Err stop.fault)
 
 -- ---- what is given of them
 

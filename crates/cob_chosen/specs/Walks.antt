@@ -27,8 +27,8 @@ abbrev pub ReachesFirst : Walk → Walk → (coming left : Option (List ℕ)) �
 ReachesFirst before now coming left = (now.skip ≤ now.number) ⊎ EndsAt before now coming left
 
 -- Behind whatever was chosen of what came before, these bytes are chosen too.
-abbrev pub Takes : List ℕ → Walk → Walk → (coming left : Option (List ℕ)) → Type 0
-Takes part before now coming left =
+abbrev pub TakesChosen : List ℕ → Walk → Walk → (coming left : Option (List ℕ)) → Type 0
+TakesChosen part before now coming left =
     (first : Option (List ℕ)) (chosen : List ℕ) → Told first coming (HasWalkedTo before chosen) → Told first left (HasWalkedTo now (chosen ++ part))
 
 -- Behind whatever was chosen of what came before, the frame of the next record can't be read.

@@ -3,9 +3,9 @@
 ghost use Rattle.std.specs.Prelude.{◌≡◌, ◌⊎◌, ◌+◌, ◌<◌, ◌≤◌, [], false, length, IfErr, IfOk, IsFalse, IsTrue, OnOk};
 ghost use Rattle.cob_records.specs.Device.{counted};
 ghost use Rattle.cob_records.specs.Frame.{is_write_fault};
-ghost use Rattle.cob_chosen.specs.Choices.{is_failed_read};
+ghost use Rattle.cob_chosen.specs.Choices.{stops_by_read};
 ghost use Rattle.cob_chosen.specs.Helds.{IsSpent, held_bytes};
-ghost use Rattle.cob_chosen.specs.Walks.{EndsAt, IsSameChoice, PassesOver, ReachesFirst, StopsWalkAt, Takes};
+ghost use Rattle.cob_chosen.specs.Walks.{EndsAt, IsSameChoice, PassesOver, ReachesFirst, StopsWalkAt, TakesChosen};
 
 use crate::choice::Stopped;
 use crate::held::Held;
@@ -36,7 +36,7 @@ pub(crate) fn pass_over<R: Source>(
     ensures stops { IfErr result (λ stop. StopsWalkAt stop walk.old
         (R.coming source.old) (R.coming source.new)) }
     ensures kind { IfErr result (λ stop. is_write_fault stop.fault ≡ false) }
-    ensures cause { R.failures source.new ≡ counted (is_failed_read result) (R.failures source.old) }
+    ensures cause { R.failures source.new ≡ counted (stops_by_read result) (R.failures source.old) }
 {
     while walk.number < walk.skip {
         match next_body(source, walk, body) {
@@ -59,14 +59,14 @@ fn take_next<R: Source>(source: &mut R, walk: &mut Walk, held: &mut Held) -> Res
     requires behind { walk.old.skip ≤ walk.old.number }
     ensures room { length held.new.body.items ≡ length held.old.body.items }
     ensures same { IsSameChoice walk.old walk.new }
-    ensures takes { OnOk result (Takes (held_bytes held.new) walk.old walk.new
+    ensures takes { OnOk result (TakesChosen (held_bytes held.new) walk.old walk.new
         (R.coming source.old) (R.coming source.new)) }
     ensures over { OnOk result (length (held_bytes held.new) ≡ 0 → (walk.new.number ≡ walk.new.last)
         ⊎ EndsAt walk.old walk.new (R.coming source.old) (R.coming source.new)) }
     ensures stops { IfErr result (λ stop. StopsWalkAt stop walk.old
         (R.coming source.old) (R.coming source.new)) }
     ensures kind { IfErr result (λ stop. is_write_fault stop.fault ≡ false) }
-    ensures cause { R.failures source.new ≡ counted (is_failed_read result) (R.failures source.old) }
+    ensures cause { R.failures source.new ≡ counted (stops_by_read result) (R.failures source.old) }
 {
     if walk.number == walk.last {
         return Ok(());
@@ -95,14 +95,14 @@ pub(crate) fn refill<R: Source>(
     requires room { length held.old.body.items ≡ walk.old.greatest }
     ensures room { length held.new.body.items ≡ length held.old.body.items }
     ensures same { IsSameChoice walk.old walk.new }
-    ensures takes { OnOk result (Takes (held_bytes held.new) walk.old walk.new
+    ensures takes { OnOk result (TakesChosen (held_bytes held.new) walk.old walk.new
         (R.coming source.old) (R.coming source.new)) }
     ensures over { OnOk result (length (held_bytes held.new) ≡ 0 → (walk.new.number ≡ walk.new.last)
         ⊎ EndsAt walk.old walk.new (R.coming source.old) (R.coming source.new)) }
     ensures stops { IfErr result (λ stop. StopsWalkAt stop walk.old
         (R.coming source.old) (R.coming source.new)) }
     ensures kind { IfErr result (λ stop. is_write_fault stop.fault ≡ false) }
-    ensures cause { R.failures source.new ≡ counted (is_failed_read result) (R.failures source.old) }
+    ensures cause { R.failures source.new ≡ counted (stops_by_read result) (R.failures source.old) }
 {
     match pass_over(source, walk, &mut held.body) {
         Ok(true) => take_next(source, walk, held),

@@ -4,8 +4,8 @@ ghost use Rattle.std.specs.Prelude.{◌≡◌, ◌+◌, ◌<◌, ◌≤◌, fals
 ghost use Rattle.cob_records.specs.Alone.{framed_alone};
 ghost use Rattle.cob_records.specs.Device.{counted};
 ghost use Rattle.cob_records.specs.Frame.{is_write_fault};
-ghost use Rattle.cob_chosen.specs.Choices.{is_failed_read};
-ghost use Rattle.cob_chosen.specs.Walks.{EndsAt, IsSameChoice, PassesOver, StopsWalkAt, Takes};
+ghost use Rattle.cob_chosen.specs.Choices.{stops_by_read};
+ghost use Rattle.cob_chosen.specs.Walks.{EndsAt, IsSameChoice, PassesOver, StopsWalkAt, TakesChosen};
 
 use crate::choice::Stopped;
 use crate::walk::Walk;
@@ -28,7 +28,7 @@ pub(crate) fn next_body<R: Source>(
     ensures passes { IfOk result (λ found. IfSome found (λ _. walk.old.number < walk.old.skip
         → PassesOver walk.old walk.new (R.coming source.old) (R.coming source.new))) }
     ensures takes { IfOk result (λ found. IfSome found (λ count. walk.old.skip ≤ walk.old.number
-        → Takes (framed_alone walk.old.form (take count body.new)) walk.old walk.new
+        → TakesChosen (framed_alone walk.old.form (take count body.new)) walk.old walk.new
         (R.coming source.old) (R.coming source.new))) }
     ensures some { IfOk result (λ found. IfSome found (λ count. 0 < count)) }
     ensures most { IfOk result (λ found. IfSome found (λ count. count ≤ walk.old.greatest)) }
@@ -39,7 +39,7 @@ pub(crate) fn next_body<R: Source>(
     ensures stops { IfErr result (λ stop. StopsWalkAt stop walk.old
         (R.coming source.old) (R.coming source.new)) }
     ensures kind { IfErr result (λ stop. is_write_fault stop.fault ≡ false) }
-    ensures cause { R.failures source.new ≡ counted (is_failed_read result) (R.failures source.old) }
+    ensures cause { R.failures source.new ≡ counted (stops_by_read result) (R.failures source.old) }
 {
     let (form, greatest) = (walk.form, walk.greatest);
     match next_in_form(source, form, greatest, body, &mut walk.left) {

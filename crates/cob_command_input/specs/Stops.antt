@@ -16,13 +16,13 @@ use Rattle.cob_command_faults.specs.declared.fault.CommandFault.TheVariants as f
 use Rattle.cob_command_faults.specs.Texts.{LacksFile}
 
 -- the frame of a record can't be read
-abbrev pub StopsReading : CommandFault → Type 0
-StopsReading (fault.Stopped stopped) = is_write_cause stopped.cause ≡ false
-StopsReading other = ⊥
+abbrev pub LacksFrame : CommandFault → Type 0
+LacksFrame (fault.Stopped stopped) = is_write_cause stopped.cause ≡ false
+LacksFrame other = ⊥
 
 -- The records that a command reads are not there: their file is not opened, the frame of one that is passed over can't be read, or memory was refused.
 abbrev pub LacksRecords : CommandFault → Type 0
-LacksRecords told = LacksFile name.In told ⊎ StopsReading told
+LacksRecords told = LacksFile name.In told ⊎ LacksFrame told
 
 -- Where a record that is passed over stops a command, by its number in the whole file: the piece begins with the record of the number `first`, and so many
 -- of its records were jumped over before.
