@@ -1,6 +1,6 @@
 -- A source that gives the chosen records of another: what it has given, and what a read gives.
 use Rattle.std.specs.Prelude.{◌≡◌, ◌⊎◌, ◌≤◌, ℕ, ⊤, Bool, true, false, List, [], ◌++◌, length, None, Some, Option, Err}
-use Rattle.cob_records.specs.Device.{Told}
+use Rattle.cob_records.specs.Device.{Told, counted}
 use Rattle.cob_records.specs.Frame.{is_read_failure}
 use Rattle.cob_records.specs.declared.records.Form.{Form}
 use Rattle.cob_chosen.specs.Choices.{HasStopped}
@@ -87,3 +87,7 @@ StopsGiving coming before now = StopsGivingAt coming now.stopped before now
 abbrev pub is_failed_stop : Option Stopped → Bool
 is_failed_stop None = false
 is_failed_stop (Some stop) = is_read_failure (Err stop.fault)
+
+-- the source inside failed in a read where that is why it stopped, and in no other
+abbrev pub CountsReads : {R : Type 0} → (R → ℕ) → Chosen R → Chosen R → Type 0
+CountsReads failures before now = failures now.inner ≡ counted (is_failed_stop now.stopped) (failures before.inner)

@@ -5,7 +5,7 @@ ghost use Rattle.cob_records.specs.Device.{counted};
 ghost use Rattle.cob_records.specs.Frame.{is_write_fault};
 ghost use Rattle.cob_chosen.specs.Choices.{stops_by_read};
 ghost use Rattle.cob_chosen.specs.Helds.{IsSpent, held_bytes};
-ghost use Rattle.cob_chosen.specs.Walks.{EndsAt, IsSameChoice, PassesOver, ReachesFirst, StopsWalkAt, TakesChosen};
+ghost use Rattle.cob_chosen.specs.Walks.{EndsAt, IsSameChoice, IsThrough, PassesOver, ReachesFirst, StopsWalkAt, TakesChosen};
 
 use crate::choice::Stopped;
 use crate::held::Held;
@@ -61,8 +61,8 @@ fn take_next<R: Source>(source: &mut R, walk: &mut Walk, held: &mut Held) -> Res
     ensures same { IsSameChoice walk.old walk.new }
     ensures takes { OnOk result (TakesChosen (held_bytes held.new) walk.old walk.new
         (R.coming source.old) (R.coming source.new)) }
-    ensures over { OnOk result (length (held_bytes held.new) ≡ 0 → (walk.new.number ≡ walk.new.last)
-        ⊎ EndsAt walk.old walk.new (R.coming source.old) (R.coming source.new)) }
+    ensures over { OnOk result (length (held_bytes held.new) ≡ 0
+        → IsThrough walk.old walk.new (R.coming source.old) (R.coming source.new)) }
     ensures stops { IfErr result (λ stop. StopsWalkAt stop walk.old
         (R.coming source.old) (R.coming source.new)) }
     ensures kind { IfErr result (λ stop. is_write_fault stop.fault ≡ false) }
@@ -97,8 +97,8 @@ pub(crate) fn refill<R: Source>(
     ensures same { IsSameChoice walk.old walk.new }
     ensures takes { OnOk result (TakesChosen (held_bytes held.new) walk.old walk.new
         (R.coming source.old) (R.coming source.new)) }
-    ensures over { OnOk result (length (held_bytes held.new) ≡ 0 → (walk.new.number ≡ walk.new.last)
-        ⊎ EndsAt walk.old walk.new (R.coming source.old) (R.coming source.new)) }
+    ensures over { OnOk result (length (held_bytes held.new) ≡ 0
+        → IsThrough walk.old walk.new (R.coming source.old) (R.coming source.new)) }
     ensures stops { IfErr result (λ stop. StopsWalkAt stop walk.old
         (R.coming source.old) (R.coming source.new)) }
     ensures kind { IfErr result (λ stop. is_write_fault stop.fault ≡ false) }

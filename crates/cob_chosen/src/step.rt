@@ -1,11 +1,10 @@
 //! The next records of a stream, of which some are chosen.
 
-ghost use Rattle.std.specs.Prelude.{◌≡◌, ◌+◌, ◌<◌, ◌≤◌, false, true, length, take, IfErr, IfNone, IfOk, IfSome};
-ghost use Rattle.cob_records.specs.Alone.{framed_alone};
+ghost use Rattle.std.specs.Prelude.{◌≡◌, ◌+◌, ◌<◌, ◌≤◌, false, true, length, take, IfErr, IfNone, IfOk};
 ghost use Rattle.cob_records.specs.Device.{counted};
 ghost use Rattle.cob_records.specs.Frame.{is_write_fault};
 ghost use Rattle.cob_chosen.specs.Choices.{stops_by_read};
-ghost use Rattle.cob_chosen.specs.Walks.{EndsAt, IsSameChoice, PassesOver, StopsWalkAt, TakesChosen};
+ghost use Rattle.cob_chosen.specs.Walks.{EndsAt, IfFound, IsSameChoice, PassesOver, StopsWalkAt, TakesRecord};
 
 use crate::choice::Stopped;
 use crate::walk::Walk;
@@ -25,14 +24,13 @@ pub(crate) fn next_body<R: Source>(
     requires more { walk.old.number < walk.old.last }
     ensures room { length body.new ≡ length body.old }
     ensures same { IsSameChoice walk.old walk.new }
-    ensures passes { IfOk result (λ found. IfSome found (λ _. walk.old.number < walk.old.skip
-        → PassesOver walk.old walk.new (R.coming source.old) (R.coming source.new))) }
-    ensures takes { IfOk result (λ found. IfSome found (λ count. walk.old.skip ≤ walk.old.number
-        → TakesChosen (framed_alone walk.old.form (take count body.new)) walk.old walk.new
-        (R.coming source.old) (R.coming source.new))) }
-    ensures some { IfOk result (λ found. IfSome found (λ count. 0 < count)) }
-    ensures most { IfOk result (λ found. IfSome found (λ count. count ≤ walk.old.greatest)) }
-    ensures counts { IfOk result (λ found. IfSome found (λ _. walk.new.number ≡ walk.old.number + 1)) }
+    ensures passes { IfFound result (λ _. walk.old.number < walk.old.skip
+        → PassesOver walk.old walk.new (R.coming source.old) (R.coming source.new)) }
+    ensures takes { IfFound result (λ count.
+        TakesRecord (take count body.new) walk.old walk.new (R.coming source.old) (R.coming source.new)) }
+    ensures some { IfFound result (λ count. 0 < count) }
+    ensures most { IfFound result (λ count. count ≤ walk.old.greatest) }
+    ensures counts { IfFound result (λ _. walk.new.number ≡ walk.old.number + 1) }
     ensures ends { IfOk result (λ found. IfNone found
         (EndsAt walk.old walk.new (R.coming source.old) (R.coming source.new))) }
     ensures stays { IfOk result (λ found. IfNone found (walk.new.number ≡ walk.old.number)) }

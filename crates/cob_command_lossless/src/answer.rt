@@ -168,7 +168,7 @@ fn answer_from(
     back: &[u8],
 ) -> Result<Answer, CommandFault>
     ensures answer { Means in_book.now out_book.now there.now forth.now → IfOk result
-        (λ answer. IsAnswer in_book.now out_book.now there.now back.now (is_yes answer)) }
+        (λ a. IsAnswer in_book.now out_book.now there.now back.now (is_yes a)) }
     ensures refused { IfErr result
         (λ fault. IsRefusedBack fault in_book.now out_book.now back.now) }
 {

@@ -89,22 +89,27 @@ LacksCount look = LacksNumber look (codes "skip") 0 ⊎ LacksBound look (codes "
 abbrev pub LacksPieces : Look → Type 0
 LacksPieces look = LacksNumber look (codes "pieces") 1
 
--- No option names what is none: a form; and no reading; and no size of blocks; and no listing; and no piece; and no number of records.
+-- no option for a form names none
 abbrev pub HasForms : Look → Type 0
 HasForms look = LacksAForm look → ⊥
 
+-- and none names a reading that is none
 abbrev pub HasReading : Look → Type 0
 HasReading look = HasForms look × (LacksReading look → ⊥)
 
+-- and none a size of blocks
 abbrev pub HasSizes : Look → Type 0
 HasSizes look = HasReading look × (LacksABlock look → ⊥)
 
+-- and none a listing
 abbrev pub HasListing : Look → Type 0
 HasListing look = HasSizes look × (LacksListing look → ⊥)
 
+-- and none a piece of the input
 abbrev pub HasPiece : Look → Type 0
 HasPiece look = HasListing look × (LacksPiece look → ⊥)
 
+-- and none a number of records
 abbrev pub HasCounts : Look → Type 0
 HasCounts look = HasPiece look × (LacksCount look → ⊥)
 

@@ -28,6 +28,10 @@ pub record NameForms (look : Look) (in_form out_form : Form) (in_block out_block
   pub out_sized : out_form ≡ sized_by out_block out_form
   pub word : look (codes "binary") ≡ Some (word_of reading)
 
+-- options name no forms
+abbrev pub NameNoForms : Look → Type 0
+NameNoForms look = (in_form out_form : Form) (in_block out_block : ℕ) (reading : Reading) → NameForms look in_form out_form in_block out_block reading → ⊥
+
 -- Options name a piece of the input: where it begins, how long it is, and the number of its first record.
 pub record NamePiece (look : Look) (from : ℕ) (bytes : Option ℕ) (first : ℕ) : Type 0 where
   pub offset : NamesNumber look (codes "from") 0 from

@@ -1,7 +1,7 @@
 ghost use Rattle.std.specs.Prelude.{◌≡◌, ◌<◌, ◌≤◌, ◌⊎◌, ℕ, IfErr, IfOk, None, Option, Some, codes, is_some, map, option_map, true};
 ghost use Rattle.cob_convert_line.specs.Commands.{check_options, choice_options, convert_options, forms_options, layout_options, lossless_options, piece_options, pieces_options, show_options};
 ghost use Rattle.cob_convert_line.specs.Faults.{HasListing, HasPiece, IsFaultIn, IsFaultOf, LacksBound, LacksForm, LacksListing, LacksNumber, LacksReading, LacksSize};
-ghost use Rattle.cob_convert_line.specs.Lines.{HasBlocks, IsCheck, IsCommand, IsCommandLineOf, IsConvert, IsLayout, IsLosslessLine, IsPieces, IsShow, NameChoice, NameForms, NamePiece};
+ghost use Rattle.cob_convert_line.specs.Lines.{HasBlocks, IsCheck, IsCommand, IsCommandLineOf, IsConvert, IsLayout, IsLosslessLine, IsPieces, IsShow, NameChoice, NameForms, NameNoForms, NamePiece};
 ghost use Rattle.cob_convert_line.specs.Named.{AreAll, AreNamed, IsComplete, NamesBlock, NamesBound, NamesNumber, form_by_letter, is_flagged, letter_of, listing_by_word, look_of, reading_by_word, sized_by, word_of, word_of_listing};
 ghost use Rattle.cob_limits.specs.Limits.{longest_block};
 ghost use Rattle.cob_records.specs.Blocks.{IsBlockSize};
@@ -209,9 +209,7 @@ fn forms_of(options: &ArgMatches<'_>) -> Result<Forms, LineFault>
     requires only { look_of options.now (codes "form") ≡ None }
     ensures named { IfOk result (λ forms. NameForms (look_of options.now)
         forms.input forms.output forms.in_block forms.out_block forms.reading) }
-    ensures lacks { IfErr result (λ _. (input output : Form) (in_block out_block : ℕ)
-        (reading : Reading)
-        → NameForms (look_of options.now) input output in_block out_block reading → ⊥) }
+    ensures lacks { IfErr result (λ _. NameNoForms (look_of options.now)) }
     ensures fault { IfErr result (IsFaultIn (look_of options.now)) }
     ensures blocks { IfOk result
         (λ forms. HasBlockSize forms.input × HasBlockSize forms.output) }
