@@ -24,6 +24,10 @@ forms_options = (codes "in-form", Default (codes "f")) ∷ (codes "out-form", De
 abbrev pub piece_options : Options
 piece_options = (codes "from", Default (codes "0")) ∷ (codes "bytes", Default (codes "all")) ∷ (codes "record", Default (codes "1")) ∷ []
 
+-- the option for the number of a record
+abbrev pub record_options : Options
+record_options = (codes "record", Default (codes "1")) ∷ []
+
 -- the options that choose among records by their numbers
 abbrev pub choice_options : Options
 choice_options = (codes "skip", Default (codes "0")) ∷ (codes "records", Default (codes "all")) ∷ []
@@ -64,7 +68,7 @@ lossless_options = (codes "in-book", Required) ∷ (codes "out-book", Required) 
 
 -- the options of `explain`
 abbrev pub explain_options : Options
-explain_options = texts_options ++ (codes "in", Required) ∷ forms_options ++ (codes "record", Default (codes "1")) ∷ help_options
+explain_options = texts_options ++ (codes "in", Required) ∷ forms_options ++ record_options ++ help_options
 
 -- the options of `draft`
 abbrev pub draft_options : Options
@@ -72,7 +76,7 @@ draft_options = books_options ++ help_options
 
 -- the options of `map`
 abbrev pub map_options : Options
-map_options = texts_options ++ (codes "in", Optional) ∷ forms_options ++ (codes "record", Default (codes "1")) ∷ help_options
+map_options = texts_options ++ (codes "in", Optional) ∷ forms_options ++ record_options ++ help_options
 
 -- commands by their names, each with its options
 abbrev pub Commands : Type 0

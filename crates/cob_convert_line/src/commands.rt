@@ -12,7 +12,7 @@ use crate::help::{
 };
 use crate::options::{
     alone, defaulted, optional, required, with_books, with_choice, with_ends, with_forms,
-    with_piece, with_rejects, with_texts,
+    with_piece, with_record, with_rejects, with_texts,
 };
 use clap::Command;
 use std::alloc::{AllocError, Global};
@@ -119,13 +119,7 @@ fn explain<'a>(alloc: Global) -> Result<Command<'a>, AllocError>
         "FILE",
         "The records; - is standard input",
     ))?;
-    with_forms(alloc, command)?.arg(defaulted(
-        alloc,
-        "record",
-        "R",
-        "1",
-        "The number of the record",
-    ))
+    with_record(alloc, with_forms(alloc, command)?)
 }
 
 fn draft<'a>(alloc: Global) -> Result<Command<'a>, AllocError>
@@ -149,31 +143,21 @@ fn map<'a>(alloc: Global) -> Result<Command<'a>, AllocError>
         "FILE",
         "Records, to show one of; - is standard input",
     ))?;
-    with_forms(alloc, command)?.arg(defaulted(
-        alloc,
-        "record",
-        "R",
-        "1",
-        "The number of the record",
-    ))
+    with_record(alloc, with_forms(alloc, command)?)
 }
 
-// The completion of command lines, for those who install the program.
+// What bash needs to complete command lines: for those who install the program, so that help does not tell of it.
 fn completion<'a>(alloc: Global) -> Command<'a>
     ensures { app_of result ≡ command_app (codes "completion") help_options }
 {
-    Command::new(alloc, "completion")
-        .about("Print the completion of command lines for bash")
-        .hide(true)
+    Command::new(alloc, "completion").hide(true)
 }
 
-// The manual page, for those who install the program.
+// The manual page: for those who install the program, as well.
 fn manual<'a>(alloc: Global) -> Command<'a>
     ensures { app_of result ≡ command_app (codes "manual") help_options }
 {
-    Command::new(alloc, "manual")
-        .about("Print the manual page")
-        .hide(true)
+    Command::new(alloc, "manual").hide(true)
 }
 
 // The program's name, and what its help says beside its commands.

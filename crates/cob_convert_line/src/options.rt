@@ -2,7 +2,7 @@
 
 ghost use Rattle.std.specs.Prelude.{◌≡◌, IfOk, false};
 ghost use Rattle.clap.specs.Words.{app_of, rule_of};
-ghost use Rattle.cob_convert_line.specs.Commands.{books_options, choice_options, ends_options, forms_options, piece_options, rejects_options, texts_options};
+ghost use Rattle.cob_convert_line.specs.Commands.{books_options, choice_options, ends_options, forms_options, piece_options, record_options, rejects_options, texts_options};
 ghost use Rattle.cob_convert_line.specs.Program.{alone_rule, default_rule, optional_rule, required_rule, with_options};
 
 use crate::help::{BINARY_HELP, FORM_HELP};
@@ -150,6 +150,16 @@ pub(crate) fn with_piece<'a>(alloc: Global, command: Command<'a>) -> Result<Comm
             "How many bytes of the input to convert",
         ))?
         .arg(defaulted(alloc, "record", "R", "1", "The number of the first record"))
+}
+
+// A command with the option for the number of a record.
+pub(crate) fn with_record<'a>(
+    alloc: Global,
+    command: Command<'a>,
+) -> Result<Command<'a>, AllocError>
+    ensures { IfOk result (λ made. app_of made ≡ with_options (app_of command.entry) record_options) }
+{
+    command.arg(defaulted(alloc, "record", "R", "1", "The number of the record"))
 }
 
 // A command with the options that choose among records by their numbers.

@@ -230,6 +230,19 @@ pub(crate) fn forms_of(options: &ArgMatches<'_>) -> Result<Forms, LineFault>
     })
 }
 
+// The number of a record, which its option says.
+pub(crate) fn record_of(options: &ArgMatches<'_>) -> Result<u64, LineFault>
+    requires named { is_some (look_of options.now (codes "record")) ≡ true }
+    requires before { HasListing (look_of options.now) }
+    ensures named { IfOk result (NamesNumber (look_of options.now) (codes "record") 1) }
+    ensures lacks { IfErr result (λ _. (number : ℕ)
+        → NamesNumber (look_of options.now) (codes "record") 1 number → ⊥) }
+    ensures fault { IfErr result (IsFaultIn (look_of options.now)) }
+    ensures least { IfOk result (λ number. 0 < number) }
+{
+    number(options, "record", 1, LineFault::Piece)
+}
+
 // A piece of the input: where it begins, how long it is where it has an end, and the number of its first record.
 #[derive(Clone, Copy)]
 pub(crate) struct Piece {
@@ -249,7 +262,7 @@ pub(crate) fn piece_of(options: &ArgMatches<'_>) -> Result<Piece, LineFault>
 {
     let from = number(options, "from", 0, LineFault::Piece)?;
     let bytes = bound(options, "bytes", LineFault::Piece)?;
-    let first = number(options, "record", 1, LineFault::Piece)?;
+    let first = record_of(options)?;
     Ok(Piece { from, bytes, first })
 }
 
@@ -272,17 +285,4 @@ pub(crate) fn choice_of(options: &ArgMatches<'_>) -> Result<Choice, LineFault>
     let skip = number(options, "skip", 0, LineFault::Number)?;
     let records = bound(options, "records", LineFault::Number)?;
     Ok(Choice { skip, records })
-}
-
-// The number of a record, which its option says.
-pub(crate) fn record_of(options: &ArgMatches<'_>) -> Result<u64, LineFault>
-    requires named { is_some (look_of options.now (codes "record")) ≡ true }
-    requires before { HasListing (look_of options.now) }
-    ensures named { IfOk result (NamesNumber (look_of options.now) (codes "record") 1) }
-    ensures lacks { IfErr result (λ _. (number : ℕ)
-        → NamesNumber (look_of options.now) (codes "record") 1 number → ⊥) }
-    ensures fault { IfErr result (IsFaultIn (look_of options.now)) }
-    ensures least { IfOk result (λ number. 0 < number) }
-{
-    number(options, "record", 1, LineFault::Piece)
 }

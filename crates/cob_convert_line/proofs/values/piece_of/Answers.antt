@@ -13,6 +13,6 @@ pub returns-in_err-bytes-clause-fault : goal.returns-in_err-bytes-clause-fault
 returns-in_err-bytes-clause-fault c =
     told c.from_residual-in_err-bytes.result _ _ (λ fault is. fault_is (look_of c.args.options.now) fault Piece (is ∙ c.in_err-bytes.ensures.fault.0) (c.requires.before, inr (inl c.in_err-bytes.ensures.fault.1))) c.from_residual-in_err-bytes.ensures.1
 
-pub returns-in_err-first-clause-fault : goal.returns-in_err-first-clause-fault
-returns-in_err-first-clause-fault c =
-    told c.from_residual-in_err-first.result _ _ (λ fault is. fault_is (look_of c.args.options.now) fault Piece (is ∙ c.in_err-first.ensures.fault.0) (c.requires.before, inr (inr c.in_err-first.ensures.fault.1))) c.from_residual-in_err-first.ensures.1
+pub returns-in_err-first-clause-lacks : goal.returns-in_err-first-clause-lacks
+returns-in_err-first-clause-lacks c =
+    told c.from_residual-in_err-first.result _ _ (λ fault is from bytes first says. c.in_err-first.ensures.lacks first says.number) c.from_residual-in_err-first.ensures.1
