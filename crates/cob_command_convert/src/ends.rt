@@ -48,8 +48,9 @@ fn output_of<'a, R: AllocGlobal + Files + Print>(
     }
 }
 
-/// Opens the ends of a conversion: the records that come, of which only a piece is read where one is named, and then its output or the part that stands in for it. Neither is opened where the
-/// output or the part is a file that is read, and the output is not made where the records are not opened.
+/// Opens the ends of a conversion: the records that come, of which only a piece is read where one is named, and then its output or the part that
+/// stands in for it. Neither is opened where the output or the part is a file that is read, and the output is not made where the records are not
+/// opened.
 ///
 /// # Errors
 ///

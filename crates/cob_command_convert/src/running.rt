@@ -84,7 +84,10 @@ fn counted_from(first: u64, fault: CommandFault) -> CommandFault
 }
 
 /// What a command came to, its records counted from this one.
-pub fn told_counted_from(first: u64, outcome: Result<u64, CommandFault>) -> Result<u64, CommandFault>
+pub fn told_counted_from(
+    first: u64,
+    outcome: Result<u64, CommandFault>,
+) -> Result<u64, CommandFault>
     ensures told { result ≡ told_counted_from first outcome }
     ensures stops { IfErr outcome StopsRun → IfErr result StopsRun }
     ensures lacks { IfErr outcome LacksPlace → IfErr result LacksPlace }

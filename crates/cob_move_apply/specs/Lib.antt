@@ -1,3 +1,4 @@
+pub mod Some
 pub mod Located
 pub mod Applied
 pub mod Room
