@@ -40,23 +40,20 @@ A device failed.
 Memory was refused.
 ";
 
-/// What a character is in the text of a manual page.
-fn escaped(letter: char) -> Option<&'static str> {
-    match letter {
-        '-' => Some("\\-"),
-        '\\' => Some("\\e"),
-        '\n' => Some("\n.br\n\\&"),
-        _ => None,
-    }
-}
+// What stands between the lines of a text that is to be filled, and of one whose lines stand by themselves.
+const FILLED: &str = " ";
 
-/// Adds words to a manual page, each line of them on a line of its own.
-fn push_words(text: &mut String, words: &str) -> Result<(), AllocError> {
+const BROKEN: &str = "\n.br\n\\&";
+
+/// Adds words to a manual page; between their lines stands this.
+fn push_words(text: &mut String, words: &str, between: &str) -> Result<(), AllocError> {
     text.push_str("\\&")?;
     for letter in words.chars() {
-        match escaped(letter) {
-            Some(escape) => text.push_str(escape)?,
-            None => text.push(letter)?,
+        match letter {
+            '-' => text.push_str("\\-")?,
+            '\\' => text.push_str("\\e")?,
+            '\n' => text.push_str(between)?,
+            _ => text.push(letter)?,
         }
     }
     Ok(())
@@ -65,13 +62,17 @@ fn push_words(text: &mut String, words: &str) -> Result<(), AllocError> {
 /// Adds an option: its name and value, its help, and its default or that it has to be there.
 fn push_option(alloc: Global, text: &mut String, option: &Arg<'_>) -> Result<(), AllocError> {
     text.push_str(".TP\n\\fB")?;
-    push_words(text, format!(in alloc; "{option}")?.as_str())?;
+    push_words(text, format!(in alloc; "{option}")?.as_str(), FILLED)?;
     text.push_str("\\fR\n")?;
-    push_words(text, option.get_help().unwrap_or(""))?;
+    push_words(text, option.get_help().unwrap_or(""), BROKEN)?;
     if option.is_required_set() {
         text.push_str(" (required)")?;
     } else if let Some(default) = default_of(option) {
-        push_words(text, format!(in alloc; " (default: {default})")?.as_str())?;
+        push_words(
+            text,
+            format!(in alloc; " (default: {default})")?.as_str(),
+            FILLED,
+        )?;
     }
     text.push_str("\n")
 }
@@ -81,7 +82,7 @@ fn push_command(alloc: Global, text: &mut String, command: &Command<'_>) -> Resu
     text.push_str(".SS ")?;
     text.push_str(command.get_name())?;
     text.push_str("\n")?;
-    push_words(text, command.get_about().unwrap_or(""))?;
+    push_words(text, command.get_about().unwrap_or(""), FILLED)?;
     text.push_str("\n")?;
     for option in command.get_arguments() {
         push_option(alloc, text, option)?;
@@ -92,7 +93,7 @@ fn push_command(alloc: Global, text: &mut String, command: &Command<'_>) -> Resu
 /// The manual page of a program with these commands.
 fn page_for(alloc: Global, program: &Command<'_>) -> Result<String, AllocError> {
     let mut text = String::from_str(alloc, HEAD)?;
-    push_words(&mut text, program.get_about().unwrap_or(""))?;
+    push_words(&mut text, program.get_about().unwrap_or(""), FILLED)?;
     text.push_str(MIDDLE)?;
     for command in program.get_subcommands() {
         if is_told(command) {

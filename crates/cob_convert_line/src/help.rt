@@ -101,8 +101,8 @@ Example:
     --in old.dat --record 17";
 
 pub(crate) const DRAFT_NOTES: &str =
-    "A MOVE for each item of the output record that has a partner of its name, as far as
-the table of moves has it and nothing is cut; what is left stands as comments.
+    "A MOVE for each item of the output record that has a partner of its name, where
+there is such a move and nothing is cut; what is left stands as comments.
 
 Example: cobconv draft --in-book old.cpy --out-book new.cpy";
 

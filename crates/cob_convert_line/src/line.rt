@@ -2,7 +2,7 @@ use cob_codec::Reading;
 use cob_records::Form;
 
 /// What the words ask for.
-#[derive(Clone, Copy, Debug, PartialEq, Eq)]
+#[derive(Clone, Copy)]
 pub enum Line<'a> {
     /// The job that stands on standard input: there are no words.
     Job,
@@ -31,7 +31,7 @@ pub enum Line<'a> {
 }
 
 /// How the values of records are listed.
-#[derive(Clone, Copy, Debug, PartialEq, Eq)]
+#[derive(Clone, Copy)]
 pub enum Listing {
     /// A line for each value, with its name and its offset.
     Text,
@@ -42,7 +42,7 @@ pub enum Listing {
 }
 
 /// The options of `convert`.
-#[derive(Clone, Copy, Debug, PartialEq, Eq)]
+#[derive(Clone, Copy)]
 pub struct ConvertLine<'a> {
     /// The file with the copybook of the input record.
     pub in_book: &'a str,
@@ -85,7 +85,7 @@ pub struct ConvertLine<'a> {
 }
 
 /// The options of `check`.
-#[derive(Clone, Copy, Debug, PartialEq, Eq)]
+#[derive(Clone, Copy)]
 pub struct CheckLine<'a> {
     /// The file with the copybook of the input record.
     pub in_book: &'a str,
@@ -98,14 +98,14 @@ pub struct CheckLine<'a> {
 }
 
 /// The option of `layout`.
-#[derive(Clone, Copy, Debug, PartialEq, Eq)]
+#[derive(Clone, Copy)]
 pub struct LayoutLine<'a> {
     /// The file with the copybook.
     pub book: &'a str,
 }
 
 /// The options of `show`.
-#[derive(Clone, Copy, Debug, PartialEq, Eq)]
+#[derive(Clone, Copy)]
 pub struct ShowLine<'a> {
     /// The file with the copybook of the records.
     pub book: &'a str,
@@ -124,7 +124,7 @@ pub struct ShowLine<'a> {
 }
 
 /// The options of `pieces`.
-#[derive(Clone, Copy, Debug, PartialEq, Eq)]
+#[derive(Clone, Copy)]
 pub struct PiecesLine<'a> {
     /// The file with the copybook of the records.
     pub book: &'a str,
@@ -137,7 +137,7 @@ pub struct PiecesLine<'a> {
 }
 
 /// The options of `lossless`.
-#[derive(Clone, Copy, Debug, PartialEq, Eq)]
+#[derive(Clone, Copy)]
 pub struct LosslessLine<'a> {
     /// The file with the copybook of the records that are converted.
     pub in_book: &'a str,
@@ -150,7 +150,7 @@ pub struct LosslessLine<'a> {
 }
 
 /// The options of `explain`.
-#[derive(Clone, Copy, Debug, PartialEq, Eq)]
+#[derive(Clone, Copy)]
 pub struct ExplainLine<'a> {
     /// The file with the copybook of the input record.
     pub in_book: &'a str,
@@ -175,7 +175,7 @@ pub struct ExplainLine<'a> {
 }
 
 /// The options of `draft`.
-#[derive(Clone, Copy, Debug, PartialEq, Eq)]
+#[derive(Clone, Copy)]
 pub struct DraftLine<'a> {
     /// The file with the copybook of the input record.
     pub in_book: &'a str,
@@ -184,7 +184,7 @@ pub struct DraftLine<'a> {
 }
 
 /// The options of `map`.
-#[derive(Clone, Copy, Debug, PartialEq, Eq)]
+#[derive(Clone, Copy)]
 pub struct MapLine<'a> {
     /// The file with the copybook of the input record.
     pub in_book: &'a str,
