@@ -46,7 +46,7 @@ pub more_suit : (signed : Bool) (wanted : ℕ → Wanted) (parts : List ℕ) (at
     → w ≡ wanted at → part ≡ get_or parts at 0 → suits signed w part ≡ true → (k : ℕ) → k < at + 1 → suits signed (wanted k) (get_or parts k 0) ≡ true
 more_suit signed wanted parts at w part before is there so k lt =
     let here : suits signed (wanted at) (get_or parts at 0) ≡ true =
-        subst (λ (v : Wanted). suits signed v (get_or parts at 0) ≡ true) is (subst (λ (n : ℕ). suits signed w n ≡ true) there so) in
+    subst (λ (v : Wanted). suits signed v (get_or parts at 0) ≡ true) is (subst (λ (n : ℕ). suits signed w n ≡ true) there so) in
     elim (cases_lt k at) [
       | inl below ↦ before k below
       | inr above ↦ let same : at ≡ k = omega (arith, lt, above) in subst (λ (n : ℕ). suits signed (wanted n) (get_or parts n 0) ≡ true) same here

@@ -66,19 +66,22 @@ packed_from count signed bytes size all =
     let hs : List ℕ = halves bytes in
     let long : length hs ≡ pad_count count + (count + 1) = omega (arith, size, length-halves bytes) in
     let zeros : (k : ℕ) → k < pad_count count → get_or hs k 0 ≡ 0 = λ k lt.
-        eqb-true (get_or hs k 0) 0 (suits_as signed (packed_wanted count k) Zero (get_or hs k 0) (zero_wanted count k lt) (all k (omega (arith, lt, long)))) in
+    eqb-true (get_or hs k 0) 0 (suits_as signed (packed_wanted count k) Zero (get_or hs k 0) (zero_wanted count k lt) (all k (omega (arith, lt, long)))) in
     let digits : (k : ℕ) → pad_count count ≤ k → k < pad_count count + count → get_or hs k 0 < 10 = λ k ge lt.
-        ltb-true (get_or hs k 0) 10 (suits_as signed (packed_wanted count k) Digit (get_or hs k 0) (digit_wanted count k ge lt) (all k (omega (arith, lt, long)))) in
+    ltb-true (get_or hs k 0) 10 (suits_as signed (packed_wanted count k) Digit (get_or hs k 0) (digit_wanted count k ge lt) (all k (omega (arith, lt, long)))) in
     let (minus, meaning) = either_is (sign_meaning signed (get_or hs (last_of count) 0))
-        (suits_as signed (packed_wanted count (last_of count)) Sign (get_or hs (last_of count) 0) (sign_wanted count (last_of count) refl) (all (last_of count) (omega (arith, long)))) in
+    (suits_as signed (packed_wanted count (last_of count)) Sign (get_or hs (last_of count) 0) (sign_wanted count (last_of count) refl) (all (last_of count) (omega (arith, long)))) in
     let ds : List ℕ = take count (drop (pad_count count) hs) in
-    let (negative, sign) = signed_so minus ds in
-    (negative, ds, record {
-      count_is = omega (arith, long, length-take count (drop (pad_count count) hs), length-drop (pad_count count) hs);
-      valid = digits_behind (pad_count count) count hs (omega (arith, long)) digits;
-      code = get_or hs (last_of count) 0;
-      text = cut (pad_count count) count (last_of count) hs refl long zeros;
-      minus = minus;
-      meaning = meaning;
-      sign = sign;
-    })
+    let (negative, sign) = signed_so minus ds in (
+      negative,
+      ds,
+      record {
+        count_is = omega (arith, long, length-take count (drop (pad_count count) hs), length-drop (pad_count count) hs);
+        valid = digits_behind (pad_count count) count hs (omega (arith, long)) digits;
+        code = get_or hs (last_of count) 0;
+        text = cut (pad_count count) count (last_of count) hs refl long zeros;
+        minus = minus;
+        meaning = meaning;
+        sign = sign;
+      },
+    )

@@ -72,18 +72,21 @@ trailing : (count : ℕ) (signed : Bool) (bytes : List ℕ) → length bytes ≡
 trailing count signed bytes size all =
     let front : List ℕ = take count bytes in
     let bs_are : AreDigitBytes front = λ k lt. let below : k < count = omega (arith, lt, length-take count bytes) in
-        subst (λ (b : ℕ). (240 ≤ b) × (b ≤ 249)) (sym (get_front count bytes k below (omega (arith, size))))
-        (digit_at signed count k (get_or bytes k 0) (λ e. omega (arith, below, e)) (all k (omega (arith, below, size)))) in
+    subst (λ (b : ℕ). (240 ≤ b) × (b ≤ 249)) (sym (get_front count bytes k below (omega (arith, size))))
+    (digit_at signed count k (get_or bytes k 0) (λ e. omega (arith, below, e)) (all k (omega (arith, below, size)))) in
     let (minus, sign_is) = sign_at signed count count (get_or bytes count 0) refl (all count (omega (arith, size))) in
-    let (negative, sign) = signed_so minus (digits_of front) in
-    (negative, digits_of front, record {
-      count_is = omega (arith, size, length-map front (λ b. b - 240), length-take count bytes);
-      valid = digit_valid front bs_are;
-      minus = minus;
-      text = last_one count bytes size ∙ ap (λ (xs : List ℕ). xs ++ get_or bytes count 0 ∷ []) (digits_same front bs_are)
-          ∙ ap (λ (b : ℕ). digit_bytes (digits_of front) ++ b ∷ []) sign_is;
-      sign = sign;
-    })
+    let (negative, sign) = signed_so minus (digits_of front) in (
+      negative,
+      digits_of front,
+      record {
+        count_is = omega (arith, size, length-map front (λ b. b - 240), length-take count bytes);
+        valid = digit_valid front bs_are;
+        minus = minus;
+        text = last_one count bytes size ∙ ap (λ (xs : List ℕ). xs ++ get_or bytes count 0 ∷ []) (digits_same front bs_are)
+            ∙ ap (λ (b : ℕ). digit_bytes (digits_of front) ++ b ∷ []) sign_is;
+        sign = sign;
+      },
+    )
 
 leading_first : (count : ℕ) (signed : Bool) (bytes : List ℕ) → length bytes ≡ count + 1 → AllSuit signed (separate_wanted 0) bytes
     → (negative : Bool) × (digits : List ℕ) × IsSignedSeparately count true bytes negative digits
@@ -91,14 +94,17 @@ leading_first count signed [] size all = absurd (omega (arith, size))
 leading_first count signed (b ∷ bs) size all =
     let bs_are : AreDigitBytes bs = λ k lt. digit_at signed 0 (suc k) (get_or bs k 0) (λ e. omega (arith, e)) (all (suc k) (omega (arith, lt))) in
     let (minus, sign_is) = sign_at signed 0 0 b refl (all 0 (omega arith)) in
-    let (negative, sign) = signed_so minus (digits_of bs) in
-    (negative, digits_of bs, record {
-      count_is = omega (arith, size, length-map bs (λ b. b - 240));
-      valid = digit_valid bs bs_are;
-      minus = minus;
-      text = ap (λ (x : ℕ). x ∷ bs) sign_is ∙ ap (λ (t : List ℕ). sign_byte minus ∷ t) (digits_same bs bs_are);
-      sign = sign;
-    })
+    let (negative, sign) = signed_so minus (digits_of bs) in (
+      negative,
+      digits_of bs,
+      record {
+        count_is = omega (arith, size, length-map bs (λ b. b - 240));
+        valid = digit_valid bs bs_are;
+        minus = minus;
+        text = ap (λ (x : ℕ). x ∷ bs) sign_is ∙ ap (λ (t : List ℕ). sign_byte minus ∷ t) (digits_same bs bs_are);
+        sign = sign;
+      },
+    )
 
 pub separate_from : (count : ℕ) (signed leading : Bool) (bytes : List ℕ) → length bytes ≡ count + 1
     → AllSuit signed (separate_wanted (if leading then 0 else length bytes - 1)) bytes

@@ -44,25 +44,28 @@ zoned_from count signed leading bytes some size all =
     let place : ℕ = sign_place signed leading count in
     let all_so : AllSuit signed (zoned_wanted place) hs = subst (λ (n : ℕ). AllSuit signed (zoned_wanted (sign_place signed leading n)) hs) size all in
     let low : (k : ℕ) → k < length bytes → get_or bytes k 0 % 16 < 10 = λ k lt.
-        ltb-true (get_or bytes k 0 % 16) 10
-        (suits_as signed (zoned_wanted place (2 * k + 1)) Digit (get_or hs (2 * k + 1) 0) (get_or bytes k 0 % 16) (digit_wanted place k (2 * k + 1) refl) (low_is bytes k (2 * k + 1) refl lt)
-        (all_so (2 * k + 1) (omega (arith, lt, length-halves bytes)))) in
+    ltb-true (get_or bytes k 0 % 16) 10
+    (suits_as signed (zoned_wanted place (2 * k + 1)) Digit (get_or hs (2 * k + 1) 0) (get_or bytes k 0 % 16) (digit_wanted place k (2 * k + 1) refl) (low_is bytes k (2 * k + 1) refl lt)
+    (all_so (2 * k + 1) (omega (arith, lt, length-halves bytes)))) in
     let within : place < length bytes = omega (arith, size, place_within signed leading count some) in
     let (minus, meaning) = either_is (sign_meaning signed (get_or bytes place 0 / 16))
-        (suits_as signed (zoned_wanted place (2 * place)) Sign (get_or hs (2 * place) 0) (get_or bytes place 0 / 16) (sign_wanted place place (2 * place) refl refl) (high_is bytes place (2 * place) refl within)
-        (all_so (2 * place) (omega (arith, within, length-halves bytes)))) in
+    (suits_as signed (zoned_wanted place (2 * place)) Sign (get_or hs (2 * place) 0) (get_or bytes place 0 / 16) (sign_wanted place place (2 * place) refl refl) (high_is bytes place (2 * place) refl within)
+    (all_so (2 * place) (omega (arith, within, length-halves bytes)))) in
     let ds : List ℕ = map low_digit bytes in
-    let (negative, sign) = signed_so minus ds in
-    (negative, ds, record {
-      long = size;
-      low_halves = refl;
-      valid = digits_from ds (λ k lt. let there : k < length bytes = omega (arith, lt, length-map bytes low_digit) in
-          subst (λ (d : ℕ). d < 10) (sym (get_or-map low_digit bytes k 0 0 there)) (low k there));
-      zones = λ k lt other. let there : k < length bytes = omega (arith, lt, size) in
-          eqb-true (get_or bytes k 0 / 16) 15
-          (suits_as signed (zoned_wanted place (2 * k)) Zone (get_or hs (2 * k) 0) (get_or bytes k 0 / 16) (zone_wanted place k (2 * k) refl other) (high_is bytes k (2 * k) refl there)
-          (all_so (2 * k) (omega (arith, there, length-halves bytes))));
-      minus = minus;
-      meaning = meaning;
-      sign = sign;
-    })
+    let (negative, sign) = signed_so minus ds in (
+      negative,
+      ds,
+      record {
+        long = size;
+        low_halves = refl;
+        valid = digits_from ds (λ k lt. let there : k < length bytes = omega (arith, lt, length-map bytes low_digit) in
+            subst (λ (d : ℕ). d < 10) (sym (get_or-map low_digit bytes k 0 0 there)) (low k there));
+        zones = λ k lt other. let there : k < length bytes = omega (arith, lt, size) in
+            eqb-true (get_or bytes k 0 / 16) 15
+            (suits_as signed (zoned_wanted place (2 * k)) Zone (get_or hs (2 * k) 0) (get_or bytes k 0 / 16) (zone_wanted place k (2 * k) refl other) (high_is bytes k (2 * k) refl there)
+            (all_so (2 * k) (omega (arith, there, length-halves bytes))));
+        minus = minus;
+        meaning = meaning;
+        sign = sign;
+      },
+    )

@@ -1,5 +1,5 @@
 -- Why bytes represent no number: the first part of them that isn't as its place asks.
-use Rattle.std.specs.Prelude.{◌≡◌, ℕ, ◌+◌, ◌/◌, ◌%◌, ◌<◌, ◌==◌, ◌&&◌, ◌≢◌, nat_le, nat_lt, if◌then◌else◌, Bool, true, false, List, length, Option, Some, None, slice_index}
+use Rattle.std.specs.Prelude.{◌≡◌, ℕ, ◌+◌, ◌/◌, ◌%◌, ◌<◌, ◌==◌, ◌&&◌, nat_le, nat_lt, if◌then◌else◌, Bool, true, false, List, length, Option, Some, None, slice_index}
 use Rattle.cob_cp037.specs.Named.{minus_byte, nine_byte, plus_byte, zero_byte}
 use Rattle.cob_codec.specs.Packed.{pad_count}
 use Rattle.cob_codec.specs.Sign.{sign_meaning, sign_place}

@@ -1,5 +1,4 @@
 use Rattle.std.proofs.Common.{◌≡◌, ◌<◌, ℕ, true, slice_index}
-
 use Rattle.cob_number_flaws.specs.Flaws.{separate_wanted, suits}
 use Rattle.cob_number_flaws.proofs.separate.first_in_separate.Given as goal
 
