@@ -1,0 +1,102 @@
+-- Places that come to others.
+use Rattle.std.proofs.Common.{◌≡◌, ◌⊎◌, ℕ, ◌+◌, ◌<◌, ◌≤◌, Bool, true, false, List, [], ◌∷◌, ◌++◌, length, get_or, take, map, refl, sym, ap, subst, ◌∙◌, inl, inr, append-nil, append_assoc, Some}
+use Rattle.std.specs.Prelude.{Option}
+use Rattle.std.specs.List.{flat_map}
+use Rattle.std.proofs.lemmas.Grind.{flat_map-append}
+use Rattle.std.proofs.lemmas.List.Concat.{flat_map-cons}
+use Rattle.std.proofs.lemmas.List.{map-append, take_all, take_more}
+use Rattle.cob_copybook_tree.specs.Forests.{Forest}
+use Rattle.cob_copybook_tree.specs.Nodes.{Resolved}
+use Rattle.cob_layout_places.specs.Cover.{Occurrence}
+use Rattle.cob_layout_places.specs.declared.places.Found.{Found}
+use Rattle.cob_layout.specs.declared.fields.Place.{Place}
+use Rattle.cob_move_apply.specs.Some.{SomeOf}
+use Rattle.cob_cover.specs.Gathered.{Joins, Gathers, HasPlace, HasPlaceWhere}
+
+some_front : {A : Type 0} (P : A → Type 0) (xs ys : List A) → SomeOf P xs → SomeOf P (xs ++ ys)
+some_front P [] ys h = absurd h
+some_front P (x ∷ xs) ys (inl h) = inl h
+some_front P (x ∷ xs) ys (inr h) = inr (some_front P xs ys h)
+
+some_behind : {A : Type 0} (P : A → Type 0) (xs ys : List A) → SomeOf P ys → SomeOf P (xs ++ ys)
+some_behind P [] ys h = h
+some_behind P (x ∷ xs) ys h = inr (some_behind P xs ys h)
+
+some_split : {A : Type 0} (P : A → Type 0) (xs ys : List A) → SomeOf P (xs ++ ys) → SomeOf P xs ⊎ SomeOf P ys
+some_split P [] ys h = inr h
+some_split P (x ∷ xs) ys (inl h) = inl (inl h)
+some_split P (x ∷ xs) ys (inr h) = elim (some_split P xs ys h) [ inl front ↦ inl (inr front) | inr behind ↦ inr behind ]
+
+-- ---- one place
+
+found_place : (f g : Found) → f ≡ g → (f.offset ≡ g.offset) × (f.length ≡ g.length)
+found_place f g is = (ap (λ (x : Found). x.offset) is, ap (λ (x : Found). x.length) is)
+
+some_is : {A : Type 0} (o : Option A) (x y : A) → o ≡ Some x → o ≡ Some y → x ≡ y
+some_is o x y is also = cc
+
+-- an occurrence stands at one place
+pub one_place : (tree : Forest Resolved) (x : Occurrence) (p q : Place) → HasPlace tree x p → HasPlace tree x q → p ≡ q
+one_place tree x p q a b = let h = found_place _ _ (some_is _ _ _ a.place b.place) in let first = h.0 in let second = h.1 in cc
+
+-- ---- places that come
+
+-- the place of an occurrence came
+pub joins_one : (tree : Forest Resolved) (old : List Place) (x : Occurrence) (p : Place) → HasPlace tree x p → Joins tree old (old ++ p ∷ []) (x ∷ [])
+joins_one tree old x p stands before gathers Q = (
+  λ h. elim (some_split Q old (p ∷ []) h) [
+    | inl there ↦ some_front (HasPlaceWhere tree Q) before (x ∷ []) ((gathers Q).0 there)
+    | inr (inl here) ↦ some_behind (HasPlaceWhere tree Q) before (x ∷ []) (inl record { place = p; stands = stands; so = here })
+    | inr (inr none) ↦ absurd none
+  ],
+  λ h. elim (some_split (HasPlaceWhere tree Q) before (x ∷ []) h) [
+    | inl there ↦ some_front Q old (p ∷ []) ((gathers Q).1 there)
+    | inr (inl here) ↦ some_behind Q old (p ∷ []) (inl (subst Q (one_place tree x here.place p here.stands stands) here.so))
+    | inr (inr none) ↦ absurd none
+  ],
+)
+
+-- an occurrence that stands nowhere came
+pub joins_nowhere : (tree : Forest Resolved) (old : List Place) (x : Occurrence) → ((p : Place) → HasPlace tree x p → ⊥) → Joins tree old old (x ∷ [])
+joins_nowhere tree old x none before gathers Q = (
+  λ h. some_front (HasPlaceWhere tree Q) before (x ∷ []) ((gathers Q).0 h),
+  λ h. elim (some_split (HasPlaceWhere tree Q) before (x ∷ []) h) [
+    | inl there ↦ (gathers Q).1 there
+    | inr (inl here) ↦ absurd (none here.place here.stands)
+    | inr (inr other) ↦ absurd other
+  ],
+)
+
+-- nothing came
+pub joins_none : (tree : Forest Resolved) (old : List Place) → Joins tree old old []
+joins_none tree old before gathers = subst (λ (xs : List Occurrence). Gathers tree old xs) (sym (append-nil before)) gathers
+
+-- some came, and then others
+pub joins_more : (tree : Forest Resolved) (old now then : List Place) (xs ys : List Occurrence) → Joins tree old now xs → Joins tree now then ys → Joins tree old then (xs ++ ys)
+joins_more tree old now then xs ys first second before gathers =
+    subst (λ (zs : List Occurrence). Gathers tree then zs) (append_assoc before xs ys) (second (before ++ xs) (first before gathers))
+
+-- ---- elements of lists
+
+next_of : {A : Type 0} (f : A → Occurrence) (xs : List A) (i : ℕ) (x : A) → i < length xs → x ≡ get_or xs i x → map f (take (i + 1) xs) ≡ map f (take i xs) ++ f x ∷ []
+next_of f xs i x lt is = ap (map f) (take_more xs i x lt) ∙ map-append f (take i xs) (get_or xs i x ∷ []) ∙ ap (λ y. map f (take i xs) ++ f y ∷ []) (sym is)
+
+-- the next element's occurrence came
+pub joins_next : {A : Type 0} (tree : Forest Resolved) (f : A → Occurrence) (xs : List A) (i : ℕ) (x : A) (old now then : List Place) → i < length xs → x ≡ get_or xs i x
+    → Joins tree now then (f x ∷ []) → Joins tree old now (map f (take i xs)) → Joins tree old then (map f (take (i + 1) xs))
+joins_next tree f xs i x old now then lt is more before =
+    subst (λ (ys : List Occurrence). Joins tree old then ys) (sym (next_of f xs i x lt is)) (joins_more tree old now then _ _ before more)
+
+each_next : {A : Type 0} (f : A → List Occurrence) (xs : List A) (i : ℕ) (x : A) → i < length xs → x ≡ get_or xs i x
+    → flat_map f (take (i + 1) xs) ≡ flat_map f (take i xs) ++ f x
+each_next f xs i x lt is = ap (flat_map f) (take_more xs i x lt) ∙ flat_map-append f (take i xs) (get_or xs i x ∷ []) ∙ ap (λ ys. flat_map f (take i xs) ++ ys) (flat_map-cons f (get_or xs i x) [] ∙ append-nil (f (get_or xs i x)) ∙ ap f (sym is))
+
+-- the next element's occurrences came
+pub joins_each : {A : Type 0} (tree : Forest Resolved) (f : A → List Occurrence) (xs : List A) (i : ℕ) (x : A) (old now then : List Place) → i < length xs → x ≡ get_or xs i x
+    → Joins tree now then (f x) → Joins tree old now (flat_map f (take i xs)) → Joins tree old then (flat_map f (take (i + 1) xs))
+joins_each tree f xs i x old now then lt is more before =
+    subst (λ (ys : List Occurrence). Joins tree old then ys) (sym (each_next f xs i x lt is)) (joins_more tree old now then _ _ before more)
+
+-- those of nothing
+pub gathers_none : (tree : Forest Resolved) → Gathers tree [] []
+gathers_none tree Q = (λ h. absurd h, λ h. absurd h)

@@ -1,0 +1,3 @@
+pub mod GatherLemmas
+pub mod StatementLemmas
+pub mod MeetLemmas
