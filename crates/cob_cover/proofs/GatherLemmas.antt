@@ -1,6 +1,5 @@
 -- Places that come to others.
 use Rattle.std.proofs.Common.{◌≡◌, ◌⊎◌, ℕ, ◌+◌, ◌<◌, ◌≤◌, Bool, true, false, List, [], ◌∷◌, ◌++◌, length, get_or, take, map, refl, sym, ap, subst, ◌∙◌, inl, inr, append-nil, append_assoc, Some}
-use Rattle.std.specs.Prelude.{Option}
 use Rattle.std.specs.List.{flat_map}
 use Rattle.std.proofs.lemmas.Grind.{flat_map-append}
 use Rattle.std.proofs.lemmas.List.Concat.{flat_map-cons}
@@ -11,7 +10,7 @@ use Rattle.cob_layout_places.specs.Cover.{Occurrence}
 use Rattle.cob_layout_places.specs.declared.places.Found.{Found}
 use Rattle.cob_layout.specs.declared.fields.Place.{Place}
 use Rattle.cob_move_apply.specs.Some.{SomeOf}
-use Rattle.cob_cover.specs.Gathered.{Joins, Gathers, HasPlace, HasPlaceWhere}
+use Rattle.cob_cover.specs.Gathered.{Gathers, HasPlace, HasPlaceWhere, IsPassed, Joins}
 
 some_front : {A : Type 0} (P : A → Type 0) (xs ys : List A) → SomeOf P xs → SomeOf P (xs ++ ys)
 some_front P [] ys h = absurd h
@@ -29,39 +28,39 @@ some_split P (x ∷ xs) ys (inr h) = elim (some_split P xs ys h) [ inl front ↦
 
 -- ---- one place
 
-found_place : (f g : Found) → f ≡ g → (f.offset ≡ g.offset) × (f.length ≡ g.length)
-found_place f g is = (ap (λ (x : Found). x.offset) is, ap (λ (x : Found). x.length) is)
-
-some_is : {A : Type 0} (o : Option A) (x y : A) → o ≡ Some x → o ≡ Some y → x ≡ y
-some_is o x y is also = cc
+same_some : {A : Type 0} (x y : A) → Some x ≡ Some y → x ≡ y
+same_some x y h = cc
 
 -- an occurrence stands at one place
 pub one_place : (tree : Forest Resolved) (x : Occurrence) (p q : Place) → HasPlace tree x p → HasPlace tree x q → p ≡ q
-one_place tree x p q a b = let h = found_place _ _ (some_is _ _ _ a.place b.place) in let first = h.0 in let second = h.1 in cc
+one_place tree x p q a b =
+    let same : record { offset = p.offset; length = p.length; within = true } ≡ record { offset = q.offset; length = q.length; within = true } = same_some {A = Found} _ _ (sym a.place ∙ b.place) in
+    ap (λ (o : ℕ). record { offset = o; length = p.length }) (ap (λ (f : Found). f.offset) same)
+    ∙ ap (λ (n : ℕ). record { offset = q.offset; length = n }) (ap (λ (f : Found). f.length) same)
 
 -- ---- places that come
 
 -- the place of an occurrence came
 pub joins_one : (tree : Forest Resolved) (old : List Place) (x : Occurrence) (p : Place) → HasPlace tree x p → Joins tree old (old ++ p ∷ []) (x ∷ [])
-joins_one tree old x p stands before gathers Q = (
-  λ h. elim (some_split Q old (p ∷ []) h) [
-    | inl there ↦ some_front (HasPlaceWhere tree Q) before (x ∷ []) ((gathers Q).0 there)
-    | inr (inl here) ↦ some_behind (HasPlaceWhere tree Q) before (x ∷ []) (inl record { place = p; stands = stands; so = here })
+joins_one tree old x p stands before gathers test = (
+  λ h. elim (some_split (IsPassed test) old (p ∷ []) h) [
+    | inl there ↦ some_front (HasPlaceWhere tree (IsPassed test)) before (x ∷ []) ((gathers test).0 there)
+    | inr (inl here) ↦ some_behind (HasPlaceWhere tree (IsPassed test)) before (x ∷ []) (inl record { place = p; stands = stands; so = here })
     | inr (inr none) ↦ absurd none
   ],
-  λ h. elim (some_split (HasPlaceWhere tree Q) before (x ∷ []) h) [
-    | inl there ↦ some_front Q old (p ∷ []) ((gathers Q).1 there)
-    | inr (inl here) ↦ some_behind Q old (p ∷ []) (inl (subst Q (one_place tree x here.place p here.stands stands) here.so))
+  λ h. elim (some_split (HasPlaceWhere tree (IsPassed test)) before (x ∷ []) h) [
+    | inl there ↦ some_front (IsPassed test) old (p ∷ []) ((gathers test).1 there)
+    | inr (inl here) ↦ some_behind (IsPassed test) old (p ∷ []) (inl (subst (IsPassed test) (one_place tree x here.place p here.stands stands) here.so))
     | inr (inr none) ↦ absurd none
   ],
 )
 
 -- an occurrence that stands nowhere came
 pub joins_nowhere : (tree : Forest Resolved) (old : List Place) (x : Occurrence) → ((p : Place) → HasPlace tree x p → ⊥) → Joins tree old old (x ∷ [])
-joins_nowhere tree old x none before gathers Q = (
-  λ h. some_front (HasPlaceWhere tree Q) before (x ∷ []) ((gathers Q).0 h),
-  λ h. elim (some_split (HasPlaceWhere tree Q) before (x ∷ []) h) [
-    | inl there ↦ (gathers Q).1 there
+joins_nowhere tree old x none before gathers test = (
+  λ h. some_front (HasPlaceWhere tree (IsPassed test)) before (x ∷ []) ((gathers test).0 h),
+  λ h. elim (some_split (HasPlaceWhere tree (IsPassed test)) before (x ∷ []) h) [
+    | inl there ↦ (gathers test).1 there
     | inr (inl here) ↦ absurd (none here.place here.stands)
     | inr (inr other) ↦ absurd other
   ],
@@ -99,4 +98,20 @@ joins_each tree f xs i x old now then lt is more before =
 
 -- those of nothing
 pub gathers_none : (tree : Forest Resolved) → Gathers tree [] []
-gathers_none tree Q = (λ h. absurd h, λ h. absurd h)
+gathers_none tree test = (λ h. absurd h, λ h. absurd h)
+
+-- all elements' occurrences came
+pub joins_all : {A : Type 0} (tree : Forest Resolved) (f : A → Occurrence) (xs : List A) (i : ℕ) (old now : List Place) → length xs ≤ i
+    → Joins tree old now (map f (take i xs)) → Joins tree old now (map f xs)
+joins_all tree f xs i old now le all = subst (λ ys. Joins tree old now (map f ys)) (take_all i xs le) all
+
+pub joins_all_each : {A : Type 0} (tree : Forest Resolved) (f : A → List Occurrence) (xs : List A) (i : ℕ) (old now : List Place) → length xs ≤ i
+    → Joins tree old now (flat_map f (take i xs)) → Joins tree old now (flat_map f xs)
+joins_all_each tree f xs i old now le all = subst (λ ys. Joins tree old now (flat_map f ys)) (take_all i xs le) all
+
+-- what came to nothing is all that there is
+pub gathers_all : (tree : Forest Resolved) (now : List Place) (xs : List Occurrence) → Joins tree [] now xs → Gathers tree now xs
+gathers_all tree now xs all = all [] (gathers_none tree)
+
+pub gathers_as : (tree : Forest Resolved) (now : List Place) (xs ys : List Occurrence) → ys ≡ xs → Gathers tree now xs → Gathers tree now ys
+gathers_as tree now xs ys is all = subst (λ (zs : List Occurrence). Gathers tree now zs) (sym is) all

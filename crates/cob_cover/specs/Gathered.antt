@@ -1,5 +1,5 @@
 -- Places of the occurrences that moves send and receive.
-use Rattle.std.specs.Prelude.{◌≡◌, ℕ, ◌+◌, ◌<◌, ◌≤◌, true, List, [], ◌∷◌, ◌++◌, Some, map}
+use Rattle.std.specs.Prelude.{◌≡◌, ℕ, ◌+◌, ◌<◌, ◌≤◌, Bool, true, List, [], ◌∷◌, ◌++◌, Some, map}
 use Rattle.std.specs.List.{flat_map}
 use Rattle.cob_copybook_tree.specs.Forests.{Forest}
 use Rattle.cob_copybook_tree.specs.Nodes.{Resolved}
@@ -25,12 +25,17 @@ pub record HasPlaceWhere (tree : Forest Resolved) (Q : Place → Type 0) (x : Oc
   pub stands : HasPlace tree x place
   pub so : Q place
 
--- These are the places of the occurrences: whatever holds of one of the places holds of where one of the occurrences stands, and the other way round.
-abbrev pub Gathers : Forest Resolved → List Place → List Occurrence → Type 1
-Gathers tree ps xs = (Q : Place → Type 0) → (SomeOf Q ps → SomeOf (HasPlaceWhere tree Q) xs) × (SomeOf (HasPlaceWhere tree Q) xs → SomeOf Q ps)
+-- a place passes a test
+abbrev pub IsPassed : (Place → Bool) → Place → Type 0
+IsPassed test p = test p ≡ true
+
+-- These are the places of the occurrences: a test that one of the places passes is passed where one of the occurrences stands, and the other way round.
+abbrev pub Gathers : Forest Resolved → List Place → List Occurrence → Type 0
+Gathers tree ps xs = (test : Place → Bool) → (SomeOf (IsPassed test) ps → SomeOf (HasPlaceWhere tree (IsPassed test)) xs)
+    × (SomeOf (HasPlaceWhere tree (IsPassed test)) xs → SomeOf (IsPassed test) ps)
 
 -- the places of further occurrences came to those of the ones before
-abbrev pub Joins : Forest Resolved → List Place → List Place → List Occurrence → Type 1
+abbrev pub Joins : Forest Resolved → List Place → List Place → List Occurrence → Type 0
 Joins tree old now xs = (before : List Occurrence) → Gathers tree old before → Gathers tree now (before ++ xs)
 
 -- the occurrences of the output record that a move's receivers are

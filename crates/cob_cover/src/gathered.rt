@@ -34,10 +34,10 @@ fn add(
     ensures { OnOk result (Joins layout.now places.old.items places.new.items
         (occurrence number subscripts.now ∷ [])) }
 {
-    match place_of(layout, number, subscripts) {
-        Some(place) => places.push(place),
-        None => Ok(()),
+    if let Some(place) = place_of(layout, number, subscripts) {
+        places.push(place)?;
     }
+    Ok(())
 }
 
 /// Joins the places of receivers.
@@ -193,7 +193,8 @@ pub(crate) fn received(alloc: Global, moves: &MovesBetween<'_>) -> Result<Vec<Pl
     ensures { IfOk result (λ places. Gathers moves.now.layouts.output.now places.items
         (received_in (moves_between moves.now.layouts moves.now.statements.now))) }
 {
-    places_received(alloc, moves.layouts.output, moves.statements)
+    let places = places_received(alloc, moves.layouts.output, moves.statements)?;
+    Ok(places)
 }
 
 /// The places of the senders of moves that are of the input record.
@@ -205,5 +206,6 @@ pub(crate) fn sent(alloc: Global, moves: &MovesBetween<'_>) -> Result<Vec<Place>
     ensures { IfOk result (λ places. Gathers moves.now.layouts.input.now places.items
         (sent_in (moves_between moves.now.layouts moves.now.statements.now))) }
 {
-    places_sent(alloc, moves.layouts.input, moves.statements)
+    let places = places_sent(alloc, moves.layouts.input, moves.statements)?;
+    Ok(places)
 }

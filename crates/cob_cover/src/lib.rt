@@ -3,10 +3,10 @@
 //!
 //! All of it is said of records in which each table has its greatest number of elements. What is promised:
 //!
-//! - [`Covered::has`] says whether a byte of the output record is covered: exactly where some single move has a receiver whose place has it
-//!   (`IsByteCovered` of specs/Covered.antt);
-//! - [`Taken::meets`] says whether a byte of a place of the input record is taken: exactly where some single move has a sender whose place has it
-//!   (`IsTaken`);
+//! - [`bytes_covered`] says of each byte of the output record whether it is covered: exactly where some single move has a receiver whose place has
+//!   it (`IsByteCovered` of specs/Covered.antt);
+//! - [`bytes_taken`] says of each byte of the input record whether it is taken: exactly where some single move has a sender whose place has it
+//!   (`IsByteTaken`);
 //! - what single moves may lose is the answer of `losses_of` of `cob_move_losses`.
 //!
 //! [`cover_text`] writes the lists, one line for each thing: how they read is shown by `cob_jobs`.
@@ -19,11 +19,12 @@
 //! on `cob_layout` and `cob_layout_places` for places, and on `cob_copybook_tree` for entries.
 #![tactic(auto)]
 
-mod covered;
 mod gathered;
 mod items;
+mod marks;
 mod moves;
+mod occurrences;
 mod text;
 
-pub use covered::{Covered, Taken};
+pub use marks::{bytes_covered, bytes_taken};
 pub use text::cover_text;

@@ -11,6 +11,7 @@ use Rattle.cob_copybook_names.specs.declared.fault.NameFault.TheVariants.{Unknow
 use Rattle.cob_copybook_names.specs.Listed.{name_text, seen, texts}
 use Rattle.cob_copybook_names.specs.Naming.{Bearer, IsNameFault, is_named, named}
 use Rattle.cob_draft.specs.Entries.{DraftEntry, listed_bearer}
+use Rattle.cob_draft.specs.Naming.{NamesOne}
 use Rattle.cob_draft.specs.Partners.{below_record}
 use Rattle.cob_draft.specs.declared.entries.DraftEntry.{DraftEntry as ListedEntry}
 
@@ -20,12 +21,12 @@ cut_texts n m names is = sym (take-map (λ (t : Bor (List ℕ)). t.now) n names)
 pub below : (n : ℕ) (names : List (Bor (List ℕ))) → n ≡ length names - 1 → texts (take n names) ≡ below_record (texts names)
 below n names is = cut_texts n (length (texts names) - 1) names (is ∙ ap (λ k. k - 1) (sym (length-map names (λ (t : Bor (List ℕ)). t.now))))
 
-count_if : {A B : Type 0} (t u : Bool) (a : A) (b : B) (as : List A) (bs : List B) → t ≡ u → length as ≡ length bs
-    → length (cond t (a ∷ as) as) ≡ length (cond u (b ∷ bs) bs)
-count_if true true a b as bs same rest = omega (arith, rest)
-count_if false false a b as bs same rest = rest
-count_if true false a b as bs same rest = absurd (cc)
-count_if false true a b as bs same rest = absurd (cc)
+count_if : {A B : Type 0} (t u : Bool) (a : A) (b : B) (xs : List A) (ys : List B) → t ≡ u → length xs ≡ length ys
+    → length (cond t (a ∷ xs) xs) ≡ length (cond u (b ∷ ys) ys)
+count_if true true a b xs ys same rest = omega (arith, rest)
+count_if false false a b xs ys same rest = rest
+count_if true false a b xs ys same rest = absurd (cc)
+count_if false true a b xs ys same rest = absurd (cc)
 
 -- as many of the listed entries are named, whatever else is known of them
 pub as_many_named : (name : List ℕ) (qualifiers : List (List ℕ)) (bs : List (Listed ListedEntry))
@@ -48,3 +49,15 @@ pub none_up_to : (P : ℕ → Type 0) (n : ℕ) → ((k : ℕ) → k < n → P k
 none_up_to P n before now k lt h =
     let order : (k < n) ⊎ (k ≡ n) = grind arith in
     elim order [ inl less ↦ before k less h | inr same ↦ now (subst P same h) ]
+
+-- so many of the qualifiers name one entry alone where the first so many do
+pub named_with : (name : List ℕ) (above : List (Bor (List ℕ))) (n : ℕ) (all : List (Bearer DraftEntry)) (b : Bool)
+    → Decides b (length (named name (texts (take n above)) all) ≡ 1) → b ≡ true → NamesOne name (texts above) n all
+named_with name above n all b (one, only) is = subst (λ (qs : List (List ℕ)). length (named name qs all) ≡ 1) (cut_texts n n above refl) (one is)
+
+-- and not where they do not
+pub named_with_none : (name : List ℕ) (above : List (Bor (List ℕ))) (n : ℕ) (all : List (Bearer DraftEntry)) (b : Bool)
+    → Decides b (length (named name (texts (take n above)) all) ≡ 1) → b ≡ false → NamesOne name (texts above) n all → ⊥
+named_with_none name above n all b (one, only) is h =
+    let so : b ≡ true = only (subst (λ (qs : List (List ℕ)). length (named name qs all) ≡ 1) (sym (cut_texts n n above refl)) h) in
+    absurd (cc)

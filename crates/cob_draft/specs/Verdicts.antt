@@ -30,7 +30,7 @@ pub record AreLosses (from : Kind) (sent : ℕ) (to : Kind) (room : ℕ) (l : Lo
   pub sign : IsTrue l.sign → LosesSign (Entry from) to
 
 -- The move loses nothing.
-pub record LosesNone (from : Kind) (sent : ℕ) (to : Kind) (room : ℕ) : Type 0 where
+pub record KeepsAll (from : Kind) (sent : ℕ) (to : Kind) (room : ℕ) : Type 0 where
   pub before : LosesBefore (Entry from) to → ⊥
   pub behind : LosesBehind (Entry from) to → ⊥
   pub characters : LosesCharacters (Entry from) sent to room → ⊥
@@ -44,8 +44,8 @@ Objects from sent to room (objection.Refused refusal) = is_refused refusal (Entr
 Objects from sent to room (objection.Loses losses) = AreLosses (kind_there from) sent (kind_there to) room losses
 
 -- Nothing is against it: both stand in as many tables, none of which varies, there is such a move, and it loses nothing.
-pub record IsFree (from : DraftEntry) (sent : ℕ) (to : DraftEntry) (room : ℕ) : Type 0 where
+pub record MayStand (from : DraftEntry) (sent : ℕ) (to : DraftEntry) (room : ℕ) : Type 0 where
   pub tables : length from.tables.items ≡ length to.tables.items
   pub steady : IsTrue from.steady × IsTrue to.steady
   pub allowed : IsAllowed (Entry (kind_there from)) (kind_there to)
-  pub whole : LosesNone (kind_there from) sent (kind_there to) room
+  pub whole : KeepsAll (kind_there from) sent (kind_there to) room

@@ -105,7 +105,7 @@ fn list_entry<'a>(
         ≤ most_dimensions }
     ensures { OnOk result (ListsBehind listed.old.items listed.new.items
         (own_bearer side (texts above.now) (seen_setting outer.now)
-            (resolved_entry (out-Node entry.now)) ∷ [])) }
+        (resolved_entry (out-Node entry.now)) ∷ [])) }
 {
     let mut names = Vec::new(alloc);
     names.extend_from_slice(above)?;

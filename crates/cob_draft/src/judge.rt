@@ -1,7 +1,7 @@
 //! Whether the move of an entry to an item stands as a statement.
 
 ghost use Rattle.std.specs.Prelude.{◌≡◌, IfNone, IfSome};
-ghost use Rattle.cob_draft.specs.Verdicts.{AreLosses, IsFree, LosesNone, Objects, greatest_element};
+ghost use Rattle.cob_draft.specs.Verdicts.{AreLosses, MayStand, KeepsAll, Objects, greatest_element};
 
 use crate::entries::DraftEntry;
 use cob_copybook_tree::{Kind, Node, element_length};
@@ -23,7 +23,7 @@ pub enum Objection {
 
 /// What the move of an entry of so many bytes to another one may lose, if it may lose something.
 fn losses_between(from: &Kind, sent: u32, to: &Kind, room: u32) -> Option<Losses>
-    ensures none { IfNone result (LosesNone from.now sent to.now room) }
+    ensures none { IfNone result (KeepsAll from.now sent to.now room) }
     ensures some { IfSome result (λ l. AreLosses from.now sent to.now room l) }
 {
     let losses = losses_of(&SenderKind::Entry(from), sent, to, room);
@@ -40,7 +40,7 @@ fn objection_between(
     to: &DraftEntry<'_>,
     room: u32,
 ) -> Option<Objection>
-    ensures none { IfNone result (IsFree from.now sent to.now room) }
+    ensures none { IfNone result (MayStand from.now sent to.now room) }
     ensures some { IfSome result (λ o. Objects from.now sent to.now room o) }
 {
     if from.tables.len() != to.tables.len() {
@@ -60,7 +60,7 @@ fn objection_between(
 
 /// What is against the move of an entry to another one: nothing exactly where the statement may stand.
 pub fn objection_to(from: &DraftEntry<'_>, to: &DraftEntry<'_>) -> Option<Objection>
-    ensures none { IfNone result (IsFree from.now (greatest_element from.now.entry.now)
+    ensures none { IfNone result (MayStand from.now (greatest_element from.now.entry.now)
         to.now (greatest_element to.now.entry.now)) }
     ensures some { IfSome result (λ o. Objects from.now (greatest_element from.now.entry.now)
         to.now (greatest_element to.now.entry.now) o) }

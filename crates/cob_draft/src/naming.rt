@@ -26,15 +26,13 @@ impl Qualifiers for GroupNames<'_> {
 }
 
 /// Whether a name with these qualifiers names one entry alone.
-fn names_one(
-    directory: &Directory<'_, DraftEntry<'_>>,
-    name: &[u8],
-    qualifiers: &[&[u8]],
-) -> bool
+fn names_one(directory: &Directory<'_, DraftEntry<'_>>, name: &[u8], qualifiers: &[&[u8]]) -> bool
     ensures { Decides result (length (named name.now (texts qualifiers.now)
         (map listed_bearer directory.now.bearers.items)) ≡ 1) }
 {
-    directory.only_named(name, GroupNames { names: qualifiers }).is_ok()
+    directory
+        .only_named(name, GroupNames { names: qualifiers })
+        .is_ok()
 }
 
 /// How many qualifiers a name needs to name one entry alone, of these, the nearest first; `None` where it names none alone with all of them.
