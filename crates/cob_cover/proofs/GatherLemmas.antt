@@ -28,15 +28,27 @@ some_split P (x ∷ xs) ys (inr h) = elim (some_split P xs ys h) [ inl front ↦
 
 -- ---- one place
 
-same_some : {A : Type 0} (x y : A) → Some x ≡ Some y → x ≡ y
+pub same_some : {A : Type 0} (x y : A) → Some x ≡ Some y → x ≡ y
 same_some x y h = cc
+
+-- a place of these parts
+abbrev pub place_at : ℕ → ℕ → Place
+place_at o n = record { offset = o; length = n }
+
+-- what is found there
+abbrev pub found_at : ℕ → ℕ → Bool → Found
+found_at o n w = record { offset = o; length = n; within = w }
+
+same_parts : (o n a b : ℕ) → found_at o n true ≡ found_at a b true → place_at o n ≡ place_at a b
+same_parts o n a b h =
+    let first : o ≡ a = ap (λ (f : Found). f.offset) h in
+    let second : n ≡ b = ap (λ (f : Found). f.length) h in
+    ap (λ (m : ℕ). place_at m n) first ∙ ap (λ (m : ℕ). place_at a m) second
 
 -- an occurrence stands at one place
 pub one_place : (tree : Forest Resolved) (x : Occurrence) (p q : Place) → HasPlace tree x p → HasPlace tree x q → p ≡ q
 one_place tree x p q a b =
-    let same : record { offset = p.offset; length = p.length; within = true } ≡ record { offset = q.offset; length = q.length; within = true } = same_some {A = Found} _ _ (sym a.place ∙ b.place) in
-    ap (λ (o : ℕ). record { offset = o; length = p.length }) (ap (λ (f : Found). f.offset) same)
-    ∙ ap (λ (n : ℕ). record { offset = q.offset; length = n }) (ap (λ (f : Found). f.length) same)
+    same_parts p.offset p.length q.offset q.length (same_some (found_at p.offset p.length true) (found_at q.offset q.length true) (sym a.place ∙ b.place))
 
 -- ---- places that come
 

@@ -15,33 +15,31 @@ use Rattle.cob_layout.specs.declared.fields.Place.{Place}
 use Rattle.cob_layout.specs.declared.layout.PlaceFault.{PlaceFault}
 use Rattle.cob_move_lossless.specs.Received.{occurrence}
 use Rattle.cob_cover.specs.Gathered.{HasPlace, Joins}
-use Rattle.cob_cover.proofs.GatherLemmas.{joins_nowhere, joins_one}
+use Rattle.cob_cover.proofs.GatherLemmas.{found_at, joins_one, place_at, same_some}
 
 -- a place that is there
 abbrev there : Place → Found
-there p = record { offset = p.offset; length = p.length; within = true }
+there p = found_at p.offset p.length true
 
 -- a place is found there whose parts are these
 found_there : (f : Found) (p : Place) → f.within ≡ true → f.offset ≡ p.offset → f.length ≡ p.length → f ≡ there p
 found_there f p within offset count =
-    ap (λ (w : Bool). record { offset = f.offset; length = f.length; within = w }) within
-    ∙ ap (λ (o : ℕ). record { offset = o; length = f.length; within = true }) offset
-    ∙ ap (λ (n : ℕ). record { offset = p.offset; length = n; within = true }) count
+    ap (λ (w : Bool). found_at f.offset f.length w) within ∙ ap (λ (o : ℕ). found_at o f.length true) offset ∙ ap (λ (n : ℕ). found_at p.offset n true) count
 
 ok_same : (a p : Place) → Ok {T = Place} {E = PlaceFault} a ≡ Ok p → a ≡ p
 ok_same a p h = cc
-
-some_same : {A : Type 0} (x y : A) → Some x ≡ Some y → x ≡ y
-some_same x y h = cc
 
 by_within : (w : Bool) (a p : Place) (b : PlaceFault) → (if w then Ok a else Err b) ≡ Ok p → (w ≡ true) × (a ≡ p)
 by_within true a p b h = (refl, ok_same a p h)
 by_within false a p b h = absurd (cc)
 
+abbrev fault_at : ℕ → PlaceFault
+fault_at o = record { offset = o }
+
 of_placed : (o : Option Found) (p : Place) → option_map placed o ≡ Some (Ok p) → o ≡ Some (there p)
 of_placed None p h = absurd (cc)
 of_placed (Some f) p h =
-    let (within, same) = by_within f.within (record { offset = f.offset; length = f.length }) p (record { offset = f.offset }) (some_same (placed f) (Ok p) h) in
+    let (within, same) = by_within f.within (place_at f.offset f.length) p (fault_at f.offset) (same_some (placed f) (Ok p) h) in
     ap (λ (g : Found). Some g) (found_there f p within (ap (λ (q : Place). q.offset) same) (ap (λ (q : Place). q.length) same))
 
 to_placed : (o : Option Found) (p : Place) → o ≡ Some (there p) → option_map placed o ≡ Some (Ok p)
@@ -49,7 +47,7 @@ to_placed o p is = ap (option_map placed) is
 
 ok_or_err : (o : Option (Result Place PlaceFault)) (p : Place) (fault : PlaceFault) → o ≡ Some (Ok p) → o ≡ Some (Err fault) → ⊥
 ok_or_err o p fault is also =
-    let h : Ok p ≡ Err fault = some_same (Ok p) (Err fault) (sym is ∙ also) in
+    let h : Ok p ≡ Err fault = same_some (Ok p) (Err fault) (sym is ∙ also) in
     absurd (cc)
 
 -- the place of a reference is that of its occurrence
