@@ -1,5 +1,6 @@
 -- Places that come to others.
-use Rattle.std.proofs.Common.{◌≡◌, ◌⊎◌, ℕ, ◌+◌, ◌<◌, ◌≤◌, Bool, true, false, List, [], ◌∷◌, ◌++◌, length, get_or, take, map, refl, sym, ap, subst, ◌∙◌, inl, inr, append-nil, append_assoc, Some}
+use Rattle.std.proofs.Common.{◌≡◌, ◌⊎◌, ℕ, ◌+◌, ◌<◌, ◌≤◌, Bool, true, false, List, [], ◌∷◌, ◌++◌, length, get_or, take, map, refl, sym, ap, subst, ◌∙◌, inl, inr, append-nil, append_assoc}
+use Rattle.std.specs.Prelude.{Some}
 use Rattle.std.specs.List.{flat_map}
 use Rattle.std.proofs.lemmas.Grind.{flat_map-append}
 use Rattle.std.proofs.lemmas.List.Concat.{flat_map-cons}
@@ -83,30 +84,30 @@ pub joins_none : (tree : Forest Resolved) (old : List Place) → Joins tree old 
 joins_none tree old before gathers = subst (λ (xs : List Occurrence). Gathers tree old xs) (sym (append-nil before)) gathers
 
 -- some came, and then others
-pub joins_more : (tree : Forest Resolved) (old now then : List Place) (xs ys : List Occurrence) → Joins tree old now xs → Joins tree now then ys → Joins tree old then (xs ++ ys)
-joins_more tree old now then xs ys first second before gathers =
-    subst (λ (zs : List Occurrence). Gathers tree then zs) (append_assoc before xs ys) (second (before ++ xs) (first before gathers))
+pub joins_more : (tree : Forest Resolved) (old now after : List Place) (xs ys : List Occurrence) → Joins tree old now xs → Joins tree now after ys → Joins tree old after (xs ++ ys)
+joins_more tree old now after xs ys first second before gathers =
+    subst (λ (zs : List Occurrence). Gathers tree after zs) (append_assoc before xs ys) (second (before ++ xs) (first before gathers))
 
 -- ---- elements of lists
 
 next_of : {A : Type 0} (f : A → Occurrence) (xs : List A) (i : ℕ) (x : A) → i < length xs → x ≡ get_or xs i x → map f (take (i + 1) xs) ≡ map f (take i xs) ++ f x ∷ []
-next_of f xs i x lt is = ap (map f) (take_more xs i x lt) ∙ map-append f (take i xs) (get_or xs i x ∷ []) ∙ ap (λ y. map f (take i xs) ++ f y ∷ []) (sym is)
+next_of {A} f xs i x lt is = ap (map f) (take_more xs i x lt) ∙ map-append f (take i xs) (get_or xs i x ∷ []) ∙ ap (λ (y : A). map f (take i xs) ++ f y ∷ []) (sym is)
 
 -- the next element's occurrence came
-pub joins_next : {A : Type 0} (tree : Forest Resolved) (f : A → Occurrence) (xs : List A) (i : ℕ) (x : A) (old now then : List Place) → i < length xs → x ≡ get_or xs i x
-    → Joins tree now then (f x ∷ []) → Joins tree old now (map f (take i xs)) → Joins tree old then (map f (take (i + 1) xs))
-joins_next tree f xs i x old now then lt is more before =
-    subst (λ (ys : List Occurrence). Joins tree old then ys) (sym (next_of f xs i x lt is)) (joins_more tree old now then _ _ before more)
+pub joins_next : {A : Type 0} (tree : Forest Resolved) (f : A → Occurrence) (xs : List A) (i : ℕ) (x : A) (old now after : List Place) → i < length xs → x ≡ get_or xs i x
+    → Joins tree now after (f x ∷ []) → Joins tree old now (map f (take i xs)) → Joins tree old after (map f (take (i + 1) xs))
+joins_next tree f xs i x old now after lt is more before =
+    subst (λ (ys : List Occurrence). Joins tree old after ys) (sym (next_of f xs i x lt is)) (joins_more tree old now after (map f (take i xs)) (f x ∷ []) before more)
 
 each_next : {A : Type 0} (f : A → List Occurrence) (xs : List A) (i : ℕ) (x : A) → i < length xs → x ≡ get_or xs i x
     → flat_map f (take (i + 1) xs) ≡ flat_map f (take i xs) ++ f x
-each_next f xs i x lt is = ap (flat_map f) (take_more xs i x lt) ∙ flat_map-append f (take i xs) (get_or xs i x ∷ []) ∙ ap (λ ys. flat_map f (take i xs) ++ ys) (flat_map-cons f (get_or xs i x) [] ∙ append-nil (f (get_or xs i x)) ∙ ap f (sym is))
+each_next f xs i x lt is = ap (flat_map f) (take_more xs i x lt) ∙ flat_map-append f (take i xs) (get_or xs i x ∷ []) ∙ ap (λ (ys : List Occurrence). flat_map f (take i xs) ++ ys) (flat_map-cons f (get_or xs i x) [] ∙ append-nil (f (get_or xs i x)) ∙ ap f (sym is))
 
 -- the next element's occurrences came
-pub joins_each : {A : Type 0} (tree : Forest Resolved) (f : A → List Occurrence) (xs : List A) (i : ℕ) (x : A) (old now then : List Place) → i < length xs → x ≡ get_or xs i x
-    → Joins tree now then (f x) → Joins tree old now (flat_map f (take i xs)) → Joins tree old then (flat_map f (take (i + 1) xs))
-joins_each tree f xs i x old now then lt is more before =
-    subst (λ (ys : List Occurrence). Joins tree old then ys) (sym (each_next f xs i x lt is)) (joins_more tree old now then _ _ before more)
+pub joins_each : {A : Type 0} (tree : Forest Resolved) (f : A → List Occurrence) (xs : List A) (i : ℕ) (x : A) (old now after : List Place) → i < length xs → x ≡ get_or xs i x
+    → Joins tree now after (f x) → Joins tree old now (flat_map f (take i xs)) → Joins tree old after (flat_map f (take (i + 1) xs))
+joins_each tree f xs i x old now after lt is more before =
+    subst (λ (ys : List Occurrence). Joins tree old after ys) (sym (each_next f xs i x lt is)) (joins_more tree old now after (flat_map f (take i xs)) (f x) before more)
 
 -- those of nothing
 pub gathers_none : (tree : Forest Resolved) → Gathers tree [] []
@@ -115,11 +116,11 @@ gathers_none tree test = (λ h. absurd h, λ h. absurd h)
 -- all elements' occurrences came
 pub joins_all : {A : Type 0} (tree : Forest Resolved) (f : A → Occurrence) (xs : List A) (i : ℕ) (old now : List Place) → length xs ≤ i
     → Joins tree old now (map f (take i xs)) → Joins tree old now (map f xs)
-joins_all tree f xs i old now le all = subst (λ ys. Joins tree old now (map f ys)) (take_all i xs le) all
+joins_all {A} tree f xs i old now le all = subst (λ (ys : List A). Joins tree old now (map f ys)) (take_all i xs le) all
 
 pub joins_all_each : {A : Type 0} (tree : Forest Resolved) (f : A → List Occurrence) (xs : List A) (i : ℕ) (old now : List Place) → length xs ≤ i
     → Joins tree old now (flat_map f (take i xs)) → Joins tree old now (flat_map f xs)
-joins_all_each tree f xs i old now le all = subst (λ ys. Joins tree old now (flat_map f ys)) (take_all i xs le) all
+joins_all_each {A} tree f xs i old now le all = subst (λ (ys : List A). Joins tree old now (flat_map f ys)) (take_all i xs le) all
 
 -- what came to nothing is all that there is
 pub gathers_all : (tree : Forest Resolved) (now : List Place) (xs : List Occurrence) → Joins tree [] now xs → Gathers tree now xs

@@ -27,14 +27,14 @@ use Rattle.cob_cover.specs.Statements.{group_senders, if_input, pair_receiver, p
 
 moved_receivers : (tree : Forest Resolved) (rs : List Ref) → map occurrence_of (map (operand_in tree) rs) ≡ map occurrence_by rs
 moved_receivers tree [] = refl
-moved_receivers tree (r ∷ rs) = ap (λ xs. occurrence_by r ∷ xs) (moved_receivers tree rs)
+moved_receivers tree (r ∷ rs) = ap (λ (xs : List Occurrence). occurrence_by r ∷ xs) (moved_receivers tree rs)
 
 pair_receivers : (reading : Reading) (records : Records) (g : PairMoves) (ps : List NumberedPair)
     → received_in (map (numbered_move_by reading records g) ps) ≡ map (pair_receiver g) ps
 pair_receivers reading records g [] = refl
 pair_receivers reading records g (p ∷ ps) =
     flat_map-cons receivers_of (numbered_move_by reading records g p) (map (numbered_move_by reading records g) ps)
-    ∙ ap (λ xs. pair_receiver g p ∷ xs) (pair_receivers reading records g ps)
+    ∙ ap (λ (xs : List Occurrence). pair_receiver g p ∷ xs) (pair_receivers reading records g ps)
 
 one_statement : (m : Move) → received_in (m ∷ []) ≡ receivers_of m
 one_statement m = flat_map-cons receivers_of m [] ∙ append-nil (receivers_of m)
@@ -49,8 +49,8 @@ all_receivers reading records [] = refl
 all_receivers reading records (s ∷ ss) =
     ap received_in (flat_map-cons (statement_moves_by reading records) s ss)
     ∙ flat_map-append receivers_of (statement_moves_by reading records s) (moves_by reading records ss)
-    ∙ ap (λ xs. xs ++ received_in (moves_by reading records ss)) (statement_receivers reading records s)
-    ∙ ap (λ xs. receivers_by s ++ xs) (all_receivers reading records ss)
+    ∙ ap (λ (xs : List Occurrence). xs ++ received_in (moves_by reading records ss)) (statement_receivers reading records s)
+    ∙ ap (λ (xs : List Occurrence). receivers_by s ++ xs) (all_receivers reading records ss)
     ∙ sym (flat_map-cons receivers_by s ss)
 
 -- ---- senders
@@ -75,8 +75,8 @@ pair_senders : (reading : Reading) (records : Records) (g : PairMoves) (ps : Lis
 pair_senders reading records g [] = sym (if_input_none g.side)
 pair_senders reading records g (p ∷ ps) =
     flat_map-cons sent_of_move (numbered_move_by reading records g p) (map (numbered_move_by reading records g) ps)
-    ∙ ap (λ xs. xs ++ sent_in (map (numbered_move_by reading records g) ps)) (input_if g.side reading (operand_in (record_of records g.side) (entry_below g.from p.from)))
-    ∙ ap (λ xs. if_input g.side (pair_sender g p ∷ []) ++ xs) (pair_senders reading records g ps)
+    ∙ ap (λ (xs : List Occurrence). xs ++ sent_in (map (numbered_move_by reading records g) ps)) (input_if g.side reading (operand_in (record_of records g.side) (entry_below g.from p.from)))
+    ∙ ap (λ (xs : List Occurrence). if_input g.side (pair_sender g p ∷ []) ++ xs) (pair_senders reading records g ps)
     ∙ if_input_more g.side (pair_sender g p) (map (pair_sender g) ps)
 
 one_sender : (reading : Reading) (records : Records) (s : code.Sender) → input_of (sender_by reading records s) ≡ sender_occurrence s
@@ -94,6 +94,6 @@ all_senders reading records [] = refl
 all_senders reading records (s ∷ ss) =
     ap sent_in (flat_map-cons (statement_moves_by reading records) s ss)
     ∙ flat_map-append sent_of_move (statement_moves_by reading records s) (moves_by reading records ss)
-    ∙ ap (λ xs. xs ++ sent_in (moves_by reading records ss)) (statement_senders reading records s)
-    ∙ ap (λ xs. senders_by s ++ xs) (all_senders reading records ss)
+    ∙ ap (λ (xs : List Occurrence). xs ++ sent_in (moves_by reading records ss)) (statement_senders reading records s)
+    ∙ ap (λ (xs : List Occurrence). senders_by s ++ xs) (all_senders reading records ss)
     ∙ sym (flat_map-cons senders_by s ss)

@@ -1,5 +1,5 @@
 -- Places of the occurrences that moves send and receive.
-use Rattle.std.specs.Prelude.{◌≡◌, ℕ, ◌+◌, ◌<◌, ◌≤◌, Bool, true, List, [], ◌∷◌, ◌++◌, Some, map}
+use Rattle.std.specs.Prelude.{◌≡◌, ℕ, ◌+◌, ◌<◌, ◌≤◌, Bool, true, List, [], ◌∷◌, ◌++◌, Option, Some, None, Result, Ok, Err, map}
 use Rattle.std.specs.List.{flat_map}
 use Rattle.cob_copybook_tree.specs.Forests.{Forest}
 use Rattle.cob_copybook_tree.specs.Nodes.{Resolved}
@@ -11,6 +11,7 @@ use Rattle.cob_layout_places.specs.References.{Refers}
 use Rattle.cob_layout_places.specs.declared.operands.Side.TheVariants.{In, Out}
 use Rattle.cob_layout.specs.Counting.{greatest_counts}
 use Rattle.cob_layout.specs.declared.fields.Place.{Place}
+use Rattle.cob_layout.specs.declared.layout.PlaceFault.{PlaceFault}
 use Rattle.cob_move_apply.specs.Some.{SomeOf}
 use Rattle.cob_move_returns.specs.Singles.{occurrence_of}
 
@@ -18,6 +19,11 @@ use Rattle.cob_move_returns.specs.Singles.{occurrence_of}
 pub record HasPlace (tree : Forest Resolved) (x : Occurrence) (p : Place) : Type 0 where
   pub refers : Refers x.number x.subscripts tree
   pub place : place_of (times (greatest_counts tree)) x.number tree 0 0 x.subscripts ≡ Some record { offset = p.offset; length = p.length; within = true }
+
+-- the place that an answer has, if it has one
+abbrev pub answered : Result Place PlaceFault → Option Place
+answered (Ok p) = Some p
+answered (Err e) = None
 
 -- it stands at a place of which this holds
 pub record HasPlaceWhere (tree : Forest Resolved) (Q : Place → Type 0) (x : Occurrence) : Type 0 where

@@ -1,18 +1,38 @@
 //! The places of the occurrences that moves send and receive.
 
-ghost use Rattle.std.specs.Prelude.{◌≡◌, ℕ, List, [], ◌∷◌, map, OnOk, IfOk, IfNone, IfSome};
+ghost use Rattle.std.specs.Prelude.{◌≡◌, ◌++◌, [], ◌∷◌, map, OnOk, IfOk, IfNone, IfSome};
 ghost use Rattle.std.specs.List.{flat_map};
 ghost use Rattle.cob_layout.specs.declared.fields.Place.{Place as SeenPlace};
-
+ghost use Rattle.cob_layout_places.specs.References.{Refers};
 ghost use Rattle.cob_move_lossless.specs.Brought.{moves_between};
 ghost use Rattle.cob_move_lossless.specs.Received.{occurrence, occurrence_by};
-ghost use Rattle.cob_cover.specs.Gathered.{Joins, Gathers, HasPlace, received_in, sent_in};
+ghost use Rattle.cob_cover.specs.Gathered.{Gathers, HasPlace, Joins, answered, received_in, sent_in};
 ghost use Rattle.cob_cover.specs.Statements.{group_senders, pair_receiver, pair_sender, receivers_by, sender_occurrence, senders_by};
 
-use cob_layout::{Layout, Place, Ref};
+use cob_layout::{Layout, Place, PlaceFault, Ref};
 use cob_layout_places::{NumberedPair, PairMoves, Sender, Side, StatementMoves};
 use cob_move_lossless::MovesBetween;
 use std::alloc::{AllocError, Global};
+
+/// The place that an answer has, if it has one.
+fn answered(answer: Result<Place, PlaceFault>) -> Option<Place>
+    ensures { result ≡ answered answer }
+{
+    match answer {
+        Ok(place) => Some(place),
+        Err(_) => None,
+    }
+}
+
+/// Where a reference stands in a record in which each table has its greatest number of elements.
+fn greatest_place(layout: &Layout, reference: &Ref) -> Option<Place>
+    requires { Refers reference.now.node reference.now.subscripts.items layout.now }
+    ensures some { IfSome result (λ p. HasPlace layout.now (occurrence_by reference.now) p) }
+    ensures none { IfNone result ((p : SeenPlace)
+        → HasPlace layout.now (occurrence_by reference.now) p → ⊥) }
+{
+    answered(layout.place(reference, layout.greatest_counts()))
+}
 
 /// Where an occurrence stands in a record in which each table has its greatest number of elements.
 pub(crate) fn place_of(layout: &Layout, number: usize, subscripts: &[u32]) -> Option<Place>
@@ -20,11 +40,21 @@ pub(crate) fn place_of(layout: &Layout, number: usize, subscripts: &[u32]) -> Op
     ensures none { IfNone result ((p : SeenPlace)
         → HasPlace layout.now (occurrence number subscripts.now) p → ⊥) }
 {
-    let reference = layout.reference(number, subscripts)?;
-    layout.place(&reference, layout.greatest_counts()).ok()
+    match layout.reference(number, subscripts) {
+        Some(reference) => greatest_place(layout, &reference),
+        None => None,
+    }
 }
 
-/// Joins the place of an occurrence.
+/// Puts a place behind others.
+fn push_place(places: &mut Vec<Place>, place: Place) -> Result<(), AllocError>
+    ensures { OnOk result (places.new.items ≡ places.old.items ++ place ∷ []) }
+{
+    places.push(place)?;
+    Ok(())
+}
+
+/// Adds the place of an occurrence.
 fn add(
     layout: &Layout,
     number: usize,
@@ -34,13 +64,13 @@ fn add(
     ensures { OnOk result (Joins layout.now places.old.items places.new.items
         (occurrence number subscripts.now ∷ [])) }
 {
-    if let Some(place) = place_of(layout, number, subscripts) {
-        places.push(place)?;
+    match place_of(layout, number, subscripts) {
+        Some(place) => push_place(places, place),
+        None => Ok(()),
     }
-    Ok(())
 }
 
-/// Joins the places of receivers.
+/// Adds the places of receivers.
 fn add_receivers(
     layout: &Layout,
     receivers: &[Ref],
@@ -50,12 +80,17 @@ fn add_receivers(
         (map occurrence_by receivers.now)) }
 {
     for receiver in receivers {
-        add(layout, receiver.node, receiver.subscripts.as_slice(), places)?;
+        add(
+            layout,
+            receiver.node,
+            receiver.subscripts.as_slice(),
+            places,
+        )?;
     }
     Ok(())
 }
 
-/// Joins the places of the receiving entries of pairs of two groups.
+/// Adds the places of the receiving entries of pairs of two groups.
 fn add_pair_receivers(
     layout: &Layout,
     group: &PairMoves,
@@ -71,7 +106,7 @@ fn add_pair_receivers(
     Ok(())
 }
 
-/// Joins the places of the sending entries of pairs of two groups.
+/// Adds the places of the sending entries of pairs of two groups.
 fn add_pair_senders(
     layout: &Layout,
     group: &PairMoves,
@@ -87,7 +122,7 @@ fn add_pair_senders(
     Ok(())
 }
 
-/// Joins the places of what receives in a statement.
+/// Adds the places of what receives in a statement.
 fn add_received(
     layout: &Layout,
     statement: &StatementMoves,
@@ -104,12 +139,8 @@ fn add_received(
     }
 }
 
-/// Joins the place of a sender of the input record.
-fn add_sender(
-    layout: &Layout,
-    sender: &Sender,
-    places: &mut Vec<Place>,
-) -> Result<(), AllocError>
+/// Adds the place of a sender of the input record.
+fn add_sender(layout: &Layout, sender: &Sender, places: &mut Vec<Place>) -> Result<(), AllocError>
     ensures { OnOk result (Joins layout.now places.old.items places.new.items
         (sender_occurrence sender.now)) }
 {
@@ -122,7 +153,7 @@ fn add_sender(
     }
 }
 
-/// Joins the places of what the pairs of two groups send of the input record.
+/// Adds the places of what the pairs of two groups send of the input record.
 fn add_group_senders(
     layout: &Layout,
     group: &PairMoves,
@@ -137,7 +168,7 @@ fn add_group_senders(
     }
 }
 
-/// Joins the places of what a statement sends of the input record.
+/// Adds the places of what a statement sends of the input record.
 fn add_sent(
     layout: &Layout,
     statement: &StatementMoves,

@@ -6,10 +6,7 @@ use cob_copybook_tree::{Kind, Node};
 use std::alloc::AllocError;
 
 /// Adds the items that stand in no redefinition, of this entry and those beneath it, in their order.
-pub(crate) fn push_items<'a>(
-    entry: &'a Node,
-    items: &mut Vec<&'a Node>,
-) -> Result<(), AllocError> {
+pub(crate) fn push_items<'a>(entry: &'a Node, items: &mut Vec<&'a Node>) -> Result<(), AllocError> {
     if entry.redefines.is_some() {
         return Ok(());
     }

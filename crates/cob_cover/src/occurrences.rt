@@ -15,7 +15,11 @@ pub(crate) struct Occurrence<'a> {
 }
 
 /// The occurrence of an item of a record under these subscripts, where it stands in the record.
-fn found_occurrence<'a>(layout: &'a Layout, item: &Node, subscripts: &[u32]) -> Option<Occurrence<'a>> {
+fn found_occurrence<'a>(
+    layout: &'a Layout,
+    item: &Node,
+    subscripts: &[u32],
+) -> Option<Occurrence<'a>> {
     let place = place_of(layout, item.number, subscripts)?;
     let named = Named::new(layout.root(), item.number, subscripts);
     Some(Occurrence { named, place })

@@ -81,7 +81,8 @@ fn push_elements(
     };
     let offset = first.offset;
     let line = format!(in alloc;
-        "{words} {named}: {bytes} at {offset}, and so each of {times} elements\n")?;
+        "{words} {named}: {bytes} at {offset}, and so each of {times} elements\n"
+    )?;
     text.push_str(&line)?;
     Ok(())
 }
@@ -242,11 +243,7 @@ fn push_covered(
 }
 
 /// Adds the lines of the items of the input record that no sender takes.
-fn push_taken(
-    alloc: Global,
-    moves: &LinedMoves<'_>,
-    text: &mut String,
-) -> Result<(), AllocError> {
+fn push_taken(alloc: Global, moves: &LinedMoves<'_>, text: &mut String) -> Result<(), AllocError> {
     let layout = moves.moves.layouts.input;
     let marks = bytes_taken(alloc, &moves.moves)?;
     let mut items = Vec::new(alloc);
@@ -260,11 +257,7 @@ fn push_taken(
 }
 
 /// Adds a line for each single move that may lose something.
-fn push_losing(
-    alloc: Global,
-    moves: &LinedMoves<'_>,
-    text: &mut String,
-) -> Result<(), AllocError> {
+fn push_losing(alloc: Global, moves: &LinedMoves<'_>, text: &mut String) -> Result<(), AllocError> {
     let singles = singles_of(alloc, moves.moves.statements, moves.lines)?;
     for single in singles.iter() {
         if let Some(told) = told_losing(&moves.moves.layouts, single) {
