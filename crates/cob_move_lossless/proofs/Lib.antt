@@ -4,7 +4,7 @@ pub mod NamedLemmas
 pub mod KindLemmas
 pub mod EachLemmas
 pub mod OnceLemmas
-pub mod AscendLemmas
+pub mod NotedLemmas
 pub mod SomeLemmas
 pub mod ReturnedLemmas
 pub mod WalkLemmas

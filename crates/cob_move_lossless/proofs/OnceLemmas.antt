@@ -180,3 +180,10 @@ once_move s tree rs others =
       λ h. subst (λ (ss : List SingleMove). OnceBefore ss others) (sym (one_move m)) h,
       λ h. subst (λ (ss : List SingleMove). OnceBefore ss others) (one_move m) h,
     )
+
+-- ---- one statement of all
+
+-- where all receive once, so do the receivers of a statement before those behind it
+pub once_behind : (y : Reading) (r : Records) (s : StatementMoves) (front behind : List StatementMoves) → ReceiveOnce (all_singles (moves_by y r (front ++ s ∷ behind))) → LastStatement y r s behind
+once_behind y r s [] behind h = ((cuts_once y r s behind).1 h).0
+once_behind y r s (t ∷ front) behind h = once_behind y r s front behind ((cuts_once y r t (front ++ s ∷ behind)).1 h).1

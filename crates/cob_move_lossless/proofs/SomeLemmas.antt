@@ -201,10 +201,6 @@ statements_none P f ss i Q le both = ended P (all_singles (flat_map f (drop i ss
 
 -- ---- statements in two parts
 
--- what is decided not to be so isn't
-pub isnt : (P : Type 0) → Decides false P → P → ⊥
-isnt P (one, only) h = let e : false ≡ true = only h in cc
-
 pub parts : (n : ℕ) (all front behind : List StatementMoves) → front ≡ take n all → behind ≡ drop n all → all ≡ front ++ behind
 parts n all front behind before after =
     sym (subst (λ (xs : List StatementMoves). xs ++ behind ≡ all) (sym before) (subst (λ (ys : List StatementMoves). take n all ++ ys ≡ all) (sym after) (take-append-drop n all)))
@@ -219,28 +215,21 @@ pub legal_in_two : (r : Records) (f : StatementMoves → List Move) (front behin
 legal_in_two r f front behind all is h =
     all_split r (flat_map f front) (flat_map f behind) (subst (λ (ms : List Move). AreMoves r ms) (ap (flat_map f) is ∙ flat_map-append f front behind) h)
 
-pub met_behind : (P : SingleMove → Type 0) (f : StatementMoves → List Move) (front behind all : List StatementMoves) → all ≡ front ++ behind → SomeOf P (all_singles (flat_map f behind))
-    → Decides true (SomeOf P (all_singles (flat_map f all)))
-met_behind P f front behind all is h = (
-  λ e. subst (λ (ss : List SingleMove). SomeOf P ss) (sym (in_two f front behind all is)) (some_behind P (all_singles (flat_map f front)) (all_singles (flat_map f behind)) h),
+pub met_behind : (P : SingleMove → Type 0) (f : StatementMoves → List Move) (front behind all : List StatementMoves) (a : Bool) → all ≡ front ++ behind → a ≡ true
+    → Decides a (SomeOf P (all_singles (flat_map f behind))) → Decides true (SomeOf P (all_singles (flat_map f all)))
+met_behind P f front behind all a is does (one, only) = (
+  λ e. subst (λ (ss : List SingleMove). SomeOf P ss) (sym (in_two f front behind all is)) (some_behind P (all_singles (flat_map f front)) (all_singles (flat_map f behind)) (one does)),
   λ g. refl,
 )
 
-pub met_front : (P : SingleMove → Type 0) (f : StatementMoves → List Move) (front behind all : List StatementMoves) → all ≡ front ++ behind → SomeOf P (all_singles (flat_map f front))
-    → Decides true (SomeOf P (all_singles (flat_map f all)))
-met_front P f front behind all is h = (
-  λ e. subst (λ (ss : List SingleMove). SomeOf P ss) (sym (in_two f front behind all is)) (some_front P (all_singles (flat_map f front)) (all_singles (flat_map f behind)) h),
-  λ g. refl,
-)
-
-pub met_nowhere : (P : SingleMove → Type 0) (f : StatementMoves → List Move) (front behind all : List StatementMoves) → all ≡ front ++ behind → (SomeOf P (all_singles (flat_map f front)) → ⊥)
-    → (SomeOf P (all_singles (flat_map f behind)) → ⊥) → Decides false (SomeOf P (all_singles (flat_map f all)))
-met_nowhere P f front behind all is none others = (
-  λ e. absurd (cc),
-  λ h. absurd (elim (some_split P (all_singles (flat_map f front)) (all_singles (flat_map f behind)) (subst (λ (ss : List SingleMove). SomeOf P ss) (in_two f front behind all is) h)) [
-    | inl g ↦ none g
-    | inr g ↦ others g
-  ]),
+pub met_else : (P : SingleMove → Type 0) (f : StatementMoves → List Move) (front behind all : List StatementMoves) (a b : Bool) → all ≡ front ++ behind → a ≡ false
+    → Decides a (SomeOf P (all_singles (flat_map f behind))) → Decides b (SomeOf P (all_singles (flat_map f front))) → Decides b (SomeOf P (all_singles (flat_map f all)))
+met_else P f front behind all a b is doesnt (one, only) (has, needs) = (
+  λ e. subst (λ (ss : List SingleMove). SomeOf P ss) (sym (in_two f front behind all is)) (some_front P (all_singles (flat_map f front)) (all_singles (flat_map f behind)) (has e)),
+  λ h. elim (some_split P (all_singles (flat_map f front)) (all_singles (flat_map f behind)) (subst (λ (ss : List SingleMove). SomeOf P ss) (in_two f front behind all is) h)) [
+    | inl g ↦ needs g
+    | inr g ↦ absurd (never a doesnt (only g))
+  ],
 )
 
 -- ---- one statement

@@ -1,6 +1,6 @@
 pub mod Tested
 pub mod Received
 pub mod Brought
-pub mod Ascending
+pub mod Noting
 pub mod Walk
 pub mod Losses

@@ -12,9 +12,10 @@
 //!
 //! Each occurrence of each named item of a record is gone through where it stands (src/walk.rt). Among all single moves back the one that brings it
 //! home is looked for, and among those there the one that carries it to where that one comes from, to an item that loses nothing of it
-//! (src/returned.rt). A search begins near where the last one ended, and goes round once (src/some.rt): so the time grows with the single moves where
-//! they stand in the order of the record or against it, and else with the occurrences times the single moves. Receivers that ascend receive once
-//! (src/ascend.rt); others are compared with each other (src/once.rt).
+//! (src/returned.rt). The statement in which an occurrence receives is noted for the byte at which the occurrence begins (src/noted.rt): a search begins
+//! there, and goes round once (src/some.rt), and where each receiver begins at a byte of its own, none receives twice. So the time grows with the single
+//! moves times the entries of a record at most, in whatever order they stand. Only where two receivers begin at one byte are they compared
+//! (src/once.rt). The notes of both ways take half a megabyte of the stack.
 //!
 //! What these words mean stands in cob_move_returns (specs/Apart.antt, Singles.antt, Returns.antt, Lossless.antt) and in cob_copybook_same; the
 //! points of the list stand in specs/Losses.antt.
@@ -23,12 +24,12 @@
 //! cob_layout_places for layouts and for moves as data, and on cob_copybook_tree and the crates below it for entries and what they describe.
 #![tactic(auto)]
 
-mod ascend;
 mod books;
 mod each;
 mod kinds;
 mod lossless;
 mod named;
+mod noted;
 mod once;
 mod returned;
 mod single;

@@ -10,7 +10,9 @@ ghost use Rattle.cob_move_lossless.specs.Tested.{layout_records};
 
 use crate::books::is_same_layout;
 use crate::each::{are_elementary, are_named, are_read_pictured};
-use crate::once::receive_once;
+use crate::noted::MOST_BYTES;
+use crate::once::receive_once_in;
+use crate::returned::Starts;
 use crate::single::Layouts;
 use crate::some::MovesBetween;
 use crate::standing::stands_one_way;
@@ -73,17 +75,21 @@ fn are_all_named(there: &MovesBetween<'_>, back: &MovesBetween<'_>) -> bool
 }
 
 /// The number of the first named item of the record from which the moves there go of which an occurrence isn't returned.
-fn lost_item(there: &MovesBetween<'_>, back: &MovesBetween<'_>) -> Option<usize>
+fn lost_item(
+    there: &MovesBetween<'_>,
+    back: &MovesBetween<'_>,
+    starts: &Starts<'_>,
+) -> Option<usize>
     requires there { AreLegal there.now }
     requires back { AreLegal back.now }
     ensures fine { IfNone result (ReturnAll there.now back.now) }
     ensures lost { IfSome result (λ r. LoseItem there.now back.now r) }
 {
-    first_lost(there, back, there.layouts.input.root())
+    first_lost(there, back, there.layouts.input.root(), starts)
 }
 
-/// The first point in which the moves of one way fail by themselves.
-fn loss_of(moves: &MovesBetween<'_>, way: Way) -> Option<Loss>
+/// The first point in which the moves of one way fail by themselves. Their receivers are noted.
+fn loss_of(moves: &MovesBetween<'_>, way: Way, noted: &mut [Option<u32>]) -> Option<Loss>
     requires { AreLegal moves.now }
     ensures loss { IfSome result (λ l. IsLossOf moves.now way l) }
     ensures none { IfNone result (AreSimple (singles_in moves.now)) }
@@ -94,7 +100,7 @@ fn loss_of(moves: &MovesBetween<'_>, way: Way) -> Option<Loss>
     if !are_read_pictured(&moves.layouts, moves.statements) {
         return Some(Loss::Reading(way));
     }
-    if !receive_once(moves.statements) {
+    if !receive_once_in(moves, noted) {
         return Some(Loss::Receiver(way));
     }
     None
@@ -107,16 +113,22 @@ fn loss_in_return(there: &MovesBetween<'_>, back: &MovesBetween<'_>) -> Option<L
     ensures loss { IfSome result (λ l. IsLoss there.now back.now l) }
     ensures none { IfNone result (BringBack there.now back.now) }
 {
-    if let Some(loss) = loss_of(there, Way::There) {
+    let mut noted_there = [None; MOST_BYTES];
+    let mut noted_back = [None; MOST_BYTES];
+    if let Some(loss) = loss_of(there, Way::There, &mut noted_there) {
         return Some(loss);
     }
-    if let Some(loss) = loss_of(back, Way::Back) {
+    if let Some(loss) = loss_of(back, Way::Back, &mut noted_back) {
         return Some(loss);
     }
     if !are_all_named(there, back) {
         return Some(Loss::Name);
     }
-    if let Some(entry) = lost_item(there, back) {
+    let starts = Starts {
+        there: &noted_there,
+        back: &noted_back,
+    };
+    if let Some(entry) = lost_item(there, back, &starts) {
         return Some(Loss::Item(entry));
     }
     None
@@ -152,8 +164,8 @@ pub fn is_lossless(there: &MovesBetween<'_>, back: &MovesBetween<'_>) -> bool
     first_loss(there, back).is_none()
 }
 
-/// Whether all single moves are elementary and read their senders as their pictures say, and no occurrence receives twice.
-fn are_simple(moves: &MovesBetween<'_>) -> bool
+/// Whether all single moves are elementary and read their senders as their pictures say, and no occurrence receives twice. Their receivers are noted.
+fn are_simple(moves: &MovesBetween<'_>, noted: &mut [Option<u32>]) -> bool
     requires { AreLegal moves.now }
     ensures { Decides result (AreSimple (singles_in moves.now)) }
 {
@@ -163,16 +175,16 @@ fn are_simple(moves: &MovesBetween<'_>) -> bool
     if !are_read_pictured(&moves.layouts, moves.statements) {
         return false;
     }
-    receive_once(moves.statements)
+    receive_once_in(moves, noted)
 }
 
 /// Whether each occurrence of each named item of the record from which the moves there go is returned.
-fn return_all(there: &MovesBetween<'_>, back: &MovesBetween<'_>) -> bool
+fn return_all(there: &MovesBetween<'_>, back: &MovesBetween<'_>, starts: &Starts<'_>) -> bool
     requires there { AreLegal there.now }
     requires back { AreLegal back.now }
     ensures { Decides result (ReturnAll there.now back.now) }
 {
-    lost_item(there, back).is_none()
+    lost_item(there, back, starts).is_none()
 }
 
 /// Whether moves back bring back all that moves there take, and the records stand in one way: all that is asked of moves that lose nothing, but that
@@ -188,14 +200,20 @@ pub fn returns(there: &MovesBetween<'_>, back: &MovesBetween<'_>) -> bool
     if !stand_one_way(&back.layouts) {
         return false;
     }
-    if !are_simple(there) {
+    let mut noted_there = [None; MOST_BYTES];
+    let mut noted_back = [None; MOST_BYTES];
+    if !are_simple(there, &mut noted_there) {
         return false;
     }
-    if !are_simple(back) {
+    if !are_simple(back, &mut noted_back) {
         return false;
     }
     if !are_all_named(there, back) {
         return false;
     }
-    return_all(there, back)
+    let starts = Starts {
+        there: &noted_there,
+        back: &noted_back,
+    };
+    return_all(there, back, &starts)
 }

@@ -1,11 +1,12 @@
 //! Whether no occurrence receives twice.
 
-ghost use Rattle.std.specs.Prelude.{◌≡◌, IsTrue};
+ghost use Rattle.std.specs.Prelude.{◌≡◌, IsFalse, IsTrue};
 ghost use Rattle.std.specs.Bool.{Decides};
 ghost use Rattle.std.specs.List.{AllByRecursion};
 ghost use Rattle.cob_codec.specs.declared.reading.Reading.{Reading as Read};
 ghost use Rattle.cob_layout_places.specs.Moves.{Records, Sender};
 ghost use Rattle.cob_move_returns.specs.Singles.{ReceiveOnce};
+ghost use Rattle.cob_move_lossless.specs.Brought.{singles_in};
 ghost use Rattle.cob_move_lossless.specs.Received.{
   IsElsewhere,
   IsOther,
@@ -20,7 +21,8 @@ ghost use Rattle.cob_move_lossless.specs.Received.{
   singles_to,
 };
 
-use crate::ascend::ascend;
+use crate::noted::note_all;
+use crate::some::MovesBetween;
 use cob_layout_places::{NumberedPair, PairMoves, Ref, StatementMoves};
 
 /// Whether the last ones of two lists of subscripts differ.
@@ -187,8 +189,9 @@ fn statement_once(statement: &StatementMoves, behind: &[StatementMoves]) -> bool
     }
 }
 
-/// Whether no occurrence receives twice in the single moves of statements, each compared with those behind it, until two are one.
-fn receive_once_compared(statements: &[StatementMoves]) -> bool
+/// Whether no occurrence receives twice in the single moves of statements: each is compared with those behind it, until two are one. It takes no
+/// memory.
+pub fn receive_once(statements: &[StatementMoves]) -> bool
     ensures { (x : Read) (r : Records) → Decides result
         (ReceiveOnce (singles_by x r statements.now)) }
 {
@@ -202,11 +205,27 @@ fn receive_once_compared(statements: &[StatementMoves]) -> bool
     true
 }
 
-/// Whether no occurrence receives twice in the single moves of statements. Receivers that ascend, as those of a table moved element by element do, are
-/// gone through once; others are compared with each other. It takes no memory.
-pub fn receive_once(statements: &[StatementMoves]) -> bool
-    ensures { (x : Read) (r : Records) → Decides result
-        (ReceiveOnce (singles_by x r statements.now)) }
+/// Whether no receiver of the statement with this number receives again, in it or in the statements behind it.
+fn once_from(statements: &[StatementMoves], number: usize) -> bool
+    ensures { IsFalse result → (x : Read) (r : Records) → ReceiveOnce (singles_by x r statements.now) → ⊥ }
 {
-    ascend(statements) || receive_once_compared(statements)
+    let (_, from) = statements.split_at(number.min(statements.len()));
+    match from.split_first() {
+        Some((statement, behind)) => statement_once(statement, behind),
+        None => true,
+    }
+}
+
+/// Whether no occurrence receives twice in moves, the receivers of which are noted, so that a search for one finds its statement. Those that begin each
+/// at a byte of its own, as the items of a record that stands in one way do, are not compared. Where two begin at one byte, the statement of the
+/// first one is compared first, and all are compared only where it tells nothing.
+pub(crate) fn receive_once_in(moves: &MovesBetween<'_>, noted: &mut [Option<u32>]) -> bool
+    ensures { Decides result (ReceiveOnce (singles_in moves.now)) }
+{
+    match note_all(noted, moves.layouts.output, moves.statements) {
+        None => true,
+        Some(statement) => {
+            once_from(moves.statements, statement as usize) && receive_once(moves.statements)
+        }
+    }
 }

@@ -10,13 +10,20 @@ ghost use Rattle.cob_move_lossless.specs.Brought.{AreLegal, Carries, IsFine, Los
 ghost use Rattle.cob_move_lossless.specs.Received.{occurrence};
 ghost use Rattle.cob_move_lossless.specs.Tested.{AreSound, IsSingle, ref_of, single_of};
 
-use crate::lossless::Way;
+use crate::noted::noted_for;
 use crate::once::are_same_subscripts;
 use crate::single::{Element, Layouts, Sent, Single, kind_of};
-use crate::some::{Condition, MovesBetween, Starts, some_meets};
+use crate::some::{Condition, MovesBetween, some_meets};
 use crate::wider::loses_nothing;
 use cob_copybook_tree::{Item, Kind};
 use cob_layout_places::Side;
+
+/// What is noted of the receivers of moves there and of moves back: where a search for one begins.
+#[derive(Clone, Copy)]
+pub(crate) struct Starts<'a> {
+    pub(crate) there: &'a [Option<u32>],
+    pub(crate) back: &'a [Option<u32>],
+}
 
 /// An occurrence of an item: the number of its entry, and its subscripts.
 #[derive(Clone, Copy)]
@@ -28,15 +35,17 @@ pub(crate) struct ItemElement<'a> {
 
 /// That a single move carries an occurrence of an item to another one, which loses nothing of it.
 #[derive(Clone, Copy)]
-struct Carried<'a> {
+struct Carried<'a, 'b> {
     from: ItemElement<'a>,
-    to: Element<'a>,
+    to: Element<'b>,
 }
 
 /// That a single move brings an occurrence of an item home: one there carries it to where this one comes from.
 #[derive(Clone, Copy)]
 struct BroughtHome<'a> {
     there: &'a MovesBetween<'a>,
+    /// What is noted of the moves there.
+    noted: &'a [Option<u32>],
     to: ItemElement<'a>,
 }
 
@@ -87,7 +96,7 @@ fn loses_nothing_at(layouts: &Layouts<'_>, element: &Element<'_>, item: &Item) -
 
 /// Whether a single move that goes from this element to where it is to be carried carries the occurrence.
 fn is_carried_from(
-    carried: &Carried<'_>,
+    carried: &Carried<'_, '_>,
     layouts: &Layouts<'_>,
     single: &Single<'_>,
     from: &Element<'_>,
@@ -104,12 +113,12 @@ fn is_carried_from(
     loses_nothing_at(layouts, &single.receiver, carried.from.item)
 }
 
-impl Condition for Carried<'_> {
+impl Condition for Carried<'_, '_> {
     ghost met = { λ c s. Carries c s };
 
     ghost ready = { λ c. Unit {0} };
 
-    fn is_met(&self, layouts: &Layouts<'_>, single: &Single<'_>, _starts: &mut Starts) -> bool {
+    fn is_met(&self, layouts: &Layouts<'_>, single: &Single<'_>) -> bool {
         let to = self.to.subscripts.as_slice();
         match origin(layouts, single, self.to.number, to) {
             None => false,
@@ -124,7 +133,8 @@ impl Condition for BroughtHome<'_> {
 
     ghost ready = { λ b. AreLegal b.there.now };
 
-    fn is_met(&self, layouts: &Layouts<'_>, single: &Single<'_>, starts: &mut Starts) -> bool {
+    fn is_met(&self, layouts: &Layouts<'_>, single: &Single<'_>) -> bool {
+        let there = self.there;
         match origin(layouts, single, self.to.number, self.to.subscripts) {
             None => false,
             Some(away) => some_meets(
@@ -132,9 +142,13 @@ impl Condition for BroughtHome<'_> {
                     from: self.to,
                     to: away,
                 },
-                self.there,
-                Way::There,
-                starts,
+                there,
+                noted_for(
+                    self.noted,
+                    there.layouts.output,
+                    away.number,
+                    away.subscripts.as_slice(),
+                ),
             ),
         }
     }
@@ -145,7 +159,7 @@ pub(crate) fn is_returned(
     there: &MovesBetween<'_>,
     back: &MovesBetween<'_>,
     element: &ItemElement<'_>,
-    starts: &mut Starts,
+    starts: &Starts<'_>,
 ) -> bool
     requires there { AreLegal there.now }
     requires back { AreLegal back.now }
@@ -155,10 +169,15 @@ pub(crate) fn is_returned(
     some_meets(
         &BroughtHome {
             there,
+            noted: starts.there,
             to: *element,
         },
         back,
-        Way::Back,
-        starts,
+        noted_for(
+            starts.back,
+            back.layouts.output,
+            element.number,
+            element.subscripts,
+        ),
     )
 }

@@ -10,8 +10,8 @@ ghost use Rattle.cob_layout_places.specs.Lengths.{AreLeaves};
 ghost use Rattle.cob_move_lossless.specs.Brought.{AllReturned, AreLegal, IsFine, IsLostItem, singles_in};
 ghost use Rattle.cob_move_lossless.specs.Walk.{AllFine, ElementHas, EntryHas, HasItem, IsLostEntry};
 
-use crate::returned::{ItemElement, is_returned};
-use crate::some::{MovesBetween, Starts};
+use crate::returned::{ItemElement, Starts, is_returned};
+use crate::some::MovesBetween;
 use arrayvec::ArrayVec;
 use cob_copybook_tree::{Item, Kind, Node};
 use cob_layout_places::is_table;
@@ -28,7 +28,7 @@ fn lost_item(
     entry: &Node,
     item: &Item,
     subscripts: &[u32],
-    starts: &mut Starts,
+    starts: &Starts<'_>,
 ) -> Option<usize>
     requires there { AreLegal there.now }
     requires back { AreLegal back.now }
@@ -61,7 +61,7 @@ fn lost_in_element(
     back: &MovesBetween<'_>,
     entry: &Node,
     subscripts: &mut Subscripts,
-    starts: &mut Starts,
+    starts: &Starts<'_>,
 ) -> Option<usize>
     requires there { AreLegal there.now }
     requires back { AreLegal back.now }
@@ -89,7 +89,7 @@ fn lost_in_entry(
     back: &MovesBetween<'_>,
     entry: &Node,
     subscripts: &mut Subscripts,
-    starts: &mut Starts,
+    starts: &Starts<'_>,
 ) -> Option<usize>
     requires there { AreLegal there.now }
     requires back { AreLegal back.now }
@@ -127,7 +127,7 @@ fn lost_in_entries(
     back: &MovesBetween<'_>,
     entries: &[Node],
     subscripts: &mut Subscripts,
-    starts: &mut Starts,
+    starts: &Starts<'_>,
 ) -> Option<usize>
     requires there { AreLegal there.now }
     requires back { AreLegal back.now }
@@ -153,6 +153,7 @@ pub(crate) fn first_lost(
     there: &MovesBetween<'_>,
     back: &MovesBetween<'_>,
     root: &Node,
+    starts: &Starts<'_>,
 ) -> Option<usize>
     requires there { AreLegal there.now }
     requires back { AreLegal back.now }
@@ -163,12 +164,5 @@ pub(crate) fn first_lost(
         IsLostItem (tree_of root.now) (singles_in there.now) (singles_in back.now) r) }
 {
     let mut subscripts = ArrayVec::new();
-    let mut starts = Starts::new();
-    lost_in_entries(
-        there,
-        back,
-        slice::from_ref(root),
-        &mut subscripts,
-        &mut starts,
-    )
+    lost_in_entries(there, back, slice::from_ref(root), &mut subscripts, starts)
 }
