@@ -5,9 +5,14 @@ use Rattle.std.proofs.lemmas.Bool.Decides.{nat_tests}
 use Rattle.clap.specs.Words.{Row, Text, app_of}
 use Rattle.clap.specs.declared.builder.command.Command.{Command}
 use Rattle.clap.specs.declared.builder.command.Command.TheViews.{out-Command}
-use Rattle.cob_convert_line.specs.Lines.{HaveForms, IsCommandLineOf, IsFaultIn, LacksABlock, LacksAForm, LacksBlock, LacksForm, LacksNumber, LacksPiece, LacksSize, LacksReading, Look, NamesBlock, form_by_letter, letter_of, reading_by_word, sized_by, word_of, LacksListing}
+use Rattle.cob_convert_line.specs.Numbers.{SaysNumber}
+use Rattle.cob_convert_line.specs.Commands.{pieces_options, show_options}
+use Rattle.cob_convert_line.specs.Named.{AreAll, Look, NamesBlock, NamesBound, NamesNumber, form_by_letter, letter_of, listing_by_word, reading_by_word, sized_by, word_of, word_of_listing}
+use Rattle.cob_convert_line.specs.Faults.{HasCounts, HasForms, HasListing, HasPiece, HasSizes, IsFaultIn, LacksABlock, LacksBlock, LacksBound, LacksCount, LacksForm, LacksListing, LacksNumber, LacksPiece, LacksReading, LacksSize}
+use Rattle.cob_convert_line.specs.Lines.{IsCommandLineOf, NameForms, NamePiece}
+use Rattle.cob_convert_line.specs.declared.line.Listing.{Listing}
+use Rattle.cob_convert_line.specs.declared.line.Listing.TheVariants as listing
 use Rattle.cob_convert_line.specs.declared.fault.LineFault.{LineFault}
-use Rattle.cob_convert_line.specs.declared.fault.LineFault.TheVariants as fault
 use Rattle.cob_codec.specs.declared.reading.Reading.{Reading}
 use Rattle.cob_codec.specs.declared.reading.Reading.TheVariants.{Pictured, Whole}
 use Rattle.cob_records.specs.BlockSize.{SaysBlockSize}
@@ -76,8 +81,23 @@ has_form look name f named (letter, is, none) = true≢false (sym (ap is_some (s
     same : letter ≡ letter_of f
     same = ap (λ o. unwrap_or o letter) (sym is ∙ named)
 
-pub have_forms : (look : Look) (f g : Form) → look (codes "in-form") ≡ Some (letter_of f) → look (codes "out-form") ≡ Some (letter_of g) → HaveForms look
-have_forms look f g from to = (has_form look (codes "in-form") f from, has_form look (codes "out-form") g to)
+-- an option that names nothing names no word
+absent : (look : Look) (name word : Text) → look name ≡ None → look name ≡ Some word → ⊥
+absent look name word none is = true≢false (sym (ap is_some (sym none ∙ is)))
+
+pub no_form : (look : Look) (name : Text) → look name ≡ None → LacksForm look name → ⊥
+no_form look name none lacks = absent look name lacks.0 none lacks.1
+
+-- none of the options for a form lacks one
+pub has_forms : (look : Look) → (LacksForm look (codes "form") → ⊥) → (LacksForm look (codes "in-form") → ⊥) → (LacksForm look (codes "out-form") → ⊥) → HasForms look
+has_forms look one two three (name, is, lacks) = elim is [
+  | inl e ↦ one (subst (LacksForm look) e lacks)
+  | inr (inl e) ↦ two (subst (LacksForm look) e lacks)
+  | inr (inr e) ↦ three (subst (LacksForm look) e lacks)
+]
+
+pub both_forms : (look : Look) (f g : Form) → look (codes "form") ≡ None → look (codes "in-form") ≡ Some (letter_of f) → look (codes "out-form") ≡ Some (letter_of g) → HasForms look
+both_forms look f g none from to = has_forms look (no_form look (codes "form") none) (has_form look (codes "in-form") f from) (has_form look (codes "out-form") g to)
 
 -- the option for the reading that names one does not lack one
 pub has_reading : (look : Look) (r : Reading) → look (codes "binary") ≡ Some (word_of r) → LacksReading look → ⊥
@@ -142,21 +162,90 @@ named_sized look name f g size is named = named ∙ ap Some (sym (letter_sized s
 pub block_sized : (look : Look) (name : Text) (f g : Form) (size : ℕ) → g ≡ sized_by size f → NamesBlock look name f size → NamesBlock look name g size
 block_sized look name f g size is named = block_beside look name f g size (sym (letter_sized size f) ∙ ap letter_of (sym is)) named
 
--- what a fault is of an option that names no form, no reading, no size of blocks, or no listing
-pub of_block : (look : Look) (f : LineFault) → f ≡ fault.Block → HaveForms look → (LacksReading look → ⊥) → LacksABlock look → IsFaultIn look f
-of_block look f is have reads lacks = subst (IsFaultIn look) (sym is) (have, reads, lacks)
+-- the option for the listing that names one does not lack one
+has_listing : (look : Look) (l : Listing) → look (codes "as") ≡ Some (word_of_listing l) → LacksListing look → ⊥
+has_listing look l named (word, is, none) = true≢false (sym (ap is_some (sym none ∙ ap listing_by_word same) ∙ back l))
+  where
+    back : (l : Listing) → is_some (listing_by_word (word_of_listing l)) ≡ true
+    back listing.Text = refl
+    back listing.Json = refl
+    back listing.Csv = refl
 
-pub of_piece : (look : Look) (f : LineFault) → f ≡ fault.Piece → HaveForms look → (LacksReading look → ⊥) → (LacksABlock look → ⊥) → LacksPiece look → IsFaultIn look f
-of_piece look f is have reads sized lacks = subst (IsFaultIn look) (sym is) (have, reads, sized, lacks)
+    same : word ≡ word_of_listing l
+    same = ap (λ o. unwrap_or o word) (sym is ∙ named)
 
-pub of_pieces : (look : Look) (f : LineFault) (form : Form) → f ≡ fault.Pieces → look (codes "form") ≡ Some (letter_of form) → LacksNumber look (codes "pieces") 1 → IsFaultIn look f
-of_pieces look f form is named lacks = subst (IsFaultIn look) (sym is) (has_form look (codes "form") form named, lacks)
+-- an option that names a number does not lack one
+pub has_number : (look : Look) (name : Text) (least number : ℕ) → NamesNumber look name least number → LacksNumber look name least → ⊥
+has_number look name least number (word, named, says, low) (other, is, none) =
+    none number (subst (λ (w : Text). SaysNumber w number) (ap (λ o. unwrap_or o word) (sym named ∙ is)) says) low
 
-pub of_form : (look : Look) (f : LineFault) → f ≡ fault.Form → LacksAForm look → IsFaultIn look f
-of_form look f is lacks = subst (IsFaultIn look) (sym is) lacks
+pub has_bound : (look : Look) (name : Text) (most : Option ℕ) → NamesBound look name most → LacksBound look name → ⊥
+has_bound look name None named (word, is, other, none) = other (ap (λ o. unwrap_or o word) (sym is ∙ named))
+has_bound look name (Some number) (word, named, says, low) (other, is, all, none) =
+    none number (subst (λ (w : Text). SaysNumber w number) (ap (λ o. unwrap_or o word) (sym named ∙ is)) says)
 
-pub of_reading : (look : Look) (f : LineFault) → f ≡ fault.Reading → HaveForms look → LacksReading look → IsFaultIn look f
-of_reading look f is have lacks = subst (IsFaultIn look) (sym is) (have, lacks)
+has_piece : (look : Look) (from : ℕ) (bytes : Option ℕ) (first : ℕ) → NamePiece look from bytes first → LacksPiece look → ⊥
+has_piece look from bytes first h (inl lacks) = has_number look (codes "from") 0 from h.offset lacks
+has_piece look from bytes first h (inr (inl lacks)) = has_bound look (codes "bytes") bytes h.size lacks
+has_piece look from bytes first h (inr (inr lacks)) = has_number look (codes "record") 1 first h.number lacks
 
-pub of_listing : (look : Look) (f : LineFault) → f ≡ fault.Listing → (LacksForm look (codes "form") → ⊥) → LacksListing look → IsFaultIn look f
-of_listing look f is fine lacks = subst (IsFaultIn look) (sym is) (fine, lacks)
+-- where the forms of both files are named, nothing is wrong before a listing
+pub before_listing : (look : Look) (f g : Form) (m n : ℕ) (r : Reading) → look (codes "form") ≡ None → NameForms look f g m n r → HasSizes look
+before_listing look f g m n r none h = (
+  (both_forms look f g none h.in_letter h.out_letter, has_reading look r h.word),
+  have_blocks look f g m n h.in_letter h.out_letter h.in_size h.out_size,
+)
+
+-- nor before a piece where there is no listing, nor before a number of records where the piece is named
+pub before_piece : (look : Look) → look (codes "as") ≡ None → HasSizes look → HasListing look
+before_piece look none before = (before, λ lacks. absent look (codes "as") lacks.0 none lacks.1)
+
+pub before_counts : (look : Look) (from : ℕ) (bytes : Option ℕ) (first : ℕ) → NamePiece look from bytes first → HasListing look → HasPiece look
+before_counts look from bytes first h before = (before, has_piece look from bytes first h)
+
+-- nor where one form is named, and the options before are not there
+one_form : (look : Look) (f : Form) → look (codes "form") ≡ Some (letter_of f) → look (codes "in-form") ≡ None → look (codes "out-form") ≡ None
+    → look (codes "binary") ≡ None → HasSizes look
+one_form look f named from to binary = (
+  (
+    has_forms look (has_form look (codes "form") f named) (no_form look (codes "in-form") from) (no_form look (codes "out-form") to),
+    λ lacks. absent look (codes "binary") lacks.0 binary lacks.1,
+  ),
+  λ lacks. elim lacks [
+    | inl block ↦ absent look (codes "in-form") _ from block.1
+    | inr block ↦ absent look (codes "out-form") _ to block.1
+  ],
+)
+
+no_piece : (look : Look) → look (codes "from") ≡ None → look (codes "bytes") ≡ None → look (codes "record") ≡ None → LacksPiece look → ⊥
+no_piece look from bytes first (inl lacks) = absent look (codes "from") lacks.0 from lacks.1
+no_piece look from bytes first (inr (inl lacks)) = absent look (codes "bytes") lacks.0 bytes lacks.1
+no_piece look from bytes first (inr (inr lacks)) = absent look (codes "record") lacks.0 first lacks.1
+
+no_count : (look : Look) → look (codes "skip") ≡ None → look (codes "records") ≡ None → look (codes "most-rejects") ≡ None → LacksCount look → ⊥
+no_count look skip records most (inl lacks) = absent look (codes "skip") lacks.0 skip lacks.1
+no_count look skip records most (inr (inl lacks)) = absent look (codes "records") lacks.0 records lacks.1
+no_count look skip records most (inr (inr lacks)) = absent look (codes "most-rejects") lacks.0 most lacks.1
+
+pub show_form : (look : Look) (f : Form) → AreAll show_options look → look (codes "form") ≡ Some (letter_of f) → HasSizes look
+show_form look f all named = one_form look f named (all (codes "in-form") refl) (all (codes "out-form") refl) (all (codes "binary") refl)
+
+pub show_listing : (look : Look) (f : Form) (l : Listing) → AreAll show_options look → look (codes "form") ≡ Some (letter_of f) → look (codes "as") ≡ Some (word_of_listing l)
+    → HasPiece look
+show_listing look f l all named listed = (
+  (show_form look f all named, has_listing look l listed),
+  no_piece look (all (codes "from") refl) (all (codes "bytes") refl) (all (codes "record") refl),
+)
+
+pub pieces_form : (look : Look) (f : Form) → AreAll pieces_options look → look (codes "form") ≡ Some (letter_of f) → HasCounts look
+pieces_form look f all named = (
+  (
+    before_piece look (all (codes "as") refl) (one_form look f named (all (codes "in-form") refl) (all (codes "out-form") refl) (all (codes "binary") refl)),
+    no_piece look (all (codes "from") refl) (all (codes "bytes") refl) (all (codes "record") refl),
+  ),
+  no_count look (all (codes "skip") refl) (all (codes "records") refl) (all (codes "most-rejects") refl),
+)
+
+-- a fault that is one of the options
+pub fault_is : (look : Look) (told kind : LineFault) → told ≡ kind → IsFaultIn look kind → IsFaultIn look told
+fault_is look told kind is h = subst (IsFaultIn look) (sym is) h

@@ -15,7 +15,7 @@ use Rattle.clap.specs.declared.error.kind.ErrorKind.TheVariants.{MissingRequired
 use Rattle.clap.specs.declared.parser.matches.ValueSource.{ValueSource}
 use Rattle.clap.specs.declared.parser.matches.ValueSource.TheVariants.{CommandLine, DefaultValue}
 use Rattle.clap.specs.declared.builder.value_parser.Reading.TheVariants.{AsWritten}
-use Rattle.cob_convert_line.specs.Options.{Alone, AreOptions, AreThere, Default, Given, IsThere, Kind, Options, Request, Required, default_of, found_at, taken}
+use Rattle.cob_convert_line.specs.Options.{Alone, AreOptions, AreThere, Default, Given, IsThere, Kind, Optional, Options, Request, Required, default_of, found_at, taken}
 use Rattle.cob_convert_line.proofs.Rules.{rule_from, rules_from, same_text}
 use Rattle.cob_convert_line.proofs.Rows.{add_row, given_row}
 use Rattle.cob_convert_line.proofs.Turns.{at, hold, leaf_shape, not_nil, or_else_first}
@@ -52,12 +52,12 @@ find_entry name (e ∷ E) = go (bytes_eq e.0 name) (find_entry name E)
     go false later = later
 
 -- the entry of an option that is not given
-abbrev default_entry : Text → Kind → Option Entry
+abbrev pub default_entry : Text → Kind → Option Entry
 default_entry name (Default value) = Some (name, value, DefaultValue)
 default_entry name Alone = Some (name, codes "false", DefaultValue)
 default_entry name _ = None
 
-abbrev pick : Bool → Option Entry → Option Entry
+abbrev pub pick : Bool → Option Entry → Option Entry
 pick b e = cond b e None
 
 abbrev pub defaults_in : Text → Options → Option Entry
@@ -85,6 +85,7 @@ given_keeps n kind os E there later = (later.0, ap (λ rows. fold with_default r
     same : (kind : Kind) → with_default (map entry_row E) (rule_from n kind) ≡ map entry_row E
     same Required = rw there refl
     same (Default value) = rw there refl
+    same Optional = rw there refl
     same Alone = rw there refl
     same Request = rw there refl
 
@@ -139,6 +140,7 @@ with_defaults (o ∷ os) E = go o.0 o.1 (has_row o.0 (map entry_row E)) refl (λ
     go n (Default v) false new later = default_added n (Default v) os E (n, v, DefaultValue)
         (ap (λ b. cond b (map entry_row E) (at_row n (more_values DefaultValue (v ∷ [])) (entry_row (n, v, DefaultValue) ∷ []) (map entry_row E))) new
         ∙ added_row n v (more_values DefaultValue (v ∷ [])) E new) refl refl (later (E ++ (n, v, DefaultValue) ∷ []))
+    go n Optional false new later = nothing_added n Optional os E (rw new refl) refl (later E)
     go n Alone false new later = default_added n Alone os E (n, codes "false", DefaultValue)
         (ap (λ b. cond b (map entry_row E) (at_row n (more_values DefaultValue (codes "false" ∷ [])) (entry_row (n, codes "false", DefaultValue) ∷ []) (map entry_row E))) new
         ∙ added_row n (codes "false") (more_values DefaultValue (codes "false" ∷ [])) E new) refl refl (later (E ++ (n, codes "false", DefaultValue) ∷ []))
@@ -203,6 +205,7 @@ nothing_lacks all (o ∷ os) given there = go o.0 o.1 there.0 (nothing_lacks all
         → list_any (λ a. a.required && not (is_given a.id (rows_of_given all given))) (rule_from n kind ∷ rules_from os) ≡ false
     go n Required is later = ap₂ (λ b d. not b || d) (given_is_there all given n is.0 is.1) later
     go n (Default v) is later = later
+    go n Optional is later = later
     go n Alone is later = later
     go n Request is later = later
 
@@ -216,6 +219,8 @@ defaults_pass (o ∷ os) rows = ap₂ or_else (one o.0 o.1 (has_row o.0 rows) re
     one n Required false e = rw e refl
     one n (Default v) true e = rw e refl
     one n (Default v) false e = rw e refl
+    one n Optional true e = rw e refl
+    one n Optional false e = rw e refl
     one n Alone true e = rw e refl
     one n Alone false e = rw e refl
     one n Request true e = rw e refl
@@ -278,6 +283,7 @@ by_default name (o ∷ os) = go o.0 o.1 (bytes_eq o.0 name) (by_default name os)
     go n kind false later = later
     go n Required true later = later
     go n (Default v) true later = refl
+    go n Optional true later = later
     go n Alone true later = refl
     go n Request true later = later
 
@@ -313,6 +319,7 @@ none_lack all (o ∷ os) given passed = go o.0 o.1 (none_lack all os given) pass
         → list_any (λ a. a.required && not (is_given a.id (rows_of_given all given))) (rule_from n kind ∷ rules_from os) ≡ false → AreThere ((n, kind) ∷ os) given
     go n Required later e = let both = given_true _ _ e in (there_is_given all given n both.0, later both.1)
     go n (Default v) later e = (tt, later e)
+    go n Optional later e = (tt, later e)
     go n Alone later e = (tt, later e)
     go n Request later e = (tt, later e)
 

@@ -5,7 +5,7 @@ pub mod Turns
 pub mod Forms
 pub mod Walks
 pub mod Level
+pub mod Looks
 pub mod Top
 pub mod Said
 pub mod Apps
-pub mod Spelled

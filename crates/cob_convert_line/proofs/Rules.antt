@@ -6,7 +6,7 @@ use Rattle.clap.specs.Walk.{Rule, Text, arg_by_id, arg_by_index, arg_by_long, ar
 use Rattle.clap.specs.Simple.{filled, help_rule, new_rule}
 use Rattle.clap.specs.declared.builder.action.ArgAction.TheVariants.{Set, SetTrue}
 use Rattle.clap.specs.declared.builder.value_parser.ValueParser.TheVariants as vp
-use Rattle.cob_convert_line.specs.Options.{Alone, Default, Kind, Options, Request, Required, found_at}
+use Rattle.cob_convert_line.specs.Options.{Alone, Default, Kind, Optional, Options, Request, Required, found_at}
 
 -- an option with a value
 abbrev pub valued_rule : Text → Bool → List Text → Rule
@@ -39,6 +39,7 @@ request_rule name = record (filled help_rule) { id = name; long = Some name }
 abbrev pub rule_from : Text → Kind → Rule
 rule_from name Required = valued_rule name true []
 rule_from name (Default value) = valued_rule name false (value ∷ [])
+rule_from name Optional = valued_rule name false []
 rule_from name Alone = flag_rule name
 rule_from name Request = request_rule name
 
@@ -74,6 +75,7 @@ by_id os name = find_rule (λ a. bytes_eq a.id name) name each os
     each : (n : Text) (kind : Kind) → bytes_eq (rule_from n kind).id name ≡ bytes_eq n name
     each n Required = refl
     each n (Default value) = refl
+    each n Optional = refl
     each n Alone = refl
     each n Request = refl
 
@@ -83,6 +85,7 @@ by_long os name = find_rule (λ a. not (is_some a.index) && has_long a name) nam
     each : (n : Text) (kind : Kind) → (not (is_some (rule_from n kind).index) && has_long (rule_from n kind) name) ≡ bytes_eq n name
     each n Required = or_false (bytes_eq n name)
     each n (Default value) = or_false (bytes_eq n name)
+    each n Optional = or_false (bytes_eq n name)
     each n Alone = or_false (bytes_eq n name)
     each n Request = or_false (bytes_eq n name)
 
@@ -94,6 +97,7 @@ by_index (o ∷ os) i = go o.1 (by_index os i)
     go : (kind : Kind) → arg_by_index (rules_from os) i ≡ None → arg_by_index (rule_from o.0 kind ∷ rules_from os) i ≡ None
     go Required later = later
     go (Default value) later = later
+    go Optional later = later
     go Alone later = later
     go Request later = later
 
@@ -113,5 +117,6 @@ by_short (o ∷ os) x = go o.1 (by_short os x)
     go : (kind : Kind) → AsksOrNot (arg_by_short (rules_from os) x) → AsksOrNot (arg_by_short (rule_from o.0 kind ∷ rules_from os) x)
     go Required later = later
     go (Default value) later = later
+    go Optional later = later
     go Alone later = later
     go Request later = asks ((104 == x) || false) later

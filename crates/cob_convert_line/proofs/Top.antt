@@ -13,14 +13,11 @@ use Rattle.clap.proofs.FaultLemmas.{stopped_fault}
 use Rattle.clap.proofs.WalkLemmas.{walk_stopped}
 use Rattle.clap.proofs.OnLiterals.{clap_on_literals}
 use Rattle.cob_convert_line.specs.Options.{Options, found_at}
-use Rattle.cob_convert_line.specs.Lines.{commands}
+use Rattle.cob_convert_line.specs.Commands.{Commands, commands}
 use Rattle.cob_convert_line.specs.Program.{program_app}
 use Rattle.cob_convert_line.proofs.Rules.{rules_from, same_text}
 use Rattle.cob_convert_line.proofs.Turns.{dashes, leaf_shape, not_nil, or_else_first, or_else_next}
 use Rattle.cob_convert_line.proofs.Forms.{Form, IsPlain, form_of, hyphens, letters, option, value}
-
-abbrev pub Commands : Type 0
-Commands = List (Text × Options)
 
 abbrev subs_from : Commands → List Shape
 subs_from [] = []

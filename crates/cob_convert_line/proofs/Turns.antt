@@ -9,7 +9,7 @@ use Rattle.clap.specs.Simple.{Shape, new_shape}
 use Rattle.clap.specs.Kinds.{Kinds, or_else}
 use Rattle.clap.specs.Faults.{bundle_fault, bundle_step_fault, flag_word_fault, flags_fault, long_fault, react_fault, settle_fault, short_fault, turn_fault}
 use Rattle.clap.specs.declared.error.kind.ErrorKind.TheVariants.{InvalidValue, UnknownArgument}
-use Rattle.cob_convert_line.specs.Options.{Alone, Default, Kind, Options, Request, Required, found_at, stands_alone, takes_value}
+use Rattle.cob_convert_line.specs.Options.{Alone, Default, Kind, Optional, Options, Request, Required, found_at, stands_alone, takes_value}
 use Rattle.cob_convert_line.proofs.Rules.{AsksOrNot, by_id, by_index, by_long, by_short, flag_rule, same_as_itself, rule_from, rules_from, valued_rule}
 
 -- a built command with these options, and with no command below it
@@ -68,6 +68,7 @@ module _ (command : Text) (os : Options) where
       go None is takes = absurd (true≢false (sym takes))
       go (Some Required) is takes = rw (other, long, by_long os n, is) refl
       go (Some (Default value)) is takes = rw (other, long, by_long os n, is) refl
+      go (Some Optional) is takes = rw (other, long, by_long os n, is) refl
       go (Some Alone) is takes = absurd (true≢false (sym takes))
       go (Some Request) is takes = absurd (true≢false (sym takes))
 
@@ -81,6 +82,7 @@ module _ (command : Text) (os : Options) where
       go None is takes = absurd (true≢false (sym takes))
       go (Some Required) is takes = rw (other, long, by_long os n, is) refl
       go (Some (Default value)) is takes = rw (other, long, by_long os n, is) refl
+      go (Some Optional) is takes = rw (other, long, by_long os n, is) refl
       go (Some Alone) is takes = absurd (true≢false (sym takes))
       go (Some Request) is takes = absurd (true≢false (sym takes))
 
@@ -100,6 +102,7 @@ module _ (command : Text) (os : Options) where
       go None is takes = absurd (true≢false (sym takes))
       go (Some Required) is takes = (true, [], rw (other, long, by_long os n, is) refl, rw (other, long, by_long os n, is) refl)
       go (Some (Default d)) is takes = (false, d ∷ [], rw (other, long, by_long os n, is) refl, rw (other, long, by_long os n, is) refl)
+      go (Some Optional) is takes = (false, [], rw (other, long, by_long os n, is) refl, rw (other, long, by_long os n, is) refl)
       go (Some Alone) is takes = absurd (true≢false (sym takes))
       go (Some Request) is takes = absurd (true≢false (sym takes))
 
@@ -117,6 +120,7 @@ module _ (command : Text) (os : Options) where
       go None is alone = absurd (true≢false (sym alone))
       go (Some Required) is alone = absurd (true≢false (sym alone))
       go (Some (Default value)) is alone = absurd (true≢false (sym alone))
+      go (Some Optional) is alone = absurd (true≢false (sym alone))
       go (Some Alone) is alone = (rw (other, long, by_long os n, is) refl, rw (other, long, by_long os n, is) refl)
       go (Some Request) is alone = absurd (true≢false (sym alone))
 
@@ -139,6 +143,7 @@ module _ (command : Text) (os : Options) where
       refused None value takes alone e = not_nil _ _ e
       refused (Some Required) value takes alone e = true≢false takes
       refused (Some (Default d)) value takes alone e = true≢false takes
+      refused (Some Optional) value takes alone e = true≢false takes
       refused (Some Alone) None takes alone e = true≢false (alone refl)
       refused (Some Alone) (Some v) takes alone e = not_nil _ _ e
       refused (Some Request) None takes alone e = not_nil _ _ (or_else_next (settle_fault c false h) _ e)
@@ -180,6 +185,7 @@ module _ (command : Text) (os : Options) where
       go None is takes = absurd (true≢false (sym takes))
       go (Some Required) is takes = (rw (other, long, short) refl, rw (other, long, short, by_id os n, is, same_as_itself n) refl)
       go (Some (Default d)) is takes = (rw (other, long, short) refl, rw (other, long, short, by_id os n, is, same_as_itself n) refl)
+      go (Some Optional) is takes = (rw (other, long, short) refl, rw (other, long, short, by_id os n, is, same_as_itself n) refl)
       go (Some Alone) is takes = absurd (true≢false (sym takes))
       go (Some Request) is takes = absurd (true≢false (sym takes))
 
@@ -194,6 +200,7 @@ module _ (command : Text) (os : Options) where
       go None is takes = absurd (true≢false (sym takes))
       go (Some Required) is takes = (rw (other, long, short, letter) refl, rw (other, long, short, letter, by_id os n, is, same_as_itself n) refl)
       go (Some (Default d)) is takes = (rw (other, long, short, letter) refl, rw (other, long, short, letter, by_id os n, is, same_as_itself n) refl)
+      go (Some Optional) is takes = (rw (other, long, short, letter) refl, rw (other, long, short, letter, by_id os n, is, same_as_itself n) refl)
       go (Some Alone) is takes = absurd (true≢false (sym takes))
       go (Some Request) is takes = absurd (true≢false (sym takes))
 
@@ -205,6 +212,7 @@ module _ (command : Text) (os : Options) where
       go None is takes = absurd (true≢false (sym takes))
       go (Some Required) is takes = not_nil InvalidValue [] (sym (rw (by_id os n, is) refl) ∙ passed)
       go (Some (Default d)) is takes = not_nil InvalidValue [] (sym (rw (by_id os n, is) refl) ∙ passed)
+      go (Some Optional) is takes = not_nil InvalidValue [] (sym (rw (by_id os n, is) refl) ∙ passed)
       go (Some Alone) is takes = absurd (true≢false (sym takes))
       go (Some Request) is takes = absurd (true≢false (sym takes))
 

@@ -10,7 +10,7 @@ use Rattle.clap.specs.Simple.{Shape}
 use Rattle.clap.specs.Kinds.{Kinds, or_else}
 use Rattle.clap.specs.Faults.{flag_word_fault, long_fault, settle_fault, turn_fault, use_fault, walk_fault}
 use Rattle.clap.specs.declared.error.kind.ErrorKind.TheVariants.{ArgumentConflict}
-use Rattle.cob_convert_line.specs.Options.{Alone, AreOptions, Default, Given, Kind, Options, Request, Required, alone, apart, ended, found_at, is_value, joined, none, option_word, stands_alone, takes_value}
+use Rattle.cob_convert_line.specs.Options.{Alone, AreOptions, Default, Given, Kind, Optional, Options, Request, Required, alone, apart, ended, found_at, is_value, joined, none, option_word, stands_alone, takes_value}
 use Rattle.cob_convert_line.proofs.Rules.{by_id, by_long, flag_rule, or_false, rule_from, rules_from, same_as_itself, same_text, valued_rule}
 use Rattle.cob_convert_line.proofs.Rows.{flag_fault, given_row, has_added, used_flag, used_valued, valued_fault}
 use Rattle.cob_convert_line.proofs.Turns as turn
@@ -140,6 +140,7 @@ module _ (command : Text) (os : Options) where
       go None is takes = absurd (true≢false (sym takes))
       go (Some Required) is takes = by true [] (by_id os n ∙ ap (option_map (rule_from n)) is)
       go (Some (Default d)) is takes = by false (d ∷ []) (by_id os n ∙ ap (option_map (rule_from n)) is)
+      go (Some Optional) is takes = by false [] (by_id os n ∙ ap (option_map (rule_from n)) is)
       go (Some Alone) is takes = absurd (true≢false (sym takes))
       go (Some Request) is takes = absurd (true≢false (sym takes))
 
@@ -154,7 +155,9 @@ module _ (command : Text) (os : Options) where
       refused (Some Required) None e = bare e
       refused (Some Required) (Some v) e = bare (or_else_first _ _ e)
       refused (Some (Default d)) None e = bare e
+      refused (Some Optional) None e = bare e
       refused (Some (Default d)) (Some v) e = bare (or_else_first _ _ e)
+      refused (Some Optional) (Some v) e = bare (or_else_first _ _ e)
       refused (Some Alone) None e = bare (or_else_first _ _ e)
       refused (Some Alone) (Some v) e = not_nil _ _ e
       refused (Some Request) None e = bare (or_else_first _ _ e)
@@ -330,11 +333,11 @@ name_of_some (o ∷ os) name names there = go (bytes_eq o.0 name) refl (name_of_
         (split.0, split.1, sym same ∙ split.2, subst (Lacks 61) same (lacks_of o.0 names.0.1))
     go false e later = later (sym (ap (λ b. is_some (option_map (λ (it : Text × Kind). it.1) (cond b (Some o) (find (λ it. bytes_eq it.0 name) os)))) e) ∙ there)
 
-takes_some : (found : Option Kind) → takes_value found ≡ true → is_some found ≡ true
+pub takes_some : (found : Option Kind) → takes_value found ≡ true → is_some found ≡ true
 takes_some None e = e
 takes_some (Some kind) e = refl
 
-stands_some : (found : Option Kind) → stands_alone found ≡ true → is_some found ≡ true
+pub stands_some : (found : Option Kind) → stands_alone found ≡ true → is_some found ≡ true
 stands_some None e = e
 stands_some (Some kind) e = refl
 

@@ -1,4 +1,7 @@
 pub mod Numbers
-pub mod Program
 pub mod Options
+pub mod Commands
+pub mod Program
+pub mod Named
+pub mod Faults
 pub mod Lines

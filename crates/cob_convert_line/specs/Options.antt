@@ -4,11 +4,12 @@ use Rattle.std.specs.Option.{option_or}
 use Rattle.std.specs.Str.{bytes_eq, chars}
 use Rattle.clap.specs.Words.{Text}
 
--- How an option stands in words: with a value, and then it has to be there or has a default; alone; or in the place of a command line, as a
--- request for help.
+-- How an option stands in words: with a value, and then it has to be there, has a default, or may be left out; alone; or in the place of a command
+-- line, as a request for help.
 pub data Kind : Type 0 where
   Required : Kind
   Default : Text → Kind
+  Optional : Kind
   Alone : Kind
   Request : Kind
 
@@ -28,6 +29,7 @@ found_at name named = option_map (λ it. it.1) (find (λ it. bytes_eq it.0 name)
 abbrev pub takes_value : Option Kind → Bool
 takes_value (Some Required) = true
 takes_value (Some (Default value)) = true
+takes_value (Some Optional) = true
 takes_value _ = false
 
 -- an option that stands alone

@@ -1,5 +1,5 @@
 ghost use Rattle.std.specs.Prelude.{◌≡◌};
-ghost use Rattle.cob_convert_line.specs.Lines.{is_answer, words_fault};
+ghost use Rattle.cob_convert_line.specs.Faults.{is_answer, words_fault};
 ghost use Rattle.cob_convert_line.specs.declared.fault.LineFault.TheVariants.{Memory};
 
 use clap::error::ErrorKind;
@@ -23,9 +23,12 @@ pub enum LineFault {
     /// A greatest size of blocks that is no number of one to five digits from 8 to 32,760.
     #[error("bad block")]
     Block,
-    /// An offset, a length or a number of a record that is none.
+    /// A piece of the input whose offset, length or number of a record is none.
     #[error("bad piece")]
     Piece,
+    /// A number of records that are passed over, taken or set aside that is none.
+    #[error("bad number")]
+    Number,
     /// A number of pieces that is none, or 0.
     #[error("bad pieces")]
     Pieces,
@@ -70,6 +73,7 @@ impl LineFault {
             | LineFault::Reading
             | LineFault::Block
             | LineFault::Piece
+            | LineFault::Number
             | LineFault::Pieces
             | LineFault::Listing
             | LineFault::NotText

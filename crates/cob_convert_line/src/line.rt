@@ -18,6 +18,16 @@ pub enum Line<'a> {
     Pieces(PiecesLine<'a>),
     /// Says whether a second paragraph brings back all that a first one takes.
     Lossless(LosslessLine<'a>),
+    /// Says of one record what each single move does with it.
+    Explain(ExplainLine<'a>),
+    /// Writes a paragraph to begin with.
+    Draft(DraftLine<'a>),
+    /// Draws both records and the moves between them.
+    Map(MapLine<'a>),
+    /// Prints what the shell needs to complete command lines.
+    Completion,
+    /// Prints the manual page.
+    Manual,
 }
 
 /// How the values of records are listed.
@@ -62,8 +72,16 @@ pub struct ConvertLine<'a> {
     pub from: u64,
     /// How many bytes of the input are converted, where they are not all that are left.
     pub bytes: Option<u64>,
-    /// The number from which records are counted: that of the first one that is converted.
+    /// The number from which records are counted: that of the first one of those bytes.
     pub first: u64,
+    /// How many records of those bytes are passed over.
+    pub skip: u64,
+    /// How many records behind these are converted at most, where it is not all.
+    pub records: Option<u64>,
+    /// The file that the records go to that do not convert, where the run goes on behind them.
+    pub rejects: Option<&'a str>,
+    /// How many records may be set aside, where there is a bound.
+    pub most_rejects: Option<u64>,
 }
 
 /// The options of `check`.
@@ -75,6 +93,8 @@ pub struct CheckLine<'a> {
     pub out_book: &'a str,
     /// The file with the paragraph.
     pub moves: &'a str,
+    /// Whether it lists what no move fills, what none takes, and what may be lost.
+    pub cover: bool,
 }
 
 /// The option of `layout`.
@@ -97,6 +117,10 @@ pub struct ShowLine<'a> {
     pub listing: Listing,
     /// Whether it tells on standard error how far it is.
     pub progress: bool,
+    /// How many records are passed over.
+    pub skip: u64,
+    /// How many records behind these are listed at most, where it is not all.
+    pub records: Option<u64>,
 }
 
 /// The options of `pieces`.
@@ -123,4 +147,63 @@ pub struct LosslessLine<'a> {
     pub there: &'a str,
     /// The file with the paragraph that converts them back.
     pub back: &'a str,
+}
+
+/// The options of `explain`.
+#[derive(Clone, Copy, Debug, PartialEq, Eq)]
+pub struct ExplainLine<'a> {
+    /// The file with the copybook of the input record.
+    pub in_book: &'a str,
+    /// The file with the copybook of the output record.
+    pub out_book: &'a str,
+    /// The file with the paragraph.
+    pub moves: &'a str,
+    /// The file that the records come from; `-` is standard input.
+    pub input: &'a str,
+    /// How the records of the input stand.
+    pub in_form: Form,
+    /// How the records of the output stand.
+    pub out_form: Form,
+    /// The greatest size of the input's blocks, where it has blocks.
+    pub in_block: u16,
+    /// The greatest size of the output's blocks, where it has blocks.
+    pub out_block: u16,
+    /// How binary items are read that are sent.
+    pub reading: Reading,
+    /// The number of the record, from 1 on.
+    pub record: u64,
+}
+
+/// The options of `draft`.
+#[derive(Clone, Copy, Debug, PartialEq, Eq)]
+pub struct DraftLine<'a> {
+    /// The file with the copybook of the input record.
+    pub in_book: &'a str,
+    /// The file with the copybook of the output record.
+    pub out_book: &'a str,
+}
+
+/// The options of `map`.
+#[derive(Clone, Copy, Debug, PartialEq, Eq)]
+pub struct MapLine<'a> {
+    /// The file with the copybook of the input record.
+    pub in_book: &'a str,
+    /// The file with the copybook of the output record.
+    pub out_book: &'a str,
+    /// The file with the paragraph.
+    pub moves: &'a str,
+    /// The file that a record comes from, where one is shown; `-` is standard input.
+    pub input: Option<&'a str>,
+    /// How the records of the input stand.
+    pub in_form: Form,
+    /// How the records of the output stand.
+    pub out_form: Form,
+    /// The greatest size of the input's blocks, where it has blocks.
+    pub in_block: u16,
+    /// The greatest size of the output's blocks, where it has blocks.
+    pub out_block: u16,
+    /// How binary items are read that are sent.
+    pub reading: Reading,
+    /// The number of the record, from 1 on.
+    pub record: u64,
 }

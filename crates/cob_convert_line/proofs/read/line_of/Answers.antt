@@ -8,8 +8,7 @@ use Rattle.cob_convert_line.specs.Lines.{IsCommandLineOf}
 use Rattle.cob_convert_line.specs.Program.{program_app}
 use Rattle.cob_convert_line.specs.declared.line.Line.{Line}
 use Rattle.cob_convert_line.proofs.Apps.{both_parts, none_said, some_said}
-use Rattle.cob_convert_line.proofs.Said.{found_by, named_by, refusal, said_by, told}
-use Rattle.cob_convert_line.proofs.Spelled.{complete_by, found_in, option_fault, words_refused}
+use Rattle.cob_convert_line.proofs.Said.{complete_by, found_by, found_in, named_by, option_fault, refusal, said_by, told, words_refused}
 use Rattle.cob_convert_line.proofs.read.line_of.Goals as goal
 
 simple : is_simple program_app ≡ true
@@ -51,7 +50,7 @@ returns-clause-options g c =
     (sym c.subcommand.ensures.rows ∙ ap (option_map (λ p. rows_of (found_of p.1.now))) c.in-Some.is) in
     let reading = ap (λ (a : App). subcommand_of a words) (sym built) ∙ sym found.1 ∙ entered in
     let passed = ap (λ (a : App). fault_of a words) (sym built) ∙ c.in_ok-matches.ensures.kinds (ap is_simple_and_free built ∙ free) in
-    IfOk-weaker c.command_line.result _ _ (λ said h. said_by words name rows said some passed reading h) c.command_line.ensures.options
+    IfOk-weaker c.command_line.result _ _ (λ said h. said_by words name rows said (found_in words name rows some passed reading) h) c.command_line.ensures.options
 
 pub returns-clause-refused : goal.returns-clause-refused
 returns-clause-refused g c =
@@ -83,7 +82,7 @@ returns-clause-fault g c =
     (sym c.subcommand.ensures.rows ∙ ap (option_map (λ p. rows_of (found_of p.1.now))) c.in-Some.is) in
     let reading = ap (λ (a : App). subcommand_of a words) (sym built) ∙ sym found.1 ∙ entered in
     let passed = ap (λ (a : App). fault_of a words) (sym built) ∙ c.in_ok-matches.ensures.kinds (ap is_simple_and_free built ∙ free) in
-    IfErr-weaker c.command_line.result _ _ (λ fault h. option_fault words name rows fault (found_in words name rows some passed reading) h) c.command_line.ensures.fault
+    IfErr-weaker c.command_line.result _ _ (λ fault h. inr (option_fault words name rows fault (found_in words name rows some passed reading) h)) c.command_line.ensures.fault
 
 pub returns-in_err-matches-clause-fault : goal.returns-in_err-matches-clause-fault
 returns-in_err-matches-clause-fault g c =
