@@ -1,3 +1,0 @@
-pub mod Converted
-pub mod Covered
-pub mod Ends
