@@ -12,24 +12,16 @@
 //! What is promised is what is decided: which entries moves join ([`ends_of`]; `ends_in` of specs/Joined.antt), and by `cob_map_places` where boxes stand,
 //! which rows of a ruler bytes take, and which moves one line stands for. Which words are printed is shown by `cob_jobs`.
 //!
-//! It stands on `cob_html` and `cob_map_places` for the page, on `cob_layout` and `cob_layout_places` for places and moves, on `cob_lossless_words` for the
-//! names of occurrences, on `cob_convert_show` for values, on `cob_copybook_tree`, `cob_picture` and `cob_decimal` for entries, and on `arrayvec`.
+//! It stands on `cob_map_boxes` and `cob_map_words` for the boxes and their words, on `cob_map_places` for places, on `cob_html` for escapes and lines, on
+//! `cob_layout`, `cob_layout_places` and `cob_copybook_tree` for records and moves, and on `cob_lossless_words` for the names of occurrences.
 #![tactic(auto)]
 
-mod boxes;
-mod constants;
-mod entries;
 mod joined;
 mod lines;
 mod lists;
-mod occurrences;
 mod page;
-mod pictures;
-mod records;
 mod singles;
 mod style;
-mod texts;
-mod values;
 
 pub use joined::ends_of;
 pub use page::{Converted, Mapping, Page, Record, TextNames};

@@ -1,11 +1,11 @@
 //! The lines between the boxes of senders and of receivers.
 
-use crate::constants::ConstantText;
 use crate::page::Page;
 use crate::singles::{Element, Sent, Single};
 use cob_html::Line;
 use cob_layout_places::Side;
 use cob_lossless_words::Named;
+use cob_map_words::ConstantText;
 use std::fmt;
 
 /// Where the lines of senders of the output record turn, in hundredths of the drawing's width.

@@ -1,12 +1,11 @@
 //! The lists below the drawing: the moves, and the bytes that no receiver covers.
 
 use crate::lines::{SentText, receiver_of};
-use crate::occurrences::spot_of;
 use crate::page::Page;
-use crate::records::{Drawn, told_length};
 use crate::singles::Single;
 use cob_layout::{Kind, Node};
 use cob_lossless_words::Named;
+use cob_map_boxes::{Drawn, spot_of, told_length};
 use cob_map_places::bare_length;
 use std::fmt;
 

@@ -1,17 +1,19 @@
 //! The page.
 
-use crate::boxes::write_boxes;
 use crate::joined::ends_of;
 use crate::lines::write_line;
 use crate::lists::{write_move, write_runs};
-use crate::records::{Contents, Drawn, draw};
 use crate::singles::{Single, singles_of};
-use crate::style::STYLE;
+use crate::style::{
+    BARE_HEAD, DRAWING_END, HEAD, KEY, LINES_END, LINES_HEAD, MOVES_HEAD, PAGE_END, SIDE_HEAD,
+    STYLE,
+};
 use cob_html::Escaped;
 use cob_layout::{Layout, Spot};
 use cob_layout_places::StatementMoves;
 use cob_lossless_words::Named;
-use cob_map_places::{Ends, ROW, count_of, is_first};
+use cob_map_boxes::{Contents, Drawn, draw, write_boxes};
+use cob_map_places::{Ends, count_of, is_first};
 use std::alloc::{AllocError, Global};
 use std::fmt;
 
@@ -188,24 +190,17 @@ fn record_name(layout: &Layout) -> Named<'_> {
     Named::new(layout.root(), 0, &[])
 }
 
-/// Writes the page's head, up to its body.
+/// Writes the page's head, and the first line of its body.
 fn write_head<W: fmt::Write>(f: &mut fmt::Formatter<W>, mapping: &Mapping<'_>) -> fmt::Result {
     let (input, output) = (record_name(mapping.input), record_name(mapping.output));
-    writeln!(f, "<!DOCTYPE html>")?;
-    writeln!(f, "<html lang=\"en\"><head><meta charset=\"utf-8\">")?;
-    writeln!(
-        f,
-        "<meta name=\"viewport\" content=\"width=device-width, initial-scale=1\">"
-    )?;
-    writeln!(f, "<title>{input} to {output}</title>")?;
-    write!(f, "<style>")?;
+    f.write_str(HEAD)?;
+    write!(f, "<title>{input} to {output}</title>\n<style>")?;
     f.write_str(STYLE)?;
-    writeln!(f, "</style></head><body>")?;
-    writeln!(f, "<h1>{input} to {output}</h1>")
+    writeln!(f, "</style></head><body>\n<h1>{input} to {output}</h1>")
 }
 
-/// Writes what the page shows: the texts, how long the records are, and how many moves there are.
-fn write_summary<W: fmt::Write>(f: &mut fmt::Formatter<W>, mapping: &Mapping<'_>) -> fmt::Result {
+/// Writes the names of the texts, and the number of the record that is shown.
+fn write_names<W: fmt::Write>(f: &mut fmt::Formatter<W>, mapping: &Mapping<'_>) -> fmt::Result {
     let names = mapping.names;
     let in_book = Escaped {
         text: names.in_book,
@@ -218,36 +213,24 @@ fn write_summary<W: fmt::Write>(f: &mut fmt::Formatter<W>, mapping: &Mapping<'_>
         f,
         "<p>in-book {in_book}, out-book {out_book}, moves {moves}"
     )?;
-    if let Some(converted) = mapping.converted {
-        write!(f, ", record {}", converted.number)?;
+    match mapping.converted {
+        Some(converted) => writeln!(f, ", record {}</p>", converted.number),
+        None => writeln!(f, "</p>"),
     }
-    writeln!(f, "</p>")?;
+}
+
+/// Writes how long the records are, how many moves there are, and what is marked.
+fn write_summary<W: fmt::Write>(f: &mut fmt::Formatter<W>, mapping: &Mapping<'_>) -> fmt::Result {
     let (from, to) = (mapping.input.greatest(), mapping.output.greatest());
+    let moves = mapping.losses.len();
+    let (bare, losing) = (count_bare(mapping.covered), count_losing(mapping.losses));
     write!(
         f,
-        "<p>in {from} bytes, out {to} bytes, single moves {}; ",
-        mapping.losses.len()
+        "<p>in {from} bytes, out {to} bytes, single moves {moves}; "
     )?;
-    let (bare, losing) = (count_bare(mapping.covered), count_losing(mapping.losses));
     writeln!(
         f,
         "bytes that no receiver covers {bare}, moves that may lose something {losing}</p>"
-    )
-}
-
-/// Writes what the signs of the drawing mean.
-fn write_key<W: fmt::Write>(f: &mut fmt::Formatter<W>) -> fmt::Result {
-    write!(
-        f,
-        "<p class=\"k\"><span><i></i>bytes of an item, in rows of {ROW}</span>"
-    )?;
-    write!(
-        f,
-        "<span><i class=\"k2\"></i>bytes that no receiver covers</span>"
-    )?;
-    writeln!(
-        f,
-        "<span><i class=\"k3\"></i>a move that may lose something</span></p>"
     )
 }
 
@@ -262,12 +245,9 @@ fn write_side<W: fmt::Write>(
         f,
         "<div class=\"side {class}\"><div class=\"h w\"><span class=\"n\">{name}</span>"
     )?;
-    writeln!(
-        f,
-        "<span class=\"o\">offset</span><span class=\"o\">bytes</span></div>"
-    )?;
+    f.write_str(SIDE_HEAD)?;
     write_boxes(f, drawn)?;
-    writeln!(f, "</div>")
+    f.write_str("</div>\n")
 }
 
 /// Writes the drawing.
@@ -285,44 +265,29 @@ fn write_drawing<W: fmt::Write>(f: &mut fmt::Formatter<W>, page: &Page<'_>) -> f
         "<div class=\"scroll\"><div class=\"{class}\" style=\"height:{height}px\">"
     )?;
     write_side(f, page.input(), "in")?;
-    write!(
-        f,
-        "<svg class=\"lines\"><defs><marker id=\"a\" viewBox=\"0 0 8 8\" refX=\"8\" refY=\"4\" "
-    )?;
-    write!(f, "markerWidth=\"7\" markerHeight=\"7\" orient=\"auto\">")?;
-    writeln!(f, "<path d=\"M0 0L8 4L0 8z\"/></marker></defs>")?;
+    f.write_str(LINES_HEAD)?;
     write_joined(f, page, Writing::Line)?;
-    writeln!(f, "</svg>")?;
+    f.write_str(LINES_END)?;
     write_side(f, page.output(), "out")?;
-    writeln!(f, "</div></div>")
+    f.write_str(DRAWING_END)
 }
 
-/// Writes the lists below the drawing.
+/// Writes the lists below the drawing, and the page's end.
 fn write_lists<W: fmt::Write>(f: &mut fmt::Formatter<W>, page: &Page<'_>) -> fmt::Result {
-    writeln!(f, "<h2>Moves</h2>")?;
-    write!(
-        f,
-        "<table><tr><th>line</th><th>from</th><th>to</th><th>moves</th>"
-    )?;
-    writeln!(f, "<th>may lose</th></tr>")?;
+    f.write_str(MOVES_HEAD)?;
     write_joined(f, page, Writing::Row)?;
-    writeln!(f, "</table>")?;
-    writeln!(f, "<h2>Bytes that no receiver covers</h2>")?;
-    writeln!(
-        f,
-        "<table><tr><th>offset</th><th>bytes</th><th>from item</th></tr>"
-    )?;
+    f.write_str(BARE_HEAD)?;
     write_runs(f, page.output())?;
-    writeln!(f, "</table>")
+    f.write_str(PAGE_END)
 }
 
 impl fmt::Display for Page<'_> {
     fn fmt<W: fmt::Write>(&self, f: &mut fmt::Formatter<W>) -> fmt::Result {
         write_head(f, &self.mapping)?;
+        write_names(f, &self.mapping)?;
         write_summary(f, &self.mapping)?;
-        write_key(f)?;
+        f.write_str(KEY)?;
         write_drawing(f, self)?;
-        write_lists(f, self)?;
-        writeln!(f, "</body></html>")
+        write_lists(f, self)
     }
 }

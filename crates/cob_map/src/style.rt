@@ -1,4 +1,4 @@
-//! The style of the page.
+//! What stands on each page: its style, and the parts of it that hold no word of the mapping.
 
 /// What is said of the page's elements, on a screen of any width and on paper.
 pub(crate) const STYLE: &str = "
@@ -47,4 +47,51 @@ td{padding:0 12px 0 0;vertical-align:top;border-top:1px solid #dde}
 @media(max-width:700px){body{margin:8px}.t{display:none}.side{width:43%}.lines{left:43%;width:14%}.o{flex-basis:5ch;margin-left:0}.h .o{flex-basis:6ch}.b,.h,text,td{font-size:10px}.rec{min-width:600px}}
 @page{size:A4 landscape;margin:10mm}
 @media print{body{margin:0;-webkit-print-color-adjust:exact;print-color-adjust:exact}.scroll{overflow:visible}h2,th{break-after:avoid}tr{break-inside:avoid}}
+";
+
+/// The beginning of the page.
+pub(crate) const HEAD: &str = "<!DOCTYPE html>
+<html lang=\"en\"><head><meta charset=\"utf-8\">
+<meta name=\"viewport\" content=\"width=device-width, initial-scale=1\">
+";
+
+/// What the signs of the drawing mean.
+pub(crate) const KEY: &str = "<p class=\"k\"><span><i></i>bytes of an item, in rows of 64</span>
+<span><i class=\"k2\"></i>bytes that no receiver covers</span>
+<span><i class=\"k3\"></i>a move that may lose something</span></p>
+";
+
+/// What stands behind the name of a record in the line above its boxes.
+pub(crate) const SIDE_HEAD: &str =
+    "<span class=\"o\">offset</span><span class=\"o\">bytes</span></div>
+";
+
+/// What stands in front of the lines.
+pub(crate) const LINES_HEAD: &str = "<svg class=\"lines\"><defs>
+<marker id=\"a\" viewBox=\"0 0 8 8\" refX=\"8\" refY=\"4\" markerWidth=\"7\" markerHeight=\"7\" orient=\"auto\"><path d=\"M0 0L8 4L0 8z\"/></marker>
+</defs>
+";
+
+/// What stands behind the lines.
+pub(crate) const LINES_END: &str = "</svg>
+";
+
+/// The end of the drawing.
+pub(crate) const DRAWING_END: &str = "</div></div>
+";
+
+/// What stands in front of the list of moves.
+pub(crate) const MOVES_HEAD: &str = "<h2>Moves</h2>
+<table><tr><th>line</th><th>from</th><th>to</th><th>moves</th><th>may lose</th></tr>
+";
+
+/// What stands between the lists.
+pub(crate) const BARE_HEAD: &str = "</table>
+<h2>Bytes that no receiver covers</h2>
+<table><tr><th>offset</th><th>bytes</th><th>from item</th></tr>
+";
+
+/// The end of the page.
+pub(crate) const PAGE_END: &str = "</table>
+</body></html>
 ";

@@ -1,6 +1,6 @@
 //! Entries, in the words of their boxes.
 
-use crate::pictures::ItemText;
+use crate::items::ItemText;
 use crate::texts::Characters;
 use cob_layout::{Kind, Layout, Name, Node, ResolvedOccurs, Spot};
 use std::fmt;
@@ -64,9 +64,9 @@ fn write_redefined<W: fmt::Write>(
 
 /// An entry, which prints by its level and name, how often it occurs and what it redefines.
 #[derive(Clone, Copy)]
-pub(crate) struct EntryText<'a> {
-    pub(crate) layout: &'a Layout,
-    pub(crate) entry: &'a Node,
+pub struct EntryText<'a> {
+    pub layout: &'a Layout,
+    pub entry: &'a Node,
 }
 
 impl fmt::Display for EntryText<'_> {
@@ -80,8 +80,8 @@ impl fmt::Display for EntryText<'_> {
 
 /// What an entry describes, which prints as a group or as its picture and storage.
 #[derive(Clone, Copy)]
-pub(crate) struct KindText<'a> {
-    pub(crate) kind: &'a Kind,
+pub struct KindText<'a> {
+    pub kind: &'a Kind,
 }
 
 impl fmt::Display for KindText<'_> {
@@ -95,9 +95,9 @@ impl fmt::Display for KindText<'_> {
 
 /// All that is said of an entry where the pointer rests on its box.
 #[derive(Clone, Copy)]
-pub(crate) struct TitleText<'a> {
-    pub(crate) text: EntryText<'a>,
-    pub(crate) spot: Spot,
+pub struct TitleText<'a> {
+    pub text: EntryText<'a>,
+    pub spot: Spot,
 }
 
 impl fmt::Display for TitleText<'_> {

@@ -2,17 +2,17 @@
 
 use crate::occurrences::{Occurrence, occurrence_at, occurrences_in, spot_of};
 use crate::records::{Contents, MOST_SHOWN};
-use crate::texts::{Characters, Digits, Shown};
 use arrayvec::ArrayVec;
 use cob_convert_show::number_text;
 use cob_layout::{Item, Spot, is_number_item};
+use cob_map_words::{Characters, Digits, Shown};
 use std::fmt;
 
 /// How many bytes a line of a value has.
 const LINE_BYTES: usize = 32;
 
 /// How many lines an occurrence of an item has that takes so many bytes: those of its value, and those of its bytes.
-pub(crate) fn value_lines(item: &Item, length: u32) -> u32 {
+pub fn value_lines(item: &Item, length: u32) -> u32 {
     let lines = length.saturating_add(LINE_BYTES as u32 - 1) / LINE_BYTES as u32;
     if is_number_item(item) {
         return lines.saturating_add(1);
@@ -79,7 +79,7 @@ fn bytes_at<'a>(contents: Contents<'a>, spot: Spot, behind: u32) -> &'a [u8] {
 }
 
 /// Writes the values of an item that stands in these tables: those of its first occurrences, and how many more there are.
-pub(crate) fn write_values<W: fmt::Write>(
+pub fn write_values<W: fmt::Write>(
     f: &mut fmt::Formatter<W>,
     contents: Contents<'_>,
     number: usize,

@@ -8,8 +8,8 @@ use std::fmt;
 
 /// A literal or a figurative constant.
 #[derive(Clone, Copy)]
-pub(crate) struct ConstantText<'a> {
-    pub(crate) value: &'a Value,
+pub struct ConstantText<'a> {
+    pub value: &'a Value,
 }
 
 /// The word of a figurative constant.

@@ -6,8 +6,8 @@ use std::fmt;
 
 /// What an item is, which prints as its picture and what else a copybook says of its bytes: `PIC S9(7)V99 COMP-3`.
 #[derive(Clone, Copy)]
-pub(crate) struct ItemText<'a> {
-    pub(crate) item: &'a Item,
+pub struct ItemText<'a> {
+    pub item: &'a Item,
 }
 
 /// The characters of a symbol.

@@ -7,41 +7,41 @@ use cob_map_places::{rows_of, tops_of};
 use std::alloc::{AllocError, Global};
 
 /// How high a line of a box is.
-pub(crate) const LINE: u32 = 18;
+pub const LINE: u32 = 18;
 
 /// How high a row of a ruler is.
-pub(crate) const STRIP: u32 = 6;
+pub const STRIP: u32 = 6;
 
 /// How high a line of a value is.
-pub(crate) const VALUE: u32 = 15;
+pub const VALUE: u32 = 15;
 
 /// The room above the first box, and between two boxes.
-pub(crate) const GAP: u32 = 2;
+pub const GAP: u32 = 2;
 
 /// How many occurrences of an item show their values.
-pub(crate) const MOST_SHOWN: u32 = 8;
+pub const MOST_SHOWN: u32 = 8;
 
 /// A record as it is drawn.
 #[derive(Drop)]
-pub(crate) struct Drawn<'a> {
-    pub(crate) layout: &'a Layout,
+pub struct Drawn<'a> {
+    pub layout: &'a Layout,
     /// Where its entries stand in the record that is given, and its bytes, where one is.
-    pub(crate) contents: Option<Contents<'a>>,
+    pub contents: Option<Contents<'a>>,
     /// Of each byte, whether a receiver covers it; of a byte behind these it isn't said.
-    pub(crate) covered: &'a [bool],
+    pub covered: &'a [bool],
     /// Where the boxes of its entries begin, by their numbers, and where the last one ends.
-    pub(crate) tops: Vec<u32>,
+    pub tops: Vec<u32>,
 }
 
 /// A record that is given: where its entries stand, by their numbers, and its bytes.
 #[derive(Clone, Copy)]
-pub(crate) struct Contents<'a> {
-    pub(crate) spots: &'a [Spot],
-    pub(crate) bytes: &'a [u8],
+pub struct Contents<'a> {
+    pub spots: &'a [Spot],
+    pub bytes: &'a [u8],
 }
 
 /// These tables, and the entry itself where it is one.
-pub(crate) fn tables_with(over: &[usize], entry: &Node) -> Tables {
+pub fn tables_with(over: &[usize], entry: &Node) -> Tables {
     let mut tables = Tables::new();
     for table in over {
         let _ = tables.try_push(*table);
@@ -100,7 +100,7 @@ fn push_heights(
 /// # Errors
 ///
 /// Where no memory is left.
-pub(crate) fn draw<'a>(
+pub fn draw<'a>(
     alloc: Global,
     layout: &'a Layout,
     contents: Option<Contents<'a>>,
@@ -118,12 +118,12 @@ pub(crate) fn draw<'a>(
 }
 
 /// A number of bytes of a record, which has fewer than 65,536.
-pub(crate) fn told_length(length: usize) -> u32 {
+pub fn told_length(length: usize) -> u32 {
     length.min(0xFFFF) as u32
 }
 
 /// The number of the last entry beneath this one, or its own.
-pub(crate) fn last_beneath(entry: &Node) -> usize {
+pub fn last_beneath(entry: &Node) -> usize {
     match entry.children.last() {
         Some(child) => last_beneath(child),
         None => entry.number,
@@ -132,7 +132,7 @@ pub(crate) fn last_beneath(entry: &Node) -> usize {
 
 impl Drawn<'_> {
     /// Where the box of the entry with this number begins.
-    pub(crate) fn top(&self, number: usize) -> u32 {
+    pub fn top(&self, number: usize) -> u32 {
         let top = match self.tops.get(number) {
             Some(top) => *top,
             None => 0,
@@ -141,19 +141,19 @@ impl Drawn<'_> {
     }
 
     /// Where lines meet the box of the entry with this number.
-    pub(crate) fn middle(&self, number: usize) -> u32 {
+    pub fn middle(&self, number: usize) -> u32 {
         self.top(number).saturating_add(LINE / 2 + 1)
     }
 
     /// How high the box of an entry is, with those beneath it.
-    pub(crate) fn height(&self, entry: &Node) -> u32 {
+    pub fn height(&self, entry: &Node) -> u32 {
         let end = self.top(last_beneath(entry).saturating_add(1));
         end.saturating_sub(self.top(entry.number))
             .saturating_sub(GAP)
     }
 
     /// How high all of it is.
-    pub(crate) fn whole_height(&self) -> u32 {
+    pub fn whole_height(&self) -> u32 {
         match self.tops.last() {
             Some(end) => end.saturating_add(LINE + GAP),
             None => 0,

@@ -6,8 +6,8 @@ use std::{fmt, str};
 
 /// ASCII characters, which print with their escapes.
 #[derive(Clone, Copy)]
-pub(crate) struct Characters<'a> {
-    pub(crate) characters: &'a [u8],
+pub struct Characters<'a> {
+    pub characters: &'a [u8],
 }
 
 impl fmt::Display for Characters<'_> {
@@ -21,8 +21,8 @@ impl fmt::Display for Characters<'_> {
 
 /// Bytes of a record, which print as the characters that show them.
 #[derive(Clone, Copy)]
-pub(crate) struct Shown<'a> {
-    pub(crate) bytes: &'a [u8],
+pub struct Shown<'a> {
+    pub bytes: &'a [u8],
 }
 
 impl fmt::Display for Shown<'_> {
@@ -38,8 +38,8 @@ impl fmt::Display for Shown<'_> {
 
 /// Bytes of a record, which print as their hexadecimal digits.
 #[derive(Clone, Copy)]
-pub(crate) struct Digits<'a> {
-    pub(crate) bytes: &'a [u8],
+pub struct Digits<'a> {
+    pub bytes: &'a [u8],
 }
 
 impl fmt::Display for Digits<'_> {

@@ -6,10 +6,10 @@ use cob_limits::MAX_SUBSCRIPTS;
 use std::fmt;
 
 /// The numbers of the tables that hold an item or that it is, the outermost first.
-pub(crate) type Tables = ArrayVec<usize, MAX_SUBSCRIPTS>;
+pub type Tables = ArrayVec<usize, MAX_SUBSCRIPTS>;
 
 /// Where the first element of an entry stands, and how often it occurs.
-pub(crate) fn spot_of(spots: &[Spot], number: usize) -> Spot {
+pub fn spot_of(spots: &[Spot], number: usize) -> Spot {
     match spots.get(number) {
         Some(spot) => *spot,
         None => Spot {
@@ -21,7 +21,7 @@ pub(crate) fn spot_of(spots: &[Spot], number: usize) -> Spot {
 }
 
 /// How many occurrences there are in these tables.
-pub(crate) fn occurrences_in(spots: &[Spot], tables: &[usize]) -> u32 {
+pub fn occurrences_in(spots: &[Spot], tables: &[usize]) -> u32 {
     let mut count: u32 = 1;
     for table in tables {
         count = count.saturating_mul(spot_of(spots, *table).times);
@@ -31,13 +31,13 @@ pub(crate) fn occurrences_in(spots: &[Spot], tables: &[usize]) -> u32 {
 
 /// An occurrence of an item: its subscripts, and how many bytes it stands behind the first one.
 #[derive(Drop)]
-pub(crate) struct Occurrence {
-    pub(crate) subscripts: ArrayVec<u32, MAX_SUBSCRIPTS>,
-    pub(crate) behind: u32,
+pub struct Occurrence {
+    pub subscripts: ArrayVec<u32, MAX_SUBSCRIPTS>,
+    pub behind: u32,
 }
 
 /// The occurrence in these tables with so many before it, the last subscript the fastest.
-pub(crate) fn occurrence_at(spots: &[Spot], tables: &[usize], earlier: u32) -> Occurrence {
+pub fn occurrence_at(spots: &[Spot], tables: &[usize], earlier: u32) -> Occurrence {
     let mut occurrence = Occurrence {
         subscripts: ArrayVec::new(),
         behind: 0,

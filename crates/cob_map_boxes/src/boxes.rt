@@ -1,12 +1,12 @@
 //! The boxes of a record.
 
-use crate::entries::{EntryText, KindText, TitleText};
 use crate::occurrences::spot_of;
 use crate::records::{Drawn, STRIP, tables_with, told_length};
 use crate::values::write_values;
 use cob_html::Rectangle;
 use cob_layout::{Item, Kind, Node, Spot};
 use cob_map_places::{ROW, bare_length, part_at, rows_of};
+use cob_map_words::{EntryText, KindText, TitleText};
 use std::fmt;
 
 /// Bytes of a record that stand one behind another, and the first row of the ruler on which they are drawn.
@@ -157,12 +157,15 @@ fn write_front<W: fmt::Write>(
         entry,
     };
     let (top, height) = (drawn.top(entry.number), drawn.height(entry));
-    write!(f, "<div class=\"")?;
-    write_classes(f, entry, covered_in(drawn.covered, spot))?;
-    write!(f, "\" style=\"--d:{depth};top:{top}px;height:{height}px\"")?;
-    writeln!(f, " title=\"{}\">", TitleText { text, spot })?;
+    let title = TitleText { text, spot };
     let kind = KindText { kind: &entry.kind };
     let Spot { offset, length, .. } = spot;
+    write!(f, "<div class=\"")?;
+    write_classes(f, entry, covered_in(drawn.covered, spot))?;
+    write!(
+        f,
+        "\" style=\"--d:{depth};top:{top}px;height:{height}px\" title=\"{title}\">\n"
+    )?;
     write!(
         f,
         "<div class=\"w\"><span class=\"n\">{text}</span><span class=\"t\">{kind}</span>"
@@ -194,9 +197,6 @@ fn write_box<W: fmt::Write>(
 }
 
 /// Writes the boxes of a record.
-pub(crate) fn write_boxes<W: fmt::Write>(
-    f: &mut fmt::Formatter<W>,
-    drawn: &Drawn<'_>,
-) -> fmt::Result {
+pub fn write_boxes<W: fmt::Write>(f: &mut fmt::Formatter<W>, drawn: &Drawn<'_>) -> fmt::Result {
     write_box(f, drawn, drawn.layout.root(), 0, &[])
 }
