@@ -89,5 +89,5 @@ is_failed_stop None = false
 is_failed_stop (Some stop) = is_read_failure (Err stop.fault)
 
 -- the source inside failed in a read where that is why it stopped, and in no other
-abbrev pub CountsReads : {R : Type 0} → (R → ℕ) → Chosen R → Chosen R → Type 0
-CountsReads failures before now = failures now.inner ≡ counted (is_failed_stop now.stopped) (failures before.inner)
+abbrev pub CountsInnerReads : {R : Type 0} → (R → ℕ) → Chosen R → Chosen R → Type 0
+CountsInnerReads failures before now = failures now.inner ≡ counted (is_failed_stop now.stopped) (failures before.inner)

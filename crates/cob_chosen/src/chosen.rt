@@ -97,7 +97,7 @@ impl<R> Chosen<R> {
 }
 
 impl<R: Source> Chosen<R> {
-    ghost use Rattle.cob_chosen.specs.Gives.{CountsReads, GivesBehind, IsRefilled, StopsGiving, chosen_failures, chosen_stop, chosen_walk};
+    ghost use Rattle.cob_chosen.specs.Gives.{CountsInnerReads, GivesBehind, IsRefilled, StopsGiving, chosen_failures, chosen_stop, chosen_walk};
     ghost use Rattle.cob_chosen.specs.Walks.{IsSameChoice};
 
     // Holds the next record that is chosen, where none is held and there is one.
@@ -109,7 +109,7 @@ impl<R: Source> Chosen<R> {
         ensures over { OnOk result (IsRefilled R.coming self.old self.new) }
         ensures runs { OnOk result (chosen_stop self.new ≡ None) }
         ensures stops { OnErr result (StopsGiving R.coming self.old self.new) }
-        ensures reads { CountsReads R.failures self.old self.new }
+        ensures reads { CountsInnerReads R.failures self.old self.new }
     {
         if !self.held.is_empty() {
             return Ok(());
@@ -126,7 +126,7 @@ impl<R: Source> Chosen<R> {
 }
 
 impl<R: Source> Source for Chosen<R> {
-    ghost use Rattle.cob_chosen.specs.Gives.{CountsReads, GivesBehind, IsDrained, StopsGiving, chosen_failures, chosen_stop, chosen_walk};
+    ghost use Rattle.cob_chosen.specs.Gives.{CountsInnerReads, GivesBehind, IsDrained, StopsGiving, chosen_failures, chosen_stop, chosen_walk};
     ghost use Rattle.cob_chosen.specs.Walks.{IsSameChoice};
 
     ghost coming = { λ _. None };
@@ -145,7 +145,7 @@ impl<R: Source> Source for Chosen<R> {
         ensures runs { OnOk result (chosen_stop self.new ≡ None) }
         ensures stops { OnErr result (chosen_stop self.old ≡ None → StopsGiving R.coming self.old self.new) }
         ensures stays { IfSome (chosen_stop self.old) (λ _. self.new.stopped ≡ self.old.stopped) }
-        ensures reads { chosen_stop self.old ≡ None → CountsReads R.failures self.old self.new }
+        ensures reads { chosen_stop self.old ≡ None → CountsInnerReads R.failures self.old self.new }
     {
         if self.stopped.is_some() {
             self.failures = self.failures.wrapping_add(1);
