@@ -1,4 +1,2 @@
-pub mod Marks
-pub mod Finished
+pub mod Told
 pub mod Ends
-pub mod Ran

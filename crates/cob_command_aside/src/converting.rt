@@ -3,19 +3,19 @@
 ghost use Rattle.std.specs.Prelude.{◌≡◌, Bool, IfErr, true};
 ghost use Rattle.cob_command_faults.specs.Ends.{EndsAmong, EndsAs, status_of_outcome};
 ghost use Rattle.cob_records.specs.Forms.{HasBlockSize};
-ghost use Rattle.cob_command_aside.specs.Ends.{EndsRun, LacksOutputs, MayEndAside};
-ghost use Rattle.cob_command_aside.specs.Finished.{aside_counted_from, aside_told_from, most_of, told_run};
+ghost use Rattle.cob_run_aside.specs.Ends.{LacksOutputs};
+ghost use Rattle.cob_command_aside.specs.Ends.{EndsRun, MayEndAside};
+ghost use Rattle.cob_command_aside.specs.Told.{aside_counted_from, aside_told_from, most_of, told_run};
 
 use crate::ends::{AsideEnds, open_aside_ends};
 use crate::places::{Parts, put_both_in_place};
-use crate::rejections::{Rejections, counted_on};
-use crate::running::{AsideEnding, How, placed, run_aside_to_end};
-use cob_command_convert::{counted_from, first_of, is_standard_output, telling_piece};
+use cob_command_ends::{counted_from, first_of, is_standard_output, telling_piece};
 use cob_command_faults::{CommandFault, Texts, printed, tell_fault};
 use cob_convert::{Converter, Tally};
 use cob_convert_files::part_name;
 use cob_convert_line::ConvertLine;
 use cob_records::FileSink;
+use cob_run_aside::{AsideEnding, How, Rejections, counted_on, placed, run_aside_to_end};
 use cob_status::Status;
 use std::io::{Eprint, Input, Print, Printer};
 use std::rt::{Clock, Files};

@@ -7,12 +7,13 @@ ghost use Rattle.cob_command_aside.specs.Ends.{LacksAside, LacksAsideEnds, Loses
 
 use crate::places::Parts;
 use cob_chosen::Incoming;
-use cob_command_convert::{Ends, Inputs, open_ends};
+use cob_command_ends::{Ends, Inputs, open_ends};
 use cob_command_faults::{CommandFault, FileName, opened};
 use cob_convert_files::{FileIdentity, create_part, lead_to_one_file};
 use cob_convert_line::ConvertLine;
 use cob_pieces::PartSource;
 use cob_records::{FileSink, create_sink};
+use std::fs;
 use std::io::{Input, Print, Printer};
 use std::rt::Files;
 
@@ -95,8 +96,16 @@ fn rejects_part<'a, R: AllocGlobal + Files + Print>(
     }
 }
 
+/// Takes away the part of the output, which was made a moment ago and is empty: nothing will come into it, and where it is there no further conversion
+/// with the same output begins.
+fn leave_no_part<R: Files>(rt: &R, part: &str) {
+    // Where the system does not, it stays, and the fault that is told stands first.
+    let _ = fs::remove_file(rt, part);
+}
+
 /// Opens the ends of a conversion: the records that come, which have at most this length, then its output, and last the file for rejected records; or the parts that stand in for
-/// these two. None is opened where a file that is made is one that is read, or where both that are made are one file that is there.
+/// these two. None is opened where a file that is made is one that is read, or where both that are made are one file that is there. Where the second part is not made, the first
+/// does not stay.
 ///
 /// # Errors
 ///
@@ -129,6 +138,11 @@ pub fn open_aside_ends<'a, R: AllocGlobal + Files + Input + Print>(
             sink,
             aside,
         }),
-        Err(fault) => Err(fault),
+        Err(fault) => {
+            if let Some(parts) = parts {
+                leave_no_part(rt, parts.output);
+            }
+            Err(fault)
+        }
     }
 }

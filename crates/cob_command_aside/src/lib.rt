@@ -3,31 +3,24 @@
 //! [`do_convert_aside`] carries it out, prints what comes of it and answers how the program ends: by [`convert_aside`], which does the work and
 //! prints the fault lines of the rejected records alone. The file of the rejected records is made last, behind the output, and not where it is one
 //! of the files that are read, or the output, by whatever name. With `--atomic` both files are as they were until all of both new ones is on its
-//! device; then the rejected records come into their place first, so that an output that is there has them beside it.
+//! device; then the rejected records come into their place first, so that an output that is there has them beside it. Where the part of the rejected
+//! records is not made, that of the output does not stay.
 //!
 //! What is promised:
 //!
 //! - which faults the command can have (`MayEndAside` of specs/Ends.antt), and that it ends with the status of what it came to, or as where a device
 //!   failed if its last line was not printed (`EndsAmong` of `cob_command_faults`): where a record was rejected, as a run that one stopped;
-//! - what is told of a run one of whose outputs could not be handed to the device whole, or not put in its place (`finished_aside`, `placed_aside` of
-//!   specs/Finished.antt): of the output the last record that was converted, of the other the last one that was rejected, as [`Marks`] keep them
-//!   (`HasMarks` and `IsLastPut` of specs/Marks.antt);
-//! - that where a conversion ends otherwise than by a device that fails, nothing of what it wrote or set aside is still held.
+//! - what is told of what the run came to, whose promises are those of `cob_run_aside` (`told_run`, `aside_told_from` of specs/Told.antt).
 //!
 //! What files hold and what is printed is shown by the stored command lines of `cob_jobs`.
 //!
-//! It stands on `cob_command_convert` for the ends of a conversion, on `cob_convert` for what is done, on `cob_convert_line` for the command line, on
-//! `cob_command_faults` for faults and texts, on `cob_convert_files` for identities of files and outputs that replace a file, on `cob_records` for the
-//! ends over files, on `cob_stream` for the fault of a record, on `cob_chosen`, `cob_command_input` and `cob_pieces` for the
-//! records that it reads, and on `cob_status` for statuses.
+//! It stands on `cob_command_ends` for the ends of a conversion, on `cob_run_aside` for the run, on `cob_convert` for what is done, on `cob_convert_line` for
+//! the command line, on `cob_command_faults` for faults and texts, on `cob_convert_files` for identities of files and outputs that replace a file, on
+//! `cob_records` for the ends over files, on `cob_chosen` and `cob_pieces` for the records that it reads, and on `cob_status` for statuses.
 #![tactic(auto)]
 
 mod converting;
 mod ends;
-mod marks;
 mod places;
-mod rejections;
-mod running;
 
 pub use converting::{convert_aside, do_convert_aside};
-pub use marks::Marks;

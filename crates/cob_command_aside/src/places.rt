@@ -2,6 +2,7 @@
 
 use cob_convert_files::{PlaceFault, put_in_place};
 use cob_records::{FileSink, Opened, WriteSink};
+use cob_run_aside::PlacesFault;
 use std::fs::OpenFile;
 use std::io::{Print, Printer, Write};
 use std::rt::Files;
@@ -11,13 +12,6 @@ use std::rt::Files;
 pub struct Parts<'a> {
     pub output: &'a str,
     pub rejects: &'a str,
-}
-
-/// Which of the two did not come into its place, and why. Its part has it.
-#[derive(Clone, Copy, Debug, PartialEq, Eq)]
-pub enum PlacesFault {
-    Output(PlaceFault),
-    Rejects(PlaceFault),
 }
 
 /// Whether a part that was handed over whole was brought to its device.

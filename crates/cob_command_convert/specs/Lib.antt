@@ -1,4 +1,3 @@
-pub mod Inputs
 pub mod Finished
 pub mod Ends
 pub mod Ran

@@ -1,44 +1,17 @@
-ghost use Rattle.std.specs.Prelude.{◌≡◌, ◌+◌, IfErr, true};
+ghost use Rattle.std.specs.Prelude.{◌≡◌, IfErr, true};
 ghost use Rattle.cob_command_faults.specs.Ends.{EndsAmong, EndsAs, status_of_outcome};
 ghost use Rattle.cob_records.specs.Forms.{HasBlockSize};
-ghost use Rattle.cob_records.specs.Progress.{kept_count};
 ghost use Rattle.cob_command_convert.specs.Ends.{MayEndConvert};
 
-use crate::ends::{Ends, choice_of, open_ends};
-use crate::inputs::is_standard_output;
 use crate::running::{placed, run_to_end, told_counted_from};
-use cob_command_faults::{CommandFault, Texts, printed, tell_fault, telling};
+use cob_command_ends::{Ends, first_of, is_standard_output, open_ends, telling_piece};
+use cob_command_faults::{CommandFault, Texts, printed, tell_fault};
 use cob_convert::Converter;
 use cob_convert_files::{part_name, put_in_place};
 use cob_convert_line::ConvertLine;
-use cob_records::Telling;
 use cob_status::Status;
 use std::io::{Eprint, Input, Print};
 use std::rt::{Clock, Files};
-
-/// How a run tells how far it is in its piece of the input, where that is asked for. How many bytes the chosen records of a piece have isn't known.
-pub fn telling_piece<R: Files>(rt: &R, line: &ConvertLine<'_>) -> Option<Telling> {
-    let telling = telling(rt, line.input, line.progress)?;
-    if !choice_of(line).is_all() {
-        return Some(Telling {
-            size: None,
-            ..telling
-        });
-    }
-    let left = telling.size.map(|size| size.saturating_sub(line.from));
-    let size = match (left, line.bytes) {
-        (Some(left), Some(bytes)) => Some(left.min(bytes)),
-        _ => left,
-    };
-    Some(Telling { size, ..telling })
-}
-
-/// The number of the first record that is converted.
-pub fn first_of(line: &ConvertLine<'_>) -> u64
-    ensures { result ≡ kept_count (line.now.first + line.now.skip) }
-{
-    line.first.saturating_add(line.skip)
-}
 
 /// Converts into the output itself, which is made, or emptied where it is there.
 fn convert_into<R: AllocGlobal + Files + Input + Print + Eprint + Clock>(

@@ -10,26 +10,19 @@
 //!
 //! - which faults each command can have (`MayEndConvert`, `MayEndCheck` of specs/Ends.antt), and that it ends with the status of what it came to,
 //!   or as where a device failed if its last line was not printed (`EndsAmong` of `cob_command_faults`);
-//! - which of the files that are read an output would lose (`lost_by`, specs/Inputs.antt);
 //! - what is told of a run whose output could not be handed to the device whole, or not put in its place (`finished_run`, `placed_run` of
 //!   specs/Finished.antt), and that where a conversion ends otherwise than by a device that fails, nothing of what it wrote is still held.
 //!
 //! What files hold and what is printed is shown by the stored command lines of `cob_jobs`.
 //!
-//! It stands on `cob_convert_line` for the command line, on `cob_command_faults` for faults and texts, on `cob_command_input` and `cob_chosen` for the
-//! records that it reads, on `cob_convert` for what is done, on
-//! `cob_convert_files` for identities of files and outputs that replace a file, on `cob_records` for the ends over files, on `cob_codec` for the reading
-//! of binary items, and on `cob_status` for statuses.
+//! It stands on `cob_convert_line` for the command line, on `cob_command_faults` for faults and texts, on `cob_command_ends`, `cob_command_input` and
+//! `cob_chosen` for the ends of a conversion, on `cob_convert` for what is done, on `cob_convert_files` for outputs that replace a file, on `cob_records`
+//! for the ends over files, on `cob_codec` for the reading of binary items, and on `cob_status` for statuses.
 #![tactic(auto)]
 
 mod checking;
 mod converting;
-mod ends;
-mod inputs;
 mod running;
 
 pub use checking::{Checked, check, do_check};
-pub use converting::{convert, do_convert, first_of, telling_piece};
-pub use ends::{Ends, open_ends};
-pub use inputs::{Inputs, is_standard_output};
-pub use running::counted_from;
+pub use converting::{convert, do_convert};

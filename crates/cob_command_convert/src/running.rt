@@ -3,12 +3,14 @@ ghost use Rattle.std.specs.Io.Buffered.{writer_buffer};
 ghost use Rattle.cob_records.specs.Device.{counted};
 ghost use Rattle.cob_records.specs.Forms.{HasBlockSize};
 ghost use Rattle.cob_records.specs.Streams.{sink_writer};
+ghost use Rattle.cob_stream.specs.Reasons.{is_write_cause};
 ghost use Rattle.cob_convert.specs.Run.{is_write_stop};
 ghost use Rattle.cob_command_convert.specs.Ends.{LacksPlace, StopsRun};
 ghost use Rattle.cob_command_convert.specs.Ran.{RanFrom, RanOver};
-ghost use Rattle.cob_command_convert.specs.Finished.{counted_from, finished_run, placed_run, stops_writing, told_counted_from, unflushed_fault};
+ghost use Rattle.cob_command_convert.specs.Finished.{finished_run, placed_run, told_counted_from, unflushed_fault};
 
 use cob_chosen::Incoming;
+use cob_command_ends::counted_from;
 use cob_command_faults::CommandFault;
 use cob_command_input::with_cause;
 use cob_convert::{Cause, Converter, RunFault};
@@ -19,7 +21,7 @@ use std::rt::Clock;
 
 /// Whether a write of the record failed that the fault names.
 fn is_failed_write(cause: Cause) -> bool
-    ensures { result ≡ stops_writing cause }
+    ensures { result ≡ is_write_cause cause }
 {
     matches!(
         cause,
@@ -66,22 +68,6 @@ impl Ending {
             Ok(()) => Ok(self.answer?),
             Err(DeviceFault) => Err(unflushed(self.answer)),
         }
-    }
-}
-
-/// A fault with its records counted from this one.
-pub fn counted_from(first: u64, fault: CommandFault) -> CommandFault
-    ensures { result ≡ counted_from first fault }
-{
-    match fault {
-        CommandFault::Stopped(stopped) => CommandFault::Stopped(RunFault {
-            number: stopped.number.saturating_add(first.saturating_sub(1)),
-            ..stopped
-        }),
-        CommandFault::Unflushed { last } => CommandFault::Unflushed {
-            last: last.saturating_add(first.saturating_sub(1)),
-        },
-        other => other,
     }
 }
 

@@ -49,6 +49,7 @@ fn jumped_in(form: Form, greatest: u16, size: Option<u64>, part: Part) -> Part
 /// The part of the file that is read, behind the records that are jumped over. The file is asked for its size only where some are passed over.
 fn part_of<R: Files>(rt: &R, wanted: Wanted<'_>) -> Part
     requires { 0 < wanted.greatest }
+    ensures { JumpsOver wanted.entry result }
 {
     let Wanted {
         from,
@@ -56,15 +57,16 @@ fn part_of<R: Files>(rt: &R, wanted: Wanted<'_>) -> Part
         choice: Choice { skip, .. },
         ..
     } = wanted;
-    let part = Part { from, bytes, skip };
-    if skip == 0 {
-        return part;
-    }
+    let size = if skip == 0 {
+        None
+    } else {
+        size_of(rt, wanted.input)
+    };
     jumped_in(
         wanted.form,
         wanted.greatest,
-        size_of(rt, wanted.input),
-        part,
+        size,
+        Part { from, bytes, skip },
     )
 }
 

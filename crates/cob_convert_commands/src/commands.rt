@@ -3,10 +3,10 @@ ghost use Rattle.cob_convert_line.specs.Lines.{HasBlocks};
 ghost use Rattle.cob_records.specs.Forms.{HasBlockSize};
 ghost use Rattle.cob_convert_commands.specs.Commands.{EndsConvert, IsEndOfLine, IsEndOfRefusal, IsEndOfWords, status_of_refusal};
 
-use crate::jobs::do_job;
 use cob_command_aside::do_convert_aside;
 use cob_command_convert::{do_check, do_convert};
 use cob_command_faults::printed;
+use cob_command_job::do_job;
 use cob_command_lists::{do_layout, do_pieces, do_show};
 use cob_command_lossless::do_lossless;
 use cob_convert_line::{ConvertLine, Line, LineFault, line_of};

@@ -1,8 +1,9 @@
 use Rattle.std.proofs.Common.{◌≡◌, ◌⊎◌, ◌+◌, ◌-◌, ◌<◌, ℕ, Bool, sym, subst, ap, inl, inr, arith}
 use Rattle.cob_command_faults.specs.declared.fault.CommandFault.{CommandFault}
 use Rattle.cob_command_faults.specs.declared.fault.CommandFault.TheVariants as fault
-use Rattle.cob_command_aside.specs.Ends.{EndsRun, LacksOutputs, MayEndAside, RejectsSome, StopsRunAside}
-use Rattle.cob_command_aside.specs.Finished.{aside_counted_from}
+use Rattle.cob_run_aside.specs.Ends.{LacksOutputs, StopsRunAside}
+use Rattle.cob_command_aside.specs.Ends.{EndsRun, MayEndAside, RejectsSome}
+use Rattle.cob_command_aside.specs.Told.{aside_counted_from}
 use Rattle.cob_command_aside.proofs.converting.aside_told_from.Goals as goal
 
 stops_from : (first : ℕ) (told : CommandFault) → StopsRunAside told → StopsRunAside (aside_counted_from first told)

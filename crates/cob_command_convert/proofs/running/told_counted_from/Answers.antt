@@ -2,7 +2,7 @@ use Rattle.std.proofs.Common.{◌≡◌, ◌+◌, ◌-◌, ◌<◌, ℕ, sym, su
 use Rattle.cob_command_faults.specs.declared.fault.CommandFault.{CommandFault}
 use Rattle.cob_command_faults.specs.declared.fault.CommandFault.TheVariants as fault
 use Rattle.cob_command_convert.specs.Ends.{LacksPlace, StopsRun}
-use Rattle.cob_command_convert.specs.Finished.{counted_from}
+use Rattle.cob_command_ends.specs.Counted.{counted_from}
 use Rattle.cob_command_convert.proofs.running.told_counted_from.Goals as goal
 
 stops_from : (first : ℕ) (told : CommandFault) → StopsRun told → StopsRun (counted_from first told)

@@ -4,7 +4,7 @@ use Rattle.cob_convert_files.specs.declared.identity.FileIdentity.{FileIdentity}
 use Rattle.cob_convert_files.specs.Identity.{Loses}
 use Rattle.cob_command_faults.specs.declared.fault.FileName.{FileName}
 use Rattle.cob_command_faults.specs.declared.fault.FileName.TheVariants as name
-use Rattle.cob_command_convert.specs.declared.inputs.Inputs.{Inputs}
+use Rattle.cob_command_ends.specs.declared.inputs.Inputs.{Inputs}
 
 -- the file that an option of a conversion names for reading
 abbrev pub input_named : Inputs → FileName → Option FileIdentity

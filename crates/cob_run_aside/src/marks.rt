@@ -1,7 +1,7 @@
 //! Where rejected records stand among all.
 
 ghost use Rattle.std.specs.Prelude.{◌≡◌, ◌<◌, ◌≤◌, ℕ, Bool};
-ghost use Rattle.cob_command_aside.specs.Marks.{HasMarks, IsLastPut, marks_behind, last_put, with_rejected};
+ghost use Rattle.cob_run_aside.specs.Marks.{HasMarks, IsLastPut, marks_behind, last_put, with_rejected};
 
 /// What has to be known of the rejected records to name the last record in either output.
 #[derive(Clone, Copy)]

@@ -6,12 +6,11 @@ ghost use Rattle.cob_records.specs.Device.{counted};
 ghost use Rattle.cob_records.specs.Forms.{HasBlockSize};
 ghost use Rattle.cob_records.specs.Streams.{sink_writer};
 ghost use Rattle.cob_convert.specs.Aside.{CountsUnlessSink, is_aside_fault, is_sink_fault};
-ghost use Rattle.cob_command_aside.specs.Ends.{LacksOutputs, StopsRunAside};
-ghost use Rattle.cob_command_aside.specs.Finished.{aside_cause, fails_output, finished_aside, lacking, lacking_aside, lacking_output, placed_aside, records_before};
-ghost use Rattle.cob_command_aside.specs.Ran.{RanAsideFrom, RanAsideOver};
+ghost use Rattle.cob_run_aside.specs.Ends.{LacksOutputs, StopsRunAside};
+ghost use Rattle.cob_run_aside.specs.Finished.{aside_cause, fails_output, finished_aside, lacking, lacking_aside, lacking_output, placed_aside, records_before};
+ghost use Rattle.cob_run_aside.specs.Ran.{RanAsideFrom, RanAsideOver};
 
 use crate::marks::Marks;
-use crate::places::PlacesFault;
 use crate::rejections::Rejections;
 use cob_chosen::{Incoming, Stopped};
 use cob_command_faults::CommandFault;
@@ -107,6 +106,13 @@ impl AsideEnding {
             (Ok(()), Ok(())) => Ok(self.answer?),
         }
     }
+}
+
+/// Which of the two outputs did not come into its place, and why. Its part has it.
+#[derive(Clone, Copy, Debug, PartialEq, Eq)]
+pub enum PlacesFault {
+    Output(PlaceFault),
+    Rejects(PlaceFault),
 }
 
 /// What so many records come to behind what was done to put them in their places.

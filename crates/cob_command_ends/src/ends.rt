@@ -3,16 +3,16 @@ ghost use Rattle.cob_limits.specs.Limits.{longest_record};
 ghost use Rattle.cob_records.specs.Forms.{HasBlockSize};
 ghost use Rattle.cob_command_faults.specs.Texts.{LacksFile};
 ghost use Rattle.cob_command_faults.specs.declared.fault.FileName.TheVariants.{Out};
-ghost use Rattle.cob_command_convert.specs.Ends.{LacksEnds};
+ghost use Rattle.cob_command_ends.specs.Ends.{LacksEnds};
 
 use crate::inputs::judge_output;
 use cob_chosen::{Choice, Incoming};
-use cob_command_faults::{CommandFault, FileName, opened};
+use cob_command_faults::{CommandFault, FileName, opened, telling};
 use cob_command_input::{Wanted, open_records};
 use cob_convert_files::create_part;
 use cob_convert_line::ConvertLine;
 use cob_pieces::PartSource;
-use cob_records::{FileSink, create_sink};
+use cob_records::{FileSink, Telling, create_sink};
 use std::io::{Input, Print, Printer};
 use std::rt::Files;
 
@@ -109,4 +109,21 @@ pub fn open_ends<'a, R: AllocGlobal + Files + Input + Print>(
     let source = open_records(rt, wanted_by(line, greatest))?;
     let sink = output_of(rt, line, part)?;
     Ok(Ends { source, sink })
+}
+
+/// How a run tells how far it is in its piece of the input, where that is asked for. How many bytes the chosen records of a piece have isn't known.
+pub fn telling_piece<R: Files>(rt: &R, line: &ConvertLine<'_>) -> Option<Telling> {
+    let telling = telling(rt, line.input, line.progress)?;
+    if !choice_of(line).is_all() {
+        return Some(Telling {
+            size: None,
+            ..telling
+        });
+    }
+    let left = telling.size.map(|size| size.saturating_sub(line.from));
+    let size = match (left, line.bytes) {
+        (Some(left), Some(bytes)) => Some(left.min(bytes)),
+        _ => left,
+    };
+    Some(Telling { size, ..telling })
 }

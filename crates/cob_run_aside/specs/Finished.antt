@@ -1,29 +1,22 @@
 -- What a conversion that sets rejected records aside comes to behind its run: whether its outputs were handed to their devices, and put in their places.
-use Rattle.std.specs.Prelude.{◌==◌, ◌||◌, ◌+◌, ◌-◌, ℕ, Bool, true, false, Option, None, Some, Result, Ok, Err, ⊤, if◌then◌else◌}
+use Rattle.std.specs.Prelude.{◌==◌, ◌||◌, ◌+◌, ◌-◌, ℕ, Bool, true, Option, Result, Ok, Err, ⊤, if◌then◌else◌}
 use Rattle.cob_chosen.specs.declared.choice.Stopped.{Stopped}
 use Rattle.cob_command_input.specs.Stops.{cause_told}
-use Rattle.cob_stream.specs.declared.fault.RunFault.{RunFault}
+use Rattle.cob_stream.specs.Reasons.{is_write_cause}
 use Rattle.cob_convert.specs.declared.aside.AsideFault.{AsideFault}
 use Rattle.cob_convert.specs.declared.aside.AsideFault.TheVariants as aside
 use Rattle.cob_convert.specs.declared.aside.Tally.{Tally}
 use Rattle.cob_convert_files.specs.declared.outputs.PlaceFault.{PlaceFault}
 use Rattle.cob_convert_files.specs.declared.outputs.PlaceFault.TheVariants as place
-use Rattle.cob_records.specs.Device.{greatest_count}
 use Rattle.cob_records.specs.Progress.{kept_count}
 use Rattle.cob_records.specs.declared.device.DeviceFault.{DeviceFault}
 use Rattle.cob_command_faults.specs.declared.fault.CommandFault.{CommandFault}
 use Rattle.cob_command_faults.specs.declared.fault.CommandFault.TheVariants as fault
 use Rattle.cob_command_faults.specs.Faults.{aside_fault}
-use Rattle.cob_command_convert.specs.Finished.{counted_from, stops_writing}
-use Rattle.cob_command_aside.specs.declared.marks.Marks.{Marks}
-use Rattle.cob_command_aside.specs.declared.places.PlacesFault.{PlacesFault}
-use Rattle.cob_command_aside.specs.declared.places.PlacesFault.TheVariants as places
-use Rattle.cob_command_aside.specs.Marks.{last_put}
-
--- how many records a run may reject: all where no number is said
-abbrev pub most_of : Option ℕ → ℕ
-most_of None = greatest_count
-most_of (Some most) = most
+use Rattle.cob_run_aside.specs.declared.marks.Marks.{Marks}
+use Rattle.cob_run_aside.specs.declared.running.PlacesFault.{PlacesFault}
+use Rattle.cob_run_aside.specs.declared.running.PlacesFault.TheVariants as places
+use Rattle.cob_run_aside.specs.Marks.{last_put}
 
 -- the fault of a run over chosen records, where one of these couldn't be read
 abbrev pub aside_cause : Option Stopped → AsideFault → AsideFault
@@ -32,7 +25,7 @@ aside_cause stop (aside.NotSetAside number cause written) = aside.NotSetAside nu
 
 -- an output failed: a record could not be written, or a rejected one not be set aside
 abbrev pub fails_output : AsideFault → Bool
-fails_output (aside.Stopped stopped) = stops_writing stopped.cause
+fails_output (aside.Stopped stopped) = is_write_cause stopped.cause
 fails_output (aside.NotSetAside number cause written) = true
 
 -- how many records came whole and were converted or set aside
@@ -72,27 +65,6 @@ placed_aside tally marks (Err (places.Output place.NotRenamed)) = Err fault.NotR
 placed_aside tally marks (Err (places.Rejects place.NotSynced)) = Err (lacking_aside (Ok tally) marks)
 placed_aside tally marks (Err (places.Rejects place.NotRenamed)) = Err fault.NotRenamedAside
 
--- what so many records come to, where the fault lines of the rejected ones were all printed, or were not
-abbrev pub told_tally : (printed : Bool) → Tally → Result ℕ CommandFault
-told_tally false tally = Err fault.Unprinted
-told_tally true tally = if tally.rejected == 0 then Ok tally.converted else Err (fault.SetAside tally.converted tally.rejected)
-
--- what a run comes to, where the fault lines of the rejected records were all printed, or were not
-abbrev pub told_run : (printed : Bool) → Result Tally CommandFault → Result ℕ CommandFault
-told_run printed (Ok tally) = told_tally printed tally
-told_run printed (Err told) = Err told
-
 -- a record's number, where the first that was read has this one
 abbrev pub number_from : (first number : ℕ) → ℕ
 number_from first number = kept_count (number + (first - 1))
-
--- A fault with its records counted from this one: the first that was read has this number.
-abbrev pub aside_counted_from : ℕ → CommandFault → CommandFault
-aside_counted_from first (fault.NotSetAside number cause) = fault.NotSetAside (number_from first number) cause
-aside_counted_from first (fault.UnflushedAside last) = fault.UnflushedAside (number_from first last)
-aside_counted_from first told = counted_from first told
-
--- what a command came to, with its records counted from this one
-abbrev pub aside_told_from : ℕ → Result ℕ CommandFault → Result ℕ CommandFault
-aside_told_from first (Ok done) = Ok done
-aside_told_from first (Err told) = Err (aside_counted_from first told)

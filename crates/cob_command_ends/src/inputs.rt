@@ -1,7 +1,7 @@
 ghost use Rattle.std.specs.Prelude.{IfErr, IfNone, IfSome};
 ghost use Rattle.cob_convert_files.specs.Identity.{Loses};
-ghost use Rattle.cob_command_convert.specs.Inputs.{LosesNone, input_named};
-ghost use Rattle.cob_command_convert.specs.Ends.{LosesInput, NamesInput};
+ghost use Rattle.cob_command_ends.specs.Inputs.{LosesNone, input_named};
+ghost use Rattle.cob_command_ends.specs.Ends.{LosesInput, NamesInput};
 
 use cob_command_faults::{CommandFault, FileName};
 use cob_convert_files::{FileIdentity, lead_to_one_file, loses};

@@ -2,8 +2,8 @@
 
 ghost use Rattle.std.specs.Prelude.{◌≡◌, true, None};
 ghost use Rattle.cob_convert.specs.Outcomes.{append_notes};
-ghost use Rattle.cob_command_aside.specs.Finished.{number_from};
-ghost use Rattle.cob_command_aside.specs.Marks.{marks_behind};
+ghost use Rattle.cob_run_aside.specs.Finished.{number_from};
+ghost use Rattle.cob_run_aside.specs.Marks.{marks_behind};
 
 use crate::marks::Marks;
 use cob_convert::{Notes, RunFault};

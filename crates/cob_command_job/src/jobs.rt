@@ -6,9 +6,7 @@ ghost use Rattle.cob_status.specs.Statuses.{printed_status};
 ghost use Rattle.cob_status.specs.declared.status.Status.{Status};
 ghost use Rattle.cob_status.specs.declared.status.Status.TheVariants.{Memory};
 ghost use Rattle.cob_command_faults.specs.Ends.{EndsAs};
-ghost use Rattle.cob_convert_line.specs.declared.line.Line.TheVariants.{Job};
-ghost use Rattle.cob_convert_commands.specs.Commands.{IsEndOfLine};
-ghost use Rattle.cob_convert_commands.specs.Jobs.{EndsUntold};
+ghost use Rattle.cob_command_job.specs.Jobs.{EndsUntold, IsEndOfJob};
 
 use cob_command_faults::{asks_a_person, printed};
 use cob_job::job;
@@ -72,7 +70,7 @@ fn ask_for_job<R: Files + Eprint>(rt: &R) {
 
 /// Does the job that stands on standard input; its faults are printed where its output is.
 pub fn do_job<R: AllocGlobal + Files + Input + Print + Eprint>(rt: &R) -> u8
-    ensures { IsEndOfLine Job result }
+    ensures { IsEndOfJob result }
 {
     ask_for_job(rt);
     let Ok(mut source) = open_source(rt, "-") else {
