@@ -2,11 +2,12 @@ ghost use Rattle.std.specs.Prelude.{IfErr, IfOk};
 ghost use Rattle.cob_copybook.specs.Books.{IsBookOf};
 ghost use Rattle.cob_copybook.specs.declared.role.Role.TheVariants.{Out};
 ghost use Rattle.cob_records.specs.Forms.{HasBlockSize};
-ghost use Rattle.cob_command_faults.specs.Ends.{EndsAs, status_of};
+ghost use Rattle.cob_command_faults.specs.Ends.{EndsAs};
+ghost use Rattle.cob_command_faults.specs.Faults.{status_of};
 ghost use Rattle.cob_command_faults.specs.Texts.{LacksConverter};
 ghost use Rattle.cob_command_faults.specs.declared.fault.CommandFault.TheVariants.{Stopped as StoppedFault};
 ghost use Rattle.cob_convert_explain.specs.Explained.{IsExplanation};
-ghost use Rattle.cob_command_explain.specs.Ends.{EndsExplain, MayEndExplain};
+ghost use Rattle.cob_command_explain.specs.Ends.{EndsExplain, EndsTold, MayEndExplain};
 
 use cob_command_faults::{CommandFault, FileName, opened, printed, tell_fault, text_of};
 use cob_convert::Converter;
@@ -105,6 +106,7 @@ fn tell_stopped<R: Print + Eprint>(rt: &R, stopped: &Stopped) -> Status
     let status = CommandFault::Stopped(stopped.fault).status();
     let fault = stopped.fault;
     match eprintln!(rt; "{fault}") {
+        Ok(()) if stopped.words.is_empty() => status,
         Ok(()) => printed(eprintln!(rt; "{}", stopped.words), status),
         Err(_) => Status::Device,
     }
@@ -127,8 +129,7 @@ fn tell_moves_to_stop<R: Print + Eprint>(
 
 /// Prints what is told of the record with this number, and answers how the command ends.
 fn tell_explanation<R: Print + Eprint>(rt: &R, number: u64, told: &Explanation) -> Status
-    requires { IsExplanation told.now }
-    ensures { EndsExplain result }
+    ensures { EndsTold told.now result }
 {
     match told {
         Explanation::Missing { records } => printed(

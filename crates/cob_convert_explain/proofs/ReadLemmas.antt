@@ -7,11 +7,11 @@ use Rattle.cob_records.specs.declared.records.Form.{Form}
 use Rattle.cob_stream.specs.Input.{IsJudged}
 use Rattle.cob_stream.specs.Laws.{SizedAreStorages}
 use Rattle.cob_convert_explain.specs.declared.reading.Found.{Found}
-use Rattle.cob_convert_explain.specs.Walked.{HoldsRecord, found_or_only}
+use Rattle.cob_convert_explain.specs.Walked.{HoldsFound, found_or_only}
 
-holds_found : SizedAreStorages → (form : Form) (tree : Forest Resolved) (slice : List ℕ) (o : Option ℕ) (records : ℕ) → IfSome o (IsJudged form tree slice) → HoldsRecord tree slice (found_or_only o records)
+holds_found : SizedAreStorages → (form : Form) (tree : Forest Resolved) (slice : List ℕ) (o : Option ℕ) (records : ℕ) → IfSome o (IsJudged form tree slice) → HoldsFound tree slice (found_or_only o records)
 holds_found law form tree slice None records h = tt
 holds_found law form tree slice (Some count) records h = (h.within, law form tree _ h.sized)
 
-pub holds : SizedAreStorages → (form : Form) (tree : Forest Resolved) (slice : List ℕ) (o : Option ℕ) (records : ℕ) (f : Found) → f ≡ found_or_only o records → IfSome o (IsJudged form tree slice) → HoldsRecord tree slice f
-holds law form tree slice o records f is h = subst (HoldsRecord tree slice) (sym is) (holds_found law form tree slice o records h)
+pub holds : SizedAreStorages → (form : Form) (tree : Forest Resolved) (slice : List ℕ) (o : Option ℕ) (records : ℕ) (f : Found) → f ≡ found_or_only o records → IfSome o (IsJudged form tree slice) → HoldsFound tree slice f
+holds law form tree slice o records f is h = subst (HoldsFound tree slice) (sym is) (holds_found law form tree slice o records h)

@@ -14,7 +14,7 @@ use crate::moves::Teller;
 use crate::reading::{Found, Refused, find_record};
 use crate::stops::{Scene, count_words, stop_words};
 use crate::walk::{RecordStop, WalkRoom, walk_record};
-use cob_convert_record::{Cause, Conversion, Room, Side, StopCause};
+use cob_convert_record::{Cause, Conversion, Room, Side, Stop, StopCause};
 use cob_copybook::{Book, Role};
 use cob_fault_words::{Asker, Qualifying, frame_words};
 use cob_layout::Layout;
@@ -51,14 +51,21 @@ pub struct ReadAgain<'a> {
     pub moves: &'a [u8],
 }
 
-/// The cause of a stop, as a run tells it.
-fn cause_of(cause: StopCause) -> Cause
-    ensures { is_write_cause result ≡ false }
+/// The fault of the record with this number, which stops so, as a run tells it.
+fn fault_of(number: u64, stop: Stop) -> RunFault
+    ensures { is_write_cause result.cause ≡ false }
 {
-    match cause {
+    let cause = match stop.cause {
         StopCause::NoValue => Cause::NoValue,
         StopCause::Count => Cause::Count,
         StopCause::Subscript => Cause::Subscript,
+    };
+    RunFault {
+        number,
+        side: stop.side,
+        offset: stop.offset,
+        cause,
+        written: 0,
     }
 }
 
@@ -135,17 +142,8 @@ fn stopped_at(
     ensures { IfOk result (λ stopped. is_write_cause stopped.fault.cause ≡ false) }
 {
     let words = stop_words(alloc, scene, &stop)?;
-    let plain = stop.plain();
-    Ok(Stopped {
-        fault: RunFault {
-            number,
-            side: plain.side,
-            offset: plain.offset,
-            cause: cause_of(plain.cause),
-            written: 0,
-        },
-        words,
-    })
+    let fault = fault_of(number, stop.plain());
+    Ok(Stopped { fault, words })
 }
 
 /// Explains a record of the layout. The output holds the storage before the first move.

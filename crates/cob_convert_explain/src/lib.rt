@@ -14,7 +14,7 @@
 //! What is promised: what becomes of a record is what a run makes of it (`converts`, `stops` of [`walk_record`], by `Becomes` and `StopsAt` of
 //! `cob_convert_record`). Which words tell it is shown by `cob_jobs`.
 //!
-//! It stands on `cob_convert` and `cob_convert_record` for the conversion, on `cob_move_each` for its single moves, on `cob_fault_words` and
+//! It stands on `cob_convert_record` for the conversion, on `cob_move_each` for its single moves, on `cob_fault_words` and
 //! `cob_lossless_words` for words and lines, on `cob_convert_show` for values, on `cob_move_initial`, `cob_copybook` and `cob_layout` for the storage before
 //! the first move, and on `cob_stream` and `cob_records` for records that come.
 #![tactic(auto)]

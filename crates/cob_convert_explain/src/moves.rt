@@ -2,13 +2,14 @@
 
 ghost use Rattle.std.specs.Prelude.{None};
 
-use crate::values::{Digits, ValueText};
+use crate::values::HeldText;
 use cob_fault_words::{Occurrence, Qualifying, SentText};
 use cob_layout::Place;
 use cob_layout_places::Side;
 use cob_move_each::{SingleMove, Watcher};
 use cob_move_receive::Sent;
 use std::alloc::{AllocError, Global};
+use std::fmt;
 
 /// The line of the statement with this number, from 0.
 pub(crate) fn line_at(lines: &[u32], statement: usize) -> u32 {
@@ -30,6 +31,54 @@ pub(crate) fn bytes_at(storage: &[u8], offset: usize, length: usize) -> &[u8] {
 /// The bytes of a place.
 fn bytes_of(storage: &[u8], place: Place) -> &[u8] {
     bytes_at(storage, place.offset as usize, place.length as usize)
+}
+
+/// A single move, which prints in two lines: the line of its statement and what is sent, and what receives it.
+#[derive(Clone, Copy)]
+struct SingleText<'a> {
+    /// The line of its statement.
+    line: u32,
+    records: Qualifying<'a>,
+    one: &'a SingleMove<'a>,
+}
+
+impl SingleText<'_> {
+    /// Writes the line of the statement and what is sent.
+    fn write_sender<W: fmt::Write>(&self, f: &mut fmt::Formatter<W>) -> fmt::Result {
+        let sender = SentText::of(self.records, self.one.sender);
+        write!(f, "line {} {sender}", self.line)?;
+        match self.one.given.sent {
+            Sent::Entry { kind, bytes, .. } => {
+                let held = HeldText {
+                    offset: self.one.given.offset,
+                    kind: Some(kind),
+                    bytes,
+                };
+                write!(f, " {held}")
+            }
+            Sent::Constant(_) => Ok(()),
+        }
+    }
+
+    /// Writes what receives it, and what that holds then.
+    fn write_receiver<W: fmt::Write>(&self, f: &mut fmt::Formatter<W>) -> fmt::Result {
+        let receiver = Occurrence::of(self.records, Side::Out, self.one.receiver);
+        let held = HeldText {
+            offset: self.one.place.offset,
+            kind: receiver.kind(),
+            bytes: bytes_of(self.one.storage, self.one.place),
+        };
+        write!(f, "  to {receiver} {held}")
+    }
+}
+
+impl fmt::Display for SingleText<'_> {
+    fn fmt<W: fmt::Write>(&self, f: &mut fmt::Formatter<W>) -> fmt::Result {
+        self.write_sender(f)?;
+        writeln!(f)?;
+        self.write_receiver(f)?;
+        writeln!(f)
+    }
 }
 
 /// Who tells each single move in two lines.
@@ -68,45 +117,16 @@ impl<'a> Teller<'a> {
         Ok(self.text)
     }
 
-    /// The line of a single move's sender.
-    fn sender_line(&self, one: &SingleMove<'_>) -> Result<String, AllocError> {
-        let alloc = self.alloc;
-        let line = line_at(self.lines, one.number.statement);
-        let sender = SentText::of(self.records, one.sender);
-        match one.given.sent {
-            Sent::Entry { kind, bytes, .. } => {
-                let digits = Digits { bytes };
-                let value = ValueText { kind, bytes };
-                let offset = one.given.offset;
-                format!(in alloc; "line {line} {sender} {offset} {digits} {value}\n")
-            }
-            Sent::Constant(_) => format!(in alloc; "line {line} {sender}\n"),
-        }
-    }
-
-    /// The line of a single move's receiver.
-    fn receiver_line(&self, one: &SingleMove<'_>) -> Result<String, AllocError> {
-        let alloc = self.alloc;
-        let receiver = Occurrence::of(self.records, Side::Out, one.receiver);
-        let bytes = bytes_of(one.storage, one.place);
-        let offset = one.place.offset;
-        let digits = Digits { bytes };
-        match receiver.kind() {
-            Some(kind) => {
-                let value = ValueText { kind, bytes };
-                format!(in alloc; "  to {receiver} {offset} {digits} {value}\n")
-            }
-            None => format!(in alloc; "  to {receiver} {offset} {digits}\n"),
-        }
-    }
-
     /// Tells a single move.
     fn tell(&mut self, one: &SingleMove<'_>) -> Result<(), AllocError> {
-        let sender = self.sender_line(one)?;
-        let receiver = self.receiver_line(one)?;
-        self.text.push_str(&sender)?;
-        self.text.push_str(&receiver)?;
-        Ok(())
+        let alloc = self.alloc;
+        let lines = SingleText {
+            line: line_at(self.lines, one.number.statement),
+            records: self.records,
+            one,
+        };
+        let text = format!(in alloc; "{lines}")?;
+        self.text.push_str(&text)
     }
 }
 

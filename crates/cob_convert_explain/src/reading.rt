@@ -1,7 +1,7 @@
 //! The record that is explained, and those before it.
 
 ghost use Rattle.std.specs.Prelude.{◌≡◌, IfErr, IfOk, length, false};
-ghost use Rattle.cob_convert_explain.specs.Walked.{HoldsRecord, found_or_only};
+ghost use Rattle.cob_convert_explain.specs.Walked.{HoldsFound, found_or_only};
 ghost use Rattle.cob_convert_record.specs.Conversion.{in_length};
 ghost use Rattle.cob_convert_record.specs.Rooms.{capacity_for};
 ghost use Rattle.cob_stream.specs.Reasons.{is_write_cause};
@@ -80,7 +80,7 @@ pub(crate) fn find_record<R: Source>(
 ) -> Result<Found, Refused>
     requires slot { length slot.old ≡ in_length conversion.now }
     requires room { room.old ≡ capacity_for conversion.now.records }
-    ensures record { IfOk result (λ found. HoldsRecord conversion.now.records.input slot.new found) }
+    ensures record { IfOk result (λ found. HoldsFound conversion.now.records.input slot.new found) }
     ensures kind { IfErr result (λ refused. is_write_cause refused.why.cause ≡ false) }
 {
     // For `record`: what is one of the layout's records holds a record of it.

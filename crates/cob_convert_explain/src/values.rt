@@ -6,8 +6,8 @@ use std::fmt;
 
 /// Bytes, which print as their hexadecimal digits.
 #[derive(Clone, Copy)]
-pub(crate) struct Digits<'a> {
-    pub(crate) bytes: &'a [u8],
+struct Digits<'a> {
+    bytes: &'a [u8],
 }
 
 impl fmt::Display for Digits<'_> {
@@ -22,9 +22,9 @@ impl fmt::Display for Digits<'_> {
 /// The value of an entry of these bytes, which prints as `show` prints it: a number, or `?` and the bytes of a number item that represent none, or
 /// characters in quotation marks; so those of a group.
 #[derive(Clone, Copy)]
-pub(crate) struct ValueText<'a> {
-    pub(crate) kind: &'a Kind,
-    pub(crate) bytes: &'a [u8],
+struct ValueText<'a> {
+    kind: &'a Kind,
+    bytes: &'a [u8],
 }
 
 /// Writes characters.
@@ -60,6 +60,31 @@ impl fmt::Display for ValueText<'_> {
         match self.kind {
             Kind::Item(item) => write_item(f, item, self.bytes),
             Kind::Group => write_quoted(f, self.bytes),
+        }
+    }
+}
+
+/// What an occurrence holds, which prints as its offset, its bytes, and its value where it is known what it describes.
+#[derive(Clone, Copy)]
+pub(crate) struct HeldText<'a> {
+    pub(crate) offset: u32,
+    pub(crate) kind: Option<&'a Kind>,
+    pub(crate) bytes: &'a [u8],
+}
+
+impl fmt::Display for HeldText<'_> {
+    fn fmt<W: fmt::Write>(&self, f: &mut fmt::Formatter<W>) -> fmt::Result {
+        let digits = Digits { bytes: self.bytes };
+        write!(f, "{} {digits}", self.offset)?;
+        match self.kind {
+            Some(kind) => {
+                let value = ValueText {
+                    kind,
+                    bytes: self.bytes,
+                };
+                write!(f, " {value}")
+            }
+            None => Ok(()),
         }
     }
 }

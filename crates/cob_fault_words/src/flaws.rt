@@ -22,24 +22,18 @@ pub enum NumberFlaw {
     Range,
 }
 
-/// Whether a sign stands at the first digit.
-fn is_leading(sign: Option<Sign>) -> bool
-    ensures { result ≡ is_leading sign }
+/// Whether the sign of an item stands at its first digit.
+fn has_leading_sign(item: &Item) -> bool
+    ensures { result ≡ is_leading item.now.sign }
 {
-    match sign {
-        Some(sign) => sign.leading,
-        None => false,
-    }
+    matches!(item.sign, Some(Sign { leading: true, .. }))
 }
 
-/// Whether a sign has a byte of its own.
-fn is_separate(sign: Option<Sign>) -> bool
-    ensures { result ≡ is_separate sign }
+/// Whether the sign of an item has a byte of its own.
+fn has_separate_sign(item: &Item) -> bool
+    ensures { result ≡ is_separate item.now.sign }
 {
-    match sign {
-        Some(sign) => sign.separate,
-        None => false,
-    }
+    matches!(item.sign, Some(Sign { separate: true, .. }))
 }
 
 /// How the number of an item lies in its bytes.
@@ -52,7 +46,7 @@ fn shape_of(item: &Item) -> Shape
 {
     // The symbols say that the picture is a numeric one, which has a byte for each digit.
     let _ = item.picture.runs();
-    Shape::of(&item.picture, is_leading(item.sign))
+    Shape::of(&item.picture, has_leading_sign(item))
 }
 
 /// A flaw of a part, where there is one.
@@ -78,7 +72,7 @@ fn flaw_in(item: &Item, bytes: &[u8]) -> Option<NumberFlaw>
         Usage::Packed => part(packed_flaw(&shape, bytes)),
         Usage::Binary => Some(NumberFlaw::Range),
         Usage::Display => {
-            if is_separate(item.sign) {
+            if has_separate_sign(item) {
                 part(separate_flaw(&shape, bytes))
             } else {
                 part(zoned_flaw(&shape, bytes))

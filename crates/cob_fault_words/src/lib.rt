@@ -21,8 +21,8 @@ mod counts;
 mod flaws;
 mod frames;
 mod items;
+mod numbers;
 mod occurrences;
-mod pictures;
 mod stops;
 
 pub use counts::{CountTable, counted_at};
@@ -30,5 +30,4 @@ pub use flaws::{NumberFlaw, number_flaw};
 pub use frames::frame_words;
 pub use items::ItemText;
 pub use occurrences::{Occurrence, Qualifying, SentText};
-pub use pictures::PictureText;
 pub use stops::{Asker, AskingMove, StopCase, StopText};

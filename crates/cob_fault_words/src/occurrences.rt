@@ -1,10 +1,10 @@
 //! Occurrences of entries and constants, as they are told.
 
-use arrayvec::ArrayVec;
+use crate::numbers::write_number;
 use cob_copybook_tree::{Figurative, Item, Kind, Name, Node, Value};
 use cob_decimal::Number;
 use cob_layout_places::{Ref, Sender, Side};
-use cob_lossless_words::Named;
+use cob_lossless_words::{Named, entry_of, write_subscripts};
 use std::fmt;
 
 /// The records of a paragraph, in which names are looked for.
@@ -22,19 +22,6 @@ pub struct Occurrence<'a> {
     pub side: Side,
     pub number: usize,
     pub subscripts: &'a [u32],
-}
-
-/// The entry with this number, of this one and those beneath it.
-fn entry_of(entry: &Node, number: usize) -> Option<&Node> {
-    if entry.number == number {
-        return Some(entry);
-    }
-    for child in entry.children.iter() {
-        if let Some(found) = entry_of(child, number) {
-            return Some(found);
-        }
-    }
-    None
 }
 
 /// Whether an entry has this name.
@@ -67,18 +54,6 @@ impl<'a> Qualifying<'a> {
     fn is_alone(&self, name: &Name) -> bool {
         count_named(self.input, name).saturating_add(count_named(self.output, name)) == 1
     }
-}
-
-/// Writes subscripts in brackets, parted by commas, where there are some.
-fn write_subscripts<W: fmt::Write>(f: &mut fmt::Formatter<W>, subscripts: &[u32]) -> fmt::Result {
-    let Some((first, others)) = subscripts.split_first() else {
-        return Ok(());
-    };
-    write!(f, " ({first}")?;
-    for subscript in others {
-        write!(f, ", {subscript}")?;
-    }
-    write!(f, ")")
 }
 
 impl<'a> Occurrence<'a> {
@@ -173,7 +148,7 @@ fn write_literal<W: fmt::Write>(f: &mut fmt::Formatter<W>, text: &[u8]) -> fmt::
 }
 
 /// Writes a numeric literal.
-fn write_number<W: fmt::Write>(
+fn write_numeric_literal<W: fmt::Write>(
     f: &mut fmt::Formatter<W>,
     signed: bool,
     number: &Number,
@@ -181,12 +156,7 @@ fn write_number<W: fmt::Write>(
     if signed && !number.negative() {
         write!(f, "+")?;
     }
-    let mut text: ArrayVec<u8, 64> = ArrayVec::new();
-    number.write_text(&mut text);
-    for character in text.as_slice() {
-        write!(f, "{}", char::from(*character))?;
-    }
-    Ok(())
+    write_number(f, number)
 }
 
 impl fmt::Display for SentText<'_> {
@@ -194,7 +164,7 @@ impl fmt::Display for SentText<'_> {
         match self {
             SentText::Entry(occurrence) => write!(f, "{occurrence}"),
             SentText::Constant(value) => match value {
-                Value::Number { signed, number } => write_number(f, *signed, number),
+                Value::Number { signed, number } => write_numeric_literal(f, *signed, number),
                 Value::Literal(text) => write_literal(f, text.as_bytes()),
                 Value::Figurative(figurative) => write!(f, "{}", figurative_word(*figurative)),
                 Value::All(text) => {

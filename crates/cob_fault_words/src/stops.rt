@@ -2,8 +2,8 @@
 
 use crate::flaws::{NumberFlaw, number_flaw};
 use crate::items::ItemText;
+use crate::numbers::write_number;
 use crate::occurrences::{Occurrence, SentText};
-use arrayvec::ArrayVec;
 use cob_codec::Reading;
 use cob_copybook_tree::{Item, Usage, is_number_item, read_sent};
 use cob_number_flaws::FlawText;
@@ -90,13 +90,8 @@ fn write_whole<W: fmt::Write>(f: &mut fmt::Formatter<W>, item: &Item, bytes: &[u
     let Some(number) = read_sent(Reading::Whole, item, bytes) else {
         return Ok(());
     };
-    let mut text: ArrayVec<u8, 64> = ArrayVec::new();
-    number.write_text(&mut text);
     write!(f, ": they are ")?;
-    for character in text.as_slice() {
-        write!(f, "{}", char::from(*character))?;
-    }
-    Ok(())
+    write_number(f, &number)
 }
 
 /// Writes why the bytes of a number represent none.
@@ -179,13 +174,8 @@ fn write_count_flaw<W: fmt::Write>(
     match read_sent(Reading::Pictured, item, bytes) {
         None => write_value_flaw(f, item, bytes, Reading::Pictured),
         Some(number) => {
-            let mut text: ArrayVec<u8, 64> = ArrayVec::new();
-            number.write_text(&mut text);
             write!(f, "it is ")?;
-            for character in text.as_slice() {
-                write!(f, "{}", char::from(*character))?;
-            }
-            Ok(())
+            write_number(f, &number)
         }
     }
 }

@@ -99,7 +99,10 @@ fn write_names<W: fmt::Write>(
 }
 
 /// Writes subscripts in brackets, parted by commas, where there are some.
-fn write_subscripts<W: fmt::Write>(f: &mut fmt::Formatter<W>, subscripts: &[u32]) -> fmt::Result {
+pub fn write_subscripts<W: fmt::Write>(
+    f: &mut fmt::Formatter<W>,
+    subscripts: &[u32],
+) -> fmt::Result {
     let Some((first, others)) = subscripts.split_first() else {
         return Ok(());
     };

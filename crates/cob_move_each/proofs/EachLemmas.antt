@@ -33,7 +33,7 @@ use Rattle.cob_move_apply.proofs.ListLemmas.{next}
 use Rattle.cob_move_each.specs.declared.single.Asked.TheVariants as asked
 use Rattle.cob_move_each.specs.declared.single.AskedStop.{AskedStop}
 use Rattle.cob_move_each.specs.declared.single.MoveStop.{MoveStop}
-use Rattle.cob_move_each.specs.Each.{AreOfMove, AreOfMoves, AreSentBy, AreSingles, EachEnding, GetsAt, IsSingle, LacksFor, NumberedMove, Sees, Single, all_done, append_singles, asked_stop, each_ending, pair_move, statement_moves, stop_of, stopped_at}
+use Rattle.cob_move_each.specs.Each.{AreOfMove, AreOfMoves, AreSentBy, AreSingles, EachEnding, GetsAt, IsSingleTo, LacksFor, NumberedMove, Sees, Single, all_done, append_singles, asked_stop, each_ending, numbered_of_pair, numbered_of_statement, stop_of, stopped_at}
 
 -- ---- what was seen
 
@@ -89,7 +89,7 @@ give_none t m content qs before old = ([], seen_none old, λ rest end h. h)
 -- a receiver got it, and it was seen
 abbrev pub WasGiven : Forest Resolved → NumberedMove → Content → ℕ → Ref → List ℕ → List ℕ → Option (List Single) → Option (List Single) → Type 0
 WasGiven t m content i q now after mid new =
-    (one : Single) × IsSingle t m i content q now one × (one.storage ≡ after) × (new ≡ append_singles mid (one ∷ []))
+    (one : Single) × IsSingleTo t m i content q now one × (one.storage ≡ after) × (new ≡ append_singles mid (one ∷ []))
 
 pub give_more : (t : Forest Resolved) (m : NumberedMove) (content : Content) (qs : List Ref) (i : ℕ) (q : Ref) (before now after : List ℕ) (old mid new : Option (List Single))
     → i < length qs → q ≡ get_or qs i q → SoFar t m content qs i before now old mid → WasGiven t m content i q now after mid new
@@ -175,11 +175,11 @@ both x r [] ys input before mid own rest end (none, is) h =
     (subst (λ (s : List ℕ). AreOfMoves x r ys input s rest end) (ap (λ (e : EachEnding). e.storage) is) h)
 both x r (m ∷ ms) ys input before mid own rest end (inl (a, b, after, is, one, more)) h =
     inl (a, b ++ rest, after, ap (λ (os : List Single). os ++ rest) is ∙ append_assoc a b rest, one, both x r ms ys input after mid b rest end more h)
-both x r (m ∷ ms) ys input before mid own rest end (inr (stop, after, one, is)) h = let ends = ap (λ (e : EachEnding). e.stop) is in cc
+both x r (m ∷ ms) ys input before mid own rest end (inr (stop, after, one, is)) h = let ends = ap (λ (e : EachEnding). e.stops_at) is in cc
 
 pub first_stops : (x : Reading) (r : Records) (xs ys : List NumberedMove) (input before after : List ℕ) (own : List Single) (stop : MoveStop) → AreOfMoves x r xs input before own (stopped_at stop after)
     → AreOfMoves x r (xs ++ ys) input before own (stopped_at stop after)
-first_stops x r [] ys input before after own stop (none, is) = let ends = ap (λ (e : EachEnding). e.stop) is in cc
+first_stops x r [] ys input before after own stop (none, is) = let ends = ap (λ (e : EachEnding). e.stops_at) is in cc
 first_stops x r (m ∷ ms) ys input before after own stop (inl (a, b, mid, is, one, more)) = inl (a, b, mid, is, one, first_stops x r ms ys input mid after b stop more)
 first_stops x r (m ∷ ms) ys input before after own stop (inr (s, mid, one, is)) = inr (s, mid, one, is)
 
@@ -234,9 +234,9 @@ of_parts n k s qs = record { statement = n; pair = k; sender = s; receivers = qs
 
 pub pair_seen : (x : Reading) (r : Records) (n k : ℕ) (g : PairMoves) (p : NumberedPair) (from to : Ref) (tos : List Ref) (input before : List ℕ) (old new : Option (List Single)) (end : EachEnding)
     → from ≡ entry_below g.from p.from → to ≡ entry_below g.to p.to → tos ≡ to ∷ [] → Sees old new (λ ones. AreOfMove x r (of_parts n k (code_sender.Entry g.side from) tos) input before ones end)
-    → Sees old new (λ ones. AreOfMove x r (pair_move n g k p) input before ones end)
+    → Sees old new (λ ones. AreOfMove x r (numbered_of_pair n g k p) input before ones end)
 pair_seen x r n k g p from to tos input before old new end from_is to_is one (ones, seen, h) =
-    let whole : of_parts n k (code_sender.Entry g.side from) tos ≡ pair_move n g k p =
+    let whole : of_parts n k (code_sender.Entry g.side from) tos ≡ numbered_of_pair n g k p =
     ap (λ (f : Ref). of_parts n k (code_sender.Entry g.side f) tos) from_is
     ∙ ap (of_parts n k (code_sender.Entry g.side (entry_below g.from p.from))) (one ∙ ap (λ (t : Ref). t ∷ []) to_is) in
     (ones, seen, subst (λ (m : NumberedMove). AreOfMove x r m input before ones end) whole h)
@@ -257,8 +257,8 @@ single_seen x r n s qs items input before old new end is (ones, seen, h) =
 
 pub single_statement : {A : Type 0} (x : Reading) (r : Records) (n : ℕ) (s : StatementMoves) (one : code_move.Move) (qs : List Ref) (input before after : List ℕ) (old new : Option (List Single)) (answer : Result A MoveStop)
     → s ≡ SingleMoves one → qs ≡ one.receivers.items → Sees old new (λ ones. AreOfMove x r (of_parts n 0 one.sender qs) input before ones (each_ending answer after))
-    → Sees old new (λ ones. AreOfMoves x r (statement_moves n s) input before ones (each_ending answer after))
+    → Sees old new (λ ones. AreOfMoves x r (numbered_of_statement n s) input before ones (each_ending answer after))
 single_statement x r n s one qs input before after old new answer is all h =
-    subst (λ (t : StatementMoves). Sees old new (λ ones. AreOfMoves x r (statement_moves n t) input before ones (each_ending answer after))) (sym is)
+    subst (λ (t : StatementMoves). Sees old new (λ ones. AreOfMoves x r (numbered_of_statement n t) input before ones (each_ending answer after))) (sym is)
     (single_seen x r n one.sender qs one.receivers.items input before old new (each_ending answer after) all
     (one_alone x r (of_parts n 0 one.sender qs) input before after old new answer h))

@@ -15,11 +15,11 @@ use Rattle.cob_move_apply.specs.Applied.{AllGet, Applied, Content, Gets, IsMoved
 use Rattle.cob_move_apply.proofs.ListLemmas.{next, read_is}
 use Rattle.cob_move_each.specs.declared.single.AskedStop.{AskedStop}
 use Rattle.cob_move_each.specs.declared.single.MoveStop.{MoveStop}
-use Rattle.cob_move_each.specs.Each.{AreOfMove, AreOfMoves, AreSingles, EachEnding, IsSingle, LacksFor, NumberedMove, Single, meant, numbered_moves, pair_move, pair_moves, plain_ending, statement_moves}
+use Rattle.cob_move_each.specs.Each.{AreOfMove, AreOfMoves, AreSingles, EachEnding, IsSingleTo, LacksFor, NumberedMove, Single, move_meant, numbered_moves, numbered_of_pair, numbered_of_pairs, plain_ending, numbered_of_statement}
 
 -- ---- what they make of the storage
 
-gets_one : (t : Forest Resolved) (m : NumberedMove) (k : ℕ) (content : Content) (q : Ref) (before : List ℕ) (one : Single) → IsSingle t m k content q before one
+gets_one : (t : Forest Resolved) (m : NumberedMove) (k : ℕ) (content : Content) (q : Ref) (before : List ℕ) (one : Single) → IsSingleTo t m k content q before one
     → Gets t content (operand_in t q) before (Ok one.storage)
 gets_one t m k content q before one (is, (bytes, at, received, after)) = (one.place, bytes, at, received, after)
 
@@ -36,12 +36,12 @@ all_get t m content k (q ∷ qs) before (one ∷ ones) end (single, more) =
     inl (one.storage, gets_one t m k content q before one single, all_get t m content (k + 1) qs one.storage ones end more)
 
 is_moved : (x : Reading) (r : Records) (m : NumberedMove) (input before : List ℕ) (ones : List Single) (end : EachEnding) → AreOfMove x r m input before ones end
-    → IsMoved r (meant x r m) input before (plain_ending end)
+    → IsMoved r (move_meant x r m) input before (plain_ending end)
 is_moved x r m input before ones end (inl (content, gives, singles)) = inl (content, gives, all_get r.output m content 0 m.receivers before ones end singles)
 is_moved x r m input before ones end (inr (stop, gives, none, is)) = inr (stop, gives, ap plain_ending is)
 
 applied : (x : Reading) (r : Records) (ms : List NumberedMove) (input before : List ℕ) (ones : List Single) (end : EachEnding) → AreOfMoves x r ms input before ones end
-    → Applied r (map (meant x r) ms) input before (plain_ending end)
+    → Applied r (map (move_meant x r) ms) input before (plain_ending end)
 applied x r [] input before ones end (none, is) = ap plain_ending is
 applied x r (m ∷ ms) input before ones end (inl (own, rest, after, is, one, more)) =
     inl (after, is_moved x r m input before own _ one, applied x r ms input after rest end more)
@@ -50,19 +50,19 @@ applied x r (m ∷ ms) input before ones end (inr (stop, after, one, is)) =
 
 -- ---- numbered moves are those of the statements
 
-pairs_meant : (x : Reading) (r : Records) (n : ℕ) (g : PairMoves) (k : ℕ) (ps : List NumberedPair) → map (meant x r) (pair_moves n g k ps) ≡ map (numbered_move_by x r g) ps
+pairs_meant : (x : Reading) (r : Records) (n : ℕ) (g : PairMoves) (k : ℕ) (ps : List NumberedPair) → map (move_meant x r) (numbered_of_pairs n g k ps) ≡ map (numbered_move_by x r g) ps
 pairs_meant x r n g k [] = refl
 pairs_meant x r n g k (p ∷ ps) = ap (λ (ms : List Move). numbered_move_by x r g p ∷ ms) (pairs_meant x r n g (k + 1) ps)
 
-statement_meant : (x : Reading) (r : Records) (n : ℕ) (s : StatementMoves) → map (meant x r) (statement_moves n s) ≡ statement_moves_by x r s
+statement_meant : (x : Reading) (r : Records) (n : ℕ) (s : StatementMoves) → map (move_meant x r) (numbered_of_statement n s) ≡ statement_moves_by x r s
 statement_meant x r n (SingleMoves m) = refl
 statement_meant x r n (Pairs g) = pairs_meant x r n g 0 g.pairs.items
 
-all_meant : (x : Reading) (r : Records) (n : ℕ) (ss : List StatementMoves) → map (meant x r) (numbered_moves n ss) ≡ moves_by x r ss
+all_meant : (x : Reading) (r : Records) (n : ℕ) (ss : List StatementMoves) → map (move_meant x r) (numbered_moves n ss) ≡ moves_by x r ss
 all_meant x r n [] = refl
 all_meant x r n (s ∷ ss) =
-    map-append (meant x r) (statement_moves n s) (numbered_moves (n + 1) ss)
-    ∙ ap (λ (ms : List Move). ms ++ map (meant x r) (numbered_moves (n + 1) ss)) (statement_meant x r n s)
+    map-append (move_meant x r) (numbered_of_statement n s) (numbered_moves (n + 1) ss)
+    ∙ ap (λ (ms : List Move). ms ++ map (move_meant x r) (numbered_moves (n + 1) ss)) (statement_meant x r n s)
     ∙ ap (λ (ms : List Move). statement_moves_by x r s ++ ms) (all_meant x r (n + 1) ss)
 
 pub applied_all : (x : Reading) (r : Records) (ss : List StatementMoves) (input before : List ℕ) (ones : List Single) (end : EachEnding)
@@ -73,7 +73,7 @@ applied_all x r ss input before ones end h =
 -- ---- those of one statement, and those behind it
 
 pub cut_statement : (ss : List StatementMoves) (i : ℕ) (s : StatementMoves) → i < length ss → s ≡ get_or ss i s
-    → numbered_moves i (drop i ss) ≡ statement_moves i s ++ numbered_moves (i + 1) (drop (i + 1) ss)
+    → numbered_moves i (drop i ss) ≡ numbered_of_statement i s ++ numbered_moves (i + 1) (drop (i + 1) ss)
 cut_statement ss i s lt is = ap (λ (xs : List StatementMoves). numbered_moves i xs) (next ss i s lt is)
 
 pub no_statement : (ss : List StatementMoves) (i : ℕ) → length ss ≤ i → numbered_moves i (drop i ss) ≡ []
@@ -87,11 +87,11 @@ pub pair_is : (ps : List NumberedPair) (i : ℕ) → i < length ps → the_pair 
 pair_is ps i lt = read_is ps i (record { from = 0; to = 0 }) lt
 
 pub cut_pair : (n : ℕ) (g : PairMoves) (ps : List NumberedPair) (i : ℕ) (p : NumberedPair) → i < length ps → p ≡ get_or ps i p
-    → pair_moves n g i (drop i ps) ≡ (pair_move n g i p ∷ []) ++ pair_moves n g (i + 1) (drop (i + 1) ps)
-cut_pair n g ps i p lt is = ap (λ (xs : List NumberedPair). pair_moves n g i xs) (next ps i p lt is)
+    → numbered_of_pairs n g i (drop i ps) ≡ (numbered_of_pair n g i p ∷ []) ++ numbered_of_pairs n g (i + 1) (drop (i + 1) ps)
+cut_pair n g ps i p lt is = ap (λ (xs : List NumberedPair). numbered_of_pairs n g i xs) (next ps i p lt is)
 
-pub no_pair : (n : ℕ) (g : PairMoves) (ps : List NumberedPair) (i : ℕ) → length ps ≤ i → pair_moves n g i (drop i ps) ≡ []
-no_pair n g ps i past = ap (λ (xs : List NumberedPair). pair_moves n g i xs) (drop_all i ps past)
+pub no_pair : (n : ℕ) (g : PairMoves) (ps : List NumberedPair) (i : ℕ) → length ps ≤ i → numbered_of_pairs n g i (drop i ps) ≡ []
+no_pair n g ps i past = ap (λ (xs : List NumberedPair). numbered_of_pairs n g i xs) (drop_all i ps past)
 
 -- ---- they are moves between the records
 

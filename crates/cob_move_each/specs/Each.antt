@@ -33,8 +33,8 @@ pub record NumberedMove : Type 0 where
   pub receivers : List Ref
 
 -- the move of a pair of two groups
-abbrev pub pair_move : ℕ → PairMoves → ℕ → NumberedPair → NumberedMove
-pair_move n g k p = record {
+abbrev pub numbered_of_pair : ℕ → PairMoves → ℕ → NumberedPair → NumberedMove
+numbered_of_pair n g k p = record {
   statement = n;
   pair = k;
   sender = code_sender.Entry g.side (entry_below g.from p.from);
@@ -42,27 +42,27 @@ pair_move n g k p = record {
 }
 
 -- the moves of pairs of two groups, which are numbered from there
-abbrev pub pair_moves : ℕ → PairMoves → ℕ → List NumberedPair → List NumberedMove
-pair_moves n g k [] = []
-pair_moves n g k (p ∷ ps) = pair_move n g k p ∷ pair_moves n g (k + 1) ps
+abbrev pub numbered_of_pairs : ℕ → PairMoves → ℕ → List NumberedPair → List NumberedMove
+numbered_of_pairs n g k [] = []
+numbered_of_pairs n g k (p ∷ ps) = numbered_of_pair n g k p ∷ numbered_of_pairs n g (k + 1) ps
 
 -- the moves of a statement
-abbrev pub statement_moves : ℕ → StatementMoves → List NumberedMove
-statement_moves n (SingleMoves m) = record { statement = n; pair = 0; sender = m.sender; receivers = m.receivers.items } ∷ []
-statement_moves n (Pairs g) = pair_moves n g 0 g.pairs.items
+abbrev pub numbered_of_statement : ℕ → StatementMoves → List NumberedMove
+numbered_of_statement n (SingleMoves m) = record { statement = n; pair = 0; sender = m.sender; receivers = m.receivers.items } ∷ []
+numbered_of_statement n (Pairs g) = numbered_of_pairs n g 0 g.pairs.items
 
 -- the moves of statements, which are numbered from there
 abbrev pub numbered_moves : ℕ → List StatementMoves → List NumberedMove
 numbered_moves n [] = []
-numbered_moves n (s ∷ ss) = statement_moves n s ++ numbered_moves (n + 1) ss
+numbered_moves n (s ∷ ss) = numbered_of_statement n s ++ numbered_moves (n + 1) ss
 
 -- the move between two records that it is, its sender read so
-abbrev pub meant : Reading → Records → NumberedMove → Move
-meant reading r m = record { sender = sender_by reading r m.sender; receivers = map (operand_in r.output) m.receivers }
+abbrev pub move_meant : Reading → Records → NumberedMove → Move
+move_meant reading r m = record { sender = sender_by reading r m.sender; receivers = map (operand_in r.output) m.receivers }
 
 -- which single move is that to the receiver with this number
-abbrev pub number_of : NumberedMove → ℕ → SingleNumber
-number_of m k = record { statement = m.statement; pair = m.pair; receiver = k }
+abbrev pub single_number : NumberedMove → ℕ → SingleNumber
+single_number m k = record { statement = m.statement; pair = m.pair; receiver = k }
 
 -- A single move that was carried out: which it is, its sender and what that gave, its receiver with its place, and the storage behind it.
 pub record Single : Type 0 where
@@ -76,7 +76,7 @@ pub record Single : Type 0 where
 -- the single move of a move to its receiver with this number
 abbrev pub single : NumberedMove → ℕ → Content → Ref → Place → List ℕ → Single
 single m k content q p storage =
-    record { number = number_of m k; sender = m.sender; content = content; receiver = q; place = p; storage = storage }
+    record { number = single_number m k; sender = m.sender; content = content; receiver = q; place = p; storage = storage }
 
 -- A receiver gets what the sender gave: at its place the bytes become what it receives, and all others stay.
 abbrev pub GetsAt : Forest Resolved → Content → Ref → List ℕ → Place → List ℕ → Type 0
@@ -85,8 +85,8 @@ GetsAt tree content q before p after =
     × Received content.sent (operand_in tree q).kind p.length (Some bytes) × (after ≡ with_field before p bytes)
 
 -- it is the single move of a move to this receiver, which has this number
-abbrev pub IsSingle : Forest Resolved → NumberedMove → ℕ → Content → Ref → List ℕ → Single → Type 0
-IsSingle tree m k content q before one =
+abbrev pub IsSingleTo : Forest Resolved → NumberedMove → ℕ → Content → Ref → List ℕ → Single → Type 0
+IsSingleTo tree m k content q before one =
     (one ≡ single m k content q one.place one.storage) × GetsAt tree content q before one.place one.storage
 
 -- what is asked for, and why it isn't there
@@ -103,20 +103,20 @@ LacksFor tree content q before lack =
 
 -- the stop of a single move
 abbrev pub stop_of : NumberedMove → ℕ → AskedStop → MoveStop
-stop_of m k lack = record { number = number_of m k; asked = lack.asked; stop = lack.stop }
+stop_of m k lack = record { number = single_number m k; asked = lack.asked; stop = lack.stop }
 
--- how single moves end: with a stop or none, and with the storage that they leave
+-- how single moves end: with the one that stops or none, and with the storage that they leave
 pub record EachEnding : Type 0 where
-  pub stop : Option MoveStop
+  pub stops_at : Option MoveStop
   pub storage : List ℕ
 
 -- all are done
 abbrev pub all_done : List ℕ → EachEnding
-all_done storage = record { stop = None; storage = storage }
+all_done storage = record { stops_at = None; storage = storage }
 
 -- something is missing
 abbrev pub stopped_at : MoveStop → List ℕ → EachEnding
-stopped_at stop storage = record { stop = Some stop; storage = storage }
+stopped_at stop storage = record { stops_at = Some stop; storage = storage }
 
 -- These are the single moves of a move's receivers in turn, which are numbered from there, up to the first that stops.
 abbrev pub AreSingles : Forest Resolved → NumberedMove → Content → ℕ → List Ref → List ℕ → List Single → EachEnding → Type 0
@@ -124,7 +124,7 @@ AreSingles tree m content k [] before ones end = (ones ≡ []) × (end ≡ all_d
 AreSingles tree m content k (q ∷ qs) before [] end =
     (lack : AskedStop) × LacksFor tree content q before lack × (end ≡ stopped_at (stop_of m k lack) before)
 AreSingles tree m content k (q ∷ qs) before (one ∷ ones) end =
-    IsSingle tree m k content q before one × AreSingles tree m content (k + 1) qs one.storage ones end
+    IsSingleTo tree m k content q before one × AreSingles tree m content (k + 1) qs one.storage ones end
 
 -- These are the single moves of a move that sends this: what the sender gives is taken once, before the first receiver.
 abbrev pub AreSentBy : Sender → Records → NumberedMove → List ℕ → List ℕ → List Single → EachEnding → Type 0
@@ -147,7 +147,7 @@ AreOfMoves reading r (m ∷ ms) input before ones end =
 
 -- the same ending, without which single move it is that stops
 abbrev pub plain_ending : EachEnding → Ending
-plain_ending end = record { stop = option_map (λ s. s.stop) end.stop; storage = end.storage }
+plain_ending end = record { stop = option_map (λ s. s.stop) end.stops_at; storage = end.storage }
 
 -- the ending that an answer tells
 abbrev pub each_ending : {A : Type 0} → Result A MoveStop → List ℕ → EachEnding
@@ -156,8 +156,7 @@ each_ending (Err stop) storage = stopped_at stop storage
 
 -- the single moves that were seen, where that is told, and then these
 abbrev pub append_singles : Option (List Single) → List Single → Option (List Single)
-append_singles None more = None
-append_singles (Some ones) more = Some (ones ++ more)
+append_singles seen more = option_map (λ ones. ones ++ more) seen
 
 -- what was seen grew by single moves that are so
 abbrev pub Sees : Option (List Single) → Option (List Single) → (List Single → Type 0) → Type 0

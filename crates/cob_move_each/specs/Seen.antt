@@ -11,15 +11,15 @@ use Rattle.cob_move_each.specs.declared.single.SingleMove.{SingleMove}
 use Rattle.cob_move_each.specs.declared.room.RecordLayouts.{RecordLayouts}
 
 -- what the code's value gives
-abbrev pub content_of : Given → Content
-content_of g = record { sent = sent g.sent; side = g.side; offset = g.offset }
+abbrev pub given_content : Given → Content
+given_content g = record { sent = sent g.sent; side = g.side; offset = g.offset }
 
 -- a single move that is handed out
-abbrev pub single_of : SingleMove → Single
-single_of one = record {
+abbrev pub handed_single : SingleMove → Single
+handed_single one = record {
   number = one.number;
   sender = one.sender.now;
-  content = content_of one.given;
+  content = given_content one.given;
   receiver = one.receiver.now;
   place = one.place;
   storage = one.storage.now;
@@ -30,5 +30,5 @@ abbrev pub move_of : MoveParts → NumberedMove
 move_of m = record { statement = m.statement; pair = m.pair; sender = m.sender.now; receivers = m.receivers.now }
 
 -- the records of these layouts
-abbrev pub records : RecordLayouts → Records
-records l = record { input = l.input.now; output = l.output.now }
+abbrev pub records_of_layouts : RecordLayouts → Records
+records_of_layouts l = record { input = l.input.now; output = l.output.now }

@@ -1,7 +1,7 @@
 //! What single moves on one record work with.
 
 ghost use Rattle.std.specs.Prelude.{◌≡◌, IfOk};
-ghost use Rattle.cob_move_each.specs.Room.{HasRoom};
+ghost use Rattle.cob_move_each.specs.Room.{HasEachRoom};
 
 use cob_codec::Reading;
 use cob_layout::{Counts, Layout};
@@ -37,7 +37,7 @@ impl EachRoom {
     ///
     /// Where no memory is left.
     pub fn new(alloc: Global, input: &Layout, output: &Layout) -> Result<EachRoom, AllocError>
-        ensures { IfOk result (HasRoom (record { input = input.now; output = output.now })) }
+        ensures { IfOk result (HasEachRoom (record { input = input.now; output = output.now })) }
     {
         let content = vec![in alloc; 0u8; usize::from(output.greatest())]?;
         Ok(EachRoom {

@@ -1,33 +1,30 @@
 //! One move: what its sender gives, and its receivers in turn.
 
-ghost use Rattle.std.specs.Prelude.{◌≡◌, ◌+◌, ◌≤◌, length, map, take};
+ghost use Rattle.std.specs.Prelude.{◌≡◌, ◌≤◌, length, map, take};
 ghost use Rattle.std.specs.List.{AllByRecursion};
-ghost use Rattle.cob_layout.specs.Fields.{field_of};
 ghost use Rattle.cob_layout.specs.Sound.{IsSound};
 ghost use Rattle.cob_layout.specs.Storage.{greatest_length, IsStorage};
 ghost use Rattle.cob_layout_places.specs.Moves.{Entry, IsOperand, IsSender, operand_in, sender_by};
 ghost use Rattle.cob_layout_places.specs.declared.operands.Side.TheVariants.{In, Out};
 ghost use Rattle.cob_move_each.specs.Each.{AreOfMove, AreSentBy, Sees, each_ending};
-ghost use Rattle.cob_move_each.specs.Room.{HasRoom};
-ghost use Rattle.cob_move_each.specs.Seen.{move_of, records};
+ghost use Rattle.cob_move_each.specs.Room.{HasEachRoom};
+ghost use Rattle.cob_move_each.specs.Seen.{move_of, records_of_layouts};
 
 use crate::giving::give_all;
 use crate::places::{Stored, entry_kind, locate};
 use crate::room::{EachRoom, RecordLayouts};
 use crate::single::{Given, MoveParts, MoveStop, sender_stop};
 use crate::watcher::Watcher;
-use cob_layout::{Place, Ref, field, places_lie_in_storage};
+use cob_layout::{Ref, field, places_lie_in_storage};
 use cob_layout_places::{Sender, Side};
 use cob_move_receive::Sent;
 
-/// Copies the bytes of a place to the front of `content`.
-fn copy_field(place: Place, bytes: &[u8], content: &mut [u8])
-    requires within { place.offset + place.length ≤ length bytes.now }
-    requires room { place.length ≤ length content.old }
-    ensures { take place.length content.new ≡ field_of place bytes.now }
+/// Keeps bytes in front of `content`.
+fn keep_bytes(bytes: &[u8], content: &mut [u8])
+    requires { length bytes.now ≤ length content.old }
+    ensures { take (length bytes.now) content.new ≡ bytes.now }
 {
-    let count = place.length as usize;
-    content[..count].copy_from_slice(field(bytes, place));
+    content[..bytes.len()].copy_from_slice(bytes);
 }
 
 /// Moves an entry of the input record, whose bytes are read where they stand.
@@ -52,12 +49,12 @@ fn walk_from_input<W: Watcher>(
         (map (operand_in layouts.now.output.now) parts.now.receivers.now) }
     requires input { IsStorage layouts.now.input.now input.now }
     requires output { length output.old ≡ greatest_length layouts.now.output.now }
-    requires room { HasRoom (records layouts.now) room.old }
+    requires room { HasEachRoom (records_of_layouts layouts.now) room.old }
     ensures seen { Sees (W.seen watcher.old) (W.seen watcher.new) (λ ones. AreSentBy
         (Entry In layouts.now.reading (operand_in layouts.now.input.now entry.now))
-        (records layouts.now) (move_of parts.now) input.now output.old ones
+        (records_of_layouts layouts.now) (move_of parts.now) input.now output.old ones
         (each_ending result output.new)) }
-    ensures room { HasRoom (records layouts.now) room.new }
+    ensures room { HasEachRoom (records_of_layouts layouts.now) room.new }
 {
     let _ = layouts.input.greatest();
     places_lie_in_storage();
@@ -103,12 +100,12 @@ fn walk_within_output<W: Watcher>(
     requires receivers { AllByRecursion (IsOperand layouts.now.output.now)
         (map (operand_in layouts.now.output.now) parts.now.receivers.now) }
     requires output { length output.old ≡ greatest_length layouts.now.output.now }
-    requires room { HasRoom (records layouts.now) room.old }
+    requires room { HasEachRoom (records_of_layouts layouts.now) room.old }
     ensures seen { Sees (W.seen watcher.old) (W.seen watcher.new) (λ ones. AreSentBy
         (Entry Out layouts.now.reading (operand_in layouts.now.output.now entry.now))
-        (records layouts.now) (move_of parts.now) input.now output.old ones
+        (records_of_layouts layouts.now) (move_of parts.now) input.now output.old ones
         (each_ending result output.new)) }
-    ensures room { HasRoom (records layouts.now) room.new }
+    ensures room { HasEachRoom (records_of_layouts layouts.now) room.new }
 {
     let stored = Stored {
         side: Side::Out,
@@ -119,11 +116,13 @@ fn walk_within_output<W: Watcher>(
         Ok(place) => place,
         Err(stop) => return Err(sender_stop(parts, stop)),
     };
-    copy_field(place, output, room.content.as_mut_slice());
+    let sent = field(output, place);
+    let count = sent.len();
+    keep_bytes(sent, room.content.as_mut_slice());
     let given = Given {
         sent: Sent::Entry {
             kind: entry_kind(layouts.output, entry),
-            bytes: &room.content.as_slice()[..place.length as usize],
+            bytes: &room.content.as_slice()[..count],
             reading: layouts.reading,
         },
         side: Side::Out,
@@ -148,17 +147,17 @@ pub(crate) fn walk_move<W: Watcher>(
 ) -> Result<(), MoveStop>
     requires in_sound { IsSound layouts.now.input.now }
     requires out_sound { IsSound layouts.now.output.now }
-    requires sender { IsSender (records layouts.now)
-        (sender_by layouts.now.reading (records layouts.now) parts.now.sender.now) }
+    requires sender { IsSender (records_of_layouts layouts.now)
+        (sender_by layouts.now.reading (records_of_layouts layouts.now) parts.now.sender.now) }
     requires receivers { AllByRecursion (IsOperand layouts.now.output.now)
         (map (operand_in layouts.now.output.now) parts.now.receivers.now) }
     requires input { IsStorage layouts.now.input.now input.now }
     requires output { length output.old ≡ greatest_length layouts.now.output.now }
-    requires room { HasRoom (records layouts.now) room.old }
+    requires room { HasEachRoom (records_of_layouts layouts.now) room.old }
     ensures seen { Sees (W.seen watcher.old) (W.seen watcher.new)
-        (λ ones. AreOfMove layouts.now.reading (records layouts.now) (move_of parts.now) input.now
+        (λ ones. AreOfMove layouts.now.reading (records_of_layouts layouts.now) (move_of parts.now) input.now
         output.old ones (each_ending result output.new)) }
-    ensures room { HasRoom (records layouts.now) room.new }
+    ensures room { HasEachRoom (records_of_layouts layouts.now) room.new }
 {
     match parts.sender {
         Sender::Entry {

@@ -5,9 +5,9 @@ ghost use Rattle.cob_limits.specs.Limits.{most_dimensions};
 ghost use Rattle.cob_layout.specs.Sound.{IsSound};
 ghost use Rattle.cob_layout.specs.Storage.{greatest_length, IsStorage};
 ghost use Rattle.cob_layout_places.specs.Moves.{AreMoves, IsMove, entry_below, numbered_move_by, statement_moves_by};
-ghost use Rattle.cob_move_each.specs.Each.{AreOfMove, AreOfMoves, Sees, each_ending, pair_move, pair_moves, statement_moves};
-ghost use Rattle.cob_move_each.specs.Room.{HasRoom};
-ghost use Rattle.cob_move_each.specs.Seen.{records};
+ghost use Rattle.cob_move_each.specs.Each.{AreOfMove, AreOfMoves, Sees, each_ending, numbered_of_pair, numbered_of_pairs, numbered_of_statement};
+ghost use Rattle.cob_move_each.specs.Room.{HasEachRoom};
+ghost use Rattle.cob_move_each.specs.Seen.{records_of_layouts};
 
 use crate::room::{EachRoom, RecordLayouts};
 use crate::senders::walk_move;
@@ -25,9 +25,7 @@ fn same_subscripts(subscripts: &[u32]) -> ArrayVec<u32, MAX_SUBSCRIPTS>
     ensures { result.items ≡ subscripts.now }
 {
     let mut same = ArrayVec::new();
-    for subscript in subscripts {
-        same.push(*subscript);
-    }
+    let _ = same.try_extend_from_slice(subscripts);
     same
 }
 
@@ -59,16 +57,16 @@ fn walk_pair<W: Watcher>(
 ) -> Result<(), MoveStop>
     requires in_sound { IsSound layouts.now.input.now }
     requires out_sound { IsSound layouts.now.output.now }
-    requires moves { IsMove (records layouts.now)
-        (numbered_move_by layouts.now.reading (records layouts.now) group.now pair.now) }
+    requires moves { IsMove (records_of_layouts layouts.now)
+        (numbered_move_by layouts.now.reading (records_of_layouts layouts.now) group.now pair.now) }
     requires input { IsStorage layouts.now.input.now input.now }
     requires output { length output.old ≡ greatest_length layouts.now.output.now }
-    requires room { HasRoom (records layouts.now) room.old }
+    requires room { HasEachRoom (records_of_layouts layouts.now) room.old }
     ensures seen { Sees (W.seen watcher.old) (W.seen watcher.new)
-        (λ ones. AreOfMove layouts.now.reading (records layouts.now)
-        (pair_move statement group.now index pair.now) input.now
+        (λ ones. AreOfMove layouts.now.reading (records_of_layouts layouts.now)
+        (numbered_of_pair statement group.now index pair.now) input.now
         output.old ones (each_ending result output.new)) }
-    ensures room { HasRoom (records layouts.now) room.new }
+    ensures room { HasEachRoom (records_of_layouts layouts.now) room.new }
 {
     let sender = Sender::Entry {
         side: group.side,
@@ -100,17 +98,17 @@ fn walk_pairs<W: Watcher>(
 ) -> Result<(), MoveStop>
     requires in_sound { IsSound layouts.now.input.now }
     requires out_sound { IsSound layouts.now.output.now }
-    requires moves { AreMoves (records layouts.now)
-        (map (numbered_move_by layouts.now.reading (records layouts.now) group.now)
+    requires moves { AreMoves (records_of_layouts layouts.now)
+        (map (numbered_move_by layouts.now.reading (records_of_layouts layouts.now) group.now)
         group.now.pairs.items) }
     requires input { IsStorage layouts.now.input.now input.now }
     requires output { length output.old ≡ greatest_length layouts.now.output.now }
-    requires room { HasRoom (records layouts.now) room.old }
+    requires room { HasEachRoom (records_of_layouts layouts.now) room.old }
     ensures seen { Sees (W.seen watcher.old) (W.seen watcher.new)
-        (λ ones. AreOfMoves layouts.now.reading (records layouts.now)
-        (pair_moves statement group.now 0 group.now.pairs.items) input.now
+        (λ ones. AreOfMoves layouts.now.reading (records_of_layouts layouts.now)
+        (numbered_of_pairs statement group.now 0 group.now.pairs.items) input.now
         output.old ones (each_ending result output.new)) }
-    ensures room { HasRoom (records layouts.now) room.new }
+    ensures room { HasEachRoom (records_of_layouts layouts.now) room.new }
 {
     let pairs = group.pairs.as_slice();
     for (index, pair) in pairs.iter().enumerate() {
@@ -137,16 +135,16 @@ pub(crate) fn walk_statement<W: Watcher>(
 ) -> Result<(), MoveStop>
     requires in_sound { IsSound layouts.now.input.now }
     requires out_sound { IsSound layouts.now.output.now }
-    requires moves { AreMoves (records layouts.now)
-        (statement_moves_by layouts.now.reading (records layouts.now) given.now) }
+    requires moves { AreMoves (records_of_layouts layouts.now)
+        (statement_moves_by layouts.now.reading (records_of_layouts layouts.now) given.now) }
     requires input { IsStorage layouts.now.input.now input.now }
     requires output { length output.old ≡ greatest_length layouts.now.output.now }
-    requires room { HasRoom (records layouts.now) room.old }
+    requires room { HasEachRoom (records_of_layouts layouts.now) room.old }
     ensures seen { Sees (W.seen watcher.old) (W.seen watcher.new)
-        (λ ones. AreOfMoves layouts.now.reading (records layouts.now)
-        (statement_moves statement given.now) input.now
+        (λ ones. AreOfMoves layouts.now.reading (records_of_layouts layouts.now)
+        (numbered_of_statement statement given.now) input.now
         output.old ones (each_ending result output.new)) }
-    ensures room { HasRoom (records layouts.now) room.new }
+    ensures room { HasEachRoom (records_of_layouts layouts.now) room.new }
 {
     match given {
         StatementMoves::Single(single) => {

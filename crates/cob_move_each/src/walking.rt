@@ -6,8 +6,8 @@ ghost use Rattle.cob_layout.specs.Storage.{greatest_length, IsStorage};
 ghost use Rattle.cob_layout_places.specs.Moves.{AreMoves, moves_by};
 ghost use Rattle.cob_move_apply.specs.Applied.{Applied};
 ghost use Rattle.cob_move_each.specs.Each.{AreOfMoves, Sees, each_ending, numbered_moves, plain_ending};
-ghost use Rattle.cob_move_each.specs.Room.{HasRoom};
-ghost use Rattle.cob_move_each.specs.Seen.{records};
+ghost use Rattle.cob_move_each.specs.Room.{HasEachRoom};
+ghost use Rattle.cob_move_each.specs.Seen.{records_of_layouts};
 
 use crate::room::{EachRoom, RecordLayouts};
 use crate::single::MoveStop;
@@ -27,16 +27,16 @@ fn walk_all<W: Watcher>(
 ) -> Result<(), MoveStop>
     requires in_sound { IsSound layouts.now.input.now }
     requires out_sound { IsSound layouts.now.output.now }
-    requires between { AreMoves (records layouts.now)
-        (moves_by layouts.now.reading (records layouts.now) statements.now) }
+    requires between { AreMoves (records_of_layouts layouts.now)
+        (moves_by layouts.now.reading (records_of_layouts layouts.now) statements.now) }
     requires input { IsStorage layouts.now.input.now input.now }
     requires output { length output.old ≡ greatest_length layouts.now.output.now }
-    requires room { HasRoom (records layouts.now) room.old }
+    requires room { HasEachRoom (records_of_layouts layouts.now) room.old }
     ensures seen { Sees (W.seen watcher.old) (W.seen watcher.new)
-        (λ ones. AreOfMoves layouts.now.reading (records layouts.now)
+        (λ ones. AreOfMoves layouts.now.reading (records_of_layouts layouts.now)
         (numbered_moves 0 statements.now) input.now
         output.old ones (each_ending result output.new)) }
-    ensures room { HasRoom (records layouts.now) room.new }
+    ensures room { HasEachRoom (records_of_layouts layouts.now) room.new }
 {
     for (number, statement) in statements.iter().enumerate() {
         walk_statement(layouts, number, statement, input, output, room, watcher)?;
@@ -61,21 +61,21 @@ pub fn each<W: Watcher>(
     room: &mut EachRoom,
     watcher: &mut W,
 ) -> Result<(), MoveStop>
-    requires between { AreMoves (records layouts.now)
-        (moves_by layouts.now.reading (records layouts.now) statements.now) }
+    requires between { AreMoves (records_of_layouts layouts.now)
+        (moves_by layouts.now.reading (records_of_layouts layouts.now) statements.now) }
     requires input { IsStorage layouts.now.input.now input.now }
     requires output { length output.old ≡ greatest_length layouts.now.output.now }
-    requires room { HasRoom (records layouts.now) room.old }
+    requires room { HasEachRoom (records_of_layouts layouts.now) room.old }
     // All of them together are what `Moves::apply` says.
-    ensures applied { Applied (records layouts.now)
-        (moves_by layouts.now.reading (records layouts.now) statements.now) input.now output.old
+    ensures applied { Applied (records_of_layouts layouts.now)
+        (moves_by layouts.now.reading (records_of_layouts layouts.now) statements.now) input.now output.old
         (plain_ending (each_ending result output.new)) }
     // What was handed out are the single moves in their order, up to the first that stops, which the answer names.
     ensures seen { Sees (W.seen watcher.old) (W.seen watcher.new)
-        (λ ones. AreOfMoves layouts.now.reading (records layouts.now)
+        (λ ones. AreOfMoves layouts.now.reading (records_of_layouts layouts.now)
         (numbered_moves 0 statements.now) input.now
         output.old ones (each_ending result output.new)) }
-    ensures room { HasRoom (records layouts.now) room.new }
+    ensures room { HasEachRoom (records_of_layouts layouts.now) room.new }
 {
     records_are_sound();
     let _ = layouts.input.greatest();

@@ -2,7 +2,7 @@
 
 ghost use Rattle.std.specs.Prelude.{◌≡◌, List, [], ◌∷◌, Option};
 ghost use Rattle.cob_move_each.specs.Each.{Single, append_singles};
-ghost use Rattle.cob_move_each.specs.Seen.{single_of};
+ghost use Rattle.cob_move_each.specs.Seen.{handed_single};
 
 use crate::single::SingleMove;
 
@@ -13,5 +13,5 @@ pub trait Watcher {
 
     /// Is handed a single move.
     fn see(&mut self, one: &SingleMove<'_>)
-        ensures { seen self.new ≡ append_singles (seen self.old) (single_of one.now ∷ []) };
+        ensures { seen self.new ≡ append_singles (seen self.old) (handed_single one.now ∷ []) };
 }

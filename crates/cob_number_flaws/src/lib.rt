@@ -17,6 +17,7 @@ mod flaw;
 mod halves;
 mod packed;
 mod separate;
+mod signs;
 mod words;
 mod zoned;
 

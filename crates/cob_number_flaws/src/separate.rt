@@ -5,15 +5,8 @@ ghost use Rattle.cob_codec.specs.Separate.{IsSignedSeparately};
 ghost use Rattle.cob_number_flaws.specs.Flaws.{AllSuit, IsFirstFlaw, separate_wanted};
 
 use crate::flaw::{Flaw, Wanted, suits};
+use crate::signs::sign_byte_at;
 use cob_codec::{Separate, Shape, Storage};
-
-/// The number of the sign's byte.
-fn sign_byte_at(leading: bool, count: usize) -> usize
-    requires { 0 < count }
-    ensures { result ≡ (if leading then 0 else count - 1) }
-{
-    if leading { 0 } else { count - 1 }
-}
 
 /// What a byte has to be, where the sign's byte has this number.
 fn separate_wanted(place: usize, at: usize) -> Wanted

@@ -8,15 +8,8 @@ ghost use Rattle.cob_number_flaws.specs.Flaws.{AllSuit, IsFirstFlaw, zoned_wante
 
 use crate::flaw::{Flaw, Wanted, suits};
 use crate::halves::half_at;
+use crate::signs::sign_byte_at;
 use cob_codec::{Shape, Storage, Zoned};
-
-/// The number of the byte that has the sign.
-fn sign_at(signed: bool, leading: bool, count: usize) -> usize
-    requires { 0 < count }
-    ensures { result ≡ sign_place signed leading count }
-{
-    if signed && leading { 0 } else { count - 1 }
-}
 
 /// What a half byte of a zoned item has to be, whose sign stands in this byte.
 fn zoned_wanted(place: usize, at: usize) -> Wanted
@@ -41,7 +34,7 @@ fn first_in_zoned(shape: &Shape, bytes: &[u8]) -> Option<Flaw>
         (zoned_wanted (sign_place shape.now.signed shape.now.leading (length bytes.now)))
         (halves bytes.now)) }
 {
-    let place = sign_at(shape.signed, shape.leading, bytes.len());
+    let place = sign_byte_at(shape.signed && shape.leading, bytes.len());
     for at in 0..2 * bytes.len() {
         let found = half_at(bytes, at);
         let wanted = zoned_wanted(place, at);

@@ -1,12 +1,12 @@
 use Rattle.cob_layout_places.specs.declared.operands.Side.TheVariants.{In}
 use Rattle.cob_layout_places.specs.Moves.{Entry, operand_in}
-use Rattle.cob_move_each.specs.Seen.{move_of, records}
+use Rattle.cob_move_each.specs.Seen.{move_of, records_of_layouts}
 use Rattle.cob_move_each.proofs.EachLemmas.{complete_by, sender_lacks}
 use Rattle.cob_move_each.proofs.senders.walk_from_input.Goals as goal
 
 pub returns-in-Err-clause-seen : goal.returns-in-Err-clause-seen
 returns-in-Err-clause-seen g c =
-    sender_lacks (Entry In c.args.layouts.now.reading (operand_in c.args.layouts.now.input.now c.args.entry.now)) (records c.args.layouts.now) (move_of c.args.parts.now) c.args.input.now c.args.output.now
+    sender_lacks (Entry In c.args.layouts.now.reading (operand_in c.args.layouts.now.input.now c.args.entry.now)) (records_of_layouts c.args.layouts.now) (move_of c.args.parts.now) c.args.input.now c.args.output.now
     (g.W.Watcher.seen c.args.watcher.now) c.in-Err.stop c.sender_stop.result c.in-Err.ensures.located c.sender_stop.ensures
 
 pub field-requires : goal.field-requires
