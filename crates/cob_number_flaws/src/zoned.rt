@@ -11,6 +11,18 @@ use crate::halves::half_at;
 use crate::signs::sign_byte_at;
 use cob_codec::{Shape, Storage, Zoned};
 
+/// The number of the byte of a zoned item that has the sign: in an item without sign the last one.
+fn zoned_sign_at(shape: &Shape, count: usize) -> usize
+    requires { 0 < count }
+    ensures { result ≡ sign_place shape.now.signed shape.now.leading count }
+{
+    if shape.signed {
+        sign_byte_at(shape.leading, count)
+    } else {
+        count - 1
+    }
+}
+
 /// What a half byte of a zoned item has to be, whose sign stands in this byte.
 fn zoned_wanted(place: usize, at: usize) -> Wanted
     ensures { result ≡ zoned_wanted place at }
@@ -34,7 +46,7 @@ fn first_in_zoned(shape: &Shape, bytes: &[u8]) -> Option<Flaw>
         (zoned_wanted (sign_place shape.now.signed shape.now.leading (length bytes.now)))
         (halves bytes.now)) }
 {
-    let place = sign_byte_at(shape.signed && shape.leading, bytes.len());
+    let place = zoned_sign_at(shape, bytes.len());
     for at in 0..2 * bytes.len() {
         let found = half_at(bytes, at);
         let wanted = zoned_wanted(place, at);
