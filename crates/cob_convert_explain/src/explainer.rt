@@ -110,7 +110,7 @@ struct Walked {
 }
 
 /// Carries the single moves of a record out, and makes their text. The output holds the storage before the first move.
-fn walk_moves(
+fn tell_moves(
     alloc: Global,
     conversion: &Conversion,
     lines: &[u32],
@@ -161,7 +161,7 @@ fn explained(
     ensures { IfOk result IsExplanation }
 {
     let mut room = WalkRoom::new(alloc, conversion)?;
-    let Walked { moves, stop } = walk_moves(alloc, conversion, lines, input, output, &mut room)?;
+    let Walked { moves, stop } = tell_moves(alloc, conversion, lines, input, output, &mut room)?;
     let Some(stop) = stop else {
         return Ok(Explanation::Converts { moves });
     };

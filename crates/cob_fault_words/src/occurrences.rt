@@ -1,8 +1,7 @@
 //! Occurrences of entries and constants, as they are told.
 
-use crate::numbers::write_number;
+use crate::numbers::write_numeric_literal;
 use cob_copybook_tree::{Figurative, Item, Kind, Name, Node, Value};
-use cob_decimal::Number;
 use cob_layout_places::{Ref, Sender, Side};
 use cob_lossless_words::{Named, entry_of, write_subscripts};
 use std::fmt;
@@ -145,18 +144,6 @@ fn write_literal<W: fmt::Write>(f: &mut fmt::Formatter<W>, text: &[u8]) -> fmt::
         }
     }
     write!(f, "\"")
-}
-
-/// Writes a numeric literal.
-fn write_numeric_literal<W: fmt::Write>(
-    f: &mut fmt::Formatter<W>,
-    signed: bool,
-    number: &Number,
-) -> fmt::Result {
-    if signed && !number.negative() {
-        write!(f, "+")?;
-    }
-    write_number(f, number)
 }
 
 impl fmt::Display for SentText<'_> {

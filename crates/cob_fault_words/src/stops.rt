@@ -6,6 +6,7 @@ use crate::numbers::write_number;
 use crate::occurrences::{Occurrence, SentText};
 use cob_codec::Reading;
 use cob_copybook_tree::{Item, Usage, is_number_item, read_sent};
+use cob_layout_places::Side;
 use cob_number_flaws::FlawText;
 use cob_picture::Category;
 use std::fmt;
@@ -180,6 +181,29 @@ fn write_count_flaw<W: fmt::Write>(
     }
 }
 
+/// What to do where an item of this side has no value.
+fn value_advice(side: Side, item: &Item) -> &'static str {
+    match (side, item.usage) {
+        (Side::Out, _) => "give it such a value before this statement",
+        (Side::In, Usage::Binary) => {
+            "correct it, or read binary items as the numbers of all their bytes, by --binary whole"
+        }
+        (Side::In, _) => {
+            "look at these bytes; where the first record stops so, transfer the file in binary mode, which leaves its code page as it is"
+        }
+    }
+}
+
+/// What to do where the count of a table of this side is none.
+fn count_advice(side: Side) -> &'static str {
+    match side {
+        Side::Out => "give the count such a value before it is needed",
+        Side::In => {
+            "correct the count; where the first record stops so, look whether --in-form is right"
+        }
+    }
+}
+
 impl StopText<'_> {
     /// Writes what is wrong.
     fn write_case<W: fmt::Write>(&self, f: &mut fmt::Formatter<W>) -> fmt::Result {
@@ -235,12 +259,8 @@ impl StopText<'_> {
     /// What to do.
     fn advice(&self) -> &'static str {
         match self.case {
-            StopCase::NoValue { .. } => {
-                "look at these bytes; where the first record stops so, the transfer may have changed its code page"
-            }
-            StopCase::Count { .. } => {
-                "correct the count, or give it a value before the statement that needs it"
-            }
+            StopCase::NoValue { item, .. } => value_advice(self.subject.side, item),
+            StopCase::Count { .. } => count_advice(self.subject.side),
             StopCase::Subscript => {
                 "put the table under a group of its own and move the group, which has as many elements as its count says"
             }
