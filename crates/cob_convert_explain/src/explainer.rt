@@ -10,12 +10,11 @@ ghost use Rattle.cob_stream.specs.Reasons.{is_write_cause};
 ghost use Rattle.cob_convert_explain.specs.Explained.{IsExplanation};
 ghost use Rattle.cob_convert_explain.specs.Walked.{HasWalkRoom};
 
-use crate::moves::Teller;
 use crate::reading::{Found, Refused, find_record};
-use crate::stops::{Scene, count_words, stop_words};
 use crate::walk::{RecordStop, WalkRoom, walk_record};
 use cob_convert_record::{Cause, Conversion, Room, Side, Stop, StopCause};
 use cob_copybook::{Book, Role};
+use cob_explain_words::{Scene, Teller, count_words, move_words};
 use cob_fault_words::{Asker, Qualifying, frame_words};
 use cob_layout::Layout;
 use cob_lossless_words::lines_of;
@@ -130,6 +129,16 @@ fn tell_moves(
         moves,
         stop: answer.err(),
     })
+}
+
+/// Why a record does not convert, in words.
+fn stop_words(alloc: Global, scene: &Scene<'_>, stop: &RecordStop) -> Result<String, AllocError> {
+    match stop {
+        RecordStop::AtMove(stop) => move_words(alloc, scene, stop),
+        RecordStop::BehindMoves(stop) => {
+            count_words(alloc, scene, stop.side, stop.offset, Asker::Written)
+        }
+    }
 }
 
 /// What is told of a record that stops.

@@ -7,7 +7,7 @@ use Rattle.cob_convert_explain.proofs.walk.walk_moves.Goals as goal
 pub each-requires-clause-between : goal.each-requires-clause-between
 each-requires-clause-between g c =
     between_so c.args.conversion.now.records _ c.args.conversion.now.moves _ c.layouts.ensures
-    (the_moves _ c.args.conversion.now.records _ c.statements.result.now c.moves.result.now c.args.conversion.now.moves c.reading.ensures c.layouts.ensures c.statements.ensures c.moves.ensures.value) c.moves.ensures.between
+    (the_moves _ c.args.conversion.now.records _ c.statements-statements.result.now c.moves-moves.result.now c.args.conversion.now.moves c.reading.ensures c.layouts.ensures c.statements-statements.ensures c.moves-moves.ensures.value) c.moves-moves.ensures.between
 
 pub each-requires-clause-input : goal.each-requires-clause-input
 each-requires-clause-input g c = storage_so c.args.conversion.now.records _ c.args.input.now c.layouts.ensures c.requires.input
@@ -21,7 +21,7 @@ each-requires-clause-room g c = room_so c.args.conversion.now.records _ c.args.r
 pub returns-clause-applied : goal.returns-clause-applied
 returns-clause-applied g c =
     applied_so c.args.conversion.now.records _ c.args.conversion.now.moves _ c.args.input.now c.args.output.now (plain_ending (each_ending c.each.result c.each.new.output)) c.layouts.ensures
-    (the_moves _ c.args.conversion.now.records _ c.statements.result.now c.moves.result.now c.args.conversion.now.moves c.reading.ensures c.layouts.ensures c.statements.ensures c.moves.ensures.value) c.each.ensures.applied
+    (the_moves _ c.args.conversion.now.records _ c.statements-statements.result.now c.moves-moves.result.now c.args.conversion.now.moves c.reading.ensures c.layouts.ensures c.statements-statements.ensures c.moves-moves.ensures.value) c.each.ensures.applied
 
 pub returns-clause-room : goal.returns-clause-room
 returns-clause-room g c = room_so _ c.args.conversion.now.records c.each.new.room (sym c.layouts.ensures) c.each.ensures.room

@@ -83,7 +83,7 @@ impl fmt::Display for SingleText<'_> {
 
 /// Who tells each single move in two lines.
 #[derive(Drop)]
-pub(crate) struct Teller<'a> {
+pub struct Teller<'a> {
     alloc: Global,
     records: Qualifying<'a>,
     /// The lines of the statements.
@@ -95,7 +95,7 @@ pub(crate) struct Teller<'a> {
 
 impl<'a> Teller<'a> {
     /// A teller of the moves of statements on these lines.
-    pub(crate) fn new(alloc: Global, records: Qualifying<'a>, lines: &'a [u32]) -> Teller<'a> {
+    pub fn new(alloc: Global, records: Qualifying<'a>, lines: &'a [u32]) -> Teller<'a> {
         Teller {
             alloc,
             records,
@@ -110,7 +110,7 @@ impl<'a> Teller<'a> {
     /// # Errors
     ///
     /// Where memory lacked.
-    pub(crate) fn told(self) -> Result<String, AllocError> {
+    pub fn told(self) -> Result<String, AllocError> {
         if self.lacks {
             return Err(AllocError);
         }

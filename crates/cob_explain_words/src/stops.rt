@@ -1,7 +1,6 @@
-//! Why a record does not convert, in words.
+//! Why single moves stop, in words.
 
 use crate::moves::{bytes_at, line_at};
-use crate::walk::RecordStop;
 use cob_convert_record::{Conversion, Side, Stop, StopCause};
 use cob_fault_words::{
     Asker, AskingMove, CountTable, Occurrence, Qualifying, SentText, StopCase, StopText, counted_at,
@@ -13,16 +12,16 @@ use std::alloc::{AllocError, Global};
 
 /// A conversion and what is known of one record.
 #[derive(Clone, Copy)]
-pub(crate) struct Scene<'a> {
-    pub(crate) conversion: &'a Conversion,
-    pub(crate) records: Qualifying<'a>,
+pub struct Scene<'a> {
+    pub conversion: &'a Conversion,
+    pub records: Qualifying<'a>,
     /// The lines of the statements.
-    pub(crate) lines: &'a [u32],
-    pub(crate) input: &'a [u8],
+    pub lines: &'a [u32],
+    pub input: &'a [u8],
     /// The storage of the output record, as the moves before the stop left it.
-    pub(crate) output: &'a [u8],
+    pub output: &'a [u8],
     /// What the last sender that lay in the output record gave, in front.
-    pub(crate) content: &'a [u8],
+    pub content: &'a [u8],
 }
 
 /// The single move of the pair of two groups with this number, whose statement stands on this line.
@@ -116,7 +115,11 @@ fn written(alloc: Global, text: Option<StopText<'_>>) -> Result<String, AllocErr
 }
 
 /// What is wrong with a count at this offset of the storage of a side, in words.
-pub(crate) fn count_words(
+///
+/// # Errors
+///
+/// Where no memory is left.
+pub fn count_words(
     alloc: Global,
     scene: &Scene<'_>,
     side: Side,
@@ -169,7 +172,11 @@ fn subscript_text<'a>(stop: &MoveStop, asked: AskingMove<'a>) -> Option<StopText
 }
 
 /// Why a single move stops, in words.
-fn move_words(alloc: Global, scene: &Scene<'_>, stop: &MoveStop) -> Result<String, AllocError> {
+///
+/// # Errors
+///
+/// Where no memory is left.
+pub fn move_words(alloc: Global, scene: &Scene<'_>, stop: &MoveStop) -> Result<String, AllocError> {
     let Some(asked) = asking(scene, stop.number) else {
         return Ok(String::new(alloc));
     };
@@ -179,20 +186,6 @@ fn move_words(alloc: Global, scene: &Scene<'_>, stop: &MoveStop) -> Result<Strin
         StopCause::Count => {
             let Stop { side, offset, .. } = stop.stop;
             count_words(alloc, scene, side, offset, Asker::Move(asked))
-        }
-    }
-}
-
-/// Why a record does not convert, in words.
-pub(crate) fn stop_words(
-    alloc: Global,
-    scene: &Scene<'_>,
-    stop: &RecordStop,
-) -> Result<String, AllocError> {
-    match stop {
-        RecordStop::AtMove(stop) => move_words(alloc, scene, stop),
-        RecordStop::BehindMoves(stop) => {
-            count_words(alloc, scene, stop.side, stop.offset, Asker::Written)
         }
     }
 }
