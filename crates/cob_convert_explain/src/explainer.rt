@@ -1,6 +1,6 @@
 //! One record explained.
 
-ghost use Rattle.std.specs.Prelude.{◌≡◌, length, IfOk, false};
+ghost use Rattle.std.specs.Prelude.{◌≡◌, length, IfOk, OnOk, false};
 ghost use Rattle.cob_copybook.specs.Books.{IsBookOf};
 ghost use Rattle.cob_copybook.specs.declared.role.Role.TheVariants.{Out};
 ghost use Rattle.cob_layout.specs.Storage.{IsStorage};
@@ -68,20 +68,23 @@ fn fault_of(number: u64, stop: Stop) -> RunFault
     }
 }
 
-/// The storage that each output record of a conversion begins from.
-fn image_of(alloc: Global, text: &[u8], conversion: &Conversion) -> Result<Vec<u8>, AllocError>
-    requires { IsBookOf Out text.now conversion.now.records.output }
-    ensures initial { IfOk result
-        (λ image. IsInitial conversion.now.records.output image.items) }
-    ensures long { IfOk result (λ image. length image.items ≡ out_length conversion.now) }
+/// Begins an output record of a conversion, whose copybook this text is: its storage holds its initial values.
+fn begin_output(
+    alloc: Global,
+    text: &[u8],
+    conversion: &Conversion,
+    output: &mut [u8],
+) -> Result<(), AllocError>
+    requires book { IsBookOf Out text.now conversion.now.records.output }
+    requires output { length output.old ≡ out_length conversion.now }
+    ensures { OnOk result (IsInitial conversion.now.records.output output.new) }
 {
     let Ok(book) = Book::read(alloc, Role::Out, text) else {
         return Err(AllocError);
     };
     let layout = Layout::of(alloc, &book)?;
-    let mut image = vec![in alloc; 0u8; usize::from(layout.greatest())]?;
-    initial(&layout, &book, image.as_mut_slice());
-    Ok(image)
+    initial(&layout, &book, output);
+    Ok(())
 }
 
 /// The lines of the statements of a paragraph that was read before, so that only memory can lack.
@@ -277,16 +280,10 @@ pub fn explain<R: Source>(
     ensures { IfOk result IsExplanation }
 {
     let lines = statement_lines(alloc, texts.moves)?;
-    let mut image = image_of(alloc, texts.out_book, conversion)?;
+    let mut output = vec![in alloc; 0u8; usize::from(conversion.out_length())]?;
+    let output = output.as_mut_slice();
+    begin_output(alloc, texts.out_book, conversion, output)?;
     let mut slot = vec![in alloc; 0u8; usize::from(conversion.in_length())]?;
     let slot = slot.as_mut_slice();
-    explained_from(
-        alloc,
-        conversion,
-        &lines,
-        source,
-        number,
-        slot,
-        image.as_mut_slice(),
-    )
+    explained_from(alloc, conversion, &lines, source, number, slot, output)
 }
