@@ -1,8 +1,7 @@
 -- How the command `explain` can end.
-use Rattle.std.specs.Prelude.{◌≡◌, ◌⊎◌, false}
+use Rattle.std.specs.Prelude.{◌⊎◌}
 use Rattle.cob_status.specs.declared.status.Status.{Status}
 use Rattle.cob_status.specs.declared.status.Status.TheVariants as status
-use Rattle.cob_stream.specs.Reasons.{is_write_cause}
 use Rattle.cob_convert_explain.specs.declared.explainer.Explanation.{Explanation}
 use Rattle.cob_convert_explain.specs.declared.explainer.Explanation.TheVariants as told
 use Rattle.cob_command_faults.specs.declared.fault.FileName.TheVariants as name

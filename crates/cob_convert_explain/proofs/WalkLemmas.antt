@@ -1,5 +1,5 @@
 -- What single moves make of a record is what a run makes of it.
-use Rattle.std.proofs.Common.{◌≡◌, ◌∙◌, ℕ, List, length, sym, ap, subst, inl, inr, Ok, Err}
+use Rattle.std.proofs.Common.{◌≡◌, ◌∙◌, ℕ, List, sym, ap, subst, inl, inr}
 use Rattle.cob_codec.specs.declared.reading.Reading.{Reading}
 use Rattle.cob_layout.specs.Storage.{IsStorage, greatest_length}
 use Rattle.cob_layout_places.specs.declared.operands.StatementMoves.{StatementMoves}

@@ -1,6 +1,5 @@
 use Rattle.std.proofs.Common.{sym}
 use Rattle.cob_move_each.specs.Each.{each_ending, plain_ending}
-use Rattle.cob_move_each.specs.Seen.{records_of_layouts}
 use Rattle.cob_convert_explain.proofs.WalkLemmas.{applied_so, between_so, long_so, room_so, storage_so, the_moves}
 use Rattle.cob_convert_explain.proofs.walk.walk_moves.Goals as goal
 
