@@ -5,6 +5,7 @@ ghost use Rattle.cob_convert_commands.specs.Commands.{EndsConvert, IsEndOfLine, 
 
 use cob_command_aside::do_convert_aside;
 use cob_command_convert::{do_check, do_convert};
+use cob_command_explain::do_explain;
 use cob_command_faults::printed;
 use cob_command_job::do_job;
 use cob_command_lists::{do_layout, do_pieces, do_show};
@@ -46,6 +47,7 @@ pub fn perform<R: AllocGlobal + Files + Input + Print + Eprint + Clock>(
         Line::Show(line) => do_show(rt, line).code(),
         Line::Pieces(line) => do_pieces(rt, line).code(),
         Line::Lossless(line) => do_lossless(rt, line).code(),
+        Line::Explain(line) => do_explain(rt, line).code(),
     }
 }
 

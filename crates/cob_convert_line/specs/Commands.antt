@@ -3,9 +3,13 @@ use Rattle.std.specs.Prelude.{◌≡◌, List, [], ◌∷◌, ◌++◌, Some, co
 use Rattle.clap.specs.Words.{Text}
 use Rattle.cob_convert_line.specs.Options.{Alone, AreOptions, AreThere, Default, Given, Optional, Options, Request, Required, found_at}
 
+-- the options for both copybooks
+abbrev pub books_options : Options
+books_options = (codes "in-book", Required) ∷ (codes "out-book", Required) ∷ []
+
 -- the options for the three texts
 abbrev pub texts_options : Options
-texts_options = (codes "in-book", Required) ∷ (codes "out-book", Required) ∷ (codes "moves", Required) ∷ []
+texts_options = books_options ++ (codes "moves", Required) ∷ []
 
 -- the options for the files that records come from and go to
 abbrev pub ends_options : Options
@@ -19,6 +23,10 @@ forms_options = (codes "in-form", Default (codes "f")) ∷ (codes "out-form", De
 -- the options for a piece of the input
 abbrev pub piece_options : Options
 piece_options = (codes "from", Default (codes "0")) ∷ (codes "bytes", Default (codes "all")) ∷ (codes "record", Default (codes "1")) ∷ []
+
+-- the option for the number of a record
+abbrev pub record_options : Options
+record_options = (codes "record", Default (codes "1")) ∷ []
 
 -- the options that choose among records by their numbers
 abbrev pub choice_options : Options
@@ -39,7 +47,7 @@ convert_options = texts_options ++ ends_options ++ forms_options ++ ((codes "ato
 
 -- the options of `check`
 abbrev pub check_options : Options
-check_options = texts_options ++ help_options
+check_options = texts_options ++ (codes "cover", Alone) ∷ help_options
 
 -- the option of `layout`
 abbrev pub layout_options : Options
@@ -58,6 +66,18 @@ pieces_options = (codes "book", Required) ∷ (codes "in", Required) ∷ (codes 
 abbrev pub lossless_options : Options
 lossless_options = (codes "in-book", Required) ∷ (codes "out-book", Required) ∷ (codes "there", Required) ∷ (codes "back", Required) ∷ help_options
 
+-- the options of `explain`
+abbrev pub explain_options : Options
+explain_options = texts_options ++ (codes "in", Required) ∷ forms_options ++ record_options ++ help_options
+
+-- the options of `draft`
+abbrev pub draft_options : Options
+draft_options = books_options ++ help_options
+
+-- the options of `map`
+abbrev pub map_options : Options
+map_options = texts_options ++ (codes "in", Optional) ∷ forms_options ++ record_options ++ help_options
+
 -- commands by their names, each with its options
 abbrev pub Commands : Type 0
 Commands = List (Text × Options)
@@ -65,7 +85,9 @@ Commands = List (Text × Options)
 -- the program's commands
 abbrev pub commands : Commands
 commands = (codes "convert", convert_options) ∷ (codes "check", check_options) ∷ (codes "layout", layout_options) ∷ (codes "show", show_options)
-    ∷ (codes "pieces", pieces_options) ∷ (codes "lossless", lossless_options) ∷ []
+    ∷ (codes "pieces", pieces_options) ∷ (codes "lossless", lossless_options)
+    ∷ (codes "explain", explain_options) ∷ (codes "draft", draft_options) ∷ (codes "map", map_options)
+    ∷ (codes "completion", help_options) ∷ (codes "manual", help_options) ∷ []
 
 -- What words spell: the name of a command, and then its options, those that have to be there among them.
 abbrev pub Spells : List Text → Options → Given → Type 0

@@ -15,14 +15,19 @@
 //! readings of binary items, and on `thiserror` for what faults print.
 #![tactic(auto)]
 
+mod commands;
 mod fault;
+mod help;
 mod line;
 mod number;
-mod program;
+mod options;
 mod read;
+mod values;
 
+pub use commands::program;
 pub use fault::LineFault;
 pub use line::{
-    CheckLine, ConvertLine, LayoutLine, Line, Listing, LosslessLine, PiecesLine, ShowLine,
+    CheckLine, ConvertLine, DraftLine, ExplainLine, LayoutLine, Line, Listing, LosslessLine,
+    MapLine, PiecesLine, ShowLine,
 };
 pub use read::line_of;

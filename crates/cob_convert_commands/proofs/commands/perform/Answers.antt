@@ -20,3 +20,6 @@ returns-in-Pieces g c = (_, rw c.in-Pieces.is c.do_pieces.ensures, c.code-in-Pie
 
 pub returns-in-Lossless : goal.returns-in-Lossless
 returns-in-Lossless g c = (_, rw c.in-Lossless.is c.do_lossless.ensures, c.code-in-Lossless.ensures)
+
+pub returns-in-Explain : goal.returns-in-Explain
+returns-in-Explain g c = (_, rw c.in-Explain.is c.do_explain.ensures, c.code-in-Explain.ensures)

@@ -1,0 +1,2 @@
+pub mod Converted
+pub mod Ends

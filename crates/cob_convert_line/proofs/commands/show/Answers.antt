@@ -1,0 +1,17 @@
+use Rattle.std.proofs.Common.{ap, ap₂, codes, ◌≡◌, ◌∙◌}
+use Rattle.std.proofs.lemmas.Result.{IfOk-weaker}
+use Rattle.clap.specs.Words.{App, app_of, new_app, with_rule}
+use Rattle.clap.specs.Simple.{app_of_fields}
+use Rattle.cob_convert_line.specs.Commands.{choice_options}
+use Rattle.cob_convert_line.specs.Program.{with_options}
+use Rattle.cob_convert_line.proofs.commands.show.Goals as goal
+
+pub returns : goal.returns
+returns c =
+    let start : app_of c.after_help.result ≡ new_app (codes "show") = ap app_of_fields c.after_help.ensures ∙ ap app_of_fields c.about.ensures ∙ c.new.ensures.app in
+    let one = c.in_ok-arg.ensures.shape c.required.ensures.local ∙ ap₂ with_rule start c.required.ensures.rule in
+    let two = c.in_ok-arg-2.ensures.shape c.required-2.ensures.local ∙ ap₂ with_rule one c.required-2.ensures.rule in
+    let three = c.in_ok-arg-3.ensures.shape c.defaulted.ensures.local ∙ ap₂ with_rule two c.defaulted.ensures.rule in
+    let four = c.in_ok-arg-4.ensures.shape c.defaulted-2.ensures.local ∙ ap₂ with_rule three c.defaulted-2.ensures.rule in
+    let five = c.in_ok-command.ensures.shape c.alone.ensures.local ∙ ap₂ with_rule four c.alone.ensures.rule in
+    IfOk-weaker c.with_choice.result _ _ (λ made h. h ∙ ap (λ (a : App). with_options a choice_options) five) c.with_choice.ensures

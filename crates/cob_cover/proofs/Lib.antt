@@ -1,0 +1,4 @@
+pub mod GatherLemmas
+pub mod PlaceLemmas
+pub mod StatementLemmas
+pub mod MeetLemmas

@@ -1,0 +1,149 @@
+//! The lines between the boxes of senders and of receivers.
+
+use crate::page::Page;
+use crate::singles::{Element, Sent, Single};
+use cob_html::Line;
+use cob_layout_places::Side;
+use cob_lossless_words::Named;
+use cob_map_words::ConstantText;
+use std::fmt;
+
+/// Where the lines of senders of the output record turn, in hundredths of the drawing's width.
+const TURN: u32 = 85;
+
+/// Where the line of a constant begins.
+const CONSTANT: u32 = 80;
+
+/// An occurrence of an entry of one of the records.
+fn named_in<'a>(page: &'a Page<'_>, side: Side, element: Element<'_>) -> Named<'a> {
+    let drawn = match side {
+        Side::In => page.input(),
+        Side::Out => page.output(),
+    };
+    Named::new(drawn.layout.root(), element.number, element.subscripts)
+}
+
+/// What a single move sends, which prints as the name of an occurrence or as a constant.
+#[derive(Clone, Copy)]
+pub(crate) struct SentText<'p, 'a> {
+    pub(crate) page: &'p Page<'a>,
+    pub(crate) sent: Sent<'a>,
+}
+
+impl fmt::Display for SentText<'_, '_> {
+    fn fmt<W: fmt::Write>(&self, f: &mut fmt::Formatter<W>) -> fmt::Result {
+        match self.sent {
+            Sent::Entry { side, entry } => write!(f, "{}", named_in(self.page, side, entry)),
+            Sent::Constant(value) => write!(f, "{}", ConstantText { value }),
+        }
+    }
+}
+
+/// The receiver of a single move.
+pub(crate) fn receiver_of<'a>(page: &'a Page<'_>, single: Single<'_>) -> Named<'a> {
+    named_in(page, Side::Out, single.receiver)
+}
+
+/// Writes what single moves are, of which this is the first.
+fn write_title<'a, W: fmt::Write>(
+    f: &mut fmt::Formatter<W>,
+    page: &Page<'a>,
+    single: Single<'a>,
+    count: usize,
+    loss: &str,
+) -> fmt::Result {
+    let sent = SentText {
+        page,
+        sent: single.sent,
+    };
+    let receiver = receiver_of(page, single);
+    write!(f, "<title>line {}: {sent} to {receiver}", single.line)?;
+    if count > 1 {
+        let more = count - 1;
+        write!(f, ", and {more} more")?;
+    }
+    if !loss.is_empty() {
+        write!(f, ", may lose {loss}")?;
+    }
+    write!(f, "</title>")
+}
+
+/// Writes the line from a box of the input record.
+fn write_across<W: fmt::Write>(f: &mut fmt::Formatter<W>, from: u32, to: u32) -> fmt::Result {
+    let line = Line {
+        x1: 0,
+        y1: from,
+        x2: 100,
+        y2: to,
+    };
+    write!(f, "{line}")
+}
+
+/// Writes the three parts of a line from a box of the output record.
+fn write_back<W: fmt::Write>(f: &mut fmt::Formatter<W>, from: u32, to: u32) -> fmt::Result {
+    let out = Line {
+        x1: TURN,
+        y1: from,
+        x2: 100,
+        y2: from,
+    };
+    let along = Line {
+        x1: TURN,
+        y1: from,
+        x2: TURN,
+        y2: to,
+    };
+    let home = Line {
+        x1: TURN,
+        y1: to,
+        x2: 100,
+        y2: to,
+    };
+    write!(f, "<g class=\"p\">{out}{along}</g>{home}")
+}
+
+/// Writes a constant and the line from it.
+fn write_constant<W: fmt::Write>(
+    f: &mut fmt::Formatter<W>,
+    constant: ConstantText<'_>,
+    to: u32,
+) -> fmt::Result {
+    let line = Line {
+        x1: CONSTANT,
+        y1: to,
+        x2: 100,
+        y2: to,
+    };
+    let base = to.saturating_add(4);
+    let end = CONSTANT - 1;
+    write!(
+        f,
+        "{line}<text x=\"{end}%\" y=\"{base}\" text-anchor=\"end\">{constant}</text>"
+    )
+}
+
+/// Writes the line of single moves that join the same, of which this is the first.
+pub(crate) fn write_line<'a, W: fmt::Write>(
+    f: &mut fmt::Formatter<W>,
+    page: &Page<'a>,
+    single: Single<'a>,
+    count: usize,
+    loss: &str,
+) -> fmt::Result {
+    let class = if loss.is_empty() { "" } else { " class=\"c\"" };
+    let to = page.output().middle(single.receiver.number);
+    write!(f, "<g{class}>")?;
+    write_title(f, page, single, count, loss)?;
+    match single.sent {
+        Sent::Entry {
+            side: Side::In,
+            entry,
+        } => write_across(f, page.input().middle(entry.number), to)?,
+        Sent::Entry {
+            side: Side::Out,
+            entry,
+        } => write_back(f, page.output().middle(entry.number), to)?,
+        Sent::Constant(value) => write_constant(f, ConstantText { value }, to)?,
+    }
+    writeln!(f, "</g>")
+}
