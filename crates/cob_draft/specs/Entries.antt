@@ -2,16 +2,16 @@
 use Rattle.std.specs.Prelude.{◌≡◌, ℕ, Bool, true, false, ◌&&◌, not, is_some, List, [], ◌∷◌, ◌++◌, map}
 use Rattle.cob_copybook_tree.specs.declared.node.Kind.{Kind}
 use Rattle.cob_copybook_tree.specs.declared.node.Node.TheViews.{out-Node}
-use Rattle.cob_copybook_tree.specs.declared.node.ResolvedOccurs.{ResolvedOccurs}
-use Rattle.cob_copybook_tree.specs.declared.node.ResolvedOccurs.TheVariants.{Once, Fixed, Varying}
 use Rattle.cob_copybook_tree.specs.Forests.{Forest, NoEntries, AnEntry}
 use Rattle.cob_copybook_tree.specs.Nodes.{Resolved}
 use Rattle.cob_copybook_tree.specs.Lengths.{greatest_number}
+use Rattle.cob_copybook_lengths.specs.Areas.{is_varying}
 use Rattle.cob_copybook_names.specs.declared.bearer.Bearer.{Bearer as Listed}
 use Rattle.cob_copybook_names.specs.Listed.{bearer_by}
 use Rattle.cob_copybook_names.specs.Naming.{Bearer, with_name}
 use Rattle.cob_layout_places.specs.Places.{is_table}
 use Rattle.cob_layout_places.specs.declared.operands.Side.{Side}
+use Rattle.cob_move_references.specs.Candidates.{with_table}
 use Rattle.cob_draft.specs.declared.entries.DraftEntry.{DraftEntry as ListedEntry}
 use Rattle.cob_draft.specs.declared.entries.Setting.{Setting as StoredSetting}
 
@@ -25,17 +25,6 @@ pub record DraftEntry : Type 0 where
   pub steady : Bool
   pub own : Bool
 
--- the entry is a table that varies
-abbrev pub varies : ResolvedOccurs → Bool
-varies Once = false
-varies (Fixed n) = false
-varies (Varying least most count) = true
-
--- a table stands within those that hold it
-abbrev pub with_own_table : Bool → ℕ → List ℕ → List ℕ
-with_own_table false most tables = tables
-with_own_table true most tables = tables ++ most ∷ []
-
 -- where an entry stands: within these tables, none of which varies, and in no redefinition
 pub record Setting : Type 0 where
   pub tables : List ℕ
@@ -45,8 +34,8 @@ pub record Setting : Type 0 where
 -- where the entries beneath an entry stand
 abbrev pub inside : Setting → Resolved → Setting
 inside w e = record {
-  tables = with_own_table (is_table e.occurs) (greatest_number e) w.tables;
-  steady = w.steady && not (varies e.occurs);
+  tables = with_table (is_table e.occurs) (greatest_number e) w.tables;
+  steady = w.steady && not (is_varying e.occurs);
   own = w.own && not (is_some e.redefines);
 }
 

@@ -8,6 +8,7 @@ use Rattle.cob_copybook_tree.specs.declared.node.Kind.{Kind}
 use Rattle.cob_copybook_tree.specs.declared.node.Kind.TheVariants.{Group, Item as ItemKind}
 use Rattle.cob_layout_places.specs.declared.operands.Side.{Side}
 use Rattle.cob_layout_places.specs.declared.operands.Side.TheVariants.{In, Out}
+use Rattle.cob_move_pairs.specs.Pairs.{same_names}
 use Rattle.cob_draft.specs.Entries.{DraftEntry, listed_bearer}
 use Rattle.cob_draft.specs.declared.entries.DraftEntry.{DraftEntry as ListedEntry}
 use Rattle.cob_draft.specs.declared.partners.Agreement.{Agreement}
@@ -53,13 +54,6 @@ names_group bs name = list_any (is_group_named name) bs
 abbrev pub names_there : List (Bearer DraftEntry) → List (List ℕ) → List (List ℕ)
 names_there bs names = filter (names_group bs) names
 
--- two lists of names are one
-abbrev pub are_one : List (List ℕ) → List (List ℕ) → Bool
-are_one [] [] = true
-are_one [] (b ∷ bs) = false
-are_one (a ∷ more) [] = false
-are_one (a ∷ more) (b ∷ bs) = bytes_eq a b && are_one more bs
-
 -- the entries of both records
 abbrev pub input_bearers : BothRecords → List (Bearer DraftEntry)
 input_bearers r = map listed_bearer r.inputs.now
@@ -70,8 +64,8 @@ output_bearers r = map listed_bearer r.outputs.now
 -- The qualifiers of an item of the output record and of an entry of the input record agree: they are the same; or they are the same as far as they are
 -- there, those left out that no group of the other record has as its name.
 abbrev pub agree : Agreement → BothRecords → List (List ℕ) → List (List ℕ) → Bool
-agree Whole r to from = are_one to from
-agree Shared r to from = are_one (names_there (input_bearers r) to) (names_there (output_bearers r) from)
+agree Whole r to from = same_names to from
+agree Shared r to from = same_names (names_there (input_bearers r) to) (names_there (output_bearers r) from)
 
 -- An entry may be a partner: it is of the input record, stands below it and in no redefinition, and has the name; and the qualifiers of the two agree,
 -- the nearest first, FILLER and the records left out.

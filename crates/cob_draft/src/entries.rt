@@ -5,17 +5,17 @@ ghost use Rattle.cob_copybook_tree.specs.Lengths.{greatest_number};
 ghost use Rattle.cob_copybook_tree.specs.Nodes.{resolved_entry, tree_of};
 ghost use Rattle.cob_copybook_tree.specs.declared.node.Node.TheViews.{out-Node};
 ghost use Rattle.cob_copybook_names.specs.Listed.{texts};
+ghost use Rattle.cob_copybook_lengths.specs.Areas.{is_varying};
 ghost use Rattle.cob_layout.specs.Sound.{AreNested, own_dimension};
 ghost use Rattle.cob_layout_places.specs.Places.{is_table};
 ghost use Rattle.cob_limits.specs.Limits.{most_dimensions};
+ghost use Rattle.cob_move_references.specs.Candidates.{with_table};
 ghost use Rattle.cob_draft.specs.Entries.{
   ListsBehind,
   draft_entries,
   outside,
   own_bearer,
   seen_setting,
-  varies,
-  with_own_table,
   inside,
 };
 
@@ -55,23 +55,32 @@ struct Setting {
 }
 
 /// Whether an entry that occurs so is a table that varies.
-fn varies(occurs: ResolvedOccurs) -> bool
-    ensures { result ≡ varies occurs }
+fn is_varying(occurs: ResolvedOccurs) -> bool
+    ensures { result ≡ is_varying occurs }
 {
     matches!(occurs, ResolvedOccurs::Varying { .. })
+}
+
+/// The same tables once more.
+fn copied(tables: &[u32]) -> Tables
+    requires { length tables.now ≤ most_dimensions }
+    ensures { result.items ≡ tables.now }
+{
+    let mut own = ArrayVec::new();
+    for table in tables {
+        own.push(*table);
+    }
+    own
 }
 
 /// The tables that hold an entry, and itself if it is one.
 fn tables_with(entry: &Node, holding: &[u32]) -> Tables
     requires nested { length holding.now + own_dimension (out-Node entry.now).occurs
         ≤ most_dimensions }
-    ensures { result.items ≡ with_own_table (is_table (out-Node entry.now).occurs)
+    ensures { result.items ≡ with_table (is_table (out-Node entry.now).occurs)
         (greatest_number (resolved_entry (out-Node entry.now))) holding.now }
 {
-    let mut tables = ArrayVec::new();
-    for table in holding {
-        tables.push(*table);
-    }
+    let mut tables = copied(holding);
     if is_table(entry.occurs) {
         tables.push(entry.occurs.most());
     }
@@ -87,7 +96,7 @@ fn inside(outer: &Setting, entry: &Node) -> Setting
 {
     Setting {
         tables: tables_with(entry, outer.tables.as_slice()),
-        steady: outer.steady && !varies(entry.occurs),
+        steady: outer.steady && !is_varying(entry.occurs),
         own: outer.own && entry.redefines.is_none(),
     }
 }

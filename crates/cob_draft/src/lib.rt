@@ -1,8 +1,8 @@
 //! A paragraph to begin with: which items of an output record receive which entries of an input record, and its text.
 //!
-//! For each elementary item of the output record that has a name and stands in no redefinition a partner is looked for among the entries of the
-//! input record, by its name and by the names of the groups that hold it. Where nothing is against the move, a statement stands for each element
-//! that both have; else it stands as a comment, with what is against it. What is promised:
+//! For each entry of the output record that has a name and stands in no redefinition a partner is looked for among the entries of the input record,
+//! by its name and by the names of the groups that hold it; one of the two is an elementary item, as in pairs of MOVE CORRESPONDING. Where nothing is
+//! against the move, a statement stands for each element that both have; else it stands as a comment, with what is against it. What is promised:
 //!
 //! - [`entries_of`] lists the entries of a record with what is known of each (`draft_entries` of specs/Entries.antt);
 //! - [`partner_of`] answers the only candidate, or that there is none, or several (`IsOnly` and `candidates_for` of specs/Partners.antt): candidates

@@ -3,11 +3,11 @@
 ghost use Rattle.std.specs.Prelude.{◌≡◌, ◌<◌, [], ◌∷◌, length, map, bytes_eq, IfNone, IfSome};
 ghost use Rattle.cob_copybook_names.specs.Listed.{name_text, texts};
 ghost use Rattle.cob_copybook_names.specs.Naming.{has_name};
+ghost use Rattle.cob_move_pairs.specs.Pairs.{same_names};
 ghost use Rattle.cob_draft.specs.Entries.{listed_bearer};
 ghost use Rattle.cob_draft.specs.Partners.{
   IsOnly,
   agree,
-  are_one,
   below_record,
   candidates_for,
   may_be_partner,
@@ -116,9 +116,9 @@ fn names_group(entries: &[DraftBearer<'_>], name: &[u8]) -> bool
     false
 }
 
-/// Whether two lists of names are one.
-fn are_one(one: &[&[u8]], other: &[&[u8]]) -> bool
-    ensures { result ≡ are_one (texts one.now) (texts other.now) }
+/// Whether two lists of names are the same.
+fn same_names(one: &[&[u8]], other: &[&[u8]]) -> bool
+    ensures { result ≡ same_names (texts one.now) (texts other.now) }
 {
     let Some((first, more)) = one.split_first() else {
         return other.is_empty();
@@ -126,7 +126,7 @@ fn are_one(one: &[&[u8]], other: &[&[u8]]) -> bool
     let Some((second, others)) = other.split_first() else {
         return false;
     };
-    is_same(first, second) && are_one(more, others)
+    is_same(first, second) && same_names(more, others)
 }
 
 /// The first of these names that a group of the record has, and those behind it.
@@ -147,9 +147,9 @@ fn next_there<'s, 'a>(
     next_there(entries, more)
 }
 
-/// Whether two lists of names are one, those left out that no group of the other one's record has.
-fn are_one_there(records: &BothRecords<'_, '_>, to: &[&[u8]], from: &[&[u8]]) -> bool
-    ensures { result ≡ are_one (names_there (input_bearers records.now) (texts to.now))
+/// Whether two lists of names are the same, those left out that no group of the other one's record has.
+fn same_names_there(records: &BothRecords<'_, '_>, to: &[&[u8]], from: &[&[u8]]) -> bool
+    ensures { result ≡ same_names (names_there (input_bearers records.now) (texts to.now))
         (names_there (output_bearers records.now) (texts from.now)) }
 {
     match (
@@ -158,7 +158,7 @@ fn are_one_there(records: &BothRecords<'_, '_>, to: &[&[u8]], from: &[&[u8]]) ->
     ) {
         (None, None) => true,
         (Some((first, more)), Some((second, others))) => {
-            is_same(first, second) && are_one_there(records, more, others)
+            is_same(first, second) && same_names_there(records, more, others)
         }
         _ => false,
     }
@@ -169,8 +169,8 @@ fn agree(how: Agreement, records: &BothRecords<'_, '_>, to: &[&[u8]], from: &[&[
     ensures { result ≡ agree how records.now (texts to.now) (texts from.now) }
 {
     match how {
-        Agreement::Whole => are_one(to, from),
-        Agreement::Shared => are_one_there(records, to, from),
+        Agreement::Whole => same_names(to, from),
+        Agreement::Shared => same_names_there(records, to, from),
     }
 }
 

@@ -4,7 +4,7 @@ pub returns-in-Convert : goal.returns-in-Convert
 returns-in-Convert g c = (_, rw c.in-Convert.is c.do_conversion.ensures, c.code.ensures)
 
 pub returns-in-Check : goal.returns-in-Check
-returns-in-Check g c = (_, rw c.in-Check.is c.do_check.ensures, c.code-in-Check.ensures)
+returns-in-Check g c = (_, rw c.in-Check.is c.do_checking.ensures, c.code-in-Check.ensures)
 
 pub returns-in-Layout : goal.returns-in-Layout
 returns-in-Layout g c = (_, rw c.in-Layout.is c.do_layout.ensures, c.code-in-Layout.ensures)
@@ -17,3 +17,6 @@ returns-in-Pieces g c = (_, rw c.in-Pieces.is c.do_pieces.ensures, c.code-in-Pie
 
 pub returns-in-Lossless : goal.returns-in-Lossless
 returns-in-Lossless g c = (_, rw c.in-Lossless.is c.do_lossless.ensures, c.code-in-Lossless.ensures)
+
+pub returns-in-Draft : goal.returns-in-Draft
+returns-in-Draft g c = (_, rw c.in-Draft.is c.do_draft.ensures, c.code-in-Draft.ensures)

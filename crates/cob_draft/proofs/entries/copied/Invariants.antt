@@ -1,7 +1,7 @@
 use Rattle.std.proofs.Common.{◌≡◌, take}
-use Rattle.cob_draft.proofs.entries.tables_with.Given as goal
+use Rattle.cob_draft.proofs.entries.copied.Given as goal
 
 abbrev pub invariant-loop-table : goal.invariant-loop-table
 invariant-loop-table l = record {
-  items : l.tables.items ≡ take l.table-index l.holding;
+  items : l.own.items ≡ take l.table-index l.tables;
 }
