@@ -1,15 +1,12 @@
 //! A paragraph to begin with.
 
-use crate::entries::{DraftBearer, DraftEntry, Tables, entries_of};
 use crate::held::held_by;
-use crate::judge::{Objection, objection_to};
 use crate::lines::{Lines, Mark};
-use crate::naming::qualifiers_needed;
-use crate::partners::{BothRecords, Partner, partner_of};
 use crate::words::Reference;
 use arrayvec::ArrayVec;
 use cob_copybook_names::Directory;
 use cob_copybook_tree::{Kind, Node};
+use cob_draft_partners::{BothRecords, DraftBearer, DraftEntry, Objection, Partner, Tables, entries_of, objection_to, partner_of, qualifiers_needed};
 use cob_layout::Layout;
 use cob_layout_places::Side;
 use cob_limits::MAX_RECORD;
