@@ -71,11 +71,7 @@ fn add(
 }
 
 /// Adds the place of what a reference names.
-fn add_named(
-    layout: &Layout,
-    reference: &Ref,
-    places: &mut Vec<Place>,
-) -> Result<(), AllocError>
+fn add_named(layout: &Layout, reference: &Ref, places: &mut Vec<Place>) -> Result<(), AllocError>
     ensures { OnOk result (Joins layout.now places.old.items places.new.items
         (occurrence_by reference.now ∷ [])) }
 {

@@ -6,7 +6,10 @@ use crate::words::Reference;
 use arrayvec::ArrayVec;
 use cob_copybook_names::Directory;
 use cob_copybook_tree::{Kind, Node};
-use cob_draft_partners::{BothRecords, DraftBearer, DraftEntry, Objection, Partner, Tables, entries_of, objection_to, partner_of, qualifiers_needed};
+use cob_draft_partners::{
+    BothRecords, DraftBearer, DraftEntry, Objection, Partner, Tables, entries_of, objection_to,
+    partner_of, qualifiers_needed,
+};
 use cob_layout::Layout;
 use cob_layout_places::Side;
 use cob_limits::MAX_RECORD;

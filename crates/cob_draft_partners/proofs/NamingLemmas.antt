@@ -1,6 +1,6 @@
 -- Names with their qualifiers, and lists of them that are cut.
-use Rattle.std.proofs.Common.{rules, ◌≡◌, ℕ, ◌+◌, ◌-◌, ◌<◌, ◌≤◌, ◌⊎◌, inl, inr, Bool, true, false, ◌&&◌, List, [], ◌∷◌, length, map, take, refl, sym, ap, subst, ◌∙◌, arith, Ok, Err, IfOk, IfErr}
-use Rattle.std.specs.Prelude.{Result, filter, cond, if◌then◌else◌}
+use Rattle.std.proofs.Common.{◌≡◌, ℕ, ◌+◌, ◌-◌, ◌<◌, ◌⊎◌, inl, inr, Bool, true, false, List, [], ◌∷◌, length, map, take, refl, sym, ap, subst, ◌∙◌, arith, Ok, Err, IfOk, IfErr}
+use Rattle.std.specs.Prelude.{Result, cond}
 use Rattle.std.specs.Result.{is_ok}
 use Rattle.std.specs.Bool.{Decides}
 use Rattle.std.specs.Borrow.{Bor}
@@ -8,7 +8,7 @@ use Rattle.std.proofs.lemmas.List.{length-map, take-map}
 use Rattle.cob_copybook_names.specs.declared.bearer.Bearer.{Bearer as Listed}
 use Rattle.cob_copybook_names.specs.declared.fault.NameFault.{NameFault}
 use Rattle.cob_copybook_names.specs.declared.fault.NameFault.TheVariants.{Unknown, Ambiguous}
-use Rattle.cob_copybook_names.specs.Listed.{name_text, seen, texts}
+use Rattle.cob_copybook_names.specs.Listed.{seen, texts}
 use Rattle.cob_copybook_names.specs.Naming.{Bearer, IsNameFault, is_named, named}
 use Rattle.cob_draft_partners.specs.Entries.{DraftEntry, listed_bearer}
 use Rattle.cob_draft_partners.specs.Naming.{NamesOne}

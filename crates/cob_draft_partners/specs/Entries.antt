@@ -1,5 +1,5 @@
 -- The entries of two records, as a draft sees them.
-use Rattle.std.specs.Prelude.{◌≡◌, ℕ, Bool, true, false, ◌&&◌, not, is_some, List, [], ◌∷◌, ◌++◌, map}
+use Rattle.std.specs.Prelude.{◌≡◌, ℕ, Bool, true, ◌&&◌, not, is_some, List, [], ◌∷◌, ◌++◌, map}
 use Rattle.cob_copybook_tree.specs.declared.node.Kind.{Kind}
 use Rattle.cob_copybook_tree.specs.declared.node.Node.TheViews.{out-Node}
 use Rattle.cob_copybook_tree.specs.Forests.{Forest, NoEntries, AnEntry}

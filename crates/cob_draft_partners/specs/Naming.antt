@@ -1,5 +1,5 @@
 -- The qualifiers that an entry needs to be named.
-use Rattle.std.specs.Prelude.{◌≡◌, ℕ, ◌<◌, List, [], ◌∷◌, length, map, take}
+use Rattle.std.specs.Prelude.{◌≡◌, ℕ, ◌<◌, List, length, take}
 use Rattle.cob_copybook_names.specs.Naming.{Bearer, named}
 use Rattle.cob_draft_partners.specs.Entries.{DraftEntry}
 

@@ -1,5 +1,5 @@
 -- What a draft says of the move of an entry to an item.
-use Rattle.std.specs.Prelude.{◌≡◌, ◌≢◌, ℕ, Bool, true, false, IsTrue, IsFalse, length, min}
+use Rattle.std.specs.Prelude.{◌≡◌, ◌≢◌, ℕ, true, IsTrue, length, min}
 use Rattle.cob_copybook_tree.specs.Lengths.{element_length, greatest_number}
 use Rattle.cob_copybook_tree.specs.declared.lengths.TheConstants.{MANY}
 use Rattle.cob_copybook_tree.specs.Nodes.{node}
@@ -9,7 +9,7 @@ use Rattle.cob_copybook_tree.specs.declared.node.Kind.{Kind}
 use Rattle.cob_move_losses.specs.Losses.{LosesBefore, LosesBehind, LosesCharacters, LosesSign}
 use Rattle.cob_move_losses.specs.declared.losses.Losses.{Losses}
 use Rattle.cob_move_receive.specs.Refusals.{IsAllowed, is_refused}
-use Rattle.cob_move_receive.specs.Table.{SenderKind, Entry}
+use Rattle.cob_move_receive.specs.Table.{Entry}
 use Rattle.cob_draft_partners.specs.declared.entries.DraftEntry.{DraftEntry}
 use Rattle.cob_draft_partners.specs.declared.judge.Objection.{Objection}
 use Rattle.cob_draft_partners.specs.declared.judge.Objection.TheVariants as objection

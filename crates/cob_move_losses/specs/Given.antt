@@ -1,5 +1,5 @@
 -- What a sender may give: numbers, and characters.
-use Rattle.std.specs.Prelude.{◌≡◌, ◌≢◌, ◌⊎◌, ℕ, ◌+◌, ℤ, pos, ◌-ℤ◌, Bool, false, if◌then◌else◌, List, [], ◌∷◌, length, Option, Some, None, IsSomeAnd, IsTrue}
+use Rattle.std.specs.Prelude.{◌≡◌, ◌≢◌, ◌⊎◌, ℕ, ◌+◌, ℤ, pos, ◌-ℤ◌, false, if◌then◌else◌, List, [], ◌∷◌, length, Option, Some, None, IsSomeAnd, IsTrue}
 use Rattle.cob_decimal.specs.Decimal.{IsDigits}
 use Rattle.cob_decimal.specs.Parts.{zeros_of}
 use Rattle.cob_picture.specs.Counts.{digits, scale, signed}

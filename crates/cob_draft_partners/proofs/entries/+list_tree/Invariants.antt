@@ -1,4 +1,4 @@
-use Rattle.std.proofs.Common.{◌≡◌, ◌++◌, [], length, map}
+use Rattle.std.proofs.Common.{◌≡◌, ◌++◌, length, map}
 use Rattle.cob_copybook_tree.specs.Nodes.{tree_of}
 use Rattle.cob_copybook_names.specs.Listed.{texts}
 use Rattle.cob_layout_places.proofs.ForestLemmas.{left}

@@ -1,9 +1,8 @@
-use Rattle.std.proofs.Common.{◌≡◌, ℕ, ◌∙◌, List, ap, length, map, take, refl}
+use Rattle.std.proofs.Common.{map}
 use Rattle.cob_copybook_names.specs.Listed.{texts}
-use Rattle.cob_copybook_names.specs.Naming.{named}
 use Rattle.cob_draft_partners.specs.Entries.{listed_bearer}
 use Rattle.cob_draft_partners.specs.Naming.{NamesOne}
-use Rattle.cob_draft_partners.proofs.NamingLemmas.{cut_texts, named_with, named_with_none, none_up_to}
+use Rattle.cob_draft_partners.proofs.NamingLemmas.{named_with, named_with_none, none_up_to}
 use Rattle.cob_draft_partners.proofs.naming.qualifiers_needed.Goals as goal
 
 pub returns-then-names_one-clause-some : goal.returns-then-names_one-clause-some
