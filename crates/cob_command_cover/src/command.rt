@@ -1,8 +1,9 @@
 ghost use Rattle.std.specs.Prelude.{◌≡◌, IfErr};
 ghost use Rattle.cob_command_faults.specs.Ends.{EndsAmong, EndsAs, status_of_outcome};
 ghost use Rattle.cob_command_faults.specs.declared.fault.CommandFault.TheVariants.{Memory};
-ghost use Rattle.cob_command_cover.specs.Ends.{MayEndCover};
+ghost use Rattle.cob_command_convert.specs.Ends.{MayEndCheck};
 
+use cob_command_convert::Checked;
 use cob_command_faults::{CommandFault, FileName, printed, tell_fault, text_of};
 use cob_convert::Converter;
 use cob_convert_line::CheckLine;
@@ -15,16 +16,6 @@ use std::alloc::Global;
 use std::io::{Eprint, Print};
 use std::rt::Files;
 
-/// The lines of the statements of a paragraph that was read before, so that only memory can lack.
-fn statement_lines(alloc: Global, text: &[u8]) -> Result<Vec<u32>, CommandFault>
-    ensures { IfErr result (λ fault. fault ≡ Memory) }
-{
-    match lines_of(alloc, text) {
-        Ok(lines) => Ok(lines),
-        Err(_) => Err(CommandFault::Memory),
-    }
-}
-
 /// The lists of a conversion, whose statements stand on these lines, behind what its texts come to.
 fn lists_on(alloc: Global, converter: &Converter, lines: &[u32]) -> Result<String, CommandFault>
     ensures { IfErr result (λ fault. fault ≡ Memory) }
@@ -34,10 +25,12 @@ fn lists_on(alloc: Global, converter: &Converter, lines: &[u32]) -> Result<Strin
         lines,
     };
     let lists = cover_text(alloc, &lined)?;
-    let input = converter.in_length();
-    let output = converter.out_length();
-    let moves = converter.moves();
-    Ok(format!(in alloc; "ok in {input} out {output} moves {moves}\n{lists}")?)
+    let checked = Checked {
+        input: converter.in_length(),
+        output: converter.out_length(),
+        moves: converter.moves(),
+    };
+    Ok(format!(in alloc; "{checked}\n{lists}")?)
 }
 
 /// What the texts of a conversion come to, and what they leave open.
@@ -47,10 +40,13 @@ fn covered(
     out_book: &[u8],
     moves: &[u8],
 ) -> Result<String, CommandFault>
-    ensures { IfErr result MayEndCover }
+    ensures { IfErr result MayEndCheck }
 {
     let converter = Converter::prepare(alloc, in_book, out_book, moves, Form::Fixed, Form::Fixed)?;
-    let lines = statement_lines(alloc, moves)?;
+    let Ok(lines) = lines_of(alloc, moves) else {
+        // The paragraph was read before: only memory can lack.
+        return Err(CommandFault::Memory);
+    };
     lists_on(alloc, &converter, &lines)
 }
 
@@ -60,7 +56,7 @@ fn covered(
 ///
 /// A file that is not opened or not read, a text that is refused, want of memory.
 pub fn cover<R: AllocGlobal + Files>(rt: &R, line: &CheckLine<'_>) -> Result<String, CommandFault>
-    ensures { IfErr result MayEndCover }
+    ensures { IfErr result MayEndCheck }
 {
     let in_book = text_of(rt, line.in_book, FileName::InBook)?;
     let out_book = text_of(rt, line.out_book, FileName::OutBook)?;
@@ -80,7 +76,7 @@ fn tell_covered<R: Print + Eprint>(rt: &R, outcome: Result<String, CommandFault>
 
 /// Checks, prints what the texts come to and what they leave open, or what is at fault, and answers how the program ends.
 pub fn do_cover<R: AllocGlobal + Files + Print + Eprint>(rt: &R, line: &CheckLine<'_>) -> Status
-    ensures { EndsAmong MayEndCover result }
+    ensures { EndsAmong MayEndCheck result }
 {
     tell_covered(rt, cover(rt, line))
 }

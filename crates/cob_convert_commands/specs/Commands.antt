@@ -13,6 +13,7 @@ use Rattle.cob_command_faults.specs.Ends.{EndsAmong, EndsAs}
 use Rattle.cob_command_aside.specs.Ends.{MayEndAside}
 use Rattle.cob_command_convert.specs.Ends.{MayEndCheck, MayEndConvert}
 use Rattle.cob_command_explain.specs.Ends.{EndsExplain}
+use Rattle.cob_command_draft.specs.Ends.{MayEndDraft}
 use Rattle.cob_command_lists.specs.Ends.{MayEndLayout, MayEndListing}
 use Rattle.cob_command_lossless.specs.Ends.{MayEndLossless}
 
@@ -32,6 +33,7 @@ EndsLine (line.Show options) end = EndsAmong MayEndListing end
 EndsLine (line.Pieces options) end = EndsAmong MayEndListing end
 EndsLine (line.Lossless options) end = EndsAmong MayEndLossless end
 EndsLine (line.Explain options) end = EndsExplain end
+EndsLine (line.Draft options) end = EndsAmong MayEndDraft end
 
 -- the number of a status with which this command line ends
 abbrev pub IsEndOfLine : Line → ℕ → Type 0

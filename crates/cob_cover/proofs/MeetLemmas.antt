@@ -1,5 +1,5 @@
 -- Places that have a byte.
-use Rattle.std.proofs.Common.{◌≡◌, ◌⊎◌, ℕ, ◌+◌, ◌<◌, Bool, true, false, ◌||◌, List, [], ◌∷◌, ◌++◌, get_or, length, refl, sym, ◌∙◌, inl, inr, arith}
+use Rattle.std.proofs.Common.{◌≡◌, ◌⊎◌, ℕ, ◌<◌, Bool, true, false, ◌||◌, List, [], ◌∷◌, get_or, length, refl, sym, ap, ◌∙◌, inl, inr}
 use Rattle.std.specs.Bool.{Decides}
 use Rattle.std.specs.List.{list_any}
 use Rattle.cob_copybook_tree.specs.Forests.{Forest}
@@ -39,8 +39,9 @@ covers tree ps xs o b is gathers = (
   λ h. is ∙ some_any (has_offset o) ps ((gathers (has_offset o)).1 h),
 )
 
--- and so of all bytes
-pub are_marks : (tree : Forest Resolved) (ps : List Place) (xs : List Occurrence) (marks : List Bool)
-    → ((o : ℕ) → o < length marks → get_or marks o false ≡ list_any (has_offset o) ps) → Gathers tree ps xs
+-- and so of all bytes, where the same places were looked through
+pub are_marks : (tree : Forest Resolved) (ps qs : List Place) (xs : List Occurrence) (marks : List Bool) → qs ≡ ps
+    → ((o : ℕ) → o < length marks → get_or marks o false ≡ list_any (has_offset o) qs) → Gathers tree ps xs
     → AreMarks (λ (o : ℕ). SomeOf (HasPlaceWhere tree (HasOffset o)) xs) marks
-are_marks tree ps xs marks each gathers o lt = covers tree ps xs o (get_or marks o false) (each o lt) gathers
+are_marks tree ps qs xs marks same each gathers o lt =
+    covers tree ps xs o (get_or marks o false) (each o lt ∙ ap (λ (rs : List Place). list_any (has_offset o) rs) same) gathers

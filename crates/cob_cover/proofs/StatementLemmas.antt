@@ -1,5 +1,5 @@
 -- What statements send and what receives in them, in the moves that they mean.
-use Rattle.std.proofs.Common.{◌≡◌, ℕ, List, [], ◌∷◌, ◌++◌, map, refl, sym, ap, ◌∙◌, append-nil}
+use Rattle.std.proofs.Common.{◌≡◌, List, [], ◌∷◌, ◌++◌, map, refl, sym, ap, ◌∙◌, append-nil}
 use Rattle.std.specs.List.{flat_map}
 use Rattle.std.proofs.lemmas.Grind.{flat_map-append}
 use Rattle.std.proofs.lemmas.List.Concat.{flat_map-cons}
@@ -21,7 +21,7 @@ use Rattle.cob_layout_places.specs.declared.reference.Ref.{Ref}
 use Rattle.cob_move_lossless.specs.Received.{occurrence_by}
 use Rattle.cob_move_returns.specs.Singles.{occurrence_of}
 use Rattle.cob_cover.specs.Gathered.{input_of, received_in, receivers_of, sent_in}
-use Rattle.cob_cover.specs.Statements.{group_senders, if_input, pair_receiver, pair_sender, receivers_by, sender_occurrence, senders_by}
+use Rattle.cob_cover.specs.Statements.{if_input, pair_receiver, pair_sender, receivers_by, sender_occurrence, senders_by}
 
 -- ---- receivers
 

@@ -1,5 +1,5 @@
 -- What statements send and what receives in them, by the numbers of entries.
-use Rattle.std.specs.Prelude.{ℕ, List, [], ◌∷◌, map}
+use Rattle.std.specs.Prelude.{List, [], ◌∷◌, map}
 use Rattle.cob_layout_places.specs.Cover.{Occurrence}
 use Rattle.cob_layout_places.specs.declared.operands.NumberedPair.{NumberedPair}
 use Rattle.cob_layout_places.specs.declared.operands.PairMoves.{PairMoves}

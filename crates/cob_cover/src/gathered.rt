@@ -70,6 +70,19 @@ fn add(
     }
 }
 
+/// Adds the place of what a reference names.
+fn add_named(layout: &Layout, reference: &Ref, places: &mut Vec<Place>) -> Result<(), AllocError>
+    ensures { OnOk result (Joins layout.now places.old.items places.new.items
+        (occurrence_by reference.now ∷ [])) }
+{
+    add(
+        layout,
+        reference.node,
+        reference.subscripts.as_slice(),
+        places,
+    )
+}
+
 /// Adds the places of receivers.
 fn add_receivers(
     layout: &Layout,
@@ -80,14 +93,35 @@ fn add_receivers(
         (map occurrence_by receivers.now)) }
 {
     for receiver in receivers {
-        add(
-            layout,
-            receiver.node,
-            receiver.subscripts.as_slice(),
-            places,
-        )?;
+        add_named(layout, receiver, places)?;
     }
     Ok(())
+}
+
+/// Adds the place of the receiving entry of a pair of two groups.
+fn add_pair_receiver(
+    layout: &Layout,
+    group: &PairMoves,
+    pair: &NumberedPair,
+    places: &mut Vec<Place>,
+) -> Result<(), AllocError>
+    ensures { OnOk result (Joins layout.now places.old.items places.new.items
+        (pair_receiver group.now pair.now ∷ [])) }
+{
+    add(layout, pair.to, group.to.subscripts.as_slice(), places)
+}
+
+/// Adds the place of the sending entry of a pair of two groups.
+fn add_pair_sender(
+    layout: &Layout,
+    group: &PairMoves,
+    pair: &NumberedPair,
+    places: &mut Vec<Place>,
+) -> Result<(), AllocError>
+    ensures { OnOk result (Joins layout.now places.old.items places.new.items
+        (pair_sender group.now pair.now ∷ [])) }
+{
+    add(layout, pair.from, group.from.subscripts.as_slice(), places)
 }
 
 /// Adds the places of the receiving entries of pairs of two groups.
@@ -101,7 +135,7 @@ fn add_pair_receivers(
         (map (pair_receiver group.now) pairs.now)) }
 {
     for pair in pairs {
-        add(layout, pair.to, group.to.subscripts.as_slice(), places)?;
+        add_pair_receiver(layout, group, pair, places)?;
     }
     Ok(())
 }
@@ -117,7 +151,7 @@ fn add_pair_senders(
         (map (pair_sender group.now) pairs.now)) }
 {
     for pair in pairs {
-        add(layout, pair.from, group.from.subscripts.as_slice(), places)?;
+        add_pair_sender(layout, group, pair, places)?;
     }
     Ok(())
 }
@@ -147,7 +181,7 @@ fn add_sender(layout: &Layout, sender: &Sender, places: &mut Vec<Place>) -> Resu
     match sender {
         Sender::Constant(_) => Ok(()),
         Sender::Entry { side, entry } => match *side {
-            Side::In => add(layout, entry.node, entry.subscripts.as_slice(), places),
+            Side::In => add_named(layout, entry, places),
             Side::Out => Ok(()),
         },
     }

@@ -1,10 +1,9 @@
 //! The single moves that may lose something.
 
 use crate::gathered::place_of;
-use cob_copybook_tree::Kind;
 use cob_layout::Layout;
 use cob_layout_places::Side;
-use cob_lossless_words::{Element, Named, PictureText, Sent, Single};
+use cob_lossless_words::{Element, Named, PictureText, Sent, Single, entry_of};
 use cob_move_losses::{Losses, losses_of};
 use cob_move_lossless::Layouts;
 use cob_move_receive::SenderKind;
@@ -35,22 +34,25 @@ fn length_of(layout: &Layout, element: Element<'_>) -> u32 {
 }
 
 /// What a single move may lose.
-fn losses_in(layouts: &Layouts<'_>, single: &Single<'_>) -> Losses {
-    let to = layouts.output.kind(single.receiver.number);
+fn losses_in(layouts: &Layouts<'_>, single: &Single<'_>) -> Option<Losses> {
+    let to = entry_of(layouts.output.root(), single.receiver.number)?;
     let room = length_of(layouts.output, single.receiver);
     match single.sent {
-        Sent::Constant(value) => losses_of(&SenderKind::Constant(value), 0, to, room),
+        Sent::Constant(value) => {
+            Some(losses_of(&SenderKind::Constant(value), 0, &to.kind, room))
+        }
         Sent::Entry { side, entry } => {
             let layout = layout_of(layouts, side);
-            let from = SenderKind::Entry(layout.kind(entry.number));
-            losses_of(&from, length_of(layout, entry), to, room)
+            let from = entry_of(layout.root(), entry.number)?;
+            let sent = length_of(layout, entry);
+            Some(losses_of(&SenderKind::Entry(&from.kind), sent, &to.kind, room))
         }
     }
 }
 
 /// What is told of a single move that may lose something.
 pub(crate) fn told_losing<'a>(layouts: &Layouts<'a>, single: &Single<'a>) -> Option<Losing<'a>> {
-    let losses = losses_in(layouts, single);
+    let losses = losses_in(layouts, single)?;
     if losses.are_none() {
         return None;
     }
@@ -70,9 +72,9 @@ fn write_element<W: fmt::Write>(
 ) -> fmt::Result {
     let named = Named::new(layout.root(), element.number, element.subscripts);
     write!(f, "{named}")?;
-    match layout.kind(element.number) {
-        Kind::Group => Ok(()),
-        Kind::Item(item) => {
+    match named.item() {
+        None => Ok(()),
+        Some(item) => {
             let picture = PictureText {
                 picture: &item.picture,
             };

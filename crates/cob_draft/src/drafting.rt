@@ -1,15 +1,15 @@
 //! A paragraph to begin with.
 
-use crate::entries::{DraftBearer, DraftEntry, Tables, entries_of};
 use crate::held::held_by;
-use crate::judge::{Objection, objection_to};
 use crate::lines::{Lines, Mark};
-use crate::naming::qualifiers_needed;
-use crate::partners::{BothRecords, Partner, partner_of};
 use crate::words::Reference;
 use arrayvec::ArrayVec;
 use cob_copybook_names::Directory;
 use cob_copybook_tree::{Kind, Node};
+use cob_draft_partners::{
+    BothRecords, DraftBearer, DraftEntry, Objection, Partner, Tables, entries_of, objection_to,
+    partner_of, qualifiers_needed,
+};
 use cob_layout::Layout;
 use cob_layout_places::Side;
 use cob_limits::MAX_RECORD;
@@ -60,6 +60,16 @@ struct Records<'a> {
     inputs: Vec<DraftBearer<'a>>,
     outputs: Vec<DraftBearer<'a>>,
     directory: Directory<'a, DraftEntry<'a>>,
+}
+
+impl<'a> Records<'a> {
+    /// The entries of both.
+    fn both(&self) -> BothRecords<'_, 'a> {
+        BothRecords {
+            inputs: &self.inputs,
+            outputs: &self.outputs,
+        }
+    }
 }
 
 /// What a draft has come to.
@@ -184,9 +194,19 @@ fn note(shares: &mut [Share], from: usize, count: usize, share: Share) {
     }
 }
 
+/// Whether an entry is an item.
+fn is_item(bearer: &DraftBearer<'_>) -> bool {
+    matches!(kind_of(bearer), Kind::Item(_))
+}
+
 /// Whether an entry is a named item in no redefinition.
 fn is_own_item(bearer: &DraftBearer<'_>) -> bool {
-    bearer.entry.own && bearer.name.is_some() && matches!(kind_of(bearer), Kind::Item(_))
+    bearer.entry.own && bearer.name.is_some() && is_item(bearer)
+}
+
+/// Whether an entry is a named group below a record, in no redefinition.
+fn is_own_group(bearer: &DraftBearer<'_>) -> bool {
+    bearer.entry.own && bearer.name.is_some() && !bearer.above.is_empty() && !is_item(bearer)
 }
 
 impl Progress {
@@ -248,7 +268,12 @@ impl Progress {
             sent,
         );
         let received = share_of(to, tables.as_slice());
-        note(&mut self.received, number_of(receiving), 1, received);
+        note(
+            &mut self.received,
+            number_of(receiving),
+            entries_of_bearer(receiving),
+            received,
+        );
         Ok(())
     }
 
@@ -305,13 +330,27 @@ impl Progress {
         }
     }
 
+    /// Adds what there is of a group of the output record: the move of an item, if its partner is one.
+    fn push_group(
+        &mut self,
+        records: &Records<'_>,
+        to: &DraftBearer<'_>,
+    ) -> Result<(), AllocError> {
+        let Partner::One(from) = partner_of(&records.both(), to) else {
+            return Ok(());
+        };
+        if !is_item(from) {
+            return Ok(());
+        }
+        match paired(&records.directory, from, to) {
+            Some(pair) => self.push_pair(&pair),
+            None => Ok(()),
+        }
+    }
+
     /// Adds what there is of an item of the output record.
     fn push_item(&mut self, records: &Records<'_>, to: &DraftBearer<'_>) -> Result<(), AllocError> {
-        let both = BothRecords {
-            inputs: &records.inputs,
-            outputs: &records.outputs,
-        };
-        match partner_of(&both, to) {
+        match partner_of(&records.both(), to) {
             Partner::Missing => Ok(()),
             Partner::Several => {
                 self.push_unclear(to, "several entries of the input record have this name")
@@ -442,11 +481,13 @@ fn lacking_in(progress: &Progress) -> Option<Lacking> {
     None
 }
 
-/// Adds what there is of each item of the output record, and behind that the lists of what is not moved.
+/// Adds what there is of each item and each group of the output record, and behind that the lists of what is not moved.
 fn push_all(progress: &mut Progress, records: &Records<'_>, root: &Node) -> Result<(), AllocError> {
     for to in records.outputs.iter() {
         if is_own_item(to) {
             progress.push_item(records, to)?;
+        } else if is_own_group(to) {
+            progress.push_group(records, to)?;
         }
     }
     progress.push_unfilled(&records.outputs, root)?;

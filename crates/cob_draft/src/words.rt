@@ -1,8 +1,6 @@
-//! How a draft tells entries and objections.
+//! How a draft tells entries.
 
-use crate::entries::DraftBearer;
-use crate::judge::Objection;
-use cob_move_receive::Refusal;
+use cob_draft_partners::DraftBearer;
 use std::fmt;
 
 /// A reference to an entry: its name, so many of its qualifiers, the nearest first, and its subscripts.
@@ -36,20 +34,5 @@ impl fmt::Display for Reference<'_, '_> {
             write!(f, ", {subscript}")?;
         }
         write!(f, ")")
-    }
-}
-
-impl fmt::Display for Objection {
-    fn fmt<W: fmt::Write>(&self, f: &mut fmt::Formatter<W>) -> fmt::Result {
-        match self {
-            Objection::Tables => write!(f, "They stand in tables that are not as many"),
-            Objection::Varies => write!(f, "A table that varies holds one of them"),
-            Objection::Refused(Refusal::NotAllowed) => write!(f, "There is no such move"),
-            Objection::Refused(Refusal::Literal) => write!(f, "The literal is not as asked"),
-            Objection::Refused(Refusal::TooLong) => {
-                write!(f, "The sender has more than 31 characters")
-            }
-            Objection::Loses(losses) => write!(f, "It may lose {losses}"),
-        }
     }
 }

@@ -4,9 +4,10 @@ use Rattle.std.specs.Bool.{Decides}
 use Rattle.std.specs.Prelude.{ℤ, pos, ◌-ℤ◌, ◌≤ℤ◌, ◌<ℤ◌}
 use Rattle.std.proofs.lemmas.Int.{ints}
 use Rattle.cob_decimal.specs.Decimal.{IsDigits}
+use Rattle.cob_picture.specs.Counts.{digits, scale}
 use Rattle.cob_picture.specs.Positions.{PlainPicture}
 use Rattle.cob_move_losses.specs.Given.{GivesDigit, GivesMinus, HasDigitAt, IsOfExtent, SomeDigit}
-use Rattle.cob_move_losses.specs.Losses.{IsBelowLast, IsBeyondFirst, last_power, power_beyond}
+use Rattle.cob_move_losses.specs.Losses.{IsBelowLast, IsBeyondFirst, last_power}
 use Rattle.cob_move_losses.specs.declared.numbers.Extent.{Extent}
 
 -- so many nines
@@ -63,7 +64,7 @@ not_so P b is h = (λ e. absurd (cc), λ p. absurd (h p))
 -- ---- the numbers of an item
 
 -- some number of these has a digit before those of a picture
-pub longer_before : (e : Extent) (p : PlainPicture) → 0 < e.digits → power_beyond p <ℤ (pos e.digits -ℤ e.scale) → GivesDigit (IsOfExtent e) (IsBeyondFirst p)
+pub longer_before : (e : Extent) (p : PlainPicture) → 0 < e.digits → (pos (digits p.positions) -ℤ scale p.positions) <ℤ (pos e.digits -ℤ e.scale) → GivesDigit (IsOfExtent e) (IsBeyondFirst p)
 longer_before e p some longer = record {
   value = record { negative = false; digits = nines e.digits; scale = e.scale };
   given = nines_of_extent e false (λ h. absurd (search rules));
@@ -75,7 +76,7 @@ longer_before e p some longer = record {
 }
 
 -- none has
-pub none_before : (e : Extent) (p : PlainPicture) → (0 < e.digits → (pos e.digits -ℤ e.scale) ≤ℤ power_beyond p) → GivesDigit (IsOfExtent e) (IsBeyondFirst p) → ⊥
+pub none_before : (e : Extent) (p : PlainPicture) → (0 < e.digits → (pos e.digits -ℤ e.scale) ≤ℤ (pos (digits p.positions) -ℤ scale p.positions)) → GivesDigit (IsOfExtent e) (IsBeyondFirst p) → ⊥
 none_before e p short g =
     let below = digit_below g.value.digits g.value.scale g.stands.power g.stands.digit in
     let above = digit_above g.value.digits g.value.scale g.stands.power g.stands.digit in

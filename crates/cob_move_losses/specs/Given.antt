@@ -1,5 +1,5 @@
 -- What a sender may give: numbers, and characters.
-use Rattle.std.specs.Prelude.{◌≡◌, ◌≢◌, ◌⊎◌, ℕ, ◌+◌, ℤ, pos, ◌-ℤ◌, Bool, false, if◌then◌else◌, List, [], ◌∷◌, length, Option, Some, None, IsSomeAnd, IsTrue}
+use Rattle.std.specs.Prelude.{◌≡◌, ◌≢◌, ◌⊎◌, ℕ, ◌+◌, ℤ, pos, ◌-ℤ◌, false, if◌then◌else◌, List, [], ◌∷◌, length, Option, Some, None, IsSomeAnd, IsTrue}
 use Rattle.cob_decimal.specs.Decimal.{IsDigits}
 use Rattle.cob_decimal.specs.Parts.{zeros_of}
 use Rattle.cob_picture.specs.Counts.{digits, scale, signed}
@@ -13,6 +13,7 @@ use Rattle.cob_copybook_tree.specs.declared.node.Item.{Item}
 use Rattle.cob_copybook_tree.specs.Lengths.{item_size}
 use Rattle.cob_copybook_tree.specs.Resolving.{is_number}
 use Rattle.cob_move_receive.specs.Numbers.{ConstantGives}
+use Rattle.cob_move_receive.specs.Refusals.{receives_number}
 use Rattle.cob_move_receive.specs.Sent.{Amount}
 use Rattle.cob_move_receive.specs.Table.{SenderKind, Entry, Literal}
 use Rattle.cob_move_losses.specs.declared.numbers.Extent.{Extent}
@@ -87,14 +88,9 @@ constant_characters (Quoted text) = length text
 constant_characters (Figure f) = 0
 constant_characters (Repeated text) = 0
 
--- the receiver takes the number of an item or a constant
-abbrev pub takes_number : Kind → Bool
-takes_number Group = false
-takes_number (ItemKind r) = shows_number r.picture.category
-
 -- how many characters a constant gives to a receiver
 abbrev pub constant_characters_to : PlainValue → Kind → ℕ
-constant_characters_to c to = if takes_number to then 0 else constant_characters c
+constant_characters_to c to = if receives_number to then 0 else constant_characters c
 
 -- How many characters a sender of so many bytes gives to a receiver. A group gives all its bytes to each.
 abbrev pub characters_of : SenderKind → ℕ → Kind → ℕ

@@ -3,8 +3,7 @@ use Rattle.std.specs.Prelude.{◌<◌, ◌≤ℤ◌, ◌<ℤ◌, ◌-ℤ◌, ℕ
 use Rattle.cob_picture.specs.Counts.{digits, scale, signed}
 use Rattle.cob_picture.specs.Positions.{PlainPicture, shows_number}
 use Rattle.cob_picture.specs.declared.position.Position.{Position}
-use Rattle.cob_picture.specs.declared.position.Role.{Role}
-use Rattle.cob_picture.specs.declared.position.Role.TheVariants.{Character, Insertion, DecimalPoint, Digit, Suppressed, Floating, FirstFloating, FixedSign, FixedCurrency, NoByte}
+use Rattle.cob_edit.specs.Characters.{is_character}
 use Rattle.cob_entry.specs.Described.{PlainValue, Numeric as NumericLiteral, Quoted, Figure, Repeated}
 use Rattle.cob_copybook_tree.specs.declared.node.Kind.{Kind}
 use Rattle.cob_copybook_tree.specs.declared.node.Kind.TheVariants.{Group, Item as ItemKind}
@@ -14,17 +13,13 @@ use Rattle.cob_move_receive.specs.Characters.{has_insertions}
 use Rattle.cob_move_receive.specs.Table.{SenderKind, Entry, Literal}
 use Rattle.cob_move_losses.specs.Given.{GivesDigit, GivesMinus, MayGive, characters_of}
 
--- the first power of ten that is greater than those of the digits of a picture
-abbrev pub power_beyond : PlainPicture → ℤ
-power_beyond p = pos (digits p.positions) -ℤ scale p.positions
-
 -- the power of ten of the last digit of a picture
 abbrev pub last_power : PlainPicture → ℤ
 last_power p = pos 0 -ℤ scale p.positions
 
 -- the power of ten is greater than those of all digits of the picture
 abbrev pub IsBeyondFirst : PlainPicture → ℤ → Type 0
-IsBeyondFirst p power = power_beyond p ≤ℤ power
+IsBeyondFirst p power = (pos (digits p.positions) -ℤ scale p.positions) ≤ℤ power
 
 -- it is less than those of all digits of the picture
 abbrev pub IsBelowLast : PlainPicture → ℤ → Type 0
@@ -40,22 +35,9 @@ abbrev pub LosesBehind : SenderKind → Kind → Type 0
 LosesBehind s Group = ⊥
 LosesBehind s (ItemKind r) = IsTrue (shows_number r.picture.category) × GivesDigit (MayGive s) (IsBelowLast r.picture)
 
--- a place of a picture that holds a character
-abbrev pub is_character_place : Role → Bool
-is_character_place Character = true
-is_character_place Insertion = false
-is_character_place DecimalPoint = false
-is_character_place Digit = false
-is_character_place Suppressed = false
-is_character_place Floating = false
-is_character_place FirstFloating = false
-is_character_place FixedSign = false
-is_character_place FixedCurrency = false
-is_character_place NoByte = false
-
 -- how many places for characters there are
 abbrev pub character_places : List Position → ℕ
-character_places ps = count_by (λ p. is_character_place p.role) ps
+character_places ps = count_by (λ p. is_character p.role) ps
 
 -- For how many characters an item of so many bytes has room: where its picture has insertions, for as many as it has places for them.
 abbrev pub item_room : Item → ℕ → ℕ

@@ -2,26 +2,17 @@
 
 ghost use Rattle.std.specs.Prelude.{◌≡◌, ◌≤◌, length, IsTrue};
 ghost use Rattle.cob_decimal.specs.Parts.{zeros_of};
+ghost use Rattle.cob_edit.specs.Characters.{is_character};
 ghost use Rattle.cob_picture.specs.Positions.{is_edited};
 ghost use Rattle.cob_entry.specs.Described.{plain_value};
 ghost use Rattle.cob_move_receive.specs.Characters.{has_insertions};
 ghost use Rattle.cob_move_receive.specs.Table.{sender_kind};
-ghost use Rattle.cob_move_losses.specs.Given.{characters_of, characters_to, constant_characters, constant_characters_to, item_characters, takes_number};
-ghost use Rattle.cob_move_losses.specs.Losses.{character_places, is_character_place, item_room, kind_room, room_for};
+ghost use Rattle.cob_move_losses.specs.Given.{characters_of, characters_to, constant_characters, constant_characters_to, item_characters};
+ghost use Rattle.cob_move_losses.specs.Losses.{character_places, item_room, kind_room, room_for};
 
 use cob_copybook_tree::{Item, Kind, Value, is_number};
 use cob_move_receive::SenderKind;
 use cob_picture::{Category, Picture, Position, Role};
-
-/// Whether a receiver takes the number of what is sent.
-pub(crate) fn takes_number(to: &Kind) -> bool
-    ensures { result ≡ takes_number to.now }
-{
-    match to {
-        Kind::Group => false,
-        Kind::Item(item) => item.picture.category().shows_number(),
-    }
-}
 
 /// How many zeros stand between the last digit and the point.
 fn zeros_of(scale: i8) -> u32
@@ -76,10 +67,15 @@ fn constant_characters(value: &Value) -> u32
 fn constant_characters_to(value: &Value, to: &Kind) -> u32
     ensures { result ≡ constant_characters_to (plain_value value.now) to.now }
 {
-    if takes_number(to) {
-        0
-    } else {
-        constant_characters(value)
+    match to {
+        Kind::Group => constant_characters(value),
+        Kind::Item(receiver) => {
+            if receiver.picture.category().shows_number() {
+                0
+            } else {
+                constant_characters(value)
+            }
+        }
     }
 }
 
@@ -95,8 +91,8 @@ pub(crate) fn characters_of(from: &SenderKind<'_>, bytes: u32, to: &Kind) -> u32
 }
 
 /// Whether a position holds a character.
-fn is_character_place(role: Role) -> bool
-    ensures { result ≡ is_character_place role }
+fn is_character(role: Role) -> bool
+    ensures { result ≡ is_character role }
 {
     matches!(role, Role::Character)
 }
@@ -108,7 +104,7 @@ fn count_characters(positions: &[Position]) -> u32
 {
     let mut count = 0;
     for position in positions {
-        if is_character_place(position.role) {
+        if is_character(position.role) {
             count += 1;
         }
     }

@@ -16,27 +16,20 @@ use cob_decimal::{Digits, Number, are_digits};
 use cob_limits::MAX_DIGITS;
 use cob_picture::Picture;
 
-/// A whole number that isn't negative.
-fn whole_number(digits: Digits) -> Number
-    ensures { amount result ≡ whole_number digits }
-{
-    Number::new(false, digits, 0)
-}
-
-/// The digits that characters stand for.
-fn digits_in(text: &[u8]) -> Digits
+/// The number that characters stand for, each of them a digit.
+fn number_of_digits(text: &[u8]) -> Number
     requires digits { AreDigits text.now }
     requires room { length text.now ≤ most_digits }
-    ensures { result ≡ digits_in text.now }
+    ensures { amount result ≡ whole_number (digits_in text.now) }
 {
     let mut digits = Digits::new();
     for character in text {
         digits.push(*character - b'0');
     }
-    digits
+    Number::new(false, digits, 0)
 }
 
-/// The number that a quoted literal of digits is.
+/// The number that a quoted literal is: one of 1 to 31 digits.
 fn number_of_literal(text: &[u8]) -> Option<Number>
     ensures found { IfSome result (λ n. IsDigitText text.now (amount n)) }
     ensures only { (v : Amount) → IsDigitText text.now v → IsSomeAnd result (λ n. amount n ≡ v) }
@@ -44,16 +37,16 @@ fn number_of_literal(text: &[u8]) -> Option<Number>
     if text.is_empty() || text.len() > MAX_DIGITS || !are_digits(text) {
         return None;
     }
-    Some(whole_number(digits_in(text)))
+    Some(number_of_digits(text))
 }
 
-/// The number that a figurative constant is.
+/// The number that a figurative constant is: that of no digits, where it is ZERO.
 fn number_of_figure(figurative: Figurative) -> Option<Number>
     ensures found { IfSome result (λ n. FigureGives figurative (amount n)) }
     ensures only { (v : Amount) → FigureGives figurative v → IsSomeAnd result (λ n. amount n ≡ v) }
 {
     match figurative {
-        Figurative::Zero => Some(whole_number(Digits::new())),
+        Figurative::Zero => Some(number_of_digits(&[])),
         Figurative::Space | Figurative::HighValue | Figurative::LowValue | Figurative::Quote =>
             None,
     }

@@ -13,8 +13,8 @@
 //!
 //! Whether there is such a move at all, `refusal_of` of `cob_move_receive` says. [`Losses`] prints what may be lost in words.
 //!
-//! It stands on `cob_move_receive` for what senders are, on `cob_copybook_tree` and `cob_entry` for items and constants, and on `cob_picture` and
-//! `cob_decimal` for pictures and numbers. Nothing here takes memory.
+//! It stands on `cob_move_receive` for what senders are, on `cob_copybook_tree` and `cob_entry` for items and constants, on `cob_edit` for the places
+//! of edited items, and on `cob_picture` and `cob_decimal` for pictures and numbers. Nothing here takes memory.
 #![tactic(auto)]
 
 mod characters;

@@ -1,9 +1,10 @@
 //! The numbers that items may give.
 
-ghost use Rattle.std.specs.Prelude.{◌≡◌, ◌≤ℤ◌, pos, negsuc};
+ghost use Rattle.std.specs.Prelude.{◌≡◌, ◌≤ℤ◌, ◌-ℤ◌, pos, negsuc};
 ghost use Rattle.std.specs.Bool.{Decides};
+ghost use Rattle.cob_picture.specs.Counts.{digits, scale};
 ghost use Rattle.cob_move_losses.specs.Given.{GivesDigit, GivesMinus, IsOfExtent, extent_of, picture_extent};
-ghost use Rattle.cob_move_losses.specs.Losses.{IsBelowLast, IsBeyondFirst, last_power, power_beyond};
+ghost use Rattle.cob_move_losses.specs.Losses.{IsBelowLast, IsBeyondFirst, last_power};
 
 use cob_copybook_tree::Item;
 use cob_picture::{Category, Picture};
@@ -44,7 +45,7 @@ pub(crate) fn extent_of(item: &Item) -> Option<Extent>
 
 /// The first power of ten that is greater than those of a picture's digits.
 pub(crate) fn power_beyond(picture: &Picture) -> i32
-    ensures value { result ≡ power_beyond picture.now }
+    ensures value { result ≡ (pos (digits picture.now.positions) -ℤ scale picture.now.positions) }
     ensures least { negsuc 99 ≤ℤ result }
     ensures most { result ≤ℤ pos 99 }
 {

@@ -7,7 +7,7 @@ pub returns-in-Convert : goal.returns-in-Convert
 returns-in-Convert g c = (_, rw c.in-Convert.is c.do_conversion.ensures, c.code.ensures)
 
 pub returns-in-Check : goal.returns-in-Check
-returns-in-Check g c = (_, rw c.in-Check.is c.do_check.ensures, c.code-in-Check.ensures)
+returns-in-Check g c = (_, rw c.in-Check.is c.do_checking.ensures, c.code-in-Check.ensures)
 
 pub returns-in-Layout : goal.returns-in-Layout
 returns-in-Layout g c = (_, rw c.in-Layout.is c.do_layout.ensures, c.code-in-Layout.ensures)
@@ -23,3 +23,6 @@ returns-in-Lossless g c = (_, rw c.in-Lossless.is c.do_lossless.ensures, c.code-
 
 pub returns-in-Explain : goal.returns-in-Explain
 returns-in-Explain g c = (_, rw c.in-Explain.is c.do_explain.ensures, c.code-in-Explain.ensures)
+
+pub returns-in-Draft : goal.returns-in-Draft
+returns-in-Draft g c = (_, rw c.in-Draft.is c.do_draft.ensures, c.code-in-Draft.ensures)

@@ -1,11 +1,13 @@
-use Rattle.std.proofs.Common.{[], arith}
+use Rattle.std.proofs.Common.{List, [], arith, subst, sym}
 use Rattle.std.specs.List.{flat_map}
+use Rattle.cob_layout.specs.declared.fields.Place.{Place}
+use Rattle.cob_cover.specs.Gathered.{Joins}
 use Rattle.cob_cover.specs.Statements.{senders_by}
 use Rattle.cob_cover.proofs.GatherLemmas.{gathers_all, joins_all_each, joins_each, joins_none}
 use Rattle.cob_cover.proofs.gathered.places_sent.Goals as goal
 
 pub loop-statement-init : goal.loop-statement-init
-loop-statement-init c = joins_none c.args.layout.now []
+loop-statement-init c = subst (λ (ps : List Place). Joins c.args.layout.now [] ps []) (sym c.new-places.ensures.items) (joins_none c.args.layout.now [])
 
 pub loop-statement-preserved : goal.loop-statement-preserved
 loop-statement-preserved c =
