@@ -17,3 +17,9 @@ returns-in-Pieces g c = (_, rw c.in-Pieces.is c.do_pieces.ensures, c.code-in-Pie
 
 pub returns-in-Lossless : goal.returns-in-Lossless
 returns-in-Lossless g c = (_, rw c.in-Lossless.is c.do_lossless.ensures, c.code-in-Lossless.ensures)
+
+pub returns-in-Completion : goal.returns-in-Completion
+returns-in-Completion g c = (_, rw c.in-Completion.is c.do_completion.ensures, c.code-in-Completion.ensures)
+
+pub returns-in-Manual : goal.returns-in-Manual
+returns-in-Manual g c = (_, rw c.in-Manual.is c.do_manual.ensures, c.code-in-Manual.ensures)
