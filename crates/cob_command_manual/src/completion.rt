@@ -1,6 +1,6 @@
 use crate::parts::{Values, is_told, values_of};
 use clap::{Arg, Command};
-use cob_convert_line::program;
+use cob_convert_program::program;
 use std::alloc::{AllocError, Global};
 
 // What stands before the names of the commands.
@@ -17,13 +17,13 @@ _cobconv() {
     if ((COMP_CWORD == 1)); then
         words='";
 
-// What stands between these and the lines of each command.
+// What stands between these and the cases of each command.
 const MIDDLE: &str = "--help --version'
     else
         case \"${COMP_WORDS[1]} $before\" in
 ";
 
-// What stands behind the lines of the commands.
+// What stands behind the cases of the commands.
 const TAIL: &str = "        esac
     fi
     mapfile -t COMPREPLY < <(compgen -W \"$words\" -- \"$word\")
@@ -31,8 +31,8 @@ const TAIL: &str = "        esac
 complete -F _cobconv cobconv
 ";
 
-/// The lines of an option whose value is completed.
-fn push_option(
+/// The case of an option whose value is completed.
+fn push_case(
     alloc: Global,
     text: &mut String,
     command: &str,
@@ -50,11 +50,11 @@ fn push_option(
     }
 }
 
-/// The lines of a command: of its options with a value, and then of the names of all its options.
-fn push_command(alloc: Global, text: &mut String, command: &Command<'_>) -> Result<(), AllocError> {
+/// The cases of a command: of its options with a value, and then of the names of all its options.
+fn push_cases(alloc: Global, text: &mut String, command: &Command<'_>) -> Result<(), AllocError> {
     let name = command.get_name();
     for option in command.get_arguments() {
-        push_option(alloc, text, name, option)?;
+        push_case(alloc, text, name, option)?;
     }
     text.push_str(format!(in alloc; "        '{name} '*) words='")?.as_str())?;
     for option in command.get_arguments() {
@@ -82,7 +82,7 @@ fn completion_for(alloc: Global, program: &Command<'_>) -> Result<String, AllocE
     text.push_str(MIDDLE)?;
     for command in program.get_subcommands() {
         if is_told(command) {
-            push_command(alloc, &mut text, command)?;
+            push_cases(alloc, &mut text, command)?;
         }
     }
     text.push_str(TAIL)?;

@@ -1,6 +1,6 @@
-use crate::parts::{default_of, is_told};
+use crate::parts::{default_of, is_told, label_of};
 use clap::{Arg, Command};
-use cob_convert_line::program;
+use cob_convert_program::program;
 use std::alloc::{AllocError, Global};
 
 // What stands before what the program does.
@@ -62,7 +62,7 @@ fn push_words(text: &mut String, words: &str, between: &str) -> Result<(), Alloc
 /// Adds an option: its name and value, its help, and its default or that it has to be there.
 fn push_option(alloc: Global, text: &mut String, option: &Arg<'_>) -> Result<(), AllocError> {
     text.push_str(".TP\n\\fB")?;
-    push_words(text, format!(in alloc; "{option}")?.as_str(), FILLED)?;
+    push_words(text, label_of(alloc, option)?.as_str(), FILLED)?;
     text.push_str("\\fR\n")?;
     push_words(text, option.get_help().unwrap_or(""), BROKEN)?;
     if option.is_required_set() {

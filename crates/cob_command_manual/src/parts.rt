@@ -45,16 +45,22 @@ pub(crate) fn default_of<'a>(option: &Arg<'a>) -> Option<&'a str> {
     option.get_default_values().first().copied()
 }
 
+/// An option as it stands in command lines: its name, and what its value is called where it takes one.
+pub(crate) fn label_of(alloc: Global, option: &Arg<'_>) -> Result<String, AllocError> {
+    match option.get_action() {
+        ArgAction::Set => format!(in alloc; "{option}"),
+        _ => {
+            let name = option.get_id();
+            format!(in alloc; "--{name}")
+        }
+    }
+}
+
 /// What completes the value of an option.
 pub(crate) fn values_of<'a>(alloc: Global, option: &Arg<'a>) -> Result<Values<'a>, AllocError> {
-    match option.get_action() {
-        ArgAction::Set => {
-            let label = format!(in alloc; "{option}")?;
-            match label.as_str().split_once(' ') {
-                Some((_, value)) => Ok(values_for(value, default_of(option))),
-                None => Ok(Values::Nothing),
-            }
-        }
-        _ => Ok(Values::Nothing),
+    let label = label_of(alloc, option)?;
+    match label.as_str().split_once(' ') {
+        Some((_, value)) => Ok(values_for(value, default_of(option))),
+        None => Ok(Values::Nothing),
     }
 }

@@ -15,6 +15,8 @@ use cob_command_job::do_job;
 use cob_command_lists::{do_layout, do_pieces, do_show};
 use cob_command_lossless::do_lossless;
 use cob_convert_line::{CheckLine, ConvertLine, Line, LineFault, line_of};
+use cob_command_manual::{do_completion, do_manual};
+use cob_convert_line::{ConvertLine, Line, LineFault, line_of};
 use cob_status::Status;
 use std::convert::AsStr;
 use std::io::{Eprint, Input, Print};
@@ -64,6 +66,8 @@ pub fn perform<R: AllocGlobal + Files + Input + Print + Eprint + Clock>(
         Line::Lossless(line) => do_lossless(rt, line).code(),
         Line::Explain(line) => do_explain(rt, line).code(),
         Line::Draft(line) => do_draft(rt, line).code(),
+        Line::Completion => do_completion(rt).code(),
+        Line::Manual => do_manual(rt).code(),
     }
 }
 

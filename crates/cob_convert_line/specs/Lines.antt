@@ -5,9 +5,10 @@ use Rattle.cob_codec.specs.declared.reading.Reading.{Reading}
 use Rattle.cob_records.specs.declared.records.Form.{Form}
 use Rattle.cob_records.specs.Forms.{HasBlockSize}
 use Rattle.cob_limits.specs.Limits.{longest_block}
-use Rattle.cob_convert_line.specs.Options.{AreOptions, Given, Options, found_at, taken}
-use Rattle.cob_convert_line.specs.Commands.{commands}
-use Rattle.cob_convert_line.specs.Named.{Look, NamesBlock, NamesBound, NamesNumber, is_flagged, letter_of, sized_by, word_of, word_of_listing}
+use Rattle.cob_convert_options.specs.Options.{AreOptions, Given, Options, found_at, taken}
+use Rattle.cob_convert_program.specs.Commands.{commands}
+use Rattle.cob_convert_options.specs.Looks.{Look, is_flagged}
+use Rattle.cob_convert_line.specs.Named.{NamesBlock, NamesBound, NamesNumber, letter_of, sized_by, word_of, word_of_listing}
 pub use Rattle.cob_convert_line.specs.Faults.{IsFaultOf, is_answer_kind}
 use Rattle.cob_convert_line.specs.declared.line.Line.{Line}
 use Rattle.cob_convert_line.specs.declared.line.Line.TheVariants as line

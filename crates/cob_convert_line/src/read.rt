@@ -1,23 +1,22 @@
 //! The lines of commands, and the line that words say.
 
 ghost use Rattle.std.specs.Prelude.{◌≡◌, ◌<◌, ◌⊎◌, IfErr, IfOk, map};
-ghost use Rattle.cob_convert_line.specs.Commands.{check_options, convert_options, draft_options, explain_options, layout_options, lossless_options, map_options, pieces_options, show_options};
+ghost use Rattle.cob_convert_program.specs.Commands.{IsComplete, check_options, convert_options, draft_options, explain_options, layout_options, lossless_options, map_options, pieces_options, show_options};
 ghost use Rattle.cob_convert_line.specs.Faults.{IsFaultIn, IsFaultOf};
 ghost use Rattle.cob_convert_line.specs.Lines.{HasBlocks, IsCheck, IsCommand, IsCommandLineOf, IsConvert, IsDraft, IsExplain, IsLayout, IsLosslessLine, IsMap, IsPieces, IsShow};
-ghost use Rattle.cob_convert_line.specs.Named.{AreAll, AreNamed, IsComplete, look_of};
+ghost use Rattle.cob_convert_options.specs.Looks.{AreAll, AreNamed, look_of};
 ghost use Rattle.cob_records.specs.Forms.{HasBlockSize};
 ghost use Rattle.cob_convert_line.specs.declared.fault.LineFault.TheVariants.{Memory};
 
-use crate::commands::program;
 use crate::fault::LineFault;
 use crate::line::{
     CheckLine, ConvertLine, DraftLine, ExplainLine, LayoutLine, Line, LosslessLine, MapLine,
     PiecesLine, ShowLine,
 };
-use crate::values::{
-    bound, choice_of, flag, form, forms_of, listing, named, number, optional, piece_of, record_of,
-};
+use crate::values::{bound, choice_of, form, forms_of, listing, number, piece_of, record_of};
 use clap::ArgMatches;
+use cob_convert_options::{flag, named, named_if_there};
+use cob_convert_program::program;
 use std::alloc::Global;
 use std::convert::AsStr;
 
@@ -53,7 +52,7 @@ fn convert_line<'a>(options: &ArgMatches<'a>) -> Result<ConvertLine<'a>, LineFau
         first: piece.first,
         skip: choice.skip,
         records: choice.records,
-        rejects: optional(options, "rejects"),
+        rejects: named_if_there(options, "rejects"),
         most_rejects,
     })
 }
@@ -185,7 +184,7 @@ fn map_line<'a>(options: &ArgMatches<'a>) -> Result<MapLine<'a>, LineFault>
         in_book: named(options, "in-book"),
         out_book: named(options, "out-book"),
         moves: named(options, "moves"),
-        input: optional(options, "in"),
+        input: named_if_there(options, "in"),
         in_form: forms.input,
         out_form: forms.output,
         in_block: forms.in_block,

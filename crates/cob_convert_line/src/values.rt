@@ -1,10 +1,11 @@
 //! What the options of a command name, each by itself and in groups.
 
-ghost use Rattle.std.specs.Prelude.{◌≡◌, ◌<◌, ◌≤◌, ℕ, IfErr, IfOk, None, Option, Some, codes, is_some, option_map, true};
-ghost use Rattle.cob_convert_line.specs.Commands.{choice_options, forms_options, piece_options};
+ghost use Rattle.std.specs.Prelude.{◌≡◌, ◌<◌, ◌≤◌, ℕ, IfErr, IfOk, None, Option, Some, codes, is_some, true};
+ghost use Rattle.cob_convert_program.specs.Commands.{choice_options, forms_options, piece_options};
 ghost use Rattle.cob_convert_line.specs.Faults.{HasListing, HasPiece, IsFaultIn, LacksBound, LacksForm, LacksListing, LacksNumber, LacksReading, LacksSize};
-ghost use Rattle.cob_convert_line.specs.Lines.{NameChoice, NameForms, NamePiece};
-ghost use Rattle.cob_convert_line.specs.Named.{AreNamed, NamesBlock, NamesBound, NamesNumber, form_by_letter, is_flagged, letter_of, listing_by_word, look_of, reading_by_word, sized_by, word_of, word_of_listing};
+ghost use Rattle.cob_convert_line.specs.Lines.{NameChoice, NameForms, NameNoForms, NamePiece};
+ghost use Rattle.cob_convert_options.specs.Looks.{AreNamed, look_of};
+ghost use Rattle.cob_convert_line.specs.Named.{NamesBlock, NamesBound, NamesNumber, form_by_letter, letter_of, listing_by_word, reading_by_word, sized_by, word_of, word_of_listing};
 ghost use Rattle.cob_limits.specs.Limits.{longest_block};
 ghost use Rattle.cob_records.specs.Blocks.{IsBlockSize};
 ghost use Rattle.cob_records.specs.Forms.{HasBlockSize};
@@ -14,6 +15,7 @@ use crate::line::Listing;
 use crate::number::number_of;
 use clap::ArgMatches;
 use cob_codec::Reading;
+use cob_convert_options::named;
 use cob_limits::MAX_BLOCK;
 use cob_records::{Form, block_size_of};
 
@@ -49,31 +51,6 @@ fn listing_named(word: &str) -> Option<Listing>
         "json" => Some(Listing::Json),
         "csv" => Some(Listing::Csv),
         _ => None,
-    }
-}
-
-// What an option names, which has a value.
-pub(crate) fn named<'a>(options: &ArgMatches<'a>, name: &str) -> &'a str
-    requires { is_some (look_of options.now name.now) ≡ true }
-    ensures { look_of options.now name.now ≡ Some result.now }
-{
-    options.get_str(name).unwrap()
-}
-
-// What an option names that may be left out.
-pub(crate) fn optional<'a>(options: &ArgMatches<'a>, name: &str) -> Option<&'a str>
-    ensures { look_of options.now name.now ≡ option_map (λ word. word.now) result }
-{
-    options.get_str(name)
-}
-
-// Whether a flag was given.
-pub(crate) fn flag(options: &ArgMatches<'_>, name: &str) -> bool
-    ensures { result ≡ is_flagged name.now (look_of options.now) }
-{
-    match options.get_str(name) {
-        Some(value) => value == "true",
-        None => false,
     }
 }
 
@@ -209,9 +186,7 @@ pub(crate) fn forms_of(options: &ArgMatches<'_>) -> Result<Forms, LineFault>
     requires only { look_of options.now (codes "form") ≡ None }
     ensures named { IfOk result (λ forms. NameForms (look_of options.now)
         forms.input forms.output forms.in_block forms.out_block forms.reading) }
-    ensures lacks { IfErr result (λ _. (input output : Form) (in_block out_block : ℕ)
-        (reading : Reading)
-        → NameForms (look_of options.now) input output in_block out_block reading → ⊥) }
+    ensures lacks { IfErr result (λ _. NameNoForms (look_of options.now)) }
     ensures fault { IfErr result (IsFaultIn (look_of options.now)) }
     ensures blocks { IfOk result
         (λ forms. HasBlockSize forms.input × HasBlockSize forms.output) }

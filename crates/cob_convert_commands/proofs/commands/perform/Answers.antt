@@ -26,3 +26,9 @@ returns-in-Explain g c = (_, rw c.in-Explain.is c.do_explain.ensures, c.code-in-
 
 pub returns-in-Draft : goal.returns-in-Draft
 returns-in-Draft g c = (_, rw c.in-Draft.is c.do_draft.ensures, c.code-in-Draft.ensures)
+
+pub returns-in-Completion : goal.returns-in-Completion
+returns-in-Completion g c = (_, rw c.in-Completion.is c.do_completion.ensures, c.code-in-Completion.ensures)
+
+pub returns-in-Manual : goal.returns-in-Manual
+returns-in-Manual g c = (_, rw c.in-Manual.is c.do_manual.ensures, c.code-in-Manual.ensures)

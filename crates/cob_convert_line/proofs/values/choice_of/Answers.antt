@@ -1,5 +1,5 @@
 use Rattle.std.proofs.Common.{inl, inr, ◌∙◌}
-use Rattle.cob_convert_line.specs.Named.{look_of}
+use Rattle.cob_convert_options.specs.Looks.{look_of}
 use Rattle.cob_convert_line.specs.declared.fault.LineFault.TheVariants.{Number}
 use Rattle.cob_convert_line.proofs.Apps.{fault_is}
 use Rattle.cob_convert_line.proofs.Said.{told}
