@@ -2,7 +2,7 @@
 
 ghost use Rattle.std.specs.Prelude.{◌≡◌, codes, true};
 ghost use Rattle.clap.specs.Words.{App, app_of, new_app, with_subcommand};
-ghost use Rattle.cob_convert_program.specs.Commands.{check_options, convert_options, draft_options, explain_options, help_options, layout_options, lossless_options, map_options, pieces_options, show_options};
+ghost use Rattle.cob_convert_program.specs.Commands.{check_options, convert_options, draft_options, explain_options, help_options, layout_options, lossless_options, pieces_options, show_options};
 ghost use Rattle.cob_convert_options.specs.Rules.{command_app};
 ghost use Rattle.cob_convert_program.specs.Program.{Makes, bare_app, program_app};
 
