@@ -1,13 +1,15 @@
 -- The entries of two records, as a draft sees them.
+use Rattle.std.specs.Borrow.{Bor}
 use Rattle.std.specs.Prelude.{◌≡◌, ℕ, Bool, true, ◌&&◌, not, is_some, List, [], ◌∷◌, ◌++◌, map}
 use Rattle.cob_copybook_tree.specs.declared.node.Kind.{Kind}
+use Rattle.cob_copybook_tree.specs.declared.node.Node.{Node}
 use Rattle.cob_copybook_tree.specs.declared.node.Node.TheViews.{out-Node}
 use Rattle.cob_copybook_tree.specs.Forests.{Forest, NoEntries, AnEntry}
-use Rattle.cob_copybook_tree.specs.Nodes.{Resolved}
+use Rattle.cob_copybook_tree.specs.Nodes.{Resolved, resolved_entry}
 use Rattle.cob_copybook_tree.specs.Lengths.{greatest_number}
 use Rattle.cob_copybook_lengths.specs.Areas.{is_varying}
 use Rattle.cob_copybook_names.specs.declared.bearer.Bearer.{Bearer as Listed}
-use Rattle.cob_copybook_names.specs.Listed.{bearer_by}
+use Rattle.cob_copybook_names.specs.Listed.{bearer_by, texts}
 use Rattle.cob_copybook_names.specs.Naming.{Bearer, with_name}
 use Rattle.cob_layout_places.specs.Places.{is_table}
 use Rattle.cob_layout_places.specs.declared.operands.Side.{Side}
@@ -57,6 +59,10 @@ draft_entries side above w (AnEntry e children more) =
 -- where an entry stands, without where that lies in memory
 abbrev pub seen_setting : StoredSetting → Setting
 seen_setting w = record { tables = w.tables.items; steady = w.steady; own = w.own }
+
+-- an entry of the code with its names, where it stands so, without what is beneath it
+abbrev pub node_bearer : Side → List (Bor (List ℕ)) → StoredSetting → Node → Bearer DraftEntry
+node_bearer side above w node = own_bearer side (texts above) (seen_setting w) (resolved_entry (out-Node node))
 
 -- what is known of a listed entry
 abbrev pub draft_entry : ListedEntry → DraftEntry

@@ -3,6 +3,7 @@ use Rattle.std.specs.Prelude.{◌≡◌, ℕ, ◌-◌, ◌<◌, Bool, true, fals
 use Rattle.std.specs.Borrow.{Bor}
 use Rattle.std.specs.List.{list_any}
 use Rattle.cob_copybook_names.specs.declared.bearer.Bearer.{Bearer as Listed}
+use Rattle.cob_copybook_names.specs.Listed.{texts}
 use Rattle.cob_copybook_names.specs.Naming.{Bearer, has_name}
 use Rattle.cob_copybook_tree.specs.declared.node.Kind.{Kind}
 use Rattle.cob_copybook_tree.specs.declared.node.Kind.TheVariants.{Group, Item as ItemKind}
@@ -54,10 +55,15 @@ names_group bs name = list_any (is_group_named name) bs
 abbrev pub names_there : List (Bearer DraftEntry) → List (List ℕ) → List (List ℕ)
 names_there bs names = filter (names_group bs) names
 
--- the entries of both records
+-- those of these names that groups of a record have whose entries are listed
+abbrev pub names_listed : List (Listed ListedEntry) → List (Bor (List ℕ)) → List (List ℕ)
+names_listed entries names = names_there (map listed_bearer entries) (texts names)
+
+-- the entries of the input record
 abbrev pub input_bearers : BothRecords → List (Bearer DraftEntry)
 input_bearers r = map listed_bearer r.inputs.now
 
+-- and those of the output record
 abbrev pub output_bearers : BothRecords → List (Bearer DraftEntry)
 output_bearers r = map listed_bearer r.outputs.now
 

@@ -14,7 +14,7 @@ ghost use Rattle.cob_draft_partners.specs.Entries.{
   ListsBehind,
   draft_entries,
   outside,
-  own_bearer,
+  node_bearer,
   seen_setting,
   inside,
 };
@@ -113,8 +113,7 @@ fn list_entry<'a>(
     requires nested { length outer.now.tables.items + own_dimension (out-Node entry.now).occurs
         ≤ most_dimensions }
     ensures { OnOk result (ListsBehind listed.old.items listed.new.items
-        (own_bearer side (texts above.now) (seen_setting outer.now)
-        (resolved_entry (out-Node entry.now)) ∷ [])) }
+        (node_bearer side above.now outer.now entry.now ∷ [])) }
 {
     let mut names = Vec::new(alloc);
     names.extend_from_slice(above)?;

@@ -1,5 +1,5 @@
 -- Single moves are what the moves make of the storage.
-use Rattle.std.proofs.Common.{◌≡◌, ◌⊎◌, ◌∙◌, ℕ, zero, suc, ◌+◌, ◌<◌, ◌≤◌, List, [], ◌∷◌, ◌++◌, length, get_or, drop, map, refl, sym, ap, subst, arith, inl, inr, Ok, Err}
+use Rattle.std.proofs.Common.{◌≡◌, ◌∙◌, ℕ, zero, suc, ◌+◌, ◌<◌, ◌≤◌, List, [], ◌∷◌, ◌++◌, length, get_or, drop, map, refl, sym, ap, subst, arith, inl, inr, Ok, Err}
 use Rattle.std.proofs.lemmas.List.{drop_all, map-append}
 use Rattle.cob_codec.specs.declared.reading.Reading.{Reading}
 use Rattle.cob_copybook_tree.specs.Forests.{Forest}
@@ -10,11 +10,9 @@ use Rattle.cob_layout_places.specs.declared.operands.StatementMoves.{StatementMo
 use Rattle.cob_layout_places.specs.declared.operands.StatementMoves.TheVariants.{Single as SingleMoves, Pairs}
 use Rattle.cob_layout_places.specs.declared.reference.Ref.{Ref}
 use Rattle.cob_layout_places.specs.Moves.{AreMoves, IsMove, Move, Records, moves_by, numbered_move_by, operand_in, statement_moves_by}
-use Rattle.cob_move_apply.specs.declared.stop.Stop.{Stop}
 use Rattle.cob_move_apply.specs.Applied.{AllGet, Applied, Content, Gets, IsMoved}
 use Rattle.cob_move_apply.proofs.ListLemmas.{next, read_is}
 use Rattle.cob_move_each.specs.declared.single.AskedStop.{AskedStop}
-use Rattle.cob_move_each.specs.declared.single.MoveStop.{MoveStop}
 use Rattle.cob_move_each.specs.Each.{AreOfMove, AreOfMoves, AreSingles, EachEnding, IsSingleTo, LacksFor, NumberedMove, Single, move_meant, numbered_moves, numbered_of_pair, numbered_of_pairs, plain_ending, numbered_of_statement}
 
 -- ---- what they make of the storage

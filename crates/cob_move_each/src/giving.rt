@@ -7,10 +7,10 @@ ghost use Rattle.cob_layout.specs.Sound.{IsSound};
 ghost use Rattle.cob_layout.specs.Storage.{greatest_length};
 ghost use Rattle.cob_layout_places.specs.Moves.{IsOperand, operand_in};
 ghost use Rattle.cob_move_receive.specs.Sent.{HasAllBytes, sent};
-ghost use Rattle.cob_move_each.specs.Each.{AreSingles, GetsAt, IsSingleTo, LacksFor, Sees, Single, append_singles, asked_stop, each_ending, stop_of};
+ghost use Rattle.cob_move_each.specs.Each.{GetsAt, LacksFor, asked_stop, each_ending, stop_of};
 ghost use Rattle.cob_move_apply.specs.Located.{stop_at};
 ghost use Rattle.cob_move_apply.specs.declared.stop.StopCause.TheVariants.{NoValue};
-ghost use Rattle.cob_move_each.specs.Seen.{given_content, move_of};
+ghost use Rattle.cob_move_each.specs.Seen.{HandsOut, SeesSingles, StopsAtReceiver, given_content};
 ghost use Rattle.cob_move_each.specs.declared.single.Asked.TheVariants as asked;
 ghost use Rattle.cob_move_each.specs.declared.single.AskedStop.{AskedStop as Lack};
 
@@ -109,14 +109,9 @@ fn give_one<W: Watcher>(
     requires operand { IsOperand layout.now (operand_in layout.now entry.now) }
     requires output { length output.old ≡ greatest_length layout.now }
     requires room { length counts.old ≡ entries_in layout.now }
-    ensures gives { OnOk result ((one : Single)
-        × IsSingleTo layout.now (move_of parts.now) index (given_content given.now) entry.now
-        output.old one
-        × (one.storage ≡ output.new)
-        × (W.seen watcher.new ≡ append_singles (W.seen watcher.old) (one ∷ []))) }
-    ensures stops { IfErr result (λ stop. (lack : Lack)
-        × LacksFor layout.now (given_content given.now) entry.now output.old lack
-        × (stop ≡ stop_of (move_of parts.now) index lack)) }
+    ensures gives { OnOk result (HandsOut layout.now parts.now index given.now entry.now output.old output.new
+        (W.seen watcher.old) (W.seen watcher.new)) }
+    ensures stops { IfErr result (StopsAtReceiver layout.now parts.now index given.now entry.now output.old) }
     ensures same { OnErr result (output.new ≡ output.old) }
     ensures unseen { OnErr result (W.seen watcher.new ≡ W.seen watcher.old) }
     ensures room { length counts.new ≡ length counts.old }
@@ -160,9 +155,8 @@ pub(crate) fn give_all<W: Watcher>(
         (map (operand_in layout.now) parts.now.receivers.now) }
     requires output { length output.old ≡ greatest_length layout.now }
     requires room { length counts.old ≡ entries_in layout.now }
-    ensures seen { Sees (W.seen watcher.old) (W.seen watcher.new)
-        (λ ones. AreSingles layout.now (move_of parts.now) (given_content given.now) 0
-        parts.now.receivers.now output.old ones (each_ending result output.new)) }
+    ensures seen { SeesSingles layout.now parts.now given.now output.old (each_ending result output.new)
+        (W.seen watcher.old) (W.seen watcher.new) }
     ensures room { length counts.new ≡ length counts.old }
 {
     for (index, entry) in parts.receivers.iter().enumerate() {

@@ -6,9 +6,9 @@ ghost use Rattle.cob_layout.specs.Sound.{IsSound};
 ghost use Rattle.cob_layout.specs.Storage.{greatest_length, IsStorage};
 ghost use Rattle.cob_layout_places.specs.Moves.{Entry, IsOperand, IsSender, operand_in, sender_by};
 ghost use Rattle.cob_layout_places.specs.declared.operands.Side.TheVariants.{In, Out};
-ghost use Rattle.cob_move_each.specs.Each.{AreOfMove, AreSentBy, Sees, each_ending};
+ghost use Rattle.cob_move_each.specs.Each.{each_ending};
 ghost use Rattle.cob_move_each.specs.Room.{HasEachRoom};
-ghost use Rattle.cob_move_each.specs.Seen.{move_of, records_of_layouts};
+ghost use Rattle.cob_move_each.specs.Seen.{SeesMove, SeesSent, input_sender, move_of, output_sender, records_of_layouts};
 
 use crate::giving::give_all;
 use crate::places::{Stored, entry_kind, locate};
@@ -50,10 +50,8 @@ fn walk_from_input<W: Watcher>(
     requires input { IsStorage layouts.now.input.now input.now }
     requires output { length output.old ≡ greatest_length layouts.now.output.now }
     requires room { HasEachRoom (records_of_layouts layouts.now) room.old }
-    ensures seen { Sees (W.seen watcher.old) (W.seen watcher.new) (λ ones. AreSentBy
-        (Entry In layouts.now.reading (operand_in layouts.now.input.now entry.now))
-        (records_of_layouts layouts.now) (move_of parts.now) input.now output.old ones
-        (each_ending result output.new)) }
+    ensures seen { SeesSent layouts.now (input_sender layouts.now entry.now) parts.now input.now output.old
+        (each_ending result output.new) (W.seen watcher.old) (W.seen watcher.new) }
     ensures room { HasEachRoom (records_of_layouts layouts.now) room.new }
 {
     let _ = layouts.input.greatest();
@@ -101,10 +99,8 @@ fn walk_within_output<W: Watcher>(
         (map (operand_in layouts.now.output.now) parts.now.receivers.now) }
     requires output { length output.old ≡ greatest_length layouts.now.output.now }
     requires room { HasEachRoom (records_of_layouts layouts.now) room.old }
-    ensures seen { Sees (W.seen watcher.old) (W.seen watcher.new) (λ ones. AreSentBy
-        (Entry Out layouts.now.reading (operand_in layouts.now.output.now entry.now))
-        (records_of_layouts layouts.now) (move_of parts.now) input.now output.old ones
-        (each_ending result output.new)) }
+    ensures seen { SeesSent layouts.now (output_sender layouts.now entry.now) parts.now input.now output.old
+        (each_ending result output.new) (W.seen watcher.old) (W.seen watcher.new) }
     ensures room { HasEachRoom (records_of_layouts layouts.now) room.new }
 {
     let stored = Stored {
@@ -154,9 +150,8 @@ pub(crate) fn walk_move<W: Watcher>(
     requires input { IsStorage layouts.now.input.now input.now }
     requires output { length output.old ≡ greatest_length layouts.now.output.now }
     requires room { HasEachRoom (records_of_layouts layouts.now) room.old }
-    ensures seen { Sees (W.seen watcher.old) (W.seen watcher.new)
-        (λ ones. AreOfMove layouts.now.reading (records_of_layouts layouts.now) (move_of parts.now) input.now
-        output.old ones (each_ending result output.new)) }
+    ensures seen { SeesMove layouts.now (move_of parts.now) input.now output.old (each_ending result output.new)
+        (W.seen watcher.old) (W.seen watcher.new) }
     ensures room { HasEachRoom (records_of_layouts layouts.now) room.new }
 {
     match parts.sender {

@@ -5,9 +5,9 @@ ghost use Rattle.cob_limits.specs.Limits.{most_dimensions};
 ghost use Rattle.cob_layout.specs.Sound.{IsSound};
 ghost use Rattle.cob_layout.specs.Storage.{greatest_length, IsStorage};
 ghost use Rattle.cob_layout_places.specs.Moves.{AreMoves, IsMove, entry_below, numbered_move_by, statement_moves_by};
-ghost use Rattle.cob_move_each.specs.Each.{AreOfMove, AreOfMoves, Sees, each_ending, numbered_of_pair, numbered_of_pairs, numbered_of_statement};
+ghost use Rattle.cob_move_each.specs.Each.{each_ending, numbered_of_pair, numbered_of_statement};
 ghost use Rattle.cob_move_each.specs.Room.{HasEachRoom};
-ghost use Rattle.cob_move_each.specs.Seen.{records_of_layouts};
+ghost use Rattle.cob_move_each.specs.Seen.{SeesMove, SeesMoves, moves_of_group, numbered_of_group, records_of_layouts};
 
 use crate::room::{EachRoom, RecordLayouts};
 use crate::senders::walk_move;
@@ -62,10 +62,8 @@ fn walk_pair<W: Watcher>(
     requires input { IsStorage layouts.now.input.now input.now }
     requires output { length output.old ≡ greatest_length layouts.now.output.now }
     requires room { HasEachRoom (records_of_layouts layouts.now) room.old }
-    ensures seen { Sees (W.seen watcher.old) (W.seen watcher.new)
-        (λ ones. AreOfMove layouts.now.reading (records_of_layouts layouts.now)
-        (numbered_of_pair statement group.now index pair.now) input.now
-        output.old ones (each_ending result output.new)) }
+    ensures seen { SeesMove layouts.now (numbered_of_pair statement group.now index pair.now) input.now output.old
+        (each_ending result output.new) (W.seen watcher.old) (W.seen watcher.new) }
     ensures room { HasEachRoom (records_of_layouts layouts.now) room.new }
 {
     let sender = Sender::Entry {
@@ -98,16 +96,12 @@ fn walk_pairs<W: Watcher>(
 ) -> Result<(), MoveStop>
     requires in_sound { IsSound layouts.now.input.now }
     requires out_sound { IsSound layouts.now.output.now }
-    requires moves { AreMoves (records_of_layouts layouts.now)
-        (map (numbered_move_by layouts.now.reading (records_of_layouts layouts.now) group.now)
-        group.now.pairs.items) }
+    requires moves { AreMoves (records_of_layouts layouts.now) (moves_of_group layouts.now group.now) }
     requires input { IsStorage layouts.now.input.now input.now }
     requires output { length output.old ≡ greatest_length layouts.now.output.now }
     requires room { HasEachRoom (records_of_layouts layouts.now) room.old }
-    ensures seen { Sees (W.seen watcher.old) (W.seen watcher.new)
-        (λ ones. AreOfMoves layouts.now.reading (records_of_layouts layouts.now)
-        (numbered_of_pairs statement group.now 0 group.now.pairs.items) input.now
-        output.old ones (each_ending result output.new)) }
+    ensures seen { SeesMoves layouts.now (numbered_of_group statement group.now) input.now output.old
+        (each_ending result output.new) (W.seen watcher.old) (W.seen watcher.new) }
     ensures room { HasEachRoom (records_of_layouts layouts.now) room.new }
 {
     let pairs = group.pairs.as_slice();
@@ -140,10 +134,8 @@ pub(crate) fn walk_statement<W: Watcher>(
     requires input { IsStorage layouts.now.input.now input.now }
     requires output { length output.old ≡ greatest_length layouts.now.output.now }
     requires room { HasEachRoom (records_of_layouts layouts.now) room.old }
-    ensures seen { Sees (W.seen watcher.old) (W.seen watcher.new)
-        (λ ones. AreOfMoves layouts.now.reading (records_of_layouts layouts.now)
-        (numbered_of_statement statement given.now) input.now
-        output.old ones (each_ending result output.new)) }
+    ensures seen { SeesMoves layouts.now (numbered_of_statement statement given.now) input.now output.old
+        (each_ending result output.new) (W.seen watcher.old) (W.seen watcher.new) }
     ensures room { HasEachRoom (records_of_layouts layouts.now) room.new }
 {
     match given {

@@ -5,9 +5,9 @@ ghost use Rattle.cob_layout.specs.Sound.{IsSound};
 ghost use Rattle.cob_layout.specs.Storage.{greatest_length, IsStorage};
 ghost use Rattle.cob_layout_places.specs.Moves.{AreMoves, moves_by};
 ghost use Rattle.cob_move_apply.specs.Applied.{Applied};
-ghost use Rattle.cob_move_each.specs.Each.{AreOfMoves, Sees, each_ending, numbered_moves, plain_ending};
+ghost use Rattle.cob_move_each.specs.Each.{each_ending, numbered_moves, plain_ending};
 ghost use Rattle.cob_move_each.specs.Room.{HasEachRoom};
-ghost use Rattle.cob_move_each.specs.Seen.{records_of_layouts};
+ghost use Rattle.cob_move_each.specs.Seen.{SeesMoves, moves_meant, records_of_layouts};
 
 use crate::room::{EachRoom, RecordLayouts};
 use crate::single::MoveStop;
@@ -28,14 +28,12 @@ fn walk_all<W: Watcher>(
     requires in_sound { IsSound layouts.now.input.now }
     requires out_sound { IsSound layouts.now.output.now }
     requires between { AreMoves (records_of_layouts layouts.now)
-        (moves_by layouts.now.reading (records_of_layouts layouts.now) statements.now) }
+        (moves_meant layouts.now statements.now) }
     requires input { IsStorage layouts.now.input.now input.now }
     requires output { length output.old ≡ greatest_length layouts.now.output.now }
     requires room { HasEachRoom (records_of_layouts layouts.now) room.old }
-    ensures seen { Sees (W.seen watcher.old) (W.seen watcher.new)
-        (λ ones. AreOfMoves layouts.now.reading (records_of_layouts layouts.now)
-        (numbered_moves 0 statements.now) input.now
-        output.old ones (each_ending result output.new)) }
+    ensures seen { SeesMoves layouts.now (numbered_moves 0 statements.now) input.now output.old
+        (each_ending result output.new) (W.seen watcher.old) (W.seen watcher.new) }
     ensures room { HasEachRoom (records_of_layouts layouts.now) room.new }
 {
     for (number, statement) in statements.iter().enumerate() {
@@ -62,19 +60,17 @@ pub fn each<W: Watcher>(
     watcher: &mut W,
 ) -> Result<(), MoveStop>
     requires between { AreMoves (records_of_layouts layouts.now)
-        (moves_by layouts.now.reading (records_of_layouts layouts.now) statements.now) }
+        (moves_meant layouts.now statements.now) }
     requires input { IsStorage layouts.now.input.now input.now }
     requires output { length output.old ≡ greatest_length layouts.now.output.now }
     requires room { HasEachRoom (records_of_layouts layouts.now) room.old }
     // All of them together are what `Moves::apply` says.
     ensures applied { Applied (records_of_layouts layouts.now)
-        (moves_by layouts.now.reading (records_of_layouts layouts.now) statements.now) input.now output.old
+        (moves_meant layouts.now statements.now) input.now output.old
         (plain_ending (each_ending result output.new)) }
     // What was handed out are the single moves in their order, up to the first that stops, which the answer names.
-    ensures seen { Sees (W.seen watcher.old) (W.seen watcher.new)
-        (λ ones. AreOfMoves layouts.now.reading (records_of_layouts layouts.now)
-        (numbered_moves 0 statements.now) input.now
-        output.old ones (each_ending result output.new)) }
+    ensures seen { SeesMoves layouts.now (numbered_moves 0 statements.now) input.now output.old
+        (each_ending result output.new) (W.seen watcher.old) (W.seen watcher.new) }
     ensures room { HasEachRoom (records_of_layouts layouts.now) room.new }
 {
     records_are_sound();

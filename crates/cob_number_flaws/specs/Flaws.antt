@@ -1,8 +1,10 @@
 -- Why bytes represent no number: the first part of them that isn't as its place asks.
-use Rattle.std.specs.Prelude.{◌≡◌, ℕ, ◌+◌, ◌/◌, ◌%◌, ◌<◌, ◌==◌, ◌&&◌, nat_le, nat_lt, if◌then◌else◌, Bool, true, false, List, length, Option, Some, None, slice_index}
+use Rattle.std.specs.Prelude.{◌≡◌, ℕ, ◌+◌, ◌-◌, ◌/◌, ◌%◌, ◌<◌, ◌==◌, ◌&&◌, nat_le, nat_lt, if◌then◌else◌, Bool, true, false, List, length, Option, Some, None, slice_index}
 use Rattle.cob_cp037.specs.Named.{minus_byte, nine_byte, plus_byte, zero_byte}
 use Rattle.cob_codec.specs.Packed.{pad_count}
 use Rattle.cob_codec.specs.Sign.{sign_meaning, sign_place}
+use Rattle.cob_codec.specs.Zoned.{IsZoned}
+use Rattle.cob_codec.specs.declared.shape.Shape.{Shape}
 use Rattle.cob_number_flaws.specs.declared.flaw.Wanted.{Wanted}
 use Rattle.cob_number_flaws.specs.declared.flaw.Wanted.TheVariants.{Zero, Digit, Sign, Zone, DigitByte, SignByte}
 use Rattle.cob_number_flaws.specs.declared.flaw.Flaw.{Flaw}
@@ -32,6 +34,18 @@ zoned_wanted place k = if k % 2 == 1 then Digit else (if k / 2 == place then Sig
 -- what each byte of an item with a separate sign has to be, whose sign's byte has this number
 abbrev pub separate_wanted : ℕ → ℕ → Wanted
 separate_wanted place k = if k == place then SignByte else DigitByte
+
+-- what each half byte has to be of a zoned item of this shape with so many bytes
+abbrev pub zoned_wanted_in : Shape → ℕ → ℕ → Wanted
+zoned_wanted_in shape count = zoned_wanted (sign_place shape.signed shape.leading count)
+
+-- what each byte has to be of an item of this shape with a separate sign and so many bytes
+abbrev pub separate_wanted_in : Shape → ℕ → ℕ → Wanted
+separate_wanted_in shape count = separate_wanted (if shape.leading then 0 else count - 1)
+
+-- zoned bytes of this shape represent the number with this sign and these digits
+abbrev pub IsZonedBy : Shape → List ℕ → Bool → List ℕ → Type 0
+IsZonedBy shape bytes negative digits = IsZoned shape.digits shape.signed shape.leading bytes negative digits
 
 -- all parts are as their places ask
 abbrev pub AllSuit : Bool → (ℕ → Wanted) → List ℕ → Type 0

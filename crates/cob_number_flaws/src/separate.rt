@@ -2,7 +2,7 @@
 
 ghost use Rattle.std.specs.Prelude.{◌≡◌, ◌+◌, ◌-◌, ◌<◌, ℕ, List, Bool, if◌then◌else◌, IsTrue, IfNone, IfSome, length};
 ghost use Rattle.cob_codec.specs.Separate.{IsSignedSeparately};
-ghost use Rattle.cob_number_flaws.specs.Flaws.{AllSuit, IsFirstFlaw, separate_wanted};
+ghost use Rattle.cob_number_flaws.specs.Flaws.{AllSuit, IsFirstFlaw, separate_wanted, separate_wanted_in};
 
 use crate::flaw::{Flaw, Wanted, suits};
 use crate::signs::sign_byte_at;
@@ -23,9 +23,9 @@ fn separate_wanted(place: usize, at: usize) -> Wanted
 fn first_in_separate(shape: &Shape, bytes: &[u8]) -> Option<Flaw>
     requires { 0 < length bytes.now }
     ensures found { IfSome result (IsFirstFlaw shape.now.signed
-        (separate_wanted (if shape.now.leading then 0 else length bytes.now - 1)) bytes.now) }
+        (separate_wanted_in shape.now (length bytes.now)) bytes.now) }
     ensures none { IfNone result (AllSuit shape.now.signed
-        (separate_wanted (if shape.now.leading then 0 else length bytes.now - 1)) bytes.now) }
+        (separate_wanted_in shape.now (length bytes.now)) bytes.now) }
 {
     let place = sign_byte_at(shape.leading, bytes.len());
     for (at, found) in bytes.iter().enumerate() {
@@ -46,7 +46,7 @@ pub fn separate_flaw(shape: &Shape, bytes: &[u8]) -> Option<Flaw>
     requires taken { IsTrue shape.now.signed }
     requires long { length bytes.now ≡ shape.now.digits + 1 }
     ensures found { IfSome result (IsFirstFlaw shape.now.signed
-        (separate_wanted (if shape.now.leading then 0 else length bytes.now - 1)) bytes.now) }
+        (separate_wanted_in shape.now (length bytes.now)) bytes.now) }
     ensures only { IfSome result (λ flaw. (negative : Bool) (digits : List ℕ)
         → IsSignedSeparately shape.now.digits shape.now.leading bytes.now negative digits → ⊥) }
     ensures none { IfNone result ((negative : Bool) × (digits : List ℕ)

@@ -3,8 +3,7 @@
 ghost use Rattle.std.specs.Prelude.{◌≡◌, ◌<◌, ℕ, List, Bool, IfNone, IfSome, length};
 ghost use Rattle.cob_codec.specs.Packed.{halves};
 ghost use Rattle.cob_codec.specs.Sign.{sign_place};
-ghost use Rattle.cob_codec.specs.Zoned.{IsZoned};
-ghost use Rattle.cob_number_flaws.specs.Flaws.{AllSuit, IsFirstFlaw, zoned_wanted};
+ghost use Rattle.cob_number_flaws.specs.Flaws.{AllSuit, IsFirstFlaw, IsZonedBy, zoned_wanted, zoned_wanted_in};
 
 use crate::flaw::{Flaw, Wanted, suits};
 use crate::halves::half_at;
@@ -40,10 +39,10 @@ fn zoned_wanted(place: usize, at: usize) -> Wanted
 fn first_in_zoned(shape: &Shape, bytes: &[u8]) -> Option<Flaw>
     requires { 0 < length bytes.now }
     ensures found { IfSome result (IsFirstFlaw shape.now.signed
-        (zoned_wanted (sign_place shape.now.signed shape.now.leading (length bytes.now)))
+        (zoned_wanted_in shape.now (length bytes.now))
         (halves bytes.now)) }
     ensures none { IfNone result (AllSuit shape.now.signed
-        (zoned_wanted (sign_place shape.now.signed shape.now.leading (length bytes.now)))
+        (zoned_wanted_in shape.now (length bytes.now))
         (halves bytes.now)) }
 {
     let place = zoned_sign_at(shape, bytes.len());
@@ -61,13 +60,13 @@ fn first_in_zoned(shape: &Shape, bytes: &[u8]) -> Option<Flaw>
 pub fn zoned_flaw(shape: &Shape, bytes: &[u8]) -> Option<Flaw>
     requires { length bytes.now ≡ shape.now.digits }
     ensures found { IfSome result (IsFirstFlaw shape.now.signed
-        (zoned_wanted (sign_place shape.now.signed shape.now.leading (length bytes.now)))
+        (zoned_wanted_in shape.now (length bytes.now))
         (halves bytes.now)) }
     ensures only { IfSome result (λ flaw. (negative : Bool) (digits : List ℕ)
-        → IsZoned shape.now.digits shape.now.signed shape.now.leading bytes.now negative digits
+        → IsZonedBy shape.now bytes.now negative digits
         → ⊥) }
     ensures none { IfNone result ((negative : Bool) × (digits : List ℕ)
-        × IsZoned shape.now.digits shape.now.signed shape.now.leading bytes.now negative digits) }
+        × IsZonedBy shape.now bytes.now negative digits) }
 {
     match Zoned::read(shape, bytes) {
         Some(_) => None,

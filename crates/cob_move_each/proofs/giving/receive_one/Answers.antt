@@ -1,9 +1,5 @@
-use Rattle.std.proofs.Common.{◌≡◌, ◌+◌, ◌-◌, ◌∙◌, ℕ, arith, subst}
+use Rattle.std.proofs.Common.{◌≡◌, ◌+◌, ◌-◌, ◌∙◌, ℕ, arith}
 use borrow.Rule.Slice.PartMut.{mid_len}
-use Rattle.cob_copybook_tree.specs.declared.node.Kind.{Kind}
-use Rattle.cob_layout_places.specs.Moves.{operand_in}
-use Rattle.cob_move_receive.specs.Received.{Received, outcome}
-use Rattle.cob_move_receive.specs.Sent.{sent}
 use Rattle.cob_move_each.specs.Seen.{given_content}
 use Rattle.cob_move_each.proofs.EachLemmas.{got_at, lacks_value}
 use Rattle.cob_move_each.proofs.giving.receive_one.Goals as goal

@@ -1,4 +1,4 @@
-use Rattle.std.proofs.Common.{◌≡◌, ◌∙◌, ◌++◌, [], ◌∷◌, List, drop, map, refl, subst, sym}
+use Rattle.std.proofs.Common.{◌∙◌, [], ◌∷◌, List, map, refl, subst, sym}
 use Rattle.std.proofs.lemmas.Result.{err_from_is_err_and}
 use Rattle.cob_layout_places.specs.declared.operands.NumberedPair.{NumberedPair}
 use Rattle.cob_layout_places.specs.Moves.{AreMoves, numbered_move_by}
