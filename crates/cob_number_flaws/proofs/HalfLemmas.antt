@@ -1,10 +1,9 @@
 -- Half bytes by their numbers, and numbers made of parts that suit.
-use Rattle.std.proofs.Common.{◌≡◌, ◌∙◌, ◌↔◌, ℕ, zero, suc, ◌+◌, ◌*◌, ◌/◌, ◌%◌, ◌<◌, ◌≤◌, ◌≢◌, ◌==◌, ◌&&◌, Bool, true, false, IsTrue, List, [], ◌∷◌, ◌++◌, length, get_or, take, drop, map, replicate, refl, sym, ap, subst, arith, Option, Some, None, inl, inr, ◌⊎◌}
+use Rattle.std.proofs.Common.{◌≡◌, ◌↔◌, ℕ, zero, suc, ◌+◌, ◌*◌, ◌/◌, ◌%◌, ◌<◌, ◌≢◌, Bool, true, false, IsTrue, List, [], ◌∷◌, length, get_or, refl, sym, subst, arith, Option, Some, None, inl, inr}
 use Rattle.std.specs.Prelude.{IfNone, IfSome}
-use Rattle.std.specs.List.{AllByRecursion}
 use Rattle.cob_decimal.specs.Decimal.{IsDigits, number_of}
 use Rattle.cob_codec.specs.Packed.{halves}
-use Rattle.cob_codec.specs.Sign.{IsSigned, sign_meaning}
+use Rattle.cob_codec.specs.Sign.{IsSigned}
 use Rattle.std.proofs.lemmas.Bool.{cases_lt}
 use Rattle.cob_number_flaws.specs.declared.flaw.Wanted.{Wanted}
 use Rattle.cob_number_flaws.specs.Flaws.{is_either, suits}

@@ -1,14 +1,13 @@
 -- Packed bytes whose half bytes all suit represent a number.
-use Rattle.std.proofs.Common.{◌≡◌, ◌∙◌, ℕ, zero, suc, ◌+◌, ◌*◌, ◌/◌, ◌%◌, ◌<◌, ◌≤◌, ◌==◌, Bool, true, false, List, [], ◌∷◌, ◌++◌, length, get_or, take, drop, replicate, refl, sym, ap, subst, arith, eqb-true, Option, Some, None}
-use Rattle.std.specs.Prelude.{nat_lt, if◌then◌else◌}
+use Rattle.std.proofs.Common.{◌≡◌, ◌∙◌, ℕ, zero, suc, ◌+◌, ◌/◌, ◌<◌, ◌≤◌, Bool, true, List, [], ◌∷◌, ◌++◌, length, get_or, take, drop, replicate, refl, ap, subst, arith, eqb-true}
 use Rattle.std.proofs.lemmas.Bool.{lt-ltb, le-ltb, ltb-true}
 use Rattle.std.proofs.lemmas.List.{length-take, length-drop}
 use Rattle.cob_decimal.specs.Decimal.{IsDigits}
-use Rattle.cob_codec.specs.Packed.{IsPacked, halves, pad_count, packed_halves}
-use Rattle.cob_codec.specs.Sign.{IsSigned, sign_meaning}
+use Rattle.cob_codec.specs.Packed.{IsPacked, halves, pad_count}
+use Rattle.cob_codec.specs.Sign.{sign_meaning}
 use Rattle.cob_number_flaws.specs.declared.flaw.Wanted.{Wanted}
 use Rattle.cob_number_flaws.specs.declared.flaw.Wanted.TheVariants.{Zero, Digit, Sign}
-use Rattle.cob_number_flaws.specs.Flaws.{AllSuit, is_either, packed_wanted, suits}
+use Rattle.cob_number_flaws.specs.Flaws.{AllSuit, packed_wanted, suits}
 use Rattle.cob_number_flaws.proofs.HalfLemmas.{either_is, length-halves, signed_so}
 
 -- ---- what is wanted of each half byte

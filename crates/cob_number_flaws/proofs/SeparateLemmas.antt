@@ -3,9 +3,9 @@ use Rattle.std.proofs.Common.{◌≡◌, ◌≢◌, ◌∙◌, ℕ, zero, suc, �
 use Rattle.std.specs.Prelude.{nat_le, if◌then◌else◌}
 use Rattle.std.proofs.lemmas.Bool.Decides.{nat_tests}
 use Rattle.std.proofs.lemmas.List.{length-map, length-take}
-use Rattle.cob_cp037.specs.Named.{minus_byte, plus_byte, zero_byte, nine_byte}
+use Rattle.cob_cp037.specs.Named.{minus_byte, plus_byte}
 use Rattle.cob_decimal.specs.Decimal.{IsDigits}
-use Rattle.cob_codec.specs.Separate.{IsSignedSeparately, separate_form, sign_byte}
+use Rattle.cob_codec.specs.Separate.{IsSignedSeparately, sign_byte}
 use Rattle.cob_codec.specs.Zoned.{digit_bytes}
 use Rattle.cob_number_flaws.specs.declared.flaw.Wanted.{Wanted}
 use Rattle.cob_number_flaws.specs.declared.flaw.Wanted.TheVariants.{DigitByte, SignByte}

@@ -1,15 +1,13 @@
 -- Zoned bytes whose half bytes all suit represent a number.
-use Rattle.std.proofs.Common.{◌≡◌, ◌≢◌, ◌∙◌, ℕ, zero, suc, ◌+◌, ◌-◌, ◌*◌, ◌/◌, ◌%◌, ◌<◌, ◌≤◌, ◌==◌, Bool, true, false, List, [], ◌∷◌, length, get_or, map, refl, sym, ap, subst, arith, eqb-true, Option, Some, None}
-use Rattle.std.specs.Prelude.{nat_lt, if◌then◌else◌, ◌&&◌}
+use Rattle.std.proofs.Common.{◌≡◌, ◌≢◌, ℕ, ◌+◌, ◌*◌, ◌/◌, ◌%◌, ◌<◌, ◌==◌, Bool, true, false, List, length, get_or, map, refl, sym, subst, arith, eqb-true}
 use Rattle.std.proofs.lemmas.Bool.{ltb-true}
 use Rattle.std.proofs.lemmas.List.{length-map, get_or-map}
-use Rattle.cob_decimal.specs.Decimal.{IsDigits}
 use Rattle.cob_codec.specs.Packed.{halves}
-use Rattle.cob_codec.specs.Sign.{IsSigned, sign_meaning, sign_place}
-use Rattle.cob_codec.specs.Zoned.{IsZoned, low_digit, zone_of}
+use Rattle.cob_codec.specs.Sign.{sign_meaning, sign_place}
+use Rattle.cob_codec.specs.Zoned.{IsZoned, low_digit}
 use Rattle.cob_number_flaws.specs.declared.flaw.Wanted.{Wanted}
 use Rattle.cob_number_flaws.specs.declared.flaw.Wanted.TheVariants.{Digit, Sign, Zone}
-use Rattle.cob_number_flaws.specs.Flaws.{AllSuit, is_either, suits, zoned_wanted}
+use Rattle.cob_number_flaws.specs.Flaws.{AllSuit, suits, zoned_wanted}
 use Rattle.cob_number_flaws.proofs.HalfLemmas.{digits_from, either_is, high_is, length-halves, low_is, signed_so}
 
 same_test : (a b : ℕ) → a ≡ b → (a == b) ≡ true

@@ -2,7 +2,7 @@
 use Rattle.std.specs.Prelude.{◌≡◌, ℕ, ◌+◌, ◌/◌, ◌%◌, ◌<◌, ◌==◌, ◌&&◌, nat_le, nat_lt, if◌then◌else◌, Bool, true, false, List, length, Option, Some, None, slice_index}
 use Rattle.cob_cp037.specs.Named.{minus_byte, nine_byte, plus_byte, zero_byte}
 use Rattle.cob_codec.specs.Packed.{pad_count}
-use Rattle.cob_codec.specs.Sign.{sign_meaning, sign_place}
+use Rattle.cob_codec.specs.Sign.{sign_meaning}
 use Rattle.cob_number_flaws.specs.declared.flaw.Wanted.{Wanted}
 use Rattle.cob_number_flaws.specs.declared.flaw.Wanted.TheVariants.{Zero, Digit, Sign, Zone, DigitByte, SignByte}
 use Rattle.cob_number_flaws.specs.declared.flaw.Flaw.{Flaw}

@@ -1,4 +1,4 @@
-use Rattle.std.proofs.Common.{◌≡◌, ◌<◌, ◌∙◌, ℕ, ap, arith, slice_index, subst, sym, true}
+use Rattle.std.proofs.Common.{◌≡◌, ◌∙◌, ℕ, ap, arith, slice_index, subst, sym, true}
 use Rattle.cob_codec.specs.Packed.{halves}
 use Rattle.cob_number_flaws.specs.Flaws.{suits, zoned_wanted}
 use Rattle.cob_number_flaws.proofs.HalfLemmas.{length-halves}
