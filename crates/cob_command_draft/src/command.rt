@@ -14,16 +14,33 @@ use std::alloc::Global;
 use std::io::{Eprint, Print};
 use std::rt::Files;
 
+/// What is told of the copybook of the input record that is refused.
+fn refused_input(fault: BookFault) -> CommandFault
+    ensures { MayEndDraft result }
+{
+    match fault.rule {
+        BookRule::Memory => CommandFault::Memory,
+        _ => CommandFault::Refused(PrepareFault::InBook(fault)),
+    }
+}
+
+/// What is told of the copybook of the output record that is refused.
+fn refused_output(fault: BookFault) -> CommandFault
+    ensures { MayEndDraft result }
+{
+    match fault.rule {
+        BookRule::Memory => CommandFault::Memory,
+        _ => CommandFault::Refused(PrepareFault::OutBook(fault)),
+    }
+}
+
 /// What is told of a copybook that is refused, that of this role.
 fn refused(role: Role, fault: BookFault) -> CommandFault
     ensures { MayEndDraft result }
 {
-    if matches!(fault.rule, BookRule::Memory) {
-        return CommandFault::Memory;
-    }
     match role {
-        Role::In => CommandFault::Refused(PrepareFault::InBook(fault)),
-        Role::Out => CommandFault::Refused(PrepareFault::OutBook(fault)),
+        Role::In => refused_input(fault),
+        Role::Out => refused_output(fault),
     }
 }
 
