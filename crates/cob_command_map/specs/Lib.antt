@@ -1,2 +1,2 @@
-pub mod Converted
+pub mod Numbered
 pub mod Ends

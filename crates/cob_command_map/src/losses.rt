@@ -1,18 +1,11 @@
-//! What single moves may lose, in words.
+//! What single moves may lose.
 
-use cob_copybook_tree::{Kind, Node};
-use cob_layout::{Layout, Spot};
-use cob_layout_places::{Ref, Sender, Side, StatementMoves};
-use cob_move_losses::losses_of;
+use cob_layout::Layout;
+use cob_layout_places::{NumberedPair, Ref, Sender, Side, StatementMoves};
+use cob_move_lossless::{Layouts, MovesBetween};
+use cob_move_losses::{Losses, losses_of};
 use cob_move_receive::SenderKind;
 use std::alloc::{AllocError, Global};
-
-/// The layouts of both records.
-#[derive(Clone, Copy)]
-pub(crate) struct Between<'a> {
-    pub(crate) input: &'a Layout,
-    pub(crate) output: &'a Layout,
-}
 
 /// What is sent, and how many bytes it has at most.
 #[derive(Clone, Copy)]
@@ -21,44 +14,27 @@ struct Given<'a> {
     bytes: u32,
 }
 
-/// The entry with this number, of this one and those beneath it.
-fn entry_of(entry: &Node, number: usize) -> Option<&Node> {
-    if entry.number == number {
-        return Some(entry);
-    }
-    for child in entry.children.iter() {
-        if let Some(found) = entry_of(child, number) {
-            return Some(found);
-        }
-    }
-    None
-}
-
-/// How many bytes an element of the entry with this number has at most.
-fn bytes_of(layout: &Layout, number: usize) -> u32 {
-    match layout.greatest_spots().get(number) {
-        Some(Spot { length, .. }) => *length,
-        None => 0,
-    }
-}
-
-/// What the entry with this number sends.
-fn entry_given<'a>(between: Between<'a>, side: Side, number: usize) -> Option<Given<'a>> {
-    let layout = match side {
-        Side::In => between.input,
-        Side::Out => between.output,
-    };
-    let entry = entry_of(layout.root(), number)?;
+/// What the entry with this number of a record is where it is sent.
+fn entry_given(layout: &Layout, number: usize) -> Option<Given<'_>> {
+    let spot = layout.greatest_spots().get(number)?;
     Some(Given {
-        kind: SenderKind::Entry(&entry.kind),
-        bytes: bytes_of(layout, number),
+        kind: SenderKind::Entry(layout.kind(number)),
+        bytes: spot.length,
     })
 }
 
+/// The layout of a side's record.
+fn layout_of<'a>(layouts: &Layouts<'a>, side: Side) -> &'a Layout {
+    match side {
+        Side::In => layouts.input,
+        Side::Out => layouts.output,
+    }
+}
+
 /// What a sender sends.
-fn sender_given<'a>(between: Between<'a>, sender: &'a Sender) -> Option<Given<'a>> {
+fn sender_given<'a>(layouts: &Layouts<'a>, sender: &'a Sender) -> Option<Given<'a>> {
     match sender {
-        Sender::Entry { side, entry } => entry_given(between, *side, entry.node),
+        Sender::Entry { side, entry } => entry_given(layout_of(layouts, *side), entry.node),
         Sender::Constant(value) => Some(Given {
             kind: SenderKind::Constant(value),
             bytes: 0,
@@ -66,68 +42,78 @@ fn sender_given<'a>(between: Between<'a>, sender: &'a Sender) -> Option<Given<'a
     }
 }
 
-/// What a single move to the entry with this number may lose, in words; nothing where it loses nothing.
-fn words_of(
-    alloc: Global,
-    given: Option<Given<'_>>,
-    output: &Layout,
-    number: usize,
-) -> Result<String, AllocError> {
-    let (Some(given), Some(entry)) = (given, entry_of(output.root(), number)) else {
-        return Ok(String::new(alloc));
-    };
-    let losses = losses_of(
-        &given.kind,
-        given.bytes,
-        &entry.kind,
-        bytes_of(output, number),
-    );
-    if losses.are_none() {
-        return Ok(String::new(alloc));
+/// What the move of what is sent to the entry with this number of the output record may lose: nothing where there is no such move.
+fn losses_to(given: Option<Given<'_>>, output: &Layout, number: usize) -> Losses {
+    match (given, entry_given(output, number)) {
+        (
+            Some(Given { kind, bytes }),
+            Some(Given {
+                kind: SenderKind::Entry(to),
+                bytes: room,
+            }),
+        ) => losses_of(&kind, bytes, to, room),
+        _ => Losses {
+            before: false,
+            behind: false,
+            characters: false,
+            sign: false,
+        },
     }
-    format!(in alloc; "{losses}")
 }
 
 /// Adds what the moves of a sender to its receivers may lose.
 fn push_receivers(
-    alloc: Global,
-    between: Between<'_>,
     given: Option<Given<'_>>,
+    output: &Layout,
     receivers: &[Ref],
-    losses: &mut Vec<String>,
+    losses: &mut Vec<Losses>,
 ) -> Result<(), AllocError> {
     for receiver in receivers {
-        let words = words_of(alloc, given, between.output, receiver.node)?;
-        losses.push(words)?;
+        losses.push(losses_to(given, output, receiver.node))?;
     }
     Ok(())
 }
 
-/// What each single move of statements may lose, in words, in their order.
+/// Adds what the moves of pairs of two groups may lose, of which the sending one stands in a record of this layout.
+fn push_pairs(
+    from: &Layout,
+    output: &Layout,
+    pairs: &[NumberedPair],
+    losses: &mut Vec<Losses>,
+) -> Result<(), AllocError> {
+    for pair in pairs {
+        losses.push(losses_to(entry_given(from, pair.from), output, pair.to))?;
+    }
+    Ok(())
+}
+
+/// Adds what the single moves of a statement may lose.
+fn push_statement(
+    layouts: &Layouts<'_>,
+    statement: &StatementMoves,
+    losses: &mut Vec<Losses>,
+) -> Result<(), AllocError> {
+    match statement {
+        StatementMoves::Single(one) => {
+            let given = sender_given(layouts, &one.sender);
+            push_receivers(given, layouts.output, &one.receivers, losses)
+        }
+        StatementMoves::Pairs(group) => {
+            let from = layout_of(layouts, group.side);
+            push_pairs(from, layouts.output, &group.pairs, losses)
+        }
+    }
+}
+
+/// What each single move may lose, in their order.
 ///
 /// # Errors
 ///
 /// Where no memory is left.
-pub(crate) fn losses_in<'a>(
-    alloc: Global,
-    between: Between<'a>,
-    statements: &'a [StatementMoves],
-) -> Result<Vec<String>, AllocError> {
+pub(crate) fn losses_in(alloc: Global, moves: &MovesBetween<'_>) -> Result<Vec<Losses>, AllocError> {
     let mut losses = Vec::new(alloc);
-    for statement in statements {
-        match statement {
-            StatementMoves::Single(one) => {
-                let given = sender_given(between, &one.sender);
-                push_receivers(alloc, between, given, &one.receivers, &mut losses)?;
-            }
-            StatementMoves::Pairs(group) => {
-                for pair in group.pairs.iter() {
-                    let given = entry_given(between, group.side, pair.from);
-                    let words = words_of(alloc, given, between.output, pair.to)?;
-                    losses.push(words)?;
-                }
-            }
-        }
+    for statement in moves.statements {
+        push_statement(&moves.layouts, statement, &mut losses)?;
     }
     Ok(losses)
 }

@@ -2,16 +2,19 @@
 
 ghost use Rattle.std.specs.Prelude.{◌≡◌, ◌<◌, IfErr, IfOk, length};
 ghost use Rattle.cob_convert_record.specs.Conversion.{in_length, out_length};
+ghost use Rattle.cob_cover.specs.Covered.{AreMarks, IsByteCovered};
 ghost use Rattle.cob_command_map.specs.Ends.{MayNotMap};
 
-use crate::covered::covered_in;
 use crate::ends::Unmapped;
-use crate::losses::{Between, losses_in};
+use crate::losses::losses_in;
 use crate::record::{Found, Lengths, converted_record};
 use cob_command_faults::{CommandFault, FileName, opened};
 use cob_convert_record::{Conversion, Room};
+use cob_cover::bytes_covered;
 use cob_layout::{Layout, Places};
+use cob_lossless::{MovesBetween, carried};
 use cob_map::{Converted, Mapping, Page, Record, TextNames};
+use cob_move_losses::Losses;
 use cob_records::{Source, open_source};
 use std::alloc::{AllocError, Global};
 use std::io::{Input, Print};
@@ -42,11 +45,13 @@ fn print_page<R: AllocGlobal + Print>(rt: &R, mapping: &Mapping<'_>) -> Result<(
     }
 }
 
-/// The places of a record that has these bytes. It is one of its layout, so that its counts are valid.
+/// The places of a record that has these bytes. In form f its counts need not be valid: then each table has its greatest number of elements.
 fn places_in(alloc: Global, layout: &Layout, bytes: &[u8]) -> Result<Places, AllocError> {
     let mut places = layout.new_places(alloc)?;
-    let _ = layout.places_of(bytes, &mut places);
-    Ok(places)
+    match layout.places_of(bytes, &mut places) {
+        Ok(()) => Ok(places),
+        Err(_) => layout.new_places(alloc),
+    }
 }
 
 /// A record and what it becomes, with its number.
@@ -185,22 +190,23 @@ fn print_asked<R: AllocGlobal + Files + Input + Print>(
     }
 }
 
-/// Prints the page of a conversion whose single moves may lose these things, and of whose output these bytes are covered.
+/// Prints the page of a conversion, which has these moves. Of its output these bytes are covered, and its single moves may lose these things.
 fn print_marked<'a, R: AllocGlobal + Files + Input + Print>(
     rt: &R,
-    conversion: &'a Conversion,
+    conversion: &Conversion,
+    moves: &MovesBetween<'a>,
     asked: Asked<'a>,
     covered: &'a [bool],
-    losses: &'a [String],
+    losses: &'a [Losses],
 ) -> Result<(), Unmapped>
-    requires { 0 < asked.entry.record }
+    requires record { 0 < asked.entry.record }
+    requires covered { AreMarks (IsByteCovered moves.now) covered.now }
     ensures { IfErr result MayNotMap }
 {
-    let (input, output) = conversion.layouts();
     let mapping = Mapping {
-        input,
-        output,
-        statements: conversion.moves().statements(),
+        input: moves.layouts.input,
+        output: moves.layouts.output,
+        statements: moves.statements,
         lines: asked.lines,
         names: asked.names,
         covered,
@@ -219,11 +225,10 @@ pub(crate) fn print_conversion<'a, R: AllocGlobal + Files + Input + Print>(
     requires { 0 < asked.entry.record }
     ensures { IfErr result MayNotMap }
 {
-    let (input, output) = conversion.layouts();
-    let between = Between { input, output };
-    let covered = covered_in(rt.alloc(), output, conversion.moves().statements())?;
-    match losses_in(rt.alloc(), between, conversion.moves().statements()) {
-        Ok(losses) => print_marked(rt, conversion, asked, &covered, &losses),
+    let moves = carried(conversion);
+    let covered = bytes_covered(rt.alloc(), &moves)?;
+    match losses_in(rt.alloc(), &moves) {
+        Ok(losses) => print_marked(rt, conversion, &moves, asked, &covered, &losses),
         Err(refused) => Err(Unmapped::from(refused)),
     }
 }

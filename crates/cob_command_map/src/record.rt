@@ -1,12 +1,14 @@
 //! A record of a file, and what it becomes.
 
 ghost use Rattle.std.specs.Prelude.{◌≡◌, ◌<◌, ◌≤◌, ◌-◌, IfErr, IfOk, IfSome, false, length, take};
-ghost use Rattle.cob_convert_record.specs.Becoming.{Becomes};
+ghost use Rattle.cob_convert.specs.Run.{stop_reason};
+ghost use Rattle.cob_convert_record.specs.Becoming.{Becomes, StopsAt};
 ghost use Rattle.cob_convert_record.specs.Conversion.{in_length, out_length};
 ghost use Rattle.cob_convert_record.specs.Rooms.{capacity_for};
 ghost use Rattle.cob_layout.specs.Storage.{IsStorage};
-ghost use Rattle.cob_stream.specs.Reasons.{is_write_cause};
-ghost use Rattle.cob_command_map.specs.Converted.{HasFewer, IsConverted, ShowsRecord};
+ghost use Rattle.cob_records.specs.Device.{Told};
+ghost use Rattle.cob_stream.specs.Reasons.{is_write_cause, reason_of as reason_told};
+ghost use Rattle.cob_command_map.specs.Numbered.{ConvertsNext, FindsRecord, HasFewer, PassesSoMany, ShowsRecord, StandConverted, StopsConverting};
 
 use cob_convert_record::{Conversion, Reason, Room, Stop, StopCause};
 use cob_records::Source;
@@ -21,7 +23,8 @@ pub struct Lengths {
 
 /// Why a record is not shown: the fault of the run that stops there.
 fn fault_at(number: u64, why: Reason) -> RunFault
-    ensures { result.cause ≡ why.cause }
+    ensures reason { reason_told result ≡ why }
+    ensures number { result.number ≡ number }
 {
     RunFault {
         number,
@@ -34,7 +37,8 @@ fn fault_at(number: u64, why: Reason) -> RunFault
 
 /// Why a record does not convert.
 fn reason_of(stop: Stop) -> Reason
-    ensures { is_write_cause result.cause ≡ false }
+    ensures told { result ≡ stop_reason stop }
+    ensures kind { is_write_cause result.cause ≡ false }
 {
     let cause = match stop.cause {
         StopCause::Count => Cause::Count,
@@ -48,7 +52,11 @@ fn reason_of(stop: Stop) -> Reason
     }
 }
 
-/// Passes over records by their frames alone, and answers how many there were: so many, or fewer where the input ends before.
+/// Passes over the first so many records of a source by their frames alone, and answers how many there were: so many, or fewer where it ends before.
+///
+/// # Errors
+///
+/// The first frame that can't be read.
 fn pass_over<S: Source>(
     conversion: &Conversion,
     count: u64,
@@ -57,7 +65,10 @@ fn pass_over<S: Source>(
     source: &mut S,
 ) -> Result<u64, RunFault>
     requires input { length input.old ≡ in_length conversion.now }
+    requires begins { left.old ≡ 0 }
     ensures input { length input.new ≡ in_length conversion.now }
+    ensures passes { Told (S.coming source.old) (S.coming source.new)
+        (PassesSoMany conversion.now count left.new result) }
     ensures most { IfOk result (λ passed. passed ≤ count) }
     ensures kind { IfErr result (λ fault. is_write_cause fault.cause ≡ false) }
 {
@@ -80,7 +91,11 @@ pub enum Found {
     Fewer(u64),
 }
 
-/// Converts the record that was read, which has so many bytes.
+/// Converts the record that was read, which has this number.
+///
+/// # Errors
+///
+/// The first move that stops, a count of the output that isn't valid.
 fn convert_read(
     conversion: &Conversion,
     number: u64,
@@ -94,6 +109,7 @@ fn convert_read(
     ensures within { IfOk result (λ made. made ≤ length output.new) }
     ensures becomes { IfOk result
         (λ made. Becomes conversion.now input.now (take made output.new)) }
+    ensures stops { IfErr result (StopsConverting conversion.now input.now number) }
     ensures kind { IfErr result (λ fault. is_write_cause fault.cause ≡ false) }
 {
     match conversion.convert(input, output, room) {
@@ -103,7 +119,11 @@ fn convert_read(
 }
 
 /// Reads the next record, which has this number, and makes of it what it becomes.
-fn read_and_convert<S: Source>(
+///
+/// # Errors
+///
+/// A frame that can't be read, a record that isn't one of the layout, one that doesn't convert.
+fn convert_next<S: Source>(
     conversion: &Conversion,
     number: u64,
     input: &mut [u8],
@@ -116,7 +136,9 @@ fn read_and_convert<S: Source>(
     requires output { length output.old ≡ out_length conversion.now }
     requires room { room.old ≡ capacity_for conversion.now.records }
     ensures shows { IfOk result
-        (λ found. IfSome found (IsConverted conversion.now input.new output.new)) }
+        (λ found. IfSome found (StandConverted conversion.now input.new output.new)) }
+    ensures next { Told (S.coming source.old) (S.coming source.new)
+        (ConvertsNext conversion.now number left.old input.new result) }
     ensures kind { IfErr result (λ fault. is_write_cause fault.cause ≡ false) }
 {
     // What is read as one of the layout's records holds a record of it.
@@ -155,14 +177,20 @@ pub fn converted_record<S: Source>(
     // The record stands in the one buffer, and what it becomes in the other.
     ensures shows { IfOk result (ShowsRecord conversion.now input.new output.new) }
     ensures fewer { IfOk result (HasFewer number) }
+    // Where the source tells its bytes: it is the one with this number, or there are only so many, or one up to it stops.
+    ensures finds { Told (S.coming source.old) (S.coming source.new)
+        (FindsRecord conversion.now number input.new result) }
     ensures kind { IfErr result (λ fault. is_write_cause fault.cause ≡ false) }
 {
     let mut left: u16 = 0;
-    let passed = pass_over(conversion, number - 1, input, &mut left, source)?;
+    let passed = match pass_over(conversion, number - 1, input, &mut left, source) {
+        Ok(passed) => passed,
+        Err(fault) => return Err(fault),
+    };
     if passed < number - 1 {
         return Ok(Found::Fewer(passed));
     }
-    match read_and_convert(conversion, number, input, output, &mut left, room, source) {
+    match convert_next(conversion, number, input, output, &mut left, room, source) {
         Ok(Some(lengths)) => Ok(Found::Record(lengths)),
         Ok(None) => Ok(Found::Fewer(passed)),
         Err(fault) => Err(fault),

@@ -14,6 +14,7 @@ use Rattle.cob_command_aside.specs.Ends.{MayEndAside}
 use Rattle.cob_command_convert.specs.Ends.{MayEndCheck, MayEndConvert}
 use Rattle.cob_command_lists.specs.Ends.{MayEndLayout, MayEndListing}
 use Rattle.cob_command_lossless.specs.Ends.{MayEndLossless}
+use Rattle.cob_command_map.specs.Ends.{EndsMap}
 
 -- how a conversion ends, by whether rejected records are set aside in a file
 abbrev pub EndsConvert : {A : Type 0} → Option A → Bool → Status → Type 0
@@ -30,6 +31,7 @@ EndsLine (line.Layout options) end = EndsAmong MayEndLayout end
 EndsLine (line.Show options) end = EndsAmong MayEndListing end
 EndsLine (line.Pieces options) end = EndsAmong MayEndListing end
 EndsLine (line.Lossless options) end = EndsAmong MayEndLossless end
+EndsLine (line.Map options) end = EndsMap end
 
 -- the number of a status with which this command line ends
 abbrev pub IsEndOfLine : Line → ℕ → Type 0

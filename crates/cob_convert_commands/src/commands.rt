@@ -9,6 +9,7 @@ use cob_command_convert::{do_check, do_convert};
 use cob_command_faults::printed;
 use cob_command_lists::{do_layout, do_pieces, do_show};
 use cob_command_lossless::do_lossless;
+use cob_command_map::do_map;
 use cob_convert_line::{ConvertLine, Line, LineFault, line_of};
 use cob_status::Status;
 use std::convert::AsStr;
@@ -46,6 +47,7 @@ pub fn perform<R: AllocGlobal + Files + Input + Print + Eprint + Clock>(
         Line::Show(line) => do_show(rt, line).code(),
         Line::Pieces(line) => do_pieces(rt, line).code(),
         Line::Lossless(line) => do_lossless(rt, line).code(),
+        Line::Map(line) => do_map(rt, line).code(),
     }
 }
 

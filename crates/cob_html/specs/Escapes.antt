@@ -33,16 +33,16 @@ written character =
     (if character == 34 then escape_of Quotation else character ∷ [])))
 
 -- how the characters of a text are written, one behind another
-abbrev pub escaped : List ℕ → List ℕ
-escaped text = flat_map written text
+abbrev pub written_text : List ℕ → List ℕ
+written_text text = flat_map written text
 
 -- a character that is no mark
-pub record IsPlain (character : ℕ) : Type 0 where
+pub record IsUnmarked (character : ℕ) : Type 0 where
   pub other : (mark : Mark) → character ≢ character_of mark
 
 -- What is read where characters are written: each plain character is itself, and each escape is its mark. Nothing else is read, so that what
 -- is written holds no mark but the first one of an escape.
-pub data Reads : List ℕ → List ℕ → Type 0 where
-  Nothing : Reads [] []
-  Plain : (character : ℕ) (shown text : List ℕ) → IsPlain character → Reads shown text → Reads (character ∷ shown) (character ∷ text)
-  Escape : (mark : Mark) (shown text : List ℕ) → Reads shown text → Reads (escape_of mark ++ shown) (character_of mark ∷ text)
+pub data ReadsAs : List ℕ → List ℕ → Type 0 where
+  Nothing : ReadsAs [] []
+  Plain : (character : ℕ) (shown text : List ℕ) → IsUnmarked character → ReadsAs shown text → ReadsAs (character ∷ shown) (character ∷ text)
+  Escape : (mark : Mark) (shown text : List ℕ) → ReadsAs shown text → ReadsAs (escape_of mark ++ shown) (character_of mark ∷ text)

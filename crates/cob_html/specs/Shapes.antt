@@ -1,14 +1,8 @@
--- What attributes and shapes print.
-use Rattle.std.specs.Prelude.{ℕ, List, ◌++◌, decimal, encode_utf8_all}
-use Rattle.std.specs.Str.{chars}
+-- What shapes print.
+use Rattle.std.specs.Prelude.{ℕ, List, ◌++◌, decimal}
 use lib.Chars.{codes}
-use Rattle.cob_html.specs.Escapes.{escaped}
 use Rattle.cob_html.specs.declared.shapes.Line.{Line}
 use Rattle.cob_html.specs.declared.shapes.Rectangle.{Rectangle}
-
--- an attribute with a text as its value
-abbrev pub attribute_text : List ℕ → List ℕ → List ℕ
-attribute_text name value = codes " " ++ name ++ codes "=\"" ++ encode_utf8_all (escaped (chars value)) ++ codes "\""
 
 -- a line, its ends by hundredths of the width and by units from above
 abbrev pub line_text : Line → List ℕ

@@ -29,9 +29,9 @@ pub struct Escaped<'a> {
 impl fmt::Display for Escaped<'_> {
     ghost use Rattle.std.specs.Prelude.{Some, encode_utf8_all};
     ghost use Rattle.std.specs.Str.{chars};
-    ghost use Rattle.cob_html.specs.Escapes.{escaped};
+    ghost use Rattle.cob_html.specs.Escapes.{written_text};
 
-    ghost output = { λ shown. Some (encode_utf8_all (escaped (chars shown.text.now))) };
+    ghost output = { λ shown. Some (encode_utf8_all (written_text (chars shown.text.now))) };
 
     fn fmt<W: fmt::Write>(&self, f: &mut fmt::Formatter<W>) -> fmt::Result {
         for character in self.text.chars() {
@@ -41,23 +41,5 @@ impl fmt::Display for Escaped<'_> {
             }
         }
         Ok(())
-    }
-}
-
-/// An attribute of an element, which prints behind a space: `name="value"`, the value with its escapes.
-#[derive(Clone, Copy)]
-pub struct Attribute<'a> {
-    pub name: &'static str,
-    pub value: &'a str,
-}
-
-impl fmt::Display for Attribute<'_> {
-    ghost use Rattle.std.specs.Prelude.{Some};
-    ghost use Rattle.cob_html.specs.Shapes.{attribute_text};
-
-    ghost output = { λ shown. Some (attribute_text shown.name.now shown.value.now) };
-
-    fn fmt<W: fmt::Write>(&self, f: &mut fmt::Formatter<W>) -> fmt::Result {
-        write!(f, " {}=\"{}\"", self.name, Escaped { text: self.value })
     }
 }

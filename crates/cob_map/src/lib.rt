@@ -13,14 +13,14 @@
 //! which rows of a ruler bytes take, and which moves one line stands for. Which words are printed is shown by `cob_jobs`.
 //!
 //! It stands on `cob_map_boxes` and `cob_map_words` for the boxes and their words, on `cob_map_places` for places, on `cob_html` for escapes and lines, on
-//! `cob_layout`, `cob_layout_places` and `cob_copybook_tree` for records and moves, and on `cob_lossless_words` for the names of occurrences.
+//! `cob_move_losses` for what moves may lose, on `cob_layout`, `cob_layout_places` and `cob_copybook_tree` for records and moves, and on `cob_lossless_words`
+//! for single moves and the names of occurrences.
 #![tactic(auto)]
 
 mod joined;
 mod lines;
 mod lists;
 mod page;
-mod singles;
 mod style;
 
 pub use joined::ends_of;

@@ -1,11 +1,11 @@
 //! The lines between the boxes of senders and of receivers.
 
 use crate::page::Page;
-use crate::singles::{Element, Sent, Single};
 use cob_html::Line;
 use cob_layout_places::Side;
-use cob_lossless_words::Named;
+use cob_lossless_words::{Element, Named, Sent, Single};
 use cob_map_words::ConstantText;
+use cob_move_losses::Losses;
 use std::fmt;
 
 /// Where the lines of senders of the output record turn, in hundredths of the drawing's width.
@@ -44,13 +44,22 @@ pub(crate) fn receiver_of<'a>(page: &'a Page<'_>, single: Single<'_>) -> Named<'
     named_in(page, Side::Out, single.receiver)
 }
 
+/// The class of single moves that may lose these things.
+pub(crate) fn class_of(losses: Losses) -> &'static str {
+    if losses.are_none() {
+        ""
+    } else {
+        " class=\"c\""
+    }
+}
+
 /// Writes what single moves are, of which this is the first.
 fn write_title<'a, W: fmt::Write>(
     f: &mut fmt::Formatter<W>,
     page: &Page<'a>,
     single: Single<'a>,
     count: usize,
-    loss: &str,
+    losses: Losses,
 ) -> fmt::Result {
     let sent = SentText {
         page,
@@ -62,8 +71,8 @@ fn write_title<'a, W: fmt::Write>(
         let more = count - 1;
         write!(f, ", and {more} more")?;
     }
-    if !loss.is_empty() {
-        write!(f, ", may lose {loss}")?;
+    if !losses.are_none() {
+        write!(f, ", may lose {losses}")?;
     }
     write!(f, "</title>")
 }
@@ -128,12 +137,12 @@ pub(crate) fn write_line<'a, W: fmt::Write>(
     page: &Page<'a>,
     single: Single<'a>,
     count: usize,
-    loss: &str,
+    losses: Losses,
 ) -> fmt::Result {
-    let class = if loss.is_empty() { "" } else { " class=\"c\"" };
+    let class = class_of(losses);
     let to = page.output().middle(single.receiver.number);
     write!(f, "<g{class}>")?;
-    write_title(f, page, single, count, loss)?;
+    write_title(f, page, single, count, losses)?;
     match single.sent {
         Sent::Entry {
             side: Side::In,

@@ -1,12 +1,12 @@
 //! The lists below the drawing: the moves, and the bytes that no receiver covers.
 
-use crate::lines::{SentText, receiver_of};
+use crate::lines::{SentText, class_of, receiver_of};
 use crate::page::Page;
-use crate::singles::Single;
 use cob_layout::{Kind, Node};
-use cob_lossless_words::Named;
+use cob_lossless_words::{Named, Single};
 use cob_map_boxes::{Drawn, spot_of, told_length};
 use cob_map_places::bare_length;
+use cob_move_losses::Losses;
 use std::fmt;
 
 /// Writes the row of single moves that join the same, of which this is the first.
@@ -15,9 +15,9 @@ pub(crate) fn write_move<'a, W: fmt::Write>(
     page: &Page<'a>,
     single: Single<'a>,
     count: usize,
-    loss: &str,
+    losses: Losses,
 ) -> fmt::Result {
-    let class = if loss.is_empty() { "" } else { " class=\"c\"" };
+    let class = class_of(losses);
     let sent = SentText {
         page,
         sent: single.sent,
@@ -28,7 +28,7 @@ pub(crate) fn write_move<'a, W: fmt::Write>(
         "<tr{class}><td>{}</td><td>{sent}</td><td>{receiver}</td>",
         single.line
     )?;
-    writeln!(f, "<td>{count}</td><td>{loss}</td></tr>")
+    writeln!(f, "<td>{count}</td><td>{losses}</td></tr>")
 }
 
 /// The item in no redefinition in whose first element this byte is, of an entry and those beneath it.

@@ -1,9 +1,12 @@
 //! The page.
 
+ghost use Rattle.std.specs.Prelude.{IfOk};
+ghost use Rattle.cob_map.specs.Joined.{ends_in};
+ghost use Rattle.cob_map_places.specs.Ends.{AreCounts};
+
 use crate::joined::ends_of;
 use crate::lines::write_line;
 use crate::lists::{write_move, write_runs};
-use crate::singles::{Single, singles_of};
 use crate::style::{
     BARE_HEAD, DRAWING_END, HEAD, KEY, LINES_END, LINES_HEAD, MOVES_HEAD, PAGE_END, SIDE_HEAD,
     STYLE,
@@ -11,9 +14,10 @@ use crate::style::{
 use cob_html::Escaped;
 use cob_layout::{Layout, Spot};
 use cob_layout_places::StatementMoves;
-use cob_lossless_words::Named;
+use cob_lossless_words::{Named, Single, singles_of};
 use cob_map_boxes::{Contents, Drawn, draw, write_boxes};
-use cob_map_places::{Ends, count_of, is_first};
+use cob_map_places::counts_of;
+use cob_move_losses::Losses;
 use std::alloc::{AllocError, Global};
 use std::fmt;
 
@@ -52,8 +56,8 @@ pub struct Mapping<'a> {
     pub names: TextNames<'a>,
     /// Of each byte of the output record, whether a receiver covers it.
     pub covered: &'a [bool],
-    /// What each single move may lose, in words; nothing where it loses nothing.
-    pub losses: &'a [String],
+    /// What each single move may lose.
+    pub losses: &'a [Losses],
     /// A record that is given.
     pub converted: Option<Converted<'a>>,
 }
@@ -65,11 +69,11 @@ struct Sides<'a> {
     output: Drawn<'a>,
 }
 
-/// The single moves, and what they join.
+/// The single moves, and of each how many join the same, where it is the first of them.
 #[derive(Drop)]
 struct Joins<'a> {
     singles: Vec<Single<'a>>,
-    ends: Vec<Ends>,
+    counts: Vec<Option<usize>>,
 }
 
 /// A mapping, which prints as a page.
@@ -101,11 +105,19 @@ fn sides_of<'a>(alloc: Global, mapping: &Mapping<'a>) -> Result<Sides<'a>, Alloc
     }
 }
 
-/// The single moves of a mapping, and what they join.
+/// Of each single move of statements how many join the same, where it is the first of them.
+fn counts_in(alloc: Global, statements: &[StatementMoves]) -> Result<Vec<Option<usize>>, AllocError>
+    ensures { IfOk result (λ counts. AreCounts (ends_in statements.now) counts.items) }
+{
+    let ends = ends_of(alloc, statements)?;
+    counts_of(alloc, &ends)
+}
+
+/// The single moves of a mapping, and how many join the same.
 fn joins_of<'a>(alloc: Global, mapping: &Mapping<'a>) -> Result<Joins<'a>, AllocError> {
     let singles = singles_of(alloc, mapping.statements, mapping.lines)?;
-    match ends_of(alloc, mapping.statements) {
-        Ok(ends) => Ok(Joins { singles, ends }),
+    match counts_in(alloc, mapping.statements) {
+        Ok(counts) => Ok(Joins { singles, counts }),
         Err(refused) => Err(refused),
     }
 }
@@ -146,11 +158,16 @@ enum Writing {
     Row,
 }
 
-/// What a single move may lose.
-fn loss_at(losses: &[String], at: usize) -> &str {
+/// What single moves that join the same may lose, of which this is the first.
+fn losses_at(losses: &[Losses], at: usize) -> Losses {
     match losses.get(at) {
-        Some(loss) => loss.as_str(),
-        None => "",
+        Some(losses) => *losses,
+        None => Losses {
+            before: false,
+            behind: false,
+            characters: false,
+            sign: false,
+        },
     }
 }
 
@@ -160,15 +177,13 @@ fn write_joined<W: fmt::Write>(
     page: &Page<'_>,
     writing: Writing,
 ) -> fmt::Result {
-    let ends = page.joins.ends.as_slice();
-    let losses = page.mapping.losses;
-    for (at, single) in page.joins.singles.iter().enumerate() {
-        if at < ends.len() && is_first(ends, at) {
-            let count = count_of(ends, ends[at]);
-            let loss = loss_at(losses, at);
+    let joins = &page.joins;
+    for (at, (single, count)) in joins.singles.iter().zip(joins.counts.iter()).enumerate() {
+        if let Some(count) = count {
+            let losses = losses_at(page.mapping.losses, at);
             match writing {
-                Writing::Line => write_line(f, page, *single, count, loss)?,
-                Writing::Row => write_move(f, page, *single, count, loss)?,
+                Writing::Line => write_line(f, page, *single, *count, losses)?,
+                Writing::Row => write_move(f, page, *single, *count, losses)?,
             }
         }
     }
@@ -181,8 +196,8 @@ fn count_bare(covered: &[bool]) -> usize {
 }
 
 /// How many single moves may lose something.
-fn count_losing(losses: &[String]) -> usize {
-    losses.iter().filter(|loss| !loss.is_empty()).count()
+fn count_losing(losses: &[Losses]) -> usize {
+    losses.iter().filter(|losses| !losses.are_none()).count()
 }
 
 /// The record of a layout, by its name.

@@ -1,12 +1,16 @@
 //! What single moves join, and which of them join the same.
 
-ghost use Rattle.std.specs.Prelude.{◌≡◌, ◌<◌, length};
-ghost use Rattle.std.specs.Bool.{Decides};
+ghost use Rattle.std.specs.Prelude.{◌≡◌, IfOk};
 ghost use Rattle.std.specs.List.{count_by};
-ghost use Rattle.cob_map_places.specs.Ends.{IsFirst, same, same_origin};
+ghost use Rattle.std.specs.Option.{unwrap_or};
+ghost use Rattle.indexmap.specs.IndexMap.{get_by};
+ghost use Rattle.cob_map_places.specs.Ends.{AreCounts, same};
+
+use indexmap::IndexMap;
+use std::alloc::{AllocError, Global};
 
 /// What a single move sends: an entry of the input record or of the output record by its number, or the constant of the statement with this place.
-#[derive(Clone, Copy, Debug)]
+#[derive(Clone, Copy, Debug, PartialEq, Eq, Hash)]
 pub enum Origin {
     Input(usize),
     Output(usize),
@@ -14,54 +18,36 @@ pub enum Origin {
 }
 
 /// What a single move joins: what it sends, and the entry of the output record that receives it.
-#[derive(Clone, Copy, Debug)]
+#[derive(Clone, Copy, Debug, PartialEq, Eq, Hash)]
 pub struct Ends {
     pub from: Origin,
     pub to: usize,
 }
 
-/// Whether two moves send from the same.
-fn is_same_origin(one: Origin, other: Origin) -> bool
-    ensures { result ≡ same_origin one other }
+/// How many of these single moves join the same, by what they join.
+fn tally(alloc: Global, singles: &[Ends]) -> Result<IndexMap<Ends, usize>, AllocError>
+    ensures { IfOk result (λ counts. (ends : Ends)
+        → unwrap_or (get_by (same ends) counts) 0 ≡ count_by (same ends) singles.now) }
 {
-    match (one, other) {
-        (Origin::Input(one), Origin::Input(other)) => one == other,
-        (Origin::Output(one), Origin::Output(other)) => one == other,
-        (Origin::Constant(one), Origin::Constant(other)) => one == other,
-        _ => false,
-    }
-}
-
-/// Whether two moves join the same.
-fn is_same(one: Ends, other: Ends) -> bool
-    ensures { result ≡ same one other }
-{
-    one.to == other.to && is_same_origin(one.from, other.from)
-}
-
-/// How many of these single moves join the same as this one.
-pub fn count_of(singles: &[Ends], ends: Ends) -> usize
-    ensures { result ≡ count_by (same ends) singles.now }
-{
-    let mut count: usize = 0;
+    let mut counts = IndexMap::new(alloc);
     for single in singles {
-        if is_same(ends, *single) {
-            count += 1;
-        }
+        *counts.entry(*single)?.or_insert(0) += 1;
     }
-    count
+    Ok(counts)
 }
 
-/// Whether no single move before this one joins the same.
-pub fn is_first(singles: &[Ends], at: usize) -> bool
-    requires { at < length singles.now }
-    ensures { Decides result (IsFirst singles.now at) }
+/// Of each of these single moves, how many join the same as it does, where it is the first of them; of a later one none.
+///
+/// # Errors
+///
+/// Where no memory is left.
+pub fn counts_of(alloc: Global, singles: &[Ends]) -> Result<Vec<Option<usize>>, AllocError>
+    ensures { IfOk result (λ counts. AreCounts singles.now counts.items) }
 {
-    let ends = singles[at];
-    for single in &singles[..at] {
-        if is_same(ends, *single) {
-            return false;
-        }
+    let mut left = tally(alloc, singles)?;
+    let mut counts = Vec::new(alloc);
+    for single in singles {
+        counts.push(left.swap_remove(single))?;
     }
-    true
+    Ok(counts)
 }

@@ -1,7 +1,7 @@
 //! Rulers of bytes, in rows.
 
 ghost use Rattle.std.specs.Prelude.{◌≡◌, ◌+◌};
-ghost use Rattle.cob_map_places.specs.Rulers.{IsPart, AreRows};
+ghost use Rattle.cob_map_places.specs.Rulers.{IsRowPart, AreRows};
 
 /// How many bytes a row of a ruler has.
 pub const ROW: u32 = 64;
@@ -18,7 +18,7 @@ pub struct Part {
 
 /// The part of a run of so many bytes from this offset on that stands in the row in which it begins.
 pub fn part_at(offset: u32, length: u32) -> Part
-    ensures { IsPart offset length result }
+    ensures { IsRowPart offset length result }
 {
     let before = offset % ROW;
     Part {

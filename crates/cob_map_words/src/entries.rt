@@ -1,32 +1,16 @@
 //! Entries, in the words of their boxes.
 
-use crate::items::ItemText;
-use crate::texts::Characters;
+use cob_fault_words::ItemText;
 use cob_layout::{Kind, Layout, Name, Node, ResolvedOccurs, Spot};
+use cob_lossless_words::entry_of;
 use std::fmt;
 
-/// Writes the name of an entry, or FILLER where it has none.
-fn write_name<W: fmt::Write>(f: &mut fmt::Formatter<W>, name: &Option<Name>) -> fmt::Result {
-    match name {
-        Some(name) => {
-            let characters = name.as_bytes();
-            write!(f, "{}", Characters { characters })
-        }
-        None => write!(f, "FILLER"),
+/// The name of the entry with this number, where it has one.
+fn name_of(layout: &Layout, number: usize) -> Option<&Name> {
+    match entry_of(layout.root(), number) {
+        Some(entry) => entry.name.as_ref(),
+        None => None,
     }
-}
-
-/// The entry with this number, of this one and those beneath it.
-fn entry_of(entry: &Node, number: usize) -> Option<&Node> {
-    if entry.number == number {
-        return Some(entry);
-    }
-    for child in entry.children.iter() {
-        if let Some(found) = entry_of(child, number) {
-            return Some(found);
-        }
-    }
-    None
 }
 
 /// Writes how often an entry occurs, where it is a table.
@@ -39,9 +23,9 @@ fn write_occurs<W: fmt::Write>(
         ResolvedOccurs::Once => Ok(()),
         ResolvedOccurs::Fixed(times) => write!(f, " occurs {times}"),
         ResolvedOccurs::Varying { least, most, count } => {
-            write!(f, " occurs {least} to {most} on ")?;
-            match entry_of(layout.root(), count) {
-                Some(counted) => write_name(f, &counted.name),
+            write!(f, " occurs {least} to {most}")?;
+            match name_of(layout, count) {
+                Some(name) => write!(f, " on {name}"),
                 None => Ok(()),
             }
         }
@@ -54,10 +38,7 @@ fn write_redefined<W: fmt::Write>(
     redefines: &Option<Name>,
 ) -> fmt::Result {
     match redefines {
-        Some(_) => {
-            write!(f, " redefines ")?;
-            write_name(f, redefines)
-        }
+        Some(name) => write!(f, " redefines {name}"),
         None => Ok(()),
     }
 }
@@ -72,7 +53,10 @@ pub struct EntryText<'a> {
 impl fmt::Display for EntryText<'_> {
     fn fmt<W: fmt::Write>(&self, f: &mut fmt::Formatter<W>) -> fmt::Result {
         write!(f, "{:02} ", self.entry.level)?;
-        write_name(f, &self.entry.name)?;
+        match &self.entry.name {
+            Some(name) => write!(f, "{name}")?,
+            None => write!(f, "FILLER")?,
+        }
         write_occurs(f, self.layout, self.entry.occurs)?;
         write_redefined(f, &self.entry.redefines)
     }

@@ -17,3 +17,6 @@ returns-in-Pieces g c = (_, rw c.in-Pieces.is c.do_pieces.ensures, c.code-in-Pie
 
 pub returns-in-Lossless : goal.returns-in-Lossless
 returns-in-Lossless g c = (_, rw c.in-Lossless.is c.do_lossless.ensures, c.code-in-Lossless.ensures)
+
+pub returns-in-Map : goal.returns-in-Map
+returns-in-Map g c = (_, rw c.in-Map.is c.do_map.ensures, c.code-in-Map.ensures)

@@ -2,9 +2,9 @@ use Rattle.std.proofs.Common.{rules, encode_utf8, encode_utf8_all, ℕ, List, �
 use Rattle.std.proofs.Output.{has_written_append, has_written_of_eq}
 use Rattle.std.proofs.lemmas.List.{nil_from_length}
 use Rattle.std.proofs.lemmas.Str.{chars-nil, IsUtf8-past_char}
-use Rattle.cob_html.specs.Escapes.{escaped}
+use Rattle.cob_html.specs.Escapes.{written_text}
 use Rattle.std.specs.Str.{chars}
-use Rattle.cob_html.proofs.EscapeLemmas.{escaped_past}
+use Rattle.cob_html.proofs.EscapeLemmas.{written_past}
 use Rattle.cob_html.proofs.escapes.EscapedDisplay.fmt.Goals as goal
 
 pub loop-character-preserved-in-Continue-1 : goal.loop-character-preserved-in-Continue-1
@@ -18,8 +18,8 @@ loop-character-preserved-in-Continue-1 g c =
             has_written_append _ _ _ _ _ _ now.1 (search rules),
             append_assoc now.0 _ _
                 ∙ ap (λ (t : List ℕ). now.0 ++ t)
-                (ap (λ (t : List ℕ). t ++ encode_utf8_all (escaped (chars c.next.new.self.rest.now))) (sym c.in-Some-escape_of.ensures.escape)
-                ∙ escaped_past _ _ _ utf8 steps)
+                (ap (λ (t : List ℕ). t ++ encode_utf8_all (written_text (chars c.next.new.self.rest.now))) (sym c.in-Some-escape_of.ensures.escape)
+                ∙ written_past _ _ _ utf8 steps)
                 ∙ now.2,
           ),
     )
@@ -35,8 +35,8 @@ loop-character-preserved g c =
             has_written_append _ _ _ _ _ _ now.1 (search rules),
             append_assoc now.0 _ _
                 ∙ ap (λ (t : List ℕ). now.0 ++ t)
-                (ap (λ (t : List ℕ). t ++ encode_utf8_all (escaped (chars c.next.new.self.rest.now))) (sym c.in-None-escape_of.ensures.plain)
-                ∙ escaped_past _ _ _ utf8 steps)
+                (ap (λ (t : List ℕ). t ++ encode_utf8_all (written_text (chars c.next.new.self.rest.now))) (sym c.in-None-escape_of.ensures.plain)
+                ∙ written_past _ _ _ utf8 steps)
                 ∙ now.2,
           ),
     )
