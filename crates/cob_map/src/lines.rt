@@ -8,8 +8,14 @@ use cob_map_words::ConstantText;
 use cob_move_losses::Losses;
 use std::fmt;
 
-/// Where the lines of senders of the output record turn, in hundredths of the drawing's width.
-const TURN: u32 = 85;
+/// Where the first of the lines of senders of the output record turns, in hundredths of the drawing's width; each next one turns further to the left.
+const TURN: u32 = 90;
+
+/// How far it is from one turn to the next.
+const TURN_STEP: u32 = 6;
+
+/// In how many places lines turn.
+const TURNS: usize = 7;
 
 /// Where the line of a constant begins.
 const CONSTANT: u32 = 80;
@@ -88,22 +94,32 @@ fn write_across<W: fmt::Write>(f: &mut fmt::Formatter<W>, from: u32, to: u32) ->
     write!(f, "{line}")
 }
 
-/// Writes the three parts of a line from a box of the output record.
-fn write_back<W: fmt::Write>(f: &mut fmt::Formatter<W>, from: u32, to: u32) -> fmt::Result {
+/// Where the line from the entry of the output record with this number turns.
+fn turn_of(number: usize) -> u32 {
+    TURN - (number % TURNS) as u32 * TURN_STEP
+}
+
+/// Writes the three parts of a line from a box of the output record, which turns there.
+fn write_back<W: fmt::Write>(
+    f: &mut fmt::Formatter<W>,
+    turn: u32,
+    from: u32,
+    to: u32,
+) -> fmt::Result {
     let out = Line {
-        x1: TURN,
+        x1: turn,
         y1: from,
         x2: 100,
         y2: from,
     };
     let along = Line {
-        x1: TURN,
+        x1: turn,
         y1: from,
-        x2: TURN,
+        x2: turn,
         y2: to,
     };
     let home = Line {
-        x1: TURN,
+        x1: turn,
         y1: to,
         x2: 100,
         y2: to,
@@ -151,7 +167,10 @@ pub(crate) fn write_line<'a, W: fmt::Write>(
         Sent::Entry {
             side: Side::Out,
             entry,
-        } => write_back(f, page.output().middle(entry.number), to)?,
+        } => {
+            let from = page.output().middle(entry.number);
+            write_back(f, turn_of(entry.number), from, to)?;
+        }
         Sent::Constant(value) => write_constant(f, ConstantText { value }, to)?,
     }
     writeln!(f, "</g>")

@@ -16,7 +16,7 @@ use cob_layout::{Layout, Spot};
 use cob_layout_places::StatementMoves;
 use cob_lossless_words::{Named, Single, singles_of};
 use cob_map_boxes::{Contents, Drawn, draw, write_boxes};
-use cob_map_places::counts_of;
+use cob_map_places::{SHEET, counts_of};
 use cob_move_losses::Losses;
 use std::alloc::{AllocError, Global};
 use std::fmt;
@@ -245,7 +245,7 @@ fn write_summary<W: fmt::Write>(f: &mut fmt::Formatter<W>, mapping: &Mapping<'_>
     )?;
     writeln!(
         f,
-        "bytes that no receiver covers {bare}, moves that may lose something {losing}</p>"
+        "bytes that no receiver covers {bare}, single moves that may lose something {losing}</p>"
     )
 }
 
@@ -265,15 +265,20 @@ fn write_side<W: fmt::Write>(
     f.write_str("</div>\n")
 }
 
+/// How high the head of the page is on paper.
+const HEAD_HEIGHT: u32 = 120;
+
 /// Writes the drawing.
 fn write_drawing<W: fmt::Write>(f: &mut fmt::Formatter<W>, page: &Page<'_>) -> fmt::Result {
     let height = page
         .input()
         .whole_height()
         .max(page.output().whole_height());
-    let class = match page.mapping.converted {
-        Some(_) => "map rec",
-        None => "map",
+    // A drawing that has no room below the head of the page begins on a sheet of its own.
+    let class = if height < SHEET - HEAD_HEIGHT {
+        "map"
+    } else {
+        "map long"
     };
     writeln!(
         f,

@@ -12,6 +12,7 @@ p{margin:4px 0}
 .k i{display:inline-block;width:24px;height:8px;margin-right:4px;border:1px solid #456;background:#9bc4e6}
 .k .k2{background:#e58b82;border-color:#b3261e}
 .k .k3{border:0;border-top:2px dashed #b3261e;height:0;background:none;vertical-align:middle}
+.k .k4{border-style:dashed;background:#fff}
 .scroll{overflow-x:auto}
 .map{position:relative;margin-top:8px}
 .side{position:absolute;top:0;width:40%}
@@ -19,14 +20,18 @@ p{margin:4px 0}
 .out{right:0}
 .h{height:18px;font-weight:bold}
 .b{position:absolute;left:0;right:0;overflow:hidden;border:1px solid #7c92a5;background:#eef4f9;border-radius:2px;padding:0 4px}
-.in .b{left:calc(var(--d)*7px)}
-.out .b{right:calc(var(--d)*7px)}
+.in .b{left:calc(var(--d)*8px)}
+.out .b{right:calc(var(--d)*8px)}
 .g{background:#dfe6ec}
-.r{border-style:dashed}
+.r{border-style:dashed;background:#fff}
 .u{background:#fdf1ef;border-color:#b3261e}
+.j{position:absolute;width:5px;border:1px dashed #456}
+.in .j{left:calc(var(--d)*8px - 5px);border-right:0}
+.out .j{right:calc(var(--d)*8px - 5px);border-left:0}
 .w{display:flex;height:18px;line-height:18px;white-space:nowrap}
 .n{flex:1 1 auto;overflow:hidden;text-overflow:ellipsis}
 .g .n{font-weight:bold}
+.m{flex:none;margin-left:1ch;color:#b3261e}
 .t{flex:0 1 auto;overflow:hidden;text-overflow:ellipsis;margin:0 1ch;color:#456}
 .g .t{display:none}
 .o{flex:0 0 6ch;text-align:right;margin-left:1ch}
@@ -40,13 +45,34 @@ p{margin:4px 0}
 .lines .p line{marker-end:none}
 .lines g:hover line{stroke-width:3}
 text,marker{fill:#2f5f8a}
+text{paint-order:stroke;stroke:#fff;stroke-width:4px}
 table{border-collapse:collapse}
 th{text-align:left;font-size:11px;padding:0 12px 0 0}
 td{padding:0 12px 0 0;vertical-align:top;border-top:1px solid #dde}
 .c td,.v.c{color:#b3261e}
-@media(max-width:700px){body{margin:8px}.t{display:none}.side{width:43%}.lines{left:43%;width:14%}.o{flex-basis:5ch;margin-left:0}.h .o{flex-basis:6ch}.b,.h,text,td{font-size:10px}.rec{min-width:600px}}
-@page{size:A4 landscape;margin:10mm}
-@media print{body{margin:0;-webkit-print-color-adjust:exact;print-color-adjust:exact}.scroll{overflow:visible}h2,th{break-after:avoid}tr{break-inside:avoid}}
+@media(max-width:700px){
+body{margin:8px}
+.side{width:43%}
+.lines{left:43%;width:14%}
+.b,.h,text{font-size:9px}
+td,th{font-size:10px;padding-right:6px}
+.b .w{flex-wrap:wrap;height:19px;line-height:10px;overflow:hidden}
+.b .n{flex:1 0 100%}
+.t{flex:1 1 0;margin-left:0}
+.g .t{display:block;visibility:hidden}
+.m{order:1}
+.o{flex-basis:5ch}
+.v{font-size:9px}
+}
+@page{size:1123px 794px;margin:38px}
+@media print{
+body{margin:0;-webkit-print-color-adjust:exact;print-color-adjust:exact}
+.scroll{overflow:visible}
+.map{margin-top:0;break-inside:avoid}
+.long{break-before:page;break-inside:auto}
+h2,th{break-after:avoid}
+tr{break-inside:avoid}
+}
 ";
 
 /// The beginning of the page.
@@ -58,12 +84,13 @@ pub(crate) const HEAD: &str = "<!DOCTYPE html>
 /// What the signs of the drawing mean.
 pub(crate) const KEY: &str = "<p class=\"k\"><span><i></i>bytes of an item, in rows of 64</span>
 <span><i class=\"k2\"></i>bytes that no receiver covers</span>
-<span><i class=\"k3\"></i>a move that may lose something</span></p>
+<span><i class=\"k3\"></i>a move that may lose something</span>
+<span><i class=\"k4\"></i>a redefinition, joined to what it redefines</span></p>
 ";
 
 /// What stands behind the name of a record in the line above its boxes.
 pub(crate) const SIDE_HEAD: &str =
-    "<span class=\"o\">offset</span><span class=\"o\">bytes</span></div>
+    "<span class=\"o\">offset</span><span class=\"o\">length</span></div>
 ";
 
 /// What stands in front of the lines.

@@ -144,6 +144,67 @@ fn write_classes<W: fmt::Write>(
     Ok(())
 }
 
+/// An entry, and where its first element stands where each table has its greatest number of elements.
+#[derive(Clone, Copy)]
+struct Placed<'a> {
+    text: EntryText<'a>,
+    spot: Spot,
+}
+
+/// Writes the beginning of the box of an entry that stands in so many groups.
+fn write_place<W: fmt::Write>(
+    f: &mut fmt::Formatter<W>,
+    drawn: &Drawn<'_>,
+    placed: Placed<'_>,
+    depth: u32,
+) -> fmt::Result {
+    let Placed { text, spot } = placed;
+    let entry = text.entry;
+    let (top, height) = (drawn.top(entry.number), drawn.height(entry));
+    let title = TitleText { text, spot };
+    write!(f, "<div class=\"")?;
+    write_classes(f, entry, covered_in(drawn.covered, spot))?;
+    writeln!(
+        f,
+        "\" style=\"--d:{depth};top:{top}px;height:{height}px\" title=\"{title}\">"
+    )
+}
+
+/// Writes that some bytes of an item are not covered, where that is so, or that none is.
+fn write_mark<W: fmt::Write>(
+    f: &mut fmt::Formatter<W>,
+    kind: &Kind,
+    covered: &[bool],
+) -> fmt::Result {
+    if matches!(kind, Kind::Group) || !is_bare(covered) {
+        return Ok(());
+    }
+    let words = if covered.contains(&true) {
+        "partly covered"
+    } else {
+        "not covered"
+    };
+    write!(f, "<span class=\"m\">{words}</span>")
+}
+
+/// Writes the first line of the box of an entry.
+fn write_words<W: fmt::Write>(
+    f: &mut fmt::Formatter<W>,
+    drawn: &Drawn<'_>,
+    placed: Placed<'_>,
+) -> fmt::Result {
+    let Placed { text, spot } = placed;
+    let kind = &text.entry.kind;
+    write!(f, "<div class=\"w\"><span class=\"n\">{text}</span>")?;
+    write_mark(f, kind, covered_in(drawn.covered, spot))?;
+    let kind = KindText { kind };
+    let Spot { offset, length, .. } = spot;
+    writeln!(
+        f,
+        "<span class=\"t\">{kind}</span><span class=\"o\">{offset}</span><span class=\"o\">{length}</span></div>"
+    )
+}
+
 /// Writes the beginning of the box of an entry that stands in so many groups, and its first line.
 fn write_front<W: fmt::Write>(
     f: &mut fmt::Formatter<W>,
@@ -151,28 +212,30 @@ fn write_front<W: fmt::Write>(
     entry: &Node,
     depth: u32,
 ) -> fmt::Result {
-    let spot = spot_of(drawn.layout.greatest_spots(), entry.number);
-    let text = EntryText {
-        layout: drawn.layout,
-        entry,
+    let placed = Placed {
+        text: EntryText {
+            layout: drawn.layout,
+            entry,
+        },
+        spot: spot_of(drawn.layout.greatest_spots(), entry.number),
     };
-    let (top, height) = (drawn.top(entry.number), drawn.height(entry));
-    let title = TitleText { text, spot };
-    let kind = KindText { kind: &entry.kind };
-    let Spot { offset, length, .. } = spot;
-    write!(f, "<div class=\"")?;
-    write_classes(f, entry, covered_in(drawn.covered, spot))?;
-    write!(
-        f,
-        "\" style=\"--d:{depth};top:{top}px;height:{height}px\" title=\"{title}\">\n"
-    )?;
-    write!(
-        f,
-        "<div class=\"w\"><span class=\"n\">{text}</span><span class=\"t\">{kind}</span>"
-    )?;
+    write_place(f, drawn, placed, depth)?;
+    write_words(f, drawn, placed)
+}
+
+/// Writes a bracket from the box of an entry to that of one that redefines it. They stand in so many groups.
+fn write_bracket<W: fmt::Write>(
+    f: &mut fmt::Formatter<W>,
+    drawn: &Drawn<'_>,
+    redefined: usize,
+    redefining: usize,
+    depth: u32,
+) -> fmt::Result {
+    let top = drawn.middle(redefined);
+    let height = drawn.middle(redefining).saturating_sub(top);
     writeln!(
         f,
-        "<span class=\"o\">{offset}</span><span class=\"o\">{length}</span></div>"
+        "<div class=\"j\" style=\"--d:{depth};top:{top}px;height:{height}px\"></div>"
     )
 }
 
@@ -190,8 +253,15 @@ fn write_box<W: fmt::Write>(
         write_item(f, drawn, entry.number, item, tables.as_slice())?;
     }
     writeln!(f, "</div>")?;
+    let depth = depth.saturating_add(1);
+    let mut redefined = entry.number;
     for child in entry.children.iter() {
-        write_box(f, drawn, child, depth.saturating_add(1), tables.as_slice())?;
+        if child.redefines.is_some() {
+            write_bracket(f, drawn, redefined, child.number, depth)?;
+        } else {
+            redefined = child.number;
+        }
+        write_box(f, drawn, child, depth, tables.as_slice())?;
     }
     Ok(())
 }

@@ -29,7 +29,9 @@ pub struct Drawn<'a> {
     pub contents: Option<Contents<'a>>,
     /// Of each byte, whether a receiver covers it; of a byte behind these it isn't said.
     pub covered: &'a [bool],
-    /// Where the boxes of its entries begin, by their numbers, and where the last one ends.
+    /// How high the boxes of its entries are, by their numbers, each without those beneath it and with the gap behind it.
+    pub heights: Vec<u32>,
+    /// Where these boxes begin, and where the last one ends.
     pub tops: Vec<u32>,
 }
 
@@ -108,11 +110,12 @@ pub fn draw<'a>(
 ) -> Result<Drawn<'a>, AllocError> {
     let mut heights = Vec::new(alloc);
     push_heights(layout, contents, layout.root(), &[], &mut heights)?;
-    let tops = tops_of(alloc, &heights)?;
+    let tops = tops_of(alloc, LINE + GAP, &heights)?;
     Ok(Drawn {
         layout,
         contents,
         covered,
+        heights,
         tops,
     })
 }
@@ -130,14 +133,18 @@ pub fn last_beneath(entry: &Node) -> usize {
     }
 }
 
+/// The number at this place, or 0 where there is none.
+fn number_at(numbers: &[u32], place: usize) -> u32 {
+    match numbers.get(place) {
+        Some(number) => *number,
+        None => 0,
+    }
+}
+
 impl Drawn<'_> {
     /// Where the box of the entry with this number begins.
     pub fn top(&self, number: usize) -> u32 {
-        let top = match self.tops.get(number) {
-            Some(top) => *top,
-            None => 0,
-        };
-        top.saturating_add(LINE + GAP)
+        number_at(&self.tops, number)
     }
 
     /// Where lines meet the box of the entry with this number.
@@ -147,7 +154,10 @@ impl Drawn<'_> {
 
     /// How high the box of an entry is, with those beneath it.
     pub fn height(&self, entry: &Node) -> u32 {
-        let end = self.top(last_beneath(entry).saturating_add(1));
+        let last = last_beneath(entry);
+        let end = self
+            .top(last)
+            .saturating_add(number_at(&self.heights, last));
         end.saturating_sub(self.top(entry.number))
             .saturating_sub(GAP)
     }
@@ -155,7 +165,7 @@ impl Drawn<'_> {
     /// How high all of it is.
     pub fn whole_height(&self) -> u32 {
         match self.tops.last() {
-            Some(end) => end.saturating_add(LINE + GAP),
+            Some(end) => *end,
             None => 0,
         }
     }

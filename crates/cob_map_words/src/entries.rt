@@ -91,7 +91,7 @@ impl fmt::Display for TitleText<'_> {
         let Spot { offset, length, .. } = self.spot;
         write!(
             f,
-            "{}, {kind}, offset {offset}, {length} bytes, line {}",
+            "{}, {kind}, offset {offset}, length {length}, line {}",
             self.text, entry.line
         )
     }

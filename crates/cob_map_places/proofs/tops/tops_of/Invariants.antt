@@ -1,10 +1,6 @@
-use Rattle.std.proofs.Common.{◌≡◌, ◌<◌, ℕ, length, get_or, min, take}
-use Rattle.std.specs.List.{sum}
-use Rattle.cob_map_places.specs.Tops.{greatest_top}
+use Rattle.std.proofs.Common.{ℕ, List, ◌++◌, drop}
+use Rattle.cob_map_places.specs.Tops.{AreTops}
 use Rattle.cob_map_places.proofs.tops.tops_of.Given as goal
 
 abbrev pub invariant-loop-height : goal.invariant-loop-height
-invariant-loop-height l =
-    (length l.tops.items ≡ l.height-index)
-    × (l.top ≡ min (sum (take l.height-index l.heights)) greatest_top)
-    × ((k : ℕ) → k < l.height-index → get_or l.tops.items k 0 ≡ min (sum (take k l.heights)) greatest_top)
+invariant-loop-height l = (later : List ℕ) → AreTops l.end (drop l.height-index l.heights) later → AreTops l.first l.heights (l.tops.items ++ later)
