@@ -1,2 +1,3 @@
 mod EndLemmas
+mod LosingLemmas
 mod Numbering

@@ -9,6 +9,7 @@
 //! - the record that is shown is the one with its number, and what stands beside it is what a conversion makes of it ([`converted_record`]: `FindsRecord` and
 //!   `ShowsRecord` of specs/Numbered.antt);
 //! - the bytes that are marked as covered are those of the output record that receivers cover (`IsByteCovered` of `cob_cover`);
+//! - what is said that a single move may lose is what it may lose (`AreAllLosses` of specs/Losing.antt, by `cob_move_losses`);
 //! - which faults the command can have (`MayEndMap` of specs/Ends.antt), and that it ends with the status of what it came to, or as where a device failed
 //!   if its last line was not printed; a record that the file has not ends it as a malformed command line (`EndsMap`).
 //!

@@ -4,6 +4,7 @@ ghost use Rattle.std.specs.Prelude.{◌≡◌, ◌<◌, IfErr, IfOk, length};
 ghost use Rattle.cob_convert_record.specs.Conversion.{in_length, out_length};
 ghost use Rattle.cob_cover.specs.Covered.{AreMarks, IsByteCovered};
 ghost use Rattle.cob_command_map.specs.Ends.{MayNotMap};
+ghost use Rattle.cob_command_map.specs.Losing.{AreAllLosses};
 
 use crate::ends::Unmapped;
 use crate::losses::losses_in;
@@ -201,6 +202,7 @@ fn print_marked<'a, R: AllocGlobal + Files + Input + Print>(
 ) -> Result<(), Unmapped>
     requires record { 0 < asked.entry.record }
     requires covered { AreMarks (IsByteCovered moves.now) covered.now }
+    requires losses { AreAllLosses moves.now.layouts moves.now.statements.now losses.now }
     ensures { IfErr result MayNotMap }
 {
     let mapping = Mapping {
