@@ -8,8 +8,8 @@ use crate::joined::ends_of;
 use crate::lines::write_line;
 use crate::lists::{write_move, write_runs};
 use crate::style::{
-    BARE_HEAD, DRAWING_END, HEAD, KEY, LINES_END, LINES_HEAD, MOVES_HEAD, PAGE_END, SIDE_HEAD,
-    STYLE,
+    BARE_HEAD, DRAWING_END, HEAD, KEY, LINES_END, LINES_HEAD, LIST_END, MOVES_HEAD, PAGE_END,
+    SIDE_HEAD, STYLE,
 };
 use cob_html::Escaped;
 use cob_layout::{Layout, Spot};
@@ -292,13 +292,21 @@ fn write_drawing<W: fmt::Write>(f: &mut fmt::Formatter<W>, page: &Page<'_>) -> f
     f.write_str(DRAWING_END)
 }
 
-/// Writes the lists below the drawing, and the page's end.
-fn write_lists<W: fmt::Write>(f: &mut fmt::Formatter<W>, page: &Page<'_>) -> fmt::Result {
+/// Writes the list of moves.
+fn write_moves<W: fmt::Write>(f: &mut fmt::Formatter<W>, page: &Page<'_>) -> fmt::Result {
     f.write_str(MOVES_HEAD)?;
     write_joined(f, page, Writing::Row)?;
+    f.write_str(LIST_END)
+}
+
+/// Writes the list of bytes that no receiver covers, where there are some.
+fn write_bare_bytes<W: fmt::Write>(f: &mut fmt::Formatter<W>, page: &Page<'_>) -> fmt::Result {
+    if count_bare(page.mapping.covered) == 0 {
+        return Ok(());
+    }
     f.write_str(BARE_HEAD)?;
     write_runs(f, page.output())?;
-    f.write_str(PAGE_END)
+    f.write_str(LIST_END)
 }
 
 impl fmt::Display for Page<'_> {
@@ -308,6 +316,8 @@ impl fmt::Display for Page<'_> {
         write_summary(f, &self.mapping)?;
         f.write_str(KEY)?;
         write_drawing(f, self)?;
-        write_lists(f, self)
+        write_moves(f, self)?;
+        write_bare_bytes(f, self)?;
+        f.write_str(PAGE_END)
     }
 }

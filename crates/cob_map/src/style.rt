@@ -60,8 +60,9 @@ td,th{font-size:10px;padding-right:6px}
 .b .n{flex:1 0 100%}
 .t{flex:1 1 0;margin-left:0}
 .g .t{display:block;visibility:hidden}
-.m{order:1}
+.m{margin:0 1ch 0 0}
 .o{flex-basis:5ch}
+.h .o{flex-basis:7ch;margin-left:0}
 .v{font-size:9px}
 }
 @page{size:1123px 794px;margin:38px}
@@ -112,13 +113,15 @@ pub(crate) const MOVES_HEAD: &str = "<h2>Moves</h2>
 <table><tr><th>line</th><th>from</th><th>to</th><th>moves</th><th>may lose</th></tr>
 ";
 
-/// What stands between the lists.
-pub(crate) const BARE_HEAD: &str = "</table>
-<h2>Bytes that no receiver covers</h2>
-<table><tr><th>offset</th><th>bytes</th><th>from item</th></tr>
+/// What stands in front of the list of bytes that no receiver covers.
+pub(crate) const BARE_HEAD: &str = "<h2>Bytes that no receiver covers</h2>
+<table><tr><th>offset</th><th>length</th><th>from item</th></tr>
+";
+
+/// The end of a list.
+pub(crate) const LIST_END: &str = "</table>
 ";
 
 /// The end of the page.
-pub(crate) const PAGE_END: &str = "</table>
-</body></html>
+pub(crate) const PAGE_END: &str = "</body></html>
 ";

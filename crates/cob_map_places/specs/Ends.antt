@@ -1,5 +1,5 @@
 -- What single moves join.
-use Rattle.std.specs.Prelude.{◌≡◌, ◌==◌, ◌&&◌, ◌<◌, ⊥, ℕ, Bool, false, List, Option, None, Some, length, get_or, slice_index_or}
+use Rattle.std.specs.Prelude.{◌≡◌, ◌==◌, ◌&&◌, ◌<◌, ℕ, Bool, false, List, Option, None, Some, length, get_or, slice_index_or}
 use Rattle.std.specs.List.{count_by}
 use Rattle.cob_map_places.specs.declared.ends.Ends.{Ends}
 use Rattle.cob_map_places.specs.declared.ends.Origin.{Origin}

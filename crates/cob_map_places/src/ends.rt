@@ -31,7 +31,8 @@ fn tally(alloc: Global, singles: &[Ends]) -> Result<IndexMap<Ends, usize>, Alloc
 {
     let mut counts = IndexMap::new(alloc);
     for single in singles {
-        *counts.entry(*single)?.or_insert(0) += 1;
+        let earlier = counts.get(single).copied().unwrap_or(0);
+        counts.insert(*single, earlier + 1)?;
     }
     Ok(counts)
 }
