@@ -146,7 +146,8 @@ pub told_stopped : (conversion : Conversion) (number opened after count : ℕ) (
     → StopsConverting conversion (take count slice) number fault
     → Told r1 r2 (ReadsRecord conversion.in_form conversion.records.input opened slice (Ok (Some count)) after) → Told r1 r2 (ConvertsNext conversion number opened slice (Err fault))
 told_stopped conversion number opened after count slice fault r1 r2 stop reads =
-    told_so r1 r2 _ _ reads (λ bytes rest q. (stop.names,
+    told_so r1 r2 _ _ reads (λ bytes rest q. (
+      stop.names,
       InConversion (record {
         input = take count slice;
         stop = stop.stop;
@@ -154,7 +155,8 @@ told_stopped conversion number opened after count slice fault r1 r2 stop reads =
         sized = q.0.sized;
         stops = stop.stops;
         reason = stop.reason;
-      })))
+      }),
+    ))
 
 -- ---- the record with a number
 

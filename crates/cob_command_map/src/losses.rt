@@ -9,8 +9,8 @@ ghost use Rattle.cob_command_map.specs.Losing.{AddsEach, AddsLosses, AreAllLosse
 
 use cob_layout::Layout;
 use cob_layout_places::{NumberedPair, Ref, Sender, Side, StatementMoves};
-use cob_move_lossless::{Layouts, MovesBetween};
 use cob_move_losses::{Losses, losses_of};
+use cob_move_lossless::{Layouts, MovesBetween};
 use cob_move_receive::SenderKind;
 use std::alloc::{AllocError, Global};
 

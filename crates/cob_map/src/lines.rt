@@ -9,10 +9,10 @@ use cob_move_losses::Losses;
 use std::fmt;
 
 /// Where the first of the lines of senders of the output record turns, in hundredths of the drawing's width; each next one turns further to the left.
-const TURN: u32 = 90;
+const TURN: u32 = 95;
 
 /// How far it is from one turn to the next.
-const TURN_STEP: u32 = 6;
+const TURN_STEP: u32 = 2;
 
 /// In how many places lines turn.
 const TURNS: usize = 7;

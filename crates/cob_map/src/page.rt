@@ -14,7 +14,7 @@ use crate::style::{
 use cob_html::Escaped;
 use cob_layout::{Layout, Spot};
 use cob_layout_places::StatementMoves;
-use cob_lossless_words::{Named, Single, singles_of};
+use cob_lossless_words::{Named, Sent, Single, singles_of};
 use cob_map_boxes::{Contents, Drawn, draw, write_boxes};
 use cob_map_places::{SHEET, counts_of};
 use cob_move_losses::Losses;
@@ -151,11 +151,31 @@ impl<'a> Page<'a> {
     }
 }
 
-/// How a line or a row of single moves that join the same is written: by the first of them, how many they are, and what they may lose.
+/// What is written of single moves that join the same, at the first of them: the line from an entry, the line from a constant, whose text lies over the
+/// other lines, or a row of the list.
 #[derive(Clone, Copy, PartialEq, Eq)]
 enum Writing {
-    Line,
+    EntryLine,
+    ConstantLine,
     Row,
+}
+
+/// Writes one of these of single moves, of which this is the first.
+fn write_one<'a, W: fmt::Write>(
+    f: &mut fmt::Formatter<W>,
+    page: &Page<'a>,
+    writing: Writing,
+    single: Single<'a>,
+    count: usize,
+    losses: Losses,
+) -> fmt::Result {
+    match (writing, single.sent) {
+        (Writing::Row, _) => write_move(f, page, single, count, losses),
+        (Writing::EntryLine, Sent::Entry { .. }) | (Writing::ConstantLine, Sent::Constant(_)) => {
+            write_line(f, page, single, count, losses)
+        }
+        _ => Ok(()),
+    }
 }
 
 /// What single moves that join the same may lose, of which this is the first.
@@ -171,7 +191,7 @@ fn losses_at(losses: &[Losses], at: usize) -> Losses {
     }
 }
 
-/// Writes a line or a row for the single moves that join the same, at the first of them.
+/// Writes one of these for the single moves that join the same, at the first of them.
 fn write_joined<W: fmt::Write>(
     f: &mut fmt::Formatter<W>,
     page: &Page<'_>,
@@ -181,10 +201,7 @@ fn write_joined<W: fmt::Write>(
     for (at, (single, count)) in joins.singles.iter().zip(joins.counts.iter()).enumerate() {
         if let Some(count) = count {
             let losses = losses_at(page.mapping.losses, at);
-            match writing {
-                Writing::Line => write_line(f, page, *single, *count, losses)?,
-                Writing::Row => write_move(f, page, *single, *count, losses)?,
-            }
+            write_one(f, page, writing, *single, *count, losses)?;
         }
     }
     Ok(())
@@ -286,7 +303,8 @@ fn write_drawing<W: fmt::Write>(f: &mut fmt::Formatter<W>, page: &Page<'_>) -> f
     )?;
     write_side(f, page.input(), "in")?;
     f.write_str(LINES_HEAD)?;
-    write_joined(f, page, Writing::Line)?;
+    write_joined(f, page, Writing::EntryLine)?;
+    write_joined(f, page, Writing::ConstantLine)?;
     f.write_str(LINES_END)?;
     write_side(f, page.output(), "out")?;
     f.write_str(DRAWING_END)

@@ -32,7 +32,7 @@ p{margin:4px 0}
 .n{flex:1 1 auto;overflow:hidden;text-overflow:ellipsis}
 .g .n{font-weight:bold}
 .m{flex:none;margin-left:1ch;color:#b3261e}
-.t{flex:0 1 auto;overflow:hidden;text-overflow:ellipsis;margin:0 1ch;color:#456}
+.t{flex:0 20 auto;overflow:hidden;text-overflow:ellipsis;margin:0 1ch;color:#456}
 .g .t{display:none}
 .o{flex:0 0 6ch;text-align:right;margin-left:1ch}
 .v{height:15px;line-height:15px;white-space:pre;overflow:hidden;text-overflow:ellipsis}
@@ -41,10 +41,11 @@ p{margin:4px 0}
 .z{fill:#e58b82}
 .lines{position:absolute;top:0;left:40%;width:20%;height:100%;overflow:visible}
 .lines line{stroke:#2f5f8a;stroke-width:1.2;marker-end:url(#a)}
-.lines .c line{stroke:#b3261e;stroke-dasharray:5 3;stroke-width:1.6}
+.lines .c line{stroke:#b3261e;stroke-dasharray:5 3;stroke-width:1.6;marker-end:url(#c)}
 .lines .p line{marker-end:none}
 .lines g:hover line{stroke-width:3}
-text,marker{fill:#2f5f8a}
+text,#a{fill:#2f5f8a}
+#c{fill:#b3261e}
 text{paint-order:stroke;stroke:#fff;stroke-width:4px}
 table{border-collapse:collapse}
 th{text-align:left;font-size:11px;padding:0 12px 0 0}
@@ -68,6 +69,9 @@ td,th{font-size:10px;padding-right:6px}
 @page{size:1123px 794px;margin:38px}
 @media print{
 body{margin:0;-webkit-print-color-adjust:exact;print-color-adjust:exact}
+.b,.h,text,td{font-size:10px}
+.side{width:43%}
+.lines{left:43%;width:14%}
 .scroll{overflow:visible}
 .map{margin-top:0;break-inside:avoid}
 .long{break-before:page;break-inside:auto}
@@ -97,6 +101,7 @@ pub(crate) const SIDE_HEAD: &str =
 /// What stands in front of the lines.
 pub(crate) const LINES_HEAD: &str = "<svg class=\"lines\"><defs>
 <marker id=\"a\" viewBox=\"0 0 8 8\" refX=\"8\" refY=\"4\" markerWidth=\"7\" markerHeight=\"7\" orient=\"auto\"><path d=\"M0 0L8 4L0 8z\"/></marker>
+<marker id=\"c\" viewBox=\"0 0 8 8\" refX=\"8\" refY=\"4\" markerWidth=\"7\" markerHeight=\"7\" orient=\"auto\"><path d=\"M0 0L8 4L0 8z\"/></marker>
 </defs>
 ";
 

@@ -117,6 +117,7 @@ tally_more singles i d n counts next within is updates so_far q = by (same (get_
   where
     one : Ends
     one = get_or singles i d
+
     by : (b : Bool) → same (get_or singles i d) q ≡ b → unwrap_or (next q) 0 ≡ count_by (same q) (take (i + 1) singles)
     by true here =
         ap (λ (o : Option ℕ). unwrap_or o 0) (updates q ∙ ap (λ (x : Bool). cond x (Some (n + 1)) (counts q)) here)
@@ -142,8 +143,8 @@ count_next : (singles : List Ends) (i : ℕ) (d : Ends) (r : Option ℕ) (left :
 count_next singles i d None left within is taken others = λ first.
     let one = get_or singles i d in
     let none : list_any (same one) (take i singles) ≡ false = none_any (same one) (take i singles) (λ k e below.
-      let low : k < i = omega (arith, below, length-take-le i singles (omega (arith, within))) in
-      ap (same one) (get_or-take i singles k e low) ∙ subst (λ (x : Ends). same x (get_or singles k e) ≡ false) (at_any singles i e d within) (first.none k e low)) in
+    let low : k < i = omega (arith, below, length-take-le i singles (omega (arith, within))) in
+    ap (same one) (get_or-take i singles k e low) ∙ subst (λ (x : Ends). same x (get_or singles k e) ≡ false) (at_any singles i e d within) (first.none k e low)) in
     let zero_count : 0 ≡ count_by (same one) singles = ap (λ (o : Option ℕ). unwrap_or o 0) is ∙ others one none in
     absurd (omega (arith, zero_count, count_some (same one) singles i d within (same_itself one)))
   where
@@ -159,16 +160,20 @@ count_next singles i d (Some count) left within is taken others = by (list_any (
         is_there : Option ℕ → Bool
         is_there None = false
         is_there (Some n) = true
+
     at_any : (xs : List Ends) (n : ℕ) (a b : Ends) → n < length xs → get_or xs n a ≡ get_or xs n b
     at_any [] n a b low = absurd (omega (arith, low))
     at_any (x ∷ xs) zero a b low = refl
     at_any (x ∷ xs) (suc n) a b low = at_any xs n a b (omega (arith, low))
+
     by : (b : Bool) → list_any (same (get_or singles i d)) (take i singles) ≡ b → IsCount singles i (Some count)
     by true there = absurd (some_none (left (get_or singles i d)) is (taken (get_or singles i d) there))
     by false none = (
-      record { none = λ k e low. subst (λ (x : Ends). same x (get_or singles k e) ≡ false) (at_any singles i d e within)
-          (ap (same (get_or singles i d)) (sym (get_or-take i singles k e low))
-          ∙ none_of (same (get_or singles i d)) (take i singles) k e none (omega (arith, low, length-take-le i singles (omega (arith, within))))) },
+      record {
+        none = λ k e low. subst (λ (x : Ends). same x (get_or singles k e) ≡ false) (at_any singles i d e within)
+            (ap (same (get_or singles i d)) (sym (get_or-take i singles k e low))
+            ∙ none_of (same (get_or singles i d)) (take i singles) k e none (omega (arith, low, length-take-le i singles (omega (arith, within)))));
+      },
       λ e. ap (λ (o : Option ℕ). unwrap_or o 0) is ∙ others (get_or singles i d) none
           ∙ ap (λ (x : Ends). count_by (same x) singles) (at_any singles i d e within),
     )
@@ -192,14 +197,17 @@ so_far_more singles i d counts r left next within is updates so_far = record {
       where
         same_place : (n : ℕ) → n < i + 1 → i ≤ n → n ≡ i
         same_place n low up = omega (arith, low, up)
+
     now : (q : Ends) (b here : Bool) → same (get_or singles i d) q ≡ b → list_any (same q) (take i singles) ≡ here → list_any (same q) (take (i + 1) singles) ≡ (here || b)
     now q b here one before = list_any_more (same q) singles i d within ∙ ap (λ (x : Bool). x || same q (get_or singles i d)) before
         ∙ ap (λ (x : Bool). here || x) (same_symm q (get_or singles i d) ∙ one)
+
     taken : (q : Ends) (b : Bool) → same (get_or singles i d) q ≡ b → (here : Bool) → list_any (same q) (take i singles) ≡ here
         → list_any (same q) (take (i + 1) singles) ≡ true → next q ≡ None
     taken q true one here before there = updates q ∙ ap (λ (x : Bool). cond x None (left q)) one
     taken q false one true before there = updates q ∙ ap (λ (x : Bool). cond x None (left q)) one ∙ so_far.taken q before
     taken q false one false before there = absurd (true≢false (sym there ∙ now q false false one before))
+
     others : (q : Ends) (b : Bool) → same (get_or singles i d) q ≡ b → (here : Bool) → list_any (same q) (take i singles) ≡ here
         → list_any (same q) (take (i + 1) singles) ≡ false → unwrap_or (next q) 0 ≡ count_by (same q) singles
     others q true one true before none = absurd (true≢false (sym (now q true true one before) ∙ none))

@@ -10,4 +10,4 @@ pub tops_more : (first end top next : ℕ) (heights items pushed : List ℕ) (i 
 tops_more first end top next heights items pushed i d within begins is push so_far later tops =
     subst (AreTops first heights) (sym (append_assoc items (top ∷ []) later) ∙ ap (λ (l : List ℕ). l ++ later) (sym push))
     (so_far (top ∷ later) (subst (λ (hs : List ℕ). AreTops end hs (top ∷ later)) (sym (drop_more heights i d within))
-      (top, later, refl, begins, subst (λ (n : ℕ). AreTops n (drop (i + 1) heights) later) is tops)))
+    (top, later, refl, begins, subst (λ (n : ℕ). AreTops n (drop (i + 1) heights) later) is tops)))

@@ -13,4 +13,4 @@ overflow_add-earlier c =
     let low : c.unwrap_or-earlier.result ≤ c.loop-single.single-index =
     tally_small c.args.singles.now c.loop-single.single-index _ c.unwrap_or-earlier.result c.copied.result c.loop-single.counts c.loop-single-test.true
     (c.copied.ensures ∙ c.get.ensures.value) c.unwrap_or-earlier.ensures c.loop-single.invariant in
-    omega (arith, low, c.loop-single-test.true)
+    grind (arith, common_steps, low, c.loop-single-test.true)
