@@ -1,10 +1,15 @@
 -- What is said of single moves, one behind another.
-use Rattle.std.proofs.Common.{◌≡◌, ◌∙◌, ℕ, ◌+◌, ◌<◌, List, [], ◌∷◌, ◌++◌, length, drop, get_or, refl, sym, ap, subst, append_assoc, append-nil, None, Some, Option, IfSome, IfNone}
+use Rattle.std.proofs.Common.{◌≡◌, ◌∙◌, ℕ, zero, suc, ◌+◌, ◌<◌, List, [], ◌∷◌, ◌++◌, length, drop, get_or, slice_get, is_some, refl, sym, ap, subst, true≢false, arith, append_assoc, append-nil, None, Some, Option, IfSome, IfNone}
 use Rattle.std.proofs.lemmas.List.{drop_more}
 use Rattle.std.specs.Option.{unwrap_or}
-use Rattle.cob_copybook_tree.specs.Forests.{Forest}
+use Rattle.cob_copybook_tree.specs.Forests.{Forest, entries_in}
 use Rattle.cob_copybook_tree.specs.Nodes.{Resolved}
 use Rattle.cob_copybook_tree.specs.declared.node.Kind.{Kind}
+use Rattle.cob_layout.specs.Counting.{greatest_counts}
+use Rattle.cob_layout_places.proofs.SpotLemmas.{length_spots}
+use Rattle.cob_layout_places.specs.Counts.{kind_in}
+use Rattle.cob_layout_places.specs.Lengths.{times}
+use Rattle.cob_layout_places.specs.Spots.{spots_of}
 use Rattle.cob_layout_places.specs.declared.operands.NumberedPair.{NumberedPair}
 use Rattle.cob_layout_places.specs.declared.operands.Sender.{Sender}
 use Rattle.cob_layout_places.specs.declared.operands.Sender.TheVariants as sender
@@ -64,6 +69,30 @@ pub told_to : (g r : Given) (tree : Forest Resolved) (number : ℕ) (losses : Lo
 told_to g r tree number losses (kind, is, stands) told = λ to room other.
     subst (λ (k : Kind). Tells (sender_kind g.kind) g.bytes k room losses) (one_kind tree number kind to r.bytes room stands other)
     (subst (λ (n : ℕ). Tells (sender_kind g.kind) g.bytes kind n losses) (one_length tree number kind to r.bytes room stands other) (told kind is))
+
+-- ---- entries by their numbers
+
+nothing : {X : Type 0} (x : X) → ◌≡◌ {A = Option X} None (Some x) → ⊥
+nothing x is = true≢false (sym (ap (λ (o : Option _). is_some o) is))
+
+got_within : {X : Type 0} (xs : List X) (i : ℕ) (x : X) → slice_get xs i ≡ Some x → i < length xs
+got_within [] i x is = absurd (nothing x is)
+got_within (y ∷ xs) zero x is = omega arith
+got_within (y ∷ xs) (suc i) x is = let low = got_within xs i x is in omega (arith, low)
+
+-- an entry that has a spot is one of the record
+pub entry_within : (tree : Forest Resolved) (c : Resolved → ℕ) (number : ℕ) (s : Spot) → slice_get (spots_of c tree 0 0) number ≡ Some s → number < entries_in tree
+entry_within tree c number s is = omega (arith, got_within (spots_of c tree 0 0) number s is, length_spots c tree 0 0)
+
+-- what stands at a spot is sent
+pub sent_at : (tree : Forest Resolved) (number : ℕ) (from : SenderKind) (kind : Kind) (s : Spot) (bytes : ℕ) → slice_get (spots_of (times (greatest_counts tree)) tree 0 0) number ≡ Some s
+    → kind_in number tree ≡ Some kind → from ≡ Entry kind → bytes ≡ s.length → IsEntrySent tree number from bytes
+sent_at tree number from kind s bytes spot described is long = (kind, is, record { spot = s; described = described; stands = spot; long = long })
+
+-- where there is no spot, there is no such entry
+pub none_at : (tree : Forest Resolved) (number : ℕ) → slice_get (spots_of (times (greatest_counts tree)) tree 0 0) number ≡ None
+    → (kind : Kind) (bytes : ℕ) → StandsAs tree number kind bytes → ⊥
+none_at tree number none kind bytes stands = nothing stands.spot (sym none ∙ stands.stands)
 
 -- ---- all of them
 
