@@ -1,4 +1,3 @@
-use Rattle.std.proofs.Common.{slice_index}
 use Rattle.cob_map_places.proofs.TopLemmas.{tops_more}
 use Rattle.cob_map_places.proofs.tops.tops_of.Goals as goal
 
