@@ -1,6 +1,6 @@
 -- What is said of single moves, one behind another.
-use Rattle.std.proofs.Common.{◌≡◌, ◌∙◌, ℕ, zero, suc, ◌+◌, ◌<◌, List, [], ◌∷◌, ◌++◌, length, drop, get_or, slice_get, is_some, refl, sym, ap, subst, true≢false, arith, append_assoc, append-nil, None, Some, Option, IfSome, IfNone}
-use Rattle.std.proofs.lemmas.List.{drop_more}
+use Rattle.std.proofs.Common.{◌≡◌, ◌∙◌, ℕ, zero, suc, ◌+◌, ◌<◌, ◌≤◌, List, [], ◌∷◌, ◌++◌, length, drop, get_or, slice_get, is_some, refl, sym, ap, subst, true≢false, arith, append_assoc, append-nil, None, Some, Option, IfSome, IfNone}
+use Rattle.std.proofs.lemmas.List.{drop_all, drop_more}
 use Rattle.std.specs.Option.{unwrap_or}
 use Rattle.cob_copybook_tree.specs.Forests.{Forest, entries_in}
 use Rattle.cob_copybook_tree.specs.Nodes.{Resolved}
@@ -104,17 +104,17 @@ each_so P Q f (x ∷ xs) all (one, later, is, p, each) = (one, later, is, f x on
 pub each_begun : {X : Type 0} (P : X → Losses → Type 0) (xs : List X) (before : List Losses) → (rest : List Losses) → AreEach P xs rest → AddsEach P xs before (before ++ rest)
 each_begun P xs before rest each = (rest, refl, each)
 
-pub each_more : {X : Type 0} (P : X → Losses → Type 0) (xs : List X) (i : ℕ) (d : X) (one : Losses) (before items : List Losses) → i < length xs → P (get_or xs i d) one
-    → ((rest : List Losses) → AreEach P (drop i xs) rest → AddsEach P xs before (items ++ rest))
-    → (rest : List Losses) → AreEach P (drop (i + 1) xs) rest → AddsEach P xs before ((items ++ one ∷ []) ++ rest)
-each_more P xs i d one before items within p so_far rest each =
-    subst (AddsEach P xs before) (sym (append_assoc items (one ∷ []) rest))
-    (so_far (one ∷ rest) (subst (λ (ys : List X). AreEach P ys (one ∷ rest)) (sym (drop_more xs i d within)) (one, rest, refl, p, each)))
+pub each_more : {X : Type 0} (P : X → Losses → Type 0) (xs : List X) (i : ℕ) (d : X) (one : Losses) (before items pushed : List Losses) → i < length xs → P (get_or xs i d) one
+    → pushed ≡ items ++ one ∷ [] → ((rest : List Losses) → AreEach P (drop i xs) rest → AddsEach P xs before (items ++ rest))
+    → (rest : List Losses) → AreEach P (drop (i + 1) xs) rest → AddsEach P xs before (pushed ++ rest)
+each_more P xs i d one before items pushed within p push so_far rest each =
+    subst (AddsEach P xs before) (sym (append_assoc items (one ∷ []) rest) ∙ ap (λ (l : List Losses). l ++ rest) (sym push))
+    (so_far (one ∷ rest) (subst (λ (ys : List _). AreEach P ys (one ∷ rest)) (sym (drop_more xs i d within)) (one, rest, refl, p, each)))
 
-pub each_done : {X : Type 0} (P : X → Losses → Type 0) (xs : List X) (i : ℕ) (before items : List Losses) → drop i xs ≡ []
+pub each_done : {X : Type 0} (P : X → Losses → Type 0) (xs : List X) (i : ℕ) (before items : List Losses) → length xs ≤ i
     → ((rest : List Losses) → AreEach P (drop i xs) rest → AddsEach P xs before (items ++ rest)) → AddsEach P xs before items
 each_done P xs i before items end so_far =
-    subst (AddsEach P xs before) (append-nil items) (so_far [] (subst (λ (ys : List X). AreEach P ys []) (sym end) refl))
+    subst (AddsEach P xs before) (append-nil items) (so_far [] (subst (λ (ys : List _). AreEach P ys []) (sym (drop_all i xs end)) refl))
 
 -- ---- statements
 
@@ -125,7 +125,7 @@ statements_more layouts xs i d items now within (added, is, said) so_far rest al
     subst (AreAllLosses layouts xs) (sym (append_assoc items added rest) ∙ ap (λ (l : List Losses). l ++ rest) (sym is))
     (so_far (added ++ rest) (subst (λ (ys : List StatementMoves). AreAllLosses layouts ys (added ++ rest)) (sym (drop_more xs i d within)) (added, rest, refl, said, all)))
 
-pub statements_done : (layouts : Layouts) (xs : List StatementMoves) (i : ℕ) (items : List Losses) → drop i xs ≡ []
+pub statements_done : (layouts : Layouts) (xs : List StatementMoves) (i : ℕ) (items : List Losses) → length xs ≤ i
     → ((rest : List Losses) → AreAllLosses layouts (drop i xs) rest → AreAllLosses layouts xs (items ++ rest)) → AreAllLosses layouts xs items
 statements_done layouts xs i items end so_far =
-    subst (AreAllLosses layouts xs) (append-nil items) (so_far [] (subst (λ (ys : List StatementMoves). AreAllLosses layouts ys []) (sym end) refl))
+    subst (AreAllLosses layouts xs) (append-nil items) (so_far [] (subst (λ (ys : List StatementMoves). AreAllLosses layouts ys []) (sym (drop_all i xs end)) refl))

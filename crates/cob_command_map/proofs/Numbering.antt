@@ -102,10 +102,12 @@ told_before conversion total count opened after now slice why fault r0 r1 r2 bel
     })
 
 -- all of them came
-pub told_all : (conversion : Conversion) (total opened : ℕ) (r0 r1 : Option (List ℕ)) → Told r0 r1 (HavePassed conversion total opened)
+pub told_all : (conversion : Conversion) (total count opened : ℕ) (r0 r1 : Option (List ℕ)) → count ≡ total → Told r0 r1 (HavePassed conversion count opened)
     → Told r0 r1 (PassesSoMany conversion total opened (Ok total))
-told_all conversion total opened r0 r1 passed =
-    told_so r0 r1 _ _ passed (λ bytes rest p. ((λ all. p), (λ fewer. absurd (omega (arith, fewer)))))
+told_all conversion total count opened r0 r1 is passed = told_so r0 r1 _ _ passed (λ bytes rest p. (
+  (λ all. subst (λ (n : ℕ). HavePassed conversion n opened bytes rest) is p),
+  (λ fewer. absurd (omega (arith, fewer))),
+))
 
 -- ---- the one behind them
 

@@ -1,11 +1,6 @@
-use Rattle.std.proofs.Common.{◌≡◌, length}
 use Rattle.cob_records.specs.Device.{Told}
-use Rattle.cob_convert_record.specs.Conversion.{in_length}
 use Rattle.cob_command_map.specs.Numbered.{HavePassed}
 use Rattle.cob_command_map.proofs.record.pass_over.Given as goal
 
 abbrev pub invariant-loop-passed : goal.invariant-loop-passed
-invariant-loop-passed g l = record {
-  room : length l.input ≡ in_length l.conversion;
-  passed : Told (g.S.Source.coming l.initial.source) (g.S.Source.coming l.source) (HavePassed l.conversion l.passed l.left);
-}
+invariant-loop-passed g l = Told (g.S.Source.coming l.initial.source) (g.S.Source.coming l.source) (HavePassed l.conversion l.passed l.left)
