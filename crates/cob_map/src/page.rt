@@ -153,7 +153,7 @@ impl<'a> Page<'a> {
 
 /// What is written of single moves that join the same, at the first of them: the line from an entry, the line from a constant, whose text lies over the
 /// other lines, or a row of the list.
-#[derive(Clone, Copy, PartialEq, Eq)]
+#[derive(Clone, Copy)]
 enum Writing {
     EntryLine,
     ConstantLine,
@@ -178,19 +178,6 @@ fn write_one<'a, W: fmt::Write>(
     }
 }
 
-/// What single moves that join the same may lose, of which this is the first.
-fn losses_at(losses: &[Losses], at: usize) -> Losses {
-    match losses.get(at) {
-        Some(losses) => *losses,
-        None => Losses {
-            before: false,
-            behind: false,
-            characters: false,
-            sign: false,
-        },
-    }
-}
-
 /// Writes one of these for the single moves that join the same, at the first of them.
 fn write_joined<W: fmt::Write>(
     f: &mut fmt::Formatter<W>,
@@ -198,10 +185,10 @@ fn write_joined<W: fmt::Write>(
     writing: Writing,
 ) -> fmt::Result {
     let joins = &page.joins;
-    for (at, (single, count)) in joins.singles.iter().zip(joins.counts.iter()).enumerate() {
+    let losses = page.mapping.losses.iter();
+    for ((single, count), losses) in joins.singles.iter().zip(joins.counts.iter()).zip(losses) {
         if let Some(count) = count {
-            let losses = losses_at(page.mapping.losses, at);
-            write_one(f, page, writing, *single, *count, losses)?;
+            write_one(f, page, writing, *single, *count, *losses)?;
         }
     }
     Ok(())
