@@ -1,8 +1,8 @@
 #!/usr/bin/env python3
 """The lines that the rows of map.steps have to print: offsets, lengths, values, losses and what is covered are worked by hand below, by the rules; the text of
 the style and of the fixed parts alone is taken from the code (src/style.rt)."""
-import re, sys
-ROOT = "/work/mp/crates"
+import os, re
+ROOT = os.path.dirname(os.path.dirname(os.path.abspath(__file__))) + "/crates"
 style = open(f"{ROOT}/cob_map/src/style.rt").read()
 def const(name):
     m = re.search(r'const %s: &str =\s*"((?:[^"\\]|\\.)*)";' % name, style, re.S)
