@@ -59,6 +59,23 @@ pub(crate) fn class_of(losses: Losses) -> &'static str {
     }
 }
 
+/// Writes how many more single moves join the same, where there are some.
+fn write_more<W: fmt::Write>(f: &mut fmt::Formatter<W>, count: usize) -> fmt::Result {
+    if count > 1 {
+        let more = count - 1;
+        return write!(f, ", and {more} more");
+    }
+    Ok(())
+}
+
+/// Writes what may be lost, where something may.
+fn write_losses<W: fmt::Write>(f: &mut fmt::Formatter<W>, losses: Losses) -> fmt::Result {
+    if losses.are_none() {
+        return Ok(());
+    }
+    write!(f, ", may lose {losses}")
+}
+
 /// Writes what single moves are, of which this is the first.
 fn write_title<'a, W: fmt::Write>(
     f: &mut fmt::Formatter<W>,
@@ -73,13 +90,8 @@ fn write_title<'a, W: fmt::Write>(
     };
     let receiver = receiver_of(page, single);
     write!(f, "<title>line {}: {sent} to {receiver}", single.line)?;
-    if count > 1 {
-        let more = count - 1;
-        write!(f, ", and {more} more")?;
-    }
-    if !losses.are_none() {
-        write!(f, ", may lose {losses}")?;
-    }
+    write_more(f, count)?;
+    write_losses(f, losses)?;
     write!(f, "</title>")
 }
 
@@ -147,6 +159,29 @@ fn write_constant<W: fmt::Write>(
     )
 }
 
+/// Writes the line from what a single move sends to its receiver.
+fn write_shape<'a, W: fmt::Write>(
+    f: &mut fmt::Formatter<W>,
+    page: &Page<'a>,
+    single: Single<'a>,
+) -> fmt::Result {
+    let to = page.output().middle(single.receiver.number);
+    match single.sent {
+        Sent::Entry {
+            side: Side::In,
+            entry,
+        } => write_across(f, page.input().middle(entry.number), to),
+        Sent::Entry {
+            side: Side::Out,
+            entry,
+        } => {
+            let from = page.output().middle(entry.number);
+            write_back(f, turn_of(entry.number), from, to)
+        }
+        Sent::Constant(value) => write_constant(f, ConstantText { value }, to),
+    }
+}
+
 /// Writes the line of single moves that join the same, of which this is the first.
 pub(crate) fn write_line<'a, W: fmt::Write>(
     f: &mut fmt::Formatter<W>,
@@ -156,22 +191,8 @@ pub(crate) fn write_line<'a, W: fmt::Write>(
     losses: Losses,
 ) -> fmt::Result {
     let class = class_of(losses);
-    let to = page.output().middle(single.receiver.number);
     write!(f, "<g{class}>")?;
     write_title(f, page, single, count, losses)?;
-    match single.sent {
-        Sent::Entry {
-            side: Side::In,
-            entry,
-        } => write_across(f, page.input().middle(entry.number), to)?,
-        Sent::Entry {
-            side: Side::Out,
-            entry,
-        } => {
-            let from = page.output().middle(entry.number);
-            write_back(f, turn_of(entry.number), from, to)?;
-        }
-        Sent::Constant(value) => write_constant(f, ConstantText { value }, to)?,
-    }
+    write_shape(f, page, single)?;
     writeln!(f, "</g>")
 }
