@@ -2,7 +2,7 @@
 
 ghost use Rattle.std.specs.Prelude.{IfOk};
 ghost use Rattle.cob_map.specs.Joined.{ends_in};
-ghost use Rattle.cob_map_places.specs.Ends.{AreCounts};
+ghost use Rattle.cob_map_places.specs.Ends.{AreCountsAtFirsts};
 
 use crate::joined::ends_of;
 use crate::lines::write_line;
@@ -107,7 +107,7 @@ fn sides_of<'a>(alloc: Global, mapping: &Mapping<'a>) -> Result<Sides<'a>, Alloc
 
 /// Of each single move of statements how many join the same, where it is the first of them.
 fn counts_in(alloc: Global, statements: &[StatementMoves]) -> Result<Vec<Option<usize>>, AllocError>
-    ensures { IfOk result (λ counts. AreCounts (ends_in statements.now) counts.items) }
+    ensures { IfOk result (λ counts. AreCountsAtFirsts (ends_in statements.now) counts.items) }
 {
     let ends = ends_of(alloc, statements)?;
     counts_of(alloc, &ends)

@@ -26,6 +26,6 @@ IsCount singles at (Some count) = IsFirst singles at × ((d : Ends) → count �
 IsCount singles at None = IsFirst singles at → ⊥
 
 -- each of these says so of the single move at its place
-pub record AreCounts (singles : List Ends) (counts : List (Option ℕ)) : Type 0 where
+pub record AreCountsAtFirsts (singles : List Ends) (counts : List (Option ℕ)) : Type 0 where
   pub many : length counts ≡ length singles
   pub each : (at : ℕ) → at < length singles → IsCount singles at (get_or counts at None)

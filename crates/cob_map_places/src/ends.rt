@@ -4,7 +4,7 @@ ghost use Rattle.std.specs.Prelude.{◌≡◌, IfOk};
 ghost use Rattle.std.specs.List.{count_by};
 ghost use Rattle.std.specs.Option.{unwrap_or};
 ghost use Rattle.indexmap.specs.IndexMap.{get_by};
-ghost use Rattle.cob_map_places.specs.Ends.{AreCounts, same};
+ghost use Rattle.cob_map_places.specs.Ends.{AreCountsAtFirsts, same};
 
 use indexmap::IndexMap;
 use std::alloc::{AllocError, Global};
@@ -43,7 +43,7 @@ fn tally(alloc: Global, singles: &[Ends]) -> Result<IndexMap<Ends, usize>, Alloc
 ///
 /// Where no memory is left.
 pub fn counts_of(alloc: Global, singles: &[Ends]) -> Result<Vec<Option<usize>>, AllocError>
-    ensures { IfOk result (λ counts. AreCounts singles.now counts.items) }
+    ensures { IfOk result (λ counts. AreCountsAtFirsts singles.now counts.items) }
 {
     let mut left = tally(alloc, singles)?;
     let mut counts = Vec::new(alloc);

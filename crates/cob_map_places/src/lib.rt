@@ -6,7 +6,7 @@
 //!   (specs/Rulers.antt). A row has [`ROW`] bytes.
 //! - [`bare_length`] is how many bytes at the front of a piece of a record are not covered: by it a page goes from one run of such bytes to the next.
 //! - [`counts_of`] groups single moves by what they join: a line is drawn for the first one of those that join the same two, and says how many they are
-//!   (`AreCounts` of specs/Ends.antt).
+//!   (`AreCountsAtFirsts` of specs/Ends.antt).
 //!
 //! No sum wraps: a top past the greatest number of 32 bits is that number. The crate stands on std, and on `indexmap`, by which moves are grouped.
 #![tactic(auto)]
