@@ -16,7 +16,7 @@ use cob_command_lists::{do_layout, do_pieces, do_show};
 use cob_command_lossless::do_lossless;
 use cob_convert_line::{CheckLine, ConvertLine, Line, LineFault, line_of};
 use cob_command_manual::{do_completion, do_manual};
-use cob_convert_line::{ConvertLine, Line, LineFault, line_of};
+use cob_command_map::do_map;
 use cob_status::Status;
 use std::convert::AsStr;
 use std::io::{Eprint, Input, Print};
@@ -68,6 +68,7 @@ pub fn perform<R: AllocGlobal + Files + Input + Print + Eprint + Clock>(
         Line::Draft(line) => do_draft(rt, line).code(),
         Line::Completion => do_completion(rt).code(),
         Line::Manual => do_manual(rt).code(),
+        Line::Map(line) => do_map(rt, line).code(),
     }
 }
 
