@@ -15,9 +15,7 @@ use cob_command_job::do_job;
 use cob_command_lists::{do_layout, do_pieces, do_show};
 use cob_command_lossless::do_lossless;
 use cob_command_manual::{do_completion, do_manual};
-use cob_convert_line::{
-    CheckLine, ConvertLine, ConvertLine, Line, Line, LineFault, LineFault, line_of, line_of,
-};
+use cob_convert_line::{CheckLine, ConvertLine, Line, LineFault, line_of};
 use cob_status::Status;
 use std::convert::AsStr;
 use std::io::{Eprint, Input, Print};
