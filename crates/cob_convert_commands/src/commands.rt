@@ -1,15 +1,21 @@
 ghost use Rattle.std.specs.Prelude.{◌≡◌, map};
 ghost use Rattle.cob_convert_line.specs.Lines.{HasBlocks};
 ghost use Rattle.cob_records.specs.Forms.{HasBlockSize};
+ghost use Rattle.cob_command_faults.specs.Ends.{EndsAmong};
+ghost use Rattle.cob_command_convert.specs.Ends.{MayEndCheck};
 ghost use Rattle.cob_convert_commands.specs.Commands.{EndsConvert, IsEndOfLine, IsEndOfRefusal, IsEndOfWords, status_of_refusal};
 
 use cob_command_aside::do_convert_aside;
 use cob_command_convert::{do_check, do_convert};
+use cob_command_cover::do_cover;
+use cob_command_draft::do_draft;
+use cob_command_explain::do_explain;
 use cob_command_faults::printed;
 use cob_command_job::do_job;
 use cob_command_lists::{do_layout, do_pieces, do_show};
 use cob_command_lossless::do_lossless;
-use cob_convert_line::{ConvertLine, Line, LineFault, line_of};
+use cob_command_manual::{do_completion, do_manual};
+use cob_convert_line::{CheckLine, ConvertLine, Line, LineFault, line_of};
 use cob_status::Status;
 use std::convert::AsStr;
 use std::io::{Eprint, Input, Print};
@@ -30,6 +36,17 @@ fn do_conversion<R: AllocGlobal + Files + Input + Print + Eprint + Clock>(
     }
 }
 
+/// Checks the three texts of a conversion: alone, or with the lists of what the paragraph leaves open.
+fn do_checking<R: AllocGlobal + Files + Print + Eprint>(rt: &R, line: &CheckLine<'_>) -> Status
+    ensures { EndsAmong MayEndCheck result }
+{
+    if line.cover {
+        do_cover(rt, line)
+    } else {
+        do_check(rt, line)
+    }
+}
+
 /// Carries out what a command line asks for, prints what comes of it, and answers the program's status.
 pub fn perform<R: AllocGlobal + Files + Input + Print + Eprint + Clock>(
     rt: &R,
@@ -41,11 +58,15 @@ pub fn perform<R: AllocGlobal + Files + Input + Print + Eprint + Clock>(
     match line {
         Line::Job => do_job(rt),
         Line::Convert(line) => do_conversion(rt, line).code(),
-        Line::Check(line) => do_check(rt, line).code(),
+        Line::Check(line) => do_checking(rt, line).code(),
         Line::Layout(line) => do_layout(rt, line).code(),
         Line::Show(line) => do_show(rt, line).code(),
         Line::Pieces(line) => do_pieces(rt, line).code(),
         Line::Lossless(line) => do_lossless(rt, line).code(),
+        Line::Explain(line) => do_explain(rt, line).code(),
+        Line::Draft(line) => do_draft(rt, line).code(),
+        Line::Completion => do_completion(rt).code(),
+        Line::Manual => do_manual(rt).code(),
     }
 }
 

@@ -1,13 +1,12 @@
 -- What the parser says of a command, and of what it found, in the words of this crate.
-use Rattle.std.proofs.Common.{rules, codes, subst, ◌∙◌, ◌≡◌, inl, inr, ◌&&◌, ◌==◌, ℕ, arith, length, map, eqb-true, Bool, List, [], ◌∷◌, Option, Some, None, option_map, true, false, refl, sym, ap, ap₂, true≢false}
-use Rattle.std.specs.Prelude.{IsSome, not, is_some, unwrap_or}
+use Rattle.std.proofs.Common.{codes, subst, ◌∙◌, ◌≡◌, inl, inr, ◌==◌, ℕ, arith, length, map, eqb-true, List, [], ◌∷◌, Option, Some, None, option_map, true, false, refl, sym, ap, ap₂, true≢false}
+use Rattle.std.specs.Prelude.{is_some, unwrap_or}
 use Rattle.std.proofs.lemmas.Bool.Decides.{nat_tests}
-use Rattle.clap.specs.Words.{Row, Text, app_of}
-use Rattle.clap.specs.declared.builder.command.Command.{Command}
-use Rattle.clap.specs.declared.builder.command.Command.TheViews.{out-Command}
+use Rattle.clap.specs.Words.{Row, Text}
 use Rattle.cob_convert_line.specs.Numbers.{SaysNumber}
-use Rattle.cob_convert_line.specs.Commands.{pieces_options, show_options}
-use Rattle.cob_convert_line.specs.Named.{AreAll, Look, NamesBlock, NamesBound, NamesNumber, form_by_letter, letter_of, listing_by_word, reading_by_word, sized_by, word_of, word_of_listing}
+use Rattle.cob_convert_program.specs.Commands.{pieces_options, show_options}
+use Rattle.cob_convert_options.specs.Looks.{AreAll, Look}
+use Rattle.cob_convert_line.specs.Named.{NamesBlock, NamesBound, NamesNumber, form_by_letter, letter_of, listing_by_word, reading_by_word, sized_by, word_of, word_of_listing}
 use Rattle.cob_convert_line.specs.Faults.{HasCounts, HasForms, HasListing, HasPiece, HasSizes, IsFaultIn, LacksABlock, LacksBlock, LacksBound, LacksCount, LacksForm, LacksListing, LacksNumber, LacksPiece, LacksReading, LacksSize}
 use Rattle.cob_convert_line.specs.Lines.{IsCommandLineOf, NameForms, NamePiece}
 use Rattle.cob_convert_line.specs.declared.line.Listing.{Listing}
@@ -20,16 +19,6 @@ use Rattle.cob_records.specs.declared.records.Form.{Form}
 use Rattle.cob_records.specs.declared.records.Form.TheVariants.{Fixed, Variable, Blocked}
 use Rattle.cob_convert_line.specs.declared.line.Line.TheVariants as line
 
-third_is_false : (a b c d : Bool) → (a && (not b && (not c && d))) ≡ true → c ≡ false
-third_is_false a b false d e = refl
-third_is_false false b true d e = absurd (true≢false (sym e))
-third_is_false true true true d e = absurd (true≢false (sym e))
-third_is_false true false true d e = absurd (true≢false (sym e))
-
--- a plain command has no global option
-pub plain_is_local : (c : Command) → (app_of c).top.is_plain ≡ true → (out-Command c).has_globals ≡ false
-plain_is_local c e = third_is_false _ _ _ _ e
-
 -- what stands in an option, by its two parts
 pub both_parts : {X : Type 0} (found : Option X) (name_of : X → Text) (rows_of : X → List Row) (name : Text) (rows : List Row)
     → option_map name_of found ≡ Some name → option_map (λ (p : Text × List Row). p.1) (option_map {U = Text × List Row} (λ x. (name_of x, rows_of x)) found) ≡ Some rows
@@ -37,11 +26,6 @@ pub both_parts : {X : Type 0} (found : Option X) (name_of : X → Text) (rows_of
 both_parts None name_of rows_of name rows n r = absurd (true≢false (sym (ap is_some n)))
 both_parts (Some x) name_of rows_of name rows n r =
     ap₂ (λ (a : Text) (b : List Row). Some (a, b)) (ap (λ o. unwrap_or o name) n) (ap (λ o. unwrap_or o rows) r)
-
--- what is there when it is turned into another is there
-pub is_there : {X Y : Type 0} (f : X → Y) (found : Option X) → is_some (option_map f found) ≡ true → IsSome found
-is_there f None e = absurd (true≢false (sym e))
-is_there f (Some x) e = search rules
 
 -- an option without a first part has no second
 pub no_parts : {X Y Z : Type 0} (found : Option X) (f : X → Y) (g : X → Z) (z : Z) → option_map f found ≡ None → option_map g found ≡ Some z → ⊥

@@ -1,11 +1,3 @@
 pub mod Digits
-pub mod Rules
-pub mod Rows
-pub mod Turns
-pub mod Forms
-pub mod Walks
-pub mod Level
-pub mod Looks
-pub mod Top
 pub mod Said
 pub mod Apps

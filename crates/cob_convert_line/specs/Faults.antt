@@ -7,11 +7,12 @@ use Rattle.clap.specs.declared.error.kind.ErrorKind.TheVariants as kind
 use Rattle.cob_records.specs.BlockSize.{SaysBlockSize}
 use Rattle.cob_records.specs.declared.records.Form.{Form}
 use Rattle.cob_records.specs.declared.records.Form.TheVariants.{Fixed, Variable, Blocked}
-use Rattle.cob_convert_line.specs.Options.{Given, Options, taken}
-use Rattle.cob_convert_line.specs.Commands.{Spells}
+use Rattle.cob_convert_options.specs.Options.{Given, Options, taken}
+use Rattle.cob_convert_program.specs.Commands.{Spells}
 use Rattle.cob_convert_line.specs.Numbers.{SaysNumber}
-use Rattle.cob_convert_line.specs.Named.{Look, form_by_letter, letter_of, listing_by_word, reading_by_word}
-use Rattle.cob_convert_line.specs.Program.{program_app}
+use Rattle.cob_convert_options.specs.Looks.{Look}
+use Rattle.cob_convert_line.specs.Named.{form_by_letter, letter_of, listing_by_word, reading_by_word}
+use Rattle.cob_convert_program.specs.Program.{program_app}
 use Rattle.cob_convert_line.specs.declared.fault.LineFault.{LineFault}
 use Rattle.cob_convert_line.specs.declared.fault.LineFault.TheVariants as fault
 

@@ -5,9 +5,10 @@ use Rattle.cob_codec.specs.declared.reading.Reading.{Reading}
 use Rattle.cob_records.specs.declared.records.Form.{Form}
 use Rattle.cob_records.specs.Forms.{HasBlockSize}
 use Rattle.cob_limits.specs.Limits.{longest_block}
-use Rattle.cob_convert_line.specs.Options.{AreOptions, Given, Options, found_at, taken}
-use Rattle.cob_convert_line.specs.Commands.{commands}
-use Rattle.cob_convert_line.specs.Named.{Look, NamesBlock, NamesBound, NamesNumber, is_flagged, letter_of, sized_by, word_of, word_of_listing}
+use Rattle.cob_convert_options.specs.Options.{AreOptions, Given, Options, found_at, taken}
+use Rattle.cob_convert_program.specs.Commands.{commands}
+use Rattle.cob_convert_options.specs.Looks.{Look, is_flagged}
+use Rattle.cob_convert_line.specs.Named.{NamesBlock, NamesBound, NamesNumber, letter_of, sized_by, word_of, word_of_listing}
 pub use Rattle.cob_convert_line.specs.Faults.{IsFaultOf, is_answer_kind}
 use Rattle.cob_convert_line.specs.declared.line.Line.{Line}
 use Rattle.cob_convert_line.specs.declared.line.Line.TheVariants as line
@@ -17,6 +18,8 @@ use Rattle.cob_convert_line.specs.declared.line.LayoutLine.{LayoutLine}
 use Rattle.cob_convert_line.specs.declared.line.ShowLine.{ShowLine}
 use Rattle.cob_convert_line.specs.declared.line.PiecesLine.{PiecesLine}
 use Rattle.cob_convert_line.specs.declared.line.LosslessLine.{LosslessLine}
+use Rattle.cob_convert_line.specs.declared.line.ExplainLine.{ExplainLine}
+use Rattle.cob_convert_line.specs.declared.line.DraftLine.{DraftLine}
 
 -- Options name the forms of both files with the sizes of their blocks, and the reading of binary items.
 pub record NameForms (look : Look) (in_form out_form : Form) (in_block out_block : ℕ) (reading : Reading) : Type 0 where
@@ -59,11 +62,12 @@ pub record IsConvert (look : Look) (line : ConvertLine) : Type 0 where
   pub rejects : look (codes "rejects") ≡ option_map (λ file. file.now) line.rejects
   pub most_rejects : NamesBound look (codes "most-rejects") line.most_rejects
 
--- The options of `check` name the line's files.
+-- The options of `check` name the line's files and its flag.
 pub record IsCheck (look : Look) (line : CheckLine) : Type 0 where
   pub in_book : look (codes "in-book") ≡ Some line.in_book.now
   pub out_book : look (codes "out-book") ≡ Some line.out_book.now
   pub moves : look (codes "moves") ≡ Some line.moves.now
+  pub cover : is_flagged (codes "cover") look ≡ line.cover
 
 -- The option of `layout` names the line's file.
 pub record IsLayout (look : Look) (line : LayoutLine) : Type 0 where
@@ -94,6 +98,20 @@ pub record IsLosslessLine (look : Look) (line : LosslessLine) : Type 0 where
   pub there : look (codes "there") ≡ Some line.there.now
   pub back : look (codes "back") ≡ Some line.back.now
 
+-- The options of `explain` name the line's files, its forms, its reading, and the number of the record.
+pub record IsExplain (look : Look) (line : ExplainLine) : Type 0 where
+  pub in_book : look (codes "in-book") ≡ Some line.in_book.now
+  pub out_book : look (codes "out-book") ≡ Some line.out_book.now
+  pub moves : look (codes "moves") ≡ Some line.moves.now
+  pub input : look (codes "in") ≡ Some line.input.now
+  pub forms : NameForms look line.in_form line.out_form line.in_block line.out_block line.reading
+  pub number : NamesNumber look (codes "record") 1 line.record
+
+-- The options of `draft` name the line's files.
+pub record IsDraft (look : Look) (line : DraftLine) : Type 0 where
+  pub in_book : look (codes "in-book") ≡ Some line.in_book.now
+  pub out_book : look (codes "out-book") ≡ Some line.out_book.now
+
 -- the command is that of the line, and its options name what the line says
 abbrev pub IsCommand : Text → Look → Line → Type 0
 IsCommand name look line.Job = ⊥
@@ -103,8 +121,12 @@ IsCommand name look (line.Layout options) = (name ≡ codes "layout") × IsLayou
 IsCommand name look (line.Show options) = (name ≡ codes "show") × IsShow look options
 IsCommand name look (line.Pieces options) = (name ≡ codes "pieces") × IsPieces look options
 IsCommand name look (line.Lossless options) = (name ≡ codes "lossless") × IsLosslessLine look options
+IsCommand name look (line.Explain options) = (name ≡ codes "explain") × IsExplain look options
+IsCommand name look (line.Draft options) = (name ≡ codes "draft") × IsDraft look options
+IsCommand name look line.Completion = name ≡ codes "completion"
+IsCommand name look line.Manual = name ≡ codes "manual"
 
--- the blocks of a line's forms may have their greatest sizes, and a number of pieces is one at least
+-- the blocks of a line's forms may have their greatest sizes, and a number of pieces or that of a record is one at least
 abbrev pub HasBlocks : Line → Type 0
 HasBlocks line.Job = ⊤
 HasBlocks (line.Convert options) = HasBlockSize options.in_form × HasBlockSize options.out_form
@@ -113,6 +135,10 @@ HasBlocks (line.Layout options) = ⊤
 HasBlocks (line.Show options) = HasBlockSize options.form
 HasBlocks (line.Pieces options) = HasBlockSize options.form × (0 < options.pieces)
 HasBlocks (line.Lossless options) = ⊤
+HasBlocks (line.Explain options) = HasBlockSize options.in_form × HasBlockSize options.out_form × (0 < options.record)
+HasBlocks (line.Draft options) = ⊤
+HasBlocks line.Completion = ⊤
+HasBlocks line.Manual = ⊤
 
 -- What the words behind the program's name say: none at all are a job; others are the name of a command and then its options, each of which names
 -- what the line says, by the value that it is given or by its default.

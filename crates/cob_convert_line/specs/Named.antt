@@ -1,17 +1,14 @@
 -- What options name.
-use Rattle.std.specs.Prelude.{◌≡◌, ◌≤◌, ℕ, Bool, true, false, is_some, [], ◌∷◌, Some, None, Option, if◌then◌else◌, codes, ⊤}
+use Rattle.std.specs.Prelude.{◌≡◌, ◌≤◌, ℕ, Some, None, Option, if◌then◌else◌, codes}
 use Rattle.std.specs.Str.{bytes_eq}
-use Rattle.std.specs.Option.{option_map_or}
-use Rattle.clap.specs.Words.{Text, first_of, found_of, rows_of}
-use Rattle.clap.specs.declared.parser.matches.ArgMatches.{ArgMatches}
+use Rattle.clap.specs.Words.{Text}
 use Rattle.cob_codec.specs.declared.reading.Reading.{Reading}
 use Rattle.cob_codec.specs.declared.reading.Reading.TheVariants.{Pictured, Whole}
 use Rattle.cob_records.specs.declared.records.Form.{Form}
 use Rattle.cob_records.specs.declared.records.Form.TheVariants.{Fixed, Variable, Blocked}
 use Rattle.cob_records.specs.BlockSize.{SaysBlockSize}
 use Rattle.cob_limits.specs.Limits.{longest_block}
-use Rattle.cob_convert_line.specs.Options.{Default, Kind, Options, Required, found_at}
-use Rattle.cob_convert_line.specs.Commands.{commands}
+use Rattle.cob_convert_options.specs.Looks.{Look}
 use Rattle.cob_convert_line.specs.Numbers.{SaysNumber}
 use Rattle.cob_convert_line.specs.declared.line.Listing.{Listing}
 use Rattle.cob_convert_line.specs.declared.line.Listing.TheVariants as listing
@@ -56,18 +53,6 @@ listing_by_word word = if bytes_eq word (codes "text") then Some listing.Text
     else (if bytes_eq word (codes "json") then Some listing.Json
     else (if bytes_eq word (codes "csv") then Some listing.Csv else None))
 
--- what options name, by the name of each
-abbrev pub Look : Type 0
-Look = Text → Option Text
-
--- what the parser found of each option
-abbrev pub look_of : ArgMatches → Look
-look_of options = λ name. first_of name (rows_of (found_of options))
-
--- a flag was given
-abbrev pub is_flagged : Text → Look → Bool
-is_flagged name look = option_map_or (λ value. bytes_eq value (codes "true")) (look name) false
-
 -- An option names the greatest size of blocks, where the form has blocks; beside another form its word isn't read, and the size is the longest.
 abbrev pub NamesBlock : Look → Text → Form → ℕ → Type 0
 NamesBlock look name Fixed size = size ≡ longest_block
@@ -82,22 +67,3 @@ NamesNumber look name least number = (word : Text) × (look name ≡ Some word) 
 abbrev pub NamesBound : Look → Text → Option ℕ → Type 0
 NamesBound look name None = look name ≡ Some (codes "all")
 NamesBound look name (Some number) = NamesNumber look name 0 number
-
--- an option that takes a value, and has to be there or has a default, has one
-abbrev pub IsNamed : Kind → Text → Look → Type 0
-IsNamed Required name look = is_some (look name) ≡ true
-IsNamed (Default value) name look = is_some (look name) ≡ true
-IsNamed kind name look = ⊤
-
--- each of these options names what it has to
-abbrev pub AreNamed : Options → Look → Type 0
-AreNamed [] look = ⊤
-AreNamed (option ∷ options) look = IsNamed option.1 option.0 look × AreNamed options look
-
--- a name that is none of an option names nothing
-abbrev pub AreAll : Options → Look → Type 0
-AreAll options look = (name : Text) → found_at name options ≡ None → look name ≡ None
-
--- the name is that of a command, each of its options names what it has to, and nothing else names anything
-abbrev pub IsComplete : Text → Look → Type 0
-IsComplete name look = (options : Options) × (found_at name commands ≡ Some options) × AreNamed options look × AreAll options look

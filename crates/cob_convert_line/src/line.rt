@@ -2,7 +2,7 @@ use cob_codec::Reading;
 use cob_records::Form;
 
 /// What the words ask for.
-#[derive(Clone, Copy, Debug, PartialEq, Eq)]
+#[derive(Clone, Copy)]
 pub enum Line<'a> {
     /// The job that stands on standard input: there are no words.
     Job,
@@ -18,10 +18,18 @@ pub enum Line<'a> {
     Pieces(PiecesLine<'a>),
     /// Says whether a second paragraph brings back all that a first one takes.
     Lossless(LosslessLine<'a>),
+    /// Says of one record what each single move does with it.
+    Explain(ExplainLine<'a>),
+    /// Writes a paragraph to begin with.
+    Draft(DraftLine<'a>),
+    /// Prints what the shell needs to complete command lines.
+    Completion,
+    /// Prints the manual page.
+    Manual,
 }
 
 /// How the values of records are listed.
-#[derive(Clone, Copy, Debug, PartialEq, Eq)]
+#[derive(Clone, Copy)]
 pub enum Listing {
     /// A line for each value, with its name and its offset.
     Text,
@@ -32,7 +40,7 @@ pub enum Listing {
 }
 
 /// The options of `convert`.
-#[derive(Clone, Copy, Debug, PartialEq, Eq)]
+#[derive(Clone, Copy)]
 pub struct ConvertLine<'a> {
     /// The file with the copybook of the input record.
     pub in_book: &'a str,
@@ -75,7 +83,7 @@ pub struct ConvertLine<'a> {
 }
 
 /// The options of `check`.
-#[derive(Clone, Copy, Debug, PartialEq, Eq)]
+#[derive(Clone, Copy)]
 pub struct CheckLine<'a> {
     /// The file with the copybook of the input record.
     pub in_book: &'a str,
@@ -83,17 +91,19 @@ pub struct CheckLine<'a> {
     pub out_book: &'a str,
     /// The file with the paragraph.
     pub moves: &'a str,
+    /// Whether it lists what no move fills, what none takes, and what may be lost.
+    pub cover: bool,
 }
 
 /// The option of `layout`.
-#[derive(Clone, Copy, Debug, PartialEq, Eq)]
+#[derive(Clone, Copy)]
 pub struct LayoutLine<'a> {
     /// The file with the copybook.
     pub book: &'a str,
 }
 
 /// The options of `show`.
-#[derive(Clone, Copy, Debug, PartialEq, Eq)]
+#[derive(Clone, Copy)]
 pub struct ShowLine<'a> {
     /// The file with the copybook of the records.
     pub book: &'a str,
@@ -112,7 +122,7 @@ pub struct ShowLine<'a> {
 }
 
 /// The options of `pieces`.
-#[derive(Clone, Copy, Debug, PartialEq, Eq)]
+#[derive(Clone, Copy)]
 pub struct PiecesLine<'a> {
     /// The file with the copybook of the records.
     pub book: &'a str,
@@ -125,7 +135,7 @@ pub struct PiecesLine<'a> {
 }
 
 /// The options of `lossless`.
-#[derive(Clone, Copy, Debug, PartialEq, Eq)]
+#[derive(Clone, Copy)]
 pub struct LosslessLine<'a> {
     /// The file with the copybook of the records that are converted.
     pub in_book: &'a str,
@@ -135,4 +145,38 @@ pub struct LosslessLine<'a> {
     pub there: &'a str,
     /// The file with the paragraph that converts them back.
     pub back: &'a str,
+}
+
+/// The options of `explain`.
+#[derive(Clone, Copy)]
+pub struct ExplainLine<'a> {
+    /// The file with the copybook of the input record.
+    pub in_book: &'a str,
+    /// The file with the copybook of the output record.
+    pub out_book: &'a str,
+    /// The file with the paragraph.
+    pub moves: &'a str,
+    /// The file that the records come from; `-` is standard input.
+    pub input: &'a str,
+    /// How the records of the input stand.
+    pub in_form: Form,
+    /// How the records of the output stand.
+    pub out_form: Form,
+    /// The greatest size of the input's blocks, where it has blocks.
+    pub in_block: u16,
+    /// The greatest size of the output's blocks, where it has blocks.
+    pub out_block: u16,
+    /// How binary items are read that are sent.
+    pub reading: Reading,
+    /// The number of the record, from 1 on.
+    pub record: u64,
+}
+
+/// The options of `draft`.
+#[derive(Clone, Copy)]
+pub struct DraftLine<'a> {
+    /// The file with the copybook of the input record.
+    pub in_book: &'a str,
+    /// The file with the copybook of the output record.
+    pub out_book: &'a str,
 }

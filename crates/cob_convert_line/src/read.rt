@@ -1,276 +1,24 @@
-ghost use Rattle.std.specs.Prelude.{◌≡◌, ◌<◌, ◌≤◌, ◌⊎◌, ℕ, IfErr, IfOk, None, Option, Some, codes, is_some, map, option_map, true};
-ghost use Rattle.cob_convert_line.specs.Commands.{check_options, choice_options, convert_options, forms_options, layout_options, lossless_options, piece_options, pieces_options, show_options};
-ghost use Rattle.cob_convert_line.specs.Faults.{HasListing, HasPiece, IsFaultIn, IsFaultOf, LacksBound, LacksForm, LacksListing, LacksNumber, LacksReading, LacksSize};
-ghost use Rattle.cob_convert_line.specs.Lines.{HasBlocks, IsCheck, IsCommand, IsCommandLineOf, IsConvert, IsLayout, IsLosslessLine, IsPieces, IsShow, NameChoice, NameForms, NameNoForms, NamePiece};
-ghost use Rattle.cob_convert_line.specs.Named.{AreAll, AreNamed, IsComplete, NamesBlock, NamesBound, NamesNumber, form_by_letter, is_flagged, letter_of, listing_by_word, look_of, reading_by_word, sized_by, word_of, word_of_listing};
-ghost use Rattle.cob_limits.specs.Limits.{longest_block};
-ghost use Rattle.cob_records.specs.Blocks.{IsBlockSize};
+//! The lines of commands, and the line that words say.
+
+ghost use Rattle.std.specs.Prelude.{◌≡◌, ◌<◌, ◌⊎◌, IfErr, IfOk, map};
+ghost use Rattle.cob_convert_program.specs.Commands.{IsComplete, check_options, convert_options, draft_options, explain_options, layout_options, lossless_options, pieces_options, show_options};
+ghost use Rattle.cob_convert_line.specs.Faults.{IsFaultIn, IsFaultOf};
+ghost use Rattle.cob_convert_line.specs.Lines.{HasBlocks, IsCheck, IsCommand, IsCommandLineOf, IsConvert, IsDraft, IsExplain, IsLayout, IsLosslessLine, IsPieces, IsShow};
+ghost use Rattle.cob_convert_options.specs.Looks.{AreAll, AreNamed, look_of};
 ghost use Rattle.cob_records.specs.Forms.{HasBlockSize};
 ghost use Rattle.cob_convert_line.specs.declared.fault.LineFault.TheVariants.{Memory};
 
 use crate::fault::LineFault;
 use crate::line::{
-    CheckLine, ConvertLine, LayoutLine, Line, Listing, LosslessLine, PiecesLine, ShowLine,
+    CheckLine, ConvertLine, DraftLine, ExplainLine, LayoutLine, Line, LosslessLine, PiecesLine,
+    ShowLine,
 };
-use crate::number::number_of;
-use crate::program::program;
+use crate::values::{bound, choice_of, form, forms_of, listing, number, piece_of, record_of};
 use clap::ArgMatches;
-use cob_codec::Reading;
-use cob_limits::MAX_BLOCK;
-use cob_records::{Form, block_size_of};
+use cob_convert_options::{flag, named, named_if_there};
+use cob_convert_program::program;
 use std::alloc::Global;
 use std::convert::AsStr;
-
-// The form that a letter names.
-fn form_named(letter: &str) -> Option<Form>
-    ensures { result ≡ form_by_letter letter.now }
-{
-    match letter {
-        "f" => Some(Form::Fixed),
-        "v" => Some(Form::Variable),
-        "b" => Some(Form::Blocked(MAX_BLOCK)),
-        _ => None,
-    }
-}
-
-// The reading that a word names.
-fn reading_named(word: &str) -> Option<Reading>
-    ensures { result ≡ reading_by_word word.now }
-{
-    match word {
-        "pictured" => Some(Reading::Pictured),
-        "whole" => Some(Reading::Whole),
-        _ => None,
-    }
-}
-
-// The listing of values that a word names.
-fn listing_named(word: &str) -> Option<Listing>
-    ensures { result ≡ listing_by_word word.now }
-{
-    match word {
-        "text" => Some(Listing::Text),
-        "json" => Some(Listing::Json),
-        "csv" => Some(Listing::Csv),
-        _ => None,
-    }
-}
-
-// What an option names, which has a value.
-fn named<'a>(options: &ArgMatches<'a>, name: &str) -> &'a str
-    requires { is_some (look_of options.now name.now) ≡ true }
-    ensures { look_of options.now name.now ≡ Some result.now }
-{
-    options.get_str(name).unwrap()
-}
-
-// What an option names that may be left out.
-fn optional<'a>(options: &ArgMatches<'a>, name: &str) -> Option<&'a str>
-    ensures { look_of options.now name.now ≡ option_map (λ word. word.now) result }
-{
-    options.get_str(name)
-}
-
-// Whether a flag was given.
-fn flag(options: &ArgMatches<'_>, name: &str) -> bool
-    ensures { result ≡ is_flagged name.now (look_of options.now) }
-{
-    match options.get_str(name) {
-        Some(value) => value == "true",
-        None => false,
-    }
-}
-
-// The form that an option names, which has a value.
-fn form(options: &ArgMatches<'_>, name: &str) -> Result<Form, LineFault>
-    requires { is_some (look_of options.now name.now) ≡ true }
-    ensures named { IfOk result (λ form. look_of options.now name.now ≡ Some (letter_of form)) }
-    ensures lacks { IfErr result (λ _. (form : Form)
-        → look_of options.now name.now ≡ Some (letter_of form) → ⊥) }
-    ensures fault { IfErr result (λ fault. (fault ≡ LineFault.Form)
-        × LacksForm (look_of options.now) name.now) }
-    ensures sized { IfOk result (λ form. form ≡ sized_by longest_block form) }
-    ensures block { IfOk result HasBlockSize }
-{
-    form_named(named(options, name)).ok_or(LineFault::Form)
-}
-
-// The reading of binary items that its option names, which has a value.
-fn reading(options: &ArgMatches<'_>) -> Result<Reading, LineFault>
-    requires { is_some (look_of options.now (codes "binary")) ≡ true }
-    ensures named { IfOk result (λ reading.
-        look_of options.now (codes "binary") ≡ Some (word_of reading)) }
-    ensures lacks { IfErr result (λ _. (reading : Reading)
-        → look_of options.now (codes "binary") ≡ Some (word_of reading) → ⊥) }
-    ensures fault { IfErr result (λ fault. (fault ≡ LineFault.Reading)
-        × LacksReading (look_of options.now)) }
-{
-    reading_named(named(options, "binary")).ok_or(LineFault::Reading)
-}
-
-// The listing of values that its option names, which has a value.
-fn listing(options: &ArgMatches<'_>) -> Result<Listing, LineFault>
-    requires { is_some (look_of options.now (codes "as")) ≡ true }
-    ensures named { IfOk result (λ listing.
-        look_of options.now (codes "as") ≡ Some (word_of_listing listing)) }
-    ensures lacks { IfErr result (λ _. (listing : Listing)
-        → look_of options.now (codes "as") ≡ Some (word_of_listing listing) → ⊥) }
-    ensures fault { IfErr result (λ fault. (fault ≡ LineFault.Listing)
-        × LacksListing (look_of options.now)) }
-{
-    listing_named(named(options, "as")).ok_or(LineFault::Listing)
-}
-
-// The greatest size of blocks that an option says, which has a value, where the form has blocks.
-fn block(options: &ArgMatches<'_>, name: &str, form: Form) -> Result<u16, LineFault>
-    requires { is_some (look_of options.now name.now) ≡ true }
-    ensures named { IfOk result (NamesBlock (look_of options.now) name.now form) }
-    ensures lacks { IfErr result (λ _. (size : ℕ)
-        → NamesBlock (look_of options.now) name.now form size → ⊥) }
-    ensures fault { IfErr result (λ fault. (fault ≡ LineFault.Block)
-        × LacksSize (look_of options.now) name.now form) }
-    ensures size { IfOk result IsBlockSize }
-{
-    match form {
-        Form::Fixed => Ok(MAX_BLOCK),
-        Form::Variable => Ok(MAX_BLOCK),
-        Form::Blocked(_) => match block_size_of(named(options, name).as_bytes()) {
-            Some(size) => Ok(size),
-            None => Err(LineFault::Block),
-        },
-    }
-}
-
-// The form with blocks of at most this size, where it has blocks.
-fn sized(form: Form, size: u16) -> Form
-    requires { IsBlockSize size }
-    ensures value { result ≡ sized_by size form }
-    ensures block { HasBlockSize result }
-{
-    match form {
-        Form::Fixed => Form::Fixed,
-        Form::Variable => Form::Variable,
-        Form::Blocked(_) => Form::Blocked(size),
-    }
-}
-
-// The number, this one at least, that an option says, which has a value; where it says none, that is this fault.
-fn number(
-    options: &ArgMatches<'_>,
-    name: &str,
-    least: u64,
-    fault: LineFault,
-) -> Result<u64, LineFault>
-    requires { is_some (look_of options.now name.now) ≡ true }
-    ensures named { IfOk result (NamesNumber (look_of options.now) name.now least) }
-    ensures lacks { IfErr result (λ _. (number : ℕ)
-        → NamesNumber (look_of options.now) name.now least number → ⊥) }
-    ensures fault { IfErr result (λ told. (told ≡ fault)
-        × LacksNumber (look_of options.now) name.now least) }
-    ensures least { IfOk result (λ number. least ≤ number) }
-{
-    match number_of(named(options, name).as_bytes()) {
-        Some(number) if number >= least => Ok(number),
-        _ => Err(fault),
-    }
-}
-
-// The number that an option says, which has a value, or none where it says all; where it says neither, that is this fault.
-fn bound(options: &ArgMatches<'_>, name: &str, fault: LineFault) -> Result<Option<u64>, LineFault>
-    requires { is_some (look_of options.now name.now) ≡ true }
-    ensures named { IfOk result (NamesBound (look_of options.now) name.now) }
-    ensures lacks { IfErr result (λ _. (most : Option ℕ)
-        → NamesBound (look_of options.now) name.now most → ⊥) }
-    ensures fault { IfErr result (λ told. (told ≡ fault)
-        × LacksBound (look_of options.now) name.now) }
-{
-    let word = named(options, name);
-    if word == "all" {
-        return Ok(None);
-    }
-    match number_of(word.as_bytes()) {
-        Some(number) => Ok(Some(number)),
-        None => Err(fault),
-    }
-}
-
-// The forms of both files, the greatest sizes of their blocks, and the reading of binary items.
-#[derive(Clone, Copy)]
-struct Forms {
-    input: Form,
-    output: Form,
-    in_block: u16,
-    out_block: u16,
-    reading: Reading,
-}
-
-fn forms_of(options: &ArgMatches<'_>) -> Result<Forms, LineFault>
-    requires named { AreNamed forms_options (look_of options.now) }
-    requires only { look_of options.now (codes "form") ≡ None }
-    ensures named { IfOk result (λ forms. NameForms (look_of options.now)
-        forms.input forms.output forms.in_block forms.out_block forms.reading) }
-    ensures lacks { IfErr result (λ _. NameNoForms (look_of options.now)) }
-    ensures fault { IfErr result (IsFaultIn (look_of options.now)) }
-    ensures blocks { IfOk result
-        (λ forms. HasBlockSize forms.input × HasBlockSize forms.output) }
-{
-    let in_form = form(options, "in-form")?;
-    let out_form = form(options, "out-form")?;
-    let reading = reading(options)?;
-    let in_block = block(options, "in-block", in_form)?;
-    let out_block = block(options, "out-block", out_form)?;
-    Ok(Forms {
-        input: sized(in_form, in_block),
-        output: sized(out_form, out_block),
-        in_block,
-        out_block,
-        reading,
-    })
-}
-
-// A piece of the input: where it begins, how long it is where it has an end, and the number of its first record.
-#[derive(Clone, Copy)]
-struct Piece {
-    from: u64,
-    bytes: Option<u64>,
-    first: u64,
-}
-
-fn piece_of(options: &ArgMatches<'_>) -> Result<Piece, LineFault>
-    requires named { AreNamed piece_options (look_of options.now) }
-    requires before { HasListing (look_of options.now) }
-    ensures named { IfOk result (λ piece. NamePiece (look_of options.now)
-        piece.from piece.bytes piece.first) }
-    ensures lacks { IfErr result (λ _. (from : ℕ) (bytes : Option ℕ) (first : ℕ)
-        → NamePiece (look_of options.now) from bytes first → ⊥) }
-    ensures fault { IfErr result (IsFaultIn (look_of options.now)) }
-{
-    let from = number(options, "from", 0, LineFault::Piece)?;
-    let bytes = bound(options, "bytes", LineFault::Piece)?;
-    let first = number(options, "record", 1, LineFault::Piece)?;
-    Ok(Piece { from, bytes, first })
-}
-
-// How many records are passed over, and how many behind them are taken, where it is not all.
-#[derive(Clone, Copy)]
-struct Choice {
-    skip: u64,
-    records: Option<u64>,
-}
-
-fn choice_of(options: &ArgMatches<'_>) -> Result<Choice, LineFault>
-    requires named { AreNamed choice_options (look_of options.now) }
-    requires before { HasPiece (look_of options.now) }
-    ensures named { IfOk result (λ choice. NameChoice (look_of options.now)
-        choice.skip choice.records) }
-    ensures lacks { IfErr result (λ _. (skip : ℕ) (records : Option ℕ)
-        → NameChoice (look_of options.now) skip records → ⊥) }
-    ensures fault { IfErr result (IsFaultIn (look_of options.now)) }
-{
-    let skip = number(options, "skip", 0, LineFault::Number)?;
-    let records = bound(options, "records", LineFault::Number)?;
-    Ok(Choice { skip, records })
-}
 
 fn convert_line<'a>(options: &ArgMatches<'a>) -> Result<ConvertLine<'a>, LineFault>
     requires named { AreNamed convert_options (look_of options.now) }
@@ -304,7 +52,7 @@ fn convert_line<'a>(options: &ArgMatches<'a>) -> Result<ConvertLine<'a>, LineFau
         first: piece.first,
         skip: choice.skip,
         records: choice.records,
-        rejects: optional(options, "rejects"),
+        rejects: named_if_there(options, "rejects"),
         most_rejects,
     })
 }
@@ -317,6 +65,7 @@ fn check_line<'a>(options: &ArgMatches<'a>) -> CheckLine<'a>
         in_book: named(options, "in-book"),
         out_book: named(options, "out-book"),
         moves: named(options, "moves"),
+        cover: flag(options, "cover"),
     }
 }
 
@@ -383,6 +132,42 @@ fn lossless_line<'a>(options: &ArgMatches<'a>) -> LosslessLine<'a>
     }
 }
 
+fn explain_line<'a>(options: &ArgMatches<'a>) -> Result<ExplainLine<'a>, LineFault>
+    requires named { AreNamed explain_options (look_of options.now) }
+    requires only { AreAll explain_options (look_of options.now) }
+    ensures options { IfOk result (IsExplain (look_of options.now)) }
+    ensures lacks { IfErr result (λ _. (line : ExplainLine)
+        → IsExplain (look_of options.now) line → ⊥) }
+    ensures fault { IfErr result (IsFaultIn (look_of options.now)) }
+    ensures blocks { IfOk result (λ line. HasBlockSize line.in_form
+        × HasBlockSize line.out_form × (0 < line.record)) }
+{
+    let forms = forms_of(options)?;
+    let record = record_of(options)?;
+    Ok(ExplainLine {
+        in_book: named(options, "in-book"),
+        out_book: named(options, "out-book"),
+        moves: named(options, "moves"),
+        input: named(options, "in"),
+        in_form: forms.input,
+        out_form: forms.output,
+        in_block: forms.in_block,
+        out_block: forms.out_block,
+        reading: forms.reading,
+        record,
+    })
+}
+
+fn draft_line<'a>(options: &ArgMatches<'a>) -> DraftLine<'a>
+    requires { AreNamed draft_options (look_of options.now) }
+    ensures { IsDraft (look_of options.now) result }
+{
+    DraftLine {
+        in_book: named(options, "in-book"),
+        out_book: named(options, "out-book"),
+    }
+}
+
 // The line of a command that was named with these options.
 fn command_line<'a>(name: &str, options: &ArgMatches<'a>) -> Result<Line<'a>, LineFault>
     requires { IsComplete name.now (look_of options.now) }
@@ -399,6 +184,10 @@ fn command_line<'a>(name: &str, options: &ArgMatches<'a>) -> Result<Line<'a>, Li
         "show" => Ok(Line::Show(show_line(options)?)),
         "pieces" => Ok(Line::Pieces(pieces_line(options)?)),
         "lossless" => Ok(Line::Lossless(lossless_line(options))),
+        "explain" => Ok(Line::Explain(explain_line(options)?)),
+        "draft" => Ok(Line::Draft(draft_line(options))),
+        "completion" => Ok(Line::Completion),
+        "manual" => Ok(Line::Manual),
         _ => unreachable!(),
     }
 }

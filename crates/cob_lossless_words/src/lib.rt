@@ -29,5 +29,8 @@ mod words;
 
 pub use lacks::{Lack, lack_of};
 pub use lines::lines_of;
-pub use names::Named;
+pub use names::{Named, Subscripts, entry_of, write_subscripts};
+pub use occurrences::{advance, first_subscripts, tables_over};
+pub use pictures::PictureText;
 pub use reasons::{LinedMoves, Position, Reason, ToldLoss, told_loss};
+pub use singles::{Element, Sent, Single, singles_of};

@@ -6,7 +6,7 @@ use cob_limits::MAX_SUBSCRIPTS;
 use std::fmt;
 
 /// The subscripts of an occurrence, the outermost first.
-pub(crate) type Subscripts = ArrayVec<u32, MAX_SUBSCRIPTS>;
+pub type Subscripts = ArrayVec<u32, MAX_SUBSCRIPTS>;
 
 /// An occurrence of an entry of a record. It prints as its name, those of the groups that hold it, and its subscripts: `E OF T OF R (1, 2)`.
 #[derive(Drop)]
@@ -26,7 +26,7 @@ fn kept_subscripts(subscripts: &[u32]) -> Subscripts {
 }
 
 /// The entry with this number, of this one and those beneath it.
-pub(crate) fn entry_of(entry: &Node, number: usize) -> Option<&Node> {
+pub fn entry_of(entry: &Node, number: usize) -> Option<&Node> {
     if entry.number == number {
         return Some(entry);
     }
@@ -99,7 +99,10 @@ fn write_names<W: fmt::Write>(
 }
 
 /// Writes subscripts in brackets, parted by commas, where there are some.
-fn write_subscripts<W: fmt::Write>(f: &mut fmt::Formatter<W>, subscripts: &[u32]) -> fmt::Result {
+pub fn write_subscripts<W: fmt::Write>(
+    f: &mut fmt::Formatter<W>,
+    subscripts: &[u32],
+) -> fmt::Result {
     let Some((first, others)) = subscripts.split_first() else {
         return Ok(());
     };

@@ -26,14 +26,14 @@ fn push_tables(entry: &Node, number: usize, tables: &mut Subscripts) -> bool {
 }
 
 /// How often each table occurs that holds the entry of a record with this number or that it is, the outermost first.
-pub(crate) fn tables_over(root: &Node, number: usize) -> Subscripts {
+pub fn tables_over(root: &Node, number: usize) -> Subscripts {
     let mut tables = ArrayVec::new();
     push_tables(root, number, &mut tables);
     tables
 }
 
 /// The subscripts of the first occurrence under so many tables.
-pub(crate) fn first_subscripts(tables: &[u32]) -> Subscripts {
+pub fn first_subscripts(tables: &[u32]) -> Subscripts {
     let mut subscripts = ArrayVec::new();
     for _ in tables {
         let _ = subscripts.try_push(1);
@@ -42,7 +42,7 @@ pub(crate) fn first_subscripts(tables: &[u32]) -> Subscripts {
 }
 
 /// Makes subscripts those of the next occurrence, the last one the fastest. Answers whether there is one.
-pub(crate) fn advance(subscripts: &mut [u32], tables: &[u32]) -> bool {
+pub fn advance(subscripts: &mut [u32], tables: &[u32]) -> bool {
     let Some((last, outer)) = subscripts.split_last_mut() else {
         return false;
     };

@@ -5,8 +5,8 @@ use std::fmt;
 
 /// A picture, which prints as its symbols with their repeats.
 #[derive(Clone, Copy)]
-pub(crate) struct PictureText<'a> {
-    pub(crate) picture: &'a Picture,
+pub struct PictureText<'a> {
+    pub picture: &'a Picture,
 }
 
 /// The characters of a symbol.

@@ -6,14 +6,14 @@ use std::alloc::{AllocError, Global};
 
 /// An occurrence of an entry of a record: the number of the entry, and its subscripts.
 #[derive(Clone, Copy)]
-pub(crate) struct Element<'a> {
-    pub(crate) number: usize,
-    pub(crate) subscripts: &'a [u32],
+pub struct Element<'a> {
+    pub number: usize,
+    pub subscripts: &'a [u32],
 }
 
 /// What a single move sends.
 #[derive(Clone, Copy)]
-pub(crate) enum Sent<'a> {
+pub enum Sent<'a> {
     /// An occurrence of an entry of one of the two records.
     Entry { side: Side, entry: Element<'a> },
     /// A literal, or a figurative constant.
@@ -22,10 +22,10 @@ pub(crate) enum Sent<'a> {
 
 /// What is sent, the occurrence of an entry of the output record that receives it, and the line of the statement.
 #[derive(Clone, Copy)]
-pub(crate) struct Single<'a> {
-    pub(crate) line: u32,
-    pub(crate) sent: Sent<'a>,
-    pub(crate) receiver: Element<'a>,
+pub struct Single<'a> {
+    pub line: u32,
+    pub sent: Sent<'a>,
+    pub receiver: Element<'a>,
 }
 
 /// The occurrence that a reference names.
@@ -93,7 +93,7 @@ fn push_pairs<'a>(
 /// # Errors
 ///
 /// Where no memory is left.
-pub(crate) fn singles_of<'a>(
+pub fn singles_of<'a>(
     alloc: Global,
     statements: &'a [StatementMoves],
     lines: &[u32],

@@ -1,0 +1,160 @@
+ghost use Rattle.std.specs.Prelude.{IfErr, IfOk};
+ghost use Rattle.cob_copybook.specs.Books.{IsBookOf};
+ghost use Rattle.cob_copybook.specs.declared.role.Role.TheVariants.{Out};
+ghost use Rattle.cob_records.specs.Forms.{HasBlockSize};
+ghost use Rattle.cob_command_faults.specs.Ends.{EndsAs};
+ghost use Rattle.cob_command_faults.specs.Faults.{status_of};
+ghost use Rattle.cob_command_faults.specs.Texts.{LacksConverter};
+ghost use Rattle.cob_command_faults.specs.declared.fault.CommandFault.TheVariants.{Stopped as StoppedFault};
+ghost use Rattle.cob_convert_explain.specs.Explained.{IsExplanation};
+ghost use Rattle.cob_command_explain.specs.Ends.{EndsExplain, EndsTold, MayEndExplain};
+
+use cob_command_faults::{CommandFault, FileName, opened, printed, tell_fault, text_of};
+use cob_convert::Converter;
+use cob_convert_explain::{Explanation, ReadAgain, Stopped, explain};
+use cob_convert_line::ExplainLine;
+use cob_records::open_source;
+use cob_status::Status;
+use std::io::{Eprint, Input, Print};
+use std::rt::Files;
+
+/// The conversion that three texts say.
+fn converter_of<R: AllocGlobal>(
+    rt: &R,
+    line: &ExplainLine<'_>,
+    in_book: &[u8],
+    out_book: &[u8],
+    moves: &[u8],
+) -> Result<Converter, CommandFault>
+    requires in_block { HasBlockSize line.now.in_form }
+    requires out_block { HasBlockSize line.now.out_form }
+    ensures book { IfOk result
+        (λ made. IsBookOf Out out_book.now made.records.output) }
+    ensures lacks { IfErr result LacksConverter }
+{
+    let (in_form, out_form) = (line.in_form, line.out_form);
+    let alloc = rt.alloc();
+    match Converter::prepare_with(
+        alloc,
+        in_book,
+        out_book,
+        moves,
+        in_form,
+        out_form,
+        line.reading,
+    ) {
+        Ok(converter) => Ok(converter),
+        Err(fault) => Err(CommandFault::from(fault)),
+    }
+}
+
+/// Explains the record that the line names, of the file that `--in` names.
+fn explained<R: AllocGlobal + Files + Input>(
+    rt: &R,
+    line: &ExplainLine<'_>,
+    converter: &Converter,
+    texts: ReadAgain<'_>,
+) -> Result<Explanation, CommandFault>
+    requires { IsBookOf Out texts.out_book.now converter.now.records.output }
+    ensures told { IfOk result IsExplanation }
+    ensures may { IfErr result MayEndExplain }
+{
+    let mut source = opened(open_source(rt, line.input), FileName::In)?;
+    match explain(
+        rt.alloc(),
+        converter.conversion(),
+        texts,
+        &mut source,
+        line.record,
+    ) {
+        Ok(explanation) => Ok(explanation),
+        Err(_) => Err(CommandFault::Memory),
+    }
+}
+
+/// Reads the three texts of a conversion and one record, and answers what is told of it.
+///
+/// # Errors
+///
+/// A file that is not opened or not read, a text that is refused, blocks of the output that are too short, want of memory.
+pub fn explain_record<R: AllocGlobal + Files + Input>(
+    rt: &R,
+    line: &ExplainLine<'_>,
+) -> Result<Explanation, CommandFault>
+    requires in_block { HasBlockSize line.now.in_form }
+    requires out_block { HasBlockSize line.now.out_form }
+    ensures told { IfOk result IsExplanation }
+    ensures may { IfErr result MayEndExplain }
+{
+    let in_book = text_of(rt, line.in_book, FileName::InBook)?;
+    let out_book = text_of(rt, line.out_book, FileName::OutBook)?;
+    let moves = text_of(rt, line.moves, FileName::Moves)?;
+    let texts = ReadAgain {
+        out_book: &out_book,
+        moves: &moves,
+    };
+    match converter_of(rt, line, &in_book, &out_book, &moves) {
+        Ok(converter) => explained(rt, line, &converter, texts),
+        Err(fault) => Err(fault),
+    }
+}
+
+/// Prints the fault line of a record and what is wrong in words, and answers how the command ends.
+fn tell_stopped<R: Print + Eprint>(rt: &R, stopped: &Stopped) -> Status
+    ensures { EndsAs (status_of (StoppedFault stopped.now.fault)) result }
+{
+    let status = CommandFault::Stopped(stopped.fault).status();
+    let fault = stopped.fault;
+    match eprintln!(rt; "{fault}") {
+        Ok(()) if stopped.words.is_empty() => status,
+        Ok(()) => printed(eprintln!(rt; "{}", stopped.words), status),
+        Err(_) => Status::Device,
+    }
+}
+
+/// Prints what is told of a record that is a record of the layout and stops.
+fn tell_moves_to_stop<R: Print + Eprint>(
+    rt: &R,
+    number: u64,
+    moves: &str,
+    stopped: &Stopped,
+) -> Status
+    ensures { EndsAs (status_of (StoppedFault stopped.now.fault)) result }
+{
+    match print!(rt; "record {number}\n{moves}") {
+        Ok(()) => tell_stopped(rt, stopped),
+        Err(_) => Status::Device,
+    }
+}
+
+/// Prints what is told of the record with this number, and answers how the command ends.
+fn tell_explanation<R: Print + Eprint>(rt: &R, number: u64, told: &Explanation) -> Status
+    ensures { EndsTold told.now result }
+{
+    match told {
+        Explanation::Missing { records } => printed(
+            eprintln!(rt; "no record {number}: in has {records}"),
+            Status::Malformed,
+        ),
+        Explanation::Converts { moves } => {
+            printed(println!(rt; "record {number}\n{moves}ok"), Status::Done)
+        }
+        Explanation::Stops { moves, stopped } => tell_moves_to_stop(rt, number, moves, stopped),
+        Explanation::Refused(stopped) => tell_stopped(rt, stopped),
+    }
+}
+
+/// Explains one record, prints what is told of it or what is at fault, and answers how the program ends.
+pub fn do_explain<R: AllocGlobal + Files + Input + Print + Eprint>(
+    rt: &R,
+    line: &ExplainLine<'_>,
+) -> Status
+    requires in_block { HasBlockSize line.now.in_form }
+    requires out_block { HasBlockSize line.now.out_form }
+    ensures { EndsExplain result }
+{
+    match explain_record(rt, line) {
+        Ok(told) => tell_explanation(rt, line.record, &told),
+        Err(fault) => tell_fault(rt, fault),
+    }
+}

@@ -1,0 +1,19 @@
+//! The command `explain` of `cobconv`: the single moves of one record, and why it does not convert, where it does not.
+//!
+//! [`do_explain`] carries it out, prints what is told of the record and answers how the program ends: by [`explain_record`], which only answers. The
+//! files for texts are opened and read in the order of the options, and then that of the records.
+//!
+//! A record that converts is told by a line with its number, the two lines of each single move and `ok`; one that does not by these lines up to the stop,
+//! and on standard error its fault line, as ever, and behind it what is wrong in words. A record that is not there is told on standard error, and ends
+//! as a malformed command line.
+//!
+//! What is promised: which faults the command can have (`MayEndExplain` of specs/Ends.antt), and that it ends with the status of what it came to
+//! (`EndsTold`), or as where a device failed if its last line was not printed (`EndsExplain`).
+//!
+//! It stands on `cob_convert_line` for the command line, on `cob_convert_explain` for what is told, on `cob_command_faults` for faults and texts, on
+//! `cob_convert` for the conversion, on `cob_records` for the records that come, and on `cob_status` for statuses.
+#![tactic(auto)]
+
+mod command;
+
+pub use command::{do_explain, explain_record};

@@ -1,0 +1,21 @@
+//! What those need who install `cobconv`: the completion of command lines for bash, and the manual page.
+//!
+//! Both are made from the definition of the command that reads the words of command lines ([`cob_convert_program::program`]): its commands with what each
+//! does, and their options, each with its name, its value, its default and its help. So what they name is what is read. Commands that are not told of in
+//! help, as these two, stand in neither.
+//!
+//! [`do_completion`] and [`do_manual`] print them. What is promised is which faults they can have (`MayEndPrinting` of specs/Ends.antt), and that they end
+//! with the status of what they came to (`EndsAmong` of `cob_command_faults`). What they print is shown by the stored command lines of `cob_jobs`.
+//!
+//! It stands on `cob_convert_program` for the definition of the command, on `clap` for its parts, on `cob_command_faults` for faults, and on
+//! `cob_status` for statuses.
+#![tactic(auto)]
+
+mod command;
+mod completion;
+mod page;
+mod parts;
+
+pub use command::{do_completion, do_manual};
+pub use completion::completion_of;
+pub use page::page_of;

@@ -1,0 +1,3 @@
+pub mod Top
+pub mod Spelled
+pub mod Plain

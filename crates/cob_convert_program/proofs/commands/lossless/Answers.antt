@@ -1,0 +1,13 @@
+use Rattle.std.proofs.Common.{ap, ap₂, codes, ◌≡◌, ◌∙◌}
+use Rattle.std.proofs.lemmas.Result.{IfOk-weaker}
+use Rattle.clap.specs.Words.{app_of, new_app, with_rule}
+use Rattle.clap.specs.Simple.{app_of_fields}
+use Rattle.cob_convert_program.proofs.commands.lossless.Goals as goal
+
+pub returns : goal.returns
+returns c =
+    let start : app_of c.after_help.result ≡ new_app (codes "lossless") = ap app_of_fields c.after_help.ensures ∙ ap app_of_fields c.override_usage.ensures ∙ ap app_of_fields c.about.ensures ∙ c.new.ensures.app in
+    let one = c.in_ok-arg.ensures.shape c.required.ensures.local ∙ ap₂ with_rule start c.required.ensures.rule in
+    let two = c.in_ok-arg-2.ensures.shape c.required-2.ensures.local ∙ ap₂ with_rule one c.required-2.ensures.rule in
+    let three = c.in_ok-arg-3.ensures.shape c.required-3.ensures.local ∙ ap₂ with_rule two c.required-3.ensures.rule in
+    IfOk-weaker c.arg-4.result _ _ (λ made h. h.shape c.required-4.ensures.local ∙ ap₂ with_rule three c.required-4.ensures.rule) c.arg-4.ensures

@@ -1,0 +1,14 @@
+//! The commands of `cobconv` with their options, as `clap` takes them.
+//!
+//! [`program`] makes the definition that parses words: it is that of the table `commands` of specs/Commands.antt (`program_app` of specs/Program.antt).
+//! What it finds in words that pass is what they spell (`found_in` of proofs/Spelled.antt, on which `cob_convert_line` stands). The texts of help are no
+//! part of any promise; the stored command lines of `cob_jobs` show them.
+//!
+//! It stands on `cob_convert_options` for options of each kind, and on `clap`, which parses the words.
+#![tactic(auto)]
+
+mod commands;
+mod groups;
+mod help;
+
+pub use commands::program;

@@ -1,0 +1,5 @@
+pub mod GatherLemmas
+pub mod JoinLemmas
+pub mod PlaceLemmas
+pub mod StatementLemmas
+pub mod MeetLemmas

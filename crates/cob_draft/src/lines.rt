@@ -1,0 +1,171 @@
+//! Lines of a paragraph in reference format: statements from column 12 on, comments behind an asterisk in column 7, nothing behind column 72.
+
+ghost use Rattle.std.specs.Prelude.{◌≤◌, ◌<◌, length};
+
+use cob_limits::MAX_TEXT_BYTES;
+use std::alloc::AllocError;
+
+/// The columns of a line.
+const COLUMNS: usize = 72;
+
+/// The bytes before what a statement says.
+const AREA_B: usize = 11;
+
+/// The bytes before what a statement says on its further lines.
+const FURTHER: usize = 15;
+
+/// The bytes before what a comment says.
+const REMARK: usize = 8;
+
+/// Whether a line is a comment.
+#[derive(Clone, Copy, Debug, PartialEq, Eq)]
+pub(crate) enum Mark {
+    Statement,
+    Comment,
+}
+
+/// The text of a paragraph, which grows line by line, and never longer than a text may be.
+#[derive(Drop)]
+pub(crate) struct Lines {
+    pub(crate) text: String,
+    /// Whether a line was left out for which the text has no room.
+    pub(crate) is_cut: bool,
+}
+
+/// How many bytes of words stand on a line of so many: all of them, or up to the last space where the next word begins behind it.
+fn line_end(words: &[u8], width: usize) -> usize
+    requires { 0 < width }
+    ensures most { result ≤ width }
+    ensures inside { result ≤ length words.now }
+    ensures some { 0 < length words.now → 0 < result }
+{
+    if words.len() <= width {
+        return words.len();
+    }
+    let mut end = width;
+    for at in 1..width + 1 {
+        if words[at] == b' ' {
+            end = at;
+        }
+    }
+    end
+}
+
+/// What stands behind the space with which words begin.
+fn behind_space(words: &[u8]) -> &[u8]
+    ensures { length result.now ≤ length words.now }
+{
+    match words.split_first() {
+        Some((b' ', others)) => others,
+        _ => words,
+    }
+}
+
+/// Adds characters.
+fn push_characters(text: &mut String, characters: &[u8]) -> Result<(), AllocError> {
+    for character in characters {
+        text.push(char::from(*character))?;
+    }
+    Ok(())
+}
+
+/// Adds so many spaces.
+fn push_spaces(text: &mut String, count: usize) -> Result<(), AllocError> {
+    for _ in 0..count {
+        text.push(' ')?;
+    }
+    Ok(())
+}
+
+/// Adds what stands before the words of a line.
+fn push_margin(text: &mut String, mark: Mark, indent: usize) -> Result<(), AllocError> {
+    match mark {
+        Mark::Statement => push_spaces(text, indent),
+        Mark::Comment => {
+            text.push_str("      *")?;
+            push_spaces(text, indent.saturating_sub(7))
+        }
+    }
+}
+
+impl Lines {
+    /// No line.
+    pub(crate) fn new(text: String) -> Lines {
+        Lines {
+            text,
+            is_cut: false,
+        }
+    }
+
+    /// Whether the text has room for words of so many bytes, and for what stands beside them on their lines; else the words are left out.
+    fn has_room(&mut self, count: usize) -> bool {
+        let lines = (count / 20).saturating_add(4);
+        let needed = lines.saturating_mul(COLUMNS + 1);
+        if self.text.len().saturating_add(needed) <= MAX_TEXT_BYTES {
+            return true;
+        }
+        self.is_cut = true;
+        false
+    }
+
+    /// Adds words on as many lines as they need.
+    fn push_words(
+        &mut self,
+        mark: Mark,
+        first: usize,
+        further: usize,
+        words: &[u8],
+    ) -> Result<(), AllocError>
+        requires first { first < 72 }
+        requires further { further < 72 }
+    {
+        let mut rest = words;
+        let mut indent = first;
+        for _ in 0..words.len() {
+            if rest.is_empty() {
+                break;
+            }
+            let (line, more) = rest.split_at(line_end(rest, COLUMNS - indent));
+            push_margin(&mut self.text, mark, indent)?;
+            push_characters(&mut self.text, line)?;
+            self.text.push('\n')?;
+            rest = behind_space(more);
+            indent = further;
+        }
+        Ok(())
+    }
+
+    /// Adds a statement, or one that stands as a comment: what it sends, and what receives.
+    pub(crate) fn push_statement(
+        &mut self,
+        mark: Mark,
+        sends: &str,
+        receives: &str,
+        whole: &str,
+    ) -> Result<(), AllocError> {
+        if !self.has_room(whole.len()) {
+            return Ok(());
+        }
+        if AREA_B + whole.len() <= COLUMNS {
+            return self.push_words(mark, AREA_B, FURTHER, whole.as_bytes());
+        }
+        self.push_words(mark, AREA_B, FURTHER, sends.as_bytes())?;
+        self.push_words(mark, FURTHER, FURTHER, receives.as_bytes())
+    }
+
+    /// Adds a remark, as a comment.
+    pub(crate) fn push_remark(&mut self, words: &str) -> Result<(), AllocError> {
+        if !self.has_room(words.len()) {
+            return Ok(());
+        }
+        self.push_words(Mark::Comment, REMARK, REMARK + 4, words.as_bytes())
+    }
+
+    /// Adds an entry of a list, as a comment.
+    pub(crate) fn push_listed(&mut self, words: &str) -> Result<(), AllocError> {
+        if !self.has_room(words.len()) {
+            return Ok(());
+        }
+        self.push_words(Mark::Comment, AREA_B, FURTHER, words.as_bytes())
+    }
+}

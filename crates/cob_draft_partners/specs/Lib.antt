@@ -1,0 +1,4 @@
+pub mod Entries
+pub mod Partners
+pub mod Verdicts
+pub mod Naming

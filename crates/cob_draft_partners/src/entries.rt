@@ -1,0 +1,188 @@
+//! The entries of a record, with what a statement needs to name them.
+
+ghost use Rattle.std.specs.Prelude.{◌≡◌, ◌+◌, ◌≤◌, [], ◌∷◌, length, OnOk};
+ghost use Rattle.cob_copybook_tree.specs.Lengths.{greatest_number};
+ghost use Rattle.cob_copybook_tree.specs.Nodes.{resolved_entry, tree_of};
+ghost use Rattle.cob_copybook_tree.specs.declared.node.Node.TheViews.{out-Node};
+ghost use Rattle.cob_copybook_names.specs.Listed.{texts};
+ghost use Rattle.cob_copybook_lengths.specs.Areas.{is_varying};
+ghost use Rattle.cob_layout.specs.Sound.{AreNested, own_dimension};
+ghost use Rattle.cob_layout_places.specs.Places.{is_table};
+ghost use Rattle.cob_limits.specs.Limits.{most_dimensions};
+ghost use Rattle.cob_move_references.specs.Candidates.{with_table};
+ghost use Rattle.cob_draft_partners.specs.Entries.{
+  ListsBehind,
+  draft_entries,
+  outside,
+  node_bearer,
+  seen_setting,
+  inside,
+};
+
+use arrayvec::ArrayVec;
+use cob_copybook_names::{Bearer, name_of, names_beneath};
+use cob_copybook_tree::{Node, ResolvedOccurs};
+use cob_layout::{Layout, is_table, records_are_sound};
+use cob_layout_places::Side;
+use cob_limits::MAX_SUBSCRIPTS;
+use std::alloc::{AllocError, Global};
+
+/// The greatest numbers of tables, one inside the other, the outermost first.
+pub type Tables = ArrayVec<u32, MAX_SUBSCRIPTS>;
+
+/// An entry of one of the two records.
+#[derive(Debug, Drop)]
+pub struct DraftEntry<'a> {
+    pub side: Side,
+    pub entry: &'a Node,
+    /// The tables that hold it or that it is.
+    pub tables: Tables,
+    /// Whether none of these varies.
+    pub steady: bool,
+    /// Whether it stands in no redefinition.
+    pub own: bool,
+}
+
+/// An entry with its names.
+pub type DraftBearer<'a> = Bearer<'a, DraftEntry<'a>>;
+
+/// Where an entry stands.
+#[derive(Drop)]
+struct Setting {
+    tables: Tables,
+    steady: bool,
+    own: bool,
+}
+
+/// Whether an entry that occurs so is a table that varies.
+fn is_varying(occurs: ResolvedOccurs) -> bool
+    ensures { result ≡ is_varying occurs }
+{
+    matches!(occurs, ResolvedOccurs::Varying { .. })
+}
+
+/// The same tables once more.
+fn copied(tables: &[u32]) -> Tables
+    requires { length tables.now ≤ most_dimensions }
+    ensures { result.items ≡ tables.now }
+{
+    let mut own = ArrayVec::new();
+    for table in tables {
+        own.push(*table);
+    }
+    own
+}
+
+/// The tables that hold an entry, and itself if it is one.
+fn tables_with(entry: &Node, holding: &[u32]) -> Tables
+    requires nested { length holding.now + own_dimension (out-Node entry.now).occurs
+        ≤ most_dimensions }
+    ensures { result.items ≡ with_table (is_table (out-Node entry.now).occurs)
+        (greatest_number (resolved_entry (out-Node entry.now))) holding.now }
+{
+    let mut tables = copied(holding);
+    if is_table(entry.occurs) {
+        tables.push(entry.occurs.most());
+    }
+    tables
+}
+
+/// Where the entries beneath an entry stand.
+fn inside(outer: &Setting, entry: &Node) -> Setting
+    requires nested { length outer.now.tables.items + own_dimension (out-Node entry.now).occurs
+        ≤ most_dimensions }
+    ensures { seen_setting result ≡ inside (seen_setting outer.now)
+        (resolved_entry (out-Node entry.now)) }
+{
+    Setting {
+        tables: tables_with(entry, outer.tables.as_slice()),
+        steady: outer.steady && !is_varying(entry.occurs),
+        own: outer.own && entry.redefines.is_none(),
+    }
+}
+
+/// Puts an entry behind those that are listed.
+fn list_entry<'a>(
+    alloc: Global,
+    side: Side,
+    above: &[&'a [u8]],
+    outer: &Setting,
+    entry: &'a Node,
+    listed: &mut Vec<DraftBearer<'a>>,
+) -> Result<(), AllocError>
+    requires nested { length outer.now.tables.items + own_dimension (out-Node entry.now).occurs
+        ≤ most_dimensions }
+    ensures { OnOk result (ListsBehind listed.old.items listed.new.items
+        (node_bearer side above.now outer.now entry.now ∷ [])) }
+{
+    let mut names = Vec::new(alloc);
+    names.extend_from_slice(above)?;
+    let inner = inside(outer, entry);
+    listed.push(Bearer {
+        name: name_of(&entry.name),
+        above: names,
+        entry: DraftEntry {
+            side,
+            entry,
+            tables: inner.tables,
+            steady: inner.steady,
+            own: inner.own,
+        },
+    })?;
+    Ok(())
+}
+
+/// Puts an entry, and then those beneath it, behind those that are listed. The names `above` are those of the groups that it stands in.
+fn list_tree<'a>(
+    alloc: Global,
+    side: Side,
+    above: &[&'a [u8]],
+    outer: &Setting,
+    entry: &'a Node,
+    listed: &mut Vec<DraftBearer<'a>>,
+) -> Result<(), AllocError>
+    requires nested { AreNested (length outer.now.tables.items) (tree_of entry.now) }
+    ensures { OnOk result (ListsBehind listed.old.items listed.new.items
+        (draft_entries side (texts above.now) (seen_setting outer.now) (tree_of entry.now))) }
+{
+    list_entry(alloc, side, above, outer, entry, listed)?;
+    if entry.children.is_empty() {
+        return Ok(());
+    }
+    let beneath = names_beneath(alloc, &entry.name, above)?;
+    let inner = inside(outer, entry);
+    for child in entry.children.iter() {
+        list_tree(alloc, side, beneath.as_slice(), &inner, child, listed)?;
+    }
+    Ok(())
+}
+
+/// Where a record stands.
+fn outside() -> Setting
+    ensures { seen_setting result ≡ outside }
+{
+    Setting {
+        tables: ArrayVec::new(),
+        steady: true,
+        own: true,
+    }
+}
+
+/// The entries of a record, a parent before its children.
+///
+/// # Errors
+///
+/// Where no memory is left.
+pub fn entries_of<'a>(
+    alloc: Global,
+    side: Side,
+    layout: &'a Layout,
+    listed: &mut Vec<DraftBearer<'a>>,
+) -> Result<(), AllocError>
+    ensures { OnOk result (ListsBehind listed.old.items listed.new.items
+        (draft_entries side [] outside layout.now)) }
+{
+    // For what `list_tree` asks: a record description is sound.
+    records_are_sound();
+    list_tree(alloc, side, &[], &outside(), layout.root(), listed)
+}

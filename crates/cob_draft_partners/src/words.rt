@@ -1,0 +1,20 @@
+//! The words that tell what is against a move.
+
+use crate::judge::Objection;
+use cob_move_receive::Refusal;
+use std::fmt;
+
+impl fmt::Display for Objection {
+    fn fmt<W: fmt::Write>(&self, f: &mut fmt::Formatter<W>) -> fmt::Result {
+        match self {
+            Objection::Tables => write!(f, "They stand in tables that are not as many"),
+            Objection::Varies => write!(f, "A table that varies holds one of them"),
+            Objection::Refused(Refusal::NotAllowed) => write!(f, "There is no such move"),
+            Objection::Refused(Refusal::Literal) => write!(f, "The literal is not as asked"),
+            Objection::Refused(Refusal::TooLong) => {
+                write!(f, "The sender has more than 31 characters")
+            }
+            Objection::Loses(losses) => write!(f, "It may lose {losses}"),
+        }
+    }
+}

@@ -1,0 +1,33 @@
+//! What is wrong where moves stop at a record, in words.
+//!
+//! A fault line names the record, the side, the offset and the cause. A person who has it wants to know which item that is, what stands in it, which
+//! statement asked, and what to do: [`StopText`] prints it in three lines, as
+//!
+//! ```text
+//! BALANCE OF CUST-REC, PIC S9(7)V99 COMP-3, at offset 20: the bytes 40 40 40 40 40 are no packed number: the last half byte is 0, no sign
+//! asked by moves line 3: BALANCE OF CUST-REC to BALANCE OF NEW-REC
+//! look at these bytes; where the first record stops so, the transfer may have changed its code page
+//! ```
+//!
+//! What is promised is what is decided: of the bytes of a number which part of them is to blame, and that they represent none ([`number_flaw`], by the
+//! flaws of `cob_number_flaws`). Which words tell it is shown by `cob_jobs`.
+//!
+//! It stands on `cob_number_flaws` and `cob_codec` for flaws, on `cob_lossless_words` for the names of occurrences, on `cob_layout` and
+//! `cob_layout_places` for places and moves as data, on `cob_copybook_tree`, `cob_picture` and `cob_decimal` for entries and numbers, and on
+//! `cob_records` for frames.
+#![tactic(auto)]
+
+mod counts;
+mod flaws;
+mod frames;
+mod items;
+mod numbers;
+mod occurrences;
+mod stops;
+
+pub use counts::{CountTable, counted_at};
+pub use flaws::{NumberFlaw, number_flaw};
+pub use frames::frame_words;
+pub use items::ItemText;
+pub use occurrences::{Occurrence, Qualifying, SentText};
+pub use stops::{Asker, AskingMove, StopCase, StopText};

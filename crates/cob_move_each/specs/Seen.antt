@@ -1,0 +1,88 @@
+-- What is handed out, without where it lies in memory.
+use Rattle.std.specs.Prelude.{◌≡◌, ℕ, List, [], ◌∷◌, map, Option}
+use Rattle.cob_copybook_tree.specs.Forests.{Forest}
+use Rattle.cob_copybook_tree.specs.Nodes.{Resolved}
+use Rattle.cob_move_apply.specs.Applied.{Content}
+use Rattle.cob_move_receive.specs.Sent.{sent}
+use Rattle.cob_layout_places.specs.declared.reference.Ref.{Ref}
+use Rattle.cob_layout_places.specs.declared.operands.PairMoves.{PairMoves}
+use Rattle.cob_layout_places.specs.declared.operands.Side.TheVariants.{In, Out}
+use Rattle.cob_layout_places.specs.declared.operands.StatementMoves.{StatementMoves}
+use Rattle.cob_layout_places.specs.Moves.{Entry, Move, Records, Sender, moves_by, numbered_move_by, operand_in}
+use Rattle.cob_move_each.specs.Each.{AreOfMove, AreOfMoves, AreSentBy, AreSingles, EachEnding, IsSingleTo, LacksFor, NumberedMove, Sees, Single, append_singles, numbered_of_pairs, stop_of}
+use Rattle.cob_move_each.specs.declared.single.AskedStop.{AskedStop}
+use Rattle.cob_move_each.specs.declared.single.MoveStop.{MoveStop}
+use Rattle.cob_move_each.specs.declared.single.Given.{Given}
+use Rattle.cob_move_each.specs.declared.single.MoveParts.{MoveParts}
+use Rattle.cob_move_each.specs.declared.single.SingleMove.{SingleMove}
+use Rattle.cob_move_each.specs.declared.room.RecordLayouts.{RecordLayouts}
+
+-- what the code's value gives
+abbrev pub given_content : Given → Content
+given_content g = record { sent = sent g.sent; side = g.side; offset = g.offset }
+
+-- a single move that is handed out
+abbrev pub handed_single : SingleMove → Single
+handed_single one = record {
+  number = one.number;
+  sender = one.sender.now;
+  content = given_content one.given;
+  receiver = one.receiver.now;
+  place = one.place;
+  storage = one.storage.now;
+}
+
+-- a move of the code
+abbrev pub move_of : MoveParts → NumberedMove
+move_of m = record { statement = m.statement; pair = m.pair; sender = m.sender.now; receivers = m.receivers.now }
+
+-- the records of these layouts
+abbrev pub records_of_layouts : RecordLayouts → Records
+records_of_layouts l = record { input = l.input.now; output = l.output.now }
+
+-- A receiver of a move gets what its sender gives: that single move is handed out, and the storage is what it leaves.
+abbrev pub HandsOut : Forest Resolved → MoveParts → ℕ → Given → Ref → (before after : List ℕ) → (old new : Option (List Single)) → Type 0
+HandsOut tree m k given q before after old new =
+    (one : Single) × IsSingleTo tree (move_of m) k (given_content given) q before one × (one.storage ≡ after) × (new ≡ append_singles old (one ∷ []))
+
+-- it doesn't get it, and the single move stops there
+abbrev pub StopsAtReceiver : Forest Resolved → MoveParts → ℕ → Given → Ref → List ℕ → MoveStop → Type 0
+StopsAtReceiver tree m k given q before stop =
+    (lack : AskedStop) × LacksFor tree (given_content given) q before lack × (stop ≡ stop_of (move_of m) k lack)
+
+-- what was seen grew by the single moves of a move that gives this
+abbrev pub SeesSingles : Forest Resolved → MoveParts → Given → List ℕ → EachEnding → (old new : Option (List Single)) → Type 0
+SeesSingles tree m given before end old new =
+    Sees old new (λ ones. AreSingles tree (move_of m) (given_content given) 0 m.receivers.now before ones end)
+
+-- the sender that is an entry of the input record
+abbrev pub input_sender : RecordLayouts → Ref → Sender
+input_sender l entry = Entry In l.reading (operand_in l.input.now entry)
+
+-- the sender that is an entry of the output record
+abbrev pub output_sender : RecordLayouts → Ref → Sender
+output_sender l entry = Entry Out l.reading (operand_in l.output.now entry)
+
+-- what was seen grew by the single moves of a move with this sender
+abbrev pub SeesSent : RecordLayouts → Sender → MoveParts → (input before : List ℕ) → EachEnding → (old new : Option (List Single)) → Type 0
+SeesSent l s m input before end old new = Sees old new (λ ones. AreSentBy s (records_of_layouts l) (move_of m) input before ones end)
+
+-- what was seen grew by the single moves of a move
+abbrev pub SeesMove : RecordLayouts → NumberedMove → (input before : List ℕ) → EachEnding → (old new : Option (List Single)) → Type 0
+SeesMove l m input before end old new = Sees old new (λ ones. AreOfMove l.reading (records_of_layouts l) m input before ones end)
+
+-- what was seen grew by the single moves of moves, in their order, up to the first that stops
+abbrev pub SeesMoves : RecordLayouts → List NumberedMove → (input before : List ℕ) → EachEnding → (old new : Option (List Single)) → Type 0
+SeesMoves l ms input before end old new = Sees old new (λ ones. AreOfMoves l.reading (records_of_layouts l) ms input before ones end)
+
+-- the moves of the pairs of two groups, by their numbers
+abbrev pub numbered_of_group : ℕ → PairMoves → List NumberedMove
+numbered_of_group n g = numbered_of_pairs n g 0 g.pairs.items
+
+-- the moves that these are
+abbrev pub moves_of_group : RecordLayouts → PairMoves → List Move
+moves_of_group l g = map (numbered_move_by l.reading (records_of_layouts l) g) g.pairs.items
+
+-- the moves that statements are
+abbrev pub moves_meant : RecordLayouts → List StatementMoves → List Move
+moves_meant l statements = moves_by l.reading (records_of_layouts l) statements

@@ -1,0 +1,71 @@
+//! Where operands stand.
+
+ghost use Rattle.std.specs.Prelude.{◌≡◌, ◌+◌, ◌≤◌, length, IfOk};
+ghost use Rattle.cob_copybook_tree.specs.Forests.{entries_in};
+ghost use Rattle.cob_layout.specs.Sound.{IsSound};
+ghost use Rattle.cob_layout.specs.Storage.{greatest_length};
+ghost use Rattle.cob_layout_places.specs.Moves.{IsOperand, operand_in};
+ghost use Rattle.cob_move_receive.specs.Sent.{Occupies};
+ghost use Rattle.cob_move_apply.specs.Located.{Located};
+
+use cob_layout::{Counts, Kind, Layout, Place, Ref};
+use cob_layout_places::Side;
+use cob_move_apply::{Stop, StopCause};
+
+/// The storage of the record of one side.
+#[derive(Clone, Copy)]
+pub(crate) struct Stored<'a> {
+    pub(crate) side: Side,
+    pub(crate) layout: &'a Layout,
+    pub(crate) bytes: &'a [u8],
+}
+
+/// What an entry of the record of a layout describes.
+pub(crate) fn entry_kind<'a>(layout: &'a Layout, entry: &Ref) -> &'a Kind
+    requires sound { IsSound layout.now }
+    requires operand { IsOperand layout.now (operand_in layout.now entry.now) }
+    ensures { result.now ≡ (operand_in layout.now entry.now).kind }
+{
+    layout.kind(entry.node)
+}
+
+/// Where an entry stands in a storage, sending or receiving, by the counts there that it needs.
+///
+/// # Errors
+///
+/// The first count that it needs and that isn't valid; a subscript past its table's count.
+pub(crate) fn locate(
+    stored: &Stored<'_>,
+    entry: &Ref,
+    receiving: bool,
+    counts: &mut Counts,
+) -> Result<Place, Stop>
+    requires sound { IsSound stored.now.layout.now }
+    requires operand { IsOperand stored.now.layout.now
+        (operand_in stored.now.layout.now entry.now) }
+    requires room { length counts.old ≡ entries_in stored.now.layout.now }
+    ensures located { Located stored.now.side stored.now.layout.now receiving
+        (operand_in stored.now.layout.now entry.now) stored.now.bytes.now result }
+    ensures fits { IfOk result
+        (λ p. p.offset + p.length ≤ greatest_length stored.now.layout.now) }
+    ensures filled { IfOk result
+        (λ p. Occupies (operand_in stored.now.layout.now entry.now).kind p.length) }
+    ensures room { length counts.new ≡ length counts.old }
+{
+    let layout = stored.layout;
+    if let Err(fault) = layout.needed(entry, receiving, stored.bytes, counts) {
+        return Err(Stop {
+            side: stored.side,
+            offset: fault.offset,
+            cause: StopCause::Count,
+        });
+    }
+    match layout.place(entry, counts) {
+        Ok(place) => Ok(place),
+        Err(fault) => Err(Stop {
+            side: stored.side,
+            offset: fault.offset,
+            cause: StopCause::Subscript,
+        }),
+    }
+}

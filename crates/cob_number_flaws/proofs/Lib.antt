@@ -1,0 +1,4 @@
+pub mod HalfLemmas
+pub mod PackedLemmas
+pub mod ZonedLemmas
+pub mod SeparateLemmas
