@@ -15,7 +15,7 @@ use Rattle.clap.specs.declared.error.kind.ErrorKind.TheVariants.{MissingRequired
 use Rattle.clap.specs.declared.parser.matches.ValueSource.{ValueSource}
 use Rattle.clap.specs.declared.parser.matches.ValueSource.TheVariants.{CommandLine, DefaultValue}
 use Rattle.clap.specs.declared.builder.value_parser.Reading.TheVariants.{AsWritten}
-use Rattle.cob_convert_options.specs.Options.{Alone, AreOptions, AreThere, Default, Given, IsThere, Kind, Optional, Options, Request, Required, default_of, found_at, taken}
+use Rattle.cob_convert_options.specs.Options.{Alone, AreOptions, AreThere, Default, Given, IsThere, OptionKind, Optional, Options, Request, Required, default_of, found_at, taken}
 use Rattle.cob_convert_options.proofs.Rules.{rule_from, rules_from, same_text}
 use Rattle.cob_convert_options.proofs.Rows.{add_row, given_row}
 use Rattle.cob_convert_options.proofs.Turns.{at, hold, leaf_shape, not_nil, or_else_first}
@@ -52,7 +52,7 @@ find_entry name (e ∷ E) = go (bytes_eq e.0 name) (find_entry name E)
     go false later = later
 
 -- the entry of an option that is not given
-abbrev pub default_entry : Text → Kind → Option Entry
+abbrev pub default_entry : Text → OptionKind → Option Entry
 default_entry name (Default value) = Some (name, value, DefaultValue)
 default_entry name Alone = Some (name, codes "false", DefaultValue)
 default_entry name _ = None
@@ -79,10 +79,10 @@ abbrev WithDefaults : Options → List Entry → Type 0
 WithDefaults os E = (E' : List Entry) × (fold with_default (map entry_row E) (rules_from os) ≡ map entry_row E') × Looks E os E'
 
 -- an option that is given keeps its row, and is not looked for among the defaults
-given_keeps : (n : Text) (kind : Kind) (os : Options) (E : List Entry) → has_row n (map entry_row E) ≡ true → WithDefaults os E → WithDefaults ((n, kind) ∷ os) E
+given_keeps : (n : Text) (kind : OptionKind) (os : Options) (E : List Entry) → has_row n (map entry_row E) ≡ true → WithDefaults os E → WithDefaults ((n, kind) ∷ os) E
 given_keeps n kind os E there later = (later.0, ap (λ rows. fold with_default rows (rules_from os)) (same kind) ∙ later.1, λ name. later.2 name ∙ look name (bytes_eq n name) refl)
   where
-    same : (kind : Kind) → with_default (map entry_row E) (rule_from n kind) ≡ map entry_row E
+    same : (kind : OptionKind) → with_default (map entry_row E) (rule_from n kind) ≡ map entry_row E
     same Required = rw there refl
     same (Default value) = rw there refl
     same Optional = rw there refl
@@ -100,7 +100,7 @@ given_keeps n kind os E there later = (later.0, ap (λ rows. fold with_default r
     look name false e = sym (ap (λ b. option_or (entry_at name E) (option_or (pick b (default_entry n kind)) (defaults_in name os))) e)
 
 -- an option without a default leaves no row
-nothing_added : (n : Text) (kind : Kind) (os : Options) (E : List Entry) → with_default (map entry_row E) (rule_from n kind) ≡ map entry_row E → default_entry n kind ≡ None
+nothing_added : (n : Text) (kind : OptionKind) (os : Options) (E : List Entry) → with_default (map entry_row E) (rule_from n kind) ≡ map entry_row E → default_entry n kind ≡ None
     → WithDefaults os E → WithDefaults ((n, kind) ∷ os) E
 nothing_added n kind os E same empty later = (
   later.0,
@@ -110,7 +110,7 @@ nothing_added n kind os E same empty later = (
 )
 
 -- an option with a default leaves a row of it
-default_added : (n : Text) (kind : Kind) (os : Options) (E : List Entry) (e : Entry) → with_default (map entry_row E) (rule_from n kind) ≡ map entry_row (E ++ e ∷ [])
+default_added : (n : Text) (kind : OptionKind) (os : Options) (E : List Entry) (e : Entry) → with_default (map entry_row E) (rule_from n kind) ≡ map entry_row (E ++ e ∷ [])
     → default_entry n kind ≡ Some e → e.0 ≡ n → WithDefaults os (E ++ e ∷ []) → WithDefaults ((n, kind) ∷ os) E
 default_added n kind os E e same is named later = (later.0, ap (λ rows. fold with_default rows (rules_from os)) same ∙ later.1, λ name. later.2 name ∙ look name)
   where
@@ -134,7 +134,7 @@ with_defaults [] E = (E, refl, λ name. or_none (entry_at name E))
     or_none (Some e) = refl
 with_defaults (o ∷ os) E = go o.0 o.1 (has_row o.0 (map entry_row E)) refl (λ X. with_defaults os X)
   where
-    go : (n : Text) (kind : Kind) (b : Bool) → has_row n (map entry_row E) ≡ b → ((X : List Entry) → WithDefaults os X) → WithDefaults ((n, kind) ∷ os) E
+    go : (n : Text) (kind : OptionKind) (b : Bool) → has_row n (map entry_row E) ≡ b → ((X : List Entry) → WithDefaults os X) → WithDefaults ((n, kind) ∷ os) E
     go n kind true there later = given_keeps n kind os E there (later E)
     go n Required false new later = nothing_added n Required os E (rw new refl) refl (later E)
     go n (Default v) false new later = default_added n (Default v) os E (n, v, DefaultValue)
@@ -200,7 +200,7 @@ nothing_lacks : (all os : Options) (given : Given) → AreThere os given
 nothing_lacks all [] given there = refl
 nothing_lacks all (o ∷ os) given there = go o.0 o.1 there.0 (nothing_lacks all os given there.1)
   where
-    go : (n : Text) (kind : Kind) → IsThere kind n given
+    go : (n : Text) (kind : OptionKind) → IsThere kind n given
         → list_any (λ a. a.required && not (is_given a.id (rows_of_given all given))) (rules_from os) ≡ false
         → list_any (λ a. a.required && not (is_given a.id (rows_of_given all given))) (rule_from n kind ∷ rules_from os) ≡ false
     go n Required is later = ap₂ (λ b d. not b || d) (given_is_there all given n is.0 is.1) later
@@ -214,7 +214,7 @@ unfolding defaults_fault
 defaults_pass [] rows = refl
 defaults_pass (o ∷ os) rows = ap₂ or_else (one o.0 o.1 (has_row o.0 rows) refl) (defaults_pass os (with_default rows (rule_from o.0 o.1)))
   where
-    one : (n : Text) (kind : Kind) (b : Bool) → has_row n rows ≡ b → default_fault rows (rule_from n kind) ≡ []
+    one : (n : Text) (kind : OptionKind) (b : Bool) → has_row n rows ≡ b → default_fault rows (rule_from n kind) ≡ []
     one n Required true e = rw e refl
     one n Required false e = rw e refl
     one n (Default v) true e = rw e refl
@@ -278,7 +278,7 @@ by_default : (name : Text) (os : Options) → option_map_or (λ (e : Entry). exp
 by_default name [] = refl
 by_default name (o ∷ os) = go o.0 o.1 (bytes_eq o.0 name) (by_default name os)
   where
-    go : (n : Text) (kind : Kind) (b : Bool) → option_map_or (λ (e : Entry). explicit_source (Some e.2)) (defaults_in name os) false ≡ false
+    go : (n : Text) (kind : OptionKind) (b : Bool) → option_map_or (λ (e : Entry). explicit_source (Some e.2)) (defaults_in name os) false ≡ false
         → option_map_or (λ (e : Entry). explicit_source (Some e.2)) (option_or (pick b (default_entry n kind)) (defaults_in name os)) false ≡ false
     go n kind false later = later
     go n Required true later = later
@@ -315,7 +315,7 @@ none_lack all (o ∷ os) given passed = go o.0 o.1 (none_lack all os given) pass
     given_true true d e = (refl, e)
     given_true false d e = absurd (true≢false e)
 
-    go : (n : Text) (kind : Kind) → (list_any (λ a. a.required && not (is_given a.id (rows_of_given all given))) (rules_from os) ≡ false → AreThere os given)
+    go : (n : Text) (kind : OptionKind) → (list_any (λ a. a.required && not (is_given a.id (rows_of_given all given))) (rules_from os) ≡ false → AreThere os given)
         → list_any (λ a. a.required && not (is_given a.id (rows_of_given all given))) (rule_from n kind ∷ rules_from os) ≡ false → AreThere ((n, kind) ∷ os) given
     go n Required later e = let both = given_true _ _ e in (there_is_given all given n both.0, later both.1)
     go n (Default v) later e = (tt, later e)

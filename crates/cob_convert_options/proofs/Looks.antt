@@ -5,7 +5,7 @@ use Rattle.std.specs.Str.{bytes_eq}
 use Rattle.std.proofs.Math.Path.{fun_ext}
 use Rattle.clap.specs.Lexer.{has_byte}
 use Rattle.clap.specs.Words.{Text, first_of}
-use Rattle.cob_convert_options.specs.Options.{Alone, AreOptions, AreThere, Default, Given, IsThere, Kind, Optional, Options, Request, Required, alone, apart, default_of, ended, found_at, joined, none, taken}
+use Rattle.cob_convert_options.specs.Options.{Alone, AreOptions, AreThere, Default, Given, IsThere, OptionKind, Optional, Options, Request, Required, alone, apart, default_of, ended, found_at, joined, none, taken}
 use Rattle.cob_convert_options.specs.Looks.{AreAll, AreNamed, IsNamed, Look}
 use Rattle.cob_convert_options.proofs.Rules.{same_as_itself, same_text}
 use Rattle.cob_convert_options.proofs.Level.{default_entry, defaults_in, look_is, pick, rows_of_given, value_in}
@@ -55,13 +55,13 @@ default_is : (os : Options) → are_sound os ≡ true → (name : Text) → valu
 default_is [] e name = refl
 default_is (o ∷ os) e name = let h = sound_of o.0 os e in go o.0 o.1 (bytes_eq o.0 name) refl h.fresh (default_is os h.rest name)
   where
-    go : (n : Text) (kind : Kind) (b : Bool) → bytes_eq n name ≡ b → found_at n os ≡ None → value_in (defaults_in name os) ≡ default_of (found_at name os)
+    go : (n : Text) (kind : OptionKind) (b : Bool) → bytes_eq n name ≡ b → found_at n os ≡ None → value_in (defaults_in name os) ≡ default_of (found_at name os)
         → value_in (option_or (pick b (default_entry n kind)) (defaults_in name os))
-        ≡ default_of (option_map (λ (it : Text × Kind). it.1) (cond b (Some (n, kind)) (find (λ it. bytes_eq it.0 name) os)))
+        ≡ default_of (option_map (λ (it : Text × OptionKind). it.1) (cond b (Some (n, kind)) (find (λ it. bytes_eq it.0 name) os)))
     go n kind false e fresh later = later
     go n kind true e fresh later = by kind (later ∙ ap default_of (sym (ap (λ m. found_at m os) (same_text n name e)) ∙ fresh))
       where
-        by : (kind : Kind) → value_in (defaults_in name os) ≡ None → value_in (option_or (default_entry n kind) (defaults_in name os)) ≡ default_of (Some kind)
+        by : (kind : OptionKind) → value_in (defaults_in name os) ≡ None → value_in (option_or (default_entry n kind) (defaults_in name os)) ≡ default_of (Some kind)
         by Required empty = empty
         by (Default v) empty = refl
         by Optional empty = empty
@@ -77,11 +77,11 @@ abbrev AreFirst : Options → Options → Type 0
 AreFirst all [] = Unit {0}
 AreFirst all (o ∷ os) = (found_at o.0 all ≡ Some o.1) × AreFirst all os
 
-first_found : (o : Text × Kind) (os : Options) (name : Text) (b : Bool) → bytes_eq o.0 name ≡ b
-    → found_at name (o ∷ os) ≡ option_map (λ (it : Text × Kind). it.1) (cond b (Some o) (find (λ it. bytes_eq it.0 name) os))
-first_found o os name b e = ap (λ c. option_map (λ (it : Text × Kind). it.1) (cond c (Some o) (find (λ it. bytes_eq it.0 name) os))) e
+first_found : (o : Text × OptionKind) (os : Options) (name : Text) (b : Bool) → bytes_eq o.0 name ≡ b
+    → found_at name (o ∷ os) ≡ option_map (λ (it : Text × OptionKind). it.1) (cond b (Some o) (find (λ it. bytes_eq it.0 name) os))
+first_found o os name b e = ap (λ c. option_map (λ (it : Text × OptionKind). it.1) (cond c (Some o) (find (λ it. bytes_eq it.0 name) os))) e
 
-behind : (o : Text × Kind) (all : Options) → found_at o.0 all ≡ None → (os : Options) → AreFirst all os → AreFirst (o ∷ all) os
+behind : (o : Text × OptionKind) (all : Options) → found_at o.0 all ≡ None → (os : Options) → AreFirst all os → AreFirst (o ∷ all) os
 behind o all fresh [] h = tt
 behind o all fresh (x ∷ os) h = (go (bytes_eq o.0 x.0) refl, behind o all fresh os h.1)
   where
@@ -103,7 +103,7 @@ names_all all given (o ∷ os) first there = (go o.0 o.1 first.0 there.0, names_
     some None v = refl
     some (Some u) v = refl
 
-    go : (n : Text) (kind : Kind) → found_at n all ≡ Some kind → IsThere kind n given → IsNamed kind n (taken all given)
+    go : (n : Text) (kind : OptionKind) → found_at n all ≡ Some kind → IsThere kind n given → IsNamed kind n (taken all given)
     go n Required is (v, e) = ap (λ x. is_some (option_or x (default_of (found_at n all)))) e
     go n (Default v) is there = ap (λ k. is_some (option_or (found_at n given) (default_of k))) is ∙ some (found_at n given) v
     go n Optional is there = tt
@@ -114,7 +114,7 @@ pub names_there : (os : Options) (given : Given) → are_sound os ≡ true → A
 names_there os given sound there = names_all os given os (are_first os sound) there
 
 -- what has to be there names something
-abbrev IsAsked : Kind → Text → Look → Type 0 → Type 0
+abbrev IsAsked : OptionKind → Text → Look → Type 0 → Type 0
 IsAsked Required name look rest = (is_some (look name) ≡ true) × rest
 IsAsked kind name look rest = rest
 
@@ -130,7 +130,7 @@ asked_there all given (o ∷ os) first asked = go o.0 o.1 first.0 asked (asked_t
     given_is n None e some = absurd (true≢false (sym some))
     given_is n (Some v) e some = (v, e)
 
-    go : (n : Text) (kind : Kind) → found_at n all ≡ Some kind → IsAsked kind n (taken all given) (AreAsked os (taken all given))
+    go : (n : Text) (kind : OptionKind) → found_at n all ≡ Some kind → IsAsked kind n (taken all given) (AreAsked os (taken all given))
         → (AreAsked os (taken all given) → AreThere os given) → IsThere kind n given × AreThere os given
     go n Required is asked later = (
       given_is n (found_at n given) refl (sym (ap (λ k. is_some (option_or (found_at n given) (default_of k))) is) ∙ asked.0),

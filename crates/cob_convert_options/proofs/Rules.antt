@@ -6,7 +6,7 @@ use Rattle.clap.specs.Walk.{Rule, Text, arg_by_id, arg_by_index, arg_by_long, ar
 use Rattle.clap.specs.Simple.{filled, help_rule, new_rule}
 use Rattle.clap.specs.declared.builder.action.ArgAction.TheVariants.{Set, SetTrue}
 use Rattle.clap.specs.declared.builder.value_parser.ValueParser.TheVariants as vp
-use Rattle.cob_convert_options.specs.Options.{Alone, Default, Kind, Optional, Options, Request, Required, found_at}
+use Rattle.cob_convert_options.specs.Options.{Alone, Default, OptionKind, Optional, Options, Request, Required, found_at}
 
 -- an option with a value
 abbrev pub valued_rule : Text → Bool → List Text → Rule
@@ -36,7 +36,7 @@ abbrev pub request_rule : Text → Rule
 request_rule name = record (filled help_rule) { id = name; long = Some name }
 
 -- the rule of an option
-abbrev pub rule_from : Text → Kind → Rule
+abbrev pub rule_from : Text → OptionKind → Rule
 rule_from name Required = valued_rule name true []
 rule_from name (Default value) = valued_rule name false (value ∷ [])
 rule_from name Optional = valued_rule name false []
@@ -59,7 +59,7 @@ or_false true = refl
 or_false false = refl
 
 -- a test that each rule meets as its name does finds the rule of the option of that name
-pub find_rule : (test : Rule → Bool) (name : Text) → ((n : Text) (kind : Kind) → test (rule_from n kind) ≡ bytes_eq n name) → (os : Options)
+pub find_rule : (test : Rule → Bool) (name : Text) → ((n : Text) (kind : OptionKind) → test (rule_from n kind) ≡ bytes_eq n name) → (os : Options)
     → find test (rules_from os) ≡ option_map (rule_from name) (found_at name os)
 find_rule test name same [] = refl
 find_rule test name same (o ∷ os) = go (bytes_eq o.0 name) refl (find_rule test name same os)
@@ -72,7 +72,7 @@ find_rule test name same (o ∷ os) = go (bytes_eq o.0 name) refl (find_rule tes
 pub by_id : (os : Options) (name : Text) → arg_by_id (rules_from os) name ≡ option_map (rule_from name) (found_at name os)
 by_id os name = find_rule (λ a. bytes_eq a.id name) name each os
   where
-    each : (n : Text) (kind : Kind) → bytes_eq (rule_from n kind).id name ≡ bytes_eq n name
+    each : (n : Text) (kind : OptionKind) → bytes_eq (rule_from n kind).id name ≡ bytes_eq n name
     each n Required = refl
     each n (Default value) = refl
     each n Optional = refl
@@ -82,7 +82,7 @@ by_id os name = find_rule (λ a. bytes_eq a.id name) name each os
 pub by_long : (os : Options) (name : Text) → arg_by_long (rules_from os) name ≡ option_map (rule_from name) (found_at name os)
 by_long os name = find_rule (λ a. not (is_some a.index) && has_long a name) name each os
   where
-    each : (n : Text) (kind : Kind) → (not (is_some (rule_from n kind).index) && has_long (rule_from n kind) name) ≡ bytes_eq n name
+    each : (n : Text) (kind : OptionKind) → (not (is_some (rule_from n kind).index) && has_long (rule_from n kind) name) ≡ bytes_eq n name
     each n Required = or_false (bytes_eq n name)
     each n (Default value) = or_false (bytes_eq n name)
     each n Optional = or_false (bytes_eq n name)
@@ -94,7 +94,7 @@ pub by_index : (os : Options) (i : ℕ) → arg_by_index (rules_from os) i ≡ N
 by_index [] i = refl
 by_index (o ∷ os) i = go o.1 (by_index os i)
   where
-    go : (kind : Kind) → arg_by_index (rules_from os) i ≡ None → arg_by_index (rule_from o.0 kind ∷ rules_from os) i ≡ None
+    go : (kind : OptionKind) → arg_by_index (rules_from os) i ≡ None → arg_by_index (rule_from o.0 kind ∷ rules_from os) i ≡ None
     go Required later = later
     go (Default value) later = later
     go Optional later = later
@@ -114,7 +114,7 @@ by_short (o ∷ os) x = go o.1 (by_short os x)
     asks true later = (o.0, refl)
     asks false later = later
 
-    go : (kind : Kind) → AsksOrNot (arg_by_short (rules_from os) x) → AsksOrNot (arg_by_short (rule_from o.0 kind ∷ rules_from os) x)
+    go : (kind : OptionKind) → AsksOrNot (arg_by_short (rules_from os) x) → AsksOrNot (arg_by_short (rule_from o.0 kind ∷ rules_from os) x)
     go Required later = later
     go (Default value) later = later
     go Optional later = later

@@ -9,7 +9,7 @@ use Rattle.clap.specs.Simple.{Shape, new_shape}
 use Rattle.clap.specs.Kinds.{Kinds, or_else}
 use Rattle.clap.specs.Faults.{bundle_fault, bundle_step_fault, flag_word_fault, flags_fault, long_fault, react_fault, settle_fault, short_fault, turn_fault}
 use Rattle.clap.specs.declared.error.kind.ErrorKind.TheVariants.{InvalidValue, UnknownArgument}
-use Rattle.cob_convert_options.specs.Options.{Alone, Default, Kind, Optional, Options, Request, Required, found_at, stands_alone, takes_value}
+use Rattle.cob_convert_options.specs.Options.{Alone, Default, OptionKind, Optional, Options, Request, Required, found_at, stands_alone, takes_value}
 use Rattle.cob_convert_options.proofs.Rules.{AsksOrNot, by_id, by_index, by_long, by_short, flag_rule, same_as_itself, rule_from, rules_from, valued_rule}
 
 -- a built command with these options, and with no command below it
@@ -63,7 +63,7 @@ module _ (command : Text) (os : Options) where
       → takes_value (found_at n os) ≡ true → turn_fault s [] (at (hold rows p)) word ≡ or_else (settle_fault c false (hold rows p)) []
   named_turn rows p word n other long takes = go (found_at n os) refl takes
     where
-      go : (found : Option Kind) → found_at n os ≡ found → takes_value found ≡ true
+      go : (found : Option OptionKind) → found_at n os ≡ found → takes_value found ≡ true
           → turn_fault s [] (at (hold rows p)) word ≡ or_else (settle_fault c false (hold rows p)) []
       go None is takes = absurd (true≢false (sym takes))
       go (Some Required) is takes = rw (other, long, by_long os n, is) refl
@@ -77,7 +77,7 @@ module _ (command : Text) (os : Options) where
   unfolding walked
   named_walk rows p word n other long takes = go (found_at n os) refl takes
     where
-      go : (found : Option Kind) → found_at n os ≡ found → takes_value found ≡ true
+      go : (found : Option OptionKind) → found_at n os ≡ found → takes_value found ≡ true
           → walked c [] (at (hold rows p)) word ≡ waits n (hold (settled_rows c p rows) (Some (n, [])))
       go None is takes = absurd (true≢false (sym takes))
       go (Some Required) is takes = rw (other, long, by_long os n, is) refl
@@ -95,7 +95,7 @@ module _ (command : Text) (os : Options) where
   unfolding walked
   joined_turn rows p word n value other long takes = go (found_at n os) refl takes
     where
-      go : (found : Option Kind) → found_at n os ≡ found → takes_value found ≡ true
+      go : (found : Option OptionKind) → found_at n os ≡ found → takes_value found ≡ true
           → (required : Bool) × (defaults : List Text)
           × (turn_fault s [] (at (hold rows p)) word ≡ or_else (react_fault c false (valued_rule n required defaults) (value ∷ []) (hold rows p)) [])
           × (walked c [] (at (hold rows p)) word ≡ at (hold (used (valued_rule n required defaults) (value ∷ []) (settled_rows c p rows)) None))
@@ -114,7 +114,7 @@ module _ (command : Text) (os : Options) where
   unfolding walked
   alone_turn rows p word n other long alone = go (found_at n os) refl alone
     where
-      go : (found : Option Kind) → found_at n os ≡ found → stands_alone found ≡ true
+      go : (found : Option OptionKind) → found_at n os ≡ found → stands_alone found ≡ true
           → (turn_fault s [] (at (hold rows p)) word ≡ or_else (react_fault c false (flag_rule n) [] (hold rows p)) [])
           × (walked c [] (at (hold rows p)) word ≡ at (hold (used (flag_rule n) [] (settled_rows c p rows)) None))
       go None is alone = absurd (true≢false (sym alone))
@@ -138,7 +138,7 @@ module _ (command : Text) (os : Options) where
   other_option h word n value long takes alone passed = refused (found_at n os) value takes alone
       (sym (ap (λ o. long_fault c false o value h) (by_long os n)) ∙ (sym (ap (λ o. flag_word_fault c false o word h) long) ∙ passed))
     where
-      refused : (found : Option Kind) (value : Option Text) → takes_value found ≡ false → (value ≡ None → stands_alone found ≡ false)
+      refused : (found : Option OptionKind) (value : Option Text) → takes_value found ≡ false → (value ≡ None → stands_alone found ≡ false)
           → long_fault c false (option_map (rule_from n) found) value h ≡ [] → ⊥
       refused None value takes alone e = not_nil _ _ e
       refused (Some Required) value takes alone e = true≢false takes
@@ -180,7 +180,7 @@ module _ (command : Text) (os : Options) where
   unfolding walked
   value_turn rows n word takes other long short = go (found_at n os) refl takes
     where
-      go : (found : Option Kind) → found_at n os ≡ found → takes_value found ≡ true
+      go : (found : Option OptionKind) → found_at n os ≡ found → takes_value found ≡ true
           → (turn_fault s [] (waits n (hold rows (Some (n, [])))) word ≡ []) × (walked c [] (waits n (hold rows (Some (n, [])))) word ≡ at (hold rows (Some (n, word ∷ []))))
       go None is takes = absurd (true≢false (sym takes))
       go (Some Required) is takes = (rw (other, long, short) refl, rw (other, long, short, by_id os n, is, same_as_itself n) refl)
@@ -195,7 +195,7 @@ module _ (command : Text) (os : Options) where
   unfolding walked flags_fault bundle_met
   value_letters_turn rows n word f flags takes other long short letter = go (found_at n os) refl takes
     where
-      go : (found : Option Kind) → found_at n os ≡ found → takes_value found ≡ true
+      go : (found : Option OptionKind) → found_at n os ≡ found → takes_value found ≡ true
           → (turn_fault s [] (waits n (hold rows (Some (n, [])))) word ≡ []) × (walked c [] (waits n (hold rows (Some (n, [])))) word ≡ at (hold rows (Some (n, word ∷ []))))
       go None is takes = absurd (true≢false (sym takes))
       go (Some Required) is takes = (rw (other, long, short, letter) refl, rw (other, long, short, letter, by_id os n, is, same_as_itself n) refl)
@@ -208,7 +208,7 @@ module _ (command : Text) (os : Options) where
   pub bare_refused : (rows : List Row) (n : Text) → takes_value (found_at n os) ≡ true → settle_fault c false (hold rows (Some (n, []))) ≡ [] → ⊥
   bare_refused rows n takes passed = go (found_at n os) refl takes
     where
-      go : (found : Option Kind) → found_at n os ≡ found → takes_value found ≡ true → ⊥
+      go : (found : Option OptionKind) → found_at n os ≡ found → takes_value found ≡ true → ⊥
       go None is takes = absurd (true≢false (sym takes))
       go (Some Required) is takes = not_nil InvalidValue [] (sym (rw (by_id os n, is) refl) ∙ passed)
       go (Some (Default d)) is takes = not_nil InvalidValue [] (sym (rw (by_id os n, is) refl) ∙ passed)

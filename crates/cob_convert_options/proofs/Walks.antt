@@ -10,7 +10,7 @@ use Rattle.clap.specs.Simple.{Shape}
 use Rattle.clap.specs.Kinds.{Kinds, or_else}
 use Rattle.clap.specs.Faults.{flag_word_fault, long_fault, settle_fault, turn_fault, use_fault, walk_fault}
 use Rattle.clap.specs.declared.error.kind.ErrorKind.TheVariants.{ArgumentConflict}
-use Rattle.cob_convert_options.specs.Options.{Alone, AreOptions, Default, Given, Kind, Optional, Options, Request, Required, alone, apart, ended, found_at, is_value, joined, none, option_word, stands_alone, takes_value}
+use Rattle.cob_convert_options.specs.Options.{Alone, AreOptions, Default, Given, OptionKind, Optional, Options, Request, Required, alone, apart, ended, found_at, is_value, joined, none, option_word, stands_alone, takes_value}
 use Rattle.cob_convert_options.proofs.Rules.{by_id, by_long, flag_rule, or_false, rule_from, rules_from, same_as_itself, same_text, valued_rule}
 use Rattle.cob_convert_options.proofs.Rows.{flag_fault, given_row, has_added, used_flag, used_valued, valued_fault}
 use Rattle.cob_convert_options.proofs.Turns as turn
@@ -134,7 +134,7 @@ module _ (command : Text) (os : Options) where
         λ new. ap (λ o. used_by_id o (v ∷ []) rows) is ∙ used_valued n required defaults v rows new,
       )
 
-      go : (found : Option Kind) → found_at n os ≡ found → takes_value found ≡ true
+      go : (found : Option OptionKind) → found_at n os ≡ found → takes_value found ≡ true
           → (settle_fault c false (hold rows (Some (n, v ∷ []))) ≡ cond (has_row n rows) (ArgumentConflict ∷ []) [])
           × (has_row n rows ≡ false → settled_rows c (Some (n, v ∷ [])) rows ≡ rows ++ given_row (n, v) ∷ [])
       go None is takes = absurd (true≢false (sym takes))
@@ -150,7 +150,7 @@ module _ (command : Text) (os : Options) where
   option_waiting h word n given long bare passed = refused (found_at n os) given
       (sym (ap (λ o. long_fault c false o given h) (by_long os n)) ∙ (sym (ap (λ o. flag_word_fault c false o word h) long) ∙ passed))
     where
-      refused : (found : Option Kind) (given : Option Text) → long_fault c false (option_map (rule_from n) found) given h ≡ [] → ⊥
+      refused : (found : Option OptionKind) (given : Option Text) → long_fault c false (option_map (rule_from n) found) given h ≡ [] → ⊥
       refused None given e = not_nil _ _ e
       refused (Some Required) None e = bare e
       refused (Some Required) (Some v) e = bare (or_else_first _ _ e)
@@ -331,13 +331,13 @@ name_of_some (o ∷ os) name names there = go (bytes_eq o.0 name) refl (name_of_
     go true e later = let same = same_text o.0 name e in
         let split = split_name o.0 names.0.0 in
         (split.0, split.1, sym same ∙ split.2, subst (Lacks 61) same (lacks_of o.0 names.0.1))
-    go false e later = later (sym (ap (λ b. is_some (option_map (λ (it : Text × Kind). it.1) (cond b (Some o) (find (λ it. bytes_eq it.0 name) os)))) e) ∙ there)
+    go false e later = later (sym (ap (λ b. is_some (option_map (λ (it : Text × OptionKind). it.1) (cond b (Some o) (find (λ it. bytes_eq it.0 name) os)))) e) ∙ there)
 
-pub takes_some : (found : Option Kind) → takes_value found ≡ true → is_some found ≡ true
+pub takes_some : (found : Option OptionKind) → takes_value found ≡ true → is_some found ≡ true
 takes_some None e = e
 takes_some (Some kind) e = refl
 
-pub stands_some : (found : Option Kind) → stands_alone found ≡ true → is_some found ≡ true
+pub stands_some : (found : Option OptionKind) → stands_alone found ≡ true → is_some found ≡ true
 stands_some None e = e
 stands_some (Some kind) e = refl
 

@@ -4,7 +4,7 @@ use Rattle.std.specs.Option.{option_map_or}
 use Rattle.std.specs.Str.{bytes_eq}
 use Rattle.clap.specs.Words.{Text, first_of, found_of, rows_of}
 use Rattle.clap.specs.declared.parser.matches.ArgMatches.{ArgMatches}
-use Rattle.cob_convert_options.specs.Options.{Default, Kind, Options, Required, found_at}
+use Rattle.cob_convert_options.specs.Options.{Default, OptionKind, Options, Required, found_at}
 
 -- what options name, by the name of each
 abbrev pub Look : Type 0
@@ -19,7 +19,7 @@ abbrev pub is_flagged : Text → Look → Bool
 is_flagged name look = option_map_or (λ value. bytes_eq value (codes "true")) (look name) false
 
 -- an option that takes a value, and has to be there or has a default, has one
-abbrev pub IsNamed : Kind → Text → Look → Type 0
+abbrev pub IsNamed : OptionKind → Text → Look → Type 0
 IsNamed Required name look = is_some (look name) ≡ true
 IsNamed (Default value) name look = is_some (look name) ≡ true
 IsNamed kind name look = ⊤

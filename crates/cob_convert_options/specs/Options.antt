@@ -6,16 +6,16 @@ use Rattle.clap.specs.Words.{Text}
 
 -- How an option stands in words: with a value, and then it has to be there, has a default, or may be left out; alone; or in the place of a command
 -- line, as a request for help.
-pub data Kind : Type 0 where
-  Required : Kind
-  Default : Text → Kind
-  Optional : Kind
-  Alone : Kind
-  Request : Kind
+pub data OptionKind : Type 0 where
+  Required : OptionKind
+  Default : Text → OptionKind
+  Optional : OptionKind
+  Alone : OptionKind
+  Request : OptionKind
 
 -- options by their names, each with how it stands
 abbrev pub Options : Type 0
-Options = List (Text × Kind)
+Options = List (Text × OptionKind)
 
 -- the options that words give, each with its value; that of an option that stands alone is "true"
 abbrev pub Given : Type 0
@@ -26,14 +26,14 @@ abbrev pub found_at : {V : Type 0} → Text → List (Text × V) → Option V
 found_at name named = option_map (λ it. it.1) (find (λ it. bytes_eq it.0 name) named)
 
 -- an option with a value
-abbrev pub takes_value : Option Kind → Bool
+abbrev pub takes_value : Option OptionKind → Bool
 takes_value (Some Required) = true
 takes_value (Some (Default value)) = true
 takes_value (Some Optional) = true
 takes_value _ = false
 
 -- an option that stands alone
-abbrev pub stands_alone : Option Kind → Bool
+abbrev pub stands_alone : Option OptionKind → Bool
 stands_alone (Some Alone) = true
 stands_alone _ = false
 
@@ -59,7 +59,7 @@ pub data AreOptions (options : Options) : List Text → Given → Type 0 where
       → found_at name given ≡ None → AreOptions options words given → AreOptions options (option_word name ∷ words) ((name, codes "true") ∷ given)
 
 -- what stands for an option that is not given
-abbrev pub default_of : Option Kind → Option Text
+abbrev pub default_of : Option OptionKind → Option Text
 default_of (Some (Default value)) = Some value
 default_of (Some Alone) = Some (codes "false")
 default_of _ = None
@@ -69,7 +69,7 @@ abbrev pub taken : Options → Given → Text → Option Text
 taken options given name = option_or (found_at name given) (default_of (found_at name options))
 
 -- an option that has to be there is given
-abbrev pub IsThere : Kind → Text → Given → Type 0
+abbrev pub IsThere : OptionKind → Text → Given → Type 0
 IsThere Required name given = (value : Text) × (found_at name given ≡ Some value)
 IsThere kind name given = ⊤
 

@@ -2,7 +2,7 @@
 use Rattle.std.specs.Prelude.{true, [], ◌∷◌, Some}
 use Rattle.clap.specs.Words.{App, Rule, Text, new_app, new_rule, with_rule}
 use Rattle.clap.specs.declared.builder.action.ArgAction.TheVariants.{SetTrue}
-use Rattle.cob_convert_options.specs.Options.{Alone, Default, Kind, Optional, Options, Request, Required}
+use Rattle.cob_convert_options.specs.Options.{Alone, Default, OptionKind, Optional, Options, Request, Required}
 
 -- an option that has to be there, with a value
 abbrev pub required_rule : Text → Rule
@@ -21,7 +21,7 @@ abbrev pub alone_rule : Text → Rule
 alone_rule name = record (new_rule name) { long = Some name; action = Some SetTrue }
 
 -- a command with one option more; the request for help is the parser's own
-abbrev pub with_option : App → Text → Kind → App
+abbrev pub with_option : App → Text → OptionKind → App
 with_option app name Required = with_rule app (required_rule name)
 with_option app name (Default value) = with_rule app (default_rule name value)
 with_option app name Optional = with_rule app (optional_rule name)

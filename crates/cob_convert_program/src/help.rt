@@ -93,8 +93,8 @@ pub(crate) const EXPLAIN_USAGE: &str = "cobconv explain [OPTIONS] --in-book <FIL
                        --moves <FILE> --in <FILE>";
 
 pub(crate) const EXPLAIN_NOTES: &str =
-    "A line for each single move of the record: its statement, what is sent with its
-place, bytes and value, and what receives it.
+    "Two lines for each single move of the record: its statement, what is sent with
+its place, bytes and value, and what receives it.
 
 Example:
   cobconv explain --in-book old.cpy --out-book new.cpy --moves moves.cbl \\

@@ -56,8 +56,8 @@ abbrev pub names_there : List (Bearer DraftEntry) → List (List ℕ) → List (
 names_there bs names = filter (names_group bs) names
 
 -- those of these names that groups of a record have whose entries are listed
-abbrev pub names_listed : List (Listed ListedEntry) → List (Bor (List ℕ)) → List (List ℕ)
-names_listed entries names = names_there (map listed_bearer entries) (texts names)
+abbrev pub names_found : List (Listed ListedEntry) → List (Bor (List ℕ)) → List (List ℕ)
+names_found entries names = names_there (map listed_bearer entries) (texts names)
 
 -- the entries of the input record
 abbrev pub input_bearers : BothRecords → List (Bearer DraftEntry)

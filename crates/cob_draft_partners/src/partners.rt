@@ -18,7 +18,7 @@ ghost use Rattle.cob_draft_partners.specs.Partners.{
   is_group_named,
   is_input,
   names_group,
-  names_listed,
+  names_found,
   names_there,
   output_bearers,
   share_name,
@@ -135,9 +135,9 @@ fn next_there<'s, 'a>(
     entries: &[DraftBearer<'_>],
     names: &'s [&'a [u8]],
 ) -> Option<(&'a [u8], &'s [&'a [u8]])>
-    ensures some { IfSome result (λ r. names_listed entries.now names.now
-        ≡ r.0.now ∷ names_listed entries.now r.1.now) }
-    ensures none { IfNone result (names_listed entries.now names.now ≡ []) }
+    ensures some { IfSome result (λ r. names_found entries.now names.now
+        ≡ r.0.now ∷ names_found entries.now r.1.now) }
+    ensures none { IfNone result (names_found entries.now names.now ≡ []) }
     ensures fewer { IfSome result (λ r. length r.1.now < length names.now) }
 {
     let (first, more) = names.split_first()?;

@@ -1,9 +1,8 @@
 //! Occurrences of entries and constants, as they are told.
 
-use crate::numbers::write_numeric_literal;
-use cob_copybook_tree::{Figurative, Item, Kind, Name, Node, Value};
+use cob_copybook_tree::{Item, Kind, Name, Node, Value};
 use cob_layout_places::{Ref, Sender, Side};
-use cob_lossless_words::{Named, entry_of, write_subscripts};
+use cob_lossless_words::{ConstantText, Named, entry_of, write_subscripts};
 use std::fmt;
 
 /// The records of a paragraph, in which names are looked for.
@@ -122,43 +121,11 @@ impl<'a> SentText<'a> {
     }
 }
 
-/// The word of a figurative constant.
-fn figurative_word(figurative: Figurative) -> &'static str {
-    match figurative {
-        Figurative::Space => "SPACE",
-        Figurative::Zero => "ZERO",
-        Figurative::HighValue => "HIGH-VALUE",
-        Figurative::LowValue => "LOW-VALUE",
-        Figurative::Quote => "QUOTE",
-    }
-}
-
-/// Writes a quoted literal, a quotation mark in it twice.
-fn write_literal<W: fmt::Write>(f: &mut fmt::Formatter<W>, text: &[u8]) -> fmt::Result {
-    write!(f, "\"")?;
-    for character in text {
-        if *character == b'"' {
-            write!(f, "\"\"")?;
-        } else {
-            write!(f, "{}", char::from(*character))?;
-        }
-    }
-    write!(f, "\"")
-}
-
 impl fmt::Display for SentText<'_> {
     fn fmt<W: fmt::Write>(&self, f: &mut fmt::Formatter<W>) -> fmt::Result {
         match self {
             SentText::Entry(occurrence) => write!(f, "{occurrence}"),
-            SentText::Constant(value) => match value {
-                Value::Number { signed, number } => write_numeric_literal(f, *signed, number),
-                Value::Literal(text) => write_literal(f, text.as_bytes()),
-                Value::Figurative(figurative) => write!(f, "{}", figurative_word(*figurative)),
-                Value::All(text) => {
-                    write!(f, "ALL ")?;
-                    write_literal(f, text.as_bytes())
-                }
-            },
+            SentText::Constant(value) => write!(f, "{}", ConstantText { value: *value }),
         }
     }
 }

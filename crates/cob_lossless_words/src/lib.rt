@@ -16,6 +16,7 @@
 //! `cob_layout` and `cob_layout_places` for layouts and for moves as data, and on `cob_copybook_tree` and the crates below it for entries.
 #![tactic(auto)]
 
+mod constants;
 mod items;
 mod lacks;
 mod lines;
@@ -27,6 +28,7 @@ mod singles;
 mod storage;
 mod words;
 
+pub use constants::ConstantText;
 pub use lacks::{Lack, lack_of};
 pub use lines::lines_of;
 pub use names::{Named, Subscripts, entry_of, write_subscripts};

@@ -154,6 +154,10 @@ abbrev pub each_ending : {A : Type 0} → Result A MoveStop → List ℕ → Eac
 each_ending (Ok a) storage = all_done storage
 each_ending (Err stop) storage = stopped_at stop storage
 
+-- the same, without which single move it is that stops
+abbrev pub plain_ending_of : {A : Type 0} → Result A MoveStop → List ℕ → Ending
+plain_ending_of answer storage = plain_ending (each_ending answer storage)
+
 -- the single moves that were seen, where that is told, and then these
 abbrev pub append_singles : Option (List Single) → List Single → Option (List Single)
 append_singles seen more = option_map (λ ones. ones ++ more) seen

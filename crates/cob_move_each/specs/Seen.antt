@@ -1,15 +1,16 @@
 -- What is handed out, without where it lies in memory.
-use Rattle.std.specs.Prelude.{◌≡◌, ℕ, List, [], ◌∷◌, map, Option}
+use Rattle.std.specs.Prelude.{◌≡◌, ℕ, List, [], ◌∷◌, map, Option, Result}
 use Rattle.cob_copybook_tree.specs.Forests.{Forest}
 use Rattle.cob_copybook_tree.specs.Nodes.{Resolved}
 use Rattle.cob_move_apply.specs.Applied.{Content}
 use Rattle.cob_move_receive.specs.Sent.{sent}
 use Rattle.cob_layout_places.specs.declared.reference.Ref.{Ref}
+use Rattle.cob_layout_places.specs.declared.operands.NumberedPair.{NumberedPair}
 use Rattle.cob_layout_places.specs.declared.operands.PairMoves.{PairMoves}
 use Rattle.cob_layout_places.specs.declared.operands.Side.TheVariants.{In, Out}
 use Rattle.cob_layout_places.specs.declared.operands.StatementMoves.{StatementMoves}
 use Rattle.cob_layout_places.specs.Moves.{Entry, Move, Records, Sender, moves_by, numbered_move_by, operand_in}
-use Rattle.cob_move_each.specs.Each.{AreOfMove, AreOfMoves, AreSentBy, AreSingles, EachEnding, IsSingleTo, LacksFor, NumberedMove, Sees, Single, append_singles, numbered_of_pairs, stop_of}
+use Rattle.cob_move_each.specs.Each.{AreOfMove, AreOfMoves, AreSentBy, AreSingles, EachEnding, IsSingleTo, LacksFor, NumberedMove, Sees, Single, append_singles, each_ending, numbered_moves, numbered_of_pair, numbered_of_pairs, numbered_of_statement, stop_of}
 use Rattle.cob_move_each.specs.declared.single.AskedStop.{AskedStop}
 use Rattle.cob_move_each.specs.declared.single.MoveStop.{MoveStop}
 use Rattle.cob_move_each.specs.declared.single.Given.{Given}
@@ -67,6 +68,14 @@ output_sender l entry = Entry Out l.reading (operand_in l.output.now entry)
 abbrev pub SeesSent : RecordLayouts → Sender → MoveParts → (input before : List ℕ) → EachEnding → (old new : Option (List Single)) → Type 0
 SeesSent l s m input before end old new = Sees old new (λ ones. AreSentBy s (records_of_layouts l) (move_of m) input before ones end)
 
+-- its sender is this entry of the input record
+abbrev pub SeesFromInput : RecordLayouts → Ref → MoveParts → (input before : List ℕ) → EachEnding → (old new : Option (List Single)) → Type 0
+SeesFromInput l entry m input before end old new = SeesSent l (input_sender l entry) m input before end old new
+
+-- its sender is this entry of the output record
+abbrev pub SeesWithinOutput : RecordLayouts → Ref → MoveParts → (input before : List ℕ) → EachEnding → (old new : Option (List Single)) → Type 0
+SeesWithinOutput l entry m input before end old new = SeesSent l (output_sender l entry) m input before end old new
+
 -- what was seen grew by the single moves of a move
 abbrev pub SeesMove : RecordLayouts → NumberedMove → (input before : List ℕ) → EachEnding → (old new : Option (List Single)) → Type 0
 SeesMove l m input before end old new = Sees old new (λ ones. AreOfMove l.reading (records_of_layouts l) m input before ones end)
@@ -75,9 +84,22 @@ SeesMove l m input before end old new = Sees old new (λ ones. AreOfMove l.readi
 abbrev pub SeesMoves : RecordLayouts → List NumberedMove → (input before : List ℕ) → EachEnding → (old new : Option (List Single)) → Type 0
 SeesMoves l ms input before end old new = Sees old new (λ ones. AreOfMoves l.reading (records_of_layouts l) ms input before ones end)
 
--- the moves of the pairs of two groups, by their numbers
-abbrev pub numbered_of_group : ℕ → PairMoves → List NumberedMove
-numbered_of_group n g = numbered_of_pairs n g 0 g.pairs.items
+-- what was seen grew by the single moves of the pair of two groups with this number, where it ends with this answer and leaves this storage
+abbrev pub SeesPair : {A : Type 0} → RecordLayouts → ℕ → PairMoves → ℕ → NumberedPair → (input before : List ℕ) → Result A MoveStop → List ℕ
+    → (old new : Option (List Single)) → Type 0
+SeesPair l n g k p input before answer after old new = SeesMove l (numbered_of_pair n g k p) input before (each_ending answer after) old new
+
+-- what was seen grew by the single moves of the pairs of two groups
+abbrev pub SeesGroup : RecordLayouts → ℕ → PairMoves → (input before : List ℕ) → EachEnding → (old new : Option (List Single)) → Type 0
+SeesGroup l n g input before end old new = SeesMoves l (numbered_of_pairs n g 0 g.pairs.items) input before end old new
+
+-- what was seen grew by the single moves of a statement
+abbrev pub SeesStatement : RecordLayouts → ℕ → StatementMoves → (input before : List ℕ) → EachEnding → (old new : Option (List Single)) → Type 0
+SeesStatement l n s input before end old new = SeesMoves l (numbered_of_statement n s) input before end old new
+
+-- what was seen grew by the single moves of statements, which are numbered from 0
+abbrev pub SeesStatements : RecordLayouts → List StatementMoves → (input before : List ℕ) → EachEnding → (old new : Option (List Single)) → Type 0
+SeesStatements l ss input before end old new = SeesMoves l (numbered_moves 0 ss) input before end old new
 
 -- the moves that these are
 abbrev pub moves_of_group : RecordLayouts → PairMoves → List Move

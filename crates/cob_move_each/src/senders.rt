@@ -8,7 +8,7 @@ ghost use Rattle.cob_layout_places.specs.Moves.{Entry, IsOperand, IsSender, oper
 ghost use Rattle.cob_layout_places.specs.declared.operands.Side.TheVariants.{In, Out};
 ghost use Rattle.cob_move_each.specs.Each.{each_ending};
 ghost use Rattle.cob_move_each.specs.Room.{HasEachRoom};
-ghost use Rattle.cob_move_each.specs.Seen.{SeesMove, SeesSent, input_sender, move_of, output_sender, records_of_layouts};
+ghost use Rattle.cob_move_each.specs.Seen.{SeesFromInput, SeesMove, SeesWithinOutput, move_of, records_of_layouts};
 
 use crate::giving::give_all;
 use crate::places::{Stored, entry_kind, locate};
@@ -50,7 +50,7 @@ fn walk_from_input<W: Watcher>(
     requires input { IsStorage layouts.now.input.now input.now }
     requires output { length output.old ≡ greatest_length layouts.now.output.now }
     requires room { HasEachRoom (records_of_layouts layouts.now) room.old }
-    ensures seen { SeesSent layouts.now (input_sender layouts.now entry.now) parts.now input.now output.old
+    ensures seen { SeesFromInput layouts.now entry.now parts.now input.now output.old
         (each_ending result output.new) (W.seen watcher.old) (W.seen watcher.new) }
     ensures room { HasEachRoom (records_of_layouts layouts.now) room.new }
 {
@@ -99,7 +99,7 @@ fn walk_within_output<W: Watcher>(
         (map (operand_in layouts.now.output.now) parts.now.receivers.now) }
     requires output { length output.old ≡ greatest_length layouts.now.output.now }
     requires room { HasEachRoom (records_of_layouts layouts.now) room.old }
-    ensures seen { SeesSent layouts.now (output_sender layouts.now entry.now) parts.now input.now output.old
+    ensures seen { SeesWithinOutput layouts.now entry.now parts.now input.now output.old
         (each_ending result output.new) (W.seen watcher.old) (W.seen watcher.new) }
     ensures room { HasEachRoom (records_of_layouts layouts.now) room.new }
 {

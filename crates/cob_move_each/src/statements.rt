@@ -5,9 +5,9 @@ ghost use Rattle.cob_limits.specs.Limits.{most_dimensions};
 ghost use Rattle.cob_layout.specs.Sound.{IsSound};
 ghost use Rattle.cob_layout.specs.Storage.{greatest_length, IsStorage};
 ghost use Rattle.cob_layout_places.specs.Moves.{AreMoves, IsMove, entry_below, numbered_move_by, statement_moves_by};
-ghost use Rattle.cob_move_each.specs.Each.{each_ending, numbered_of_pair, numbered_of_statement};
+ghost use Rattle.cob_move_each.specs.Each.{each_ending};
 ghost use Rattle.cob_move_each.specs.Room.{HasEachRoom};
-ghost use Rattle.cob_move_each.specs.Seen.{SeesMove, SeesMoves, moves_of_group, numbered_of_group, records_of_layouts};
+ghost use Rattle.cob_move_each.specs.Seen.{SeesGroup, SeesPair, SeesStatement, moves_of_group, records_of_layouts};
 
 use crate::room::{EachRoom, RecordLayouts};
 use crate::senders::walk_move;
@@ -62,8 +62,8 @@ fn walk_pair<W: Watcher>(
     requires input { IsStorage layouts.now.input.now input.now }
     requires output { length output.old ≡ greatest_length layouts.now.output.now }
     requires room { HasEachRoom (records_of_layouts layouts.now) room.old }
-    ensures seen { SeesMove layouts.now (numbered_of_pair statement group.now index pair.now) input.now output.old
-        (each_ending result output.new) (W.seen watcher.old) (W.seen watcher.new) }
+    ensures seen { SeesPair layouts.now statement group.now index pair.now input.now output.old
+        result output.new (W.seen watcher.old) (W.seen watcher.new) }
     ensures room { HasEachRoom (records_of_layouts layouts.now) room.new }
 {
     let sender = Sender::Entry {
@@ -100,7 +100,7 @@ fn walk_pairs<W: Watcher>(
     requires input { IsStorage layouts.now.input.now input.now }
     requires output { length output.old ≡ greatest_length layouts.now.output.now }
     requires room { HasEachRoom (records_of_layouts layouts.now) room.old }
-    ensures seen { SeesMoves layouts.now (numbered_of_group statement group.now) input.now output.old
+    ensures seen { SeesGroup layouts.now statement group.now input.now output.old
         (each_ending result output.new) (W.seen watcher.old) (W.seen watcher.new) }
     ensures room { HasEachRoom (records_of_layouts layouts.now) room.new }
 {
@@ -134,7 +134,7 @@ pub(crate) fn walk_statement<W: Watcher>(
     requires input { IsStorage layouts.now.input.now input.now }
     requires output { length output.old ≡ greatest_length layouts.now.output.now }
     requires room { HasEachRoom (records_of_layouts layouts.now) room.old }
-    ensures seen { SeesMoves layouts.now (numbered_of_statement statement given.now) input.now output.old
+    ensures seen { SeesStatement layouts.now statement given.now input.now output.old
         (each_ending result output.new) (W.seen watcher.old) (W.seen watcher.new) }
     ensures room { HasEachRoom (records_of_layouts layouts.now) room.new }
 {

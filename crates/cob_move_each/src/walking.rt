@@ -5,9 +5,9 @@ ghost use Rattle.cob_layout.specs.Sound.{IsSound};
 ghost use Rattle.cob_layout.specs.Storage.{greatest_length, IsStorage};
 ghost use Rattle.cob_layout_places.specs.Moves.{AreMoves, moves_by};
 ghost use Rattle.cob_move_apply.specs.Applied.{Applied};
-ghost use Rattle.cob_move_each.specs.Each.{each_ending, numbered_moves, plain_ending};
+ghost use Rattle.cob_move_each.specs.Each.{each_ending, plain_ending_of};
 ghost use Rattle.cob_move_each.specs.Room.{HasEachRoom};
-ghost use Rattle.cob_move_each.specs.Seen.{SeesMoves, moves_meant, records_of_layouts};
+ghost use Rattle.cob_move_each.specs.Seen.{SeesStatements, moves_meant, records_of_layouts};
 
 use crate::room::{EachRoom, RecordLayouts};
 use crate::single::MoveStop;
@@ -32,7 +32,7 @@ fn walk_all<W: Watcher>(
     requires input { IsStorage layouts.now.input.now input.now }
     requires output { length output.old ≡ greatest_length layouts.now.output.now }
     requires room { HasEachRoom (records_of_layouts layouts.now) room.old }
-    ensures seen { SeesMoves layouts.now (numbered_moves 0 statements.now) input.now output.old
+    ensures seen { SeesStatements layouts.now statements.now input.now output.old
         (each_ending result output.new) (W.seen watcher.old) (W.seen watcher.new) }
     ensures room { HasEachRoom (records_of_layouts layouts.now) room.new }
 {
@@ -67,9 +67,9 @@ pub fn each<W: Watcher>(
     // All of them together are what `Moves::apply` says.
     ensures applied { Applied (records_of_layouts layouts.now)
         (moves_meant layouts.now statements.now) input.now output.old
-        (plain_ending (each_ending result output.new)) }
+        (plain_ending_of result output.new) }
     // What was handed out are the single moves in their order, up to the first that stops, which the answer names.
-    ensures seen { SeesMoves layouts.now (numbered_moves 0 statements.now) input.now output.old
+    ensures seen { SeesStatements layouts.now statements.now input.now output.old
         (each_ending result output.new) (W.seen watcher.old) (W.seen watcher.new) }
     ensures room { HasEachRoom (records_of_layouts layouts.now) room.new }
 {

@@ -47,8 +47,8 @@ pub fn separate_flaw(shape: &Shape, bytes: &[u8]) -> Option<Flaw>
     requires long { length bytes.now ≡ shape.now.digits + 1 }
     ensures found { IfSome result (IsFirstFlaw shape.now.signed
         (separate_wanted_in shape.now (length bytes.now)) bytes.now) }
-    ensures only { IfSome result (λ flaw. (negative : Bool) (digits : List ℕ)
-        → IsSignedSeparately shape.now.digits shape.now.leading bytes.now negative digits → ⊥) }
+    ensures only { IfSome result (λ flaw. (negative : Bool) (ds : List ℕ)
+        → IsSignedSeparately shape.now.digits shape.now.leading bytes.now negative ds → ⊥) }
     ensures none { IfNone result ((negative : Bool) × (digits : List ℕ)
         × IsSignedSeparately shape.now.digits shape.now.leading bytes.now negative digits) }
 {
