@@ -15,8 +15,8 @@
 //! - the items with a name, and in no redefinition, of which no byte is taken;
 //! - the single moves that may lose something, each with the line of its statement.
 //!
-//! It stands on `cob_move_lossless` for moves between layouts, on `cob_move_losses` for what they may lose, on `cob_lossless_words` for names,
-//! on `cob_layout` and `cob_layout_places` for places, and on `cob_copybook_tree` for entries.
+//! It stands on `cob_move_lossless` for moves between layouts, on `cob_move_losses` for what they may lose, on `cob_item_words` for names,
+//! on `cob_lossless_words` for single moves with their lines, on `cob_layout` and `cob_layout_places` for places, and on `cob_copybook_tree` for entries.
 #![tactic(auto)]
 
 mod gathered;

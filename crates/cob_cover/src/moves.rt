@@ -1,9 +1,10 @@
 //! The single moves that may lose something.
 
 use crate::gathered::place_of;
+use cob_item_words::{Named, PictureText, entry_of};
 use cob_layout::Layout;
 use cob_layout_places::Side;
-use cob_lossless_words::{Element, Named, PictureText, Sent, Single, entry_of};
+use cob_lossless_words::{Element, Sent, Single};
 use cob_move_losses::{Losses, losses_of};
 use cob_move_lossless::Layouts;
 use cob_move_receive::SenderKind;

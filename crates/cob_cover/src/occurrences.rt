@@ -2,9 +2,9 @@
 
 use crate::gathered::place_of;
 use cob_copybook_tree::Node;
+use cob_item_words::{Named, Subscripts, advance, first_subscripts, tables_over};
 use cob_layout::{Layout, Place};
 use cob_limits::MAX_RECORD;
-use cob_lossless_words::{Named, Subscripts, advance, first_subscripts, tables_over};
 use std::alloc::{AllocError, Global};
 
 /// An occurrence of an item, and where it stands.

@@ -5,8 +5,9 @@ use crate::marks::{bytes_covered, bytes_taken};
 use crate::moves::told_losing;
 use crate::occurrences::{Occurrence, occurrences_of};
 use cob_copybook_tree::Node;
+use cob_item_words::Named;
 use cob_layout::{Layout, Place};
-use cob_lossless_words::{LinedMoves, Named, singles_of};
+use cob_lossless_words::{LinedMoves, singles_of};
 use std::alloc::{AllocError, Global};
 use std::fmt;
 

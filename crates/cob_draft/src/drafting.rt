@@ -10,10 +10,10 @@ use cob_draft_partners::{
     BothRecords, DraftBearer, DraftEntry, Objection, Partner, Tables, entries_of, objection_to,
     partner_of, qualifiers_needed,
 };
+use cob_item_words::{PictureText, advance, first_subscripts};
 use cob_layout::Layout;
 use cob_layout_places::Side;
 use cob_limits::MAX_RECORD;
-use cob_lossless_words::{PictureText, advance, first_subscripts};
 use std::alloc::{AllocError, Global};
 use std::fmt;
 

@@ -1,7 +1,7 @@
 //! What an item holds before the first move, in words.
 
 use cob_copybook_tree::{Kind, Node, Value};
-use cob_lossless_words::ConstantText;
+use cob_item_words::ConstantText;
 use std::fmt;
 
 /// What an item holds.

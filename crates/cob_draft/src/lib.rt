@@ -9,7 +9,7 @@
 //! promised by `cob_draft_partners`; here, that no line reaches behind column 72 (`line_end`). How a draft reads is shown by `cob_jobs`, which also
 //! reads drafts back.
 //!
-//! It stands on `cob_draft_partners` for what stands in a draft, on `cob_lossless_words` for elements of tables and pictures in words, on
+//! It stands on `cob_draft_partners` for what stands in a draft, on `cob_item_words` for elements of tables and pictures in words, on
 //! `cob_copybook_names` for names with qualifiers, on `cob_layout` for layouts, and on `cob_copybook_tree` for entries.
 #![tactic(auto)]
 

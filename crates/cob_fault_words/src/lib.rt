@@ -12,7 +12,7 @@
 //! What is promised is what is decided: of the bytes of a number which part of them is to blame, and that they represent none ([`number_flaw`], by the
 //! flaws of `cob_number_flaws`). Which words tell it is shown by `cob_jobs`.
 //!
-//! It stands on `cob_number_flaws` and `cob_codec` for flaws, on `cob_lossless_words` for the names of occurrences, on `cob_layout` and
+//! It stands on `cob_number_flaws` and `cob_codec` for flaws, on `cob_item_words` for items, constants and the names of occurrences, on `cob_layout` and
 //! `cob_layout_places` for places and moves as data, on `cob_copybook_tree`, `cob_picture` and `cob_decimal` for entries and numbers, and on
 //! `cob_records` for frames.
 #![tactic(auto)]
@@ -20,7 +20,6 @@
 mod counts;
 mod flaws;
 mod frames;
-mod items;
 mod numbers;
 mod occurrences;
 mod stops;
@@ -28,6 +27,5 @@ mod stops;
 pub use counts::{CountTable, counted_at};
 pub use flaws::{NumberFlaw, number_flaw};
 pub use frames::frame_words;
-pub use items::ItemText;
 pub use occurrences::{Occurrence, Qualifying, SentText};
 pub use stops::{Asker, AskingMove, StopCase, StopText};

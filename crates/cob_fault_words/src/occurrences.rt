@@ -1,8 +1,8 @@
 //! Occurrences of entries and constants, as they are told.
 
 use cob_copybook_tree::{Item, Kind, Name, Node, Value};
+use cob_item_words::{ConstantText, Named, entry_of, write_subscripts};
 use cob_layout_places::{Ref, Sender, Side};
-use cob_lossless_words::{ConstantText, Named, entry_of, write_subscripts};
 use std::fmt;
 
 /// The records of a paragraph, in which names are looked for.

@@ -1,11 +1,11 @@
 //! Why moves stop, in words.
 
 use crate::flaws::{NumberFlaw, number_flaw};
-use crate::items::ItemText;
 use crate::numbers::write_number;
 use crate::occurrences::{Occurrence, SentText};
 use cob_codec::Reading;
 use cob_copybook_tree::{Item, Usage, is_number_item, read_sent};
+use cob_item_words::ItemText;
 use cob_layout_places::Side;
 use cob_number_flaws::FlawText;
 use cob_picture::Category;

@@ -1,10 +1,9 @@
 //! Why an occurrence of an item doesn't come back.
 
 use crate::lacks::{Lack, lack_of};
-use crate::names::{Subscripts, item_of};
-use crate::occurrences::{advance, first_subscripts, tables_over};
 use crate::singles::{Element, Sent, Single, is_moved, is_sent, receiving};
 use cob_copybook_tree::{Item, Node};
+use cob_item_words::{Subscripts, advance, first_subscripts, item_of, tables_over};
 use cob_limits::MAX_RECORD;
 
 /// Why an occurrence of an item doesn't come back.

@@ -12,27 +12,19 @@
 //! first (`LosesNothing` of `cob_move_returns`); and the lines of a paragraph's statements ([`lines_of`]; `AreLinesOf` of specs/Lines.antt). Which words tell
 //! a loss is shown by `cob_jobs`.
 //!
-//! It stands on `cob_move_lossless` and `cob_move_returns` for what is lost, on `cob_move_statements` and `cob_source` for the lines of statements, on
+//! It stands on `cob_item_words` for names and pictures, on `cob_move_lossless` and `cob_move_returns` for what is lost, on `cob_move_statements` and `cob_source` for the lines of statements, on
 //! `cob_layout` and `cob_layout_places` for layouts and for moves as data, and on `cob_copybook_tree` and the crates below it for entries.
 #![tactic(auto)]
 
-mod constants;
 mod items;
 mod lacks;
 mod lines;
-mod names;
-mod occurrences;
-mod pictures;
 mod reasons;
 mod singles;
 mod storage;
 mod words;
 
-pub use constants::ConstantText;
 pub use lacks::{Lack, lack_of};
 pub use lines::lines_of;
-pub use names::{Named, Subscripts, entry_of, write_subscripts};
-pub use occurrences::{advance, first_subscripts, tables_over};
-pub use pictures::PictureText;
 pub use reasons::{LinedMoves, Position, Reason, ToldLoss, told_loss};
 pub use singles::{Element, Sent, Single, singles_of};

@@ -1,10 +1,9 @@
 //! The words that tell a loss.
 
 use crate::lacks::{Lack, digits_before};
-use crate::names::Named;
-use crate::pictures::PictureText;
 use crate::reasons::{Position, Reason, ToldLoss};
 use cob_copybook_tree::Item;
+use cob_item_words::{Named, PictureText};
 use cob_layout_places::Side;
 use cob_move_lossless::Way;
 use cob_picture::Category;

@@ -1,7 +1,7 @@
 //! What items are, as a copybook writes it.
 
+use crate::pictures::PictureText;
 use cob_copybook_tree::{Item, Sign, Usage};
-use cob_lossless_words::PictureText;
 use std::fmt;
 
 /// What an item is, which prints as its picture and what else a copybook says of its bytes: `PIC S9(7)V99 COMP-3`.

@@ -39,7 +39,7 @@ pub fn entry_of(entry: &Node, number: usize) -> Option<&Node> {
 }
 
 /// The item that the entry with this number is.
-pub(crate) fn item_of(root: &Node, number: usize) -> Option<&Item> {
+pub fn item_of(root: &Node, number: usize) -> Option<&Item> {
     match &entry_of(root, number)?.kind {
         Kind::Group => None,
         Kind::Item(item) => Some(item),

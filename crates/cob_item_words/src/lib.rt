@@ -1,0 +1,27 @@
+//! Items, the occurrences of entries, and constants, as they are told.
+//!
+//! Each prints as its text, by `Display`:
+//!
+//! - [`Named`], an occurrence of an entry, as its name, those of the groups that hold it, and its subscripts: `E OF T OF R (1, 2)`;
+//! - [`PictureText`] and [`ItemText`], a picture by its symbols with their repeats, and an item as a copybook writes it: `PIC S9(7)V99 COMP-3`;
+//! - [`ConstantText`], a literal or a figurative constant as it is written.
+//!
+//! [`tables_over`], [`first_subscripts`] and [`advance`] go over the occurrences of an entry, the last subscript first.
+//!
+//! What is promised is that each ends and is safe; the texts are shown by the rows of `cob_jobs`.
+//!
+//! It stands on `cob_copybook_tree`, `cob_layout_places`, `cob_picture` and `cob_decimal` for entries, tables, pictures and numbers, and on `cob_limits`
+//! for how many subscripts there may be.
+#![tactic(auto)]
+
+mod constants;
+mod items;
+mod names;
+mod occurrences;
+mod pictures;
+
+pub use constants::ConstantText;
+pub use items::ItemText;
+pub use names::{Named, Subscripts, entry_of, item_of, write_subscripts};
+pub use occurrences::{advance, first_subscripts, tables_over};
+pub use pictures::PictureText;
