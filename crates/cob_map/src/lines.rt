@@ -4,7 +4,7 @@ use crate::page::Page;
 use cob_html::Line;
 use cob_layout_places::Side;
 use cob_lossless_words::{Element, Named, Sent, Single};
-use cob_map_words::ConstantText;
+use cob_map_words::EscapedConstant;
 use cob_move_losses::Losses;
 use std::fmt;
 
@@ -31,16 +31,16 @@ fn named_in<'a>(page: &'a Page<'_>, side: Side, element: Element<'_>) -> Named<'
 
 /// What a single move sends, which prints as the name of an occurrence or as a constant.
 #[derive(Clone, Copy)]
-pub(crate) struct SentText<'p, 'a> {
+pub(crate) struct EscapedSent<'p, 'a> {
     pub(crate) page: &'p Page<'a>,
     pub(crate) sent: Sent<'a>,
 }
 
-impl fmt::Display for SentText<'_, '_> {
+impl fmt::Display for EscapedSent<'_, '_> {
     fn fmt<W: fmt::Write>(&self, f: &mut fmt::Formatter<W>) -> fmt::Result {
         match self.sent {
             Sent::Entry { side, entry } => write!(f, "{}", named_in(self.page, side, entry)),
-            Sent::Constant(value) => write!(f, "{}", ConstantText { value }),
+            Sent::Constant(value) => write!(f, "{}", EscapedConstant { value }),
         }
     }
 }
@@ -84,7 +84,7 @@ fn write_title<'a, W: fmt::Write>(
     count: usize,
     losses: Losses,
 ) -> fmt::Result {
-    let sent = SentText {
+    let sent = EscapedSent {
         page,
         sent: single.sent,
     };
@@ -142,7 +142,7 @@ fn write_back<W: fmt::Write>(
 /// Writes a constant and the line from it.
 fn write_constant<W: fmt::Write>(
     f: &mut fmt::Formatter<W>,
-    constant: ConstantText<'_>,
+    constant: EscapedConstant<'_>,
     to: u32,
 ) -> fmt::Result {
     let line = Line {
@@ -178,7 +178,7 @@ fn write_shape<'a, W: fmt::Write>(
             let from = page.output().middle(entry.number);
             write_back(f, turn_of(entry.number), from, to)
         }
-        Sent::Constant(value) => write_constant(f, ConstantText { value }, to),
+        Sent::Constant(value) => write_constant(f, EscapedConstant { value }, to),
     }
 }
 

@@ -1,6 +1,6 @@
 //! The lists below the drawing: the moves, and the bytes that no receiver covers.
 
-use crate::lines::{SentText, class_of, receiver_of};
+use crate::lines::{EscapedSent, class_of, receiver_of};
 use crate::page::Page;
 use cob_layout::{Kind, Node};
 use cob_lossless_words::{Named, Single};
@@ -18,7 +18,7 @@ pub(crate) fn write_move<'a, W: fmt::Write>(
     losses: Losses,
 ) -> fmt::Result {
     let class = class_of(losses);
-    let sent = SentText {
+    let sent = EscapedSent {
         page,
         sent: single.sent,
     };

@@ -5,7 +5,7 @@ use crate::records::{Contents, MOST_SHOWN};
 use arrayvec::ArrayVec;
 use cob_convert_show::number_text;
 use cob_layout::{Item, Spot, is_number_item};
-use cob_map_words::{Characters, Digits, Shown};
+use cob_map_words::{Characters, HexDigits, ShownBytes};
 use std::fmt;
 
 /// How many bytes a line of a value has.
@@ -30,7 +30,7 @@ fn number_of(item: &Item, bytes: &[u8]) -> Option<ArrayVec<u8, 64>> {
 
 /// Writes a line with digits of bytes.
 fn write_digits<W: fmt::Write>(f: &mut fmt::Formatter<W>, bytes: &[u8]) -> fmt::Result {
-    writeln!(f, "<div class=\"v x\">{}</div>", Digits { bytes })
+    writeln!(f, "<div class=\"v x\">{}</div>", HexDigits { bytes })
 }
 
 /// Writes the number of an occurrence, or that its bytes represent none, and their digits.
@@ -61,7 +61,7 @@ fn write_characters<W: fmt::Write>(
     bytes: &[u8],
 ) -> fmt::Result {
     for piece in bytes.chunks(LINE_BYTES) {
-        let shown = Shown { bytes: piece };
+        let shown = ShownBytes { bytes: piece };
         writeln!(f, "<div class=\"v\">{occurrence}&quot;{shown}&quot;</div>")?;
         write_digits(f, piece)?;
     }

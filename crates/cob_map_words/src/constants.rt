@@ -1,13 +1,13 @@
-//! Constants, as they are sent.
+//! Constants, as they stand on the page.
 
 use crate::texts::Characters;
 use cob_copybook_tree::Value;
-use cob_fault_words::SentText;
+use cob_lossless_words::ConstantText;
 use std::fmt;
 
-/// A literal or a figurative constant, which prints as it is written.
+/// A literal or a figurative constant, which prints as a source text writes it, with its escapes.
 #[derive(Clone, Copy)]
-pub struct ConstantText<'a> {
+pub struct EscapedConstant<'a> {
     pub value: &'a Value,
 }
 
@@ -25,7 +25,7 @@ fn write_quoted<W: fmt::Write>(f: &mut fmt::Formatter<W>, text: &[u8]) -> fmt::R
     write!(f, "&quot;")
 }
 
-impl fmt::Display for ConstantText<'_> {
+impl fmt::Display for EscapedConstant<'_> {
     fn fmt<W: fmt::Write>(&self, f: &mut fmt::Formatter<W>) -> fmt::Result {
         match self.value {
             Value::Literal(text) => write_quoted(f, text.as_bytes()),
@@ -34,7 +34,7 @@ impl fmt::Display for ConstantText<'_> {
                 write_quoted(f, text.as_bytes())
             }
             // A number or a word has no character with a meaning of its own.
-            plain => write!(f, "{}", SentText::Constant(plain)),
+            plain => write!(f, "{}", ConstantText { value: plain }),
         }
     }
 }

@@ -21,11 +21,11 @@ impl fmt::Display for Characters<'_> {
 
 /// Bytes of a record, which print as the characters that show them.
 #[derive(Clone, Copy)]
-pub struct Shown<'a> {
+pub struct ShownBytes<'a> {
     pub bytes: &'a [u8],
 }
 
-impl fmt::Display for Shown<'_> {
+impl fmt::Display for ShownBytes<'_> {
     fn fmt<W: fmt::Write>(&self, f: &mut fmt::Formatter<W>) -> fmt::Result {
         for byte in self.bytes {
             let shown = shown_byte(*byte);
@@ -38,11 +38,11 @@ impl fmt::Display for Shown<'_> {
 
 /// Bytes of a record, which print as their hexadecimal digits.
 #[derive(Clone, Copy)]
-pub struct Digits<'a> {
+pub struct HexDigits<'a> {
     pub bytes: &'a [u8],
 }
 
-impl fmt::Display for Digits<'_> {
+impl fmt::Display for HexDigits<'_> {
     fn fmt<W: fmt::Write>(&self, f: &mut fmt::Formatter<W>) -> fmt::Result {
         for byte in self.bytes {
             let digits = digits_of(*byte);
