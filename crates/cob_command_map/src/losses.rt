@@ -1,6 +1,6 @@
 //! What single moves may lose.
 
-ghost use Rattle.std.specs.Prelude.{◌≡◌, ◌++◌, ℕ, IfNone, IfOk, IfSome, OnOk};
+ghost use Rattle.std.specs.Prelude.{◌≡◌, ℕ, IfNone, IfOk, IfSome, OnOk, Some};
 ghost use Rattle.cob_copybook_tree.specs.declared.node.Kind.{Kind as SeenKind};
 ghost use Rattle.cob_layout_places.specs.declared.operands.NumberedPair.{NumberedPair as SeenPair};
 ghost use Rattle.cob_layout_places.specs.declared.reference.Ref.{Ref as SeenRef};
@@ -28,11 +28,13 @@ fn entry_given(layout: &Layout, number: usize) -> Option<Given<'_>>
     ensures none { IfNone result ((kind : SeenKind) (bytes : ℕ)
         → StandsAs layout.now number kind bytes → ⊥) }
 {
-    let spot = layout.greatest_spots().get(number)?;
-    Some(Given {
-        kind: SenderKind::Entry(layout.kind(number)),
-        bytes: spot.length,
-    })
+    match layout.greatest_spots().get(number) {
+        Some(spot) => Some(Given {
+            kind: SenderKind::Entry(layout.kind(number)),
+            bytes: spot.length,
+        }),
+        None => None,
+    }
 }
 
 /// The layout of a side's record.
@@ -82,13 +84,23 @@ fn no_losses() -> Losses {
     }
 }
 
+/// What the move of what is given to the entry with this number of the output record may lose; nothing where there is no such entry.
+fn losses_of_given(given: Given<'_>, output: &Layout, number: usize) -> Losses
+    ensures { IsToldOf (Some given) output.now number result }
+{
+    match entry_given(output, number) {
+        Some(receiver) => losses_between(given, receiver),
+        None => no_losses(),
+    }
+}
+
 /// What the move of what is given to the entry with this number of the output record may lose; nothing where there is no such move.
 fn losses_to(given: Option<Given<'_>>, output: &Layout, number: usize) -> Losses
     ensures { IsToldOf given output.now number result }
 {
-    match (given, entry_given(output, number)) {
-        (Some(given), Some(receiver)) => losses_between(given, receiver),
-        _ => no_losses(),
+    match given {
+        Some(given) => losses_of_given(given, output, number),
+        None => no_losses(),
     }
 }
 
@@ -143,9 +155,11 @@ fn push_statement(
     match statement {
         StatementMoves::Single(one) => {
             let given = sender_given(layouts, &one.sender);
-            push_receivers(given, layouts.output, &one.receivers, losses)
+            push_receivers(given, layouts.output, one.receivers.as_slice(), losses)
         }
-        StatementMoves::Pairs(group) => push_pairs(layouts, group.side, &group.pairs, losses),
+        StatementMoves::Pairs(group) => {
+            push_pairs(layouts, group.side, group.pairs.as_slice(), losses)
+        }
     }
 }
 

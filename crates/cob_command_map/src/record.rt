@@ -187,7 +187,8 @@ pub fn converted_record<S: Source>(
         Ok(passed) => passed,
         Err(fault) => return Err(fault),
     };
-    if passed < number - 1 {
+    let fewer = passed < number - 1;
+    if fewer {
         return Ok(Found::Fewer(passed));
     }
     match convert_next(conversion, number, input, output, &mut left, room, source) {

@@ -12,14 +12,12 @@
 //! What is promised is what is decided: which entries moves join ([`ends_of`]; `ends_in` of specs/Joined.antt), and by `cob_map_places` where boxes stand,
 //! which rows of a ruler bytes take, and which moves one line stands for. Which words are printed is shown by `cob_jobs`.
 //!
-//! It stands on `cob_map_boxes` and `cob_map_words` for the boxes and their words, on `cob_map_places` for places, on `cob_html` for escapes and lines, on
-//! `cob_move_losses` for what moves may lose, on `cob_layout`, `cob_layout_places` and `cob_copybook_tree` for records and moves, and on `cob_lossless_words`
-//! for single moves and the names of occurrences.
+//! It stands on `cob_map_boxes` for the boxes, on `cob_map_lines` for the lines and the lists, on `cob_map_places` for places, on `cob_html` for escapes, on
+//! `cob_move_losses` for what moves may lose, on `cob_layout` and `cob_layout_places` for records and moves, and on `cob_lossless_words` for single moves and
+//! the names of records.
 #![tactic(auto)]
 
 mod joined;
-mod lines;
-mod lists;
 mod page;
 mod style;
 

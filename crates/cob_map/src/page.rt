@@ -5,8 +5,6 @@ ghost use Rattle.cob_map.specs.Joined.{ends_in};
 ghost use Rattle.cob_map_places.specs.Ends.{AreCountsAtFirsts};
 
 use crate::joined::ends_of;
-use crate::lines::write_line;
-use crate::lists::{write_move, write_runs};
 use crate::style::{
     BARE_HEAD, DRAWING_END, HEAD, KEY, LINES_END, LINES_HEAD, LIST_END, MOVES_HEAD, PAGE_END,
     SIDE_HEAD, STYLE,
@@ -16,6 +14,7 @@ use cob_layout::{Layout, Spot};
 use cob_layout_places::StatementMoves;
 use cob_lossless_words::{Named, Sent, Single, singles_of};
 use cob_map_boxes::{Contents, Drawn, draw, write_boxes};
+use cob_map_lines::{Sides, write_line, write_move, write_runs};
 use cob_map_places::{SHEET, counts_of};
 use cob_move_losses::Losses;
 use std::alloc::{AllocError, Global};
@@ -62,13 +61,6 @@ pub struct Mapping<'a> {
     pub converted: Option<Converted<'a>>,
 }
 
-/// Both records as they are drawn.
-#[derive(Drop)]
-struct Sides<'a> {
-    input: Drawn<'a>,
-    output: Drawn<'a>,
-}
-
 /// The single moves, and of each how many join the same, where it is the first of them.
 #[derive(Drop)]
 struct Joins<'a> {
@@ -79,7 +71,7 @@ struct Joins<'a> {
 /// A mapping, which prints as a page.
 #[derive(Drop)]
 pub struct Page<'a> {
-    pub(crate) mapping: Mapping<'a>,
+    mapping: Mapping<'a>,
     sides: Sides<'a>,
     joins: Joins<'a>,
 }
@@ -139,16 +131,6 @@ impl<'a> Page<'a> {
             Err(refused) => Err(refused),
         }
     }
-
-    /// A record as it is drawn, the input or the output.
-    pub(crate) fn input(&self) -> &Drawn<'a> {
-        &self.sides.input
-    }
-
-    /// The output record as it is drawn.
-    pub(crate) fn output(&self) -> &Drawn<'a> {
-        &self.sides.output
-    }
 }
 
 /// What is written of single moves that join the same, at the first of them: the line from an entry, the line from a constant, whose text lies over the
@@ -170,9 +152,9 @@ fn write_one<'a, W: fmt::Write>(
     losses: Losses,
 ) -> fmt::Result {
     match (writing, single.sent) {
-        (Writing::Row, _) => write_move(f, page, single, count, losses),
+        (Writing::Row, _) => write_move(f, &page.sides, single, count, losses),
         (Writing::EntryLine, Sent::Entry { .. }) | (Writing::ConstantLine, Sent::Constant(_)) => {
-            write_line(f, page, single, count, losses)
+            write_line(f, &page.sides, single, count, losses)
         }
         _ => Ok(()),
     }
@@ -274,10 +256,8 @@ const HEAD_HEIGHT: u32 = 120;
 
 /// Writes the drawing.
 fn write_drawing<W: fmt::Write>(f: &mut fmt::Formatter<W>, page: &Page<'_>) -> fmt::Result {
-    let height = page
-        .input()
-        .whole_height()
-        .max(page.output().whole_height());
+    let (input, output) = (&page.sides.input, &page.sides.output);
+    let height = input.whole_height().max(output.whole_height());
     // A drawing that has no room below the head of the page begins on a sheet of its own.
     let class = if height < SHEET - HEAD_HEIGHT {
         "map"
@@ -288,12 +268,12 @@ fn write_drawing<W: fmt::Write>(f: &mut fmt::Formatter<W>, page: &Page<'_>) -> f
         f,
         "<div class=\"scroll\"><div class=\"{class}\" style=\"height:{height}px\">"
     )?;
-    write_side(f, page.input(), "in")?;
+    write_side(f, input, "in")?;
     f.write_str(LINES_HEAD)?;
     write_joined(f, page, Writing::EntryLine)?;
     write_joined(f, page, Writing::ConstantLine)?;
     f.write_str(LINES_END)?;
-    write_side(f, page.output(), "out")?;
+    write_side(f, output, "out")?;
     f.write_str(DRAWING_END)
 }
 
@@ -310,7 +290,7 @@ fn write_bare_bytes<W: fmt::Write>(f: &mut fmt::Formatter<W>, page: &Page<'_>) -
         return Ok(());
     }
     f.write_str(BARE_HEAD)?;
-    write_runs(f, page.output())?;
+    write_runs(f, &page.sides.output)?;
     f.write_str(LIST_END)
 }
 

@@ -1,7 +1,6 @@
 //! The lists below the drawing: the moves, and the bytes that no receiver covers.
 
-use crate::lines::{EscapedSent, class_of, receiver_of};
-use crate::page::Page;
+use crate::lines::{EscapedSent, Sides, class_of, receiver_of};
 use cob_layout::{Kind, Node};
 use cob_lossless_words::{Named, Single};
 use cob_map_boxes::{Drawn, spot_of, told_length};
@@ -10,19 +9,19 @@ use cob_move_losses::Losses;
 use std::fmt;
 
 /// Writes the row of single moves that join the same, of which this is the first.
-pub(crate) fn write_move<'a, W: fmt::Write>(
+pub fn write_move<'a, W: fmt::Write>(
     f: &mut fmt::Formatter<W>,
-    page: &Page<'a>,
+    sides: &Sides<'a>,
     single: Single<'a>,
     count: usize,
     losses: Losses,
 ) -> fmt::Result {
     let class = class_of(losses);
     let sent = EscapedSent {
-        page,
+        sides,
         sent: single.sent,
     };
-    let receiver = receiver_of(page, single);
+    let receiver = receiver_of(sides, single);
     write!(
         f,
         "<tr{class}><td>{}</td><td>{sent}</td><td>{receiver}</td>",
@@ -69,7 +68,7 @@ fn write_run<W: fmt::Write>(
 }
 
 /// Writes a row for each run of bytes that are not covered.
-pub(crate) fn write_runs<W: fmt::Write>(
+pub fn write_runs<W: fmt::Write>(
     f: &mut fmt::Formatter<W>,
     drawn: &Drawn<'_>,
 ) -> fmt::Result {

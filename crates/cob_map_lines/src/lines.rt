@@ -1,9 +1,9 @@
 //! The lines between the boxes of senders and of receivers.
 
-use crate::page::Page;
 use cob_html::Line;
 use cob_layout_places::Side;
 use cob_lossless_words::{Element, Named, Sent, Single};
+use cob_map_boxes::Drawn;
 use cob_map_words::EscapedConstant;
 use cob_move_losses::Losses;
 use std::fmt;
@@ -20,11 +20,18 @@ const TURNS: usize = 7;
 /// Where the line of a constant begins.
 const CONSTANT: u32 = 80;
 
+/// Both records as they are drawn.
+#[derive(Drop)]
+pub struct Sides<'a> {
+    pub input: Drawn<'a>,
+    pub output: Drawn<'a>,
+}
+
 /// An occurrence of an entry of one of the records.
-fn named_in<'a>(page: &'a Page<'_>, side: Side, element: Element<'_>) -> Named<'a> {
+fn named_in<'a>(sides: &'a Sides<'_>, side: Side, element: Element<'_>) -> Named<'a> {
     let drawn = match side {
-        Side::In => page.input(),
-        Side::Out => page.output(),
+        Side::In => &sides.input,
+        Side::Out => &sides.output,
     };
     Named::new(drawn.layout.root(), element.number, element.subscripts)
 }
@@ -32,22 +39,22 @@ fn named_in<'a>(page: &'a Page<'_>, side: Side, element: Element<'_>) -> Named<'
 /// What a single move sends, which prints as the name of an occurrence or as a constant.
 #[derive(Clone, Copy)]
 pub(crate) struct EscapedSent<'p, 'a> {
-    pub(crate) page: &'p Page<'a>,
+    pub(crate) sides: &'p Sides<'a>,
     pub(crate) sent: Sent<'a>,
 }
 
 impl fmt::Display for EscapedSent<'_, '_> {
     fn fmt<W: fmt::Write>(&self, f: &mut fmt::Formatter<W>) -> fmt::Result {
         match self.sent {
-            Sent::Entry { side, entry } => write!(f, "{}", named_in(self.page, side, entry)),
+            Sent::Entry { side, entry } => write!(f, "{}", named_in(self.sides, side, entry)),
             Sent::Constant(value) => write!(f, "{}", EscapedConstant { value }),
         }
     }
 }
 
 /// The receiver of a single move.
-pub(crate) fn receiver_of<'a>(page: &'a Page<'_>, single: Single<'_>) -> Named<'a> {
-    named_in(page, Side::Out, single.receiver)
+pub(crate) fn receiver_of<'a>(sides: &'a Sides<'_>, single: Single<'_>) -> Named<'a> {
+    named_in(sides, Side::Out, single.receiver)
 }
 
 /// The class of single moves that may lose these things.
@@ -79,16 +86,16 @@ fn write_losses<W: fmt::Write>(f: &mut fmt::Formatter<W>, losses: Losses) -> fmt
 /// Writes what single moves are, of which this is the first.
 fn write_title<'a, W: fmt::Write>(
     f: &mut fmt::Formatter<W>,
-    page: &Page<'a>,
+    sides: &Sides<'a>,
     single: Single<'a>,
     count: usize,
     losses: Losses,
 ) -> fmt::Result {
     let sent = EscapedSent {
-        page,
+        sides,
         sent: single.sent,
     };
-    let receiver = receiver_of(page, single);
+    let receiver = receiver_of(sides, single);
     write!(f, "<title>line {}: {sent} to {receiver}", single.line)?;
     write_more(f, count)?;
     write_losses(f, losses)?;
@@ -162,20 +169,20 @@ fn write_constant<W: fmt::Write>(
 /// Writes the line from what a single move sends to its receiver.
 fn write_shape<'a, W: fmt::Write>(
     f: &mut fmt::Formatter<W>,
-    page: &Page<'a>,
+    sides: &Sides<'a>,
     single: Single<'a>,
 ) -> fmt::Result {
-    let to = page.output().middle(single.receiver.number);
+    let to = sides.output.middle(single.receiver.number);
     match single.sent {
         Sent::Entry {
             side: Side::In,
             entry,
-        } => write_across(f, page.input().middle(entry.number), to),
+        } => write_across(f, sides.input.middle(entry.number), to),
         Sent::Entry {
             side: Side::Out,
             entry,
         } => {
-            let from = page.output().middle(entry.number);
+            let from = sides.output.middle(entry.number);
             write_back(f, turn_of(entry.number), from, to)
         }
         Sent::Constant(value) => write_constant(f, EscapedConstant { value }, to),
@@ -183,16 +190,16 @@ fn write_shape<'a, W: fmt::Write>(
 }
 
 /// Writes the line of single moves that join the same, of which this is the first.
-pub(crate) fn write_line<'a, W: fmt::Write>(
+pub fn write_line<'a, W: fmt::Write>(
     f: &mut fmt::Formatter<W>,
-    page: &Page<'a>,
+    sides: &Sides<'a>,
     single: Single<'a>,
     count: usize,
     losses: Losses,
 ) -> fmt::Result {
     let class = class_of(losses);
     write!(f, "<g{class}>")?;
-    write_title(f, page, single, count, losses)?;
-    write_shape(f, page, single)?;
+    write_title(f, sides, single, count, losses)?;
+    write_shape(f, sides, single)?;
     writeln!(f, "</g>")
 }
