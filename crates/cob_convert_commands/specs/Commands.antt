@@ -17,6 +17,7 @@ use Rattle.cob_command_draft.specs.Ends.{MayEndDraft}
 use Rattle.cob_command_lists.specs.Ends.{MayEndLayout, MayEndListing}
 use Rattle.cob_command_lossless.specs.Ends.{MayEndLossless}
 use Rattle.cob_command_manual.specs.Ends.{MayEndPrinting}
+use Rattle.cob_command_map.specs.Ends.{EndsMap}
 
 -- how a conversion ends, by whether rejected records are set aside in a file
 abbrev pub EndsConvert : {A : Type 0} → Option A → Bool → Status → Type 0
@@ -37,6 +38,7 @@ EndsLine (line.Explain options) end = EndsExplain end
 EndsLine (line.Draft options) end = EndsAmong MayEndDraft end
 EndsLine line.Completion end = EndsAmong MayEndPrinting end
 EndsLine line.Manual end = EndsAmong MayEndPrinting end
+EndsLine (line.Map options) end = EndsMap end
 
 -- the number of a status with which this command line ends
 abbrev pub IsEndOfLine : Line → ℕ → Type 0

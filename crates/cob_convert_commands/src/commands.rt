@@ -7,15 +7,16 @@ ghost use Rattle.cob_convert_commands.specs.Commands.{EndsConvert, IsEndOfLine, 
 
 use cob_command_aside::do_convert_aside;
 use cob_command_convert::{do_check, do_convert};
+use cob_command_explain::do_explain;
 use cob_command_cover::do_cover;
 use cob_command_draft::do_draft;
-use cob_command_explain::do_explain;
 use cob_command_faults::printed;
 use cob_command_job::do_job;
 use cob_command_lists::{do_layout, do_pieces, do_show};
 use cob_command_lossless::do_lossless;
-use cob_command_manual::{do_completion, do_manual};
 use cob_convert_line::{CheckLine, ConvertLine, Line, LineFault, line_of};
+use cob_command_manual::{do_completion, do_manual};
+use cob_command_map::do_map;
 use cob_status::Status;
 use std::convert::AsStr;
 use std::io::{Eprint, Input, Print};
@@ -67,6 +68,7 @@ pub fn perform<R: AllocGlobal + Files + Input + Print + Eprint + Clock>(
         Line::Draft(line) => do_draft(rt, line).code(),
         Line::Completion => do_completion(rt).code(),
         Line::Manual => do_manual(rt).code(),
+        Line::Map(line) => do_map(rt, line).code(),
     }
 }
 

@@ -11,7 +11,7 @@ use Rattle.clap.specs.declared.error.kind.ErrorKind.TheVariants as kind
 use Rattle.cob_convert_line.specs.declared.fault.LineFault.{LineFault}
 use Rattle.cob_convert_line.specs.declared.fault.LineFault.TheVariants.{Block, Form, Listing, Memory, NotText, Number, Piece, Pieces, Reading, Words}
 use Rattle.cob_convert_options.specs.Options.{Given, Options, found_at, taken}
-use Rattle.cob_convert_program.specs.Commands.{Spells, check_options, commands, convert_options, draft_options, explain_options, help_options, layout_options, lossless_options, pieces_options, show_options}
+use Rattle.cob_convert_program.specs.Commands.{Spells, check_options, commands, convert_options, draft_options, explain_options, help_options, layout_options, lossless_options, map_options, pieces_options, show_options}
 use Rattle.cob_convert_options.specs.Looks.{Look}
 use Rattle.cob_convert_line.specs.Faults.{IsFaultIn, IsFaultOf, fault_by_kind, words_fault}
 use Rattle.cob_convert_line.specs.Lines.{IsCommand, IsCommandLineOf}
@@ -71,6 +71,8 @@ asked_by w os look (line.Explain o) is (same, h) = subst (λ (x : Options). AreA
     (ap is_some h.in_book, (ap is_some h.out_book, (ap is_some h.moves, (ap is_some h.input, tt))))
 asked_by w os look (line.Draft o) is (same, h) = subst (λ (x : Options). AreAsked x look) (named_options w (codes "draft") os draft_options is same refl)
     (ap is_some h.in_book, (ap is_some h.out_book, tt))
+asked_by w os look (line.Map o) is (same, h) = subst (λ (x : Options). AreAsked x look) (named_options w (codes "map") os map_options is same refl)
+    (ap is_some h.in_book, (ap is_some h.out_book, (ap is_some h.moves, tt)))
 asked_by w os look line.Completion is same = subst (λ (x : Options). AreAsked x look) (named_options w (codes "completion") os help_options is same refl) tt
 asked_by w os look line.Manual is same = subst (λ (x : Options). AreAsked x look) (named_options w (codes "manual") os help_options is same refl) tt
 

@@ -20,6 +20,7 @@ use Rattle.cob_convert_line.specs.declared.line.PiecesLine.{PiecesLine}
 use Rattle.cob_convert_line.specs.declared.line.LosslessLine.{LosslessLine}
 use Rattle.cob_convert_line.specs.declared.line.ExplainLine.{ExplainLine}
 use Rattle.cob_convert_line.specs.declared.line.DraftLine.{DraftLine}
+use Rattle.cob_convert_line.specs.declared.line.MapLine.{MapLine}
 
 -- Options name the forms of both files with the sizes of their blocks, and the reading of binary items.
 pub record NameForms (look : Look) (in_form out_form : Form) (in_block out_block : ℕ) (reading : Reading) : Type 0 where
@@ -112,6 +113,15 @@ pub record IsDraft (look : Look) (line : DraftLine) : Type 0 where
   pub in_book : look (codes "in-book") ≡ Some line.in_book.now
   pub out_book : look (codes "out-book") ≡ Some line.out_book.now
 
+-- The options of `map` name the line's files, its forms, its reading, and the number of the record.
+pub record IsMap (look : Look) (line : MapLine) : Type 0 where
+  pub in_book : look (codes "in-book") ≡ Some line.in_book.now
+  pub out_book : look (codes "out-book") ≡ Some line.out_book.now
+  pub moves : look (codes "moves") ≡ Some line.moves.now
+  pub input : look (codes "in") ≡ option_map (λ file. file.now) line.input
+  pub forms : NameForms look line.in_form line.out_form line.in_block line.out_block line.reading
+  pub number : NamesNumber look (codes "record") 1 line.record
+
 -- the command is that of the line, and its options name what the line says
 abbrev pub IsCommand : Text → Look → Line → Type 0
 IsCommand name look line.Job = ⊥
@@ -123,6 +133,7 @@ IsCommand name look (line.Pieces options) = (name ≡ codes "pieces") × IsPiece
 IsCommand name look (line.Lossless options) = (name ≡ codes "lossless") × IsLosslessLine look options
 IsCommand name look (line.Explain options) = (name ≡ codes "explain") × IsExplain look options
 IsCommand name look (line.Draft options) = (name ≡ codes "draft") × IsDraft look options
+IsCommand name look (line.Map options) = (name ≡ codes "map") × IsMap look options
 IsCommand name look line.Completion = name ≡ codes "completion"
 IsCommand name look line.Manual = name ≡ codes "manual"
 
@@ -137,6 +148,7 @@ HasBlocks (line.Pieces options) = HasBlockSize options.form × (0 < options.piec
 HasBlocks (line.Lossless options) = ⊤
 HasBlocks (line.Explain options) = HasBlockSize options.in_form × HasBlockSize options.out_form × (0 < options.record)
 HasBlocks (line.Draft options) = ⊤
+HasBlocks (line.Map options) = HasBlockSize options.in_form × HasBlockSize options.out_form × (0 < options.record)
 HasBlocks line.Completion = ⊤
 HasBlocks line.Manual = ⊤
 

@@ -24,6 +24,6 @@ mod values;
 pub use fault::LineFault;
 pub use line::{
     CheckLine, ConvertLine, DraftLine, ExplainLine, LayoutLine, Line, Listing, LosslessLine,
-    PiecesLine, ShowLine,
+    MapLine, PiecesLine, ShowLine,
 };
 pub use read::line_of;

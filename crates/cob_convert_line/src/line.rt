@@ -22,6 +22,8 @@ pub enum Line<'a> {
     Explain(ExplainLine<'a>),
     /// Writes a paragraph to begin with.
     Draft(DraftLine<'a>),
+    /// Draws both records and the moves between them.
+    Map(MapLine<'a>),
     /// Prints what the shell needs to complete command lines.
     Completion,
     /// Prints the manual page.
@@ -179,4 +181,29 @@ pub struct DraftLine<'a> {
     pub in_book: &'a str,
     /// The file with the copybook of the output record.
     pub out_book: &'a str,
+}
+
+/// The options of `map`.
+#[derive(Clone, Copy)]
+pub struct MapLine<'a> {
+    /// The file with the copybook of the input record.
+    pub in_book: &'a str,
+    /// The file with the copybook of the output record.
+    pub out_book: &'a str,
+    /// The file with the paragraph.
+    pub moves: &'a str,
+    /// The file that a record comes from, where one is shown; `-` is standard input.
+    pub input: Option<&'a str>,
+    /// How the records of the input stand.
+    pub in_form: Form,
+    /// How the records of the output stand.
+    pub out_form: Form,
+    /// The greatest size of the input's blocks, where it has blocks.
+    pub in_block: u16,
+    /// The greatest size of the output's blocks, where it has blocks.
+    pub out_block: u16,
+    /// How binary items are read that are sent.
+    pub reading: Reading,
+    /// The number of the record, from 1 on.
+    pub record: u64,
 }

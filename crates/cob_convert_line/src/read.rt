@@ -1,17 +1,17 @@
 //! The lines of commands, and the line that words say.
 
 ghost use Rattle.std.specs.Prelude.{◌≡◌, ◌<◌, ◌⊎◌, IfErr, IfOk, map};
-ghost use Rattle.cob_convert_program.specs.Commands.{IsComplete, check_options, convert_options, draft_options, explain_options, layout_options, lossless_options, pieces_options, show_options};
+ghost use Rattle.cob_convert_program.specs.Commands.{IsComplete, check_options, convert_options, draft_options, explain_options, layout_options, lossless_options, map_options, pieces_options, show_options};
 ghost use Rattle.cob_convert_line.specs.Faults.{IsFaultIn, IsFaultOf};
-ghost use Rattle.cob_convert_line.specs.Lines.{HasBlocks, IsCheck, IsCommand, IsCommandLineOf, IsConvert, IsDraft, IsExplain, IsLayout, IsLosslessLine, IsPieces, IsShow};
+ghost use Rattle.cob_convert_line.specs.Lines.{HasBlocks, IsCheck, IsCommand, IsCommandLineOf, IsConvert, IsDraft, IsExplain, IsLayout, IsLosslessLine, IsMap, IsPieces, IsShow};
 ghost use Rattle.cob_convert_options.specs.Looks.{AreAll, AreNamed, look_of};
 ghost use Rattle.cob_records.specs.Forms.{HasBlockSize};
 ghost use Rattle.cob_convert_line.specs.declared.fault.LineFault.TheVariants.{Memory};
 
 use crate::fault::LineFault;
 use crate::line::{
-    CheckLine, ConvertLine, DraftLine, ExplainLine, LayoutLine, Line, LosslessLine, PiecesLine,
-    ShowLine,
+    CheckLine, ConvertLine, DraftLine, ExplainLine, LayoutLine, Line, LosslessLine, MapLine,
+    PiecesLine, ShowLine,
 };
 use crate::values::{bound, choice_of, form, forms_of, listing, number, piece_of, record_of};
 use clap::ArgMatches;
@@ -168,6 +168,32 @@ fn draft_line<'a>(options: &ArgMatches<'a>) -> DraftLine<'a>
     }
 }
 
+fn map_line<'a>(options: &ArgMatches<'a>) -> Result<MapLine<'a>, LineFault>
+    requires named { AreNamed map_options (look_of options.now) }
+    requires only { AreAll map_options (look_of options.now) }
+    ensures options { IfOk result (IsMap (look_of options.now)) }
+    ensures lacks { IfErr result (λ _. (line : MapLine)
+        → IsMap (look_of options.now) line → ⊥) }
+    ensures fault { IfErr result (IsFaultIn (look_of options.now)) }
+    ensures blocks { IfOk result (λ line. HasBlockSize line.in_form
+        × HasBlockSize line.out_form × (0 < line.record)) }
+{
+    let forms = forms_of(options)?;
+    let record = record_of(options)?;
+    Ok(MapLine {
+        in_book: named(options, "in-book"),
+        out_book: named(options, "out-book"),
+        moves: named(options, "moves"),
+        input: named_if_there(options, "in"),
+        in_form: forms.input,
+        out_form: forms.output,
+        in_block: forms.in_block,
+        out_block: forms.out_block,
+        reading: forms.reading,
+        record,
+    })
+}
+
 // The line of a command that was named with these options.
 fn command_line<'a>(name: &str, options: &ArgMatches<'a>) -> Result<Line<'a>, LineFault>
     requires { IsComplete name.now (look_of options.now) }
@@ -186,6 +212,7 @@ fn command_line<'a>(name: &str, options: &ArgMatches<'a>) -> Result<Line<'a>, Li
         "lossless" => Ok(Line::Lossless(lossless_line(options))),
         "explain" => Ok(Line::Explain(explain_line(options)?)),
         "draft" => Ok(Line::Draft(draft_line(options))),
+        "map" => Ok(Line::Map(map_line(options)?)),
         "completion" => Ok(Line::Completion),
         "manual" => Ok(Line::Manual),
         _ => unreachable!(),

@@ -78,6 +78,10 @@ explain_options = texts_options ++ (codes "in", Required) ∷ forms_options ++ r
 abbrev pub draft_options : Options
 draft_options = books_options ++ help_options
 
+-- the options of `map`
+abbrev pub map_options : Options
+map_options = texts_options ++ (codes "in", Optional) ∷ forms_options ++ record_options ++ help_options
+
 -- commands by their names, each with its options
 abbrev pub Commands : Type 0
 Commands = List (Text × Options)
@@ -86,7 +90,7 @@ Commands = List (Text × Options)
 abbrev pub commands : Commands
 commands = (codes "convert", convert_options) ∷ (codes "check", check_options) ∷ (codes "layout", layout_options) ∷ (codes "show", show_options)
     ∷ (codes "pieces", pieces_options) ∷ (codes "lossless", lossless_options)
-    ∷ (codes "explain", explain_options) ∷ (codes "draft", draft_options)
+    ∷ (codes "explain", explain_options) ∷ (codes "draft", draft_options) ∷ (codes "map", map_options)
     ∷ (codes "completion", help_options) ∷ (codes "manual", help_options) ∷ []
 
 -- What words spell: the name of a command, and then its options, those that have to be there among them.

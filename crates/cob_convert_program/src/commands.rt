@@ -12,11 +12,11 @@ use crate::groups::{
 };
 use crate::help::{
     ATOMIC_HELP, CHECK_NOTES, CONVERT_NOTES, CONVERT_USAGE, DRAFT_NOTES, EXPLAIN_NOTES,
-    EXPLAIN_USAGE, LISTING_HELP, LOSSLESS_NOTES, LOSSLESS_USAGE, PIECES_NOTES, PROGRAM_NOTES,
-    PROGRESS_HELP, VERSION,
+    EXPLAIN_USAGE, LISTING_HELP, LOSSLESS_NOTES, LOSSLESS_USAGE, MAP_NOTES, PIECES_NOTES,
+    PROGRAM_NOTES, PROGRESS_HELP, VERSION,
 };
 use clap::Command;
-use cob_convert_options::{alone, defaulted, required};
+use cob_convert_options::{alone, defaulted, optional, required};
 use std::alloc::{AllocError, Global};
 
 fn convert<'a>(alloc: Global) -> Result<Command<'a>, AllocError>
@@ -133,6 +133,21 @@ fn draft<'a>(alloc: Global) -> Result<Command<'a>, AllocError>
     with_books(alloc, command)
 }
 
+fn map<'a>(alloc: Global) -> Result<Command<'a>, AllocError>
+    ensures { Makes (command_app (codes "map") map_options) result }
+{
+    let command = Command::new(alloc, "map")
+        .about("Print a page with both records and the moves between them")
+        .after_help(MAP_NOTES);
+    let command = with_texts(alloc, command)?.arg(optional(
+        alloc,
+        "in",
+        "FILE",
+        "Records, to show one of; - is standard input",
+    ))?;
+    with_record(alloc, with_forms(alloc, command)?)
+}
+
 // What bash needs to complete command lines: for those who install the program, so that help does not tell of it.
 fn completion<'a>(alloc: Global) -> Command<'a>
     ensures { app_of result ≡ command_app (codes "completion") help_options }
@@ -196,6 +211,7 @@ pub fn program<'a>(alloc: Global) -> Result<Command<'a>, AllocError>
     let program = with_command(program, lossless(alloc));
     let program = with_command(program, explain(alloc));
     let program = with_command(program, draft(alloc));
+    let program = with_command(program, map(alloc));
     let program = with_command(program, Ok(completion(alloc)));
     with_command(program, Ok(manual(alloc)))
 }

@@ -105,3 +105,9 @@ pub(crate) const DRAFT_NOTES: &str =
 there is such a move and nothing is cut; what is left stands as comments.
 
 Example: cobconv draft --in-book old.cpy --out-book new.cpy";
+
+pub(crate) const MAP_NOTES: &str = "One page of HTML on standard output, complete in itself.
+
+Example:
+  cobconv map --in-book old.cpy --out-book new.cpy --moves moves.cbl \\
+    --in old.dat --record 17 > map.html";

@@ -32,3 +32,6 @@ returns-in-Completion g c = (_, rw c.in-Completion.is c.do_completion.ensures, c
 
 pub returns-in-Manual : goal.returns-in-Manual
 returns-in-Manual g c = (_, rw c.in-Manual.is c.do_manual.ensures, c.code-in-Manual.ensures)
+
+pub returns-in-Map : goal.returns-in-Map
+returns-in-Map g c = (_, rw c.in-Map.is c.do_map.ensures, c.code-in-Map.ensures)

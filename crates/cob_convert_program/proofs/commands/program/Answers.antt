@@ -2,7 +2,7 @@ use Rattle.std.proofs.Common.{codes, refl}
 use Rattle.clap.specs.Words.{App, Text, with_subcommand}
 use Rattle.cob_convert_options.specs.Options.{Options}
 use Rattle.cob_convert_options.specs.Rules.{command_app}
-use Rattle.cob_convert_program.specs.Commands.{check_options, convert_options, draft_options, explain_options, help_options, layout_options, lossless_options, pieces_options, show_options}
+use Rattle.cob_convert_program.specs.Commands.{check_options, convert_options, draft_options, explain_options, help_options, layout_options, lossless_options, map_options, pieces_options, show_options}
 use Rattle.cob_convert_program.specs.Program.{bare_app}
 use Rattle.cob_convert_program.proofs.commands.program.Goals as goal
 
@@ -34,7 +34,10 @@ abbrev eight : App
 eight = more seven (codes "draft") draft_options
 
 abbrev nine : App
-nine = more eight (codes "completion") help_options
+nine = more eight (codes "map") map_options
+
+abbrev ten : App
+ten = more nine (codes "completion") help_options
 
 pub returns : goal.returns
 returns c =
@@ -46,5 +49,6 @@ returns c =
     let made_six = c.with_command-program-6.ensures five (command_app (codes "lossless") lossless_options) made_five c.lossless.ensures refl in
     let made_seven = c.with_command-program-7.ensures six (command_app (codes "explain") explain_options) made_six c.explain.ensures refl in
     let made_eight = c.with_command-program-8.ensures seven (command_app (codes "draft") draft_options) made_seven c.draft.ensures refl in
-    let made_nine = c.with_command-program-9.ensures eight (command_app (codes "completion") help_options) made_eight c.completion.ensures refl in
-    c.with_command.ensures nine (command_app (codes "manual") help_options) made_nine c.manual.ensures refl
+    let made_nine = c.with_command-program-9.ensures eight (command_app (codes "map") map_options) made_eight c.map.ensures refl in
+    let made_ten = c.with_command-program-10.ensures nine (command_app (codes "completion") help_options) made_nine c.completion.ensures refl in
+    c.with_command.ensures ten (command_app (codes "manual") help_options) made_ten c.manual.ensures refl

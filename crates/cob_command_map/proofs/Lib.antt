@@ -1,0 +1,3 @@
+mod EndLemmas
+mod LosingLemmas
+mod Numbering

@@ -1,0 +1,3 @@
+pub mod Numbered
+pub mod Ends
+pub mod Losing

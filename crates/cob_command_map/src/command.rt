@@ -1,0 +1,103 @@
+//! The command.
+
+ghost use Rattle.std.specs.Prelude.{◌<◌, IfErr};
+ghost use Rattle.cob_records.specs.Forms.{HasBlockSize};
+ghost use Rattle.cob_command_map.specs.Ends.{EndsMap, MayNotMap};
+
+use crate::ends::{Unmapped, tell_mapped};
+use crate::mapping::{Asked, print_conversion};
+use cob_command_faults::{CommandFault, FileName, text_of};
+use cob_convert::Converter;
+use cob_convert_line::MapLine;
+use cob_convert_record::Conversion;
+use cob_lossless_words::lines_of;
+use cob_map::TextNames;
+use cob_status::Status;
+use std::io::{Eprint, Input, Print};
+use std::rt::Files;
+
+/// Prints the page of a conversion, which this paragraph says.
+fn print_lined<'a, R: AllocGlobal + Files + Input + Print>(
+    rt: &R,
+    line: &MapLine<'a>,
+    conversion: &'a Conversion,
+    moves: &[u8],
+) -> Result<(), Unmapped>
+    requires { 0 < line.now.record }
+    ensures { IfErr result MayNotMap }
+{
+    match lines_of(rt.alloc(), moves) {
+        Ok(lines) => {
+            let asked = Asked {
+                lines: &lines,
+                names: TextNames {
+                    in_book: line.in_book,
+                    out_book: line.out_book,
+                    moves: line.moves,
+                },
+                input: line.input,
+                record: line.record,
+            };
+            print_conversion(rt, conversion, asked)
+        }
+        // The paragraph was read before, so that only memory can lack.
+        Err(_) => Err(Unmapped::Fault(CommandFault::Memory)),
+    }
+}
+
+/// Prints the page of the conversion that three texts say.
+fn print_texts<R: AllocGlobal + Files + Input + Print>(
+    rt: &R,
+    line: &MapLine<'_>,
+    in_book: &[u8],
+    out_book: &[u8],
+    moves: &[u8],
+) -> Result<(), Unmapped>
+    requires in_block { HasBlockSize line.now.in_form }
+    requires out_block { HasBlockSize line.now.out_form }
+    requires record { 0 < line.now.record }
+    ensures { IfErr result MayNotMap }
+{
+    match Converter::prepare_with(
+        rt.alloc(),
+        in_book,
+        out_book,
+        moves,
+        line.in_form,
+        line.out_form,
+        line.reading,
+    ) {
+        Ok(converter) => print_lined(rt, line, converter.conversion(), moves),
+        Err(refused) => Err(Unmapped::Fault(CommandFault::from(refused))),
+    }
+}
+
+/// Prints the page of a mapping on standard output, with a record where one is named.
+///
+/// # Errors
+///
+/// A file that is not opened or not read, a text that is refused, a record that is not there or that stops, a page that is not printed, want of memory.
+pub fn print_map<R: AllocGlobal + Files + Input + Print>(
+    rt: &R,
+    line: &MapLine<'_>,
+) -> Result<(), Unmapped>
+    requires in_block { HasBlockSize line.now.in_form }
+    requires out_block { HasBlockSize line.now.out_form }
+    requires record { 0 < line.now.record }
+    ensures { IfErr result MayNotMap }
+{
+    let in_book = text_of(rt, line.in_book, FileName::InBook)?;
+    let out_book = text_of(rt, line.out_book, FileName::OutBook)?;
+    let moves = text_of(rt, line.moves, FileName::Moves)?;
+    print_texts(rt, line, &in_book, &out_book, &moves)
+}
+
+/// Prints the page of a mapping, or what is at fault, and answers how the program ends.
+pub fn do_map<R: AllocGlobal + Files + Input + Print + Eprint>(rt: &R, line: &MapLine<'_>) -> Status
+    requires in_block { HasBlockSize line.now.in_form }
+    requires out_block { HasBlockSize line.now.out_form }
+    requires record { 0 < line.now.record }
+    ensures { EndsMap result }
+{
+    tell_mapped(rt, print_map(rt, line))
+}

@@ -1,0 +1,15 @@
+use Rattle.std.proofs.Common.{codes, refl}
+use Rattle.cob_convert_options.specs.Looks.{Look, look_of}
+use Rattle.cob_convert_line.proofs.Apps.{before_listing, before_piece}
+use Rattle.cob_convert_line.proofs.Said.{told}
+use Rattle.cob_convert_line.proofs.read.map_line.Goals as goal
+
+pub record_of-requires-clause-before : goal.record_of-requires-clause-before
+record_of-requires-clause-before c =
+    let look : Look = look_of c.args.options.now in
+    before_piece look (c.requires.only (codes "as") refl) (before_listing look _ _ _ _ _ (c.requires.only (codes "form") refl) c.in_ok-forms.ensures.named)
+
+pub returns-in_err-record-clause-lacks : goal.returns-in_err-record-clause-lacks
+returns-in_err-record-clause-lacks c =
+    told c.from_residual-in_err-record.result _ _ (λ fault is line says. c.in_err-record.ensures.lacks line.record says.number)
+    c.from_residual-in_err-record.ensures.1

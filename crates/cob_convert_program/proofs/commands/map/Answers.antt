@@ -1,0 +1,15 @@
+use Rattle.std.proofs.Common.{ap, ap₂, codes, ◌≡◌, ◌∙◌}
+use Rattle.std.proofs.lemmas.Result.{IfOk-weaker}
+use Rattle.clap.specs.Words.{App, app_of, new_app, with_rule}
+use Rattle.clap.specs.Simple.{app_of_fields}
+use Rattle.cob_convert_program.specs.Commands.{forms_options, record_options, texts_options}
+use Rattle.cob_convert_options.specs.Rules.{with_options}
+use Rattle.cob_convert_program.proofs.commands.map.Goals as goal
+
+pub returns : goal.returns
+returns c =
+    let start : app_of c.after_help-command.result ≡ new_app (codes "map") = ap app_of_fields c.after_help-command.ensures ∙ ap app_of_fields c.about.ensures ∙ c.new.ensures.app in
+    let texts = c.in_ok-with_texts.ensures ∙ ap (λ (a : App). with_options a texts_options) start in
+    let one = c.in_ok-command.ensures.shape c.optional.ensures.local ∙ ap₂ with_rule texts c.optional.ensures.rule in
+    let forms = c.in_ok-with_forms.ensures ∙ ap (λ (a : App). with_options a forms_options) one in
+    IfOk-weaker c.with_record.result _ _ (λ made h. h ∙ ap (λ (a : App). with_options a record_options) forms) c.with_record.ensures

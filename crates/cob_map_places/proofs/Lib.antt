@@ -1,0 +1,2 @@
+mod GroupLemmas
+mod TopLemmas

@@ -1,0 +1,143 @@
+//! A runtime whose failed calls are noted.
+
+ghost use Rattle.std.specs.Prelude.{◌≡◌, ◌≤◌, length, IfOk};
+
+use crate::file::NotedFile;
+use crate::last::{LastError, noted};
+use std::alloc::Allocator;
+use std::fmt::Display;
+use std::fs::{Metadata, OpenOptions};
+use std::io;
+use std::io::{Eprint, Input, Lines, Print};
+use std::rt::{Clock, Files};
+use std::time::Duration;
+
+/// A runtime whose calls are those of the one inside, and which keeps the last error of its files and streams.
+#[derive(Clone, Copy)]
+pub struct Noted<'a, R> {
+    rt: &'a R,
+    last: &'a LastError,
+}
+
+impl<'a, R> Noted<'a, R> {
+    /// A runtime round this one that keeps its last error there.
+    pub fn new(rt: &'a R, last: &'a LastError) -> Noted<'a, R> {
+        Noted { rt, last }
+    }
+
+    /// The last error, where there was one.
+    pub fn last(&self) -> Option<io::Error> {
+        self.last.get()
+    }
+}
+
+impl<R: Alloc> Alloc for Noted<'_, R> {
+    type A = R::A;
+
+    fn alloc(&self) -> R::A {
+        self.rt.alloc()
+    }
+}
+
+impl<R: Print> Print for Noted<'_, R> {
+    fn print<D: Display + Drop>(&self, value: D) -> io::Result<()> {
+        self.rt.print(value)
+    }
+
+    fn println<D: Display + Drop>(&self, value: D) -> io::Result<()> {
+        self.rt.println(value)
+    }
+
+    fn write_all(&self, bytes: &[u8]) -> io::Result<()> {
+        noted(self.last, self.rt.write_all(bytes))
+    }
+
+    fn write_some(&self, bytes: &[u8]) -> io::Result<usize> {
+        noted(self.last, self.rt.write_some(bytes))
+    }
+}
+
+impl<R: Eprint> Eprint for Noted<'_, R> {
+    fn eprint<D: Display + Drop>(&self, value: D) -> io::Result<()> {
+        self.rt.eprint(value)
+    }
+
+    fn eprintln<D: Display + Drop>(&self, value: D) -> io::Result<()> {
+        self.rt.eprintln(value)
+    }
+}
+
+impl<R: Clock> Clock for Noted<'_, R> {
+    fn monotonic(&self) -> io::Result<Duration> {
+        self.rt.monotonic()
+    }
+
+    fn since_1970(&self) -> io::Result<Duration> {
+        self.rt.since_1970()
+    }
+}
+
+impl<R: Input> Input for Noted<'_, R> {
+    type Reader = R::Reader;
+
+    fn read_line<A: Allocator + Clone>(&self, buf: &mut String<A>) -> io::Result<usize> {
+        self.rt.read_line(buf)
+    }
+
+    fn lines<A: Allocator>(&self, alloc: A) -> Lines<R::Reader, A> {
+        self.rt.lines(alloc)
+    }
+
+    fn reader(&self) -> R::Reader {
+        self.rt.reader()
+    }
+}
+
+impl<'a, R: Files> Files for Noted<'a, R> {
+    type File = NotedFile<'a, R::File>;
+
+    type Dir = R::Dir;
+
+    fn open_file(&self, how: &OpenOptions, path: &str) -> io::Result<NotedFile<'a, R::File>> {
+        match noted(self.last, self.rt.open_file(how, path)) {
+            Ok(file) => Ok(NotedFile::new(file, self.last)),
+            Err(error) => Err(error),
+        }
+    }
+
+    fn open_dir(&self, path: &str) -> io::Result<R::Dir> {
+        self.rt.open_dir(path)
+    }
+
+    fn metadata(&self, path: &str) -> io::Result<Metadata> {
+        self.rt.metadata(path)
+    }
+
+    fn symlink_metadata(&self, path: &str) -> io::Result<Metadata> {
+        self.rt.symlink_metadata(path)
+    }
+
+    fn copy(&self, from: &str, to: &str) -> io::Result<u64> {
+        noted(self.last, self.rt.copy(from, to))
+    }
+
+    fn rename(&self, from: &str, to: &str) -> io::Result<()> {
+        noted(self.last, self.rt.rename(from, to))
+    }
+
+    fn remove_file(&self, path: &str) -> io::Result<()> {
+        self.rt.remove_file(path)
+    }
+
+    fn create_dir(&self, path: &str) -> io::Result<()> {
+        self.rt.create_dir(path)
+    }
+
+    fn remove_dir(&self, path: &str) -> io::Result<()> {
+        self.rt.remove_dir(path)
+    }
+
+    fn remove_dir_all<B: Allocator>(&self, alloc: B, path: &str) -> io::Result<()> {
+        self.rt.remove_dir_all(alloc, path)
+    }
+}
