@@ -1,4 +1,4 @@
-use Rattle.cob_convert_commands.proofs.commands.perform.Goals as goal
+use Rattle.cob_convert_commands.proofs.commands.perform_line.Goals as goal
 
 pub returns-in-Job : goal.returns-in-Job
 returns-in-Job g c = rw c.in-Job.is (c.do_job.ensures.0, tt, c.do_job.ensures.1)
