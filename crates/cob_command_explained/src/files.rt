@@ -1,6 +1,6 @@
 //! The files that options name, and why the system did not open, read or write one.
 
-use cob_convert_line::{ConvertLine, LosslessLine, Line};
+use cob_convert_line::{ConvertLine, Line, LosslessLine};
 use cob_noted::{FileError, NamedFile};
 use std::alloc::{AllocError, Global};
 use std::io::Eprint;

@@ -1,5 +1,6 @@
 //! Why a record stops a conversion, in words.
 
+ghost use Rattle.std.specs.Prelude.{◌≡◌, ◌-◌};
 ghost use Rattle.cob_records.specs.Forms.{HasBlockSize};
 
 use cob_command_explain::{Stretch, explain_record_of};
@@ -12,7 +13,9 @@ use std::io::Input;
 use std::rt::Files;
 
 /// The number that a record has in its piece of the input, which has this one in the file.
-fn number_in_piece(line: &ConvertLine<'_>, number: u64) -> u64 {
+fn number_in_piece(line: &ConvertLine<'_>, number: u64) -> u64
+    ensures { result ≡ number - (line.now.first - 1) }
+{
     number.saturating_sub(line.first.saturating_sub(1))
 }
 
@@ -80,8 +83,7 @@ pub(crate) fn stop_words<R: AllocGlobal + Files + Input>(
 {
     match outcome {
         Err(CommandFault::Stopped(fault))
-            if line.input != "-" && Status::of_stop(fault.cause) == Status::Stopped =>
-        {
+            if line.input != "-" && Status::of_stop(fault.cause) == Status::Stopped => {
             words_of(rt, line, fault)
         }
         _ => None,

@@ -7,9 +7,9 @@ ghost use Rattle.cob_convert_commands.specs.Commands.{EndsConvert, IsEndOfLine, 
 
 use cob_command_aside::do_convert_aside;
 use cob_command_convert::{do_check, do_convert};
-use cob_command_explain::do_explain;
 use cob_command_cover::do_cover;
 use cob_command_draft::do_draft;
+use cob_command_explain::do_explain;
 use cob_command_explained::{
     do_convert_aside_explained, do_convert_explained, files_of, tell_file_error,
 };
@@ -17,18 +17,48 @@ use cob_command_faults::printed;
 use cob_command_job::do_job;
 use cob_command_lists::{do_layout, do_pieces, do_show};
 use cob_command_lossless::do_lossless;
-use cob_convert_line::{CheckLine, CommandLine, ConvertLine, Line, LineFault, line_of};
-use cob_noted::{LastError, Noted};
 use cob_command_manual::{do_completion, do_manual};
 use cob_command_map::do_map;
+use cob_convert_line::{CheckLine, CommandLine, ConvertLine, Line, LineFault, line_of};
+use cob_noted::Noted;
 use cob_status::Status;
+use std::cell::Cell;
 use std::convert::AsStr;
 use std::io::{Eprint, Input, Print};
 use std::rt::{Clock, Files};
 
-/// Converts a file of records: up to the first that does not convert, or past those, which are set aside. Where it is asked for, it says of a record why it
-/// stops the run.
+/// Converts a file of records: up to the first that does not convert, or past those, which are set aside.
 fn do_conversion<R: AllocGlobal + Files + Input + Print + Eprint + Clock>(
+    rt: &R,
+    line: &ConvertLine<'_>,
+) -> Status
+    requires in_block { HasBlockSize line.now.in_form }
+    requires out_block { HasBlockSize line.now.out_form }
+    ensures { EndsConvert line.now.rejects line.now.atomic result }
+{
+    match line.rejects {
+        None => do_convert(rt, line),
+        Some(rejects) => do_convert_aside(rt, line, rejects),
+    }
+}
+
+/// Converts a file of records so, and says of a record that ends the run why it does.
+fn do_conversion_explained<R: AllocGlobal + Files + Input + Print + Eprint + Clock>(
+    rt: &R,
+    line: &ConvertLine<'_>,
+) -> Status
+    requires in_block { HasBlockSize line.now.in_form }
+    requires out_block { HasBlockSize line.now.out_form }
+    ensures { EndsConvert line.now.rejects line.now.atomic result }
+{
+    match line.rejects {
+        None => do_convert_explained(rt, line),
+        Some(rejects) => do_convert_aside_explained(rt, line, rejects),
+    }
+}
+
+/// Converts a file of records, and explains where that is asked for.
+fn do_asked_conversion<R: AllocGlobal + Files + Input + Print + Eprint + Clock>(
     rt: &R,
     line: &ConvertLine<'_>,
     explain: bool,
@@ -37,11 +67,10 @@ fn do_conversion<R: AllocGlobal + Files + Input + Print + Eprint + Clock>(
     requires out_block { HasBlockSize line.now.out_form }
     ensures { EndsConvert line.now.rejects line.now.atomic result }
 {
-    match line.rejects {
-        None if explain => do_convert_explained(rt, line),
-        None => do_convert(rt, line),
-        Some(rejects) if explain => do_convert_aside_explained(rt, line, rejects),
-        Some(rejects) => do_convert_aside(rt, line, rejects),
+    if explain {
+        do_conversion_explained(rt, line)
+    } else {
+        do_conversion(rt, line)
     }
 }
 
@@ -68,7 +97,7 @@ fn perform_line<R: AllocGlobal + Files + Input + Print + Eprint + Clock>(
 {
     match line {
         Line::Job => do_job(rt),
-        Line::Convert(line) => do_conversion(rt, line, explain).code(),
+        Line::Convert(line) => do_asked_conversion(rt, line, explain).code(),
         Line::Check(line) => do_checking(rt, line).code(),
         Line::Layout(line) => do_layout(rt, line).code(),
         Line::Show(line) => do_show(rt, line).code(),
@@ -94,7 +123,7 @@ fn perform_explained<R: AllocGlobal + Files + Input + Print + Eprint + Clock>(
     let Ok(files) = files_of(rt.alloc(), line) else {
         return perform_line(rt, line, true);
     };
-    let last = LastError::new(None);
+    let last = Cell::new(None);
     let code = perform_line(&Noted::new(rt, &files, &last), line, true);
     if code == Status::Device.code() {
         tell_file_error(rt, last.get());

@@ -18,11 +18,7 @@ pub struct NotedFile<'a, F> {
 
 impl<'a, F> NotedFile<'a, F> {
     /// A file round this one, which this option names, that keeps its last error there.
-    pub fn new(
-        file: F,
-        named: Option<NamedFile<'a>>,
-        last: &'a LastError<'a>,
-    ) -> NotedFile<'a, F> {
+    pub fn new(file: F, named: Option<NamedFile<'a>>, last: &'a LastError<'a>) -> NotedFile<'a, F> {
         NotedFile { file, named, last }
     }
 }

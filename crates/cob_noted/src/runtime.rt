@@ -22,11 +22,7 @@ pub struct Noted<'a, R> {
 
 impl<'a, R> Noted<'a, R> {
     /// A runtime round this one that keeps the last error of these files there.
-    pub fn new(
-        rt: &'a R,
-        files: &'a [NamedFile<'a>],
-        last: &'a LastError<'a>,
-    ) -> Noted<'a, R> {
+    pub fn new(rt: &'a R, files: &'a [NamedFile<'a>], last: &'a LastError<'a>) -> Noted<'a, R> {
         Noted { rt, files, last }
     }
 
@@ -54,11 +50,19 @@ impl<R: Print> Print for Noted<'_, R> {
     }
 
     fn write_all(&self, bytes: &[u8]) -> io::Result<()> {
-        noted(self.last, file_at(self.files, "-"), self.rt.write_all(bytes))
+        noted(
+            self.last,
+            file_at(self.files, "-"),
+            self.rt.write_all(bytes),
+        )
     }
 
     fn write_some(&self, bytes: &[u8]) -> io::Result<usize> {
-        noted(self.last, file_at(self.files, "-"), self.rt.write_some(bytes))
+        noted(
+            self.last,
+            file_at(self.files, "-"),
+            self.rt.write_some(bytes),
+        )
     }
 }
 
@@ -128,7 +132,11 @@ impl<'a, R: Files> Files for Noted<'a, R> {
     }
 
     fn rename(&self, from: &str, to: &str) -> io::Result<()> {
-        noted(self.last, file_at(self.files, from), self.rt.rename(from, to))
+        noted(
+            self.last,
+            file_at(self.files, from),
+            self.rt.rename(from, to),
+        )
     }
 
     fn remove_file(&self, path: &str) -> io::Result<()> {

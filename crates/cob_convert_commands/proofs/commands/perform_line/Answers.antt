@@ -4,7 +4,7 @@ pub returns-in-Job : goal.returns-in-Job
 returns-in-Job g c = rw c.in-Job.is (c.do_job.ensures.0, tt, c.do_job.ensures.1)
 
 pub returns-in-Convert : goal.returns-in-Convert
-returns-in-Convert g c = (_, rw c.in-Convert.is c.do_conversion.ensures, c.code.ensures)
+returns-in-Convert g c = (_, rw c.in-Convert.is c.do_asked_conversion.ensures, c.code.ensures)
 
 pub returns-in-Check : goal.returns-in-Check
 returns-in-Check g c = (_, rw c.in-Check.is c.do_checking.ensures, c.code-in-Check.ensures)
