@@ -244,10 +244,7 @@ fn whole_line<'a>(name: &str, options: &ArgMatches<'a>) -> Result<CommandLine<'a
 /// the size of blocks says none beside the letter b ([`LineFault::Block`]), the one for a listing names none ([`LineFault::Listing`]), one for a
 /// piece of the input says no number ([`LineFault::Piece`]), one for a number of records says none ([`LineFault::Number`]), the one for a number of
 /// pieces says none from 1 on ([`LineFault::Pieces`]).
-pub fn line_of<'a, S: AsStr>(
-    alloc: Global,
-    words: &'a [S],
-) -> Result<CommandLine<'a>, LineFault>
+pub fn line_of<'a, S: AsStr>(alloc: Global, words: &'a [S]) -> Result<CommandLine<'a>, LineFault>
     ensures options { IfOk result (IsCommandLineOf (map S.text words.entry.now)) }
     ensures refused { IfErr result (λ fault. (fault ≡ Memory)
         ⊎ ((said : CommandLine) → IsCommandLineOf (map S.text words.entry.now) said → ⊥)) }
