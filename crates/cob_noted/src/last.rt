@@ -55,6 +55,14 @@ pub(crate) fn file_at<'a>(files: &[NamedFile<'a>], path: &str) -> Option<NamedFi
     None
 }
 
+/// The system's words for an error, without the number that it has for them.
+fn reason_in(words: &str) -> &str {
+    match words.split_once(" (os error ") {
+        Some((reason, _)) => reason,
+        None => words,
+    }
+}
+
 /// An error of a file that an option names.
 #[derive(Clone, Copy)]
 pub struct FileError<'a> {
@@ -75,10 +83,7 @@ impl FileError<'_> {
             suffix,
         } = self.file;
         let words = format!(in alloc; "{}", self.error)?;
-        let reason = match words.split_once(" (os error ") {
-            Some((reason, _)) => reason,
-            None => words.as_str(),
-        };
+        let reason = reason_in(&words);
         format!(in alloc; "{option}: {path}{suffix}: {reason}")
     }
 }
