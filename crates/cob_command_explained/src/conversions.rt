@@ -15,13 +15,24 @@ use cob_status::Status;
 use std::io::{Eprint, Input, Print};
 use std::rt::{Clock, Files};
 
-/// Prints what is wrong behind a fault, where there are words for it, and answers how a command ends that would end so.
-fn tell_words<R: Eprint>(rt: &R, status: Status, words: Option<String>) -> Status
+/// Prints words behind a fault, where there are some, and answers how a command ends that would end so.
+fn tell_words<R: Eprint>(rt: &R, status: Status, words: &str) -> Status
+    ensures { EndsAs status result }
+{
+    if words.is_empty() {
+        status
+    } else {
+        printed(eprintln!(rt; "{words}"), status)
+    }
+}
+
+/// Prints what is wrong behind a fault, where it is known, and answers how a command ends that would end so.
+fn tell_known<R: Eprint>(rt: &R, status: Status, words: Option<String>) -> Status
     ensures { EndsAs status result }
 {
     match words {
-        Some(words) if !words.is_empty() => printed(eprintln!(rt; "{words}"), status),
-        _ => status,
+        Some(words) => tell_words(rt, status, &words),
+        None => status,
     }
 }
 
@@ -37,7 +48,7 @@ pub fn do_convert_explained<R: AllocGlobal + Files + Input + Print + Eprint + Cl
     let beside = is_standard_output(rt, line.output);
     let outcome = convert(rt, line);
     let status = tell_converted(rt, beside, outcome);
-    tell_words(rt, status, stop_words(rt, line, outcome))
+    tell_known(rt, status, stop_words(rt, line, outcome))
 }
 
 /// Converts and sets rejected records aside in the file `rejects`, prints what comes of it, and of a record that ends the run why, and answers how the
@@ -54,5 +65,5 @@ pub fn do_convert_aside_explained<R: AllocGlobal + Files + Input + Print + Eprin
     let beside = is_standard_output(rt, line.output) || is_standard_output(rt, rejects);
     let outcome = convert_aside(rt, line, rejects);
     let status = tell_converted_aside(rt, beside, outcome);
-    tell_words(rt, status, stop_words(rt, line, outcome))
+    tell_known(rt, status, stop_words(rt, line, outcome))
 }

@@ -141,9 +141,10 @@ pub fn files_of<'a>(alloc: Global, line: &Line<'a>) -> Result<Vec<NamedFile<'a>>
 /// Prints why the system did not open, read or write a file, where an option names it. Where that can't be printed, or no memory is left for it, the fault
 /// line stands alone.
 pub fn tell_file_error<R: AllocGlobal + Eprint>(rt: &R, error: Option<FileError<'_>>) {
-    if let Some(error) = error
-        && let Ok(told) = error.told(rt.alloc())
-    {
+    let Some(error) = error else {
+        return;
+    };
+    if let Ok(told) = error.told(rt.alloc()) {
         let _ = eprintln!(rt; "{told}");
     }
 }

@@ -40,14 +40,34 @@ fn explaining<'a>(line: &ConvertLine<'a>, number: u64) -> ExplainLine<'a>
     }
 }
 
-/// The words of a record that stops where a run did, at the same place for the same cause.
-fn words_alike(stopped: Stopped, number: u64, fault: RunFault) -> Option<String> {
-    let found = stopped.fault;
-    let is_alike = found.number == number
+/// What is told of a record that stops a run.
+fn stopped_in(explanation: Explanation) -> Option<Stopped> {
+    match explanation {
+        Explanation::Stops { moves: _, stopped } => Some(stopped),
+        Explanation::Refused(stopped) => Some(stopped),
+        Explanation::Missing { .. } | Explanation::Converts { .. } => None,
+    }
+}
+
+/// Whether a record with this number stops where a run did, at the same place for the same cause.
+fn is_alike(found: RunFault, number: u64, fault: RunFault) -> bool {
+    found.number == number
         && found.side == fault.side
         && found.offset == fault.offset
-        && found.cause == fault.cause;
-    if is_alike { Some(stopped.words) } else { None }
+        && found.cause == fault.cause
+}
+
+/// The words of a record that stops as a run did.
+fn words_alike(stopped: Stopped, number: u64, fault: RunFault) -> Option<String> {
+    let Stopped {
+        fault: found,
+        words,
+    } = stopped;
+    if is_alike(found, number, fault) {
+        Some(words)
+    } else {
+        None
+    }
 }
 
 /// Why a run stopped at a record, in words, which is read once more for that, in the same piece of the file.
@@ -65,10 +85,8 @@ fn words_of<R: AllocGlobal + Files + Input>(
         bytes: line.bytes,
     };
     match explain_record_of(rt, &explaining(line, number), stretch) {
-        Ok(Explanation::Stops { stopped, .. } | Explanation::Refused(stopped)) => {
-            words_alike(stopped, number, fault)
-        }
-        _ => None,
+        Ok(explanation) => words_alike(stopped_in(explanation)?, number, fault),
+        Err(_) => None,
     }
 }
 

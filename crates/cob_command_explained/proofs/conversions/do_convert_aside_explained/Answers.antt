@@ -5,4 +5,5 @@ use Rattle.cob_command_explained.proofs.conversions.do_convert_aside_explained.G
 
 pub returns : goal.returns
 returns g c =
-    ends_among (MayEndAside c.args.line.now.atomic) _ _ c.convert_aside-outcome.ensures (ends_behind _ _ _ c.tell_converted_aside-status.ensures c.tell_words.ensures)
+    ends_among (MayEndAside c.args.line.now.atomic) _ _ c.convert_aside-outcome.ensures
+    (ends_behind _ _ _ c.tell_converted_aside-status.ensures c.tell_known.ensures)

@@ -5,4 +5,5 @@ use Rattle.cob_command_explained.proofs.conversions.do_convert_explained.Goals a
 
 pub returns : goal.returns
 returns g c =
-    ends_among (MayEndConvert c.args.line.now.atomic) _ _ c.convert-outcome.ensures (ends_behind _ _ _ c.tell_converted-status.ensures c.tell_words.ensures)
+    ends_among (MayEndConvert c.args.line.now.atomic) _ _ c.convert-outcome.ensures
+    (ends_behind _ _ _ c.tell_converted-status.ensures c.tell_known.ensures)
