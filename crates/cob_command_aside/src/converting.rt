@@ -237,7 +237,7 @@ fn tell_tally<R: Print + Eprint>(rt: &R, beside: bool, tally: Tally, status: Sta
 }
 
 /// Prints what a conversion comes to, and answers how it ends: how many records were converted and how many rejected; or its fault.
-fn tell_converted<R: Print + Eprint>(
+pub fn tell_converted_aside<R: Print + Eprint>(
     rt: &R,
     beside: bool,
     outcome: Result<u64, CommandFault>,
@@ -280,5 +280,5 @@ pub fn do_convert_aside<R: AllocGlobal + Files + Input + Print + Eprint + Clock>
     ensures { EndsAmong (MayEndAside line.now.atomic) result }
 {
     let beside = is_standard_output(rt, line.output) || is_standard_output(rt, rejects);
-    tell_converted(rt, beside, convert_aside(rt, line, rejects))
+    tell_converted_aside(rt, beside, convert_aside(rt, line, rejects))
 }

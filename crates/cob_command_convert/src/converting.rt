@@ -79,7 +79,7 @@ pub fn convert<R: AllocGlobal + Files + Input + Print + Eprint + Clock>(
 
 /// Prints what a conversion comes to, and answers how it ends: how many records there were, on standard error where the records themselves go to
 /// standard output; or its fault.
-fn tell_converted<R: Print + Eprint>(
+pub fn tell_converted<R: Print + Eprint>(
     rt: &R,
     beside: bool,
     outcome: Result<u64, CommandFault>,

@@ -13,7 +13,7 @@ use cob_command_faults::{CommandFault, FileName, opened, printed, tell_fault, te
 use cob_convert::Converter;
 use cob_convert_explain::{Explanation, ReadAgain, Stopped, explain};
 use cob_convert_line::ExplainLine;
-use cob_records::open_source;
+use cob_pieces::open_part;
 use cob_status::Status;
 use std::io::{Eprint, Input, Print};
 use std::rt::Files;
@@ -48,10 +48,18 @@ fn converter_of<R: AllocGlobal>(
     }
 }
 
-/// Explains the record that the line names, of the file that `--in` names.
+/// Which bytes of the file with the records are read: those from an offset on, so many or all that are left.
+#[derive(Clone, Copy)]
+pub struct Stretch {
+    pub from: u64,
+    pub bytes: Option<u64>,
+}
+
+/// Explains the record that the line names, of these bytes of the file that `--in` names.
 fn explained<R: AllocGlobal + Files + Input>(
     rt: &R,
     line: &ExplainLine<'_>,
+    stretch: Stretch,
     converter: &Converter,
     texts: ReadAgain<'_>,
 ) -> Result<Explanation, CommandFault>
@@ -59,7 +67,8 @@ fn explained<R: AllocGlobal + Files + Input>(
     ensures told { IfOk result IsExplanation }
     ensures may { IfErr result MayEndExplain }
 {
-    let mut source = opened(open_source(rt, line.input), FileName::In)?;
+    let end = open_part(rt, line.input, stretch.from, stretch.bytes);
+    let mut source = opened(end, FileName::In)?;
     match explain(
         rt.alloc(),
         converter.conversion(),
@@ -72,14 +81,16 @@ fn explained<R: AllocGlobal + Files + Input>(
     }
 }
 
-/// Reads the three texts of a conversion and one record, and answers what is told of it.
+/// Reads the three texts of a conversion and one record, and answers what is told of it. Records are counted from the first one of these bytes.
 ///
 /// # Errors
 ///
-/// A file that is not opened or not read, a text that is refused, blocks of the output that are too short, want of memory.
-pub fn explain_record<R: AllocGlobal + Files + Input>(
+/// A file that is not opened or not read, or has no places where not all of it is read; a text that is refused, blocks of the output that are too short,
+/// want of memory.
+pub fn explain_record_of<R: AllocGlobal + Files + Input>(
     rt: &R,
     line: &ExplainLine<'_>,
+    stretch: Stretch,
 ) -> Result<Explanation, CommandFault>
     requires in_block { HasBlockSize line.now.in_form }
     requires out_block { HasBlockSize line.now.out_form }
@@ -94,9 +105,30 @@ pub fn explain_record<R: AllocGlobal + Files + Input>(
         moves: &moves,
     };
     match converter_of(rt, line, &in_book, &out_book, &moves) {
-        Ok(converter) => explained(rt, line, &converter, texts),
+        Ok(converter) => explained(rt, line, stretch, &converter, texts),
         Err(fault) => Err(fault),
     }
+}
+
+/// Reads the three texts of a conversion and one record of the whole file, and answers what is told of it.
+///
+/// # Errors
+///
+/// A file that is not opened or not read, a text that is refused, blocks of the output that are too short, want of memory.
+pub fn explain_record<R: AllocGlobal + Files + Input>(
+    rt: &R,
+    line: &ExplainLine<'_>,
+) -> Result<Explanation, CommandFault>
+    requires in_block { HasBlockSize line.now.in_form }
+    requires out_block { HasBlockSize line.now.out_form }
+    ensures told { IfOk result IsExplanation }
+    ensures may { IfErr result MayEndExplain }
+{
+    let all = Stretch {
+        from: 0,
+        bytes: None,
+    };
+    explain_record_of(rt, line, all)
 }
 
 /// Prints the fault line of a record and what is wrong in words, and answers how the command ends.

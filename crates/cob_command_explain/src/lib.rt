@@ -1,7 +1,8 @@
 //! The command `explain` of `cobconv`: the single moves of one record, and why it does not convert, where it does not.
 //!
-//! [`do_explain`] carries it out, prints what is told of the record and answers how the program ends: by [`explain_record`], which only answers. The
-//! files for texts are opened and read in the order of the options, and then that of the records.
+//! [`do_explain`] carries it out, prints what is told of the record and answers how the program ends: by [`explain_record`], which only answers, and
+//! [`explain_record_of`] does for a record of a piece of the file. The files for texts are opened and read in the order of the options, and then that of
+//! the records.
 //!
 //! A record that converts is told by a line with its number, the two lines of each single move and `ok`; one that does not by these lines up to the stop,
 //! and on standard error its fault line, as ever, and behind it what is wrong in words. A record that is not there is told on standard error, and ends
@@ -11,9 +12,9 @@
 //! (`EndsTold`), or as where a device failed if its last line was not printed (`EndsExplain`).
 //!
 //! It stands on `cob_convert_line` for the command line, on `cob_convert_explain` for what is told, on `cob_command_faults` for faults and texts, on
-//! `cob_convert` for the conversion, on `cob_records` for the records that come, and on `cob_status` for statuses.
+//! `cob_convert` for the conversion, on `cob_pieces` for the records that come, and on `cob_status` for statuses.
 #![tactic(auto)]
 
 mod command;
 
-pub use command::{do_explain, explain_record};
+pub use command::{Stretch, do_explain, explain_record, explain_record_of};

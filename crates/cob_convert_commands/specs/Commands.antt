@@ -2,6 +2,7 @@
 use Rattle.std.specs.Prelude.{◌≡◌, ◌⊎◌, ℕ, Bool, List, Option, None, Some, ⊤, if◌then◌else◌}
 use Rattle.clap.specs.Words.{Text, kind_of}
 use Rattle.cob_convert_line.specs.Lines.{IsCommandLineOf, IsFaultOf, is_answer_kind}
+use Rattle.cob_convert_line.specs.declared.line.CommandLine.{CommandLine}
 use Rattle.cob_convert_line.specs.declared.line.Line.{Line}
 use Rattle.cob_convert_line.specs.declared.line.Line.TheVariants as line
 use Rattle.cob_convert_line.specs.declared.fault.LineFault.{LineFault}
@@ -64,9 +65,9 @@ IsEndOfRefusal fault code = (end : Status) × EndsAs (status_of_refusal fault) e
 
 -- Words are refused for this: memory was, or they are no command line, by the first rule that they break.
 abbrev pub RefusesWords : List Text → LineFault → Type 0
-RefusesWords words fault = (fault ≡ refusal.Memory) ⊎ (((said : Line) → IsCommandLineOf words said → ⊥) × IsFaultOf words fault)
+RefusesWords words fault = (fault ≡ refusal.Memory) ⊎ (((said : CommandLine) → IsCommandLineOf words said → ⊥) × IsFaultOf words fault)
 
 -- The program ends with this number, called with these words: a command line is carried out, and other words are refused.
 pub data IsEndOfWords (words : List Text) (code : ℕ) : Type 0 where
-  CarriedOut : (said : Line) → IsCommandLineOf words said → IsEndOfLine said code → IsEndOfWords words code
+  CarriedOut : (said : CommandLine) → IsCommandLineOf words said → IsEndOfLine said.line code → IsEndOfWords words code
   Refused : (fault : LineFault) → RefusesWords words fault → IsEndOfRefusal fault code → IsEndOfWords words code

@@ -7,17 +7,22 @@ ghost use Rattle.cob_convert_commands.specs.Commands.{EndsConvert, IsEndOfLine, 
 
 use cob_command_aside::do_convert_aside;
 use cob_command_convert::{do_check, do_convert};
-use cob_command_explain::do_explain;
 use cob_command_cover::do_cover;
 use cob_command_draft::do_draft;
+use cob_command_explain::do_explain;
+use cob_command_explained::{
+    do_convert_aside_explained, do_convert_explained, files_of, tell_file_error,
+};
 use cob_command_faults::printed;
 use cob_command_job::do_job;
 use cob_command_lists::{do_layout, do_pieces, do_show};
 use cob_command_lossless::do_lossless;
-use cob_convert_line::{CheckLine, ConvertLine, Line, LineFault, line_of};
 use cob_command_manual::{do_completion, do_manual};
 use cob_command_map::do_map;
+use cob_convert_line::{CheckLine, CommandLine, ConvertLine, Line, LineFault, line_of};
+use cob_noted::Noted;
 use cob_status::Status;
+use std::cell::Cell;
 use std::convert::AsStr;
 use std::io::{Eprint, Input, Print};
 use std::rt::{Clock, Files};
@@ -37,6 +42,38 @@ fn do_conversion<R: AllocGlobal + Files + Input + Print + Eprint + Clock>(
     }
 }
 
+/// Converts a file of records so, and says of a record that ends the run why it does.
+fn do_conversion_explained<R: AllocGlobal + Files + Input + Print + Eprint + Clock>(
+    rt: &R,
+    line: &ConvertLine<'_>,
+) -> Status
+    requires in_block { HasBlockSize line.now.in_form }
+    requires out_block { HasBlockSize line.now.out_form }
+    ensures { EndsConvert line.now.rejects line.now.atomic result }
+{
+    match line.rejects {
+        None => do_convert_explained(rt, line),
+        Some(rejects) => do_convert_aside_explained(rt, line, rejects),
+    }
+}
+
+/// Converts a file of records, and explains where that is asked for.
+fn do_asked_conversion<R: AllocGlobal + Files + Input + Print + Eprint + Clock>(
+    rt: &R,
+    line: &ConvertLine<'_>,
+    explain: bool,
+) -> Status
+    requires in_block { HasBlockSize line.now.in_form }
+    requires out_block { HasBlockSize line.now.out_form }
+    ensures { EndsConvert line.now.rejects line.now.atomic result }
+{
+    if explain {
+        do_conversion_explained(rt, line)
+    } else {
+        do_conversion(rt, line)
+    }
+}
+
 /// Checks the three texts of a conversion: alone, or with the lists of what the paragraph leaves open.
 fn do_checking<R: AllocGlobal + Files + Print + Eprint>(rt: &R, line: &CheckLine<'_>) -> Status
     ensures { EndsAmong MayEndCheck result }
@@ -48,17 +85,19 @@ fn do_checking<R: AllocGlobal + Files + Print + Eprint>(rt: &R, line: &CheckLine
     }
 }
 
-/// Carries out what a command line asks for, prints what comes of it, and answers the program's status.
-pub fn perform<R: AllocGlobal + Files + Input + Print + Eprint + Clock>(
+/// Carries out what a line asks for, prints what comes of it, and of a record why it stops a conversion where that is asked for, and answers the program's
+/// status.
+fn perform_line<R: AllocGlobal + Files + Input + Print + Eprint + Clock>(
     rt: &R,
     line: &Line<'_>,
+    explain: bool,
 ) -> u8
     requires { HasBlocks line.now }
     ensures { IsEndOfLine line.now result }
 {
     match line {
         Line::Job => do_job(rt),
-        Line::Convert(line) => do_conversion(rt, line).code(),
+        Line::Convert(line) => do_asked_conversion(rt, line, explain).code(),
         Line::Check(line) => do_checking(rt, line).code(),
         Line::Layout(line) => do_layout(rt, line).code(),
         Line::Show(line) => do_show(rt, line).code(),
@@ -69,6 +108,41 @@ pub fn perform<R: AllocGlobal + Files + Input + Print + Eprint + Clock>(
         Line::Completion => do_completion(rt).code(),
         Line::Manual => do_manual(rt).code(),
         Line::Map(line) => do_map(rt, line).code(),
+    }
+}
+
+/// Carries out what a line asks for, over a runtime that keeps the last error of the files that its options name, and prints behind a device that failed
+/// why it did. Where memory for these files is refused, that is not told.
+fn perform_explained<R: AllocGlobal + Files + Input + Print + Eprint + Clock>(
+    rt: &R,
+    line: &Line<'_>,
+) -> u8
+    requires { HasBlocks line.now }
+    ensures { IsEndOfLine line.now result }
+{
+    let Ok(files) = files_of(rt.alloc(), line) else {
+        return perform_line(rt, line, true);
+    };
+    let last = Cell::new(None);
+    let code = perform_line(&Noted::new(rt, &files, &last), line, true);
+    if code == Status::Device.code() {
+        tell_file_error(rt, last.get());
+    }
+    code
+}
+
+/// Carries out what a command line asks for, prints what comes of it, and what is wrong where that is asked for, and answers the program's status.
+pub fn perform<R: AllocGlobal + Files + Input + Print + Eprint + Clock>(
+    rt: &R,
+    said: &CommandLine<'_>,
+) -> u8
+    requires { HasBlocks said.now.line }
+    ensures { IsEndOfLine said.now.line result }
+{
+    if said.explain {
+        perform_explained(rt, &said.line)
+    } else {
+        perform_line(rt, &said.line, false)
     }
 }
 
@@ -98,7 +172,7 @@ pub fn answer<R: AllocGlobal + Files + Input + Print + Eprint + Clock, S: AsStr>
     ensures { IsEndOfWords (map S.text words.now) result }
 {
     match line_of(rt.alloc(), words) {
-        Ok(line) => perform(rt, &line),
+        Ok(said) => perform(rt, &said),
         Err(fault) => refuse(rt, &fault),
     }
 }

@@ -17,6 +17,7 @@ use Rattle.cob_codec.specs.declared.reading.Reading.TheVariants.{Pictured, Whole
 use Rattle.cob_records.specs.BlockSize.{SaysBlockSize}
 use Rattle.cob_records.specs.declared.records.Form.{Form}
 use Rattle.cob_records.specs.declared.records.Form.TheVariants.{Fixed, Variable, Blocked}
+use Rattle.cob_convert_line.specs.declared.line.CommandLine.{CommandLine}
 use Rattle.cob_convert_line.specs.declared.line.Line.TheVariants as line
 
 -- what stands in an option, by its two parts
@@ -33,9 +34,10 @@ no_parts None f g z none some = true≢false (sym (ap is_some some))
 no_parts (Some x) f g z none some = true≢false (ap is_some none)
 
 -- no words are a job
-pub none_said : {X : Type 0} (text : X → Text) (words : List X) → (length words == 0) ≡ true → IsCommandLineOf (map text words) line.Job
-none_said text [] e = refl
-none_said text (word ∷ words) e = absurd (omega (arith, eqb-true _ _ e))
+pub none_said : {X : Type 0} (text : X → Text) (words : List X) (said : CommandLine) → said.line ≡ line.Job → said.explain ≡ false → (length words == 0) ≡ true
+    → IsCommandLineOf (map text words) said
+none_said text [] said job plain e = (job, plain)
+none_said text (word ∷ words) said job plain e = absurd (omega (arith, eqb-true _ _ e))
 
 pub some_said : {X : Type 0} (text : X → Text) (words : List X) → (length words == 0) ≡ false → map text words ≡ [] → ⊥
 some_said text [] e none = true≢false e

@@ -14,8 +14,9 @@ use Rattle.cob_convert_options.specs.Options.{Given, Options, found_at, taken}
 use Rattle.cob_convert_program.specs.Commands.{Spells, check_options, commands, convert_options, draft_options, explain_options, help_options, layout_options, lossless_options, map_options, pieces_options, show_options}
 use Rattle.cob_convert_options.specs.Looks.{Look}
 use Rattle.cob_convert_line.specs.Faults.{IsFaultIn, IsFaultOf, fault_by_kind, words_fault}
-use Rattle.cob_convert_line.specs.Lines.{IsCommand, IsCommandLineOf}
+use Rattle.cob_convert_line.specs.Lines.{IsCommand, IsCommandLineOf, SaysCommand}
 use Rattle.cob_convert_program.specs.Program.{program_app}
+use Rattle.cob_convert_line.specs.declared.line.CommandLine.{CommandLine}
 use Rattle.cob_convert_line.specs.declared.line.Line.{Line}
 use Rattle.cob_convert_line.specs.declared.line.Line.TheVariants as line
 use Rattle.cob_convert_options.proofs.Level.{level_complete, level_rows, rows_of_given}
@@ -42,11 +43,12 @@ option_fault words name rows fault f h = go fault (subst (λ (look : Look). IsFa
     go Memory h = absurd h
 
 -- words that pass say what the parser finds in them
-pub said_by : (words : List Text) (name : Text) (rows : List Row) (said : Line) → Found words name rows → IsCommand name (λ id. first_of id rows) said → IsCommandLineOf words said
+pub said_by : (words : List Text) (name : Text) (rows : List Row) (said : CommandLine) → Found words name rows
+    → SaysCommand name (λ id. first_of id rows) said → IsCommandLineOf words said
 said_by [] name rows said f h = absurd f.spells
 said_by (w ∷ rest) name rows said f h =
-    let named = subst (λ (look : Look). IsCommand name look said) (look_found (w ∷ rest) name rows f) h in
-    (f.os, f.given, f.spells.0, f.spells.1, subst (λ (n : Text). IsCommand n (taken f.os f.given) said) (ap (first_word name) (sym f.first)) named)
+    let named = subst (λ (look : Look). SaysCommand name look said) (look_found (w ∷ rest) name rows f) h in
+    (f.os, f.given, f.spells.0, f.spells.1, subst (λ (n : Text). SaysCommand n (taken f.os f.given) said) (ap (first_word name) (sym f.first)) named)
   where
     first_word : Text → List Text → Text
     first_word n [] = n
@@ -77,31 +79,31 @@ asked_by w os look line.Completion is same = subst (λ (x : Options). AreAsked x
 asked_by w os look line.Manual is same = subst (λ (x : Options). AreAsked x look) (named_options w (codes "manual") os help_options is same refl) tt
 
 -- and words that say something pass, and the parser finds it in them
-pub found_by : (words : List Text) (said : Line) → (words ≡ [] → ⊥) → IsCommandLineOf words said
-    → (fault_of program_app words ≡ []) × (name : Text) × (rows : List Row) × (subcommand_of program_app words ≡ Some (name, rows)) × IsCommand name (λ id. first_of id rows) said
+pub found_by : (words : List Text) (said : CommandLine) → (words ≡ [] → ⊥) → IsCommandLineOf words said
+    → (fault_of program_app words ≡ []) × (name : Text) × (rows : List Row) × (subcommand_of program_app words ≡ Some (name, rows)) × SaysCommand name (λ id. first_of id rows) said
 found_by [] said some h = absurd (some refl)
 found_by (w ∷ rest) said some (os, given, is, A, h) =
     let sound = sound_of w os is in
     let names = sound_names os sound in
-    let there = asked_given os given sound (asked_by w os (taken os given) said is h) in (
+    let there = asked_given os given sound (asked_by w os (taken os given) said.line is h.command) in (
       known_fault w os is rest ∙ level_complete w os rest given names A there,
       w,
       rows_of_given os given,
       known_rows w os is rest ∙ ap (λ r. Some (w, r)) (level_rows w os rest given names A),
-      subst (λ (look : Look). IsCommand w look said) (sym (look_same os given sound)) h,
+      subst (λ (look : Look). SaysCommand w look said) (sym (look_same os given sound)) h,
     )
 
 -- what words say is what the parser found
-pub named_by : (words : List Text) (name : Text) (rows : List Row) (said : Line) → (words ≡ [] → ⊥) → subcommand_of program_app words ≡ Some (name, rows)
-    → IsCommandLineOf words said → IsCommand name (λ id. first_of id rows) said
+pub named_by : (words : List Text) (name : Text) (rows : List Row) (said : CommandLine) → (words ≡ [] → ⊥) → subcommand_of program_app words ≡ Some (name, rows)
+    → IsCommandLineOf words said → SaysCommand name (λ id. first_of id rows) said
 named_by words name rows said some found h =
     let b = found_by words said some h in
     let same : ◌≡◌ {A = Text × List Row} (b.1, b.2) (name, rows) = ap (λ o. unwrap_or o (name, rows)) (sym b.3 ∙ found) in
-    subst (λ (p : Text × List Row). IsCommand p.0 (λ id. first_of id p.1) said) same b.4
+    subst (λ (p : Text × List Row). SaysCommand p.0 (λ id. first_of id p.1) said) same b.4
 
 -- a parser's error is want of memory, or the words say nothing
-pub refusal : (words : List Text) (error : Error) (fault : LineFault) (kinds : Kinds) → HasKind kinds error → ((said : Line) → IsCommandLineOf words said → kinds ≡ [])
-    → fault ≡ words_fault error → (fault ≡ Memory) ⊎ ((said : Line) → IsCommandLineOf words said → ⊥)
+pub refusal : (words : List Text) (error : Error) (fault : LineFault) (kinds : Kinds) → HasKind kinds error → ((said : CommandLine) → IsCommandLineOf words said → kinds ≡ [])
+    → fault ≡ words_fault error → (fault ≡ Memory) ⊎ ((said : CommandLine) → IsCommandLineOf words said → ⊥)
 refusal words error fault kinds (inl memory) passes is = inl (is ∙ ap (λ k. fault_by_kind k error) memory)
 refusal words error fault [] (inr among) passes is = absurd among
 refusal words error fault (k ∷ ks) (inr among) passes is = inr (λ said h. not_nil k ks (passes said h))

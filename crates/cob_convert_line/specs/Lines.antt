@@ -1,5 +1,5 @@
 -- What a command line says.
-use Rattle.std.specs.Prelude.{◌≡◌, ◌<◌, ⊤, ℕ, List, [], ◌∷◌, Some, Option, option_map, codes}
+use Rattle.std.specs.Prelude.{◌≡◌, ◌<◌, ⊤, false, ℕ, List, [], ◌∷◌, Some, Option, option_map, codes}
 use Rattle.clap.specs.Words.{Text}
 use Rattle.cob_codec.specs.declared.reading.Reading.{Reading}
 use Rattle.cob_records.specs.declared.records.Form.{Form}
@@ -10,6 +10,7 @@ use Rattle.cob_convert_program.specs.Commands.{commands}
 use Rattle.cob_convert_options.specs.Looks.{Look, is_flagged}
 use Rattle.cob_convert_line.specs.Named.{NamesBlock, NamesBound, NamesNumber, letter_of, sized_by, word_of, word_of_listing}
 pub use Rattle.cob_convert_line.specs.Faults.{IsFaultOf, is_answer_kind}
+use Rattle.cob_convert_line.specs.declared.line.CommandLine.{CommandLine}
 use Rattle.cob_convert_line.specs.declared.line.Line.{Line}
 use Rattle.cob_convert_line.specs.declared.line.Line.TheVariants as line
 use Rattle.cob_convert_line.specs.declared.line.ConvertLine.{ConvertLine}
@@ -137,6 +138,11 @@ IsCommand name look (line.Map options) = (name ≡ codes "map") × IsMap look op
 IsCommand name look line.Completion = name ≡ codes "completion"
 IsCommand name look line.Manual = name ≡ codes "manual"
 
+-- The name of a command and its options say the command's line, and by a flag that is no option of the line whether its faults are explained.
+pub record SaysCommand (name : Text) (look : Look) (said : CommandLine) : Type 0 where
+  pub command : IsCommand name look said.line
+  pub explain : is_flagged (codes "explain") look ≡ said.explain
+
 -- the blocks of a line's forms may have their greatest sizes, and a number of pieces or that of a record is one at least
 abbrev pub HasBlocks : Line → Type 0
 HasBlocks line.Job = ⊤
@@ -152,9 +158,9 @@ HasBlocks (line.Map options) = HasBlockSize options.in_form × HasBlockSize opti
 HasBlocks line.Completion = ⊤
 HasBlocks line.Manual = ⊤
 
--- What the words behind the program's name say: none at all are a job; others are the name of a command and then its options, each of which names
--- what the line says, by the value that it is given or by its default.
-abbrev pub IsCommandLineOf : List Text → Line → Type 0
-IsCommandLineOf [] said = said ≡ line.Job
+-- What the words behind the program's name say: none at all are a job, of which nothing is explained; others are the name of a command and then its
+-- options, each of which names what the line says, by the value that it is given or by its default.
+abbrev pub IsCommandLineOf : List Text → CommandLine → Type 0
+IsCommandLineOf [] said = (said.line ≡ line.Job) × (said.explain ≡ false)
 IsCommandLineOf (command ∷ words) said = (options : Options) × (given : Given) × (found_at command commands ≡ Some options)
-    × AreOptions options words given × IsCommand command (taken options given) said
+    × AreOptions options words given × SaysCommand command (taken options given) said

@@ -1,9 +1,9 @@
 //! The command line of `cobconv`: which command the words ask for, and what each of its options names.
 //!
-//! [`line_of`] reads the words after the program's name. Where it answers a [`Line`], the words are the name of a command and its options, each at
-//! most once, and each field is the value that the words give its option, or the default where the option is not there (`options`, by
+//! [`line_of`] reads the words after the program's name. Where it answers a [`CommandLine`], the words are the name of a command and its options, each at
+//! most once, and each field of its [`Line`] is the value that the words give its option, or the default where the option is not there (`options`, by
 //! `IsCommandLineOf` of specs/Lines.antt over the tables of `cob_convert_program`); a form is f, v, or b with the greatest size of its blocks, a reading
-//! of binary items is pictured or whole, a listing of values text, json or csv. It refuses words exactly where they are none of that, but for want of
+//! of binary items is pictured or whole, a listing of values text, json or csv. The flag that all commands with files have stands beside the line. It refuses words exactly where they are none of that, but for want of
 //! memory (`refused`), and says which rule they break first: they spell no command with its options, or an option names no form, no reading, no size
 //! of blocks, no listing, no piece of the input, no number of records, or no number of pieces (`fault`, by `IsFaultOf` of specs/Faults.antt).
 //!
@@ -23,7 +23,7 @@ mod values;
 
 pub use fault::LineFault;
 pub use line::{
-    CheckLine, ConvertLine, DraftLine, ExplainLine, LayoutLine, Line, Listing, LosslessLine,
-    MapLine, PiecesLine, ShowLine,
+    CheckLine, CommandLine, ConvertLine, DraftLine, ExplainLine, LayoutLine, Line, Listing,
+    LosslessLine, MapLine, PiecesLine, ShowLine,
 };
 pub use read::line_of;

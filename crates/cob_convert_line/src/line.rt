@@ -30,6 +30,15 @@ pub enum Line<'a> {
     Manual,
 }
 
+/// What the words ask for, and how it is told where it fails.
+#[derive(Clone, Copy)]
+pub struct CommandLine<'a> {
+    /// What they ask for.
+    pub line: Line<'a>,
+    /// Whether it is told behind a fault what is wrong, and why.
+    pub explain: bool,
+}
+
 /// How the values of records are listed.
 #[derive(Clone, Copy)]
 pub enum Listing {

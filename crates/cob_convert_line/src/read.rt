@@ -3,15 +3,15 @@
 ghost use Rattle.std.specs.Prelude.{◌≡◌, ◌<◌, ◌⊎◌, IfErr, IfOk, map};
 ghost use Rattle.cob_convert_program.specs.Commands.{IsComplete, check_options, convert_options, draft_options, explain_options, layout_options, lossless_options, map_options, pieces_options, show_options};
 ghost use Rattle.cob_convert_line.specs.Faults.{IsFaultIn, IsFaultOf};
-ghost use Rattle.cob_convert_line.specs.Lines.{HasBlocks, IsCheck, IsCommand, IsCommandLineOf, IsConvert, IsDraft, IsExplain, IsLayout, IsLosslessLine, IsMap, IsPieces, IsShow};
+ghost use Rattle.cob_convert_line.specs.Lines.{HasBlocks, IsCheck, IsCommand, IsCommandLineOf, IsConvert, IsDraft, IsExplain, IsLayout, IsLosslessLine, IsMap, IsPieces, IsShow, SaysCommand};
 ghost use Rattle.cob_convert_options.specs.Looks.{AreAll, AreNamed, look_of};
 ghost use Rattle.cob_records.specs.Forms.{HasBlockSize};
 ghost use Rattle.cob_convert_line.specs.declared.fault.LineFault.TheVariants.{Memory};
 
 use crate::fault::LineFault;
 use crate::line::{
-    CheckLine, ConvertLine, DraftLine, ExplainLine, LayoutLine, Line, LosslessLine, MapLine,
-    PiecesLine, ShowLine,
+    CheckLine, CommandLine, ConvertLine, DraftLine, ExplainLine, LayoutLine, Line, LosslessLine,
+    MapLine, PiecesLine, ShowLine,
 };
 use crate::values::{bound, choice_of, form, forms_of, listing, number, piece_of, record_of};
 use clap::ArgMatches;
@@ -219,6 +219,22 @@ fn command_line<'a>(name: &str, options: &ArgMatches<'a>) -> Result<Line<'a>, Li
     }
 }
 
+// What the name of a command and these options say.
+fn whole_line<'a>(name: &str, options: &ArgMatches<'a>) -> Result<CommandLine<'a>, LineFault>
+    requires { IsComplete name.now (look_of options.now) }
+    ensures options { IfOk result (SaysCommand name.now (look_of options.now)) }
+    ensures lacks { IfErr result (λ _. (said : CommandLine)
+        → SaysCommand name.now (look_of options.now) said → ⊥) }
+    ensures fault { IfErr result (IsFaultIn (look_of options.now)) }
+    ensures blocks { IfOk result (λ said. HasBlocks said.line) }
+{
+    let line = command_line(name, options)?;
+    Ok(CommandLine {
+        line,
+        explain: flag(options, "explain"),
+    })
+}
+
 /// Reads the words after the program's name: which command they ask for, and what its options name. No words at all ask for a job.
 ///
 /// # Errors
@@ -228,21 +244,24 @@ fn command_line<'a>(name: &str, options: &ArgMatches<'a>) -> Result<Line<'a>, Li
 /// the size of blocks says none beside the letter b ([`LineFault::Block`]), the one for a listing names none ([`LineFault::Listing`]), one for a
 /// piece of the input says no number ([`LineFault::Piece`]), one for a number of records says none ([`LineFault::Number`]), the one for a number of
 /// pieces says none from 1 on ([`LineFault::Pieces`]).
-pub fn line_of<'a, S: AsStr>(alloc: Global, words: &'a [S]) -> Result<Line<'a>, LineFault>
+pub fn line_of<'a, S: AsStr>(alloc: Global, words: &'a [S]) -> Result<CommandLine<'a>, LineFault>
     ensures options { IfOk result (IsCommandLineOf (map S.text words.entry.now)) }
     ensures refused { IfErr result (λ fault. (fault ≡ Memory)
-        ⊎ ((line : Line) → IsCommandLineOf (map S.text words.entry.now) line → ⊥)) }
+        ⊎ ((said : CommandLine) → IsCommandLineOf (map S.text words.entry.now) said → ⊥)) }
     ensures fault { IfErr result (λ fault. (fault ≡ Memory)
         ⊎ IsFaultOf (map S.text words.entry.now) fault) }
     // The blocks of its forms may have their greatest sizes.
-    ensures blocks { IfOk result HasBlocks }
+    ensures blocks { IfOk result (λ said. HasBlocks said.line) }
 {
     if words.is_empty() {
-        return Ok(Line::Job);
+        return Ok(CommandLine {
+            line: Line::Job,
+            explain: false,
+        });
     }
     let matches = program(alloc)?.try_get_matches_from(words)?;
     match matches.subcommand() {
-        Some((name, options)) => command_line(name, options),
+        Some((name, options)) => whole_line(name, options),
         None => unreachable!(),
     }
 }

@@ -45,42 +45,46 @@ rejects_options = (codes "rejects", Optional) ∷ (codes "most-rejects", Default
 abbrev pub help_options : Options
 help_options = (codes "help", Request) ∷ []
 
+-- the options that each command with files has: the flag to explain faults, and the request for help
+abbrev pub shared_options : Options
+shared_options = (codes "explain", Alone) ∷ help_options
+
 -- the options of `convert`
 abbrev pub convert_options : Options
 convert_options = texts_options ++ ends_options ++ forms_options ++ ((codes "atomic", Alone) ∷ (codes "progress", Alone) ∷ [])
-    ++ piece_options ++ choice_options ++ rejects_options ++ help_options
+    ++ piece_options ++ choice_options ++ rejects_options ++ shared_options
 
 -- the options of `check`
 abbrev pub check_options : Options
-check_options = texts_options ++ (codes "cover", Alone) ∷ help_options
+check_options = texts_options ++ (codes "cover", Alone) ∷ shared_options
 
 -- the option of `layout`
 abbrev pub layout_options : Options
-layout_options = (codes "book", Required) ∷ help_options
+layout_options = (codes "book", Required) ∷ shared_options
 
 -- the options of `show`
 abbrev pub show_options : Options
-show_options = records_options ++ (codes "as", Default (codes "text")) ∷ (codes "progress", Alone) ∷ choice_options ++ help_options
+show_options = records_options ++ (codes "as", Default (codes "text")) ∷ (codes "progress", Alone) ∷ choice_options ++ shared_options
 
 -- the options of `pieces`
 abbrev pub pieces_options : Options
-pieces_options = records_options ++ (codes "pieces", Required) ∷ help_options
+pieces_options = records_options ++ (codes "pieces", Required) ∷ shared_options
 
 -- the options of `lossless`
 abbrev pub lossless_options : Options
-lossless_options = (codes "in-book", Required) ∷ (codes "out-book", Required) ∷ (codes "there", Required) ∷ (codes "back", Required) ∷ help_options
+lossless_options = (codes "in-book", Required) ∷ (codes "out-book", Required) ∷ (codes "there", Required) ∷ (codes "back", Required) ∷ shared_options
 
 -- the options of `explain`
 abbrev pub explain_options : Options
-explain_options = texts_options ++ (codes "in", Required) ∷ forms_options ++ record_options ++ help_options
+explain_options = texts_options ++ (codes "in", Required) ∷ forms_options ++ record_options ++ shared_options
 
 -- the options of `draft`
 abbrev pub draft_options : Options
-draft_options = books_options ++ help_options
+draft_options = books_options ++ shared_options
 
 -- the options of `map`
 abbrev pub map_options : Options
-map_options = texts_options ++ (codes "in", Optional) ∷ forms_options ++ record_options ++ help_options
+map_options = texts_options ++ (codes "in", Optional) ∷ forms_options ++ record_options ++ shared_options
 
 -- commands by their names, each with its options
 abbrev pub Commands : Type 0

@@ -2,13 +2,13 @@
 
 ghost use Rattle.std.specs.Prelude.{◌≡◌, codes, true};
 ghost use Rattle.clap.specs.Words.{App, app_of, new_app, with_subcommand};
-ghost use Rattle.cob_convert_program.specs.Commands.{check_options, convert_options, draft_options, explain_options, help_options, layout_options, lossless_options, pieces_options, show_options};
+ghost use Rattle.cob_convert_program.specs.Commands.{check_options, convert_options, draft_options, explain_options, help_options, layout_options, lossless_options, map_options, pieces_options, show_options};
 ghost use Rattle.cob_convert_options.specs.Rules.{command_app};
 ghost use Rattle.cob_convert_program.specs.Program.{Makes, bare_app, program_app};
 
 use crate::groups::{
     with_books, with_choice, with_ends, with_forms, with_piece, with_record, with_records,
-    with_rejects, with_texts,
+    with_rejects, with_shared, with_texts,
 };
 use crate::help::{
     ATOMIC_HELP, CHECK_NOTES, CONVERT_NOTES, CONVERT_USAGE, DRAFT_NOTES, EXPLAIN_NOTES,
@@ -29,7 +29,8 @@ fn convert<'a>(alloc: Global) -> Result<Command<'a>, AllocError>
     let command = with_forms(alloc, with_ends(alloc, with_texts(alloc, command)?)?)?
         .arg(alone(alloc, "atomic", ATOMIC_HELP))?
         .arg(alone(alloc, "progress", PROGRESS_HELP))?;
-    with_rejects(alloc, with_choice(alloc, with_piece(alloc, command)?)?)
+    let command = with_rejects(alloc, with_choice(alloc, with_piece(alloc, command)?)?)?;
+    with_shared(alloc, command)
 }
 
 fn check<'a>(alloc: Global) -> Result<Command<'a>, AllocError>
@@ -38,20 +39,22 @@ fn check<'a>(alloc: Global) -> Result<Command<'a>, AllocError>
     let command = Command::new(alloc, "check")
         .about("Read the three texts, and print both lengths and the number of moves")
         .after_help(CHECK_NOTES);
-    with_texts(alloc, command)?.arg(alone(
+    let command = with_texts(alloc, command)?.arg(alone(
         alloc,
         "cover",
         "List what no move fills, what none takes, and losses",
-    ))
+    ))?;
+    with_shared(alloc, command)
 }
 
 fn layout<'a>(alloc: Global) -> Result<Command<'a>, AllocError>
     ensures { Makes (command_app (codes "layout") layout_options) result }
 {
-    Command::new(alloc, "layout")
+    let command = Command::new(alloc, "layout")
         .about("Print a copybook's entries with their offsets, lengths and kinds")
         .after_help("Example: cobconv layout --book old.cpy")
-        .arg(required(alloc, "book", "FILE", "The copybook"))
+        .arg(required(alloc, "book", "FILE", "The copybook"))?;
+    with_shared(alloc, command)
 }
 
 fn show<'a>(alloc: Global) -> Result<Command<'a>, AllocError>
@@ -63,7 +66,7 @@ fn show<'a>(alloc: Global) -> Result<Command<'a>, AllocError>
     let command = with_records(alloc, command, "The records; - is standard input")?
         .arg(defaulted(alloc, "as", "LISTING", "text", LISTING_HELP))?
         .arg(alone(alloc, "progress", PROGRESS_HELP))?;
-    with_choice(alloc, command)
+    with_shared(alloc, with_choice(alloc, command)?)
 }
 
 fn pieces<'a>(alloc: Global) -> Result<Command<'a>, AllocError>
@@ -72,18 +75,19 @@ fn pieces<'a>(alloc: Global) -> Result<Command<'a>, AllocError>
     let command = Command::new(alloc, "pieces")
         .about("Print where the pieces of a file of records begin")
         .after_help(PIECES_NOTES);
-    with_records(alloc, command, "The records")?.arg(required(
+    let command = with_records(alloc, command, "The records")?.arg(required(
         alloc,
         "pieces",
         "N",
         "How many pieces there may be",
-    ))
+    ))?;
+    with_shared(alloc, command)
 }
 
 fn lossless<'a>(alloc: Global) -> Result<Command<'a>, AllocError>
     ensures { Makes (command_app (codes "lossless") lossless_options) result }
 {
-    Command::new(alloc, "lossless")
+    let command = Command::new(alloc, "lossless")
         .about("Print whether one paragraph brings back all that another one moves")
         .override_usage(LOSSLESS_USAGE)
         .after_help(LOSSLESS_NOTES)
@@ -105,7 +109,8 @@ fn lossless<'a>(alloc: Global) -> Result<Command<'a>, AllocError>
             "back",
             "FILE",
             "The paragraph that converts what they become back",
-        ))
+        ))?;
+    with_shared(alloc, command)
 }
 
 fn explain<'a>(alloc: Global) -> Result<Command<'a>, AllocError>
@@ -121,7 +126,7 @@ fn explain<'a>(alloc: Global) -> Result<Command<'a>, AllocError>
         "FILE",
         "The records; - is standard input",
     ))?;
-    with_record(alloc, with_forms(alloc, command)?)
+    with_shared(alloc, with_record(alloc, with_forms(alloc, command)?)?)
 }
 
 fn draft<'a>(alloc: Global) -> Result<Command<'a>, AllocError>
@@ -130,7 +135,7 @@ fn draft<'a>(alloc: Global) -> Result<Command<'a>, AllocError>
     let command = Command::new(alloc, "draft")
         .about("Print a paragraph to begin with, of moves between items of one name")
         .after_help(DRAFT_NOTES);
-    with_books(alloc, command)
+    with_shared(alloc, with_books(alloc, command)?)
 }
 
 fn map<'a>(alloc: Global) -> Result<Command<'a>, AllocError>
@@ -145,7 +150,7 @@ fn map<'a>(alloc: Global) -> Result<Command<'a>, AllocError>
         "FILE",
         "Records, to show one of; - is standard input",
     ))?;
-    with_record(alloc, with_forms(alloc, command)?)
+    with_shared(alloc, with_record(alloc, with_forms(alloc, command)?)?)
 }
 
 // What bash needs to complete command lines: for those who install the program, so that help does not tell of it.

@@ -3,11 +3,11 @@
 ghost use Rattle.clap.specs.Words.{app_of};
 ghost use Rattle.cob_convert_options.specs.Rules.{with_options};
 ghost use Rattle.cob_convert_program.specs.Program.{Makes};
-ghost use Rattle.cob_convert_program.specs.Commands.{books_options, choice_options, ends_options, forms_options, piece_options, record_options, records_options, rejects_options, texts_options};
+ghost use Rattle.cob_convert_program.specs.Commands.{books_options, choice_options, ends_options, forms_options, piece_options, record_options, records_options, rejects_options, shared_options, texts_options};
 
-use crate::help::{BINARY_HELP, FORM_HELP};
+use crate::help::{BINARY_HELP, EXPLAINED_HELP, FORM_HELP};
 use clap::Command;
-use cob_convert_options::{defaulted, optional, required};
+use cob_convert_options::{alone, defaulted, optional, required};
 use std::alloc::{AllocError, Global};
 
 // A command with the options for both copybooks.
@@ -158,4 +158,14 @@ pub(crate) fn with_rejects<'a>(
             "all",
             "Stop at the record behind N set aside",
         ))
+}
+
+// A command with the option that each one with files has beside the request for help.
+pub(crate) fn with_shared<'a>(
+    alloc: Global,
+    command: Command<'a>,
+) -> Result<Command<'a>, AllocError>
+    ensures { Makes (with_options (app_of command.entry) shared_options) result }
+{
+    command.arg(alone(alloc, "explain", EXPLAINED_HELP))
 }

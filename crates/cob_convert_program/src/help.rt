@@ -20,6 +20,9 @@ pub(crate) const ATOMIC_HELP: &str = "Write OUT.part first, and rename it when a
 
 pub(crate) const PROGRESS_HELP: &str = "Tell on standard error how far it is";
 
+// What `--explain` does, of each command with files.
+pub(crate) const EXPLAINED_HELP: &str = "Say behind a fault what is wrong, and why";
+
 // How the words of `convert` stand, in two lines.
 pub(crate) const CONVERT_USAGE: &str = "cobconv convert [OPTIONS] --in-book <FILE> --out-book <FILE>
                        --moves <FILE> --in <FILE> --out <FILE>";
@@ -77,7 +80,7 @@ Pieces are whole records, in form b whole blocks, of nearly equal size.
 Example: cobconv pieces --book old.cpy --in old.dat --form v --pieces 8";
 
 // How the words of `lossless` stand, in two lines.
-pub(crate) const LOSSLESS_USAGE: &str = "cobconv lossless --in-book <FILE> --out-book <FILE>
+pub(crate) const LOSSLESS_USAGE: &str = "cobconv lossless [OPTIONS] --in-book <FILE> --out-book <FILE>
                         --there <FILE> --back <FILE>";
 
 pub(crate) const LOSSLESS_NOTES: &str = "Example:

@@ -2,7 +2,7 @@
 
 ghost use Rattle.std.specs.Prelude.{◌≡◌, ◌≤◌, IfOk, None};
 
-use crate::last::{LastError, noted};
+use crate::last::{LastError, NamedFile, noted};
 use std::fs::{FileTimes, Metadata, OpenFile, Permissions};
 use std::io;
 use std::io::{Read, Seek, SeekFrom, Write};
@@ -11,13 +11,15 @@ use std::io::{Read, Seek, SeekFrom, Write};
 #[derive(Drop)]
 pub struct NotedFile<'a, F> {
     file: F,
-    last: &'a LastError,
+    /// The option that names it, where one does.
+    named: Option<NamedFile<'a>>,
+    last: &'a LastError<'a>,
 }
 
 impl<'a, F> NotedFile<'a, F> {
-    /// A file round this one that keeps its last error there.
-    pub fn new(file: F, last: &'a LastError) -> NotedFile<'a, F> {
-        NotedFile { file, last }
+    /// A file round this one, which this option names, that keeps its last error there.
+    pub fn new(file: F, named: Option<NamedFile<'a>>, last: &'a LastError<'a>) -> NotedFile<'a, F> {
+        NotedFile { file, named, last }
     }
 }
 
@@ -25,7 +27,7 @@ impl<F: Read> Read for NotedFile<'_, F> {
     ghost remaining = { λ noted. F.remaining noted.file };
 
     fn read(&mut self, buf: &mut [u8]) -> io::Result<usize> {
-        noted(self.last, self.file.read(buf))
+        noted(self.last, self.named, self.file.read(buf))
     }
 }
 
@@ -33,17 +35,17 @@ impl<F: Write> Write for NotedFile<'_, F> {
     ghost contents = { λ noted. F.contents noted.file };
 
     fn write(&mut self, buf: &[u8]) -> io::Result<usize> {
-        noted(self.last, self.file.write(buf))
+        noted(self.last, self.named, self.file.write(buf))
     }
 
     fn flush(&mut self) -> io::Result<()> {
-        noted(self.last, self.file.flush())
+        noted(self.last, self.named, self.file.flush())
     }
 }
 
 impl<F: Seek> Seek for NotedFile<'_, F> {
     fn seek(&mut self, to: SeekFrom) -> io::Result<u64> {
-        noted(self.last, self.file.seek(to))
+        noted(self.last, self.named, self.file.seek(to))
     }
 }
 
@@ -53,22 +55,22 @@ impl<F: OpenFile> OpenFile for NotedFile<'_, F> {
     }
 
     fn set_len(&self, size: u64) -> io::Result<()> {
-        noted(self.last, self.file.set_len(size))
+        noted(self.last, self.named, self.file.set_len(size))
     }
 
     fn sync_all(&self) -> io::Result<()> {
-        noted(self.last, self.file.sync_all())
+        noted(self.last, self.named, self.file.sync_all())
     }
 
     fn sync_data(&self) -> io::Result<()> {
-        noted(self.last, self.file.sync_data())
+        noted(self.last, self.named, self.file.sync_data())
     }
 
     fn set_permissions(&self, perm: Permissions) -> io::Result<()> {
-        noted(self.last, self.file.set_permissions(perm))
+        noted(self.last, self.named, self.file.set_permissions(perm))
     }
 
     fn set_times(&self, times: FileTimes) -> io::Result<()> {
-        noted(self.last, self.file.set_times(times))
+        noted(self.last, self.named, self.file.set_times(times))
     }
 }

@@ -1,19 +1,109 @@
-//! Where the last error is kept.
+//! Which files are noted, and where the last error of one is kept.
 
 ghost use Rattle.std.specs.Prelude.{◌≡◌};
 
+use std::alloc::{AllocError, Global};
 use std::cell::Cell;
 use std::io;
 
-/// The last error, where there was one.
-pub type LastError = Cell<Option<io::Error>>;
+/// A file by the option that names it.
+#[derive(Clone, Copy)]
+pub struct NamedFile<'a> {
+    /// The option, without its hyphens.
+    pub option: &'a str,
+    /// The path that the option names; `-` is standard output.
+    pub path: &'a str,
+    /// What stands behind that path: nothing, or what the part of an output has there.
+    pub suffix: &'a str,
+}
 
-/// What a call answered, whose error is kept.
-pub fn noted<T>(last: &LastError, answer: io::Result<T>) -> io::Result<T>
+impl<'a> NamedFile<'a> {
+    /// The file that an option names.
+    pub fn new(option: &'a str, path: &'a str) -> NamedFile<'a> {
+        NamedFile {
+            option,
+            path,
+            suffix: "",
+        }
+    }
+
+    /// The file that stands in for the one that an option names, with this behind its path.
+    pub fn beside(option: &'a str, path: &'a str, suffix: &'a str) -> NamedFile<'a> {
+        NamedFile {
+            option,
+            path,
+            suffix,
+        }
+    }
+
+    /// Whether the file has this path.
+    fn is_at(&self, path: &str) -> bool {
+        match path.strip_suffix(self.suffix) {
+            Some(front) => front == self.path,
+            None => false,
+        }
+    }
+}
+
+/// The first of these files that has this path.
+pub(crate) fn file_at<'a>(files: &[NamedFile<'a>], path: &str) -> Option<NamedFile<'a>> {
+    for file in files {
+        if file.is_at(path) {
+            return Some(*file);
+        }
+    }
+    None
+}
+
+/// The system's words for an error, without the number that it has for them.
+fn reason_in(words: &str) -> &str {
+    match words.split_once(" (os error ") {
+        Some((reason, _)) => reason,
+        None => words,
+    }
+}
+
+/// An error of a file that an option names.
+#[derive(Clone, Copy)]
+pub struct FileError<'a> {
+    file: NamedFile<'a>,
+    error: io::Error,
+}
+
+impl FileError<'_> {
+    /// The option, the path that it names and the system's words, without the number that the system has for them.
+    ///
+    /// # Errors
+    ///
+    /// Where no memory is left.
+    pub fn told(&self, alloc: Global) -> Result<String, AllocError> {
+        let NamedFile {
+            option,
+            path,
+            suffix,
+        } = self.file;
+        let words = format!(in alloc; "{}", self.error)?;
+        let reason = reason_in(&words);
+        format!(in alloc; "{option}: {path}{suffix}: {reason}")
+    }
+}
+
+/// The last error, where there was one.
+pub type LastError<'a> = Cell<Option<FileError<'a>>>;
+
+/// What a call on a file answered, whose error is kept where an option names the file.
+pub fn noted<'a, T>(
+    last: &LastError<'a>,
+    file: Option<NamedFile<'a>>,
+    answer: io::Result<T>,
+) -> io::Result<T>
     ensures { result ≡ answer }
 {
-    if let Err(error) = &answer {
-        last.set(Some(*error));
+    if let (Err(error), Some(file)) = (&answer, file) {
+        last.set(Some(FileError {
+            file,
+            error: *error,
+        }));
     }
     answer
 }

@@ -3,7 +3,7 @@
 ghost use Rattle.std.specs.Prelude.{◌≡◌, ◌≤◌, length, IfOk};
 
 use crate::file::NotedFile;
-use crate::last::{LastError, noted};
+use crate::last::{FileError, LastError, NamedFile, file_at, noted};
 use std::alloc::Allocator;
 use std::fmt::Display;
 use std::fs::{Metadata, OpenOptions};
@@ -12,21 +12,22 @@ use std::io::{Eprint, Input, Lines, Print};
 use std::rt::{Clock, Files};
 use std::time::Duration;
 
-/// A runtime whose calls are those of the one inside, and which keeps the last error of its files and streams.
+/// A runtime whose calls are those of the one inside, and which keeps the last error of these files.
 #[derive(Clone, Copy)]
 pub struct Noted<'a, R> {
     rt: &'a R,
-    last: &'a LastError,
+    files: &'a [NamedFile<'a>],
+    last: &'a LastError<'a>,
 }
 
 impl<'a, R> Noted<'a, R> {
-    /// A runtime round this one that keeps its last error there.
-    pub fn new(rt: &'a R, last: &'a LastError) -> Noted<'a, R> {
-        Noted { rt, last }
+    /// A runtime round this one that keeps the last error of these files there.
+    pub fn new(rt: &'a R, files: &'a [NamedFile<'a>], last: &'a LastError<'a>) -> Noted<'a, R> {
+        Noted { rt, files, last }
     }
 
     /// The last error, where there was one.
-    pub fn last(&self) -> Option<io::Error> {
+    pub fn last(&self) -> Option<FileError<'a>> {
         self.last.get()
     }
 }
@@ -49,11 +50,19 @@ impl<R: Print> Print for Noted<'_, R> {
     }
 
     fn write_all(&self, bytes: &[u8]) -> io::Result<()> {
-        noted(self.last, self.rt.write_all(bytes))
+        noted(
+            self.last,
+            file_at(self.files, "-"),
+            self.rt.write_all(bytes),
+        )
     }
 
     fn write_some(&self, bytes: &[u8]) -> io::Result<usize> {
-        noted(self.last, self.rt.write_some(bytes))
+        noted(
+            self.last,
+            file_at(self.files, "-"),
+            self.rt.write_some(bytes),
+        )
     }
 }
 
@@ -99,8 +108,9 @@ impl<'a, R: Files> Files for Noted<'a, R> {
     type Dir = R::Dir;
 
     fn open_file(&self, how: &OpenOptions, path: &str) -> io::Result<NotedFile<'a, R::File>> {
-        match noted(self.last, self.rt.open_file(how, path)) {
-            Ok(file) => Ok(NotedFile::new(file, self.last)),
+        let named = file_at(self.files, path);
+        match noted(self.last, named, self.rt.open_file(how, path)) {
+            Ok(file) => Ok(NotedFile::new(file, named, self.last)),
             Err(error) => Err(error),
         }
     }
@@ -118,11 +128,15 @@ impl<'a, R: Files> Files for Noted<'a, R> {
     }
 
     fn copy(&self, from: &str, to: &str) -> io::Result<u64> {
-        noted(self.last, self.rt.copy(from, to))
+        noted(self.last, file_at(self.files, from), self.rt.copy(from, to))
     }
 
     fn rename(&self, from: &str, to: &str) -> io::Result<()> {
-        noted(self.last, self.rt.rename(from, to))
+        noted(
+            self.last,
+            file_at(self.files, from),
+            self.rt.rename(from, to),
+        )
     }
 
     fn remove_file(&self, path: &str) -> io::Result<()> {

@@ -3,7 +3,7 @@ use Rattle.cob_convert_commands.specs.Commands.{CarriedOut, Refused}
 use Rattle.cob_convert_commands.proofs.commands.answer.Goals as goal
 
 pub returns-in-Ok : goal.returns-in-Ok
-returns-in-Ok g c = CarriedOut c.in-Ok.line c.in-Ok.ensures.options c.perform.ensures
+returns-in-Ok g c = CarriedOut c.in-Ok.said c.in-Ok.ensures.options c.perform.ensures
 
 -- two facts that hold unless a third does hold together unless it does
 together : {M A B : Type 0} → M ⊎ A → M ⊎ B → M ⊎ (A × B)

@@ -2,7 +2,7 @@ use Rattle.std.proofs.Common.{ap, ap₂, codes, ◌≡◌, ◌∙◌}
 use Rattle.std.proofs.lemmas.Result.{IfOk-weaker}
 use Rattle.clap.specs.Words.{App, app_of, new_app, with_rule}
 use Rattle.clap.specs.Simple.{app_of_fields}
-use Rattle.cob_convert_program.specs.Commands.{texts_options}
+use Rattle.cob_convert_program.specs.Commands.{shared_options, texts_options}
 use Rattle.cob_convert_options.specs.Rules.{with_options}
 use Rattle.cob_convert_program.proofs.commands.check.Goals as goal
 
@@ -10,4 +10,5 @@ pub returns : goal.returns
 returns c =
     let start : app_of c.after_help-command.result ≡ new_app (codes "check") = ap app_of_fields c.after_help-command.ensures ∙ ap app_of_fields c.about.ensures ∙ c.new.ensures.app in
     let texts = c.in_ok-with_texts.ensures ∙ ap (λ (a : App). with_options a texts_options) start in
-    IfOk-weaker c.arg.result _ _ (λ made h. h.shape c.alone.ensures.local ∙ ap₂ with_rule texts c.alone.ensures.rule) c.arg.ensures
+    let one = c.in_ok-command.ensures.shape c.alone.ensures.local ∙ ap₂ with_rule texts c.alone.ensures.rule in
+    IfOk-weaker c.with_shared.result _ _ (λ made h. h ∙ ap (λ (a : App). with_options a shared_options) one) c.with_shared.ensures

@@ -2,7 +2,7 @@ use Rattle.std.proofs.Common.{ap, ap₂, codes, ◌≡◌, ◌∙◌}
 use Rattle.std.proofs.lemmas.Result.{IfOk-weaker}
 use Rattle.clap.specs.Words.{App, app_of, new_app, with_rule}
 use Rattle.clap.specs.Simple.{app_of_fields}
-use Rattle.cob_convert_program.specs.Commands.{choice_options, ends_options, forms_options, piece_options, rejects_options, texts_options}
+use Rattle.cob_convert_program.specs.Commands.{choice_options, ends_options, forms_options, piece_options, rejects_options, shared_options, texts_options}
 use Rattle.cob_convert_options.specs.Rules.{with_options}
 use Rattle.cob_convert_program.proofs.commands.convert.Goals as goal
 
@@ -16,4 +16,5 @@ returns c =
     let two = c.in_ok-command.ensures.shape c.alone-2.ensures.local ∙ ap₂ with_rule one c.alone-2.ensures.rule in
     let piece = c.in_ok-with_piece.ensures ∙ ap (λ (a : App). with_options a piece_options) two in
     let choice = c.in_ok-with_choice.ensures ∙ ap (λ (a : App). with_options a choice_options) piece in
-    IfOk-weaker c.with_rejects.result _ _ (λ made h. h ∙ ap (λ (a : App). with_options a rejects_options) choice) c.with_rejects.ensures
+    let rejects = c.in_ok-command-2.ensures ∙ ap (λ (a : App). with_options a rejects_options) choice in
+    IfOk-weaker c.with_shared.result _ _ (λ made h. h ∙ ap (λ (a : App). with_options a shared_options) rejects) c.with_shared.ensures

@@ -1,7 +1,9 @@
 use Rattle.std.proofs.Common.{ap, ap₂, codes, ◌≡◌, ◌∙◌}
 use Rattle.std.proofs.lemmas.Result.{IfOk-weaker}
-use Rattle.clap.specs.Words.{app_of, new_app, with_rule}
+use Rattle.clap.specs.Words.{App, app_of, new_app, with_rule}
 use Rattle.clap.specs.Simple.{app_of_fields}
+use Rattle.cob_convert_options.specs.Rules.{with_options}
+use Rattle.cob_convert_program.specs.Commands.{shared_options}
 use Rattle.cob_convert_program.proofs.commands.lossless.Goals as goal
 
 pub returns : goal.returns
@@ -10,4 +12,5 @@ returns c =
     let one = c.in_ok-arg.ensures.shape c.required.ensures.local ∙ ap₂ with_rule start c.required.ensures.rule in
     let two = c.in_ok-arg-2.ensures.shape c.required-2.ensures.local ∙ ap₂ with_rule one c.required-2.ensures.rule in
     let three = c.in_ok-arg-3.ensures.shape c.required-3.ensures.local ∙ ap₂ with_rule two c.required-3.ensures.rule in
-    IfOk-weaker c.arg-4.result _ _ (λ made h. h.shape c.required-4.ensures.local ∙ ap₂ with_rule three c.required-4.ensures.rule) c.arg-4.ensures
+    let four = c.in_ok-command.ensures.shape c.required-4.ensures.local ∙ ap₂ with_rule three c.required-4.ensures.rule in
+    IfOk-weaker c.with_shared.result _ _ (λ made h. h ∙ ap (λ (a : App). with_options a shared_options) four) c.with_shared.ensures

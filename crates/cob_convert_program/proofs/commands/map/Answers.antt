@@ -2,7 +2,7 @@ use Rattle.std.proofs.Common.{ap, ap₂, codes, ◌≡◌, ◌∙◌}
 use Rattle.std.proofs.lemmas.Result.{IfOk-weaker}
 use Rattle.clap.specs.Words.{App, app_of, new_app, with_rule}
 use Rattle.clap.specs.Simple.{app_of_fields}
-use Rattle.cob_convert_program.specs.Commands.{forms_options, record_options, texts_options}
+use Rattle.cob_convert_program.specs.Commands.{forms_options, record_options, shared_options, texts_options}
 use Rattle.cob_convert_options.specs.Rules.{with_options}
 use Rattle.cob_convert_program.proofs.commands.map.Goals as goal
 
@@ -12,4 +12,5 @@ returns c =
     let texts = c.in_ok-with_texts.ensures ∙ ap (λ (a : App). with_options a texts_options) start in
     let one = c.in_ok-command.ensures.shape c.optional.ensures.local ∙ ap₂ with_rule texts c.optional.ensures.rule in
     let forms = c.in_ok-with_forms.ensures ∙ ap (λ (a : App). with_options a forms_options) one in
-    IfOk-weaker c.with_record.result _ _ (λ made h. h ∙ ap (λ (a : App). with_options a record_options) forms) c.with_record.ensures
+    let numbered = c.in_ok-with_record.ensures ∙ ap (λ (a : App). with_options a record_options) forms in
+    IfOk-weaker c.with_shared.result _ _ (λ made h. h ∙ ap (λ (a : App). with_options a shared_options) numbered) c.with_shared.ensures

@@ -1,10 +1,10 @@
-use Rattle.cob_convert_commands.proofs.commands.perform.Goals as goal
+use Rattle.cob_convert_commands.proofs.commands.perform_line.Goals as goal
 
 pub returns-in-Job : goal.returns-in-Job
 returns-in-Job g c = rw c.in-Job.is (c.do_job.ensures.0, tt, c.do_job.ensures.1)
 
 pub returns-in-Convert : goal.returns-in-Convert
-returns-in-Convert g c = (_, rw c.in-Convert.is c.do_conversion.ensures, c.code.ensures)
+returns-in-Convert g c = (_, rw c.in-Convert.is c.do_asked_conversion.ensures, c.code.ensures)
 
 pub returns-in-Check : goal.returns-in-Check
 returns-in-Check g c = (_, rw c.in-Check.is c.do_checking.ensures, c.code-in-Check.ensures)
