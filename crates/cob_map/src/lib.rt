@@ -13,8 +13,8 @@
 //! which rows of a ruler bytes take, and which moves one line stands for. Which words are printed is shown by `cob_jobs`.
 //!
 //! It stands on `cob_map_boxes` for the boxes, on `cob_map_lines` for the lines and the lists, on `cob_map_places` for places, on `cob_html` for escapes, on
-//! `cob_move_losses` for what moves may lose, on `cob_layout` and `cob_layout_places` for records and moves, and on `cob_lossless_words` for single moves and
-//! the names of records.
+//! `cob_move_losses` for what moves may lose, on `cob_layout` and `cob_layout_places` for records and moves, on `cob_lossless_words` for single moves, and
+//! on `cob_item_words` for the names of records.
 #![tactic(auto)]
 
 mod joined;

@@ -10,9 +10,10 @@ use crate::style::{
     SIDE_HEAD, STYLE,
 };
 use cob_html::Escaped;
+use cob_item_words::Named;
 use cob_layout::{Layout, Spot};
 use cob_layout_places::StatementMoves;
-use cob_lossless_words::{Named, Sent, Single, singles_of};
+use cob_lossless_words::{Sent, Single, singles_of};
 use cob_map_boxes::{Contents, Drawn, draw, write_boxes};
 use cob_map_lines::{Sides, write_line, write_move, write_runs};
 use cob_map_places::{SHEET, counts_of};

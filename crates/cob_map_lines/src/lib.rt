@@ -5,8 +5,8 @@
 //! receiver covers. Which words are printed is shown by `cob_jobs`.
 //!
 //! It stands on `cob_map_boxes` for the records as they are drawn, on `cob_map_words` for constants, on `cob_map_places` for runs of bytes, on `cob_html` for
-//! lines, on `cob_move_losses` for what moves may lose, on `cob_layout` and `cob_layout_places` for entries, and on `cob_lossless_words` for single moves and
-//! the names of occurrences. It takes no memory.
+//! lines, on `cob_move_losses` for what moves may lose, on `cob_layout` and `cob_layout_places` for entries, on `cob_lossless_words` for single moves,
+//! and on `cob_item_words` for the names of occurrences. It takes no memory.
 #![tactic(auto)]
 
 mod lines;

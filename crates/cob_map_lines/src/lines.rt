@@ -1,8 +1,9 @@
 //! The lines between the boxes of senders and of receivers.
 
 use cob_html::Line;
+use cob_item_words::Named;
 use cob_layout_places::Side;
-use cob_lossless_words::{Element, Named, Sent, Single};
+use cob_lossless_words::{Element, Sent, Single};
 use cob_map_boxes::Drawn;
 use cob_map_words::EscapedConstant;
 use cob_move_losses::Losses;

@@ -1,8 +1,9 @@
 //! The lists below the drawing: the moves, and the bytes that no receiver covers.
 
 use crate::lines::{EscapedSent, Sides, class_of, receiver_of};
+use cob_item_words::Named;
 use cob_layout::{Kind, Node};
-use cob_lossless_words::{Named, Single};
+use cob_lossless_words::Single;
 use cob_map_boxes::{Drawn, spot_of, told_length};
 use cob_map_places::bare_length;
 use cob_move_losses::Losses;
@@ -68,10 +69,7 @@ fn write_run<W: fmt::Write>(
 }
 
 /// Writes a row for each run of bytes that are not covered.
-pub fn write_runs<W: fmt::Write>(
-    f: &mut fmt::Formatter<W>,
-    drawn: &Drawn<'_>,
-) -> fmt::Result {
+pub fn write_runs<W: fmt::Write>(f: &mut fmt::Formatter<W>, drawn: &Drawn<'_>) -> fmt::Result {
     let mut offset: u32 = 0;
     let mut rest = drawn.covered;
     while let Some((_, behind)) = rest.split_first() {

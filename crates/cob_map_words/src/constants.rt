@@ -2,7 +2,7 @@
 
 use crate::texts::Characters;
 use cob_copybook_tree::Value;
-use cob_lossless_words::ConstantText;
+use cob_item_words::ConstantText;
 use std::fmt;
 
 /// A literal or a figurative constant, which prints as a source text writes it, with its escapes.

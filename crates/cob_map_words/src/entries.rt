@@ -1,8 +1,7 @@
 //! Entries, in the words of their boxes.
 
-use cob_fault_words::ItemText;
+use cob_item_words::{ItemText, entry_of};
 use cob_layout::{Kind, Layout, Name, Node, ResolvedOccurs, Spot};
-use cob_lossless_words::entry_of;
 use std::fmt;
 
 /// The name of the entry with this number, where it has one.

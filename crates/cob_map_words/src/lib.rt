@@ -5,8 +5,8 @@
 //! characters, and [`ShownBytes`] and [`HexDigits`] bytes of a record. Texts of a file or a copybook go through `Escaped` of `cob_html`, so that none leaves its
 //! place. Which words are printed is shown by `cob_jobs`.
 //!
-//! It stands on `cob_html` for escapes, on `cob_convert_show` for the characters of bytes, on `cob_fault_words` for items as they are written,
-//! on `cob_lossless_words` and `cob_layout` for entries, and on `cob_lossless_words` and `cob_copybook_tree` for constants. It takes no memory.
+//! It stands on `cob_html` for escapes, on `cob_convert_show` for the characters of bytes, on `cob_item_words` for items and
+//! constants as they are written, and on `cob_layout` and `cob_copybook_tree` for entries. It takes no memory.
 #![tactic(auto)]
 
 mod constants;
