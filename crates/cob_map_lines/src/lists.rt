@@ -68,10 +68,7 @@ fn write_run<W: fmt::Write>(
 }
 
 /// Writes a row for each run of bytes that are not covered.
-pub fn write_runs<W: fmt::Write>(
-    f: &mut fmt::Formatter<W>,
-    drawn: &Drawn<'_>,
-) -> fmt::Result {
+pub fn write_runs<W: fmt::Write>(f: &mut fmt::Formatter<W>, drawn: &Drawn<'_>) -> fmt::Result {
     let mut offset: u32 = 0;
     let mut rest = drawn.covered;
     while let Some((_, behind)) = rest.split_first() {
