@@ -180,10 +180,13 @@ pub single_adds : (layouts : Layouts) (statement : StatementMoves) (m : Move) (r
     → IfNone given ((kind : SenderKind) (bytes : ℕ) → IsSentAs layouts m.sender kind bytes → ⊥)
     → AddsEach (λ (r : Ref) one. IsToldOf given layouts.output.now r.node one) receivers before now → AddsLosses layouts statement before now
 single_adds layouts statement m receivers given before now same is some none (added, all, each) =
-    subst (λ (s : StatementMoves). AddsLosses layouts s before now) (sym is)
-    (added, all, subst (λ (rs : List Ref). AreEach (λ (r : Ref) one. AreLossesFrom layouts m.sender r.node one) rs added) same
-      (each_so (λ (r : Ref) one. IsToldOf given layouts.output.now r.node one) (λ (r : Ref) one. AreLossesFrom layouts m.sender r.node one)
-        (λ r one told. told_from layouts m.sender given r.node one some none told) receivers added each))
+    subst (λ (s : StatementMoves). AddsLosses layouts s before now) (sym is) (
+      added,
+      all,
+      subst (λ (rs : List Ref). AreEach (λ (r : Ref) one. AreLossesFrom layouts m.sender r.node one) rs added) same
+          (each_so (λ (r : Ref) one. IsToldOf given layouts.output.now r.node one) (λ (r : Ref) one. AreLossesFrom layouts m.sender r.node one)
+          (λ r one told. told_from layouts m.sender given r.node one some none told) receivers added each),
+    )
 
 pub pairs_add : (layouts : Layouts) (statement : StatementMoves) (g : PairMoves) (pairs : List NumberedPair) (before now : List Losses)
     → pairs ≡ g.pairs.items → statement ≡ Pairs g

@@ -47,12 +47,24 @@ abbrev pub IsSentAs : Layouts → Sender → SenderKind → ℕ → Type 0
 IsSentAs layouts (sender.Entry side entry) from bytes = IsEntrySent (tree_of_side layouts side) entry.node from bytes
 IsSentAs layouts (sender.Constant value) from bytes = (from ≡ Literal (plain_value value.now)) × (bytes ≡ 0)
 
+-- no entry of a record has this number
+abbrev pub HasNoEntry : Forest Resolved → ℕ → Type 0
+HasNoEntry tree number = (kind : Kind) (bytes : ℕ) → StandsAs tree number kind bytes → ⊥
+
+-- a sender sends nothing
+abbrev pub SendsNothing : Layouts → Sender → Type 0
+SendsNothing layouts from = (kind : SenderKind) (bytes : ℕ) → IsSentAs layouts from kind bytes → ⊥
+
 -- these are said of the move of a sender of so many bytes to a receiver of so many
 pub record Tells (from : SenderKind) (bytes : ℕ) (to : Kind) (room : ℕ) (losses : Losses) : Type 0 where
   pub before : Decides losses.before (LosesBefore from to)
   pub behind : Decides losses.behind (LosesBehind from to)
   pub characters : Decides losses.characters (LosesCharacters from bytes to room)
   pub sign : Decides losses.sign (LosesSign from to)
+
+-- they are said of it where the receiver is an entry
+abbrev pub TellsOfEntry : (from : SenderKind) (bytes : ℕ) (to : SenderKind) (room : ℕ) (losses : Losses) → Type 0
+TellsOfEntry from bytes to room losses = (kind : Kind) → to ≡ Entry kind → Tells from bytes kind room losses
 
 -- they are said of the move of a sender to the entry of the output record with this number
 abbrev pub AreLossesFrom : Layouts → Sender → ℕ → Losses → Type 0

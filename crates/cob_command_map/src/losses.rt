@@ -1,11 +1,10 @@
 //! What single moves may lose.
 
-ghost use Rattle.std.specs.Prelude.{◌≡◌, ℕ, IfNone, IfOk, IfSome, OnOk, Some};
-ghost use Rattle.cob_copybook_tree.specs.declared.node.Kind.{Kind as SeenKind};
+ghost use Rattle.std.specs.Prelude.{◌≡◌, IfNone, IfOk, IfSome, OnOk, Some};
 ghost use Rattle.cob_layout_places.specs.declared.operands.NumberedPair.{NumberedPair as SeenPair};
 ghost use Rattle.cob_layout_places.specs.declared.reference.Ref.{Ref as SeenRef};
-ghost use Rattle.cob_move_receive.specs.Table.{Entry, SenderKind as SeenSender, sender_kind};
-ghost use Rattle.cob_command_map.specs.Losing.{AddsEach, AddsLosses, AreAllLosses, AreLossesOfPair, IsEntrySent, IsSentAs, IsToldOf, StandsAs, Tells, tree_of_side};
+ghost use Rattle.cob_move_receive.specs.Table.{sender_kind};
+ghost use Rattle.cob_command_map.specs.Losing.{AddsEach, AddsLosses, AreAllLosses, AreLossesOfPair, HasNoEntry, IsEntrySent, IsSentAs, IsToldOf, SendsNothing, TellsOfEntry, tree_of_side};
 
 use cob_layout::Layout;
 use cob_layout_places::{NumberedPair, Ref, Sender, Side, StatementMoves};
@@ -25,8 +24,7 @@ pub(crate) struct Given<'a> {
 fn entry_given(layout: &Layout, number: usize) -> Option<Given<'_>>
     ensures some { IfSome result
         (λ given. IsEntrySent layout.now number (sender_kind given.kind) given.bytes) }
-    ensures none { IfNone result ((kind : SeenKind) (bytes : ℕ)
-        → StandsAs layout.now number kind bytes → ⊥) }
+    ensures none { IfNone result (HasNoEntry layout.now number) }
 {
     match layout.greatest_spots().get(number) {
         Some(spot) => Some(Given {
@@ -51,8 +49,7 @@ fn layout_of<'a>(layouts: &Layouts<'a>, side: Side) -> &'a Layout
 fn sender_given<'a>(layouts: &Layouts<'a>, sender: &'a Sender) -> Option<Given<'a>>
     ensures some { IfSome result
         (λ given. IsSentAs layouts.now sender.now (sender_kind given.kind) given.bytes) }
-    ensures none { IfNone result ((kind : SeenSender) (bytes : ℕ)
-        → IsSentAs layouts.now sender.now kind bytes → ⊥) }
+    ensures none { IfNone result (SendsNothing layouts.now sender.now) }
 {
     match sender {
         Sender::Entry { side, entry } => entry_given(layout_of(layouts, *side), entry.node),
@@ -65,8 +62,8 @@ fn sender_given<'a>(layouts: &Layouts<'a>, sender: &'a Sender) -> Option<Given<'
 
 /// What the move of what is given to what is received may lose.
 fn losses_between(given: Given<'_>, receiver: Given<'_>) -> Losses
-    ensures { (kind : SeenKind) → sender_kind receiver.kind ≡ Entry kind
-        → Tells (sender_kind given.kind) given.bytes kind receiver.bytes result }
+    ensures { TellsOfEntry (sender_kind given.kind) given.bytes
+        (sender_kind receiver.kind) receiver.bytes result }
 {
     match receiver.kind {
         SenderKind::Entry(to) => losses_of(&given.kind, given.bytes, to, receiver.bytes),

@@ -6,12 +6,12 @@ pub returns-in-Single : goal.returns-in-Single
 returns-in-Single c =
     on_ok_weaker c.push_receivers.result
     (single_adds c.args.layouts.now c.args.statement.now c.in-Single.one c.as_slice.result.now c.sender_given.result c.args.losses.now.items
-      c.push_receivers.new.losses.items c.as_slice.ensures.value c.in-Single.is c.sender_given.ensures.some c.sender_given.ensures.none)
+    c.push_receivers.new.losses.items c.as_slice.ensures.value c.in-Single.is c.sender_given.ensures.some c.sender_given.ensures.none)
     c.push_receivers.ensures
 
 pub returns-in-Pairs : goal.returns-in-Pairs
 returns-in-Pairs c =
     on_ok_weaker c.push_pairs.result
     (pairs_add c.args.layouts.now c.args.statement.now c.in-Pairs.group c.as_slice-in-Pairs.result.now c.args.losses.now.items c.push_pairs.new.losses.items
-      c.as_slice-in-Pairs.ensures.value c.in-Pairs.is)
+    c.as_slice-in-Pairs.ensures.value c.in-Pairs.is)
     c.push_pairs.ensures
