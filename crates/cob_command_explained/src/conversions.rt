@@ -2,16 +2,19 @@
 
 ghost use Rattle.cob_command_aside.specs.Ends.{MayEndAside};
 ghost use Rattle.cob_command_convert.specs.Ends.{MayEndConvert};
-ghost use Rattle.cob_command_faults.specs.Ends.{EndsAmong, EndsAs};
+ghost use Rattle.cob_command_faults.specs.Ends.{EndsAmong, EndsAs, status_of_outcome};
+ghost use Rattle.cob_command_faults.specs.Faults.{status_of};
+ghost use Rattle.cob_command_faults.specs.declared.fault.CommandFault.TheVariants.{Stopped as StoppedFault};
 ghost use Rattle.cob_records.specs.Forms.{HasBlockSize};
 
 use crate::stops::stop_words;
 use cob_command_aside::{convert_aside, tell_converted_aside};
 use cob_command_convert::{convert, tell_converted};
 use cob_command_ends::is_standard_output;
-use cob_command_faults::printed;
+use cob_command_faults::{CommandFault, printed, tell_fault};
 use cob_convert_line::ConvertLine;
 use cob_status::Status;
+use cob_stream::RunFault;
 use std::io::{Eprint, Input, Print};
 use std::rt::{Clock, Files};
 
@@ -36,6 +39,54 @@ fn tell_known<R: Eprint>(rt: &R, status: Status, words: Option<String>) -> Statu
     }
 }
 
+/// Prints the fault line of a record or a device that stopped a run, and behind it why a record did, and answers how the command ends.
+fn tell_stop<R: AllocGlobal + Files + Input + Eprint>(
+    rt: &R,
+    line: &ConvertLine<'_>,
+    fault: RunFault,
+) -> Status
+    requires in_block { HasBlockSize line.now.in_form }
+    requires out_block { HasBlockSize line.now.out_form }
+    ensures { EndsAs (status_of (StoppedFault fault)) result }
+{
+    let status = tell_fault(rt, CommandFault::Stopped(fault));
+    tell_known(rt, status, stop_words(rt, line, fault))
+}
+
+/// Prints what a conversion comes to, and behind a stop why, and answers how it ends.
+fn tell_explained<R: AllocGlobal + Files + Input + Print + Eprint>(
+    rt: &R,
+    line: &ConvertLine<'_>,
+    beside: bool,
+    outcome: Result<u64, CommandFault>,
+) -> Status
+    requires in_block { HasBlockSize line.now.in_form }
+    requires out_block { HasBlockSize line.now.out_form }
+    ensures { EndsAs (status_of_outcome outcome) result }
+{
+    match outcome {
+        Err(CommandFault::Stopped(fault)) => tell_stop(rt, line, fault),
+        other => tell_converted(rt, beside, other),
+    }
+}
+
+/// Prints what a conversion comes to that sets rejected records aside, and behind a stop why, and answers how it ends.
+fn tell_explained_aside<R: AllocGlobal + Files + Input + Print + Eprint>(
+    rt: &R,
+    line: &ConvertLine<'_>,
+    beside: bool,
+    outcome: Result<u64, CommandFault>,
+) -> Status
+    requires in_block { HasBlockSize line.now.in_form }
+    requires out_block { HasBlockSize line.now.out_form }
+    ensures { EndsAs (status_of_outcome outcome) result }
+{
+    match outcome {
+        Err(CommandFault::Stopped(fault)) => tell_stop(rt, line, fault),
+        other => tell_converted_aside(rt, beside, other),
+    }
+}
+
 /// Converts, prints how many records there were or what is at fault, and of a record why it stops the run, and answers how the program ends.
 pub fn do_convert_explained<R: AllocGlobal + Files + Input + Print + Eprint + Clock>(
     rt: &R,
@@ -46,9 +97,7 @@ pub fn do_convert_explained<R: AllocGlobal + Files + Input + Print + Eprint + Cl
     ensures { EndsAmong (MayEndConvert line.now.atomic) result }
 {
     let beside = is_standard_output(rt, line.output);
-    let outcome = convert(rt, line);
-    let status = tell_converted(rt, beside, outcome);
-    tell_known(rt, status, stop_words(rt, line, outcome))
+    tell_explained(rt, line, beside, convert(rt, line))
 }
 
 /// Converts and sets rejected records aside in the file `rejects`, prints what comes of it, and of a record that ends the run why, and answers how the
@@ -63,7 +112,5 @@ pub fn do_convert_aside_explained<R: AllocGlobal + Files + Input + Print + Eprin
     ensures { EndsAmong (MayEndAside line.now.atomic) result }
 {
     let beside = is_standard_output(rt, line.output) || is_standard_output(rt, rejects);
-    let outcome = convert_aside(rt, line, rejects);
-    let status = tell_converted_aside(rt, beside, outcome);
-    tell_known(rt, status, stop_words(rt, line, outcome))
+    tell_explained_aside(rt, line, beside, convert_aside(rt, line, rejects))
 }

@@ -6,7 +6,7 @@
 //! - [`files_of`] are the files that the options of a command line name, in the order in which they are opened, for a runtime that keeps the last error of
 //!   one (`cob_noted`), and [`tell_file_error`] prints that error: the option, its path and the system's words.
 //!
-//! What is promised: that conversions end as those without the flag do, with the status of what they came to (`tell_explained`, `EndsAmong` of
+//! What is promised: that conversions end as those without the flag do, with the status of what they came to (`tell_explained`, `tell_explained_aside`, `EndsAmong` of
 //! `cob_command_faults`), or as where a device failed if the last line was not printed. Which words are printed is shown by the stored command lines of
 //! `cob_jobs`.
 //!

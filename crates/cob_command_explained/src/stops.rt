@@ -4,7 +4,6 @@ ghost use Rattle.std.specs.Prelude.{◌≡◌, ◌-◌};
 ghost use Rattle.cob_records.specs.Forms.{HasBlockSize};
 
 use cob_command_explain::{Stretch, explain_record_of};
-use cob_command_faults::CommandFault;
 use cob_convert_explain::{Explanation, Stopped};
 use cob_convert_line::{ConvertLine, ExplainLine};
 use cob_status::Status;
@@ -94,16 +93,13 @@ fn words_of<R: AllocGlobal + Files + Input>(
 pub(crate) fn stop_words<R: AllocGlobal + Files + Input>(
     rt: &R,
     line: &ConvertLine<'_>,
-    outcome: Result<u64, CommandFault>,
+    fault: RunFault,
 ) -> Option<String>
     requires in_block { HasBlockSize line.now.in_form }
     requires out_block { HasBlockSize line.now.out_form }
 {
-    match outcome {
-        Err(CommandFault::Stopped(fault))
-            if line.input != "-" && Status::of_stop(fault.cause) == Status::Stopped => {
-            words_of(rt, line, fault)
-        }
+    match Status::of_stop(fault.cause) {
+        Status::Stopped if line.input != "-" => words_of(rt, line, fault),
         _ => None,
     }
 }
