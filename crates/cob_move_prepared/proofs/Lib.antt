@@ -5,3 +5,4 @@ pub mod EditLemmas
 pub mod CopyLemmas
 pub mod PoolLemmas
 pub mod BinaryStepLemmas
+pub mod PicturedLemmas

@@ -36,7 +36,7 @@ Grows T before now = (own : List T) × (now ≡ before ++ own)
 pub as_before : (T : Type 0) (xs : List T) → Grows T xs xs
 as_before T xs = ([], sym (append-nil xs))
 
-kept_at : (T : Type 0) (moves : T → Type 0) (before now : List T) (n : ℕ) → Grows T before now → IsStepAt T moves before n → IsStepAt T moves now n
+pub kept_at : (T : Type 0) (moves : T → Type 0) (before now : List T) (n : ℕ) → Grows T before now → IsStepAt T moves before n → IsStepAt T moves now n
 kept_at T moves before now n (own, grown) is = record {
   step = is.step;
   below = omega (arith, is.below, ap length grown, length-append before own);
@@ -69,7 +69,7 @@ steps_kept before now numbers binaries edits k step is = record { occupied = is.
 
 -- ---- a step carried out
 
-few_between : (holds : Item → Item → Type 0) (s r : Kind) (received : ℕ) → ((from to : Item) → holds from to → item_size to ≤ 16) → Occupies r received → BetweenItems holds s r → received ≤ 16
+pub few_between : (holds : Item → Item → Type 0) (s r : Kind) (received : ℕ) → ((from to : Item) → holds from to → item_size to ≤ 16) → Occupies r received → BetweenItems holds s r → received ≤ 16
 few_between holds Group r received fits occupied between = absurd between
 few_between holds (ItemKind i) Group received fits occupied between = absurd between
 few_between holds (ItemKind i) (ItemKind j) received fits occupied between = omega (arith, occupied.0, fits i j between)
@@ -77,7 +77,7 @@ few_between holds (ItemKind i) (ItemKind j) received fits occupied between = ome
 word_length : (n : ℕ) → binary_length n ≤ 16
 word_length n = grind arith
 
-writer_fits : (to : Item) (w : NumberWriter) → IsOwnWriter to w → item_size to ≤ 16
+pub writer_fits : (to : Item) (w : NumberWriter) → IsOwnWriter to w → item_size to ≤ 16
 writer_fits to (writer.Lanes w) own = own.fits
 writer_fits to (writer.Binary w) own = omega (arith, size_is to own.binary, word_length (item_digits to))
 
@@ -97,7 +97,7 @@ ItemsReceive holds bytes received outcome reading =
     (from to : Item) → holds from to → item_size from ≤ length bytes → received ≡ item_size to
     → Received (Entry (ItemKind from) (last_bytes (item_size from) bytes) reading) (ItemKind to) received outcome
 
-carried : (holds : Item → Item → Type 0) (s r : Kind) (sent received : ℕ) (bytes : List ℕ) (outcome : Option (List ℕ)) (reading : Reading) → Occupies s sent → Occupies r received → BetweenItems holds s r
+pub carried : (holds : Item → Item → Type 0) (s r : Kind) (sent received : ℕ) (bytes : List ℕ) (outcome : Option (List ℕ)) (reading : Reading) → Occupies s sent → Occupies r received → BetweenItems holds s r
     → sent ≤ length bytes → ItemsReceive holds bytes received outcome reading → Received (Entry s (last_bytes sent bytes) reading) r received outcome
 carried holds Group r sent received bytes outcome reading sends receives between within h = absurd between
 carried holds (ItemKind i) Group sent received bytes outcome reading sends receives between within h = absurd between

@@ -17,7 +17,7 @@
 //!
 //! [`BinaryStep::prepare`] gives that of a number from or to a binary item of at most sixteen digits. What it and a step to an edited item leave
 //! of a binary sender is what the rule says where its bytes are read as its picture says (`IsBinaryCarriedOut`, `IsEditCarriedOut`): where they
-//! are sent whole, the move is that of `receive`.
+//! are sent whole, the move is that of `receive`. [`PicturedSteps`] are the steps of such moves, in the words of [`MoveSteps`] but for that reading.
 //!
 //! [`CharactersStep::prepare`] gives the step of the move of characters without insertions, of a sender that gives its bytes as they are (`step`,
 //! `must`), and [`ConstantStep::prepare`] that of a constant, whose bytes `receive` makes once. What they write is what the rule says.
@@ -38,6 +38,7 @@ mod edit_step;
 mod ends_preparing;
 mod ends_running;
 mod number_ends;
+mod pictured;
 mod pool;
 mod preparing;
 mod running;
@@ -51,5 +52,6 @@ pub use characters_step::CharactersStep;
 pub use constant_step::ConstantStep;
 pub use edit_step::EditStep;
 pub use number_ends::{NumberReader, NumberWriter};
+pub use pictured::{PicturedStep, PicturedSteps};
 pub use pool::{MoveStep, MoveSteps};
 pub use step::NumberStep;

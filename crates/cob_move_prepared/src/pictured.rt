@@ -1,0 +1,161 @@
+//! Steps of single moves whose senders are read as their pictures say.
+
+ghost use Rattle.std.specs.Prelude.{◌≡◌, ◌≤◌, false, length, IfOk, IfSome, IsSome};
+ghost use Rattle.cob_move_prepared.specs.Pictured.{HaveAnyShortNumbers, HasNoPictured, HavePicturedStep, IsPicturedStep, IsReceivedPictured, KeepsPictured, MovesPictured, MovesPicturedToEdited};
+ghost use Rattle.cob_move_prepared.specs.Pool.{AreOccupied, BetweenItems, MoveKinds};
+ghost use Rattle.cob_copybook_tree.specs.declared.node.Kind.TheVariants.{Item as ItemKind};
+ghost use Rattle.cob_move_receive.specs.Received.{outcome};
+
+use crate::binary_step::BinaryStep;
+use crate::edit_step::EditStep;
+use cob_copybook_tree::{Item, Kind};
+use std::alloc::{AllocError, Global};
+use std::fmt;
+
+/// Which step carries out a single move whose sender is read as its picture says.
+#[derive(Clone, Copy, Debug)]
+pub enum PicturedStep {
+    /// The step of a number from one item to another that has this number among them.
+    Number(usize),
+    /// That of a number to an edited item.
+    Edited(usize),
+}
+
+/// Steps of single moves whose senders are read as their pictures say. They become more, and none of them changes.
+#[derive(Drop)]
+pub struct PicturedSteps {
+    alloc: Global,
+    pub(crate) numbers: Vec<BinaryStep>,
+    pub(crate) edits: Vec<EditStep>,
+}
+
+impl fmt::Debug for PicturedSteps {
+    fn fmt<W: fmt::Write>(&self, f: &mut fmt::Formatter<W>) -> fmt::Result {
+        let numbers = self.numbers.len();
+        let edits = self.edits.len();
+        write!(f, "PicturedSteps {{ numbers: {numbers}, edits: {edits} }}")
+    }
+}
+
+impl PicturedSteps {
+    /// No steps yet.
+    pub fn new(alloc: Global) -> PicturedSteps
+        ensures { HasNoPictured result }
+    {
+        PicturedSteps {
+            alloc,
+            numbers: Vec::new(alloc),
+            edits: Vec::new(alloc),
+        }
+    }
+
+    /// Puts the step of a number behind those so far.
+    ///
+    /// # Errors
+    ///
+    /// Where no memory is left.
+    fn put_number(&mut self, step: BinaryStep) -> Result<PicturedStep, AllocError>
+        ensures step { IfOk result (λ put. (k : MoveKinds) → AreOccupied k
+            → BetweenItems (MovesPictured step) k.sender k.receiver
+            → IsPicturedStep self.new k put) }
+        ensures kept { KeepsPictured self.old self.new }
+    {
+        let number = self.numbers.len();
+        self.numbers.push(step)?;
+        Ok(PicturedStep::Number(number))
+    }
+
+    /// Puts the step of a number to an edited item behind those so far.
+    ///
+    /// # Errors
+    ///
+    /// Where no memory is left.
+    fn put_edited(&mut self, step: EditStep) -> Result<PicturedStep, AllocError>
+        ensures step { IfOk result (λ put. (k : MoveKinds) → AreOccupied k
+            → BetweenItems (MovesPicturedToEdited step) k.sender k.receiver
+            → IsPicturedStep self.new k put) }
+        ensures kept { KeepsPictured self.old self.new }
+    {
+        let number = self.edits.len();
+        self.edits.push(step)?;
+        Ok(PicturedStep::Edited(number))
+    }
+
+    /// Makes the step of the move of one item to another ready.
+    ///
+    /// # Errors
+    ///
+    /// Where no memory is left.
+    fn prepare_items(&mut self, from: &Item, to: &Item) -> Result<Option<PicturedStep>, AllocError>
+        ensures step { IfOk result (λ found. IfSome found (λ put. (k : MoveKinds) → AreOccupied k
+            → k.sender ≡ ItemKind from.now → k.receiver ≡ ItemKind to.now
+            → IsPicturedStep self.new k put)) }
+        ensures must { HaveAnyShortNumbers from.now to.now → IfOk result (λ found. IsSome found) }
+        ensures kept { KeepsPictured self.old self.new }
+    {
+        if let Some(step) = BinaryStep::prepare(from, to) {
+            return Ok(Some(self.put_number(step)?));
+        }
+        match EditStep::prepare(self.alloc, from, to)? {
+            Some(step) => Ok(Some(self.put_edited(step)?)),
+            None => Ok(None),
+        }
+    }
+
+    /// Makes the step of the move of an entry, read as its picture says, to another ready, by what they describe and how many bytes they have.
+    /// There is one where the sender is a number of at most sixteen digits, and of at most sixteen bytes if it isn't binary, and the receiver is
+    /// another, or edits one in at most sixteen digits and bytes. The steps so far stay.
+    ///
+    /// # Errors
+    ///
+    /// Where no memory is left.
+    pub fn prepare(
+        &mut self,
+        sender: &Kind,
+        sent: u32,
+        receiver: &Kind,
+        received: u32,
+    ) -> Result<Option<PicturedStep>, AllocError>
+        requires { AreOccupied (record {
+          sender = sender.now;
+          sent = sent;
+          receiver = receiver.now;
+          received = received;
+        }) }
+        ensures step { IfOk result (λ found. IfSome found (IsPicturedStep self.new (record {
+          sender = sender.now;
+          sent = sent;
+          receiver = receiver.now;
+          received = received;
+        }))) }
+        ensures must { HavePicturedStep sender.now receiver.now
+            → IfOk result (λ found. IsSome found) }
+        ensures kept { KeepsPictured self.old self.new }
+    {
+        match sender {
+            Kind::Group => Ok(None),
+            Kind::Item(from) => match receiver {
+                Kind::Group => Ok(None),
+                Kind::Item(to) => self.prepare_items(from, to),
+            },
+        }
+    }
+
+    /// Moves the sender that ends bytes, read as its picture says, to a receiver's bytes: best the bytes of a record up to the sender's last.
+    ///
+    /// False where the sender's bytes represent no number: the receiver's bytes are as they were then.
+    #[inline(always)]
+    pub fn run(&self, step: PicturedStep, from: &[u8], to: &mut [u8]) -> bool
+        requires { (k : MoveKinds) × IsPicturedStep self.now k step × (k.sent ≤ length from.now)
+            × (length to.old ≡ k.received) }
+        ensures gets { (k : MoveKinds) → IsPicturedStep self.now k step → k.sent ≤ length from.now
+            → length to.old ≡ k.received
+            → IsReceivedPictured k from.now (outcome result to.new) }
+        ensures same { result ≡ false → to.new ≡ to.old }
+    {
+        match step {
+            PicturedStep::Number(number) => self.numbers[number].run(from, to),
+            PicturedStep::Edited(number) => self.edits[number].run(from, to),
+        }
+    }
+}
