@@ -8,7 +8,7 @@ use Rattle.cob_layout_places.specs.Moves.{Entry, Literal, Move, Records, Sender}
 use Rattle.cob_move_apply.specs.Joined.{CopyEnds, begun, begun_by, copies_of, copy_ends, last_end, plain_copy, steps_behind, steps_in}
 use Rattle.cob_move_apply.specs.Planned.{AreMore, counted_steps, end_behind, last_step_ends, step_count, step_ends}
 use Rattle.cob_move_apply.specs.Steps.{IsSteady, alone, singles}
-use Rattle.cob_move_apply.specs.declared.step.CopyPlaces.{CopyPlaces}
+use Rattle.cob_move_apply.specs.declared.step.MovePlaces.{MovePlaces}
 use Rattle.cob_move_apply.specs.declared.step.Part.{Part}
 use Rattle.cob_move_apply.specs.declared.step.Step.{Step}
 use Rattle.cob_move_apply.specs.declared.step.Step.TheVariants as step
@@ -56,19 +56,19 @@ begun_none None = refl
 begun_none (Some e) = refl
 
 -- a copy, joined or not
-pub more_copy : (r : Records) (s : Sender) (o : Operand) (c : CopyPlaces) (a b : List Step) → Some c ≡ plain_copy r s o → counted_steps b ≡ counted_steps a + begun (last_step_ends a) (Some c) → last_step_ends b ≡ Some (copy_ends c)
+pub more_copy : (r : Records) (s : Sender) (o : Operand) (c : MovePlaces) (a b : List Step) → Some c ≡ plain_copy r s o → counted_steps b ≡ counted_steps a + begun (last_step_ends a) (Some c) → last_step_ends b ≡ Some (copy_ends c)
     → AreMore r (alone s o ∷ []) a b
 more_copy r s o c a b is count end = record {
-  counts = omega (arith, count, ap (λ (x : Option CopyPlaces). begun (last_step_ends a) x) is);
-  last = end ∙ ap (λ (x : Option CopyPlaces). option_map copy_ends x) is;
+  counts = omega (arith, count, ap (λ (x : Option MovePlaces). begun (last_step_ends a) x) is);
+  last = end ∙ ap (λ (x : Option MovePlaces). option_map copy_ends x) is;
 }
 
 -- another step, which is counted once
 pub more_other : (r : Records) (s : Sender) (o : Operand) (t : Step) (a b : List Step) → None ≡ plain_copy r s o → b ≡ a ++ t ∷ [] → step_count t ≡ 1 → step_ends t ≡ None
     → AreMore r (alone s o ∷ []) a b
 more_other r s o t a b is added one nowhere = record {
-  counts = omega (arith, ap counted_steps added, counted_behind a t, one, ap (λ (x : Option CopyPlaces). begun (last_step_ends a) x) is, begun_none (last_step_ends a));
-  last = ap last_step_ends added ∙ ends_behind a t ∙ nowhere ∙ ap (λ (x : Option CopyPlaces). option_map copy_ends x) is;
+  counts = omega (arith, ap counted_steps added, counted_behind a t, one, ap (λ (x : Option MovePlaces). begun (last_step_ends a) x) is, begun_none (last_step_ends a));
+  last = ap last_step_ends added ∙ ends_behind a t ∙ nowhere ∙ ap (λ (x : Option MovePlaces). option_map copy_ends x) is;
 }
 
 -- ---- a move
@@ -122,7 +122,7 @@ more_empty r m p a b none added size = record {
 -- ---- a copy behind steps
 
 -- it is joined to the last one
-pub joined_count : (old front new : List Step) (s both : Step) (c : CopyPlaces) → old ≡ front ++ s ∷ [] → new ≡ front ++ both ∷ [] → step_count both ≡ step_count s → begun (step_ends s) (Some c) ≡ 0
+pub joined_count : (old front new : List Step) (s both : Step) (c : MovePlaces) → old ≡ front ++ s ∷ [] → new ≡ front ++ both ∷ [] → step_count both ≡ step_count s → begun (step_ends s) (Some c) ≡ 0
     → counted_steps new ≡ counted_steps old + begun (last_step_ends old) (Some c)
 joined_count old front new s both c was is same none =
     omega (arith, ap counted_steps was, ap counted_steps is, counted_behind front s, counted_behind front both, same, none, ap (λ (e : Option CopyEnds). begun e (Some c)) (ap last_step_ends was ∙ ends_behind front s))
@@ -131,7 +131,7 @@ pub last_ends : (front new : List Step) (s : Step) (e : CopyEnds) → new ≡ fr
 last_ends front new s e is same = ap last_step_ends is ∙ ends_behind front s ∙ same
 
 -- it is a step by itself
-pub apart_count : (old front mid new : List Step) (s : Step) (c : CopyPlaces) → old ≡ front ++ s ∷ [] → mid ≡ old → new ≡ mid ++ step.Copy c ∷ [] → begun (step_ends s) (Some c) ≡ 1
+pub apart_count : (old front mid new : List Step) (s : Step) (c : MovePlaces) → old ≡ front ++ s ∷ [] → mid ≡ old → new ≡ mid ++ step.Copy c ∷ [] → begun (step_ends s) (Some c) ≡ 1
     → counted_steps new ≡ counted_steps old + begun (last_step_ends old) (Some c)
 apart_count old front mid new s c was same is one =
     omega (arith, ap counted_steps same, ap counted_steps is, counted_behind mid (step.Copy c), one, ap (λ (e : Option CopyEnds). begun e (Some c)) (ap last_step_ends was ∙ ends_behind front s))

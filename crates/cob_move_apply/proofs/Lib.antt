@@ -15,6 +15,8 @@ pub mod PlanLemmas
 pub mod InLemmas
 pub mod PartLemmas
 pub mod PreparedLemmas
+pub mod PicturedLemmas
+pub mod ConstantLemmas
 pub mod StepLemmas
 pub use Rattle.cob_layout.proofs.EntryNoRule
 pub use Rattle.cob_layout.proofs.EntryOneList

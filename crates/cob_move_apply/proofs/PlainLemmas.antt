@@ -19,7 +19,7 @@ use Rattle.cob_move_receive.specs.Copying.{CopiesBytes, copies_bytes}
 use Rattle.cob_move_apply.specs.Joined.{copy_between, neither_varies, plain_copy}
 use Rattle.cob_move_apply.specs.Planned.{copied_move}
 use Rattle.cob_move_apply.specs.Written.{AreCopied}
-use Rattle.cob_move_apply.specs.declared.step.CopyPlaces.{CopyPlaces}
+use Rattle.cob_move_apply.specs.declared.step.MovePlaces.{MovePlaces}
 use Rattle.cob_move_apply.proofs.CopyLemmas.{copied_one, no_counts}
 use Rattle.cob_move_apply.proofs.PlaceLemmas.{fixed}
 
@@ -49,7 +49,7 @@ copied law r sent receiver from to k l reading described none operand reads send
 
 -- ---- the places
 
-abbrev by_test : Bool → Option (Result Place PlaceFault) → Option (Result Place PlaceFault) → Option CopyPlaces
+abbrev by_test : Bool → Option (Result Place PlaceFault) → Option (Result Place PlaceFault) → Option MovePlaces
 by_test b from to = if b then copy_between from to else None
 
 same_length : (from to : Place) (b : Bool) → (from.length == to.length) ≡ b → copy_between (Some (Ok from)) (Some (Ok to)) ≡ (if b then Some (record { from = from; to = to }) else None)

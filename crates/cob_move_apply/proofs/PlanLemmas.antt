@@ -3,16 +3,27 @@ use Rattle.std.proofs.Common.{◌≡◌, ℕ, zero, suc, ◌+◌, ◌<◌, ◌�
 use Rattle.std.proofs.lemmas.List.{take_all, take_more, map-append, length-append}
 use Rattle.std.proofs.Math.Seq.{drop-append_seam}
 use Rattle.cob_codec.specs.declared.reading.Reading.{Reading}
+use Rattle.cob_codec.specs.declared.reading.Reading.TheVariants.{Pictured}
 use Rattle.cob_layout_places.specs.declared.operands.Operand.{Operand}
 use Rattle.cob_layout_places.specs.declared.operands.PairMoves.{PairMoves}
 use Rattle.cob_layout_places.specs.declared.operands.StatementMoves.{StatementMoves}
 use Rattle.cob_layout_places.specs.Moves.{Move, Records, Sender, moves_by, numbered_move_by, statement_moves_by}
 use Rattle.cob_move_apply.specs.Placed.{IsPlacedMove}
-use Rattle.cob_move_apply.specs.Steps.{AreMovesCut, AreSteps, BeginsWith, Gains, GainsCut, IsMoveOfPart, IsPreparedMove, IsStep, StandFor, Support, alone, pair_at, singles, support_of}
+use Rattle.cob_move_apply.specs.Steps.{AreMovesCut, AreSteps, BeginsWith, Gains, GainsCut, IsMoveOfPart, IsPicturedMove, IsPreparedMove, IsStep, StandFor, Support, alone, pair_at, singles, support_of}
+use Rattle.cob_copybook_tree.specs.declared.node.Kind.{Kind}
+use Rattle.cob_entry.specs.Described.{PlainValue}
+use Rattle.cob_move_prepared.specs.Copies.{IsConstantStep}
+use Rattle.cob_move_prepared.specs.Pictured.{KeepsPictured}
+use Rattle.cob_move_prepared.specs.declared.constant_step.ConstantStep.{ConstantStep}
+use Rattle.cob_move_prepared.proofs.PoolLemmas.{Grows as IsLonger, as_before, kept_at, put_at}
 use Rattle.cob_move_prepared.specs.Pool.{KeepsSteps}
+use Rattle.cob_move_prepared.specs.declared.pictured.PicturedSteps.{PicturedSteps}
 use Rattle.cob_move_prepared.specs.declared.pool.MoveSteps.{MoveSteps}
+use Rattle.cob_move_apply.specs.Written.{IsFixedConstant}
 use Rattle.cob_move_apply.specs.declared.basis.Basis.{Basis}
+use Rattle.cob_move_apply.specs.declared.step.ConstantMove.{ConstantMove}
 use Rattle.cob_move_apply.specs.declared.step.Part.{Part}
+use Rattle.cob_move_apply.specs.declared.step.PicturedMove.{PicturedMove}
 use Rattle.cob_move_apply.specs.declared.step.Plan.{Plan}
 use Rattle.cob_move_apply.specs.declared.step.PreparedMove.{PreparedMove}
 use Rattle.cob_move_apply.specs.declared.step.Step.{Step}
@@ -49,11 +60,21 @@ pub record Grows (a b : Support) : Type 0 where
   pub more : List Basis
   pub bases : b.bases ≡ a.bases ++ more
   pub prepared : KeepsSteps a.prepared b.prepared
+  pub pictured : KeepsPictured a.pictured b.pictured
+  pub constants : IsLonger ConstantStep a.constants b.constants
 
 step_still : (x : Reading) (r : Records) (given : List StatementMoves) (a b : Support) (s : Step) (own : List Move) → Grows a b → IsStep x r given a s own → IsStep x r given b s own
 step_still x r given a b (step.Part p) own more (m, is, part) =
     (m, is, subst (λ (bs : List Basis). IsMoveOfPart x r given bs p m) (sym more.bases) (part_still x r given a.bases more.more p m part))
 step_still x r given a b (step.Prepared p) own more (k, is, fixed) = (k, more.prepared k p.step is, fixed)
+step_still x r given a b (step.Pictured q p) own more (m, is, part, so) = (
+  m,
+  is,
+  subst (λ (bs : List Basis). IsMoveOfPart x r given bs p m) (sym more.bases) (part_still x r given a.bases more.more p m part),
+  λ e. (let (k, step_is, fixed) = so e in (k, more.pictured k q.step step_is, fixed)),
+)
+step_still x r given a b (step.Constant c) own more (constant, to, at, fixed) =
+    (constant, to, kept_at ConstantStep (λ step. IsConstantStep constant to c.to.length step) a.constants b.constants c.number more.constants at, fixed)
 step_still x r given a b (step.Copy places) own more h = h
 
 steps_still : (x : Reading) (r : Records) (given : List StatementMoves) (a b : Support) (ss : List Step) (parts : List Move) → Grows a b
@@ -105,12 +126,33 @@ by_more x r given a b old new s parts own more is one are =
     (step_behind x r given b old s parts own (steps_still x r given a b old parts more are) one)
 
 -- a part behind steps, whose bases are put behind the bases
-pub by_part : (x : Reading) (r : Records) (given : List StatementMoves) (prepared : MoveSteps) (old_bases new_bases own : List Basis) (old new : List Step) (p : Part) (m : Move) (parts : List Move)
+pub by_part : (x : Reading) (r : Records) (given : List StatementMoves) (prepared : MoveSteps) (pictured : PicturedSteps) (constants : List ConstantStep) (old_bases new_bases own : List Basis) (old new : List Step) (p : Part) (m : Move) (parts : List Move)
     → new_bases ≡ old_bases ++ own → new ≡ old ++ step.Part p ∷ [] → IsMoveOfPart x r given (old_bases ++ own) p m
-    → AreSteps x r given (record { bases = old_bases; prepared = prepared }) old parts → AreSteps x r given (record { bases = new_bases; prepared = prepared }) new (parts ++ m ∷ [])
-by_part x r given prepared old_bases new_bases own old new p m parts grown is part are =
-    by_more x r given (record { bases = old_bases; prepared = prepared }) (record { bases = new_bases; prepared = prepared }) old new (step.Part p) parts (m ∷ [])
-    (record { more = own; bases = grown; prepared = λ k t h. h }) is (m, refl, subst (λ (bs : List Basis). IsMoveOfPart x r given bs p m) (sym grown) part) are
+    → AreSteps x r given (record { bases = old_bases; prepared = prepared; pictured = pictured; constants = constants }) old parts
+    → AreSteps x r given (record { bases = new_bases; prepared = prepared; pictured = pictured; constants = constants }) new (parts ++ m ∷ [])
+by_part x r given prepared pictured constants old_bases new_bases own old new p m parts grown is part are =
+    by_more x r given (record { bases = old_bases; prepared = prepared; pictured = pictured; constants = constants }) (record { bases = new_bases; prepared = prepared; pictured = pictured; constants = constants }) old new (step.Part p) parts (m ∷ [])
+    (record { more = own; bases = grown; prepared = λ k t h. h; pictured = λ k t h. h; constants = as_before ConstantStep constants }) is (m, refl, subst (λ (bs : List Basis). IsMoveOfPart x r given bs p m) (sym grown) part) are
+
+-- the same, where the part was made ready for senders that are read as their pictures say
+pub by_pictured : (x : Reading) (r : Records) (given : List StatementMoves) (prepared : MoveSteps) (pictured : PicturedSteps) (constants : List ConstantStep) (old_bases new_bases own : List Basis) (old new : List Step) (q : PicturedMove) (p : Part) (m : Move)
+    (parts : List Move) → new_bases ≡ old_bases ++ own → new ≡ old ++ step.Pictured q p ∷ [] → IsMoveOfPart x r given (old_bases ++ own) p m → (x ≡ Pictured → IsPicturedMove r pictured q (m ∷ []))
+    → AreSteps x r given (record { bases = old_bases; prepared = prepared; pictured = pictured; constants = constants }) old parts
+    → AreSteps x r given (record { bases = new_bases; prepared = prepared; pictured = pictured; constants = constants }) new (parts ++ m ∷ [])
+by_pictured x r given prepared pictured constants old_bases new_bases own old new q p m parts grown is part so are =
+    by_more x r given (record { bases = old_bases; prepared = prepared; pictured = pictured; constants = constants }) (record { bases = new_bases; prepared = prepared; pictured = pictured; constants = constants }) old new (step.Pictured q p) parts (m ∷ [])
+    (record { more = own; bases = grown; prepared = λ k t h. h; pictured = λ k t h. h; constants = as_before ConstantStep constants }) is
+    (m, refl, subst (λ (bs : List Basis). IsMoveOfPart x r given bs p m) (sym grown) part, so) are
+
+-- the move of a constant that was made ready behind steps
+pub by_constant : (x : Reading) (r : Records) (given : List StatementMoves) (bases : List Basis) (prepared : MoveSteps) (pictured : PicturedSteps) (before now : List ConstantStep) (written : ConstantStep) (old new : List Step)
+    (c : ConstantMove) (constant : PlainValue) (to : Kind) (parts own : List Move) → now ≡ before ++ written ∷ [] → c.number ≡ length before → IsConstantStep constant to c.to.length written → IsFixedConstant r c.to constant to own
+    → new ≡ old ++ step.Constant c ∷ [] → AreSteps x r given (record { bases = bases; prepared = prepared; pictured = pictured; constants = before }) old parts
+    → AreSteps x r given (record { bases = bases; prepared = prepared; pictured = pictured; constants = now }) new (parts ++ own)
+by_constant x r given bases prepared pictured before now written old new c constant to parts own grown here writes fixed is are =
+    by_more x r given (record { bases = bases; prepared = prepared; pictured = pictured; constants = before }) (record { bases = bases; prepared = prepared; pictured = pictured; constants = now }) old new (step.Constant c) parts own
+    (record { more = []; bases = sym (append-nil bases); prepared = λ k t h. h; pictured = λ k t h. h; constants = (written ∷ [], grown) }) is
+    (constant, to, put_at ConstantStep (λ step. IsConstantStep constant to c.to.length step) before now written c.number grown here writes, fixed) are
 
 -- the bases that were put behind others begin there
 pub begin_there : (r : Records) (m : Move) (old own : List Basis) (n : ℕ) → n ≡ length old → IsPlacedMove r m own → BeginsWith r m (drop n (old ++ own))
@@ -131,18 +173,18 @@ gains_as x r given ms ns a b is f = subst (λ (xs : List Move). Gains x r given 
 
 -- steps that were made ready came to what steps rest on
 pub gains_more : (x : Reading) (r : Records) (given : List StatementMoves) (ms : List Move) (a b c : Plan) → b.steps.items ≡ a.steps.items → b.bases.items ≡ a.bases.items → KeepsSteps a.prepared b.prepared
-    → Gains x r given ms b c → Gains x r given ms a c
-gains_more x r given ms a b c same bases kept g parts are =
+    → KeepsPictured a.pictured b.pictured → b.constants.items ≡ a.constants.items → Gains x r given ms b c → Gains x r given ms a c
+gains_more x r given ms a b c same bases kept pictured constants g parts are =
     g parts (subst (λ (ss : List Step). AreSteps x r given (support_of b) ss parts) (sym same)
-    (steps_still x r given (support_of a) (support_of b) a.steps.items parts (record { more = []; bases = bases ∙ sym (append-nil a.bases.items); prepared = kept }) are))
+    (steps_still x r given (support_of a) (support_of b) a.steps.items parts (record { more = []; bases = bases ∙ sym (append-nil a.bases.items); prepared = kept; pictured = pictured; constants = ([], constants ∙ sym (append-nil a.constants.items)) }) are))
 
 -- a single move that was made ready behind steps
-pub by_prepared : (x : Reading) (r : Records) (given : List StatementMoves) (bases : List Basis) (before now : MoveSteps) (old new : List Step) (p : PreparedMove) (parts own : List Move)
+pub by_prepared : (x : Reading) (r : Records) (given : List StatementMoves) (bases : List Basis) (pictured : PicturedSteps) (constants : List ConstantStep) (before now : MoveSteps) (old new : List Step) (p : PreparedMove) (parts own : List Move)
     → KeepsSteps before now → new ≡ old ++ step.Prepared p ∷ [] → IsPreparedMove x r now p own
-    → AreSteps x r given (record { bases = bases; prepared = before }) old parts → AreSteps x r given (record { bases = bases; prepared = now }) new (parts ++ own)
-by_prepared x r given bases before now old new p parts own kept is made are =
-    by_more x r given (record { bases = bases; prepared = before }) (record { bases = bases; prepared = now }) old new (step.Prepared p) parts own
-    (record { more = []; bases = sym (append-nil bases); prepared = kept }) is made are
+    → AreSteps x r given (record { bases = bases; prepared = before; pictured = pictured; constants = constants }) old parts → AreSteps x r given (record { bases = bases; prepared = now; pictured = pictured; constants = constants }) new (parts ++ own)
+by_prepared x r given bases pictured constants before now old new p parts own kept is made are =
+    by_more x r given (record { bases = bases; prepared = before; pictured = pictured; constants = constants }) (record { bases = bases; prepared = now; pictured = pictured; constants = constants }) old new (step.Prepared p) parts own
+    (record { more = []; bases = sym (append-nil bases); prepared = kept; pictured = λ k t h. h; constants = as_before ConstantStep constants }) is made are
 
 singles_next : (s : Sender) (os : List Operand) (i : ℕ) (o : Operand) → i < length os → o ≡ get_or os i o → singles s (take i os) ++ alone s o ∷ [] ≡ singles s (take (i + 1) os)
 singles_next s os i o lt is =

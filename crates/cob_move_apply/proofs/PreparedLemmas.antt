@@ -21,10 +21,12 @@ use Rattle.cob_move_receive.specs.Received.{Received, outcome}
 use Rattle.cob_move_receive.specs.Sent as sent
 use Rattle.cob_move_apply.specs.Applied.{Applied, Ending, content_at, done, stopped}
 use Rattle.cob_move_apply.specs.Located.{stop_at}
+use Rattle.cob_move_apply.specs.Made.{IsMadeReady}
 use Rattle.cob_move_apply.specs.Placed.{IsFixed}
-use Rattle.cob_move_apply.specs.Planned.{copied_move}
+use Rattle.cob_move_apply.specs.Planned.{AreFixedPlaces, copied_move}
 use Rattle.cob_move_apply.specs.Steps.{IsPreparedMove, alone}
 use Rattle.cob_move_apply.specs.Written.{HasPlaces, IsFixedMove, IsReceivedFrom, received_at}
+use Rattle.cob_move_apply.specs.declared.step.MovePlaces.{MovePlaces}
 use Rattle.cob_move_apply.specs.declared.step.PreparedMove.{PreparedMove}
 use Rattle.cob_move_apply.specs.declared.stop.Stop.{Stop}
 use Rattle.cob_move_apply.specs.declared.stop.StopCause.TheVariants.{NoValue}
@@ -38,7 +40,7 @@ abbrev pub kinds_of : Kind → Kind → Place → Place → MoveKinds
 kinds_of s t from to = record { sender = s; sent = from.length; receiver = t; received = to.length }
 
 -- a single move between operands that stand at their places in every storage ends with what the receiver gets, or at the sender
-move_ends : (r : Records) (p : PreparedMove) (reading : Reading) (o q : Operand) → IsFixed r.input false o p.from → IsFixed r.output true q p.to
+move_ends : (r : Records) (p : MovePlaces) (reading : Reading) (o q : Operand) → IsFixed r.input false o p.from → IsFixed r.output true q p.to
     → (input before : List ℕ) (outcome : Option (List ℕ)) → Received (sent.Entry o.kind (field_of p.from input) reading) q.kind p.to.length outcome
     → Applied r (alone (Entry In reading o) q ∷ []) input before (received_at p before outcome)
 move_ends r p reading o q sends gets input before (Some bytes) received =
@@ -48,7 +50,7 @@ move_ends r p reading o q sends gets input before None received =
     let stop : Stop = stop_at In p.from.offset NoValue in
     inr (stop, before, inl (content_at In reading o input p.from, (p.from, sends.place In input, refl), inr (stop, inr (p.to, gets.place Out before, received, refl), refl)), refl)
 
-pub fixed_move : LieInStorage → (r : Records) (p : PreparedMove) (reading : Reading) (o q : Operand) → IsRecordDescription r.input → IsOperand r.input o → IsFixed r.input false o p.from → IsFixed r.output true q p.to
+pub fixed_move : LieInStorage → (r : Records) (p : MovePlaces) (reading : Reading) (o q : Operand) → IsRecordDescription r.input → IsOperand r.input o → IsFixed r.input false o p.from → IsFixed r.output true q p.to
     → IsFixedMove reading r p (kinds_of o.kind q.kind p.from p.to) (alone (Entry In reading o) q ∷ [])
 fixed_move law r p reading o q described operand sends gets = record {
   places = record { sent = refl; received = refl };
@@ -62,37 +64,35 @@ fixed_move law r p reading o q described operand sends gets = record {
         let (counts, needs, stands) = sends.place In input in
         law r.input input counts o.entry.node o.entry.subscripts.items p.from described is operand.refers needs stands
 
-pub prepared : LieInStorage → (r : Records) (steps : MoveSteps) (step : MoveStep) (sent receiver : Ref) (from to : Place) (k l : Kind) (reading : Reading) → IsRecordDescription r.input → IsOperand r.input (operand_in r.input sent)
-    → ReadsNone r.input sent.node false → placed_under (greatest_counts r.input) r.input sent ≡ Some (Ok from) → from.offset + from.length ≤ greatest_length r.input
-    → ReadsNone r.output receiver.node true → placed_under (greatest_counts r.output) r.output receiver ≡ Some (Ok to) → to.offset + to.length ≤ greatest_length r.output
-    → k ≡ (operand_in r.input sent).kind → l ≡ (operand_in r.output receiver).kind → IsMoveStep steps (kinds_of k l from to) step
-    → IsPreparedMove reading r steps (record { from = from; to = to; step = step }) (copied_move reading r sent receiver ∷ [])
-prepared law r steps step sent receiver from to k l reading described operand reads sends from_fits leaves gets to_fits k_is l_is is =
+pub prepared : LieInStorage → (r : Records) (steps : MoveSteps) (step : MoveStep) (sent receiver : Ref) (p : MovePlaces) (k l : Kind) (reading : Reading) → IsRecordDescription r.input → IsOperand r.input (operand_in r.input sent)
+    → AreFixedPlaces r sent receiver p
+    → k ≡ (operand_in r.input sent).kind → l ≡ (operand_in r.output receiver).kind → IsMoveStep steps (kinds_of k l p.from p.to) step
+    → IsPreparedMove reading r steps (record { places = p; step = step }) (copied_move reading r sent receiver ∷ [])
+prepared law r steps step sent receiver p k l reading described operand stand k_is l_is is =
     let o : Operand = operand_in r.input sent in
-    let q : Operand = operand_in r.output receiver in
-    let p : PreparedMove = record { from = from; to = to; step = step } in (
-      kinds_of o.kind q.kind from to,
-      subst (λ (x : Kind). IsMoveStep steps (kinds_of x q.kind from to) step) k_is (subst (λ (x : Kind). IsMoveStep steps (kinds_of k x from to) step) l_is is),
-      fixed_move law r p reading o q described operand (fixed r.input false o from reads sends from_fits) (fixed r.output true q to leaves gets to_fits),
+    let q : Operand = operand_in r.output receiver in (
+      kinds_of o.kind q.kind p.from p.to,
+      subst (λ (x : Kind). IsMoveStep steps (kinds_of x q.kind p.from p.to) step) k_is (subst (λ (x : Kind). IsMoveStep steps (kinds_of k x p.from p.to) step) l_is is),
+      fixed_move law r p reading o q described operand (fixed r.input false o p.from stand.sends_by_none stand.sends stand.sends_within) (fixed r.output true q p.to stand.receives_by_none stand.receives stand.receives_within),
     )
 
 -- both have their bytes
-pub occupied : (r : Records) (sent receiver : Ref) (from to : Place) (k l : Kind) → IsSound r.input → IsSound r.output → IsOperand r.input (operand_in r.input sent) → IsOperand r.output (operand_in r.output receiver)
-    → placed_under (greatest_counts r.input) r.input sent ≡ Some (Ok from) → placed_under (greatest_counts r.output) r.output receiver ≡ Some (Ok to)
-    → k ≡ (operand_in r.input sent).kind → l ≡ (operand_in r.output receiver).kind → AreOccupied (kinds_of k l from to)
-occupied r sent receiver from to k l in_sound out_sound sending receiving sends gets k_is l_is = record {
-  sender = filled r.input sent.node (greatest_counts r.input) sent.subscripts.items k from in_sound (sending.is ∙ ap (λ (x : Kind). Some x) (sym k_is)) sends;
-  receiver = filled r.output receiver.node (greatest_counts r.output) receiver.subscripts.items l to out_sound (receiving.is ∙ ap (λ (x : Kind). Some x) (sym l_is)) gets;
+pub occupied : (r : Records) (sent receiver : Ref) (p : MovePlaces) (k l : Kind) → IsSound r.input → IsSound r.output → IsOperand r.input (operand_in r.input sent) → IsOperand r.output (operand_in r.output receiver)
+    → AreFixedPlaces r sent receiver p
+    → k ≡ (operand_in r.input sent).kind → l ≡ (operand_in r.output receiver).kind → AreOccupied (kinds_of k l p.from p.to)
+occupied r sent receiver p k l in_sound out_sound sending receiving stand k_is l_is = record {
+  sender = filled r.input sent.node (greatest_counts r.input) sent.subscripts.items k p.from in_sound (sending.is ∙ ap (λ (x : Kind). Some x) (sym k_is)) stand.sends;
+  receiver = filled r.output receiver.node (greatest_counts r.output) receiver.subscripts.items l p.to out_sound (receiving.is ∙ ap (λ (x : Kind). Some x) (sym l_is)) stand.receives;
 }
 
 -- ---- what was carried out
 
 -- so many bytes at the end of others
-abbrev last_bytes : ℕ → List ℕ → List ℕ
+abbrev pub last_bytes : ℕ → List ℕ → List ℕ
 last_bytes size bytes = drop (length bytes - size) bytes
 
 -- the last bytes up to the end of a place are those of the place
-ends_there : (p : Place) (bytes : List ℕ) → p.offset + p.length ≤ length bytes → last_bytes p.length (take (p.offset + p.length) bytes) ≡ field_of p bytes
+pub ends_there : (p : Place) (bytes : List ℕ) → p.offset + p.length ≤ length bytes → last_bytes p.length (take (p.offset + p.length) bytes) ≡ field_of p bytes
 ends_there p bytes within =
     ap (λ n. drop (n - p.length) (take (p.offset + p.length) bytes)) (length-take-le (p.offset + p.length) bytes within)
     ∙ ap (λ n. drop n (take (p.offset + p.length) bytes)) (back p.offset p.length)
@@ -101,47 +101,41 @@ ends_there p bytes within =
     back : (m n : ℕ) → m + n - n ≡ m
     back m n = omega arith
 
--- what a move that was made ready makes of the storage
-abbrev pub IsMadeReady : PreparedMove → MoveSteps → List ℕ → List ℕ → Ending → Type 0
-IsMadeReady p steps input before end =
-    (k : MoveKinds) → IsMoveStep steps k p.step → HasPlaces p k
-    → (outcome : Option (List ℕ)) × IsReceivedFrom p k input outcome × (end ≡ received_at p before outcome)
-
 -- what its step answers
 abbrev pub IsAnswered : PreparedMove → MoveSteps → List ℕ → ℕ → Option (List ℕ) → Type 0
 IsAnswered p steps bytes n outcome = (k : MoveKinds) → IsMoveStep steps k p.step → k.sent ≤ length bytes → n ≡ k.received → IsReceived k bytes outcome
 
-answered : (p : PreparedMove) (steps : MoveSteps) (input : List ℕ) (n : ℕ) (outcome : Option (List ℕ)) (k : MoveKinds) → p.from.offset + p.from.length ≤ length input → n ≡ p.to.length
-    → IsAnswered p steps (take (p.from.offset + p.from.length) input) n outcome → IsMoveStep steps k p.step → HasPlaces p k → IsReceivedFrom p k input outcome
+answered : (p : PreparedMove) (steps : MoveSteps) (input : List ℕ) (n : ℕ) (outcome : Option (List ℕ)) (k : MoveKinds) → p.places.from.offset + p.places.from.length ≤ length input → n ≡ p.places.to.length
+    → IsAnswered p steps (take (p.places.from.offset + p.places.from.length) input) n outcome → IsMoveStep steps k p.step → HasPlaces p.places k → IsReceivedFrom p.places k input outcome
 answered p steps input n outcome k within size gets is has reading =
-    let bytes : List ℕ = take (p.from.offset + p.from.length) input in
-    let same : last_bytes k.sent bytes ≡ field_of p.from input = ap (λ m. last_bytes m bytes) has.sent ∙ ends_there p.from input within in
+    let bytes : List ℕ = take (p.places.from.offset + p.places.from.length) input in
+    let same : last_bytes k.sent bytes ≡ field_of p.places.from input = ap (λ m. last_bytes m bytes) has.sent ∙ ends_there p.places.from input within in
     subst (λ (xs : List ℕ). Received (sent.Entry k.sender xs reading) k.receiver k.received outcome) same
-    (gets k is (omega (arith, has.sent, length-take-le (p.from.offset + p.from.length) input within)) (size ∙ sym has.received) reading)
+    (gets k is (omega (arith, has.sent, length-take-le (p.places.from.offset + p.places.from.length) input within)) (size ∙ sym has.received) reading)
 
-pub made : (p : PreparedMove) (steps : MoveSteps) (input before new : List ℕ) (n : ℕ) (b : Bool) → p.from.offset + p.from.length ≤ length input → n ≡ p.to.length → b ≡ true
-    → IsAnswered p steps (take (p.from.offset + p.from.length) input) n (outcome b new)
-    → IsMadeReady p steps input before (done (put_mid p.to.offset (p.to.offset + p.to.length - p.to.offset) before new))
+pub made : (p : PreparedMove) (steps : MoveSteps) (input before new : List ℕ) (n : ℕ) (b : Bool) → p.places.from.offset + p.places.from.length ≤ length input → n ≡ p.places.to.length → b ≡ true
+    → IsAnswered p steps (take (p.places.from.offset + p.places.from.length) input) n (outcome b new)
+    → IsMadeReady p steps input before (done (put_mid p.places.to.offset (p.places.to.offset + p.places.to.length - p.places.to.offset) before new))
 made p steps input before new n b within size there gets k is has = (
   Some new,
-  answered p steps input n (Some new) k within size (subst (λ (x : Bool). IsAnswered p steps (take (p.from.offset + p.from.length) input) n (outcome x new)) there gets) is has,
-  ap done (put_is p.to new before),
+  answered p steps input n (Some new) k within size (subst (λ (x : Bool). IsAnswered p steps (take (p.places.from.offset + p.places.from.length) input) n (outcome x new)) there gets) is has,
+  ap done (put_is p.places.to new before),
 )
 
 -- bytes that are put where they stood
-put_back : (p : Place) (before new : List ℕ) → new ≡ take (p.offset + p.length - p.offset) (drop p.offset before) → put_mid p.offset (p.offset + p.length - p.offset) before new ≡ before
+pub put_back : (p : Place) (before new : List ℕ) → new ≡ take (p.offset + p.length - p.offset) (drop p.offset before) → put_mid p.offset (p.offset + p.length - p.offset) before new ≡ before
 put_back p before new same =
     let count : ℕ = p.offset + p.length - p.offset in
     ap (λ (xs : List ℕ). put_mid p.offset count before xs) same
     ∙ ap (λ (xs : List ℕ). take p.offset before ++ xs) (take-append-drop count (drop p.offset before))
     ∙ take-append-drop p.offset before
 
-pub not_made : (p : PreparedMove) (steps : MoveSteps) (input before new : List ℕ) (n : ℕ) (b : Bool) → p.from.offset + p.from.length ≤ length input → n ≡ p.to.length → b ≡ false
-    → IsAnswered p steps (take (p.from.offset + p.from.length) input) n (outcome b new)
-    → (b ≡ false → new ≡ take (p.to.offset + p.to.length - p.to.offset) (drop p.to.offset before))
-    → IsMadeReady p steps input before (stopped (stop_at In p.from.offset NoValue) (put_mid p.to.offset (p.to.offset + p.to.length - p.to.offset) before new))
+pub not_made : (p : PreparedMove) (steps : MoveSteps) (input before new : List ℕ) (n : ℕ) (b : Bool) → p.places.from.offset + p.places.from.length ≤ length input → n ≡ p.places.to.length → b ≡ false
+    → IsAnswered p steps (take (p.places.from.offset + p.places.from.length) input) n (outcome b new)
+    → (b ≡ false → new ≡ take (p.places.to.offset + p.places.to.length - p.places.to.offset) (drop p.places.to.offset before))
+    → IsMadeReady p steps input before (stopped (stop_at In p.places.from.offset NoValue) (put_mid p.places.to.offset (p.places.to.offset + p.places.to.length - p.places.to.offset) before new))
 not_made p steps input before new n b within size there gets same k is has = (
   None,
-  answered p steps input n None k within size (subst (λ (x : Bool). IsAnswered p steps (take (p.from.offset + p.from.length) input) n (outcome x new)) there gets) is has,
-  ap (stopped (stop_at In p.from.offset NoValue)) (put_back p.to before new (same there)),
+  answered p steps input n None k within size (subst (λ (x : Bool). IsAnswered p steps (take (p.places.from.offset + p.places.from.length) input) n (outcome x new)) there gets) is has,
+  ap (stopped (stop_at In p.places.from.offset NoValue)) (put_back p.places.to before new (same there)),
 )

@@ -1,26 +1,33 @@
 -- Steps carried out one after another.
-use Rattle.std.proofs.Common.{◌≡◌, ℕ, ◌+◌, ◌<◌, ◌≤◌, List, [], ◌∷◌, ◌++◌, length, get_or, drop, refl, sym, ap, subst, ◌∙◌, arith, inl, inr}
+use Rattle.std.proofs.Common.{◌≡◌, ℕ, ◌+◌, ◌<◌, ◌≤◌, List, [], ◌∷◌, ◌++◌, length, get_or, drop, refl, sym, ap, subst, ◌∙◌, arith, inl, inr, Some}
 use Rattle.std.proofs.lemmas.List.{drop_all, drop_more}
 use Rattle.cob_codec.specs.declared.reading.Reading.{Reading}
+use Rattle.cob_copybook_tree.specs.declared.node.Kind.{Kind}
+use Rattle.cob_entry.specs.Described.{PlainValue}
 use Rattle.cob_layout.specs.Fields.{field_of, with_field}
 use Rattle.cob_layout.specs.Laws.{OneOfNeeded}
 use Rattle.cob_layout.specs.Storage.{greatest_length, IsStorage}
 use Rattle.cob_layout_places.specs.declared.operands.StatementMoves.{StatementMoves}
 use Rattle.cob_layout_places.specs.Moves.{Move, Records, moves_by}
 use Rattle.cob_move_apply.specs.Applied.{Applied, Ending, IsMoved, done, stopped}
-use Rattle.cob_move_apply.specs.Steps.{AreSteps, IsMoveOfPart, IsStep, StandFor, Support}
+use Rattle.cob_move_apply.specs.Made.{IsMadeConstant, IsMadeReady}
+use Rattle.cob_move_apply.specs.Steps.{AreSteps, IsConstantAt, IsMoveOfPart, IsPicturedPart, IsStep, StandFor, Support}
 use Rattle.cob_move_apply.specs.Surveyed.{IsWorkspace}
 use Rattle.cob_move_apply.specs.Written.{AreCopied, HasPlaces}
 use Rattle.cob_move_prepared.specs.Pool.{IsMoveStep, MoveKinds}
-use Rattle.cob_move_apply.specs.declared.step.CopyPlaces.{CopyPlaces}
+use Rattle.cob_move_prepared.specs.declared.constant_step.ConstantStep.{ConstantStep}
+use Rattle.cob_move_receive.specs.Received.{Received}
+use Rattle.cob_move_receive.specs.Sent.{Literal}
+use Rattle.cob_move_apply.specs.declared.step.ConstantMove.{ConstantMove}
+use Rattle.cob_move_apply.specs.declared.step.MovePlaces.{MovePlaces}
 use Rattle.cob_move_apply.specs.declared.step.Part.{Part}
+use Rattle.cob_move_apply.specs.declared.step.PicturedMove.{PicturedMove}
 use Rattle.cob_move_apply.specs.declared.step.PreparedMove.{PreparedMove}
 use Rattle.cob_move_apply.specs.declared.step.Step.{Step}
 use Rattle.cob_move_apply.specs.declared.step.Step.TheVariants as step
 use Rattle.cob_move_apply.specs.declared.stop.Stop.{Stop}
 use Rattle.cob_move_apply.specs.declared.workspace.Workspace.{Workspace}
 use Rattle.cob_move_apply.proofs.CopyLemmas.{survey_left}
-use Rattle.cob_move_apply.proofs.PreparedLemmas.{IsMadeReady}
 use Rattle.cob_move_apply.proofs.CutLemmas.{applied_both, applied_stopped, cut_moves}
 
 -- whatever the moves of the steps from place i on make of the storage now, all moves make of the storage before
@@ -78,15 +85,15 @@ stopped_part x r given steps on i p input before now after stop n moved =
 -- ---- a single move that was made ready
 
 pub the_prepared : (x : Reading) (r : Records) (given : List StatementMoves) (steps : List Step) (on : Support) (i : ℕ) (p : PreparedMove) (input before now : List ℕ)
-    → Next x r given steps on i (step.Prepared p) input before now → (k : MoveKinds) × IsMoveStep on.prepared k p.step × HasPlaces p k
+    → Next x r given steps on i (step.Prepared p) input before now → (k : MoveKinds) × IsMoveStep on.prepared k p.step × HasPlaces p.places k
 the_prepared x r given steps on i p input before now n = let (k, is, fixed) = n.is in (k, is, fixed.places)
 
 pub prepared_reads : (x : Reading) (r : Records) (given : List StatementMoves) (steps : List Step) (on : Support) (i : ℕ) (p : PreparedMove) (input before now : List ℕ)
-    → Next x r given steps on i (step.Prepared p) input before now → IsStorage r.input input → p.from.offset + p.from.length ≤ length input
+    → Next x r given steps on i (step.Prepared p) input before now → IsStorage r.input input → p.places.from.offset + p.places.from.length ≤ length input
 prepared_reads x r given steps on i p input before now n is = let (k, step_is, fixed) = n.is in fixed.reads input is
 
 pub prepared_within : (x : Reading) (r : Records) (given : List StatementMoves) (steps : List Step) (on : Support) (i : ℕ) (p : PreparedMove) (input before now : List ℕ)
-    → Next x r given steps on i (step.Prepared p) input before now → p.to.offset + p.to.length ≤ greatest_length r.output
+    → Next x r given steps on i (step.Prepared p) input before now → p.places.to.offset + p.places.to.length ≤ greatest_length r.output
 prepared_within x r given steps on i p input before now n = let (k, step_is, fixed) = n.is in fixed.within
 
 own_prepared : (x : Reading) (r : Records) (given : List StatementMoves) (steps : List Step) (on : Support) (i : ℕ) (p : PreparedMove) (input before now : List ℕ) (end : Ending)
@@ -109,17 +116,58 @@ pub stopped_prepared : (x : Reading) (r : Records) (given : List StatementMoves)
 stopped_prepared x r given steps on i p input before now after stop is size n made =
     n.so (stopped stop after) (applied_stopped r n.own n.more input now after stop (own_prepared x r given steps on i p input before now (stopped stop after) is size n made))
 
+-- ---- a part that was made ready where senders are read as their pictures say
+
+pub the_pictured : (x : Reading) (r : Records) (given : List StatementMoves) (steps : List Step) (on : Support) (i : ℕ) (q : PicturedMove) (p : Part) (input before now : List ℕ)
+    → Next x r given steps on i (step.Pictured q p) input before now → (m : Move) × IsPicturedPart x r given on.bases on.pictured q p m
+the_pictured x r given steps on i q p input before now n = let (m, same, part) = n.is in (m, part)
+
+pub left_pictured : (x : Reading) (r : Records) (given : List StatementMoves) (steps : List Step) (on : Support) (i : ℕ) (q : PicturedMove) (p : Part) (input before now after : List ℕ)
+    → Next x r given steps on i (step.Pictured q p) input before now → ((m : Move) → IsPicturedPart x r given on.bases on.pictured q p m → IsMoved r m input now (done after)) → Left x r given steps on (i + 1) input before after
+left_pictured x r given steps on i q p input before now after n moved =
+    let (m, same, part) = n.is in
+    (n.more, n.others, λ end h. n.so end (one_part r n.own m n.more input now end same (inl (after, moved m part, h))))
+
+pub stopped_pictured : (x : Reading) (r : Records) (given : List StatementMoves) (steps : List Step) (on : Support) (i : ℕ) (q : PicturedMove) (p : Part) (input before now after : List ℕ) (stop : Stop)
+    → Next x r given steps on i (step.Pictured q p) input before now → ((m : Move) → IsPicturedPart x r given on.bases on.pictured q p m → IsMoved r m input now (stopped stop after))
+    → Applied r (moves_by x r given) input before (stopped stop after)
+stopped_pictured x r given steps on i q p input before now after stop n moved =
+    let (m, same, part) = n.is in
+    n.so (stopped stop after) (one_part r n.own m n.more input now (stopped stop after) same (inr (stop, after, moved m part, refl)))
+
+-- ---- a constant that was made ready
+
+pub the_constant : (x : Reading) (r : Records) (given : List StatementMoves) (steps : List Step) (on : Support) (i : ℕ) (c : ConstantMove) (input before now : List ℕ)
+    → Next x r given steps on i (step.Constant c) input before now → (constant : PlainValue) × (to : Kind) × IsConstantAt on.constants c constant to
+the_constant x r given steps on i c input before now n = let (constant, to, at, fixed) = n.is in (constant, to, at)
+
+pub constant_within : (x : Reading) (r : Records) (given : List StatementMoves) (steps : List Step) (on : Support) (i : ℕ) (c : ConstantMove) (input before now : List ℕ)
+    → Next x r given steps on i (step.Constant c) input before now → c.to.offset + c.to.length ≤ greatest_length r.output
+constant_within x r given steps on i c input before now n = let (constant, to, at, fixed) = n.is in fixed.within
+
+own_constant : (x : Reading) (r : Records) (given : List StatementMoves) (steps : List Step) (on : Support) (i : ℕ) (c : ConstantMove) (input before now after : List ℕ)
+    → (n : Next x r given steps on i (step.Constant c) input before now) → IsMadeConstant c on.constants now after → Applied r n.own input now (done after)
+own_constant x r given steps on i c input before now after n made =
+    let (constant, to, at, fixed) = n.is in
+    let (written, received, same) = made constant to at in
+    subst (λ (s : List ℕ). Applied r n.own input now (done s)) (sym same) (fixed.ends input now written received)
+
+pub left_constant : (x : Reading) (r : Records) (given : List StatementMoves) (steps : List Step) (on : Support) (i : ℕ) (c : ConstantMove) (input before now after : List ℕ)
+    → Next x r given steps on i (step.Constant c) input before now → IsMadeConstant c on.constants now after → Left x r given steps on (i + 1) input before after
+left_constant x r given steps on i c input before now after n made =
+    (n.more, n.others, λ end h. n.so end (applied_both r n.own n.more input now after end (own_constant x r given steps on i c input before now after n made) h))
+
 -- ---- a copy
 
-pub the_copy : (x : Reading) (r : Records) (given : List StatementMoves) (steps : List Step) (on : Support) (i : ℕ) (c : CopyPlaces) (input before now : List ℕ)
+pub the_copy : (x : Reading) (r : Records) (given : List StatementMoves) (steps : List Step) (on : Support) (i : ℕ) (c : MovePlaces) (input before now : List ℕ)
     → (n : Next x r given steps on i (step.Copy c) input before now) → AreCopied r c.from c.to n.own
 the_copy x r given steps on i c input before now n = n.is
 
-pub copy_reads : (x : Reading) (r : Records) (given : List StatementMoves) (steps : List Step) (on : Support) (i : ℕ) (c : CopyPlaces) (input before now : List ℕ)
+pub copy_reads : (x : Reading) (r : Records) (given : List StatementMoves) (steps : List Step) (on : Support) (i : ℕ) (c : MovePlaces) (input before now : List ℕ)
     → Next x r given steps on i (step.Copy c) input before now → IsStorage r.input input → c.from.offset + c.from.length ≤ length input
 copy_reads x r given steps on i c input before now n is = (the_copy x r given steps on i c input before now n).reads input is
 
-pub left_copy : (x : Reading) (r : Records) (given : List StatementMoves) (steps : List Step) (on : Support) (i : ℕ) (c : CopyPlaces) (input before now after : List ℕ)
+pub left_copy : (x : Reading) (r : Records) (given : List StatementMoves) (steps : List Step) (on : Support) (i : ℕ) (c : MovePlaces) (input before now after : List ℕ)
     → IsStorage r.input input → length now ≡ greatest_length r.output → after ≡ with_field now c.to (field_of c.from input)
     → Next x r given steps on i (step.Copy c) input before now → Left x r given steps on (i + 1) input before after
 left_copy x r given steps on i c input before now after is size written n =
@@ -130,7 +178,7 @@ left_copy x r given steps on i c input before now after is size written n =
           (subst (λ (s : List ℕ). Applied r n.own input now (done s)) (sym written) (copied.are.written input now is size)) h),
     )
 
-pub space_copy : (x : Reading) (r : Records) (given : List StatementMoves) (steps : List Step) (on : Support) (i : ℕ) (c : CopyPlaces) (input before now after : List ℕ) (w : Workspace)
+pub space_copy : (x : Reading) (r : Records) (given : List StatementMoves) (steps : List Step) (on : Support) (i : ℕ) (c : MovePlaces) (input before now after : List ℕ) (w : Workspace)
     → IsStorage r.input input → length now ≡ greatest_length r.output → after ≡ with_field now c.to (field_of c.from input)
     → Next x r given steps on i (step.Copy c) input before now → IsWorkspace r input now w → IsWorkspace r input after w
 space_copy x r given steps on i c input before now after w is size written n space =

@@ -8,6 +8,7 @@ pub mod Told
 pub mod Written
 pub mod Joined
 pub mod Steps
+pub mod Made
 pub mod Planned
 pub mod Prepared
 pub mod Surveyed

@@ -1,23 +1,34 @@
 -- What plans are made from: statements, and the parts of their moves.
-use Rattle.std.specs.Prelude.{◌≡◌, ℕ, ◌+◌, ◌<◌, ◌≤◌, List, [], ◌∷◌, ◌++◌, length, get_or, map, Option, Some, None}
+use Rattle.std.specs.Prelude.{◌≡◌, ℕ, ◌+◌, ◌<◌, ◌≤◌, List, [], ◌∷◌, ◌++◌, length, get_or, map, Ok, Option, Some, None}
 use Rattle.cob_codec.specs.declared.reading.Reading.{Reading}
+use Rattle.cob_codec.specs.declared.reading.Reading.TheVariants.{Pictured}
+use Rattle.cob_copybook_tree.specs.declared.node.Kind.{Kind}
+use Rattle.cob_entry.specs.Described.{PlainValue, plain_value}
+use Rattle.cob_entry.specs.declared.value.Value.{Value}
 use Rattle.cob_limits.specs.Limits.{longest_record}
+use Rattle.cob_layout.specs.Counting.{ReadsNone, greatest_counts}
+use Rattle.cob_layout.specs.Placed.{placed_under}
+use Rattle.cob_layout.specs.Storage.{greatest_length}
 use Rattle.cob_layout_places.specs.declared.operands.PairMoves.{PairMoves}
 use Rattle.cob_layout_places.specs.declared.operands.Sender as code_sender
 use Rattle.cob_layout_places.specs.declared.operands.Side.TheVariants.{In}
 use Rattle.cob_layout_places.specs.declared.operands.StatementMoves.{StatementMoves}
 use Rattle.cob_layout_places.specs.declared.reference.Ref.{Ref}
-use Rattle.cob_layout_places.specs.Moves.{Entry, IsMove, Move, Records, numbered_move_by, operand_in, sender, sender_by}
+use Rattle.cob_layout_places.specs.Moves.{Entry, Literal, IsMove, Move, Records, numbered_move_by, operand_in, sender, sender_by}
 use Rattle.cob_move_apply.specs.Joined.{CopyEnds, copies_of, copy_ends, last_end, neither_varies, steps_behind}
-use Rattle.cob_move_apply.specs.Steps.{Gains, GainsCut, HasPart, IsPreparedMove, alone, pair_at, part_of}
-use Rattle.cob_move_apply.specs.Written.{AreCopied}
+use Rattle.cob_move_apply.specs.Steps.{Gains, GainsCut, HasPart, IsPicturedMove, IsPreparedMove, alone, pair_at, part_of}
+use Rattle.cob_move_apply.specs.Written.{AreCopied, IsFixedConstant}
+use Rattle.cob_move_prepared.specs.Copies.{IsConstantStep}
 use Rattle.cob_move_apply.specs.declared.step.Plan.{Plan}
 use Rattle.cob_move_apply.specs.declared.step.PreparedMove.{PreparedMove}
+use Rattle.cob_move_apply.specs.declared.step.PicturedMove.{PicturedMove}
+use Rattle.cob_move_prepared.specs.declared.pictured.PicturedSteps.{PicturedSteps}
 use Rattle.cob_move_prepared.specs.declared.pool.MoveSteps.{MoveSteps}
-use Rattle.cob_move_apply.specs.declared.step.CopyPlaces.{CopyPlaces}
+use Rattle.cob_move_apply.specs.declared.step.MovePlaces.{MovePlaces}
 use Rattle.cob_move_apply.specs.declared.step.Step.{Step}
 use Rattle.cob_move_apply.specs.declared.step.Step.TheVariants as step
 use Rattle.cob_move_apply.specs.declared.planning.Between.{Between}
+use Rattle.cob_move_apply.specs.declared.ready.ReadyConstant.{ReadyConstant}
 use Rattle.cob_move_apply.specs.declared.planning.StatementPart.{StatementPart}
 
 -- the records that a plan is made between
@@ -49,8 +60,17 @@ pub record IsPartIn (r : Records) (given : List StatementMoves) (p : StatementPa
   pub is : (reading : Reading) → meant reading r p ≡ part_of reading r statement p.first (length p.receivers.now)
   pub move : IsMove r (record { sender = sender r p.sender.now; receivers = map (operand_in r.output) p.receivers.now })
 
+-- both entries stand at these places in every storage of their records
+pub record AreFixedPlaces (r : Records) (sent receiver : Ref) (p : MovePlaces) : Type 0 where
+  pub sends_by_none : ReadsNone r.input sent.node false
+  pub sends : placed_under (greatest_counts r.input) r.input sent ≡ Some (Ok p.from)
+  pub sends_within : p.from.offset + p.from.length ≤ greatest_length r.input
+  pub receives_by_none : ReadsNone r.output receiver.node true
+  pub receives : placed_under (greatest_counts r.output) r.output receiver ≡ Some (Ok p.to)
+  pub receives_within : p.to.offset + p.to.length ≤ greatest_length r.output
+
 -- both places of a copy end within the longest record
-pub record AreWithinLongest (c : CopyPlaces) : Type 0 where
+pub record AreWithinLongest (c : MovePlaces) : Type 0 where
   pub from : c.from.offset + c.from.length ≤ longest_record
   pub to : c.to.offset + c.to.length ≤ longest_record
 
@@ -58,6 +78,8 @@ pub record AreWithinLongest (c : CopyPlaces) : Type 0 where
 abbrev pub step_count : Step → ℕ
 step_count (step.Part p) = p.count
 step_count (step.Prepared p) = 1
+step_count (step.Pictured q p) = 1
+step_count (step.Constant c) = 1
 step_count (step.Copy c) = 1
 
 -- for how many these are
@@ -69,6 +91,8 @@ counted_steps (s ∷ ss) = step_count s + counted_steps ss
 abbrev pub step_ends : Step → Option CopyEnds
 step_ends (step.Part p) = None
 step_ends (step.Prepared p) = None
+step_ends (step.Pictured q p) = None
+step_ends (step.Constant c) = None
 step_ends (step.Copy c) = Some (copy_ends c)
 
 -- where the last of these steps ends, if it is a copy
@@ -109,6 +133,10 @@ single_alone b s receiver reading = alone (sender_by reading (records_between b)
 abbrev pub entry_alone : Between → Ref → Ref → Reading → List Move
 entry_alone b sent receiver reading = copied_move reading (records_between b) sent receiver ∷ []
 
+-- the single move of a constant, by itself
+abbrev pub constant_alone : Between → Value → Ref → Reading → List Move
+constant_alone b value receiver reading = alone (Literal (plain_value value)) (operand_in b.output.now receiver) ∷ []
+
 -- Whatever the reading, a plan became another, with steps for these moves behind those before.
 abbrev pub AlwaysGains : Between → List StatementMoves → (Reading → List Move) → (before now : Plan) → Type 0
 AlwaysGains b given ms before now = (reading : Reading) → Gains reading (records_between b) given (ms reading) before now
@@ -122,9 +150,18 @@ abbrev pub AlwaysMore : Between → (Reading → List Move) → (before now : Li
 AlwaysMore b ms before now = (reading : Reading) → AreMore (records_between b) (ms reading) before now
 
 -- Whatever the reading, moves are a copy between these places.
-abbrev pub AlwaysCopied : Between → CopyPlaces → (Reading → List Move) → Type 0
+abbrev pub AlwaysCopied : Between → MovePlaces → (Reading → List Move) → Type 0
 AlwaysCopied b c ms = (reading : Reading) → AreCopied (records_between b) c.from c.to (ms reading)
 
 -- Whatever the reading, moves are a single one that was made ready so, by one of these steps.
 abbrev pub AlwaysPrepared : Between → MoveSteps → PreparedMove → (Reading → List Move) → Type 0
 AlwaysPrepared b steps p ms = (reading : Reading) → IsPreparedMove reading (records_between b) steps p (ms reading)
+
+-- Where senders are read as their pictures say, moves are a single one that was made ready so, by one of these steps.
+abbrev pub IsPictured : Between → PicturedSteps → PicturedMove → (Reading → List Move) → Type 0
+IsPictured b steps p ms = IsPicturedMove (records_between b) steps p (ms Pictured)
+
+-- Whatever the reading, moves are a single one of a constant that was made ready so.
+abbrev pub IsReady : Records → ReadyConstant → (Reading → List Move) → Type 0
+IsReady r one ms = (constant : PlainValue) × (to : Kind) × IsConstantStep constant to one.to.length one.step
+    × ((reading : Reading) → IsFixedConstant r one.to constant to (ms reading))

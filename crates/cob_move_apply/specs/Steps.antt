@@ -1,6 +1,9 @@
 -- Steps: what is carried out in the place of moves.
 use Rattle.std.specs.Prelude.{◌≡◌, ◌⊎◌, ℕ, ◌+◌, ◌<◌, ◌≤◌, List, [], ◌∷◌, ◌++◌, length, get_or, map, take, drop}
 use Rattle.cob_codec.specs.declared.reading.Reading.{Reading}
+use Rattle.cob_codec.specs.declared.reading.Reading.TheVariants.{Pictured}
+use Rattle.cob_copybook_tree.specs.declared.node.Kind.{Kind}
+use Rattle.cob_entry.specs.Described.{PlainValue}
 use Rattle.cob_layout_places.specs.declared.operands.Side.TheVariants.{In, Out}
 use Rattle.cob_layout_places.specs.declared.operands.Operand.{Operand}
 use Rattle.cob_layout_places.specs.declared.operands.Move as code_move
@@ -10,11 +13,17 @@ use Rattle.cob_layout_places.specs.declared.operands.StatementMoves.{StatementMo
 use Rattle.cob_layout_places.specs.declared.operands.StatementMoves.TheVariants.{Single, Pairs}
 use Rattle.cob_layout_places.specs.Moves.{Move, Records, Sender, Entry, Literal, numbered_move_by, operand_in, sender_by}
 use Rattle.cob_move_apply.specs.Placed.{IsPlacedMove}
-use Rattle.cob_move_apply.specs.Written.{AreCopied, IsFixedMove}
-use Rattle.cob_move_prepared.specs.Pool.{IsMoveStep, MoveKinds}
+use Rattle.cob_move_apply.specs.Written.{AreCopied, IsFixedConstant, IsFixedMove}
+use Rattle.cob_move_prepared.specs.Pictured.{IsPicturedStep}
+use Rattle.cob_move_prepared.specs.Copies.{IsConstantStep}
+use Rattle.cob_move_prepared.specs.Pool.{IsMoveStep, IsStepAt, MoveKinds}
+use Rattle.cob_move_prepared.specs.declared.constant_step.ConstantStep.{ConstantStep}
+use Rattle.cob_move_prepared.specs.declared.pictured.PicturedSteps.{PicturedSteps}
 use Rattle.cob_move_prepared.specs.declared.pool.MoveSteps.{MoveSteps}
 use Rattle.cob_move_apply.specs.declared.basis.Basis.{Basis}
+use Rattle.cob_move_apply.specs.declared.step.ConstantMove.{ConstantMove}
 use Rattle.cob_move_apply.specs.declared.step.Part.{Part}
+use Rattle.cob_move_apply.specs.declared.step.PicturedMove.{PicturedMove}
 use Rattle.cob_move_apply.specs.declared.step.Plan.{Plan}
 use Rattle.cob_move_apply.specs.declared.step.PreparedMove.{PreparedMove}
 use Rattle.cob_move_apply.specs.declared.step.Step.{Step}
@@ -53,23 +62,45 @@ pub record IsMoveOfPart (reading : Reading) (r : Records) (given : List Statemen
   pub within : p.base ≤ length bases
   pub placed : BeginsWith r m (drop p.base bases)
 
--- what steps rest on: the bases of the operands of parts, and the single moves that were made ready
+-- what steps rest on: the bases of the operands of parts, and the single moves that were made ready, whatever the reading or as pictures say, and the
+-- constants
 pub record Support : Type 0 where
   pub bases : List Basis
   pub prepared : MoveSteps
+  pub pictured : PicturedSteps
+  pub constants : List ConstantStep
 
 -- what the steps of a plan rest on
 abbrev pub support_of : Plan → Support
-support_of plan = record { bases = plan.bases.items; prepared = plan.prepared }
+support_of plan = record { bases = plan.bases.items; prepared = plan.prepared; pictured = plan.pictured; constants = plan.constants.items }
 
 -- these are a single move that was made ready so, by one of these steps
 abbrev pub IsPreparedMove : Reading → Records → MoveSteps → PreparedMove → List Move → Type 0
-IsPreparedMove reading r steps p own = (k : MoveKinds) × IsMoveStep steps k p.step × IsFixedMove reading r p k own
+IsPreparedMove reading r steps p own = (k : MoveKinds) × IsMoveStep steps k p.step × IsFixedMove reading r p.places k own
 
--- a step stands for these moves: for one part, for a single move that was made ready, or for those that are a copy
+-- these, their sender read as its picture says, are a single move that was made ready so, by one of these steps
+abbrev pub IsPicturedMove : Records → PicturedSteps → PicturedMove → List Move → Type 0
+IsPicturedMove r steps p own = (k : MoveKinds) × IsPicturedStep steps k p.step × IsFixedMove Pictured r p.places k own
+
+-- a move is a part of a statement's moves, and where senders are read as their pictures say it was made ready so
+abbrev pub IsPicturedPart : Reading → Records → List StatementMoves → List Basis → PicturedSteps → PicturedMove → Part → Move → Type 0
+IsPicturedPart reading r given bases steps q p m = IsMoveOfPart reading r given bases p m × (reading ≡ Pictured → IsPicturedMove r steps q (m ∷ []))
+
+-- what writes the constants of moves has the one that is meant at the number of a move that was made ready, for all bytes of its receiver
+abbrev pub IsConstantAt : List ConstantStep → ConstantMove → PlainValue → Kind → Type 0
+IsConstantAt steps c constant to = IsStepAt ConstantStep (λ step. IsConstantStep constant to c.to.length step) steps c.number
+
+-- these are a single move of a constant that was made ready so, by one of these
+abbrev pub IsConstantMove : Records → List ConstantStep → ConstantMove → List Move → Type 0
+IsConstantMove r steps c own = (constant : PlainValue) × (to : Kind) × IsConstantAt steps c constant to × IsFixedConstant r c.to constant to own
+
+-- a step stands for these moves: for one part, for a single move that was made ready, whatever the reading or as pictures say, or of a constant, or for
+-- those that are a copy
 abbrev pub IsStep : Reading → Records → List StatementMoves → Support → Step → List Move → Type 0
 IsStep reading r given on (step.Part p) own = (m : Move) × (own ≡ m ∷ []) × IsMoveOfPart reading r given on.bases p m
 IsStep reading r given on (step.Prepared p) own = IsPreparedMove reading r on.prepared p own
+IsStep reading r given on (step.Pictured q p) own = (m : Move) × (own ≡ m ∷ []) × IsPicturedPart reading r given on.bases on.pictured q p m
+IsStep reading r given on (step.Constant c) own = IsConstantMove r on.constants c own
 IsStep reading r given on (step.Copy places) own = AreCopied r places.from places.to own
 
 -- steps stand for these moves, one step's behind another's

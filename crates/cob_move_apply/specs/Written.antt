@@ -1,8 +1,11 @@
 -- What moves write at a place that is the same in every storage, and how a single move between two such places ends.
 use Rattle.std.specs.Prelude.{◌≡◌, ℕ, ◌+◌, ◌≤◌, List, length, Ok, Option, Some, None}
 use Rattle.cob_codec.specs.declared.reading.Reading.{Reading}
+use Rattle.cob_codec.specs.declared.reading.Reading.TheVariants.{Pictured}
+use Rattle.cob_copybook_tree.specs.declared.node.Kind.{Kind}
 use Rattle.cob_copybook_tree.specs.Forests.{Forest}
 use Rattle.cob_copybook_tree.specs.Nodes.{Resolved}
+use Rattle.cob_entry.specs.Described.{PlainValue}
 use Rattle.cob_layout.specs.declared.fields.Place.{Place}
 use Rattle.cob_layout.specs.Fields.{field_of, with_field}
 use Rattle.cob_layout.specs.Counting.{CountsOf}
@@ -14,7 +17,7 @@ use Rattle.cob_move_receive.specs.Received.{Received}
 use Rattle.cob_move_receive.specs.Sent as sent
 use Rattle.cob_move_apply.specs.Applied.{Applied, Ending, done, stopped}
 use Rattle.cob_move_apply.specs.Located.{stop_at}
-use Rattle.cob_move_apply.specs.declared.step.PreparedMove.{PreparedMove}
+use Rattle.cob_move_apply.specs.declared.step.MovePlaces.{MovePlaces}
 use Rattle.cob_move_apply.specs.declared.stop.StopCause.TheVariants.{NoValue}
 
 -- Whatever bytes come to this place, the counts of a storage stay as they are.
@@ -44,23 +47,32 @@ pub record IsBoth (front next both : Place) : Type 0 where
 
 -- How a single move between the places of an input and an output record ends: the receiver's bytes stand in their place, or the sender has no value,
 -- and the move stops there.
-abbrev pub received_at : PreparedMove → List ℕ → Option (List ℕ) → Ending
+abbrev pub received_at : MovePlaces → List ℕ → Option (List ℕ) → Ending
 received_at p before (Some bytes) = done (with_field before p.to bytes)
 received_at p before None = stopped (stop_at In p.from.offset NoValue) before
 
 -- these kinds have as many bytes as the places
-pub record HasPlaces (p : PreparedMove) (k : MoveKinds) : Type 0 where
+pub record HasPlaces (p : MovePlaces) (k : MoveKinds) : Type 0 where
   pub sent : k.sent ≡ p.from.length
   pub received : k.received ≡ p.to.length
 
 -- what the receiver holds after the move, or none, whatever the reading
-abbrev pub IsReceivedFrom : PreparedMove → MoveKinds → List ℕ → Option (List ℕ) → Type 0
+abbrev pub IsReceivedFrom : MovePlaces → MoveKinds → List ℕ → Option (List ℕ) → Type 0
 IsReceivedFrom p k input outcome = (reading : Reading) → Received (sent.Entry k.sender (field_of p.from input) reading) k.receiver k.received outcome
 
+-- what the receiver holds after the move of the sender, read as its picture says, or none
+abbrev pub IsReceivedPicturedFrom : MovePlaces → MoveKinds → List ℕ → Option (List ℕ) → Type 0
+IsReceivedPicturedFrom p k input outcome = Received (sent.Entry k.sender (field_of p.from input) Pictured) k.receiver k.received outcome
+
 -- Moves are the single move of an entry of the input record to one of the output record, each of which stands at its place in every storage.
-pub record IsFixedMove (reading : Reading) (r : Records) (p : PreparedMove) (k : MoveKinds) (ms : List Move) : Type 0 where
+pub record IsFixedMove (reading : Reading) (r : Records) (p : MovePlaces) (k : MoveKinds) (ms : List Move) : Type 0 where
   pub places : HasPlaces p k
   pub reads : (input : List ℕ) → IsStorage r.input input → p.from.offset + p.from.length ≤ length input
   pub within : p.to.offset + p.to.length ≤ greatest_length r.output
   pub ends : (input before : List ℕ) (outcome : Option (List ℕ)) → IsStorage r.input input → length before ≡ greatest_length r.output
       → Received (sent.Entry k.sender (field_of p.from input) reading) k.receiver k.received outcome → Applied r ms input before (received_at p before outcome)
+
+-- Moves are the single move of a constant to an entry of the output record that stands at its place in every storage.
+pub record IsFixedConstant (r : Records) (to : Place) (constant : PlainValue) (k : Kind) (ms : List Move) : Type 0 where
+  pub within : to.offset + to.length ≤ greatest_length r.output
+  pub ends : (input before written : List ℕ) → Received (sent.Literal constant) k to.length (Some written) → Applied r ms input before (done (with_field before to written))

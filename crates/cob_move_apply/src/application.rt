@@ -5,16 +5,19 @@ ghost use Rattle.cob_layout.specs.Sound.{IsSound};
 ghost use Rattle.cob_layout.specs.Storage.{greatest_length, IsStorage};
 ghost use Rattle.cob_layout_places.specs.Moves.{Move as Meant, moves_by};
 ghost use Rattle.cob_move_apply.specs.Applied.{Applied, IsMoved, ending};
-ghost use Rattle.cob_move_apply.specs.Steps.{IsMoveOfPart, StandFor, support_of};
+ghost use Rattle.cob_move_apply.specs.Steps.{IsMoveOfPart, IsPicturedPart, StandFor, support_of};
 ghost use Rattle.cob_move_apply.specs.Surveyed.{HasSpace, IsWorkspace, records};
 
 use crate::basis::{Basis, PlacedReceivers};
+use crate::constant::make_constant;
 use crate::pairs::make_pair_move;
+use crate::pictured::run_pictured;
 use crate::prepared::make_prepared;
 use crate::senders::make_move;
-use crate::step::{Part, Plan, Step, copy_across};
+use crate::step::{Part, PicturedMove, Plan, Step, copy_across};
 use crate::stop::Stop;
 use crate::workspace::{Layouts, Workspace};
+use cob_codec::Reading;
 use cob_layout::one_outcome_of_counts;
 use cob_layout_places::StatementMoves;
 
@@ -71,6 +74,43 @@ fn make_part(
     }
 }
 
+/// Carries out a single move that was made ready where senders are read as their pictures say; else it is this part of the moves of a statement.
+///
+/// # Errors
+///
+/// The first thing missing. The storage is as it was then.
+#[inline(always)]
+fn make_pictured(
+    given: &[StatementMoves],
+    plan: &Plan,
+    one: PicturedMove,
+    part: Part,
+    layouts: &Layouts<'_>,
+    input: &[u8],
+    output: &mut [u8],
+    space: &mut Workspace,
+) -> Result<(), Stop>
+    requires in_sound { IsSound layouts.now.input.now }
+    requires out_sound { IsSound layouts.now.output.now }
+    requires part { (m : Meant) × IsPicturedPart layouts.now.reading (records layouts.now)
+        given.now plan.now.bases.items plan.now.pictured one part m }
+    requires input { IsStorage layouts.now.input.now input.now }
+    requires output { length output.old ≡ greatest_length layouts.now.output.now }
+    requires space { IsWorkspace (records layouts.now) input.now output.old space.old }
+    ensures moved { (m : Meant) → IsPicturedPart layouts.now.reading (records layouts.now)
+        given.now plan.now.bases.items plan.now.pictured one part m
+        → IsMoved (records layouts.now) m input.now output.old (ending result output.new) }
+    ensures space { IsWorkspace (records layouts.now) input.now output.new space.new }
+{
+    match layouts.reading {
+        Reading::Pictured => run_pictured(&plan.pictured, one, layouts, input, output, space),
+        Reading::Whole => {
+            let bases = plan.bases.as_slice();
+            make_part(given, bases, part, layouts, input, output, space)
+        }
+    }
+}
+
 /// Carries out the steps of the plan of moves, in order.
 ///
 /// # Errors
@@ -107,6 +147,10 @@ pub(crate) fn apply_in(
             Step::Prepared(one) => {
                 make_prepared(&plan.prepared, one, layouts, input, output, space)?
             }
+            Step::Pictured(one, part) => {
+                make_pictured(given, plan, one, part, layouts, input, output, space)?
+            }
+            Step::Constant(one) => make_constant(plan, one, layouts, input, output, space),
             Step::Copy(places) => copy_across(places, input, output),
         }
     }

@@ -15,8 +15,9 @@
 //!
 //! The moves are carried out by steps that stand for them (`StandFor` of specs/Steps.antt), each chosen when they are made ready. Single moves that are
 //! plain copies, each beginning on both sides where the one before ends, are one copy (`AreCopied` of specs/Written.antt); a single move between two
-//! places that no count decides is made ready, where cob_move_prepared has a step for it (`IsFixedMove`); a part of a statement's moves is looked at
-//! as it is carried out. Only moves whose sender no receiver changes are cut into their single moves (`IsMoveCut`), so that what the
+//! places that no count decides is made ready, where cob_move_prepared has a step for it (`IsFixedMove`), whatever the reading of binary senders or where they
+//! are read as their pictures say; so is a single move of a constant to such a place (`IsFixedConstant`); a part of a statement's moves is looked at as it
+//! is carried out. Only moves whose sender no receiver changes are cut into their single moves (`IsMoveCut`), so that what the
 //! steps make of a storage is what the moves make.
 //!
 //! A place that depends on counts is found by all counts of the storage, where the operand is spared none of them and all are valid: they are
@@ -28,13 +29,16 @@
 
 mod application;
 mod basis;
+mod constant;
 mod laws;
 mod moves;
 mod pairs;
+mod pictured;
 mod places;
 mod planning;
 mod preparation;
 mod prepared;
+mod ready;
 mod receivers;
 mod scratch;
 mod senders;

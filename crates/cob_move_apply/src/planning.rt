@@ -25,9 +25,8 @@ ghost use Rattle.cob_layout_places.specs.declared.operands.Side.TheVariants.{In}
 ghost use Rattle.cob_layout_places.specs.declared.operands.StatementMoves.{StatementMoves as Said};
 ghost use Rattle.cob_layout_places.specs.declared.operands.StatementMoves.TheVariants.{Pairs, Single};
 ghost use Rattle.cob_move_apply.specs.Joined.{begun, copy_ends, neither_varies, plain_copy, steps_in};
-ghost use Rattle.cob_move_apply.specs.Planned.{AlwaysCopied, AlwaysGains, AlwaysGainsCut, AlwaysMore, AlwaysPrepared, AreBetween, AreMore, AreWithinLongest, HasOneMore, IsPartIn, IsStatementAt, records_between, counted_steps, entry_alone, last_step_ends, pair_alone, part_alone, single_alone, step_count, step_ends};
+ghost use Rattle.cob_move_apply.specs.Planned.{AlwaysCopied, AlwaysGains, AlwaysGainsCut, AlwaysMore, AreBetween, AreMore, AreWithinLongest, HasOneMore, IsPartIn, IsPictured, IsReady, IsStatementAt, records_between, counted_steps, entry_alone, last_step_ends, pair_alone, part_alone, single_alone, step_count, step_ends};
 ghost use Rattle.cob_move_apply.specs.Steps.{AreSteps, Gains, GainsCut, IsSteady, IsStep, StandFor, Support, alone, pair_at, singles_of, support_of};
-ghost use Rattle.cob_move_prepared.specs.Pool.{KeepsSteps};
 ghost use Rattle.cob_move_apply.specs.Written.{AreCopied};
 ghost use Rattle.cob_move_apply.specs.declared.step.Part as code_part;
 ghost use Rattle.cob_move_apply.specs.declared.step.Step.TheVariants.{Part as StepPart};
@@ -35,10 +34,11 @@ ghost use Rattle.cob_move_apply.specs.declared.step.Step.TheVariants.{Part as St
 use crate::basis::entry_kind;
 use crate::pairs::entry_below;
 use crate::preparation::push_bases;
-use crate::step::{CopyPlaces, Part, Plan, PreparedMove, Step, both_copies};
+use crate::ready::{ReadyConstant, constant_of, pictured_of, prepared_of};
+use crate::step::{ConstantMove, MovePlaces, Part, PicturedMove, Plan, Step, both_copies};
 use cob_layout::{Layout, Ref, places_lie_in_storage, records_are_sound, tables};
 use cob_layout_places::{Move, PairMoves, Sender, Side, StatementMoves};
-use cob_move_prepared::MoveSteps;
+use cob_move_prepared::{MoveSteps, PicturedSteps};
 use cob_move_receive::copies_bytes;
 use std::alloc::{AllocError, Global};
 use std::slice;
@@ -50,6 +50,8 @@ pub(crate) struct Between<'a> {
     pub(crate) output: &'a Layout,
     /// Whether neither record has a table that varies.
     pub(crate) is_fixed: bool,
+    /// Where plans take memory from.
+    pub(crate) alloc: Global,
 }
 
 /// A sender, and some of its receivers in a statement, or those of one of its pairs.
@@ -76,7 +78,7 @@ fn neither_varies(alloc: Global, input: &Layout, output: &Layout) -> Result<bool
 }
 
 /// The places of a plain copy from an entry of the input record to one of the output record; None where the move is no such copy.
-fn plain_copy(sent: &Ref, receiver: &Ref, both: &Between<'_>) -> Option<CopyPlaces>
+fn plain_copy(sent: &Ref, receiver: &Ref, both: &Between<'_>) -> Option<MovePlaces>
     requires fixed { neither_varies (records_between both.now) ≡ true }
     requires sent { IsOperand both.now.input.now (operand_in both.now.input.now sent.now) }
     requires receiver { IsOperand both.now.output.now
@@ -97,14 +99,14 @@ fn plain_copy(sent: &Ref, receiver: &Ref, both: &Between<'_>) -> Option<CopyPlac
     let sends = entry_kind(both.input, sent);
     let receives = entry_kind(both.output, receiver);
     if from.length == to.length && copies_bytes(sends, receives) {
-        Some(CopyPlaces { from, to })
+        Some(MovePlaces { from, to })
     } else {
         None
     }
 }
 
 /// The places of the copy that a single move is, where it is a plain one and neither record has a table that varies.
-fn copy_of(given: &Sender, receiver: &Ref, both: &Between<'_>) -> Option<CopyPlaces>
+fn copy_of(given: &Sender, receiver: &Ref, both: &Between<'_>) -> Option<MovePlaces>
     requires both { AreBetween both.now }
     requires legal { IsMove (records_between both.now)
         (alone (sender (records_between both.now) given.now)
@@ -128,74 +130,8 @@ fn copy_of(given: &Sender, receiver: &Ref, both: &Between<'_>) -> Option<CopyPla
     }
 }
 
-/// The single move of an entry of the input record to one of the output record, made ready; None where one of them doesn't stand at one place in
-/// every storage, or nothing carries such moves out.
-///
-/// # Errors
-///
-/// Where no memory is left.
-fn prepared_entry(
-    sent: &Ref,
-    receiver: &Ref,
-    both: &Between<'_>,
-    prepared: &mut MoveSteps,
-) -> Result<Option<PreparedMove>, AllocError>
-    requires sent { IsOperand both.now.input.now (operand_in both.now.input.now sent.now) }
-    requires receiver { IsOperand both.now.output.now
-        (operand_in both.now.output.now receiver.now) }
-    ensures step { IfOk result (λ found. IfSome found
-        (λ one. AlwaysPrepared both.now prepared.new one
-        (entry_alone both.now sent.now receiver.now))) }
-    ensures kept { KeepsSteps prepared.old prepared.new }
-{
-    places_lie_in_storage();
-    records_are_sound();
-    let _ = both.input.greatest();
-    let _ = both.output.greatest();
-    let Some(from) = both.input.fixed_place(sent, false) else {
-        return Ok(None);
-    };
-    let Some(to) = both.output.fixed_place(receiver, true) else {
-        return Ok(None);
-    };
-    let sends = entry_kind(both.input, sent);
-    let receives = entry_kind(both.output, receiver);
-    match prepared.prepare(sends, from.length, receives, to.length)? {
-        Some(step) => Ok(Some(PreparedMove { from, to, step })),
-        None => Ok(None),
-    }
-}
-
-/// A single move, made ready; None where nothing carries it out.
-///
-/// # Errors
-///
-/// Where no memory is left.
-fn prepared_of(
-    given: &Sender,
-    receiver: &Ref,
-    both: &Between<'_>,
-    prepared: &mut MoveSteps,
-) -> Result<Option<PreparedMove>, AllocError>
-    requires legal { IsMove (records_between both.now)
-        (alone (sender (records_between both.now) given.now)
-        (operand_in both.now.output.now receiver.now)) }
-    ensures step { IfOk result (λ found. IfSome found
-        (λ one. AlwaysPrepared both.now prepared.new one
-        (single_alone both.now given.now receiver.now))) }
-    ensures kept { KeepsSteps prepared.old prepared.new }
-{
-    match given {
-        Sender::Entry { side, entry } => match *side {
-            Side::In => prepared_entry(entry, receiver, both, prepared),
-            Side::Out => Ok(None),
-        },
-        Sender::Constant(_) => Ok(None),
-    }
-}
-
 /// A step and a copy behind it as one copy, where the step is a copy that ends on both sides where the other begins.
-fn joined(last: Step, places: CopyPlaces) -> Option<Step>
+fn joined(last: Step, places: MovePlaces) -> Option<Step>
     requires short { AreWithinLongest places }
     ensures copied { IfSome result (λ both. (reading : Reading) (r : Records) (given : List Said)
         (on : Support) (own next : List Meant)
@@ -207,7 +143,7 @@ fn joined(last: Step, places: CopyPlaces) -> Option<Step>
     ensures none { IfNone result (begun (step_ends last) (Some places) ≡ 1) }
 {
     match last {
-        Step::Part(_) | Step::Prepared(_) => None,
+        Step::Part(_) | Step::Prepared(_) | Step::Pictured(_, _) | Step::Constant(_) => None,
         Step::Copy(front) => Some(Step::Copy(both_copies(front, places)?)),
     }
 }
@@ -217,7 +153,7 @@ fn joined(last: Step, places: CopyPlaces) -> Option<Step>
 /// # Errors
 ///
 /// Where no memory is left.
-fn push_copy(places: CopyPlaces, steps: &mut Vec<Step>) -> Result<(), AllocError>
+fn push_copy(places: MovePlaces, steps: &mut Vec<Step>) -> Result<(), AllocError>
     requires short { AreWithinLongest places }
     ensures steps { OnOk result ((reading : Reading) (r : Records) (given : List Said)
         (on : Support) (parts next : List Meant)
@@ -276,6 +212,111 @@ fn push_part(
     Ok(())
 }
 
+/// Puts the step of the move of a constant that was made ready behind those so far.
+///
+/// # Errors
+///
+/// Where no memory is left.
+fn push_constant(one: ReadyConstant, plan: &mut Plan) -> Result<(), AllocError>
+    ensures gains { OnOk result ((reading : Reading) (r : Records) (given : List Said)
+        (ms : Reading → List Meant) → IsReady r one ms
+        → Gains reading r given (ms reading) plan.old plan.new) }
+    ensures added { OnOk result (HasOneMore plan.old.steps.items plan.new.steps.items) }
+{
+    let to = one.to;
+    let number = plan.constants.len();
+    plan.constants.push(one.step)?;
+    plan.steps
+        .push(Step::Constant(ConstantMove { to, number }))?;
+    Ok(())
+}
+
+/// Puts the step of a single move of which no sender's bytes are read ahead behind those so far: of a constant made ready, if something carries it
+/// out, and else as a part.
+///
+/// # Errors
+///
+/// Where no memory is left.
+fn push_rest(
+    given: &[StatementMoves],
+    part: &StatementPart<'_>,
+    both: &Between<'_>,
+    plan: &mut Plan,
+) -> Result<(), AllocError>
+    requires part { IsPartIn (records_between both.now) given.now part.now }
+    requires one { length part.now.receivers.now ≡ 1 }
+    ensures gains { OnOk result (AlwaysGains both.now given.now
+        (part_alone both.now part.now) plan.old plan.new) }
+    ensures added { OnOk result (HasOneMore plan.old.steps.items plan.new.steps.items) }
+{
+    let receiver = &part.receivers[0];
+    match constant_of(part.sender, receiver, both)? {
+        Some(one) => push_constant(one, plan),
+        None => push_part(given, part, both, plan),
+    }
+}
+
+/// Puts a part behind the steps so far that was made ready where senders are read as their pictures say.
+///
+/// # Errors
+///
+/// Where no memory is left.
+fn push_pictured(
+    given: &[StatementMoves],
+    part: &StatementPart<'_>,
+    one: PicturedMove,
+    both: &Between<'_>,
+    plan: &mut Plan,
+) -> Result<(), AllocError>
+    requires part { IsPartIn (records_between both.now) given.now part.now }
+    requires pictured { IsPictured both.now plan.old.pictured one (part_alone both.now part.now) }
+    ensures gains { OnOk result (AlwaysGains both.now given.now
+        (part_alone both.now part.now) plan.old plan.new) }
+    ensures added { OnOk result (HasOneMore plan.old.steps.items plan.new.steps.items) }
+{
+    let base = plan.bases.len();
+    push_bases(
+        part.sender,
+        part.receivers,
+        both.input,
+        both.output,
+        &mut plan.bases,
+    )?;
+    let whole = Part {
+        statement: part.statement,
+        first: part.first,
+        count: part.receivers.len(),
+        base,
+    };
+    plan.steps.push(Step::Pictured(one, whole))?;
+    Ok(())
+}
+
+/// Puts the step of a single move that nothing carries out whatever the reading behind those so far: made ready where senders are read as their
+/// pictures say, if something carries it out then, and else like others.
+///
+/// # Errors
+///
+/// Where no memory is left.
+fn push_read(
+    given: &[StatementMoves],
+    part: &StatementPart<'_>,
+    both: &Between<'_>,
+    plan: &mut Plan,
+) -> Result<(), AllocError>
+    requires part { IsPartIn (records_between both.now) given.now part.now }
+    requires one { length part.now.receivers.now ≡ 1 }
+    ensures gains { OnOk result (AlwaysGains both.now given.now
+        (part_alone both.now part.now) plan.old plan.new) }
+    ensures added { OnOk result (HasOneMore plan.old.steps.items plan.new.steps.items) }
+{
+    let receiver = &part.receivers[0];
+    match pictured_of(part.sender, receiver, both, &mut plan.pictured)? {
+        Some(one) => push_pictured(given, part, one, both, plan),
+        None => push_rest(given, part, both, plan),
+    }
+}
+
 /// Puts the step of a single move that is no plain copy behind those so far: made ready, where something carries it out, and else as a part.
 ///
 /// # Errors
@@ -299,7 +340,7 @@ fn push_other(
             plan.steps.push(Step::Prepared(one))?;
             Ok(())
         }
-        None => push_part(given, part, both, plan),
+        None => push_read(given, part, both, plan),
     }
 }
 
@@ -535,11 +576,14 @@ pub(crate) fn plan_of(
         input,
         output,
         is_fixed: neither_varies(alloc, input, output)?,
+        alloc,
     };
     let mut plan = Plan {
         steps: Vec::with_capacity(alloc, given.len())?,
         bases: Vec::new(alloc),
         prepared: MoveSteps::new(alloc),
+        pictured: PicturedSteps::new(alloc),
+        constants: Vec::new(alloc),
     };
     for number in 0..given.len() {
         push_statement(given, number, &both, &mut plan)?;

@@ -1,10 +1,11 @@
 //! Single moves that were made ready, carried out.
 
-ghost use Rattle.std.specs.Prelude.{◌≡◌, ◌+◌, ◌≤◌, List, ℕ, Option, length};
+ghost use Rattle.std.specs.Prelude.{◌≡◌, ◌+◌, ◌≤◌, length};
 ghost use Rattle.cob_layout.specs.Storage.{greatest_length};
 ghost use Rattle.cob_move_apply.specs.Applied.{ending};
 ghost use Rattle.cob_move_apply.specs.Surveyed.{IsWorkspace, records};
-ghost use Rattle.cob_move_apply.specs.Written.{HasPlaces, IsReceivedFrom, received_at};
+ghost use Rattle.cob_move_apply.specs.Made.{IsMadeReady};
+ghost use Rattle.cob_move_apply.specs.Written.{HasPlaces};
 ghost use Rattle.cob_move_prepared.specs.Pool.{IsMoveStep, MoveKinds};
 
 use crate::step::PreparedMove;
@@ -27,26 +28,27 @@ pub(crate) fn make_prepared(
     output: &mut [u8],
     space: &mut Workspace,
 ) -> Result<(), Stop>
-    requires step { (k : MoveKinds) × IsMoveStep prepared.now k one.step × HasPlaces one k }
-    requires reads { one.from.offset + one.from.length ≤ length input.now }
-    requires writes { one.to.offset + one.to.length ≤ greatest_length layouts.now.output.now }
+    requires step { (k : MoveKinds) × IsMoveStep prepared.now k one.step × HasPlaces one.places k }
+    requires reads { one.places.from.offset + one.places.from.length ≤ length input.now }
+    requires writes { one.places.to.offset + one.places.to.length
+        ≤ greatest_length layouts.now.output.now }
     requires output { length output.old ≡ greatest_length layouts.now.output.now }
     requires space { IsWorkspace (records layouts.now) input.now output.old space.old }
-    ensures made { (k : MoveKinds) → IsMoveStep prepared.now k one.step → HasPlaces one k
-        → (outcome : Option (List ℕ)) × IsReceivedFrom one k input.now outcome
-        × (ending result output.new ≡ received_at one output.old outcome) }
+    ensures made { IsMadeReady one prepared.now input.now output.old (ending result output.new) }
     ensures space { IsWorkspace (records layouts.now) input.now output.new space.new }
 {
-    let sent = one.from.offset as usize + one.from.length as usize;
-    let start = one.to.offset as usize;
-    let end = start + one.to.length as usize;
+    let from = one.places.from;
+    let to = one.places.to;
+    let sent = from.offset as usize + from.length as usize;
+    let start = to.offset as usize;
+    let end = start + to.length as usize;
     if prepared.run(one.step, &input[..sent], &mut output[start..end]) {
-        space.output.change(layouts.output, one.to);
+        space.output.change(layouts.output, to);
         Ok(())
     } else {
         Err(Stop {
             side: Side::In,
-            offset: one.from.offset,
+            offset: from.offset,
             cause: StopCause::NoValue,
         })
     }

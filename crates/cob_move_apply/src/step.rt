@@ -10,7 +10,7 @@ ghost use Rattle.cob_move_apply.specs.Written.{IsBoth};
 
 use crate::basis::Basis;
 use cob_layout::{Place, field};
-use cob_move_prepared::{MoveStep, MoveSteps};
+use cob_move_prepared::{ConstantStep, MoveStep, MoveSteps, PicturedStep, PicturedSteps, copy_all};
 
 /// A part of the moves of a statement: its one move with so many of the receivers, or the move of one pair.
 #[derive(Clone, Copy, Debug)]
@@ -25,9 +25,9 @@ pub(crate) struct Part {
     pub(crate) base: usize,
 }
 
-/// Where bytes are copied from in the input record, and to in the output record.
+/// Where a move takes bytes from in the input record, and where it puts bytes in the output record.
 #[derive(Clone, Copy, Debug)]
-pub(crate) struct CopyPlaces {
+pub(crate) struct MovePlaces {
     pub(crate) from: Place,
     pub(crate) to: Place,
 }
@@ -35,12 +35,28 @@ pub(crate) struct CopyPlaces {
 /// A single move between two places that are the same in every storage, made ready.
 #[derive(Clone, Copy, Debug)]
 pub(crate) struct PreparedMove {
-    /// Where the sender stands in the input record.
-    pub(crate) from: Place,
-    /// Where the receiver stands in the output record.
-    pub(crate) to: Place,
+    /// Where the sender and the receiver stand.
+    pub(crate) places: MovePlaces,
     /// What carries the move out.
     pub(crate) step: MoveStep,
+}
+
+/// A single move between two such places, made ready where its sender is read as its picture says.
+#[derive(Clone, Copy, Debug)]
+pub(crate) struct PicturedMove {
+    /// Where the sender and the receiver stand.
+    pub(crate) places: MovePlaces,
+    /// What carries the move out.
+    pub(crate) step: PicturedStep,
+}
+
+/// A single move of a constant to a place that is the same in every storage, made ready.
+#[derive(Clone, Copy, Debug)]
+pub(crate) struct ConstantMove {
+    /// Where the receiver stands in the output record.
+    pub(crate) to: Place,
+    /// The number of what writes its bytes.
+    pub(crate) number: usize,
 }
 
 /// What is carried out at once.
@@ -50,8 +66,12 @@ pub(crate) enum Step {
     Part(Part),
     /// A single move was made ready.
     Prepared(PreparedMove),
+    /// A single move was made ready where senders are read as their pictures say; else it is this part.
+    Pictured(PicturedMove, Part),
+    /// A single move of a constant was made ready.
+    Constant(ConstantMove),
     /// Bytes of the input record are copied: one single move, or several, each of which begins on both sides where the one before ends.
-    Copy(CopyPlaces),
+    Copy(MovePlaces),
 }
 
 /// Steps that stand for moves, and what these rest on.
@@ -62,6 +82,10 @@ pub(crate) struct Plan {
     pub(crate) bases: Vec<Basis>,
     /// What carries out the single moves that were made ready.
     pub(crate) prepared: MoveSteps,
+    /// What carries out those that were made ready where senders are read as their pictures say.
+    pub(crate) pictured: PicturedSteps,
+    /// What writes the constants of moves that were made ready.
+    pub(crate) constants: Vec<ConstantStep>,
 }
 
 /// The place of both, where the second begins where the first ends.
@@ -81,7 +105,7 @@ fn both_places(front: Place, next: Place) -> Option<Place>
 }
 
 /// Two copies as one, where the second begins on both sides where the first ends.
-pub(crate) fn both_copies(front: CopyPlaces, next: CopyPlaces) -> Option<CopyPlaces>
+pub(crate) fn both_copies(front: MovePlaces, next: MovePlaces) -> Option<MovePlaces>
     requires short { AreWithinLongest next }
     ensures from { IfSome result (λ both. IsBoth front.from next.from both.from) }
     ensures to { IfSome result (λ both. IsBoth front.to next.to both.to) }
@@ -89,11 +113,12 @@ pub(crate) fn both_copies(front: CopyPlaces, next: CopyPlaces) -> Option<CopyPla
 {
     let from = both_places(front.from, next.from)?;
     let to = both_places(front.to, next.to)?;
-    Some(CopyPlaces { from, to })
+    Some(MovePlaces { from, to })
 }
 
 /// Copies the bytes of a place of the input to a place of the output.
-pub(crate) fn copy_across(places: CopyPlaces, input: &[u8], output: &mut [u8])
+#[inline(always)]
+pub(crate) fn copy_across(places: MovePlaces, input: &[u8], output: &mut [u8])
     requires reads { places.from.offset + places.from.length ≤ length input.now }
     requires writes { places.to.offset + places.to.length ≤ length output.old }
     requires same { places.from.length ≡ places.to.length }
@@ -101,7 +126,7 @@ pub(crate) fn copy_across(places: CopyPlaces, input: &[u8], output: &mut [u8])
 {
     let start = places.to.offset as usize;
     let end = start + places.to.length as usize;
-    output[start..end].copy_from_slice(field(input, places.from));
+    copy_all(field(input, places.from), &mut output[start..end]);
 }
 
 /// For how many steps a step is counted: a part for each of its receivers.
@@ -110,7 +135,7 @@ fn step_count(step: Step) -> usize
 {
     match step {
         Step::Part(part) => part.count,
-        Step::Prepared(_) | Step::Copy(_) => 1,
+        Step::Prepared(_) | Step::Pictured(_, _) | Step::Constant(_) | Step::Copy(_) => 1,
     }
 }
 

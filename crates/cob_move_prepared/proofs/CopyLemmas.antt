@@ -1,5 +1,5 @@
 -- Copies of few bytes, and what receivers get of characters.
-use Rattle.std.proofs.Common.{◌≡◌, ◌-◌, ◌*◌, ◌≤◌, ℕ, ◌&&◌, not, Bool, true, false, List, [], ◌++◌, length, take, drop, refl, sym, ap, subst, ◌∙◌, arith, Some, MatchBool, length-append, length-drop, length-take-le, take-take}
+use Rattle.std.proofs.Common.{◌≡◌, ◌-◌, ◌*◌, ◌≤◌, ◌<◌, ℕ, ◌&&◌, not, Bool, true, false, List, [], ◌∷◌, ◌++◌, length, take, drop, refl, sym, ap, subst, ◌∙◌, arith, Some, MatchBool, length-append, length-drop, length-take-le, take-take}
 use Rattle.std.proofs.lemmas.List.{take-append-drop, take-append-le, drop_all, take_all, append-nil}
 use Rattle.std.proofs.lemmas.Slice.{take-put_mid, drop-put_mid}
 use borrow.Rule.Slice.PartMut.{put_mid}
@@ -85,3 +85,10 @@ characters_received (ItemKind x) (ItemKind i) reading n text written right gives
     subst (λ (p : Placement). Arranged p n text written) (sym (placed i.picture.category i receives)) (by_side i.justified right n text written side left other) in
     unless (shows_number i.picture.category) (GetsNumber (Entry (ItemKind x) text reading) i (Some written)) (GetsCharacters (Entry (ItemKind x) text reading) (ItemKind i) n (Some written))
     (no_number i.picture.category receives) (text, given, stands)
+
+-- no bytes are no others
+pub none_copied : (from to : List ℕ) → length from ≡ length to → length to < 1 → to ≡ from
+none_copied [] [] same few = refl
+none_copied [] (t ∷ ts) same few = absurd (omega (arith, few))
+none_copied (f ∷ fs) [] same few = absurd (omega (arith, same))
+none_copied (f ∷ fs) (t ∷ ts) same few = absurd (omega (arith, few))

@@ -20,7 +20,8 @@
 //! are sent whole, the move is that of `receive`. [`PicturedSteps`] are the steps of such moves, in the words of [`MoveSteps`] but for that reading.
 //!
 //! [`CharactersStep::prepare`] gives the step of the move of characters without insertions, of a sender that gives its bytes as they are (`step`,
-//! `must`), and [`ConstantStep::prepare`] that of a constant, whose bytes `receive` makes once. What they write is what the rule says.
+//! `must`), and [`ConstantStep::prepare`] that of a constant, whose bytes `receive` makes once. What they write is what the rule says. [`copy_all`] copies
+//! bytes.
 //!
 //! It stands on cob_lanes, which reads and writes the numbers, on cob_copybook_tree and cob_codec for items and their storage, and on
 //! cob_move_receive for the rule. Only to make steps ready takes memory.
@@ -54,4 +55,5 @@ pub use edit_step::EditStep;
 pub use number_ends::{NumberReader, NumberWriter};
 pub use pictured::{PicturedStep, PicturedSteps};
 pub use pool::{MoveStep, MoveSteps};
+pub use short::copy_all;
 pub use step::NumberStep;

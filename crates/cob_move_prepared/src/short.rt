@@ -24,9 +24,9 @@ fn copy_ends<const N: usize>(from: &[u8], to: &mut [u8])
     to[count - N..].copy_from_slice(&from[count - N..]);
 }
 
-/// Copies bytes.
+/// Copies bytes, a few of them without a call.
 #[inline(always)]
-pub(crate) fn copy_all(from: &[u8], to: &mut [u8])
+pub fn copy_all(from: &[u8], to: &mut [u8])
     requires { length from.now ≡ length to.old }
     ensures { to.new ≡ from.now }
 {
@@ -41,8 +41,8 @@ pub(crate) fn copy_all(from: &[u8], to: &mut [u8])
         copy_ends::<4>(from, to);
     } else if count >= 2 {
         copy_ends::<2>(from, to);
-    } else {
-        to.copy_from_slice(from);
+    } else if count >= 1 {
+        copy_ends::<1>(from, to);
     }
 }
 

@@ -5,7 +5,7 @@ use Rattle.cob_move_apply.proofs.application.apply_in.Given as goal
 
 abbrev pub invariant-loop-step : goal.invariant-loop-step
 invariant-loop-step l = record {
-  left : Left l.layouts.reading (records l.layouts) l.given l.steps (record { bases = l.bases; prepared = l.plan.prepared }) l.step-index l.input l.fn.output l.output;
+  left : Left l.layouts.reading (records l.layouts) l.given l.steps (record { bases = l.bases; prepared = l.plan.prepared; pictured = l.plan.pictured; constants = l.plan.constants.items }) l.step-index l.input l.fn.output l.output;
   output : length l.output ≡ length l.fn.output;
   space : IsWorkspace (records l.layouts) l.input l.output l.space;
 }

@@ -1,4 +1,4 @@
-use Rattle.cob_move_apply.proofs.planning.prepared_of.Goals as goal
+use Rattle.cob_move_apply.proofs.ready.prepared_of.Goals as goal
 
 pub returns-in-In-clause-step : goal.returns-in-In-clause-step
 returns-in-In-clause-step c = rw (c.in-Entry.is, c.in-In.is) c.prepared_entry.ensures.step

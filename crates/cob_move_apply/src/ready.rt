@@ -1,0 +1,220 @@
+//! Single moves made ready, before a record comes.
+
+ghost use Rattle.std.specs.Prelude.{IfOk, IfSome};
+ghost use Rattle.cob_layout_places.specs.Moves.{IsMove, IsOperand, operand_in, sender};
+ghost use Rattle.cob_move_apply.specs.Planned.{AlwaysPrepared, AreFixedPlaces, IsPictured, IsReady, constant_alone, entry_alone, records_between, single_alone};
+ghost use Rattle.cob_move_apply.specs.Steps.{alone};
+ghost use Rattle.cob_move_prepared.specs.Pictured.{KeepsPictured};
+ghost use Rattle.cob_move_prepared.specs.Pool.{KeepsSteps};
+
+use crate::basis::entry_kind;
+use crate::planning::Between;
+use crate::step::{MovePlaces, PicturedMove, PreparedMove};
+use cob_layout::{Place, Ref, Value, places_lie_in_storage, records_are_sound};
+use cob_layout_places::{Sender, Side};
+use cob_move_prepared::{ConstantStep, MoveSteps, PicturedSteps};
+use std::alloc::AllocError;
+
+/// To how many bytes a constant is made ready at most: of longer ones a paragraph could name more than there is memory for.
+const MOST_READY: u32 = 64;
+
+/// The single move of a constant to a place of the output record, made ready.
+#[derive(Drop)]
+pub(crate) struct ReadyConstant {
+    pub(crate) to: Place,
+    pub(crate) step: ConstantStep,
+}
+
+/// The places of an entry of the input record and of one of the output record; None where one of them doesn't stand at one place in every storage.
+fn fixed_places(sent: &Ref, receiver: &Ref, both: &Between<'_>) -> Option<MovePlaces>
+    requires sent { IsOperand both.now.input.now (operand_in both.now.input.now sent.now) }
+    requires receiver { IsOperand both.now.output.now
+        (operand_in both.now.output.now receiver.now) }
+    ensures { IfSome result (AreFixedPlaces (records_between both.now) sent.now receiver.now) }
+{
+    let sends = both.input.fixed_place(sent, false)?;
+    let receives = both.output.fixed_place(receiver, true)?;
+    Some(MovePlaces {
+        from: sends,
+        to: receives,
+    })
+}
+
+/// The single move of an entry of the input record to one of the output record, made ready where its sender is read as its picture says; None where
+/// one of them doesn't stand at one place in every storage, or nothing carries such moves out.
+///
+/// # Errors
+///
+/// Where no memory is left.
+fn pictured_entry(
+    sent: &Ref,
+    receiver: &Ref,
+    both: &Between<'_>,
+    pictured: &mut PicturedSteps,
+) -> Result<Option<PicturedMove>, AllocError>
+    requires sent { IsOperand both.now.input.now (operand_in both.now.input.now sent.now) }
+    requires receiver { IsOperand both.now.output.now
+        (operand_in both.now.output.now receiver.now) }
+    ensures step { IfOk result (λ found. IfSome found
+        (λ one. IsPictured both.now pictured.new one
+        (entry_alone both.now sent.now receiver.now))) }
+    ensures kept { KeepsPictured pictured.old pictured.new }
+{
+    places_lie_in_storage();
+    records_are_sound();
+    let _ = both.input.greatest();
+    let _ = both.output.greatest();
+    let Some(places) = fixed_places(sent, receiver, both) else {
+        return Ok(None);
+    };
+    let sends = entry_kind(both.input, sent);
+    let receives = entry_kind(both.output, receiver);
+    match pictured.prepare(sends, places.from.length, receives, places.to.length)? {
+        Some(step) => Ok(Some(PicturedMove { places, step })),
+        None => Ok(None),
+    }
+}
+
+/// A single move, made ready where its sender is read as its picture says; None where nothing carries it out.
+///
+/// # Errors
+///
+/// Where no memory is left.
+pub(crate) fn pictured_of(
+    given: &Sender,
+    receiver: &Ref,
+    both: &Between<'_>,
+    pictured: &mut PicturedSteps,
+) -> Result<Option<PicturedMove>, AllocError>
+    requires legal { IsMove (records_between both.now)
+        (alone (sender (records_between both.now) given.now)
+        (operand_in both.now.output.now receiver.now)) }
+    ensures step { IfOk result (λ found. IfSome found
+        (λ one. IsPictured both.now pictured.new one
+        (single_alone both.now given.now receiver.now))) }
+    ensures kept { KeepsPictured pictured.old pictured.new }
+{
+    match given {
+        Sender::Entry { side, entry } => match *side {
+            Side::In => pictured_entry(entry, receiver, both, pictured),
+            Side::Out => Ok(None),
+        },
+        Sender::Constant(_) => Ok(None),
+    }
+}
+
+/// The single move of an entry of the input record to one of the output record, made ready; None where one of them doesn't stand at one place in
+/// every storage, or nothing carries such moves out.
+///
+/// # Errors
+///
+/// Where no memory is left.
+fn prepared_entry(
+    sent: &Ref,
+    receiver: &Ref,
+    both: &Between<'_>,
+    prepared: &mut MoveSteps,
+) -> Result<Option<PreparedMove>, AllocError>
+    requires sent { IsOperand both.now.input.now (operand_in both.now.input.now sent.now) }
+    requires receiver { IsOperand both.now.output.now
+        (operand_in both.now.output.now receiver.now) }
+    ensures step { IfOk result (λ found. IfSome found
+        (λ one. AlwaysPrepared both.now prepared.new one
+        (entry_alone both.now sent.now receiver.now))) }
+    ensures kept { KeepsSteps prepared.old prepared.new }
+{
+    places_lie_in_storage();
+    records_are_sound();
+    let _ = both.input.greatest();
+    let _ = both.output.greatest();
+    let Some(places) = fixed_places(sent, receiver, both) else {
+        return Ok(None);
+    };
+    let sends = entry_kind(both.input, sent);
+    let receives = entry_kind(both.output, receiver);
+    match prepared.prepare(sends, places.from.length, receives, places.to.length)? {
+        Some(step) => Ok(Some(PreparedMove { places, step })),
+        None => Ok(None),
+    }
+}
+
+/// A single move, made ready; None where nothing carries it out.
+///
+/// # Errors
+///
+/// Where no memory is left.
+pub(crate) fn prepared_of(
+    given: &Sender,
+    receiver: &Ref,
+    both: &Between<'_>,
+    prepared: &mut MoveSteps,
+) -> Result<Option<PreparedMove>, AllocError>
+    requires legal { IsMove (records_between both.now)
+        (alone (sender (records_between both.now) given.now)
+        (operand_in both.now.output.now receiver.now)) }
+    ensures step { IfOk result (λ found. IfSome found
+        (λ one. AlwaysPrepared both.now prepared.new one
+        (single_alone both.now given.now receiver.now))) }
+    ensures kept { KeepsSteps prepared.old prepared.new }
+{
+    match given {
+        Sender::Entry { side, entry } => match *side {
+            Side::In => prepared_entry(entry, receiver, both, prepared),
+            Side::Out => Ok(None),
+        },
+        Sender::Constant(_) => Ok(None),
+    }
+}
+
+/// The single move of a constant to an entry of the output record, made ready; None where this doesn't stand at one place in every storage, is long, or
+/// asks for a value that the constant isn't.
+///
+/// # Errors
+///
+/// Where no memory is left.
+fn ready_constant(
+    value: &Value,
+    receiver: &Ref,
+    both: &Between<'_>,
+) -> Result<Option<ReadyConstant>, AllocError>
+    requires receiver { IsOperand both.now.output.now
+        (operand_in both.now.output.now receiver.now) }
+    ensures ready { IfOk result (λ found. IfSome found
+        (λ one. IsReady (records_between both.now) one (constant_alone both.now value.now receiver.now))) }
+{
+    records_are_sound();
+    let _ = both.output.greatest();
+    let Some(to) = both.output.fixed_place(receiver, true) else {
+        return Ok(None);
+    };
+    if to.length > MOST_READY {
+        return Ok(None);
+    }
+    let receives = entry_kind(both.output, receiver);
+    match ConstantStep::prepare(both.alloc, value, receives, to.length as usize)? {
+        Some(step) => Ok(Some(ReadyConstant { to, step })),
+        None => Ok(None),
+    }
+}
+
+/// A single move of a constant, made ready; None where it is no such move, or nothing carries it out.
+///
+/// # Errors
+///
+/// Where no memory is left.
+pub(crate) fn constant_of(
+    given: &Sender,
+    receiver: &Ref,
+    both: &Between<'_>,
+) -> Result<Option<ReadyConstant>, AllocError>
+    requires legal { IsMove (records_between both.now)
+        (alone (sender (records_between both.now) given.now)
+        (operand_in both.now.output.now receiver.now)) }
+    ensures ready { IfOk result (λ found. IfSome found
+        (λ one. IsReady (records_between both.now) one (single_alone both.now given.now receiver.now))) }
+{
+    match given {
+        Sender::Entry { .. } => Ok(None),
+        Sender::Constant(value) => ready_constant(value, receiver, both),
+    }
+}
