@@ -1,5 +1,5 @@
 -- Single moves of constants that are made ready.
-use Rattle.std.proofs.Common.{◌≡◌, ◌+◌, ◌≤◌, [], ◌∷◌, List, ℕ, Ok, Some, inl, refl, subst, sym}
+use Rattle.std.proofs.Common.{◌≡◌, ◌+◌, ◌≤◌, true, [], ◌∷◌, List, ℕ, Ok, Some, inl, refl, subst, sym}
 use Rattle.cob_copybook_tree.specs.declared.node.Kind.{Kind}
 use Rattle.cob_entry.specs.Described.{PlainValue}
 use Rattle.cob_layout.specs.declared.fields.Place.{Place}

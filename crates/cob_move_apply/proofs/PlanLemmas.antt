@@ -67,11 +67,13 @@ step_still : (x : Reading) (r : Records) (given : List StatementMoves) (a b : Su
 step_still x r given a b (step.Part p) own more (m, is, part) =
     (m, is, subst (λ (bs : List Basis). IsMoveOfPart x r given bs p m) (sym more.bases) (part_still x r given a.bases more.more p m part))
 step_still x r given a b (step.Prepared p) own more (k, is, fixed) = (k, more.prepared k p.step is, fixed)
-step_still x r given a b (step.Pictured q p) own more (m, is, part, so) = (
+step_still x r given a b (step.Pictured q p) own more (m, is, (part, so)) = (
   m,
   is,
-  subst (λ (bs : List Basis). IsMoveOfPart x r given bs p m) (sym more.bases) (part_still x r given a.bases more.more p m part),
-  λ e. (let (k, step_is, fixed) = so e in (k, more.pictured k q.step step_is, fixed)),
+  (
+    subst (λ (bs : List Basis). IsMoveOfPart x r given bs p m) (sym more.bases) (part_still x r given a.bases more.more p m part),
+    λ e. (let (k, step_is, fixed) = so e in (k, more.pictured k q.step step_is, fixed)),
+  ),
 )
 step_still x r given a b (step.Constant c) own more (constant, to, at, fixed) =
     (constant, to, kept_at ConstantStep (λ step. IsConstantStep constant to c.to.length step) a.constants b.constants c.number more.constants at, fixed)
@@ -142,7 +144,7 @@ pub by_pictured : (x : Reading) (r : Records) (given : List StatementMoves) (pre
 by_pictured x r given prepared pictured constants old_bases new_bases own old new q p m parts grown is part so are =
     by_more x r given (record { bases = old_bases; prepared = prepared; pictured = pictured; constants = constants }) (record { bases = new_bases; prepared = prepared; pictured = pictured; constants = constants }) old new (step.Pictured q p) parts (m ∷ [])
     (record { more = own; bases = grown; prepared = λ k t h. h; pictured = λ k t h. h; constants = as_before ConstantStep constants }) is
-    (m, refl, subst (λ (bs : List Basis). IsMoveOfPart x r given bs p m) (sym grown) part, so) are
+    (m, refl, (subst (λ (bs : List Basis). IsMoveOfPart x r given bs p m) (sym grown) part, so)) are
 
 -- the move of a constant that was made ready behind steps
 pub by_constant : (x : Reading) (r : Records) (given : List StatementMoves) (bases : List Basis) (prepared : MoveSteps) (pictured : PicturedSteps) (before now : List ConstantStep) (written : ConstantStep) (old new : List Step)

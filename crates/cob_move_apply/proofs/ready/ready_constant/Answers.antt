@@ -12,8 +12,8 @@ prepare-requires c =
     filled c.args.both.now.output.now c.args.receiver.now.node (greatest_counts c.args.both.now.output.now) c.args.receiver.now.subscripts.items c.entry_kind-receives.result.now c.in-Some.to
     (c.records_are_sound.ensures c.args.both.now.output.now c.greatest.ensures.record) (c.requires.receiver.is ∙ ap (λ (x : Kind). Some x) (sym c.entry_kind-receives.ensures)) c.in-Some.ensures.value
 
-pub returns-in-Some-2-clause-ready : goal.returns-in-Some-2-clause-ready
-returns-in-Some-2-clause-ready c =
+pub returns-in-Some-2 : goal.returns-in-Some-2-clause-ready
+returns-in-Some-2 c =
     let is = rw c.in-Some-2.is at c.in_ok-step.ensures in (
       plain_value c.args.value.now,
       c.entry_kind-receives.result.now,
