@@ -12,12 +12,14 @@ prepare-requires c =
     filled c.args.both.now.output.now c.args.receiver.now.node (greatest_counts c.args.both.now.output.now) c.args.receiver.now.subscripts.items c.entry_kind-receives.result.now c.in-Some.to
     (c.records_are_sound.ensures c.args.both.now.output.now c.greatest.ensures.record) (c.requires.receiver.is ∙ ap (λ (x : Kind). Some x) (sym c.entry_kind-receives.ensures)) c.in-Some.ensures.value
 
-pub returns-in-Some-2 : goal.returns-in-Some-2-clause-ready
+pub returns-in-Some-2 : goal.returns-in-Some-2
 returns-in-Some-2 c =
-    let is = rw c.in-Some-2.is at c.in_ok-step.ensures in (
-      plain_value c.args.value.now,
-      c.entry_kind-receives.result.now,
-      is,
-      λ x. ready (records_between c.args.both.now) c.args.receiver.now c.in-Some.to (plain_value c.args.value.now) c.entry_kind-receives.result.now c.in-Some.ensures.fixed c.in-Some.ensures.value c.in-Some.ensures.fits
-          c.entry_kind-receives.ensures,
-    )
+    let is = rw c.in-Some-2.is at c.in_ok-step.ensures in record {
+      ready = (
+        plain_value c.args.value.now,
+        c.entry_kind-receives.result.now,
+        is,
+        λ x. ready (records_between c.args.both.now) c.args.receiver.now c.in-Some.to (plain_value c.args.value.now) c.entry_kind-receives.result.now c.in-Some.ensures.fixed c.in-Some.ensures.value c.in-Some.ensures.fits
+            c.entry_kind-receives.ensures,
+      );
+    }
