@@ -103,9 +103,9 @@ fn leave_no_part<R: Files>(rt: &R, part: &str) {
     let _ = fs::remove_file(rt, part);
 }
 
-/// Opens the ends of a conversion: the records that come, which have at most this length, then its output, and last the file for rejected records; or the parts that stand in for
-/// these two. None is opened where a file that is made is one that is read, or where both that are made are one file that is there. Where the second part is not made, the first
-/// does not stay.
+/// Opens the ends of a conversion: the records that come, which have at most this length, then its output, and last the file for rejected records; or
+/// the parts that stand in for these two. None is opened where a file that is made is one that is read, or where both that are made are one file that
+/// is there. Where the second part is not made, the first does not stay.
 ///
 /// # Errors
 ///

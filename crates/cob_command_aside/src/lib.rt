@@ -1,10 +1,10 @@
 //! The command `convert --rejects` of `cobconv`: a conversion that goes on behind a record that does not convert, and sets it aside.
 //!
 //! [`do_convert_aside`] carries it out, prints what comes of it and answers how the program ends: by [`convert_aside`], which does the work and
-//! prints the fault lines of the rejected records alone, and by [`tell_converted_aside`], which prints what it came to. The file of the rejected records is made last, behind the output, and not where it is one
-//! of the files that are read, or the output, by whatever name. With `--atomic` both files are as they were until all of both new ones is on its
-//! device; then the rejected records come into their place first, so that an output that is there has them beside it. Where the part of the rejected
-//! records is not made, that of the output does not stay.
+//! prints the fault lines of the rejected records alone, and by [`tell_converted_aside`], which prints what it came to. The file of the rejected
+//! records is made last, behind the output, and not where it is one of the files that are read, or the output, by whatever name. With `--atomic` both
+//! files are as they were until all of both new ones is on its device; then the rejected records come into their place first, so that an output that
+//! is there has them beside it. Where the part of the rejected records is not made, that of the output does not stay.
 //!
 //! What is promised:
 //!

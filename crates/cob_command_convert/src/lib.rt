@@ -1,10 +1,10 @@
 //! The commands `convert` and `check` of `cobconv`.
 //!
 //! [`do_convert`] and [`do_check`] carry them out, print what comes of them and answer how the program ends: by [`convert`] and [`check`], which
-//! do the work without printing, and by [`tell_converted`], which prints what a conversion came to. The files for texts are opened and read in the order of the options, and the texts are prepared before any file
-//! for records is opened; the output is made last, and not where it is one of the files that are read, by whatever name: so neither a text
-//! that is refused nor a record that is passed over and can't be read leaves an output, and nothing that is read is lost. With `--atomic` the output is
-//! as it was until all of the new one is on its device.
+//! do the work without printing, and by [`tell_converted`], which prints what a conversion came to. The files for texts are opened and read in the
+//! order of the options, and the texts are prepared before any file for records is opened; the output is made last, and not where it is one of the
+//! files that are read, by whatever name: so neither a text that is refused nor a record that is passed over and can't be read leaves an output, and
+//! nothing that is read is lost. With `--atomic` the output is as it was until all of the new one is on its device.
 //!
 //! What is promised:
 //!

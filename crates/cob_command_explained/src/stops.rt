@@ -9,6 +9,7 @@ use cob_convert_line::{ConvertLine, ExplainLine};
 use cob_status::Status;
 use cob_stream::RunFault;
 use std::io::Input;
+use std::os::unix::fs::FileTypeExt;
 use std::rt::Files;
 
 /// The number that a record has in its piece of the input, which has this one in the file.
@@ -89,7 +90,27 @@ fn words_of<R: AllocGlobal + Files + Input>(
     }
 }
 
-/// Why a record stopped a conversion, in words, where one did and can be read once more: standard input can't.
+/// Whether the file of this name has its bytes still when they were read: it is a regular file or a block device. A pipe gives them once, and its next
+/// reader waits for a writer; standard input, `-`, goes on behind them.
+fn can_be_read_again<R: Files>(rt: &R, name: &str) -> bool {
+    if name == "-" {
+        return false;
+    }
+    match rt.metadata(name) {
+        Ok(metadata) => metadata.is_file() || metadata.file_type().is_block_device(),
+        Err(_) => false,
+    }
+}
+
+/// Whether all files of a conversion that it reads can be read once more.
+fn can_be_explained<R: Files>(rt: &R, line: &ConvertLine<'_>) -> bool {
+    can_be_read_again(rt, line.in_book)
+        && can_be_read_again(rt, line.out_book)
+        && can_be_read_again(rt, line.moves)
+        && can_be_read_again(rt, line.input)
+}
+
+/// Why a record stopped a conversion, in words, where one did and its files can be read once more.
 pub(crate) fn stop_words<R: AllocGlobal + Files + Input>(
     rt: &R,
     line: &ConvertLine<'_>,
@@ -99,7 +120,7 @@ pub(crate) fn stop_words<R: AllocGlobal + Files + Input>(
     requires out_block { HasBlockSize line.now.out_form }
 {
     match Status::of_stop(fault.cause) {
-        Status::Stopped if line.input != "-" => words_of(rt, line, fault),
+        Status::Stopped if can_be_explained(rt, line) => words_of(rt, line, fault),
         _ => None,
     }
 }
