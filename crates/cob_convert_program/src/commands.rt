@@ -6,6 +6,7 @@ ghost use Rattle.cob_convert_program.specs.Commands.{check_options, convert_opti
 ghost use Rattle.cob_convert_options.specs.Rules.{command_app};
 ghost use Rattle.cob_convert_program.specs.Program.{Makes, bare_app, program_app};
 
+use crate::adding::{with_alone, with_default, with_optional, with_required};
 use crate::groups::{
     with_books, with_choice, with_ends, with_forms, with_piece, with_record, with_records,
     with_rejects, with_shared, with_texts,
@@ -16,7 +17,6 @@ use crate::help::{
     PROGRAM_NOTES, PROGRESS_HELP, VERSION,
 };
 use clap::Command;
-use cob_convert_options::{alone, defaulted, optional, required};
 use std::alloc::{AllocError, Global};
 
 fn convert<'a>(alloc: Global) -> Result<Command<'a>, AllocError>
@@ -26,10 +26,14 @@ fn convert<'a>(alloc: Global) -> Result<Command<'a>, AllocError>
         .about("Convert a file of records by two copybooks and a paragraph")
         .override_usage(CONVERT_USAGE)
         .after_help(CONVERT_NOTES);
-    let command = with_forms(alloc, with_ends(alloc, with_texts(alloc, command)?)?)?
-        .arg(alone(alloc, "atomic", ATOMIC_HELP))?
-        .arg(alone(alloc, "progress", PROGRESS_HELP))?;
-    let command = with_rejects(alloc, with_choice(alloc, with_piece(alloc, command)?)?)?;
+    let command = with_texts(alloc, command)?;
+    let command = with_ends(alloc, command)?;
+    let command = with_forms(alloc, command)?;
+    let command = with_alone(alloc, command, "atomic", ATOMIC_HELP)?;
+    let command = with_alone(alloc, command, "progress", PROGRESS_HELP)?;
+    let command = with_piece(alloc, command)?;
+    let command = with_choice(alloc, command)?;
+    let command = with_rejects(alloc, command)?;
     with_shared(alloc, command)
 }
 
@@ -39,11 +43,13 @@ fn check<'a>(alloc: Global) -> Result<Command<'a>, AllocError>
     let command = Command::new(alloc, "check")
         .about("Read the three texts, and print both lengths and the number of moves")
         .after_help(CHECK_NOTES);
-    let command = with_texts(alloc, command)?.arg(alone(
+    let command = with_texts(alloc, command)?;
+    let command = with_alone(
         alloc,
+        command,
         "cover",
         "List what no move fills, what none takes, and losses",
-    ))?;
+    )?;
     with_shared(alloc, command)
 }
 
@@ -52,8 +58,8 @@ fn layout<'a>(alloc: Global) -> Result<Command<'a>, AllocError>
 {
     let command = Command::new(alloc, "layout")
         .about("Print a copybook's entries with their offsets, lengths and kinds")
-        .after_help("Example: cobconv layout --book old.cpy")
-        .arg(required(alloc, "book", "FILE", "The copybook"))?;
+        .after_help("Example: cobconv layout --book old.cpy");
+    let command = with_required(alloc, command, "book", "FILE", "The copybook")?;
     with_shared(alloc, command)
 }
 
@@ -63,10 +69,11 @@ fn show<'a>(alloc: Global) -> Result<Command<'a>, AllocError>
     let command = Command::new(alloc, "show")
         .about("Print the value of each named item of each record of a file")
         .after_help("Example: cobconv show --book old.cpy --in old.dat --form v");
-    let command = with_records(alloc, command, "The records; - is standard input")?
-        .arg(defaulted(alloc, "as", "LISTING", "text", LISTING_HELP))?
-        .arg(alone(alloc, "progress", PROGRESS_HELP))?;
-    with_shared(alloc, with_choice(alloc, command)?)
+    let command = with_records(alloc, command, "The records; - is standard input")?;
+    let command = with_default(alloc, command, "as", "LISTING", "text", LISTING_HELP)?;
+    let command = with_alone(alloc, command, "progress", PROGRESS_HELP)?;
+    let command = with_choice(alloc, command)?;
+    with_shared(alloc, command)
 }
 
 fn pieces<'a>(alloc: Global) -> Result<Command<'a>, AllocError>
@@ -75,12 +82,14 @@ fn pieces<'a>(alloc: Global) -> Result<Command<'a>, AllocError>
     let command = Command::new(alloc, "pieces")
         .about("Print where the pieces of a file of records begin")
         .after_help(PIECES_NOTES);
-    let command = with_records(alloc, command, "The records")?.arg(required(
+    let command = with_records(alloc, command, "The records")?;
+    let command = with_required(
         alloc,
+        command,
         "pieces",
         "N",
         "How many pieces there may be",
-    ))?;
+    )?;
     with_shared(alloc, command)
 }
 
@@ -90,26 +99,35 @@ fn lossless<'a>(alloc: Global) -> Result<Command<'a>, AllocError>
     let command = Command::new(alloc, "lossless")
         .about("Print whether one paragraph brings back all that another one moves")
         .override_usage(LOSSLESS_USAGE)
-        .after_help(LOSSLESS_NOTES)
-        .arg(required(
-            alloc,
-            "in-book",
-            "FILE",
-            "The copybook of the records to convert",
-        ))?
-        .arg(required(
-            alloc,
-            "out-book",
-            "FILE",
-            "The copybook of what they become",
-        ))?
-        .arg(required(alloc, "there", "FILE", "The paragraph that converts them"))?
-        .arg(required(
-            alloc,
-            "back",
-            "FILE",
-            "The paragraph that converts what they become back",
-        ))?;
+        .after_help(LOSSLESS_NOTES);
+    let command = with_required(
+        alloc,
+        command,
+        "in-book",
+        "FILE",
+        "The copybook of the records to convert",
+    )?;
+    let command = with_required(
+        alloc,
+        command,
+        "out-book",
+        "FILE",
+        "The copybook of what they become",
+    )?;
+    let command = with_required(
+        alloc,
+        command,
+        "there",
+        "FILE",
+        "The paragraph that converts them",
+    )?;
+    let command = with_required(
+        alloc,
+        command,
+        "back",
+        "FILE",
+        "The paragraph that converts what they become back",
+    )?;
     with_shared(alloc, command)
 }
 
@@ -120,13 +138,17 @@ fn explain<'a>(alloc: Global) -> Result<Command<'a>, AllocError>
         .about("Print each single move of a record, with what it sends and receives")
         .override_usage(EXPLAIN_USAGE)
         .after_help(EXPLAIN_NOTES);
-    let command = with_texts(alloc, command)?.arg(required(
+    let command = with_texts(alloc, command)?;
+    let command = with_required(
         alloc,
+        command,
         "in",
         "FILE",
         "The records; - is standard input",
-    ))?;
-    with_shared(alloc, with_record(alloc, with_forms(alloc, command)?)?)
+    )?;
+    let command = with_forms(alloc, command)?;
+    let command = with_record(alloc, command)?;
+    with_shared(alloc, command)
 }
 
 fn draft<'a>(alloc: Global) -> Result<Command<'a>, AllocError>
@@ -135,7 +157,8 @@ fn draft<'a>(alloc: Global) -> Result<Command<'a>, AllocError>
     let command = Command::new(alloc, "draft")
         .about("Print a paragraph to begin with, of moves between items of one name")
         .after_help(DRAFT_NOTES);
-    with_shared(alloc, with_books(alloc, command)?)
+    let command = with_books(alloc, command)?;
+    with_shared(alloc, command)
 }
 
 fn map<'a>(alloc: Global) -> Result<Command<'a>, AllocError>
@@ -144,13 +167,17 @@ fn map<'a>(alloc: Global) -> Result<Command<'a>, AllocError>
     let command = Command::new(alloc, "map")
         .about("Print a page with both records and the moves between them")
         .after_help(MAP_NOTES);
-    let command = with_texts(alloc, command)?.arg(optional(
+    let command = with_texts(alloc, command)?;
+    let command = with_optional(
         alloc,
+        command,
         "in",
         "FILE",
         "Records, to show one of; - is standard input",
-    ))?;
-    with_shared(alloc, with_record(alloc, with_forms(alloc, command)?)?)
+    )?;
+    let command = with_forms(alloc, command)?;
+    let command = with_record(alloc, command)?;
+    with_shared(alloc, command)
 }
 
 // What bash needs to complete command lines: for those who install the program, so that help does not tell of it.

@@ -80,7 +80,8 @@ Pieces are whole records, in form b whole blocks, of nearly equal size.
 Example: cobconv pieces --book old.cpy --in old.dat --form v --pieces 8";
 
 // How the words of `lossless` stand, in two lines.
-pub(crate) const LOSSLESS_USAGE: &str = "cobconv lossless [OPTIONS] --in-book <FILE> --out-book <FILE>
+pub(crate) const LOSSLESS_USAGE: &str =
+    "cobconv lossless [OPTIONS] --in-book <FILE> --out-book <FILE>
                         --there <FILE> --back <FILE>";
 
 pub(crate) const LOSSLESS_NOTES: &str = "Example:

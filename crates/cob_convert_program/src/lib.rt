@@ -7,6 +7,7 @@
 //! It stands on `cob_convert_options` for options of each kind, and on `clap`, which parses the words.
 #![tactic(auto)]
 
+mod adding;
 mod commands;
 mod groups;
 mod help;

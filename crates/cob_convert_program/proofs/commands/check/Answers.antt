@@ -1,14 +1,15 @@
-use Rattle.std.proofs.Common.{ap, ap₂, codes, ◌≡◌, ◌∙◌}
+use Rattle.std.proofs.Common.{ap, codes, ◌≡◌, ◌∙◌}
 use Rattle.std.proofs.lemmas.Result.{IfOk-weaker}
-use Rattle.clap.specs.Words.{App, app_of, new_app, with_rule}
+use Rattle.clap.specs.Words.{App, app_of, new_app}
 use Rattle.clap.specs.Simple.{app_of_fields}
+use Rattle.cob_convert_options.specs.Options.{Alone}
+use Rattle.cob_convert_options.specs.Rules.{with_option, with_options}
 use Rattle.cob_convert_program.specs.Commands.{shared_options, texts_options}
-use Rattle.cob_convert_options.specs.Rules.{with_options}
 use Rattle.cob_convert_program.proofs.commands.check.Goals as goal
 
 pub returns : goal.returns
 returns c =
     let start : app_of c.after_help-command.result ≡ new_app (codes "check") = ap app_of_fields c.after_help-command.ensures ∙ ap app_of_fields c.about.ensures ∙ c.new.ensures.app in
-    let texts = c.in_ok-with_texts.ensures ∙ ap (λ (a : App). with_options a texts_options) start in
-    let one = c.in_ok-command.ensures.shape c.alone.ensures.local ∙ ap₂ with_rule texts c.alone.ensures.rule in
-    IfOk-weaker c.with_shared.result _ _ (λ made h. h ∙ ap (λ (a : App). with_options a shared_options) one) c.with_shared.ensures
+    let one = c.in_ok-command.ensures ∙ ap (λ (a : App). with_options a texts_options) start in
+    let two = c.in_ok-command-2.ensures ∙ ap (λ (a : App). with_option a (codes "cover") Alone) one in
+    IfOk-weaker c.with_shared.result _ _ (λ made h. h ∙ ap (λ (a : App). with_options a shared_options) two) c.with_shared.ensures

@@ -2,12 +2,12 @@ use Rattle.std.proofs.Common.{ap, codes, ◌≡◌, ◌∙◌}
 use Rattle.std.proofs.lemmas.Result.{IfOk-weaker}
 use Rattle.clap.specs.Words.{App, app_of, new_app}
 use Rattle.clap.specs.Simple.{app_of_fields}
-use Rattle.cob_convert_program.specs.Commands.{books_options, shared_options}
 use Rattle.cob_convert_options.specs.Rules.{with_options}
+use Rattle.cob_convert_program.specs.Commands.{books_options, shared_options}
 use Rattle.cob_convert_program.proofs.commands.draft.Goals as goal
 
 pub returns : goal.returns
 returns c =
     let start : app_of c.after_help-command.result ≡ new_app (codes "draft") = ap app_of_fields c.after_help-command.ensures ∙ ap app_of_fields c.about.ensures ∙ c.new.ensures.app in
-    let books = c.in_ok-with_books.ensures ∙ ap (λ (a : App). with_options a books_options) start in
-    IfOk-weaker c.with_shared.result _ _ (λ made h. h ∙ ap (λ (a : App). with_options a shared_options) books) c.with_shared.ensures
+    let one = c.in_ok-command.ensures ∙ ap (λ (a : App). with_options a books_options) start in
+    IfOk-weaker c.with_shared.result _ _ (λ made h. h ∙ ap (λ (a : App). with_options a shared_options) one) c.with_shared.ensures

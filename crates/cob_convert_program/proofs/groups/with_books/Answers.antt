@@ -1,9 +1,11 @@
-use Rattle.std.proofs.Common.{ap, ap₂, ◌∙◌}
+use Rattle.std.proofs.Common.{ap, codes, ◌∙◌}
 use Rattle.std.proofs.lemmas.Result.{IfOk-weaker}
-use Rattle.clap.specs.Words.{with_rule}
+use Rattle.clap.specs.Words.{App}
+use Rattle.cob_convert_options.specs.Options.{Required}
+use Rattle.cob_convert_options.specs.Rules.{with_option}
 use Rattle.cob_convert_program.proofs.groups.with_books.Goals as goal
 
 pub returns : goal.returns
 returns c =
-    let one = c.in_ok-arg.ensures.shape c.required.ensures.local ∙ ap (with_rule _) c.required.ensures.rule in
-    IfOk-weaker c.arg-2.result _ _ (λ made h. h.shape c.required-2.ensures.local ∙ ap₂ with_rule one c.required-2.ensures.rule) c.arg-2.ensures
+    let one = c.in_ok-command.ensures in
+    IfOk-weaker c.with_required-2.result _ _ (λ made h. h ∙ ap (λ (a : App). with_option a (codes "out-book") Required) one) c.with_required-2.ensures

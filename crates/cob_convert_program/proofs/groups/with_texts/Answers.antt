@@ -1,8 +1,12 @@
-use Rattle.std.proofs.Common.{ap₂, ◌∙◌}
+use Rattle.std.proofs.Common.{ap, codes, ◌∙◌}
 use Rattle.std.proofs.lemmas.Result.{IfOk-weaker}
-use Rattle.clap.specs.Words.{with_rule}
+use Rattle.clap.specs.Words.{App}
+use Rattle.cob_convert_options.specs.Options.{Required}
+use Rattle.cob_convert_options.specs.Rules.{with_option, with_options}
+use Rattle.cob_convert_program.specs.Commands.{books_options}
 use Rattle.cob_convert_program.proofs.groups.with_texts.Goals as goal
 
 pub returns : goal.returns
 returns c =
-    IfOk-weaker c.arg.result _ _ (λ made h. h.shape c.required.ensures.local ∙ ap₂ with_rule c.in_ok-with_books.ensures c.required.ensures.rule) c.arg.ensures
+    let one = c.in_ok-command.ensures in
+    IfOk-weaker c.with_required.result _ _ (λ made h. h ∙ ap (λ (a : App). with_option a (codes "moves") Required) one) c.with_required.ensures
