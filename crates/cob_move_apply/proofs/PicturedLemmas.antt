@@ -1,5 +1,5 @@
 -- Single moves that are made ready where senders are read as their pictures say.
-use Rattle.std.proofs.Common.{◌≡◌, ℕ, ◌+◌, ◌-◌, ◌≤◌, Bool, true, false, List, [], ◌∷◌, length, take, drop, refl, sym, ap, subst, ◌∙◌, arith, inl, inr, Option, Some, None, Ok, length-take-le}
+use Rattle.std.proofs.Common.{◌≡◌, ℕ, ◌+◌, ◌-◌, ◌≤◌, Bool, true, false, List, [], ◌∷◌, length, take, drop, sym, ap, subst, ◌∙◌, arith, inl, inr, Option, Some, None, length-take-le}
 use Rattle.cob_codec.specs.declared.reading.Reading.{Reading}
 use Rattle.cob_codec.specs.declared.reading.Reading.TheVariants.{Pictured}
 use Rattle.cob_copybook.specs.Books.{IsRecordDescription}
@@ -22,7 +22,7 @@ use Rattle.cob_move_apply.specs.Located.{stop_at}
 use Rattle.cob_move_apply.specs.Made.{IsMadePictured}
 use Rattle.cob_move_apply.specs.Planned.{AreFixedPlaces, copied_move}
 use Rattle.cob_move_apply.specs.Steps.{IsPicturedMove, IsPicturedPart}
-use Rattle.cob_move_apply.specs.Written.{HasPlaces, IsReceivedPicturedFrom, received_at}
+use Rattle.cob_move_apply.specs.Written.{HasPlaces, IsReceivedPicturedFrom}
 use Rattle.cob_move_apply.specs.declared.basis.Basis.{Basis}
 use Rattle.cob_move_apply.specs.declared.step.MovePlaces.{MovePlaces}
 use Rattle.cob_move_apply.specs.declared.step.Part.{Part}

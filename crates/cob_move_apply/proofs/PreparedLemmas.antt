@@ -1,15 +1,14 @@
 -- Single moves that are made ready.
-use Rattle.std.proofs.Common.{◌≡◌, ℕ, ◌+◌, ◌-◌, ◌≤◌, Bool, true, false, List, [], ◌∷◌, ◌++◌, length, take, drop, refl, sym, ap, subst, ◌∙◌, arith, inl, inr, Option, Some, None, Ok, length-take-le}
+use Rattle.std.proofs.Common.{◌≡◌, ℕ, ◌+◌, ◌-◌, ◌≤◌, Bool, true, false, List, [], ◌∷◌, ◌++◌, length, take, drop, refl, sym, ap, subst, ◌∙◌, arith, inl, inr, Option, Some, None, length-take-le}
 use Rattle.cob_codec.specs.declared.reading.Reading.{Reading}
 use Rattle.cob_copybook.specs.Books.{IsRecordDescription}
 use Rattle.cob_copybook_tree.specs.declared.node.Kind.{Kind}
 use Rattle.cob_layout.specs.declared.fields.Place.{Place}
-use Rattle.cob_layout.specs.Counting.{ReadsNone, greatest_counts}
+use Rattle.cob_layout.specs.Counting.{greatest_counts}
 use Rattle.cob_layout.specs.Fields.{field_of, with_field}
 use Rattle.cob_layout.specs.Laws.{LieInStorage}
-use Rattle.cob_layout.specs.Placed.{placed_under}
 use Rattle.cob_layout.specs.Sound.{IsSound}
-use Rattle.cob_layout.specs.Storage.{greatest_length, IsStorage}
+use Rattle.cob_layout.specs.Storage.{IsStorage}
 use Rattle.cob_layout_places.specs.declared.operands.Side.TheVariants.{In, Out}
 use Rattle.cob_layout_places.specs.declared.operands.Operand.{Operand}
 use Rattle.cob_layout_places.specs.declared.reference.Ref.{Ref}
@@ -19,7 +18,7 @@ use Rattle.cob_move_prepared.specs.declared.pool.MoveStep.{MoveStep}
 use Rattle.cob_move_prepared.specs.declared.pool.MoveSteps.{MoveSteps}
 use Rattle.cob_move_receive.specs.Received.{Received, outcome}
 use Rattle.cob_move_receive.specs.Sent as sent
-use Rattle.cob_move_apply.specs.Applied.{Applied, Ending, content_at, done, stopped}
+use Rattle.cob_move_apply.specs.Applied.{Applied, content_at, done, stopped}
 use Rattle.cob_move_apply.specs.Located.{stop_at}
 use Rattle.cob_move_apply.specs.Made.{IsMadeReady}
 use Rattle.cob_move_apply.specs.Placed.{IsFixed}

@@ -1,4 +1,4 @@
-use Rattle.std.proofs.Common.{◌≡◌, ◌+◌, ◌≤◌, List, length, refl, sym, subst}
+use Rattle.std.proofs.Common.{List, sym, subst}
 use Rattle.cob_move_apply.specs.Applied.{ending}
 use Rattle.cob_move_apply.specs.Steps.{IsMoveOfPart}
 use Rattle.cob_move_apply.specs.Surveyed.{records}

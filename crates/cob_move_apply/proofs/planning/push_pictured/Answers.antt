@@ -1,4 +1,4 @@
-use Rattle.std.proofs.Common.{◌≡◌, [], ◌∷◌, arith, refl, sym, subst}
+use Rattle.std.proofs.Common.{[], ◌∷◌, arith, refl, sym, subst}
 use Rattle.cob_codec.specs.declared.reading.Reading.{Reading}
 use Rattle.cob_move_apply.specs.Planned.{records_between, meant}
 use Rattle.cob_move_apply.specs.Steps.{IsPicturedMove}
