@@ -22,7 +22,7 @@ pub(crate) struct Measured<'a> {
 }
 
 /// The entry with this number of a record, measured.
-fn measured(layout: &Layout, number: usize) -> Option<Measured<'_>>
+fn entry_at(layout: &Layout, number: usize) -> Option<Measured<'_>>
     ensures some { IfSome result (λ m. StandsAs layout.now number m.kind.now m.bytes) }
     ensures none { IfNone result (HasNoEntry layout.now number) }
 {
@@ -59,7 +59,7 @@ fn no_losses() -> Losses {
 fn losses_to(from: &SenderKind<'_>, bytes: u32, output: &Layout, number: usize) -> Losses
     ensures { AreLossesTo (sender_kind from.now) bytes output.now number result }
 {
-    match measured(output, number) {
+    match entry_at(output, number) {
         Some(receiver) => losses_of(from, bytes, receiver.kind, receiver.bytes),
         None => no_losses(),
     }
@@ -70,7 +70,7 @@ fn entry_losses(layouts: &Layouts<'_>, side: Side, from: usize, to: usize) -> Lo
     ensures { AreLossesOfEntry (tree_of_side layouts.now side) from
         layouts.now.output.now to result }
 {
-    match measured(layout_of(layouts, side), from) {
+    match entry_at(layout_of(layouts, side), from) {
         Some(sender) => losses_to(
             &SenderKind::Entry(sender.kind),
             sender.bytes,

@@ -182,13 +182,13 @@ pub fn converted_record<S: Source>(
         (FindsRecord conversion.now number input.new result) }
     ensures kind { IfErr result (λ fault. is_write_cause fault.cause ≡ false) }
 {
+    let before = number - 1;
     let mut left: u16 = 0;
-    let passed = match pass_over(conversion, number - 1, input, &mut left, source) {
+    let passed = match pass_over(conversion, before, input, &mut left, source) {
         Ok(passed) => passed,
         Err(fault) => return Err(fault),
     };
-    let fewer = passed < number - 1;
-    if fewer {
+    if passed < before {
         return Ok(Found::Fewer(passed));
     }
     match convert_next(conversion, number, input, output, &mut left, room, source) {

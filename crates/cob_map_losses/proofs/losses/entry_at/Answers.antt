@@ -1,6 +1,6 @@
 use Rattle.std.proofs.Common.{refl}
 use Rattle.cob_map_losses.proofs.LosingLemmas.{entry_within, no_spot, spot_here}
-use Rattle.cob_map_losses.proofs.losses.measured.Goals as goal
+use Rattle.cob_map_losses.proofs.losses.entry_at.Goals as goal
 
 pub kind-requires : goal.kind-requires
 kind-requires c =
