@@ -21,7 +21,8 @@ returns-in-Ok-clause-shows g c =
 
 pub returns-in-Ok-clause-next : goal.returns-in-Ok-clause-next
 returns-in-Ok-clause-next g c =
-    told_next c.args.conversion.now c.args.number c.args.left.now c.next_input.new.left _ c.next_input.new.slot _ _ (rw c.in-Ok-Some.field-0-is at c.in-Ok-Some.ensures.reads)
+    told_next c.args.conversion.now c.args.number c.args.left.now c.next_input.new.left (record { input = c.in-Ok-Some.count; output = c.in-Ok.made })
+    c.next_input.new.slot _ _ (rw c.in-Ok-Some.field-0-is at c.in-Ok-Some.ensures.reads)
 
 pub returns-in-Err-convert_read-clause-next : goal.returns-in-Err-convert_read-clause-next
 returns-in-Err-convert_read-clause-next g c =

@@ -2,8 +2,8 @@ use Rattle.std.proofs.Common.{arith}
 use Rattle.cob_map_record.proofs.Numbering.{told_all, told_before, told_begun, told_fewer, told_more}
 use Rattle.cob_map_record.proofs.record.pass_over.Goals as goal
 
-pub loop-passed-established : goal.loop-passed-established
-loop-passed-established g c = told_begun c.args.conversion.now c.args.left.now (g.S.Source.coming c.args.source.now) c.requires.begins
+pub loop-passed-init : goal.loop-passed-init
+loop-passed-init g c = told_begun c.args.conversion.now c.args.left.now (g.S.Source.coming c.args.source.now) c.requires.begins
 
 pub loop-passed-preserved : goal.loop-passed-preserved
 loop-passed-preserved g c =
