@@ -1,9 +1,9 @@
 -- Records that are passed over, and the one behind them.
-use Rattle.std.proofs.Common.{◌≡◌, ◌∙◌, ◌⊎◌, inl, inr, ℕ, ◌+◌, ◌<◌, ◌≤◌, List, [], ◌∷◌, ◌++◌, length, take, refl, sym, ap, subst, arith, None, Some, Option, Ok, Err, Result}
+use Rattle.std.proofs.Common.{◌≡◌, ◌∙◌, ◌⊎◌, inl, inr, ℕ, ◌+◌, ◌<◌, List, [], ◌∷◌, ◌++◌, take, refl, sym, ap, subst, arith, None, Some, Option, Ok, Err, Result}
 use Rattle.std.proofs.Math.ListN.{length-append}
 use Rattle.std.specs.List.{AllByRecursion}
 use Rattle.cob_records.specs.Device.{Told}
-use Rattle.cob_records.specs.Forms.{Come, ComesFirst, ReadsInForm}
+use Rattle.cob_records.specs.Forms.{ComesFirst, ReadsInForm}
 use Rattle.cob_records.specs.Frame.{IsRecord}
 use Rattle.cob_records.specs.declared.records.Form.{Form}
 use Rattle.cob_records.specs.declared.records.Form.TheVariants.{Fixed, Variable, Blocked}
@@ -13,10 +13,10 @@ use Rattle.cob_stream.specs.Whole.{ReadsWhole}
 use Rattle.cob_stream.specs.declared.fault.Reason.{Reason}
 use Rattle.cob_stream.specs.declared.fault.RunFault.{RunFault}
 use Rattle.cob_convert_record.specs.Conversion.{Conversion, in_length}
-use Rattle.cob_convert.specs.Run.{InConversion, InLayout, InRead, ReadStops, RecordStops}
+use Rattle.cob_convert.specs.Run.{InConversion, InLayout, InRead, RecordStops}
 use Rattle.cob_convert.proofs.Carried.{told_both}
 use Rattle.cob_convert.proofs.Outlets.{at_end, come_one}
-use Rattle.cob_map_record.specs.Numbered.{AreOnly, ConvertsNext, FindsRecord, HasNumber, HavePassed, PassesSoMany, StopsBefore, StopsConverting, StopsUpTo}
+use Rattle.cob_map_record.specs.Numbered.{AreOnly, ConvertsNext, FindsRecord, HavePassed, PassesSoMany, StopsConverting}
 use Rattle.cob_map_record.specs.declared.record.Found.{Found}
 use Rattle.cob_map_record.specs.declared.record.Found.TheVariants.{Fewer, Record}
 use Rattle.cob_map_record.specs.declared.record.Lengths.{Lengths}

@@ -7,7 +7,6 @@ use Rattle.cob_convert.specs.Run.{IsConverted, ReadStops, RecordStops, stop_reas
 use Rattle.cob_convert_record.specs.Becoming.{StopsAt}
 use Rattle.cob_convert_record.specs.Conversion.{Conversion, in_length}
 use Rattle.cob_move_apply.specs.declared.stop.Stop.{Stop}
-use Rattle.cob_stream.specs.Input.{Remains}
 use Rattle.cob_stream.specs.Reasons.{reason_of}
 use Rattle.cob_stream.specs.declared.fault.RunFault.{RunFault}
 use Rattle.cob_map_record.specs.declared.record.Found.{Found}
@@ -94,8 +93,10 @@ PassesSoMany conversion count opened (Err fault) bytes rest = StopsBefore conver
 
 -- What the answer to a call says that reads the next record, which has this number, and converts it: no byte is left; it comes; or it stops.
 abbrev pub ConvertsNext : Conversion → (number opened : ℕ) → List ℕ → Result (Option Lengths) RunFault → List ℕ → List ℕ → Type 0
-ConvertsNext conversion number opened input (Ok None) bytes rest = (after : ℕ) × ReadsInForm conversion.in_form (in_length conversion) opened [] (Ok None) after bytes rest
-ConvertsNext conversion number opened input (Ok (Some lengths)) bytes rest = (after : ℕ) × ComesFirst conversion.in_form opened (take lengths.input input) bytes after rest
+ConvertsNext conversion number opened input (Ok None) bytes rest =
+    (after : ℕ) × ReadsInForm conversion.in_form (in_length conversion) opened [] (Ok None) after bytes rest
+ConvertsNext conversion number opened input (Ok (Some lengths)) bytes rest =
+    (after : ℕ) × ComesFirst conversion.in_form opened (take lengths.input input) bytes after rest
 ConvertsNext conversion number opened input (Err fault) bytes rest =
     (fault.number ≡ number) × RecordStops conversion (record { opened = opened; left = bytes; rest = rest }) (reason_of fault)
 
