@@ -1,3 +1,1 @@
 mod EndLemmas
-mod LosingLemmas
-mod Numbering

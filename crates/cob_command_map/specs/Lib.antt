@@ -1,3 +1,1 @@
-pub mod Numbered
 pub mod Ends
-pub mod Losing

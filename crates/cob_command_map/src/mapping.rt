@@ -3,18 +3,18 @@
 ghost use Rattle.std.specs.Prelude.{◌≡◌, ◌<◌, IfErr, IfOk, length};
 ghost use Rattle.cob_convert_record.specs.Conversion.{in_length, out_length};
 ghost use Rattle.cob_cover.specs.Covered.{AreMarks, IsByteCovered};
+ghost use Rattle.cob_map_losses.specs.Losing.{AreAllLosses};
 ghost use Rattle.cob_command_map.specs.Ends.{MayNotMap};
-ghost use Rattle.cob_command_map.specs.Losing.{AreAllLosses};
 
 use crate::ends::Unmapped;
-use crate::losses::losses_in;
-use crate::record::{Found, Lengths, converted_record};
 use cob_command_faults::{CommandFault, FileName, opened};
 use cob_convert_record::{Conversion, Room};
 use cob_cover::bytes_covered;
 use cob_layout::{Layout, Places};
 use cob_lossless::{MovesBetween, carried};
 use cob_map::{Converted, Mapping, Page, Record, TextNames};
+use cob_map_losses::losses_in;
+use cob_map_record::{Found, Lengths, converted_record};
 use cob_move_losses::Losses;
 use cob_records::{Source, open_source};
 use std::alloc::{AllocError, Global};
