@@ -2,7 +2,7 @@
 use Rattle.std.proofs.Common.{◌≡◌, ◌≤◌, ℕ, List, length, refl, subst, arith, Option}
 use Rattle.cob_codec.specs.declared.reading.Reading.TheVariants.{Pictured}
 use Rattle.cob_copybook_tree.specs.declared.node.Item.{Item}
-use Rattle.cob_move_prepared.specs.Pictured.{IsPicturedBetween, IsPicturedStep, IsReceivedPictured, KeepsPictured, MovesPictured, MovesPicturedToEdited}
+use Rattle.cob_move_prepared.specs.Pictured.{IsPicturedBetween, IsReceivedPictured, KeepsPictured, MovesPictured, MovesPicturedToEdited}
 use Rattle.cob_move_prepared.specs.Pool.{AreOccupied, BetweenItems, MoveKinds}
 use Rattle.cob_move_prepared.specs.Running.{IsBinaryCarriedOut, IsEditCarriedOut}
 use Rattle.cob_move_prepared.specs.declared.binary_step.BinaryStep.{BinaryStep}

@@ -1,9 +1,8 @@
 -- Steps of single moves among those that were made ready.
-use Rattle.std.proofs.Common.{◌≡◌, ◌≤◌, ◌<◌, ℕ, Bool, true, false, List, [], ◌∷◌, ◌++◌, length, get_or, refl, sym, ap, subst, ◌∙◌, arith, Option, Some, length-append, append-nil}
+use Rattle.std.proofs.Common.{◌≡◌, ◌≤◌, ℕ, false, List, [], ◌∷◌, ◌++◌, length, get_or, sym, ap, subst, ◌∙◌, arith, Option, Some, length-append, append-nil}
 use Rattle.std.proofs.lemmas.List.{get_or_append_left, get_or_push, get_or_read}
 use Rattle.cob_codec.specs.Binary.{binary_length}
 use Rattle.cob_codec.specs.declared.reading.Reading.{Reading}
-use Rattle.cob_codec.specs.declared.reading.Reading.TheVariants.{Pictured}
 use Rattle.cob_copybook_tree.specs.declared.node.Item.{Item}
 use Rattle.cob_copybook_tree.specs.declared.node.Kind.{Kind}
 use Rattle.cob_copybook_tree.specs.declared.node.Kind.TheVariants.{Group, Item as ItemKind}
@@ -13,7 +12,7 @@ use Rattle.cob_move_receive.specs.Received.{Received}
 use Rattle.cob_move_receive.specs.Sent.{Entry, Occupies}
 use Rattle.cob_move_prepared.specs.Copies.{AreCharactersCarriedOut, IsCharactersStep}
 use Rattle.cob_move_prepared.specs.Ends.{IsOwnWriter, SuitsReading, item_digits}
-use Rattle.cob_move_prepared.specs.Pool.{AreOccupied, BetweenItems, IsMoveStep, IsReceived, IsStepAt, IsStepBetween, KeepsSteps, MoveKinds, MovesNumber, MovesToBinary, MovesToEdited}
+use Rattle.cob_move_prepared.specs.Pool.{AreOccupied, BetweenItems, IsReceived, IsStepAt, IsStepBetween, KeepsSteps, MoveKinds, MovesNumber, MovesToBinary, MovesToEdited}
 use Rattle.cob_move_prepared.specs.Running.{IsBinaryCarriedOut, IsCarriedOut, IsEditCarriedOut}
 use Rattle.cob_move_prepared.specs.Steps.{is_binary}
 use Rattle.cob_move_prepared.specs.declared.binary_step.BinaryStep.{BinaryStep}
