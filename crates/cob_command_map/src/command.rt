@@ -5,41 +5,28 @@ ghost use Rattle.cob_records.specs.Forms.{HasBlockSize};
 ghost use Rattle.cob_command_map.specs.Ends.{EndsMap, MayNotMap};
 
 use crate::ends::{Unmapped, tell_mapped};
-use crate::mapping::{Asked, print_conversion};
+use crate::mapping::print_conversion;
 use cob_command_faults::{CommandFault, FileName, text_of};
 use cob_convert::Converter;
 use cob_convert_line::MapLine;
 use cob_convert_record::Conversion;
 use cob_lossless_words::lines_of;
-use cob_map::TextNames;
 use cob_status::Status;
 use std::io::{Eprint, Input, Print};
 use std::rt::Files;
 
 /// Prints the page of a conversion, which this paragraph says.
-fn print_lined<'a, R: AllocGlobal + Files + Input + Print>(
+fn print_lined<R: AllocGlobal + Files + Input + Print>(
     rt: &R,
-    line: &MapLine<'a>,
-    conversion: &'a Conversion,
+    line: &MapLine<'_>,
+    conversion: &Conversion,
     moves: &[u8],
 ) -> Result<(), Unmapped>
     requires { 0 < line.now.record }
     ensures { IfErr result MayNotMap }
 {
     match lines_of(rt.alloc(), moves) {
-        Ok(lines) => {
-            let asked = Asked {
-                lines: &lines,
-                names: TextNames {
-                    in_book: line.in_book,
-                    out_book: line.out_book,
-                    moves: line.moves,
-                },
-                input: line.input,
-                record: line.record,
-            };
-            print_conversion(rt, conversion, asked)
-        }
+        Ok(lines) => print_conversion(rt, line, conversion, lines),
         // The paragraph was read before, so that only memory can lack.
         Err(_) => Err(Unmapped::Fault(CommandFault::Memory)),
     }

@@ -24,6 +24,7 @@
 mod command;
 mod ends;
 mod mapping;
+mod shown;
 
 pub use command::{do_map, print_map};
 pub use ends::Unmapped;
