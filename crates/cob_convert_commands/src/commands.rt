@@ -124,9 +124,10 @@ fn perform_explained<R: AllocGlobal + Files + Input + Print + Eprint + Clock>(
         return perform_line(rt, line, true);
     };
     let last = Cell::new(None);
-    let code = perform_line(&Noted::new(rt, &files, &last), line, true);
+    let noted = Noted::new(rt, &files, &last);
+    let code = perform_line(&noted, line, true);
     if code == Status::Device.code() {
-        tell_file_error(rt, last.get());
+        tell_file_error(rt, noted.last());
     }
     code
 }

@@ -9,21 +9,25 @@ use std::io::{Read, Seek, SeekFrom, Write};
 
 /// A file whose calls are those of the one inside, and whose last error is kept.
 #[derive(Drop)]
-pub struct NotedFile<'a, F> {
+pub struct NotedFile<'a, 'n, F> {
     file: F,
     /// The option that names it, where one does.
-    named: Option<NamedFile<'a>>,
-    last: &'a LastError<'a>,
+    named: Option<NamedFile<'n>>,
+    last: &'a LastError<'n>,
 }
 
-impl<'a, F> NotedFile<'a, F> {
+impl<'a, 'n, F> NotedFile<'a, 'n, F> {
     /// A file round this one, which this option names, that keeps its last error there.
-    pub fn new(file: F, named: Option<NamedFile<'a>>, last: &'a LastError<'a>) -> NotedFile<'a, F> {
+    pub fn new(
+        file: F,
+        named: Option<NamedFile<'n>>,
+        last: &'a LastError<'n>,
+    ) -> NotedFile<'a, 'n, F> {
         NotedFile { file, named, last }
     }
 }
 
-impl<F: Read> Read for NotedFile<'_, F> {
+impl<F: Read> Read for NotedFile<'_, '_, F> {
     ghost remaining = { λ noted. F.remaining noted.file };
 
     fn read(&mut self, buf: &mut [u8]) -> io::Result<usize> {
@@ -31,7 +35,7 @@ impl<F: Read> Read for NotedFile<'_, F> {
     }
 }
 
-impl<F: Write> Write for NotedFile<'_, F> {
+impl<F: Write> Write for NotedFile<'_, '_, F> {
     ghost contents = { λ noted. F.contents noted.file };
 
     fn write(&mut self, buf: &[u8]) -> io::Result<usize> {
@@ -43,13 +47,13 @@ impl<F: Write> Write for NotedFile<'_, F> {
     }
 }
 
-impl<F: Seek> Seek for NotedFile<'_, F> {
+impl<F: Seek> Seek for NotedFile<'_, '_, F> {
     fn seek(&mut self, to: SeekFrom) -> io::Result<u64> {
         noted(self.last, self.named, self.file.seek(to))
     }
 }
 
-impl<F: OpenFile> OpenFile for NotedFile<'_, F> {
+impl<F: OpenFile> OpenFile for NotedFile<'_, '_, F> {
     fn metadata(&self) -> io::Result<Metadata> {
         self.file.metadata()
     }

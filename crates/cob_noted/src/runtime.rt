@@ -14,25 +14,25 @@ use std::time::Duration;
 
 /// A runtime whose calls are those of the one inside, and which keeps the last error of these files.
 #[derive(Clone, Copy)]
-pub struct Noted<'a, R> {
+pub struct Noted<'a, 'n, R> {
     rt: &'a R,
-    files: &'a [NamedFile<'a>],
-    last: &'a LastError<'a>,
+    files: &'a [NamedFile<'n>],
+    last: &'a LastError<'n>,
 }
 
-impl<'a, R> Noted<'a, R> {
-    /// A runtime round this one that keeps the last error of these files there.
-    pub fn new(rt: &'a R, files: &'a [NamedFile<'a>], last: &'a LastError<'a>) -> Noted<'a, R> {
+impl<'a, 'n, R> Noted<'a, 'n, R> {
+    /// A runtime round this one that keeps the last error of these files, by their names, there.
+    pub fn new(rt: &'a R, files: &'a [NamedFile<'n>], last: &'a LastError<'n>) -> Noted<'a, 'n, R> {
         Noted { rt, files, last }
     }
 
     /// The last error, where there was one.
-    pub fn last(&self) -> Option<FileError<'a>> {
+    pub fn last(&self) -> Option<FileError<'n>> {
         self.last.get()
     }
 }
 
-impl<R: Alloc> Alloc for Noted<'_, R> {
+impl<R: Alloc> Alloc for Noted<'_, '_, R> {
     type A = R::A;
 
     fn alloc(&self) -> R::A {
@@ -40,7 +40,7 @@ impl<R: Alloc> Alloc for Noted<'_, R> {
     }
 }
 
-impl<R: Print> Print for Noted<'_, R> {
+impl<R: Print> Print for Noted<'_, '_, R> {
     fn print<D: Display + Drop>(&self, value: D) -> io::Result<()> {
         self.rt.print(value)
     }
@@ -66,7 +66,7 @@ impl<R: Print> Print for Noted<'_, R> {
     }
 }
 
-impl<R: Eprint> Eprint for Noted<'_, R> {
+impl<R: Eprint> Eprint for Noted<'_, '_, R> {
     fn eprint<D: Display + Drop>(&self, value: D) -> io::Result<()> {
         self.rt.eprint(value)
     }
@@ -76,7 +76,7 @@ impl<R: Eprint> Eprint for Noted<'_, R> {
     }
 }
 
-impl<R: Clock> Clock for Noted<'_, R> {
+impl<R: Clock> Clock for Noted<'_, '_, R> {
     fn monotonic(&self) -> io::Result<Duration> {
         self.rt.monotonic()
     }
@@ -86,7 +86,7 @@ impl<R: Clock> Clock for Noted<'_, R> {
     }
 }
 
-impl<R: Input> Input for Noted<'_, R> {
+impl<R: Input> Input for Noted<'_, '_, R> {
     type Reader = R::Reader;
 
     fn read_line<A: Allocator + Clone>(&self, buf: &mut String<A>) -> io::Result<usize> {
@@ -102,12 +102,12 @@ impl<R: Input> Input for Noted<'_, R> {
     }
 }
 
-impl<'a, R: Files> Files for Noted<'a, R> {
-    type File = NotedFile<'a, R::File>;
+impl<'a, 'n, R: Files> Files for Noted<'a, 'n, R> {
+    type File = NotedFile<'a, 'n, R::File>;
 
     type Dir = R::Dir;
 
-    fn open_file(&self, how: &OpenOptions, path: &str) -> io::Result<NotedFile<'a, R::File>> {
+    fn open_file(&self, how: &OpenOptions, path: &str) -> io::Result<NotedFile<'a, 'n, R::File>> {
         let named = file_at(self.files, path);
         match noted(self.last, named, self.rt.open_file(how, path)) {
             Ok(file) => Ok(NotedFile::new(file, named, self.last)),
