@@ -25,7 +25,7 @@
            05 O-RISK PIC 9(3) COMP-3.
            05 O-PHONE PIC X(16).
            05 O-AMOUNT-DUE PIC S9(9)V99 COMP-3.
-           05 O-AMOUNT-TEXT PIC $$$$,$$9.99CR.
+           05 O-AMOUNT-TEXT PIC $$$$$,$$9.99CR.
            05 O-PAYMENT OCCURS 5.
                10 O-PAID PIC S9(7)V99.
                10 O-PAID-DAYS PIC 9(5) COMP.
