@@ -14,7 +14,7 @@ fn push_read<'a>(
     if path == "-" {
         return Ok(());
     }
-    files.push(NamedFile::new(option, path))?;
+    files.push(NamedFile::read(option, path))?;
     Ok(())
 }
 
@@ -24,8 +24,8 @@ fn push_written<'a>(
     option: &'a str,
     path: &'a str,
 ) -> Result<(), AllocError> {
-    files.push(NamedFile::new(option, path))?;
-    files.push(NamedFile::beside(option, path, ".part"))?;
+    files.push(NamedFile::written(option, path, ""))?;
+    files.push(NamedFile::written(option, path, ".part"))?;
     Ok(())
 }
 

@@ -15,24 +15,28 @@ pub struct NamedFile<'a> {
     pub path: &'a str,
     /// What stands behind that path: nothing, or what the part of an output has there.
     pub suffix: &'a str,
+    /// Whether it is read, so that it has to be there.
+    pub is_read: bool,
 }
 
 impl<'a> NamedFile<'a> {
-    /// The file that an option names.
-    pub fn new(option: &'a str, path: &'a str) -> NamedFile<'a> {
+    /// The file that an option names and that is read.
+    pub fn read(option: &'a str, path: &'a str) -> NamedFile<'a> {
         NamedFile {
             option,
             path,
             suffix: "",
+            is_read: true,
         }
     }
 
-    /// The file that stands in for the one that an option names, with this behind its path.
-    pub fn beside(option: &'a str, path: &'a str, suffix: &'a str) -> NamedFile<'a> {
+    /// The file that is written for the one that an option names, with this behind its path: nothing where it is that file itself.
+    pub fn written(option: &'a str, path: &'a str, suffix: &'a str) -> NamedFile<'a> {
         NamedFile {
             option,
             path,
             suffix,
+            is_read: false,
         }
     }
 
@@ -53,6 +57,14 @@ pub(crate) fn file_at<'a>(files: &[NamedFile<'a>], path: &str) -> Option<NamedFi
         }
     }
     None
+}
+
+/// The file that has this path, where it is one that is read.
+pub(crate) fn read_at<'a>(files: &[NamedFile<'a>], path: &str) -> Option<NamedFile<'a>> {
+    match file_at(files, path) {
+        Some(file) if file.is_read => Some(file),
+        _ => None,
+    }
 }
 
 /// The system's words for an error, without the number that it has for them.
@@ -81,6 +93,7 @@ impl FileError<'_> {
             option,
             path,
             suffix,
+            ..
         } = self.file;
         let words = format!(in alloc; "{}", self.error)?;
         let reason = reason_in(&words);

@@ -3,7 +3,7 @@
 ghost use Rattle.std.specs.Prelude.{◌≡◌, ◌≤◌, length, IfOk};
 
 use crate::file::NotedFile;
-use crate::last::{FileError, LastError, NamedFile, file_at, noted};
+use crate::last::{FileError, LastError, NamedFile, file_at, noted, read_at};
 use std::alloc::Allocator;
 use std::fmt::Display;
 use std::fs::{Metadata, OpenOptions};
@@ -120,7 +120,7 @@ impl<'a, 'n, R: Files> Files for Noted<'a, 'n, R> {
     }
 
     fn metadata(&self, path: &str) -> io::Result<Metadata> {
-        self.rt.metadata(path)
+        noted(self.last, read_at(self.files, path), self.rt.metadata(path))
     }
 
     fn symlink_metadata(&self, path: &str) -> io::Result<Metadata> {
