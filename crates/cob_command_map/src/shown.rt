@@ -1,7 +1,9 @@
 //! The record that is shown, what it becomes, and where the entries of both stand.
 
-ghost use Rattle.std.specs.Prelude.{◌≡◌, ◌<◌, IfErr, IfOk, IfSome};
+ghost use Rattle.std.specs.Prelude.{◌≡◌, ◌<◌, IfErr, IfOk, IfSome, OnOk, length};
 ghost use Rattle.cob_convert.specs.Run.{IsConverted};
+ghost use Rattle.cob_convert_record.specs.Conversion.{in_length, out_length};
+ghost use Rattle.cob_convert_record.specs.Rooms.{capacity_for};
 ghost use Rattle.cob_command_map.specs.Ends.{MayNotMap};
 
 use crate::ends::Unmapped;
@@ -59,9 +61,10 @@ fn placed(
     number: u64,
     input: Vec<u8>,
     output: Vec<u8>,
-) -> Result<Shown, AllocError>
-    ensures { IfOk result
+) -> Result<Shown, Unmapped>
+    ensures same { IfOk result
         (λ s. (s.input.items ≡ input.items) × (s.output.items ≡ output.items)) }
+    ensures may { IfErr result MayNotMap }
 {
     let (from, to) = conversion.layouts();
     let from = places_in(alloc, from, &input)?;
@@ -75,37 +78,81 @@ fn placed(
     })
 }
 
+/// Reads the record with this number of a source, and makes of it what it becomes: both buffers then have no byte more.
+fn read_into<S: Source>(
+    conversion: &Conversion,
+    number: u64,
+    input: &mut Vec<u8>,
+    output: &mut Vec<u8>,
+    room: &mut Room,
+    source: &mut S,
+) -> Result<(), Unmapped>
+    requires number { 0 < number }
+    requires input { length input.old.items ≡ in_length conversion.now }
+    requires output { length output.old.items ≡ out_length conversion.now }
+    requires room { room.old ≡ capacity_for conversion.now.records }
+    ensures shows { OnOk result (IsConverted conversion.now (input.new.items, output.new.items)) }
+    ensures may { IfErr result MayNotMap }
+{
+    match converted_record(conversion, number, input, output, room, source) {
+        Ok(Found::Record(lengths)) => {
+            input.truncate(lengths.input);
+            output.truncate(lengths.output);
+            Ok(())
+        }
+        Ok(Found::Fewer(there)) => Err(Unmapped::NoRecord { number, there }),
+        Err(fault) => Err(Unmapped::Fault(CommandFault::Stopped(fault))),
+    }
+}
+
+/// A buffer of so many bytes.
+fn buffer(alloc: Global, bytes: u16) -> Result<Vec<u8>, AllocError>
+    ensures { IfOk result (λ buffer. length buffer.items ≡ bytes) }
+{
+    vec![in alloc; 0u8; usize::from(bytes)]
+}
+
+/// The record with this number of a source, read into these buffers, and what it becomes.
+fn shown_with<S: Source>(
+    alloc: Global,
+    conversion: &Conversion,
+    number: u64,
+    mut input: Vec<u8>,
+    mut output: Vec<u8>,
+    room: &mut Room,
+    source: &mut S,
+) -> Result<Shown, Unmapped>
+    requires number { 0 < number }
+    requires input { length input.items ≡ in_length conversion.now }
+    requires output { length output.items ≡ out_length conversion.now }
+    requires room { room.old ≡ capacity_for conversion.now.records }
+    ensures shows { IfOk result
+        (λ s. IsConverted conversion.now (s.input.items, s.output.items)) }
+    ensures may { IfErr result MayNotMap }
+{
+    match read_into(conversion, number, &mut input, &mut output, room, source) {
+        Ok(()) => placed(alloc, conversion, number, input, output),
+        Err(why) => Err(why),
+    }
+}
+
 /// The record with this number of a source, and what it becomes.
 fn shown_in<S: Source>(
     alloc: Global,
     conversion: &Conversion,
     number: u64,
+    room: &mut Room,
     source: &mut S,
 ) -> Result<Shown, Unmapped>
-    requires { 0 < number }
+    requires number { 0 < number }
+    requires room { room.old ≡ capacity_for conversion.now.records }
     ensures shows { IfOk result
         (λ s. IsConverted conversion.now (s.input.items, s.output.items)) }
     ensures may { IfErr result MayNotMap }
 {
-    let mut input = vec![in alloc; 0u8; usize::from(conversion.in_length())]?;
-    let mut output = vec![in alloc; 0u8; usize::from(conversion.out_length())]?;
-    let mut room = Room::new(alloc, conversion)?;
-    match converted_record(
-        conversion,
-        number,
-        &mut input,
-        &mut output,
-        &mut room,
-        source,
-    ) {
-        Ok(Found::Record(lengths)) => {
-            input.truncate(lengths.input);
-            output.truncate(lengths.output);
-            Ok(placed(alloc, conversion, number, input, output)?)
-        }
-        Ok(Found::Fewer(there)) => Err(Unmapped::NoRecord { number, there }),
-        Err(fault) => Err(Unmapped::Fault(CommandFault::Stopped(fault))),
-    }
+    let input = buffer(alloc, conversion.in_length())?;
+    let output = buffer(alloc, conversion.out_length())?;
+    shown_with(alloc, conversion, number, input, output, room, source)
 }
 
 /// The record with this number of a file, and what it becomes.
@@ -120,8 +167,9 @@ fn shown_of<R: AllocGlobal + Files + Input>(
         (λ s. IsConverted conversion.now (s.input.items, s.output.items)) }
     ensures may { IfErr result MayNotMap }
 {
+    let mut room = Room::new(rt.alloc(), conversion)?;
     match opened(open_source(rt, file), FileName::In) {
-        Ok(mut source) => shown_in(rt.alloc(), conversion, number, &mut source),
+        Ok(mut source) => shown_in(rt.alloc(), conversion, number, &mut room, &mut source),
         Err(fault) => Err(Unmapped::Fault(fault)),
     }
 }
