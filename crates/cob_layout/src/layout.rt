@@ -20,12 +20,13 @@ use crate::kinds::kinds;
 use crate::laws::{fits_ref, places_end_in_length};
 use crate::sound::records_are_sound;
 use crate::spots::new_spots;
+use crate::taking::take_all_counts;
 use crate::ways::{Way, ways};
 use arrayvec::ArrayVec;
 use cob_copybook::{Book, Kind, Node};
 use cob_layout_places::{
     CountFault, Found, Ref, Spot, Table, covering, element_of, needs_are_read, refers, seek,
-    tables, take_counts, take_needed, times_of,
+    tables, take_needed, times_of,
 };
 use std::alloc::{AllocError, Global};
 use std::marker::Model;
@@ -242,7 +243,13 @@ impl Layout {
         ensures room { length counts.new ≡ length counts.old }
     {
         counts.next.copy_from_slice(self.counts.as_slice());
-        take_counts(&self.root, &self.tables, bytes, &mut counts.next)?;
+        take_all_counts(
+            &self.root,
+            &self.tables,
+            &self.spots,
+            bytes,
+            &mut counts.next,
+        )?;
         counts.taken.copy_from_slice(&counts.next);
         Ok(())
     }

@@ -21,6 +21,10 @@ use Rattle.cob_move_prepared.specs.Copies.{gives_bytes, stands_right}
 pub tail_all : (a : ℕ) (xs : List ℕ) → take (length xs - a) (drop a xs) ≡ drop a xs
 tail_all a xs = take_all (length xs - a) (drop a xs) (omega (arith, length-drop a xs))
 
+-- so many bytes from there on, that end with the last
+pub tail_taken : (N n : ℕ) (xs : List ℕ) → length xs ≡ n → N ≤ n → take (n - (n - N)) (drop (n - N) xs) ≡ drop (n - N) xs
+tail_taken N n xs many least = take_all (n - (n - N)) (drop (n - N) xs) (omega (arith, length-drop (n - N) xs))
+
 -- the bytes in front and those at the end are all bytes, where both together are as many
 pub ends_copied : (N n : ℕ) (out bytes front back : List ℕ) → n ≡ length out → length bytes ≡ n → N ≤ n → n ≤ 2 * N
     → front ≡ take N bytes → back ≡ drop (n - N) bytes → put_mid (n - N) (length (front ++ drop N out) - (n - N)) (front ++ drop N out) back ≡ bytes

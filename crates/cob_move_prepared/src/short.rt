@@ -1,6 +1,6 @@
 //! Copies and fills of few bytes.
 
-ghost use Rattle.std.specs.Prelude.{◌≡◌, ◌*◌, ◌≤◌, length, replicate};
+ghost use Rattle.std.specs.Prelude.{◌≡◌, ◌*◌, ◌<◌, ◌≤◌, length, replicate};
 ghost use Rattle.cob_cp037.specs.Named.{space_byte};
 
 use cob_cp037::SPACE;
@@ -11,7 +11,8 @@ const SHORT: usize = 32;
 /// Spaces to be copied.
 const SPACES: [u8; SHORT] = [SPACE; SHORT];
 
-/// Copies so many bytes in front, and so many at the end again, since a copy of a known length costs no call.
+/// Copies so many bytes in front, and so many at the end again, since a copy of a known length costs no call. Both are read before one is written, so
+/// that the compiler need not ask whether they share bytes.
 #[inline(always)]
 fn copy_ends<const N: usize>(from: &[u8], to: &mut [u8])
     requires long { length from.now ≡ length to.old }
@@ -20,8 +21,29 @@ fn copy_ends<const N: usize>(from: &[u8], to: &mut [u8])
     ensures { to.new ≡ from.now }
 {
     let count = to.len();
-    to[..N].copy_from_slice(&from[..N]);
-    to[count - N..].copy_from_slice(&from[count - N..]);
+    let mut front = [0; N];
+    let mut back = [0; N];
+    front.copy_from_slice(&from[..N]);
+    back.copy_from_slice(&from[count - N..count]);
+    to[..N].copy_from_slice(&front);
+    to[count - N..].copy_from_slice(&back);
+}
+
+/// Copies fewer than eight bytes.
+#[inline(always)]
+fn copy_few(from: &[u8], to: &mut [u8])
+    requires same { length from.now ≡ length to.old }
+    requires few { length to.old < 8 }
+    ensures { to.new ≡ from.now }
+{
+    let count = to.len();
+    if count >= 4 {
+        copy_ends::<4>(from, to);
+    } else if count >= 2 {
+        copy_ends::<2>(from, to);
+    } else if count >= 1 {
+        copy_ends::<1>(from, to);
+    }
 }
 
 /// Copies bytes, a few of them without a call.
@@ -31,18 +53,14 @@ pub fn copy_all(from: &[u8], to: &mut [u8])
     ensures { to.new ≡ from.now }
 {
     let count = to.len();
-    if count > SHORT {
-        to.copy_from_slice(from);
-    } else if count >= 16 {
-        copy_ends::<16>(from, to);
-    } else if count >= 8 {
+    if count < 8 {
+        copy_few(from, to);
+    } else if count <= 16 {
         copy_ends::<8>(from, to);
-    } else if count >= 4 {
-        copy_ends::<4>(from, to);
-    } else if count >= 2 {
-        copy_ends::<2>(from, to);
-    } else if count >= 1 {
-        copy_ends::<1>(from, to);
+    } else if count <= SHORT {
+        copy_ends::<16>(from, to);
+    } else {
+        to.copy_from_slice(from);
     }
 }
 
@@ -52,9 +70,11 @@ pub(crate) fn fill_spaces(to: &mut [u8])
     ensures { to.new ≡ replicate (length to.old) space_byte }
 {
     let count = to.len();
-    if count > SHORT {
-        to.fill(SPACE);
-    } else {
+    if count < 8 {
+        copy_few(&SPACES[..count], to);
+    } else if count <= SHORT {
         copy_all(&SPACES[..count], to);
+    } else {
+        to.fill(SPACE);
     }
 }

@@ -1,5 +1,5 @@
 use Rattle.std.proofs.Common.{◌≡◌, ◌-◌, ◌≤◌, ℕ, List, length, take, drop, refl, ◌∙◌}
-use Rattle.cob_move_prepared.proofs.CopyLemmas.{ends_copied, tail_all}
+use Rattle.cob_move_prepared.proofs.CopyLemmas.{ends_copied, tail_taken}
 use Rattle.cob_move_prepared.proofs.short.copy_ends.Goals as goal
 
 pub returns : goal.returns
@@ -9,8 +9,8 @@ returns g c =
     let bytes : List ℕ = c.args.from.now in
     let n : ℕ = length out in
     let least : N ≤ n = c.requires.least in
-    let front : List ℕ = c.copy_from_slice.new.self in
-    let back : List ℕ = c.copy_from_slice-2.new.self in
-    let first : front ≡ take N bytes = c.copy_from_slice.ensures.after in
-    let last : back ≡ drop (n - N) bytes = c.copy_from_slice-2.ensures.after ∙ tail_all (n - N) bytes in
+    let front : List ℕ = c.copy_from_slice-3.new.self in
+    let back : List ℕ = c.copy_from_slice-4.new.self in
+    let first : front ≡ take N bytes = c.copy_from_slice-3.ensures.after ∙ c.copy_from_slice.ensures.after in
+    let last : back ≡ drop (n - N) bytes = c.copy_from_slice-4.ensures.after ∙ (c.copy_from_slice-2.ensures.after ∙ tail_taken N n bytes c.requires.long least) in
     ends_copied N n out bytes front back refl c.requires.long least c.requires.most first last
