@@ -20,10 +20,12 @@ pub enum SignByte {
 fn code_meaning(signed: bool, code: u8) -> Option<bool>
     ensures { result ≡ sign_meaning signed code }
 {
-    match code {
-        0xA | 0xC | 0xE | 0xF => Some(false),
-        0xB | 0xD if signed => Some(true),
-        _ => None,
+    if code < 0xA || code > 0xF {
+        None
+    } else if code == 0xB || code == 0xD {
+        if signed { Some(true) } else { None }
+    } else {
+        Some(false)
     }
 }
 
