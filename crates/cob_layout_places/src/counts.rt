@@ -1,4 +1,4 @@
-ghost use Rattle.std.specs.Prelude.{◌≡◌, ◌≢◌, ℕ, ◌+◌, ◌<◌, ◌≤◌, List, [], length, Ok, Err, Result, Some, OnOk, IfOk, IfErr, IfSome, IfNone};
+ghost use Rattle.std.specs.Prelude.{◌≡◌, ◌≢◌, ℕ, ◌+◌, ◌<◌, ◌≤◌, List, [], length, Ok, Err, Result, Some, IfOk, IfErr, IfSome, IfNone};
 ghost use Rattle.cob_decimal.specs.Decimal.{IsDigits, number_of};
 ghost use Rattle.cob_copybook_tree.specs.declared.node.Item.{Item};
 ghost use Rattle.cob_copybook_tree.specs.declared.node.Kind.TheVariants.{Item as ItemKind};
@@ -7,7 +7,7 @@ ghost use Rattle.cob_copybook_tree.specs.Lengths.{item_size};
 ghost use Rattle.cob_copybook_tree.specs.Items.{IsNumberItem};
 ghost use Rattle.cob_layout_places.specs.Lengths.{times, EntryFits};
 ghost use Rattle.cob_layout_places.specs.Places.{place_of};
-ghost use Rattle.cob_layout_places.specs.Counts.{AreCountable, AreNumberedBelow, IsCountValue, IsCountable, IsCounted, IsCountedThere, kind_in, SaysOfTable, Taken};
+ghost use Rattle.cob_layout_places.specs.Counts.{IsCountValue, IsCountable, IsCounted, IsCountedThere, kind_in, SaysOfTable};
 
 use crate::places::{Found, seek};
 use crate::varying::{Table, kind_with};
@@ -135,30 +135,4 @@ pub fn count_of(root: &Node, table: Table, bytes: &[u8], counts: &[u32]) -> Resu
         Some(found) => count_there(root, table, found, bytes),
         None => Err(NOWHERE),
     }
-}
-
-/// Takes the counts of these tables of a storage in turn, each into its table's place.
-///
-/// # Errors
-///
-/// The first count that gives no number from its table's least to its greatest one, or that ends past the bytes.
-pub fn take_counts(
-    root: &Node,
-    tables: &[Table],
-    bytes: &[u8],
-    counts: &mut [u32],
-) -> Result<(), CountFault>
-    requires fit { EntryFits 0 (node root.now).top (node root.now).beneath }
-    requires countable { AreCountable (tree_of root.now) tables.now }
-    requires slots { AreNumberedBelow (length counts.old) tables.now }
-    ensures ok { OnOk result
-        (Taken (tree_of root.now) bytes.now tables.now counts.old (Ok counts.new)) }
-    ensures err { IfErr result
-        (λ e. Taken (tree_of root.now) bytes.now tables.now counts.old (Err e)) }
-    ensures room { length counts.new ≡ length counts.old }
-{
-    for table in tables {
-        counts[table.number] = count_of(root, *table, bytes, counts)?;
-    }
-    Ok(())
 }
