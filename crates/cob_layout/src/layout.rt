@@ -242,6 +242,10 @@ impl Layout {
         ensures same { OnErr result (counts.new ≡ counts.old) }
         ensures room { length counts.new ≡ length counts.old }
     {
+        if self.tables.is_empty() {
+            counts.taken.copy_from_slice(self.counts.as_slice());
+            return Ok(());
+        }
         counts.next.copy_from_slice(self.counts.as_slice());
         take_all_counts(
             &self.root,
