@@ -119,31 +119,11 @@ fn read_into<S: Source>(
     }
 }
 
-/// Where a record is read and converted.
-#[derive(Drop)]
-struct Buffers {
-    input: Vec<u8>,
-    output: Vec<u8>,
-    room: Room,
-}
-
-/// The buffers that the records of a conversion need.
-fn buffers_for(alloc: Global, conversion: &Conversion) -> Result<Buffers, AllocError>
-    ensures input { IfOk result
-        (λ buffers. length buffers.input.items ≡ in_length conversion.now) }
-    ensures output { IfOk result
-        (λ buffers. length buffers.output.items ≡ out_length conversion.now) }
-    ensures room { IfOk result
-        (λ buffers. buffers.room ≡ capacity_for conversion.now.records) }
+/// A buffer of so many bytes.
+fn buffer(alloc: Global, bytes: u16) -> Result<Vec<u8>, AllocError>
+    ensures { IfOk result (λ buffer. length buffer.items ≡ bytes) }
 {
-    let room = Room::new(alloc, conversion)?;
-    let input = vec![in alloc; 0u8; usize::from(conversion.in_length())]?;
-    let output = vec![in alloc; 0u8; usize::from(conversion.out_length())]?;
-    Ok(Buffers {
-        input,
-        output,
-        room,
-    })
+    vec![in alloc; 0u8; usize::from(bytes)]
 }
 
 /// The record with this number of a source, which is read into these buffers, and what it becomes.
@@ -155,34 +135,48 @@ fn shown_with<S: Source>(
     alloc: Global,
     conversion: &Conversion,
     number: u64,
-    buffers: Buffers,
+    mut input: Vec<u8>,
+    mut output: Vec<u8>,
+    room: &mut Room,
     source: &mut S,
 ) -> Result<Shown, NotShown>
     requires number { 0 < number }
-    requires input { length buffers.input.items ≡ in_length conversion.now }
-    requires output { length buffers.output.items ≡ out_length conversion.now }
-    requires room { buffers.room ≡ capacity_for conversion.now.records }
+    requires input { length input.items ≡ in_length conversion.now }
+    requires output { length output.items ≡ out_length conversion.now }
+    requires room { room.old ≡ capacity_for conversion.now.records }
     ensures shows { IfOk result (IsShown conversion.now number) }
     ensures why { IfErr result (IsNotShown number) }
     ensures finds { Told (S.coming source.old) (S.coming source.new)
         (FindsShown conversion.now number result) }
 {
-    let Buffers {
-        mut input,
-        mut output,
-        mut room,
-    } = buffers;
-    match read_into(
-        conversion,
-        number,
-        &mut input,
-        &mut output,
-        &mut room,
-        source,
-    ) {
+    match read_into(conversion, number, &mut input, &mut output, room, source) {
         Ok(()) => Ok(placed(alloc, conversion, number, input, output)?),
         Err(why) => Err(why),
     }
+}
+
+/// The record with this number of a source, and what it becomes, with room for conversions.
+///
+/// # Errors
+///
+/// There are fewer records, one up to it stops, want of memory.
+fn shown_in<S: Source>(
+    alloc: Global,
+    conversion: &Conversion,
+    number: u64,
+    room: &mut Room,
+    source: &mut S,
+) -> Result<Shown, NotShown>
+    requires number { 0 < number }
+    requires room { room.old ≡ capacity_for conversion.now.records }
+    ensures shows { IfOk result (IsShown conversion.now number) }
+    ensures why { IfErr result (IsNotShown number) }
+    ensures finds { Told (S.coming source.old) (S.coming source.new)
+        (FindsShown conversion.now number result) }
+{
+    let input = buffer(alloc, conversion.in_length())?;
+    let output = buffer(alloc, conversion.out_length())?;
+    shown_with(alloc, conversion, number, input, output, room, source)
 }
 
 /// Reads the record with this number of a source, counted from 1, and answers it with what it becomes and the places of both. Those before it are read by
@@ -206,6 +200,6 @@ pub fn shown_record<S: Source>(
     ensures finds { Told (S.coming source.old) (S.coming source.new)
         (FindsShown conversion.now number result) }
 {
-    let buffers = buffers_for(alloc, conversion)?;
-    shown_with(alloc, conversion, number, buffers, source)
+    let mut room = Room::new(alloc, conversion)?;
+    shown_in(alloc, conversion, number, &mut room, source)
 }
