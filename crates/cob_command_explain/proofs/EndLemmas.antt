@@ -5,10 +5,10 @@ use Rattle.cob_convert_explain.specs.declared.explainer.Explanation.{Explanation
 use Rattle.cob_convert_explain.specs.declared.explainer.Explanation.TheVariants as told
 use Rattle.cob_convert_explain.specs.Explained.{IsExplanation}
 use Rattle.cob_command_faults.specs.declared.fault.CommandFault.TheVariants as fault
-use Rattle.cob_command_faults.specs.Ends.{AllDone, HasFault}
-use Rattle.cob_command_explain.specs.Ends.{EndsExplain, EndsTold}
+use Rattle.cob_command_faults.specs.Ends.{AllDone, EndsAtRecord, HasFault}
+use Rattle.cob_command_explain.specs.Ends.{EndsTold}
 
-pub ends_told : (t : Explanation) (end : Status) → IsExplanation t → EndsTold t end → EndsExplain end
+pub ends_told : (t : Explanation) (end : Status) → IsExplanation t → EndsTold t end → EndsAtRecord end
 ends_told (told.Missing records) end is h = inr h
 ends_told (told.Converts moves) end is h = inl (AllDone h)
 ends_told (told.Stops moves stopped) end is h = inl (HasFault (fault.Stopped stopped.fault) (inr (inr is)) h)

@@ -2,12 +2,12 @@ ghost use Rattle.std.specs.Prelude.{IfErr, IfOk};
 ghost use Rattle.cob_copybook.specs.Books.{IsBookOf};
 ghost use Rattle.cob_copybook.specs.declared.role.Role.TheVariants.{Out};
 ghost use Rattle.cob_records.specs.Forms.{HasBlockSize};
-ghost use Rattle.cob_command_faults.specs.Ends.{EndsAs};
+ghost use Rattle.cob_command_faults.specs.Ends.{EndsAs, EndsAtRecord};
 ghost use Rattle.cob_command_faults.specs.Faults.{status_of};
-ghost use Rattle.cob_command_faults.specs.Texts.{LacksConverter};
+ghost use Rattle.cob_command_faults.specs.Texts.{LacksConverter, StopsAtRecord};
 ghost use Rattle.cob_command_faults.specs.declared.fault.CommandFault.TheVariants.{Stopped as StoppedFault};
 ghost use Rattle.cob_convert_explain.specs.Explained.{IsExplanation};
-ghost use Rattle.cob_command_explain.specs.Ends.{EndsExplain, EndsTold, MayEndExplain};
+ghost use Rattle.cob_command_explain.specs.Ends.{EndsTold};
 
 use cob_command_faults::{CommandFault, FileName, opened, printed, tell_fault, text_of};
 use cob_convert::Converter;
@@ -65,7 +65,7 @@ fn explained<R: AllocGlobal + Files + Input>(
 ) -> Result<Explanation, CommandFault>
     requires { IsBookOf Out texts.out_book.now converter.now.records.output }
     ensures told { IfOk result IsExplanation }
-    ensures may { IfErr result MayEndExplain }
+    ensures may { IfErr result StopsAtRecord }
 {
     let end = open_part(rt, line.input, stretch.from, stretch.bytes);
     let mut source = opened(end, FileName::In)?;
@@ -95,7 +95,7 @@ pub fn explain_record_of<R: AllocGlobal + Files + Input>(
     requires in_block { HasBlockSize line.now.in_form }
     requires out_block { HasBlockSize line.now.out_form }
     ensures told { IfOk result IsExplanation }
-    ensures may { IfErr result MayEndExplain }
+    ensures may { IfErr result StopsAtRecord }
 {
     let in_book = text_of(rt, line.in_book, FileName::InBook)?;
     let out_book = text_of(rt, line.out_book, FileName::OutBook)?;
@@ -122,7 +122,7 @@ pub fn explain_record<R: AllocGlobal + Files + Input>(
     requires in_block { HasBlockSize line.now.in_form }
     requires out_block { HasBlockSize line.now.out_form }
     ensures told { IfOk result IsExplanation }
-    ensures may { IfErr result MayEndExplain }
+    ensures may { IfErr result StopsAtRecord }
 {
     let all = Stretch {
         from: 0,
@@ -183,7 +183,7 @@ pub fn do_explain<R: AllocGlobal + Files + Input + Print + Eprint>(
 ) -> Status
     requires in_block { HasBlockSize line.now.in_form }
     requires out_block { HasBlockSize line.now.out_form }
-    ensures { EndsExplain result }
+    ensures { EndsAtRecord result }
 {
     match explain_record(rt, line) {
         Ok(told) => tell_explanation(rt, line.record, &told),

@@ -8,8 +8,8 @@
 //! and on standard error its fault line, as ever, and behind it what is wrong in words. A record that is not there is told on standard error, and ends
 //! as a malformed command line.
 //!
-//! What is promised: which faults the command can have (`MayEndExplain` of specs/Ends.antt), and that it ends with the status of what it came to
-//! (`EndsTold`), or as where a device failed if its last line was not printed (`EndsExplain`).
+//! What is promised: which faults the command can have (`StopsAtRecord` of `cob_command_faults`), and that it ends with the status of what it came to
+//! (`EndsTold` of specs/Ends.antt), or as where a device failed if its last line was not printed (`EndsAtRecord` of `cob_command_faults`).
 //!
 //! It stands on `cob_convert_line` for the command line, on `cob_convert_explain` for what is told, on `cob_command_faults` for faults and texts, on
 //! `cob_convert` for the conversion, on `cob_pieces` for the records that come, and on `cob_status` for statuses.

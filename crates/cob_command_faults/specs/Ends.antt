@@ -3,6 +3,7 @@ use Rattle.std.specs.Prelude.{◌≡◌, ◌⊎◌, Result, Ok, Err}
 use Rattle.cob_status.specs.declared.status.Status.{Status}
 use Rattle.cob_status.specs.declared.status.Status.TheVariants as status
 use Rattle.cob_command_faults.specs.Faults.{status_of}
+use Rattle.cob_command_faults.specs.Texts.{StopsAtRecord}
 use Rattle.cob_command_faults.specs.declared.fault.CommandFault.{CommandFault}
 
 -- What is to end with a status ends with it, or with that of a device where its last line could not be printed.
@@ -18,3 +19,8 @@ status_of_outcome (Err fault) = status_of fault
 pub data EndsAmong (may : CommandFault → Type 0) (end : Status) : Type 0 where
   AllDone : EndsAs status.Done end → EndsAmong may end
   HasFault : (fault : CommandFault) → may fault → EndsAs (status_of fault) end → EndsAmong may end
+
+-- A command that shows a record of a conversion ends as others do that may have its faults, or as a malformed command line, which names a record that is not
+-- there.
+abbrev pub EndsAtRecord : Status → Type 0
+EndsAtRecord end = EndsAmong StopsAtRecord end ⊎ EndsAs status.Malformed end

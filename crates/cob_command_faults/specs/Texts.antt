@@ -47,3 +47,8 @@ StopsListing (fault.Stopped stopped) = is_write_cause stopped.cause ≡ false
 StopsListing fault.Unprinted = ⊤
 StopsListing fault.Memory = ⊤
 StopsListing other = ⊥
+
+-- The faults of a command that shows a record of a conversion: of its texts, of the file with the records, or what stops a run at a record up to the one that
+-- is asked for; what it prints is not printed, or memory was refused.
+abbrev pub StopsAtRecord : CommandFault → Type 0
+StopsAtRecord told = LacksConverter told ⊎ LacksFile name.In told ⊎ StopsListing told

@@ -6,7 +6,8 @@
 //! - [`tell_fault`] prints such a line, and [`printed`] says how a command ends whose last line was printed or was not: as it came out, or as where a
 //!   device failed (`EndsAs` of specs/Ends.antt).
 //! - [`text_of`] reads the text in the file that an option names, and [`Texts`] the three texts of a conversion, in the order of the options; which
-//!   faults they can have is said by specs/Texts.antt. [`opened`] names the option of a file that is not opened or not made.
+//!   faults they can have is said by specs/Texts.antt. [`opened`] names the option of a file that is not opened or not made. Which faults a command can
+//!   have that shows a record of a conversion, and how it ends, say `StopsAtRecord` and `EndsAtRecord`, for the commands that do so.
 //! - [`telling`] says how a run tells how far it is, and [`asks_a_person`] whether a person may be waiting at standard input.
 //!
 //! Which words tell a fault, and what a terminal is, is shown by `cob_jobs` and `tools/try_files`.

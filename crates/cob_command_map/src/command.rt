@@ -2,7 +2,8 @@
 
 ghost use Rattle.std.specs.Prelude.{◌<◌, IfErr};
 ghost use Rattle.cob_records.specs.Forms.{HasBlockSize};
-ghost use Rattle.cob_command_map.specs.Ends.{EndsMap, MayNotMap};
+ghost use Rattle.cob_command_faults.specs.Ends.{EndsAtRecord};
+ghost use Rattle.cob_command_map.specs.Ends.{MayNotMap};
 
 use crate::ends::{Unmapped, tell_mapped};
 use crate::mapping::print_conversion;
@@ -84,7 +85,7 @@ pub fn do_map<R: AllocGlobal + Files + Input + Print + Eprint>(rt: &R, line: &Ma
     requires in_block { HasBlockSize line.now.in_form }
     requires out_block { HasBlockSize line.now.out_form }
     requires record { 0 < line.now.record }
-    ensures { EndsMap result }
+    ensures { EndsAtRecord result }
 {
     tell_mapped(rt, print_map(rt, line))
 }

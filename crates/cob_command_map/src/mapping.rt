@@ -6,7 +6,7 @@ ghost use Rattle.cob_map_losses.specs.Losing.{AreAllLosses};
 ghost use Rattle.cob_command_map.specs.Ends.{MayNotMap};
 
 use crate::ends::Unmapped;
-use crate::shown::{Shown, record_shown};
+use crate::shown::{converted_of, record_shown};
 use cob_command_faults::CommandFault;
 use cob_convert_line::MapLine;
 use cob_convert_record::Conversion;
@@ -14,6 +14,7 @@ use cob_cover::bytes_covered;
 use cob_lossless::{MovesBetween, carried};
 use cob_map::{Converted, Mapping, Page, TextNames};
 use cob_map_losses::losses_in;
+use cob_map_record::Shown;
 use cob_move_losses::Losses;
 use std::alloc::{AllocError, Global};
 use std::io::{Input, Print};
@@ -33,7 +34,7 @@ impl Marks {
     /// The record that is shown, as it is drawn.
     fn converted(&self) -> Option<Converted<'_>> {
         match &self.shown {
-            Some(shown) => Some(shown.converted()),
+            Some(shown) => Some(converted_of(shown)),
             None => None,
         }
     }

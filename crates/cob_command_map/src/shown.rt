@@ -1,78 +1,46 @@
-//! The record that is shown, what it becomes, and where the entries of both stand.
+//! The record that is shown, and what it becomes.
 
-ghost use Rattle.std.specs.Prelude.{◌≡◌, ◌<◌, IfErr, IfOk, IfSome};
+ghost use Rattle.std.specs.Prelude.{◌<◌, IfErr, IfOk, IfSome};
 ghost use Rattle.cob_convert.specs.Run.{IsConverted};
+ghost use Rattle.cob_map_record.specs.Showing.{IsNotShown};
 ghost use Rattle.cob_command_map.specs.Ends.{MayNotMap};
 
 use crate::ends::Unmapped;
 use cob_command_faults::{CommandFault, FileName, opened};
 use cob_convert_line::MapLine;
-use cob_convert_record::{Conversion, Room};
-use cob_layout::{Layout, Places};
+use cob_convert_record::Conversion;
 use cob_map::{Converted, Record};
-use cob_map_record::{Found, converted_record};
+use cob_map_record::{NotShown, Shown, shown_record};
 use cob_records::{Source, open_source};
-use std::alloc::{AllocError, Global};
+use std::alloc::Global;
 use std::io::Input;
 use std::rt::Files;
 
-/// A record and what it becomes, with its number, and the places of both.
-#[derive(Drop)]
-pub(crate) struct Shown {
-    number: u64,
-    input: Vec<u8>,
-    output: Vec<u8>,
-    from: Places,
-    to: Places,
-}
-
-impl Shown {
-    /// It, as it is drawn.
-    pub(crate) fn converted(&self) -> Converted<'_> {
-        Converted {
-            number: self.number,
-            input: Record {
-                spots: self.from.spots(),
-                bytes: self.input.as_slice(),
-            },
-            output: Record {
-                spots: self.to.spots(),
-                bytes: self.output.as_slice(),
-            },
-        }
+/// A record and what it becomes, as they are drawn.
+pub(crate) fn converted_of(shown: &Shown) -> Converted<'_> {
+    Converted {
+        number: shown.number,
+        input: Record {
+            spots: shown.from.spots(),
+            bytes: shown.input.as_slice(),
+        },
+        output: Record {
+            spots: shown.to.spots(),
+            bytes: shown.output.as_slice(),
+        },
     }
 }
 
-/// The places of a record that has these bytes. In form f its counts need not be valid: then each table has its greatest number of elements.
-fn places_in(alloc: Global, layout: &Layout, bytes: &[u8]) -> Result<Places, AllocError> {
-    let mut places = layout.new_places(alloc)?;
-    match layout.places_of(bytes, &mut places) {
-        Ok(()) => Ok(places),
-        Err(_) => layout.new_places(alloc),
-    }
-}
-
-/// The record with this number and what it becomes, with the places of both.
-fn placed(
-    alloc: Global,
-    conversion: &Conversion,
-    number: u64,
-    input: Vec<u8>,
-    output: Vec<u8>,
-) -> Result<Shown, AllocError>
-    ensures { IfOk result
-        (λ s. (s.input.items ≡ input.items) × (s.output.items ≡ output.items)) }
+/// Why there is no page where the record with this number is not shown.
+fn unmapped(number: u64, why: NotShown) -> Unmapped
+    requires { IsNotShown number why }
+    ensures { MayNotMap result }
 {
-    let (from, to) = conversion.layouts();
-    let from = places_in(alloc, from, &input)?;
-    let to = places_in(alloc, to, &output)?;
-    Ok(Shown {
-        number,
-        input,
-        output,
-        from,
-        to,
-    })
+    match why {
+        NotShown::Memory => Unmapped::Fault(CommandFault::Memory),
+        NotShown::Fewer(there) => Unmapped::NoRecord { number, there },
+        NotShown::Stops(fault) => Unmapped::Fault(CommandFault::Stopped(fault)),
+    }
 }
 
 /// The record with this number of a source, and what it becomes.
@@ -87,24 +55,9 @@ fn shown_in<S: Source>(
         (λ s. IsConverted conversion.now (s.input.items, s.output.items)) }
     ensures may { IfErr result MayNotMap }
 {
-    let mut input = vec![in alloc; 0u8; usize::from(conversion.in_length())]?;
-    let mut output = vec![in alloc; 0u8; usize::from(conversion.out_length())]?;
-    let mut room = Room::new(alloc, conversion)?;
-    match converted_record(
-        conversion,
-        number,
-        &mut input,
-        &mut output,
-        &mut room,
-        source,
-    ) {
-        Ok(Found::Record(lengths)) => {
-            input.truncate(lengths.input);
-            output.truncate(lengths.output);
-            Ok(placed(alloc, conversion, number, input, output)?)
-        }
-        Ok(Found::Fewer(there)) => Err(Unmapped::NoRecord { number, there }),
-        Err(fault) => Err(Unmapped::Fault(CommandFault::Stopped(fault))),
+    match shown_record(alloc, conversion, number, source) {
+        Ok(shown) => Ok(shown),
+        Err(why) => Err(unmapped(number, why)),
     }
 }
 

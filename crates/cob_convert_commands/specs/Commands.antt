@@ -10,15 +10,13 @@ use Rattle.cob_convert_line.specs.declared.fault.LineFault.TheVariants as refusa
 use Rattle.cob_status.specs.Statuses.{code_of}
 use Rattle.cob_status.specs.declared.status.Status.{Status}
 use Rattle.cob_status.specs.declared.status.Status.TheVariants as status
-use Rattle.cob_command_faults.specs.Ends.{EndsAmong, EndsAs}
+use Rattle.cob_command_faults.specs.Ends.{EndsAmong, EndsAs, EndsAtRecord}
 use Rattle.cob_command_aside.specs.Ends.{MayEndAside}
 use Rattle.cob_command_convert.specs.Ends.{MayEndCheck, MayEndConvert}
-use Rattle.cob_command_explain.specs.Ends.{EndsExplain}
 use Rattle.cob_command_draft.specs.Ends.{MayEndDraft}
 use Rattle.cob_command_lists.specs.Ends.{MayEndLayout, MayEndListing}
 use Rattle.cob_command_lossless.specs.Ends.{MayEndLossless}
 use Rattle.cob_command_manual.specs.Ends.{MayEndPrinting}
-use Rattle.cob_command_map.specs.Ends.{EndsMap}
 
 -- how a conversion ends, by whether rejected records are set aside in a file
 abbrev pub EndsConvert : {A : Type 0} → Option A → Bool → Status → Type 0
@@ -35,11 +33,11 @@ EndsLine (line.Layout options) end = EndsAmong MayEndLayout end
 EndsLine (line.Show options) end = EndsAmong MayEndListing end
 EndsLine (line.Pieces options) end = EndsAmong MayEndListing end
 EndsLine (line.Lossless options) end = EndsAmong MayEndLossless end
-EndsLine (line.Explain options) end = EndsExplain end
+EndsLine (line.Explain options) end = EndsAtRecord end
 EndsLine (line.Draft options) end = EndsAmong MayEndDraft end
 EndsLine line.Completion end = EndsAmong MayEndPrinting end
 EndsLine line.Manual end = EndsAmong MayEndPrinting end
-EndsLine (line.Map options) end = EndsMap end
+EndsLine (line.Map options) end = EndsAtRecord end
 
 -- the number of a status with which this command line ends
 abbrev pub IsEndOfLine : Line → ℕ → Type 0
