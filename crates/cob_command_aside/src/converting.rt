@@ -7,9 +7,10 @@ ghost use Rattle.cob_run_aside.specs.Ends.{LacksOutputs};
 ghost use Rattle.cob_command_aside.specs.Ends.{EndsRun, MayEndAside};
 ghost use Rattle.cob_command_aside.specs.Told.{aside_counted_from, aside_told_from, most_of, told_run};
 
-use crate::ends::{AsideEnds, open_aside_ends};
-use crate::places::{Parts, put_both_in_place};
-use cob_command_ends::{counted_from, first_of, is_standard_output, telling_piece};
+use crate::places::put_both_in_place;
+use cob_command_ends::{
+    AsideEnds, Parts, counted_from, first_of, is_standard_output, open_aside_ends, telling_piece,
+};
 use cob_command_faults::{CommandFault, Texts, printed, tell_fault};
 use cob_convert::{Converter, Tally};
 use cob_convert_files::part_name;

@@ -15,12 +15,11 @@
 //! What files hold and what is printed is shown by the stored command lines of `cob_jobs`.
 //!
 //! It stands on `cob_command_ends` for the ends of a conversion, on `cob_run_aside` for the run, on `cob_convert` for what is done, on `cob_convert_line` for
-//! the command line, on `cob_command_faults` for faults and texts, on `cob_convert_files` for identities of files and outputs that replace a file, on
-//! `cob_records` for the ends over files, on `cob_chosen` and `cob_pieces` for the records that it reads, and on `cob_status` for statuses.
+//! the command line, on `cob_command_faults` for faults and texts, on `cob_convert_files` for outputs that replace a file, on `cob_records` for the ends
+//! over files, and on `cob_status` for statuses.
 #![tactic(auto)]
 
 mod converting;
-mod ends;
 mod places;
 
 pub use converting::{convert_aside, do_convert_aside, tell_converted_aside};

@@ -1,18 +1,12 @@
 //! Two outputs that come into their places together.
 
+use cob_command_ends::Parts;
 use cob_convert_files::{PlaceFault, put_in_place};
 use cob_records::{FileSink, Opened, WriteSink};
 use cob_run_aside::PlacesFault;
 use std::fs::OpenFile;
 use std::io::{Print, Printer, Write};
 use std::rt::Files;
-
-/// The names of the files that stand in for the output and for the file of rejected records until all is done.
-#[derive(Clone, Copy)]
-pub struct Parts<'a> {
-    pub output: &'a str,
-    pub rejects: &'a str,
-}
 
 /// Whether a part that was handed over whole was brought to its device.
 fn is_synced<F: OpenFile, S>(opened: &Opened<F, S>) -> bool {

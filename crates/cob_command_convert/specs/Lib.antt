@@ -1,3 +1,2 @@
-pub mod Finished
+pub mod Told
 pub mod Ends
-pub mod Ran

@@ -1,17 +1,33 @@
 ghost use Rattle.std.specs.Prelude.{◌≡◌, IfErr, true};
 ghost use Rattle.cob_command_faults.specs.Ends.{EndsAmong, EndsAs, status_of_outcome};
 ghost use Rattle.cob_records.specs.Forms.{HasBlockSize};
+ghost use Rattle.cob_run_to_end.specs.Ends.{LacksPlace, StopsRun};
 ghost use Rattle.cob_command_convert.specs.Ends.{MayEndConvert};
+ghost use Rattle.cob_command_convert.specs.Told.{told_counted_from};
 
-use crate::running::{placed, run_to_end, told_counted_from};
-use cob_command_ends::{Ends, first_of, is_standard_output, open_ends, telling_piece};
+use cob_command_ends::{
+    Ends, counted_from, first_of, is_standard_output, open_ends, telling_piece,
+};
 use cob_command_faults::{CommandFault, Texts, printed, tell_fault};
 use cob_convert::Converter;
 use cob_convert_files::{part_name, put_in_place};
 use cob_convert_line::ConvertLine;
+use cob_run_to_end::{placed, run_to_end};
 use cob_status::Status;
 use std::io::{Eprint, Input, Print};
 use std::rt::{Clock, Files};
+
+/// What a command came to, its records counted from this one.
+fn told_counted_from(first: u64, outcome: Result<u64, CommandFault>) -> Result<u64, CommandFault>
+    ensures told { result ≡ told_counted_from first outcome }
+    ensures stops { IfErr outcome StopsRun → IfErr result StopsRun }
+    ensures lacks { IfErr outcome LacksPlace → IfErr result LacksPlace }
+{
+    match outcome {
+        Ok(done) => Ok(done),
+        Err(fault) => Err(counted_from(first, fault)),
+    }
+}
 
 /// Converts into the output itself, which is made, or emptied where it is there.
 fn convert_into<R: AllocGlobal + Files + Input + Print + Eprint + Clock>(

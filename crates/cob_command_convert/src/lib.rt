@@ -10,19 +10,17 @@
 //!
 //! - which faults each command can have (`MayEndConvert`, `MayEndCheck` of specs/Ends.antt), and that it ends with the status of what it came to,
 //!   or as where a device failed if its last line was not printed (`EndsAmong` of `cob_command_faults`);
-//! - what is told of a run whose output could not be handed to the device whole, or not put in its place (`finished_run`, `placed_run` of
-//!   specs/Finished.antt), and that where a conversion ends otherwise than by a device that fails, nothing of what it wrote is still held.
+//! - what is told of what the run came to, whose promises are those of `cob_run_to_end` (`told_counted_from` of specs/Told.antt).
 //!
 //! What files hold and what is printed is shown by the stored command lines of `cob_jobs`.
 //!
-//! It stands on `cob_convert_line` for the command line, on `cob_command_faults` for faults and texts, on `cob_command_ends`, `cob_command_input` and
-//! `cob_chosen` for the ends of a conversion, on `cob_convert` for what is done, on `cob_convert_files` for outputs that replace a file, on `cob_records`
-//! for the ends over files, on `cob_codec` for the reading of binary items, and on `cob_status` for statuses.
+//! It stands on `cob_convert_line` for the command line, on `cob_command_faults` for faults and texts, on `cob_command_ends` for the ends of a conversion,
+//! on `cob_run_to_end` for the run, on `cob_convert` for what is done, on `cob_convert_files` for outputs that replace a file, on `cob_records` for forms of
+//! records, on `cob_codec` for the reading of binary items, and on `cob_status` for statuses.
 #![tactic(auto)]
 
 mod checking;
 mod converting;
-mod running;
 
 pub use checking::{Checked, check, do_check};
 pub use converting::{convert, do_convert, tell_converted};

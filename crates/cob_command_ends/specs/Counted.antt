@@ -1,6 +1,5 @@
 -- Faults whose records are counted from a number.
 use Rattle.std.specs.Prelude.{◌+◌, ◌-◌, ℕ}
-use Rattle.cob_stream.specs.declared.fault.RunFault.{RunFault}
 use Rattle.cob_records.specs.Progress.{kept_count}
 use Rattle.cob_command_faults.specs.declared.fault.CommandFault.{CommandFault}
 use Rattle.cob_command_faults.specs.declared.fault.CommandFault.TheVariants as fault

@@ -1,3 +1,4 @@
 pub mod Inputs
 pub mod Ends
+pub mod Aside
 pub mod Counted

@@ -7,7 +7,6 @@ use Rattle.cob_convert_files.specs.declared.outputs.PlaceFault.TheVariants as pl
 use Rattle.cob_records.specs.declared.device.DeviceFault.{DeviceFault}
 use Rattle.cob_command_faults.specs.declared.fault.CommandFault.{CommandFault}
 use Rattle.cob_command_faults.specs.declared.fault.CommandFault.TheVariants as fault
-use Rattle.cob_command_ends.specs.Counted.{counted_from}
 
 -- What is told of a run whose last bytes were not handed to the device: a write that failed before; else that the last record that was put is not
 -- written whole, also in the place of a stop; where none was put the output lacks none, and a stop is told.
@@ -21,11 +20,6 @@ abbrev pub finished_run : Result ℕ RunFault → Result ⊤ DeviceFault → Res
 finished_run (Ok done) (Ok flushed) = Ok done
 finished_run (Err stopped) (Ok flushed) = Err (fault.Stopped stopped)
 finished_run answer (Err failed) = Err (unflushed_fault answer)
-
--- what a command came to, with its records counted from this one
-abbrev pub told_counted_from : ℕ → Result ℕ CommandFault → Result ℕ CommandFault
-told_counted_from first (Ok done) = Ok done
-told_counted_from first (Err told) = Err (counted_from first told)
 
 -- What so many records that were handed over come to, behind what was done to put the output in its place: a part that is not on its device lacks
 -- its last record, as an output that was not handed over does.

@@ -1,3 +1,5 @@
+//! A run that stops at the first record that does not convert, to its end and behind it.
+
 ghost use Rattle.std.specs.Prelude.{◌≡◌, [], IfErr, OnOk};
 ghost use Rattle.std.specs.Io.Buffered.{writer_buffer};
 ghost use Rattle.cob_records.specs.Device.{counted};
@@ -5,12 +7,11 @@ ghost use Rattle.cob_records.specs.Forms.{HasBlockSize};
 ghost use Rattle.cob_records.specs.Streams.{sink_writer};
 ghost use Rattle.cob_stream.specs.Reasons.{is_write_cause};
 ghost use Rattle.cob_convert.specs.Run.{is_write_stop};
-ghost use Rattle.cob_command_convert.specs.Ends.{LacksPlace, StopsRun};
-ghost use Rattle.cob_command_convert.specs.Ran.{RanFrom, RanOver};
-ghost use Rattle.cob_command_convert.specs.Finished.{finished_run, placed_run, told_counted_from, unflushed_fault};
+ghost use Rattle.cob_run_to_end.specs.Ends.{LacksPlace, StopsRun};
+ghost use Rattle.cob_run_to_end.specs.Ran.{RanFrom, RanOver};
+ghost use Rattle.cob_run_to_end.specs.Finished.{finished_run, placed_run, unflushed_fault};
 
 use cob_chosen::Incoming;
-use cob_command_ends::counted_from;
 use cob_command_faults::CommandFault;
 use cob_command_input::with_cause;
 use cob_convert::{Cause, Converter, RunFault};
@@ -68,21 +69,6 @@ impl Ending {
             Ok(()) => Ok(self.answer?),
             Err(DeviceFault) => Err(unflushed(self.answer)),
         }
-    }
-}
-
-/// What a command came to, its records counted from this one.
-pub fn told_counted_from(
-    first: u64,
-    outcome: Result<u64, CommandFault>,
-) -> Result<u64, CommandFault>
-    ensures told { result ≡ told_counted_from first outcome }
-    ensures stops { IfErr outcome StopsRun → IfErr result StopsRun }
-    ensures lacks { IfErr outcome LacksPlace → IfErr result LacksPlace }
-{
-    match outcome {
-        Ok(done) => Ok(done),
-        Err(fault) => Err(counted_from(first, fault)),
     }
 }
 

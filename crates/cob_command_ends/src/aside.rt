@@ -3,11 +3,11 @@
 ghost use Rattle.std.specs.Prelude.{◌<◌, ◌≤◌, IfErr};
 ghost use Rattle.cob_limits.specs.Limits.{longest_record};
 ghost use Rattle.cob_records.specs.Forms.{HasBlockSize};
-ghost use Rattle.cob_command_aside.specs.Ends.{LacksAside, LacksAsideEnds, LosesOther};
+ghost use Rattle.cob_command_ends.specs.Aside.{LacksAside, LacksAsideEnds, LosesOther};
 
-use crate::places::Parts;
+use crate::ends::{Ends, open_ends};
+use crate::inputs::Inputs;
 use cob_chosen::Incoming;
-use cob_command_ends::{Ends, Inputs, open_ends};
 use cob_command_faults::{CommandFault, FileName, opened};
 use cob_convert_files::{FileIdentity, create_part, lead_to_one_file};
 use cob_convert_line::ConvertLine;
@@ -16,6 +16,13 @@ use cob_records::{FileSink, create_sink};
 use std::fs;
 use std::io::{Input, Print, Printer};
 use std::rt::Files;
+
+/// The names of the files that stand in for the output and for the file of rejected records until all is done.
+#[derive(Clone, Copy)]
+pub struct Parts<'a> {
+    pub output: &'a str,
+    pub rejects: &'a str,
+}
 
 /// The ends of such a conversion: what gives its records, what takes those that they become, and what takes the rejected ones.
 #[derive(Drop)]

@@ -1,9 +1,9 @@
-use Rattle.std.proofs.Common.{◌≡◌, ◌+◌, ◌-◌, ◌<◌, ℕ, sym, subst, ap, inl, inr, arith}
+use Rattle.std.proofs.Common.{ℕ, sym, subst, ap, inl, inr, arith}
 use Rattle.cob_command_faults.specs.declared.fault.CommandFault.{CommandFault}
 use Rattle.cob_command_faults.specs.declared.fault.CommandFault.TheVariants as fault
-use Rattle.cob_command_convert.specs.Ends.{LacksPlace, StopsRun}
+use Rattle.cob_run_to_end.specs.Ends.{LacksPlace, StopsRun}
 use Rattle.cob_command_ends.specs.Counted.{counted_from}
-use Rattle.cob_command_convert.proofs.running.told_counted_from.Goals as goal
+use Rattle.cob_command_convert.proofs.converting.told_counted_from.Goals as goal
 
 stops_from : (first : ℕ) (told : CommandFault) → StopsRun told → StopsRun (counted_from first told)
 stops_from first (fault.Stopped stopped) h = tt

@@ -1,0 +1,3 @@
+pub mod Finished
+pub mod Ends
+pub mod Ran
