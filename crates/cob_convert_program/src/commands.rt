@@ -103,10 +103,7 @@ fn described<'a>(alloc: Global, definition: &CommandDefinition<'a>) -> Command<'
 }
 
 // A command with its options.
-fn command<'a>(
-    alloc: Global,
-    definition: &CommandDefinition<'a>,
-) -> Result<Command<'a>, AllocError>
+fn command<'a>(alloc: Global, definition: &CommandDefinition<'a>) -> Result<Command<'a>, AllocError>
     ensures { let defined = command_of definition.now in Makes (command_app defined.0 defined.1) result }
 {
     with_groups(alloc, described(alloc, definition), definition.groups)

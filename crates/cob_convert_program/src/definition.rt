@@ -1,7 +1,7 @@
 //! What defines an option and a command.
 
 /// How an option stands in words, with the name that help gives its value.
-#[derive(Clone, Copy, Debug, PartialEq, Eq)]
+#[derive(Clone, Copy)]
 pub enum Standing<'a> {
     /// It has to be there, with a value.
     Required(&'a str),
@@ -14,7 +14,7 @@ pub enum Standing<'a> {
 }
 
 /// An option of a command.
-#[derive(Clone, Copy, Debug, PartialEq, Eq)]
+#[derive(Clone, Copy)]
 pub struct OptionDefinition<'a> {
     /// Its name, which stands behind two hyphens.
     pub name: &'a str,
@@ -25,7 +25,7 @@ pub struct OptionDefinition<'a> {
 }
 
 /// A command with its options, beside the request for help, which each command has.
-#[derive(Clone, Copy, Debug)]
+#[derive(Clone, Copy)]
 pub struct CommandDefinition<'a> {
     /// Its name.
     pub name: &'a str,
