@@ -5,6 +5,11 @@ use crate::help::{
     ATOMIC_HELP, BINARY_HELP, EXPLAINED_HELP, FORM_HELP, LISTING_HELP, PROGRESS_HELP,
 };
 
+// How an option stands for a form, which is f where it is not there, and for the greatest size of blocks.
+const FORM_OR_FIXED: Standing<'static> = Standing::Default("FORM", "f");
+
+const SIZE_OR_LARGEST: Standing<'static> = Standing::Default("SIZE", "32760");
+
 // Both copybooks.
 pub(crate) const BOOKS: [OptionDefinition<'static>; 2] = [
     OptionDefinition {
@@ -44,22 +49,22 @@ pub(crate) const ENDS: [OptionDefinition<'static>; 2] = [
 pub(crate) const FORMS: [OptionDefinition<'static>; 5] = [
     OptionDefinition {
         name: "in-form",
-        standing: Standing::Default("FORM", "f"),
+        standing: FORM_OR_FIXED,
         help: FORM_HELP,
     },
     OptionDefinition {
         name: "out-form",
-        standing: Standing::Default("FORM", "f"),
+        standing: FORM_OR_FIXED,
         help: "How the output's records stand: f, v, b",
     },
     OptionDefinition {
         name: "in-block",
-        standing: Standing::Default("SIZE", "32760"),
+        standing: SIZE_OR_LARGEST,
         help: "Greatest size of the input's blocks",
     },
     OptionDefinition {
         name: "out-block",
-        standing: Standing::Default("SIZE", "32760"),
+        standing: SIZE_OR_LARGEST,
         help: "Greatest size of the output's blocks",
     },
     OptionDefinition {
@@ -175,7 +180,7 @@ pub(crate) const CUT: [OptionDefinition<'static>; 2] = [
 // The form of records of one layout.
 pub(crate) const FORM: [OptionDefinition<'static>; 1] = [OptionDefinition {
     name: "form",
-    standing: Standing::Default("FORM", "f"),
+    standing: FORM_OR_FIXED,
     help: FORM_HELP,
 }];
 
