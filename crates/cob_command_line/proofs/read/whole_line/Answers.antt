@@ -1,5 +1,5 @@
-use Rattle.cob_convert_line.proofs.Said.{told}
-use Rattle.cob_convert_line.proofs.read.whole_line.Goals as goal
+use Rattle.cob_convert_line.proofs.Apps.{told}
+use Rattle.cob_command_line.proofs.read.whole_line.Goals as goal
 
 pub returns-in_err-line-clause-lacks : goal.returns-in_err-line-clause-lacks
 returns-in_err-line-clause-lacks c =

@@ -1,5 +1,5 @@
 -- What the parser finds is what the words say.
-use Rattle.std.proofs.Common.{◌⊎◌, inl, inr, Result, Ok, Err, IsErrAnd, IfErr, ◌≡◌, ◌∙◌, refl, sym, ap, List, [], ◌∷◌, Some, is_some, codes, subst}
+use Rattle.std.proofs.Common.{◌⊎◌, inl, inr, ◌≡◌, ◌∙◌, refl, sym, ap, List, [], ◌∷◌, Some, is_some, codes, subst}
 use Rattle.std.specs.Prelude.{unwrap_or}
 use Rattle.clap.specs.Words.{Row, Text, first_of, subcommand_of}
 use Rattle.clap.specs.Faults.{fault_of}
@@ -125,7 +125,3 @@ words_refused words error fault (inr among) is = go (by_kind (kind_of error) err
     go : (fault_by_kind (kind_of error) error ≡ Memory) ⊎ (fault_by_kind (kind_of error) error ≡ Words error) → (fault ≡ Memory) ⊎ IsFaultOf words fault
     go (inl memory) = inl (is ∙ memory)
     go (inr told) = inr (subst (IsFaultOf words) (sym (is ∙ told)) (nothing (fault_of program_app words) refl among, among))
-
-pub told : {T E : Type 0} (r : Result T E) (Q P : E → Type 0) → ((e : E) → Q e → P e) → IsErrAnd r Q → IfErr r P
-told (Ok x) Q P step h = absurd h
-told (Err e) Q P step h = step e h

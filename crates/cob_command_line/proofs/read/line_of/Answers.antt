@@ -7,9 +7,10 @@ use Rattle.clap.specs.declared.parser.matches.ArgMatches.TheViews.{out-ArgMatche
 use Rattle.cob_convert_line.specs.Lines.{IsCommandLineOf}
 use Rattle.cob_convert_line.specs.declared.line.CommandLine.{CommandLine}
 use Rattle.cob_convert_program.proofs.Spelled.{complete_by, found_in, program_is_free, program_is_simple}
-use Rattle.cob_convert_line.proofs.Apps.{both_parts, none_said, some_said}
-use Rattle.cob_convert_line.proofs.Said.{found_by, named_by, option_fault, refusal, said_by, told, words_refused}
-use Rattle.cob_convert_line.proofs.read.line_of.Goals as goal
+use Rattle.cob_convert_line.proofs.Apps.{told}
+use Rattle.cob_command_line.proofs.Parts.{both_parts, none_said, some_said}
+use Rattle.cob_command_line.proofs.Said.{found_by, named_by, option_fault, refusal, said_by, words_refused}
+use Rattle.cob_command_line.proofs.read.line_of.Goals as goal
 
 pub returns-then-is_empty : goal.returns-then-is_empty
 returns-then-is_empty g c = record { options = none_said g.S.AsStr.text c.args.words.now _ refl refl (sym c.is_empty.ensures ∙ c.if-is_empty.true); refused = tt; fault = tt; blocks = tt }
