@@ -1,14 +1,14 @@
 -- What the parser says of a command, and of what it found, in the words of this crate.
-use Rattle.std.proofs.Common.{codes, subst, ◌∙◌, ◌≡◌, inl, inr, ◌==◌, ℕ, arith, length, map, eqb-true, List, [], ◌∷◌, Option, Some, None, option_map, true, false, refl, sym, ap, ap₂, true≢false}
+use Rattle.std.proofs.Common.{Result, Ok, Err, IsErrAnd, IfErr, codes, subst, ◌∙◌, ◌≡◌, inl, inr, ◌==◌, ℕ, arith, [], ◌∷◌, Option, Some, None, true, false, refl, sym, ap, true≢false}
 use Rattle.std.specs.Prelude.{is_some, unwrap_or}
 use Rattle.std.proofs.lemmas.Bool.Decides.{nat_tests}
-use Rattle.clap.specs.Words.{Row, Text}
+use Rattle.clap.specs.Words.{Text}
 use Rattle.cob_convert_line.specs.Numbers.{SaysNumber}
 use Rattle.cob_convert_program.specs.Commands.{pieces_options, show_options}
 use Rattle.cob_convert_options.specs.Looks.{AreAll, Look}
 use Rattle.cob_convert_line.specs.Named.{NamesBlock, NamesBound, NamesNumber, form_by_letter, letter_of, listing_by_word, reading_by_word, sized_by, word_of, word_of_listing}
 use Rattle.cob_convert_line.specs.Faults.{HasCounts, HasForms, HasListing, HasPiece, HasSizes, IsFaultIn, LacksABlock, LacksBlock, LacksBound, LacksCount, LacksForm, LacksListing, LacksNumber, LacksPiece, LacksReading, LacksSize}
-use Rattle.cob_convert_line.specs.Lines.{IsCommandLineOf, NameForms, NamePiece}
+use Rattle.cob_convert_line.specs.Lines.{NameForms, NamePiece}
 use Rattle.cob_convert_line.specs.declared.line.Listing.{Listing}
 use Rattle.cob_convert_line.specs.declared.line.Listing.TheVariants as listing
 use Rattle.cob_convert_line.specs.declared.fault.LineFault.{LineFault}
@@ -17,31 +17,6 @@ use Rattle.cob_codec.specs.declared.reading.Reading.TheVariants.{Pictured, Whole
 use Rattle.cob_records.specs.BlockSize.{SaysBlockSize}
 use Rattle.cob_records.specs.declared.records.Form.{Form}
 use Rattle.cob_records.specs.declared.records.Form.TheVariants.{Fixed, Variable, Blocked}
-use Rattle.cob_convert_line.specs.declared.line.CommandLine.{CommandLine}
-use Rattle.cob_convert_line.specs.declared.line.Line.TheVariants as line
-
--- what stands in an option, by its two parts
-pub both_parts : {X : Type 0} (found : Option X) (name_of : X → Text) (rows_of : X → List Row) (name : Text) (rows : List Row)
-    → option_map name_of found ≡ Some name → option_map (λ (p : Text × List Row). p.1) (option_map {U = Text × List Row} (λ x. (name_of x, rows_of x)) found) ≡ Some rows
-    → option_map {U = Text × List Row} (λ x. (name_of x, rows_of x)) found ≡ Some (name, rows)
-both_parts None name_of rows_of name rows n r = absurd (true≢false (sym (ap is_some n)))
-both_parts (Some x) name_of rows_of name rows n r =
-    ap₂ (λ (a : Text) (b : List Row). Some (a, b)) (ap (λ o. unwrap_or o name) n) (ap (λ o. unwrap_or o rows) r)
-
--- an option without a first part has no second
-pub no_parts : {X Y Z : Type 0} (found : Option X) (f : X → Y) (g : X → Z) (z : Z) → option_map f found ≡ None → option_map g found ≡ Some z → ⊥
-no_parts None f g z none some = true≢false (sym (ap is_some some))
-no_parts (Some x) f g z none some = true≢false (ap is_some none)
-
--- no words are a job
-pub none_said : {X : Type 0} (text : X → Text) (words : List X) (said : CommandLine) → said.line ≡ line.Job → said.explain ≡ false → (length words == 0) ≡ true
-    → IsCommandLineOf (map text words) said
-none_said text [] said job plain e = (job, plain)
-none_said text (word ∷ words) said job plain e = absurd (omega (arith, eqb-true _ _ e))
-
-pub some_said : {X : Type 0} (text : X → Text) (words : List X) → (length words == 0) ≡ false → map text words ≡ [] → ⊥
-some_said text [] e none = true≢false e
-some_said text (word ∷ words) e none = absurd (omega (arith, ap length none))
 
 -- a letter is no other
 other_letter : (a b : ℕ) (letter : Text) → (a == b) ≡ false → a ∷ [] ≡ letter → letter ≡ b ∷ [] → ⊥
@@ -235,3 +210,8 @@ pieces_form look f all named = (
 -- a fault that is one of the options
 pub fault_is : (look : Look) (told kind : LineFault) → told ≡ kind → IsFaultIn look kind → IsFaultIn look told
 fault_is look told kind is h = subst (IsFaultIn look) (sym is) h
+
+-- what holds of a fault that is handed on
+pub told : {T E : Type 0} (r : Result T E) (Q P : E → Type 0) → ((e : E) → Q e → P e) → IsErrAnd r Q → IfErr r P
+told (Ok x) Q P step h = absurd h
+told (Err e) Q P step h = step e h

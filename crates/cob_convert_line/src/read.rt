@@ -1,26 +1,27 @@
-//! The lines of commands, and the line that words say.
+//! The lines of the commands that have options.
 
-ghost use Rattle.std.specs.Prelude.{◌≡◌, ◌<◌, ◌⊎◌, IfErr, IfOk, map};
-ghost use Rattle.cob_convert_program.specs.Commands.{IsComplete, check_options, convert_options, draft_options, explain_options, layout_options, lossless_options, map_options, pieces_options, show_options};
-ghost use Rattle.cob_convert_line.specs.Faults.{IsFaultIn, IsFaultOf};
-ghost use Rattle.cob_convert_line.specs.Lines.{HasBlocks, IsCheck, IsCommand, IsCommandLineOf, IsConvert, IsDraft, IsExplain, IsLayout, IsLosslessLine, IsMap, IsPieces, IsShow, SaysCommand};
+ghost use Rattle.std.specs.Prelude.{◌<◌, IfErr, IfOk};
+ghost use Rattle.cob_convert_program.specs.Commands.{check_options, convert_options, draft_options, explain_options, layout_options, lossless_options, map_options, pieces_options, show_options};
+ghost use Rattle.cob_convert_line.specs.Faults.{IsFaultIn};
+ghost use Rattle.cob_convert_line.specs.Lines.{IsCheck, IsConvert, IsDraft, IsExplain, IsLayout, IsLosslessLine, IsMap, IsPieces, IsShow};
 ghost use Rattle.cob_convert_options.specs.Looks.{AreAll, AreNamed, look_of};
 ghost use Rattle.cob_records.specs.Forms.{HasBlockSize};
-ghost use Rattle.cob_convert_line.specs.declared.fault.LineFault.TheVariants.{Memory};
 
 use crate::fault::LineFault;
 use crate::line::{
-    CheckLine, CommandLine, ConvertLine, DraftLine, ExplainLine, LayoutLine, Line, LosslessLine,
-    MapLine, PiecesLine, ShowLine,
+    CheckLine, ConvertLine, DraftLine, ExplainLine, LayoutLine, LosslessLine, MapLine, PiecesLine,
+    ShowLine,
 };
 use crate::values::{bound, choice_of, form, forms_of, listing, number, piece_of, record_of};
 use clap::ArgMatches;
 use cob_convert_options::{flag, named, named_if_there};
-use cob_convert_program::program;
-use std::alloc::Global;
-use std::convert::AsStr;
 
-fn convert_line<'a>(options: &ArgMatches<'a>) -> Result<ConvertLine<'a>, LineFault>
+/// What the options of `convert` name.
+///
+/// # Errors
+///
+/// The first of [`LineFault`] that an option has (`IsFaultIn` of specs/Faults.antt).
+pub fn convert_line<'a>(options: &ArgMatches<'a>) -> Result<ConvertLine<'a>, LineFault>
     requires named { AreNamed convert_options (look_of options.now) }
     requires only { AreAll convert_options (look_of options.now) }
     ensures options { IfOk result (IsConvert (look_of options.now)) }
@@ -57,7 +58,8 @@ fn convert_line<'a>(options: &ArgMatches<'a>) -> Result<ConvertLine<'a>, LineFau
     })
 }
 
-fn check_line<'a>(options: &ArgMatches<'a>) -> CheckLine<'a>
+/// What the options of `check` name.
+pub fn check_line<'a>(options: &ArgMatches<'a>) -> CheckLine<'a>
     requires { AreNamed check_options (look_of options.now) }
     ensures { IsCheck (look_of options.now) result }
 {
@@ -69,7 +71,8 @@ fn check_line<'a>(options: &ArgMatches<'a>) -> CheckLine<'a>
     }
 }
 
-fn layout_line<'a>(options: &ArgMatches<'a>) -> LayoutLine<'a>
+/// What the option of `layout` names.
+pub fn layout_line<'a>(options: &ArgMatches<'a>) -> LayoutLine<'a>
     requires { AreNamed layout_options (look_of options.now) }
     ensures { IsLayout (look_of options.now) result }
 {
@@ -78,7 +81,12 @@ fn layout_line<'a>(options: &ArgMatches<'a>) -> LayoutLine<'a>
     }
 }
 
-fn show_line<'a>(options: &ArgMatches<'a>) -> Result<ShowLine<'a>, LineFault>
+/// What the options of `show` name.
+///
+/// # Errors
+///
+/// The first of [`LineFault`] that an option has (`IsFaultIn` of specs/Faults.antt).
+pub fn show_line<'a>(options: &ArgMatches<'a>) -> Result<ShowLine<'a>, LineFault>
     requires named { AreNamed show_options (look_of options.now) }
     requires only { AreAll show_options (look_of options.now) }
     ensures options { IfOk result (IsShow (look_of options.now)) }
@@ -101,7 +109,12 @@ fn show_line<'a>(options: &ArgMatches<'a>) -> Result<ShowLine<'a>, LineFault>
     })
 }
 
-fn pieces_line<'a>(options: &ArgMatches<'a>) -> Result<PiecesLine<'a>, LineFault>
+/// What the options of `pieces` name.
+///
+/// # Errors
+///
+/// The first of [`LineFault`] that an option has (`IsFaultIn` of specs/Faults.antt).
+pub fn pieces_line<'a>(options: &ArgMatches<'a>) -> Result<PiecesLine<'a>, LineFault>
     requires named { AreNamed pieces_options (look_of options.now) }
     requires only { AreAll pieces_options (look_of options.now) }
     ensures options { IfOk result (IsPieces (look_of options.now)) }
@@ -120,7 +133,8 @@ fn pieces_line<'a>(options: &ArgMatches<'a>) -> Result<PiecesLine<'a>, LineFault
     })
 }
 
-fn lossless_line<'a>(options: &ArgMatches<'a>) -> LosslessLine<'a>
+/// What the options of `lossless` name.
+pub fn lossless_line<'a>(options: &ArgMatches<'a>) -> LosslessLine<'a>
     requires { AreNamed lossless_options (look_of options.now) }
     ensures { IsLosslessLine (look_of options.now) result }
 {
@@ -132,7 +146,12 @@ fn lossless_line<'a>(options: &ArgMatches<'a>) -> LosslessLine<'a>
     }
 }
 
-fn explain_line<'a>(options: &ArgMatches<'a>) -> Result<ExplainLine<'a>, LineFault>
+/// What the options of `explain` name.
+///
+/// # Errors
+///
+/// The first of [`LineFault`] that an option has (`IsFaultIn` of specs/Faults.antt).
+pub fn explain_line<'a>(options: &ArgMatches<'a>) -> Result<ExplainLine<'a>, LineFault>
     requires named { AreNamed explain_options (look_of options.now) }
     requires only { AreAll explain_options (look_of options.now) }
     ensures options { IfOk result (IsExplain (look_of options.now)) }
@@ -158,7 +177,8 @@ fn explain_line<'a>(options: &ArgMatches<'a>) -> Result<ExplainLine<'a>, LineFau
     })
 }
 
-fn draft_line<'a>(options: &ArgMatches<'a>) -> DraftLine<'a>
+/// What the options of `draft` name.
+pub fn draft_line<'a>(options: &ArgMatches<'a>) -> DraftLine<'a>
     requires { AreNamed draft_options (look_of options.now) }
     ensures { IsDraft (look_of options.now) result }
 {
@@ -168,7 +188,12 @@ fn draft_line<'a>(options: &ArgMatches<'a>) -> DraftLine<'a>
     }
 }
 
-fn map_line<'a>(options: &ArgMatches<'a>) -> Result<MapLine<'a>, LineFault>
+/// What the options of `map` name.
+///
+/// # Errors
+///
+/// The first of [`LineFault`] that an option has (`IsFaultIn` of specs/Faults.antt).
+pub fn map_line<'a>(options: &ArgMatches<'a>) -> Result<MapLine<'a>, LineFault>
     requires named { AreNamed map_options (look_of options.now) }
     requires only { AreAll map_options (look_of options.now) }
     ensures options { IfOk result (IsMap (look_of options.now)) }
@@ -192,76 +217,4 @@ fn map_line<'a>(options: &ArgMatches<'a>) -> Result<MapLine<'a>, LineFault>
         reading: forms.reading,
         record,
     })
-}
-
-// The line of a command that was named with these options.
-fn command_line<'a>(name: &str, options: &ArgMatches<'a>) -> Result<Line<'a>, LineFault>
-    requires { IsComplete name.now (look_of options.now) }
-    ensures options { IfOk result (IsCommand name.now (look_of options.now)) }
-    ensures lacks { IfErr result (λ _. (line : Line)
-        → IsCommand name.now (look_of options.now) line → ⊥) }
-    ensures fault { IfErr result (IsFaultIn (look_of options.now)) }
-    ensures blocks { IfOk result HasBlocks }
-{
-    match name {
-        "convert" => Ok(Line::Convert(convert_line(options)?)),
-        "check" => Ok(Line::Check(check_line(options))),
-        "layout" => Ok(Line::Layout(layout_line(options))),
-        "show" => Ok(Line::Show(show_line(options)?)),
-        "pieces" => Ok(Line::Pieces(pieces_line(options)?)),
-        "lossless" => Ok(Line::Lossless(lossless_line(options))),
-        "explain" => Ok(Line::Explain(explain_line(options)?)),
-        "draft" => Ok(Line::Draft(draft_line(options))),
-        "map" => Ok(Line::Map(map_line(options)?)),
-        "completion" => Ok(Line::Completion),
-        "manual" => Ok(Line::Manual),
-        _ => unreachable!(),
-    }
-}
-
-// What the name of a command and these options say.
-fn whole_line<'a>(name: &str, options: &ArgMatches<'a>) -> Result<CommandLine<'a>, LineFault>
-    requires { IsComplete name.now (look_of options.now) }
-    ensures options { IfOk result (SaysCommand name.now (look_of options.now)) }
-    ensures lacks { IfErr result (λ _. (said : CommandLine)
-        → SaysCommand name.now (look_of options.now) said → ⊥) }
-    ensures fault { IfErr result (IsFaultIn (look_of options.now)) }
-    ensures blocks { IfOk result (λ said. HasBlocks said.line) }
-{
-    let line = command_line(name, options)?;
-    Ok(CommandLine {
-        line,
-        explain: flag(options, "explain"),
-    })
-}
-
-/// Reads the words after the program's name: which command they ask for, and what its options name. No words at all ask for a job.
-///
-/// # Errors
-///
-/// [`LineFault::Words`] where the words are wrong or ask for help or the version, [`LineFault::Memory`], and the first of these that is: an option
-/// for a form names neither f nor v nor b ([`LineFault::Form`]), the one for binary items names neither reading ([`LineFault::Reading`]), one for
-/// the size of blocks says none beside the letter b ([`LineFault::Block`]), the one for a listing names none ([`LineFault::Listing`]), one for a
-/// piece of the input says no number ([`LineFault::Piece`]), one for a number of records says none ([`LineFault::Number`]), the one for a number of
-/// pieces says none from 1 on ([`LineFault::Pieces`]).
-pub fn line_of<'a, S: AsStr>(alloc: Global, words: &'a [S]) -> Result<CommandLine<'a>, LineFault>
-    ensures options { IfOk result (IsCommandLineOf (map S.text words.entry.now)) }
-    ensures refused { IfErr result (λ fault. (fault ≡ Memory)
-        ⊎ ((said : CommandLine) → IsCommandLineOf (map S.text words.entry.now) said → ⊥)) }
-    ensures fault { IfErr result (λ fault. (fault ≡ Memory)
-        ⊎ IsFaultOf (map S.text words.entry.now) fault) }
-    // The blocks of its forms may have their greatest sizes.
-    ensures blocks { IfOk result (λ said. HasBlocks said.line) }
-{
-    if words.is_empty() {
-        return Ok(CommandLine {
-            line: Line::Job,
-            explain: false,
-        });
-    }
-    let matches = program(alloc)?.try_get_matches_from(words)?;
-    match matches.subcommand() {
-        Some((name, options)) => whole_line(name, options),
-        None => unreachable!(),
-    }
 }

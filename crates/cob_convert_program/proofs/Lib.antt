@@ -1,3 +1,4 @@
 pub mod Top
 pub mod Spelled
 pub mod Plain
+pub mod Defined

@@ -1,62 +1,69 @@
-//! Commands with an option more.
+//! Commands with more options.
 
-ghost use Rattle.clap.specs.Words.{app_of};
-ghost use Rattle.cob_convert_options.specs.Options.{Alone, Default, Optional, Required};
-ghost use Rattle.cob_convert_options.specs.Rules.{with_option};
+ghost use Rattle.std.specs.Prelude.{◌≡◌, false};
+ghost use Rattle.clap.specs.Words.{App, app_of, rule_of, with_rule};
+ghost use Rattle.cob_convert_options.specs.Rules.{with_option, with_options};
+ghost use Rattle.cob_convert_program.specs.Definitions.{kind_of, options_in, options_of};
 ghost use Rattle.cob_convert_program.specs.Program.{Makes};
 
-use clap::Command;
+use crate::definition::{OptionDefinition, Standing};
+use clap::{Arg, Command};
 use cob_convert_options::{alone, defaulted, optional, required};
 use std::alloc::{AllocError, Global};
 
-// A command with an option more that has to be there, with a value.
-pub(crate) fn with_required<'a>(
-    alloc: Global,
-    command: Command<'a>,
-    name: &'a str,
-    value: &'a str,
-    help: &'a str,
-) -> Result<Command<'a>, AllocError>
-    ensures { Makes (with_option (app_of command.entry) name.entry.now Required) result }
+// An option, as `clap` takes it.
+fn argument<'a>(alloc: Global, option: &OptionDefinition<'a>) -> Arg<'a>
+    ensures rule { (app : App) → with_rule app (rule_of result)
+        ≡ with_option app option.now.name.now (kind_of option.now.standing) }
+    ensures local { result.global ≡ false }
 {
-    command.arg(required(alloc, name, value, help))
+    match option.standing {
+        Standing::Required(value) => required(alloc, option.name, value, option.help),
+        Standing::Default(value, word) => {
+            defaulted(alloc, option.name, value, word, option.help)
+        }
+        Standing::Optional(value) => optional(alloc, option.name, value, option.help),
+        Standing::Alone => alone(alloc, option.name, option.help),
+    }
 }
 
-// A command with an option more with a value, in whose place a word stands where the option is not there.
-pub(crate) fn with_default<'a>(
+// A command with an option more.
+fn with_option<'a>(
     alloc: Global,
     command: Command<'a>,
-    name: &'a str,
-    value: &'a str,
-    default: &'a str,
-    help: &'a str,
+    option: &OptionDefinition<'a>,
 ) -> Result<Command<'a>, AllocError>
-    ensures { Makes (with_option (app_of command.entry) name.entry.now (Default default.entry.now)) result }
+    ensures { Makes (with_option (app_of command.entry) option.now.name.now (kind_of option.now.standing)) result }
 {
-    command.arg(defaulted(alloc, name, value, default, help))
+    command.arg(argument(alloc, option))
 }
 
-// A command with an option more with a value that may be left out.
-pub(crate) fn with_optional<'a>(
+// A command with the options of a group more.
+fn with_options<'a>(
     alloc: Global,
     command: Command<'a>,
-    name: &'a str,
-    value: &'a str,
-    help: &'a str,
+    options: &[OptionDefinition<'a>],
 ) -> Result<Command<'a>, AllocError>
-    ensures { Makes (with_option (app_of command.entry) name.entry.now Optional) result }
+    ensures { Makes (with_options (app_of command.entry) (options_in options.now)) result }
 {
-    command.arg(optional(alloc, name, value, help))
+    let mut command = command;
+    for option in options {
+        command = with_option(alloc, command, option)?;
+    }
+    Ok(command)
 }
 
-// A command with an option more that stands alone.
-pub(crate) fn with_alone<'a>(
+// A command with the options of these groups more.
+pub(crate) fn with_groups<'a>(
     alloc: Global,
     command: Command<'a>,
-    name: &'a str,
-    help: &'a str,
+    groups: &[&[OptionDefinition<'a>]],
 ) -> Result<Command<'a>, AllocError>
-    ensures { Makes (with_option (app_of command.entry) name.entry.now Alone) result }
+    ensures { Makes (with_options (app_of command.entry) (options_of groups.now)) result }
 {
-    command.arg(alone(alloc, name, help))
+    let mut command = command;
+    for group in groups {
+        command = with_options(alloc, command, group)?;
+    }
+    Ok(command)
 }

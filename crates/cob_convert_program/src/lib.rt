@@ -9,7 +9,8 @@
 
 mod adding;
 mod commands;
-mod groups;
+mod definition;
 mod help;
+mod options;
 
 pub use commands::program;

@@ -2,8 +2,7 @@ use Rattle.std.proofs.Common.{codes, inr, refl, ◌∙◌}
 use Rattle.cob_convert_line.specs.Faults.{HasPiece}
 use Rattle.cob_convert_options.specs.Looks.{Look, look_of}
 use Rattle.cob_convert_line.specs.declared.fault.LineFault.TheVariants.{Number}
-use Rattle.cob_convert_line.proofs.Apps.{before_counts, before_listing, before_piece, fault_is}
-use Rattle.cob_convert_line.proofs.Said.{told}
+use Rattle.cob_convert_line.proofs.Apps.{before_counts, before_listing, before_piece, fault_is, told}
 use Rattle.cob_convert_line.proofs.read.convert_line.Goals as goal
 
 pub returns-in_err-piece-clause-lacks : goal.returns-in_err-piece-clause-lacks

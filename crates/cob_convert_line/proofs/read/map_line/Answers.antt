@@ -1,7 +1,6 @@
 use Rattle.std.proofs.Common.{codes, refl}
 use Rattle.cob_convert_options.specs.Looks.{Look, look_of}
-use Rattle.cob_convert_line.proofs.Apps.{before_listing, before_piece}
-use Rattle.cob_convert_line.proofs.Said.{told}
+use Rattle.cob_convert_line.proofs.Apps.{before_listing, before_piece, told}
 use Rattle.cob_convert_line.proofs.read.map_line.Goals as goal
 
 pub record_of-requires-clause-before : goal.record_of-requires-clause-before

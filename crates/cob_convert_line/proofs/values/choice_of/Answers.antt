@@ -1,8 +1,7 @@
 use Rattle.std.proofs.Common.{inl, inr, ◌∙◌}
 use Rattle.cob_convert_options.specs.Looks.{look_of}
 use Rattle.cob_convert_line.specs.declared.fault.LineFault.TheVariants.{Number}
-use Rattle.cob_convert_line.proofs.Apps.{fault_is}
-use Rattle.cob_convert_line.proofs.Said.{told}
+use Rattle.cob_convert_line.proofs.Apps.{fault_is, told}
 use Rattle.cob_convert_line.proofs.values.choice_of.Goals as goal
 
 pub returns-in_err-skip-clause-fault : goal.returns-in_err-skip-clause-fault

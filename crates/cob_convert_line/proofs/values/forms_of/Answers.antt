@@ -1,8 +1,7 @@
 use Rattle.std.proofs.Common.{codes, inl, inr, refl, ◌∙◌}
 use Rattle.cob_convert_options.specs.Looks.{Look, look_of}
 use Rattle.cob_convert_line.specs.declared.fault.LineFault.TheVariants.{Block, Form, Reading}
-use Rattle.cob_convert_line.proofs.Apps.{block_beside, block_sized, both_forms, fault_is, has_reading, named_sized, same_letter, sized_again}
-use Rattle.cob_convert_line.proofs.Said.{told}
+use Rattle.cob_convert_line.proofs.Apps.{block_beside, block_sized, both_forms, fault_is, has_reading, named_sized, same_letter, sized_again, told}
 use Rattle.cob_convert_line.proofs.values.forms_of.Goals as goal
 
 pub returns-in_err-in_form-clause-fault : goal.returns-in_err-in_form-clause-fault

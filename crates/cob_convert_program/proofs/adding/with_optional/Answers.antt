@@ -1,7 +1,0 @@
-use Rattle.std.proofs.Common.{ap, ◌∙◌}
-use Rattle.std.proofs.lemmas.Result.{IfOk-weaker}
-use Rattle.clap.specs.Words.{with_rule}
-use Rattle.cob_convert_program.proofs.adding.with_optional.Goals as goal
-
-pub returns : goal.returns
-returns c = IfOk-weaker c.arg.result _ _ (λ made h. h.shape c.optional.ensures.local ∙ ap (with_rule _) c.optional.ensures.rule) c.arg.ensures
