@@ -1,2 +1,4 @@
+pub mod Top
+pub mod Spelled
 pub mod Parts
 pub mod Said

@@ -22,8 +22,8 @@ use Rattle.cob_convert_line.specs.declared.line.Line.TheVariants as line
 use Rattle.cob_convert_options.proofs.Level.{level_complete, level_rows, rows_of_given}
 use Rattle.cob_convert_options.proofs.Looks.{AreAsked, asked_given, look_same, sound_names}
 use Rattle.cob_convert_options.proofs.Turns.{not_nil}
-use Rattle.cob_convert_program.proofs.Spelled.{Found, look_found, named_options, sound_of, spelled_passes}
-use Rattle.cob_convert_program.proofs.Top.{known_fault, known_rows}
+use Rattle.cob_command_line.proofs.Spelled.{Found, look_found, named_options, sound_of, spelled_passes}
+use Rattle.cob_command_line.proofs.Top.{known_fault, known_rows}
 
 -- what an option names that is none is a fault of the words
 pub option_fault : (words : List Text) (name : Text) (rows : List Row) (fault : LineFault) → Found words name rows → IsFaultIn (λ id. first_of id rows) fault

@@ -8,7 +8,7 @@
 //!
 //! What rests on the contract of `clap`'s port is that a parse answers what the port's own definitions say of the words (`subcommand_of` where it
 //! succeeds, `fault_of` where it fails), for the commands and options of `cob_convert_program`; that those definitions come to the words as options is
-//! proved in `cob_convert_options`. Help, the version and the texts of refusals are `clap`'s, which the stored command lines of `cob_jobs` show.
+//! proved in `cob_convert_options` for options and here for commands (`found_in` of proofs/Spelled.antt). Help, the version and the texts of refusals are `clap`'s, which the stored command lines of `cob_jobs` show.
 //!
 //! It stands on `cob_convert_line` for the line of each command, on `cob_convert_program` for the definition of the commands, on `cob_convert_options`
 //! for what is found of a flag, and on `clap`, which parses the words.

@@ -15,11 +15,12 @@ use cob_command_explained::{
 };
 use cob_command_faults::printed;
 use cob_command_job::do_job;
+use cob_command_line::line_of;
 use cob_command_lists::{do_layout, do_pieces, do_show};
 use cob_command_lossless::do_lossless;
 use cob_command_manual::{do_completion, do_manual};
 use cob_command_map::do_map;
-use cob_convert_line::{CheckLine, CommandLine, ConvertLine, Line, LineFault, line_of};
+use cob_convert_line::{CheckLine, CommandLine, ConvertLine, Line, LineFault};
 use cob_noted::Noted;
 use cob_status::Status;
 use std::cell::Cell;

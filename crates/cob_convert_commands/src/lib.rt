@@ -11,8 +11,8 @@
 //! ends is promised by `cob_job`. What is printed is shown by the stored command
 //! lines of `cob_jobs`.
 //!
-//! It stands on `cob_convert_line` for the command line, on `cob_command_convert`, `cob_command_aside`, `cob_command_lists` and `cob_command_lossless`
-//! for the commands, on `cob_command_explained` and `cob_noted` for what is told behind faults, on `cob_command_job` for the job, on
+//! It stands on `cob_command_line` and `cob_convert_line` for the command line, on `cob_command_convert`, `cob_command_aside`, `cob_command_lists` and
+//! `cob_command_lossless` for the commands, on `cob_command_explained` and `cob_noted` for what is told behind faults, on `cob_command_job` for the job, on
 //! `cob_command_faults` for how a command ends, and on `cob_status` for statuses.
 #![tactic(auto)]
 

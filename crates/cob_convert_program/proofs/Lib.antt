@@ -1,4 +1,2 @@
-pub mod Top
-pub mod Spelled
 pub mod Plain
 pub mod Defined

@@ -1,5 +1,5 @@
 use Rattle.cob_convert_program.specs.Commands.{commands}
-use Rattle.cob_convert_program.proofs.Spelled.{no_command}
+use Rattle.cob_command_line.proofs.Spelled.{no_command}
 use Rattle.cob_command_line.proofs.read.command_line.Goals as goal
 
 pub unreachable-requires : goal.unreachable-requires

@@ -6,7 +6,7 @@ use Rattle.clap.specs.Words.{App, app_of, fault_of, found_of, is_simple, is_simp
 use Rattle.clap.specs.declared.parser.matches.ArgMatches.TheViews.{out-ArgMatches, out-SubCommand}
 use Rattle.cob_convert_line.specs.Lines.{IsCommandLineOf}
 use Rattle.cob_convert_line.specs.declared.line.CommandLine.{CommandLine}
-use Rattle.cob_convert_program.proofs.Spelled.{complete_by, found_in, program_is_free, program_is_simple}
+use Rattle.cob_command_line.proofs.Spelled.{complete_by, found_in, program_is_free, program_is_simple}
 use Rattle.cob_convert_line.proofs.Apps.{told}
 use Rattle.cob_command_line.proofs.Parts.{both_parts, none_said, some_said}
 use Rattle.cob_command_line.proofs.Said.{found_by, named_by, option_fault, refusal, said_by, words_refused}

@@ -12,7 +12,7 @@ use Rattle.cob_convert_options.proofs.Level.{level_complete, level_sound, level_
 use Rattle.cob_convert_options.proofs.Looks.{are_sound, both, look_same, names_only, names_there, sound_names}
 use Rattle.cob_convert_program.specs.Commands.{Commands, IsComplete, Spells, commands}
 use Rattle.cob_convert_program.specs.Program.{program_app}
-use Rattle.cob_convert_program.proofs.Top.{known_fault, known_rows, unknown}
+use Rattle.cob_command_line.proofs.Top.{known_fault, known_rows, unknown}
 
 -- the parser's own definitions say of this program what it finds in words, and why it refuses them
 pub program_is_simple : is_simple program_app ≡ true
