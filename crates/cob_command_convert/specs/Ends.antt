@@ -1,4 +1,4 @@
--- Which faults the commands `convert` and `check` can have.
+-- Which faults the command `convert` can have.
 use Rattle.std.specs.Prelude.{◌≡◌, ◌⊎◌, Bool, true}
 use Rattle.cob_command_faults.specs.declared.fault.CommandFault.{CommandFault}
 use Rattle.cob_command_faults.specs.declared.fault.CommandFault.TheVariants as fault
@@ -10,7 +10,3 @@ use Rattle.cob_run_to_end.specs.Ends.{StopsRun}
 -- new one was not renamed.
 abbrev pub MayEndConvert : Bool → CommandFault → Type 0
 MayEndConvert atomic told = LacksConverter told ⊎ LacksEnds told ⊎ StopsRun told ⊎ ((atomic ≡ true) × (told ≡ fault.NotRenamed))
-
--- The faults that `check` can have: those of the texts.
-abbrev pub MayEndCheck : CommandFault → Type 0
-MayEndCheck told = LacksConverter told

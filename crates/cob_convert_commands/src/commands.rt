@@ -2,12 +2,12 @@ ghost use Rattle.std.specs.Prelude.{◌≡◌, map};
 ghost use Rattle.cob_convert_line.specs.Lines.{HasBlocks};
 ghost use Rattle.cob_records.specs.Forms.{HasBlockSize};
 ghost use Rattle.cob_command_faults.specs.Ends.{EndsAmong};
-ghost use Rattle.cob_command_convert.specs.Ends.{MayEndCheck};
+ghost use Rattle.cob_command_check.specs.Ends.{MayEndCheck};
 ghost use Rattle.cob_convert_commands.specs.Commands.{EndsConvert, IsEndOfLine, IsEndOfRefusal, IsEndOfWords, status_of_refusal};
 
 use cob_command_aside::do_convert_aside;
-use cob_command_convert::{do_check, do_convert};
-use cob_command_cover::do_cover;
+use cob_command_check::{do_check, do_cover};
+use cob_command_convert::do_convert;
 use cob_command_draft::do_draft;
 use cob_command_explain::do_explain;
 use cob_command_explained::{

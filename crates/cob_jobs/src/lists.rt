@@ -15,11 +15,9 @@ ghost use Rattle.cob_records.specs.Forms.{HasBlockSize};
 use cob_convert_show::{Book, BookRule, Layout, Role, ShowFault, layout_text, show};
 use cob_limits::MAX_BLOCK;
 use cob_records::{Form, MemSink, MemSource, RecordFault};
-use cob_rows::{Family, Row, RowFault, print_table};
+use cob_rows::{Family, Row, RowFault};
 use std::alloc::{AllocError, Global};
 use std::fmt::Write;
-use std::io;
-use std::rt::Files;
 
 /// How many bytes an answer may have.
 const ROOM: usize = 8_192;
@@ -125,7 +123,7 @@ fn records(alloc: Global, row: &Row, room: usize, out: &mut String) -> Result<()
 }
 
 /// The tables on printed lines.
-struct ListRows;
+pub(crate) struct ListRows;
 
 impl Family for ListRows {
     fn answer(alloc: Global, _table: &str, row: &Row, out: &mut String) -> Result<(), RowFault> {
@@ -137,9 +135,4 @@ impl Family for ListRows {
             _ => Err(RowFault::BadRow),
         }
     }
-}
-
-/// Prints the rows of a table.
-pub(crate) fn print_lists<R: AllocGlobal + Files + Print>(rt: &R, table: &str) -> io::Result<()> {
-    print_table::<ListRows, R>(rt, table)
 }

@@ -5,8 +5,7 @@
 //! its fields with bars between them, an arrow, the answer. A blank line, and one that begins with `#`, is printed as it
 //! stands, so that what is printed reads as a table with headings. A row that can't be understood answers `BAD ROW`.
 //!
-//! A program says by a `Family` what it answers to a `Row`; `print_table` goes over a table, and `print_rows` over those that the
-//! program's arguments name. `unescaped` makes bytes of characters, `bytes_of` of hexadecimal digits and `lines_of` of the entries of a source text;
+//! A `Family` says what is answered to a `Row`, and `print_table` goes over a table. `unescaped` makes bytes of characters, `bytes_of` of hexadecimal digits and `lines_of` of the entries of a source text;
 //! `push_digits` and `push_text` write bytes into an answer.
 //!
 //! It promises that it is safe. It stands on std alone.
@@ -16,4 +15,4 @@ mod bytes;
 mod rows;
 
 pub use bytes::{bytes_of, lines_of, push_digits, push_text, unescaped};
-pub use rows::{Family, Row, RowFault, print_rows, print_table};
+pub use rows::{Family, Row, RowFault, print_table};

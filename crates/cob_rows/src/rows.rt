@@ -1,8 +1,8 @@
 use crate::{bytes_of, lines_of, unescaped};
 use std::alloc::{AllocError, AllocFailed, Global};
-use std::rt::{Env, Files};
+use std::rt::Files;
 use std::str::FromStr;
-use std::{env, fs, io};
+use std::{fs, io};
 
 /// Why a row has no answer.
 #[derive(Clone, Copy, Debug, PartialEq, Eq)]
@@ -175,27 +175,16 @@ fn print_lines<F: Family, R: AllocGlobal + Print>(
     Ok(())
 }
 
-/// Prints the rows of the table of this name, which stands in the file `NAME.rows`, each with what comes of it.
+/// Prints the rows of the table of this name, which stands in the file `NAME.rows` of a folder, each with what comes of it.
 ///
 /// # Errors
 /// What stops the file from being read or a line from being printed.
 pub fn print_table<F: Family, R: AllocGlobal + Files + Print>(
     rt: &R,
+    folder: &str,
     table: &str,
 ) -> io::Result<()> {
-    let path = format!(in rt.alloc(); "{table}.rows")?;
+    let path = format!(in rt.alloc(); "{folder}/{table}.rows")?;
     let text = fs::read_to_string(rt, path.as_str())?;
     print_lines::<F, R>(rt, table, text.as_str())
-}
-
-/// Prints the rows of the tables that the arguments of the program name, as `NAME` for the file `NAME.rows`, each with what
-/// comes of it.
-///
-/// # Errors
-/// What stops a file from being read or a line from being printed.
-pub fn print_rows<F: Family, R: AllocGlobal + Files + Print + Env>(rt: &R) -> io::Result<()> {
-    for table in env::args(rt)?.skip(1) {
-        print_table::<F, R>(rt, table.as_str())?;
-    }
-    Ok(())
 }

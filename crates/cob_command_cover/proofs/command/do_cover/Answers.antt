@@ -1,6 +1,0 @@
-use Rattle.cob_command_faults.proofs.EndLemmas.{ends_among}
-use Rattle.cob_command_convert.specs.Ends.{MayEndCheck}
-use Rattle.cob_command_cover.proofs.command.do_cover.Goals as goal
-
-pub returns : goal.returns
-returns g c = ends_among MayEndCheck _ _ c.cover.ensures c.tell_covered.ensures
