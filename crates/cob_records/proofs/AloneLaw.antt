@@ -1,5 +1,5 @@
 -- A record that is written by itself.
-use Rattle.std.proofs.Common.{◌≡◌, ℕ, ◌+◌, ◌-◌, ◌<◌, ◌≤◌, Bool, true, false, List, [], ◌∷◌, ◌++◌, length, take, drop, refl, sym, ap, ◌∙◌, arith, append_assoc, append-nil, inl, inr, ◌⊎◌, zero, suc, Option, Ok, Err, Result}
+use Rattle.std.proofs.Common.{◌≡◌, ℕ, ◌+◌, ◌-◌, ◌≤◌, Bool, true, false, List, [], ◌∷◌, ◌++◌, length, take, drop, refl, sym, ap, ◌∙◌, arith, append_assoc, append-nil, inl, inr, ◌⊎◌, zero, suc, Option, Ok, Err, Result}
 use Rattle.std.proofs.Math.ListN.{length-append}
 use Rattle.std.proofs.Math.Seq.{take-append-add}
 use Rattle.std.proofs.lemmas.Grind.{common_steps}
@@ -11,7 +11,7 @@ use Rattle.cob_records.specs.declared.records.Form.TheVariants.{Fixed, Variable,
 use Rattle.cob_records.specs.declared.records.RecordFault.{RecordFault}
 use Rattle.cob_records.specs.declared.records.RecordFault.TheVariants.{WriteFailed, TookNothing}
 use Rattle.cob_records.specs.Alone.{AloneIsOneRecord, HasRoomAlone, framed_alone}
-use Rattle.cob_records.specs.Blocks.{block, closed_block, closed_by, empty, fits, with_frame}
+use Rattle.cob_records.specs.Blocks.{closed_block, closed_by, empty, fits, with_frame}
 use Rattle.cob_records.specs.Forms.{Come, ComesFirst, written_of}
 use Rattle.cob_records.specs.Frame.{PutsPart, descriptor, framed}
 use Rattle.cob_records.proofs.FormsLaw.{written_blocks}
