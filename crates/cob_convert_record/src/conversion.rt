@@ -62,6 +62,7 @@ impl Model for Conversion {
 /// # Errors
 ///
 /// The first count of the storage that isn't valid.
+#[inline(always)]
 fn output_length(
     layout: &Layout,
     form: Form,
@@ -215,6 +216,7 @@ impl Conversion {
     ///
     /// The fault of a frame that can't be read; in forms v and b a count of the record that isn't valid, or a length other than that which its counts
     /// give.
+    #[inline(always)]
     pub fn next_input<R: Source>(
         &self,
         source: &mut R,
@@ -250,6 +252,7 @@ impl Conversion {
     /// # Errors
     ///
     /// The fault of a frame that can't be read.
+    #[inline(always)]
     pub fn next_whole<R: Source>(
         &self,
         source: &mut R,
@@ -285,6 +288,7 @@ impl Conversion {
     }
 
     /// Begins an output record: its storage holds its initial values, and nothing of a record before.
+    #[inline(always)]
     fn begin(&self, output: &mut [u8])
         requires { length output.old ≡ out_length self.now }
         ensures { IsInitial self.now.records.output output.new }
@@ -298,6 +302,7 @@ impl Conversion {
     /// # Errors
     ///
     /// The first move that stops; or behind all moves the first count of the output that isn't valid.
+    #[inline(always)]
     pub fn convert(&self, input: &[u8], output: &mut [u8], room: &mut Room) -> Result<usize, Stop>
         requires input { IsStorage self.now.records.input input.now }
         requires output { length output.old ≡ out_length self.now }

@@ -1,8 +1,9 @@
 -- A record that is written by itself.
-use Rattle.std.proofs.Common.{◌≡◌, ℕ, ◌+◌, ◌<◌, ◌≤◌, Bool, true, false, List, [], ◌∷◌, ◌++◌, length, take, refl, sym, ap, ◌∙◌, arith, append_assoc, append-nil, inl, inr, ◌⊎◌, zero, suc, Option, Ok, Err, Result}
+use Rattle.std.proofs.Common.{◌≡◌, ℕ, ◌+◌, ◌-◌, ◌≤◌, Bool, true, false, List, [], ◌∷◌, ◌++◌, length, take, drop, refl, sym, ap, ◌∙◌, arith, append_assoc, append-nil, inl, inr, ◌⊎◌, zero, suc, Option, Ok, Err, Result}
 use Rattle.std.proofs.Math.ListN.{length-append}
 use Rattle.std.proofs.Math.Seq.{take-append-add}
-use Rattle.std.proofs.lemmas.List.{take-append-le}
+use Rattle.std.proofs.lemmas.Grind.{common_steps}
+use Rattle.std.proofs.lemmas.List.{take-append-drop, take-append-le}
 use Rattle.std.specs.Io.KnownBytes.{append_known}
 use Rattle.std.specs.List.{AllByRecursion}
 use Rattle.cob_records.specs.declared.records.Form.{Form}
@@ -10,7 +11,7 @@ use Rattle.cob_records.specs.declared.records.Form.TheVariants.{Fixed, Variable,
 use Rattle.cob_records.specs.declared.records.RecordFault.{RecordFault}
 use Rattle.cob_records.specs.declared.records.RecordFault.TheVariants.{WriteFailed, TookNothing}
 use Rattle.cob_records.specs.Alone.{AloneIsOneRecord, HasRoomAlone, framed_alone}
-use Rattle.cob_records.specs.Blocks.{block, closed_block, closed_by, empty, fits, with_frame}
+use Rattle.cob_records.specs.Blocks.{closed_block, closed_by, empty, fits, with_frame}
 use Rattle.cob_records.specs.Forms.{Come, ComesFirst, written_of}
 use Rattle.cob_records.specs.Frame.{PutsPart, descriptor, framed}
 use Rattle.cob_records.proofs.FormsLaw.{written_blocks}
@@ -45,6 +46,16 @@ puts_second head body sent behind (Err (TookNothing taken)) before mid now size 
   (rw e at is) ∙ append_twice before head (take count body) ∙ ap (append_known before) (sym (take-append-add head body count)),
 )
 puts_second head body sent behind (Err _) before mid now size e p = absurd p
+
+-- the front of a part, and then what is left of it
+pub puts_behind : (count sent : ℕ) (bytes : List ℕ) (result : Result (Unit {0}) RecordFault) (before mid now : Option (List ℕ)) → count ≤ length bytes
+    → mid ≡ append_known before (take count bytes) → PutsPart (sent + count) (take (length bytes - count) (drop count bytes)) result mid now
+    → PutsPart sent bytes result before now
+puts_behind count sent bytes result before mid now few e p =
+    let rest : take (length bytes - count) (drop count bytes) ≡ drop count bytes = grind (arith, common_steps) in
+    let size : sent + count ≡ sent + length (take count bytes) = grind (arith, common_steps) in
+    let whole = puts_second (take count bytes) (drop count bytes) sent (sent + count) result before mid now size e (rw rest at p) in
+    rw (take-append-drop count bytes) at whole
 
 -- ---- one record
 

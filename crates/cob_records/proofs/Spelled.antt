@@ -1,5 +1,5 @@
 -- A word that says a size of blocks, digit by digit.
-use Rattle.std.proofs.Common.{◌≡◌, ◌∙◌, ℕ, ◌+◌, ◌-◌, ◌*◌, ◌<◌, ◌≤◌, true, false, List, [], ◌∷◌, length, min, refl, sym, ap, subst, arith, Some}
+use Rattle.std.proofs.Common.{◌≡◌, ℕ, ◌+◌, ◌-◌, ◌*◌, true, List, ◌∷◌, min, refl, arith}
 use Rattle.std.specs.Char.{is_ascii_digit}
 use Rattle.cob_records.specs.BlockSize.{SpellsBehind}
 

@@ -115,6 +115,7 @@ fn behind_descriptor(fault: RecordFault) -> RecordFault
 /// word ([`RecordFault::PastBlock`]); a record descriptor word that is refused, as [`next_record`](crate::next_record) does it; a frame that is
 /// longer than the rest of its block ([`RecordFault::PastBlock`]). Nothing past a refused descriptor was read. Where none of these refused
 /// before, a stream that ends within a block ([`RecordFault::Truncated`]): the descriptor of a block counts with its first frame.
+#[inline(never)]
 pub fn next_blocked<R: Source>(
     source: &mut R,
     most: u16,

@@ -26,6 +26,7 @@ impl<F: Read, S: Read> Read for Opened<F, S> {
 
     ghost remaining = { λ opened. told_of F.remaining S.remaining opened };
 
+    #[inline(never)]
     fn read(&mut self, buf: &mut [u8]) -> io::Result<usize> {
         match self {
             Opened::Named(file) => file.read(buf),
@@ -39,6 +40,7 @@ impl<F: Write, S: Write> Write for Opened<F, S> {
 
     ghost contents = { λ opened. told_of F.contents S.contents opened };
 
+    #[inline(never)]
     fn write(&mut self, buf: &[u8]) -> io::Result<usize> {
         match self {
             Opened::Named(file) => file.write(buf),

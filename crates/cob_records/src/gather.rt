@@ -88,6 +88,7 @@ impl Gather {
     }
 
     /// How many bytes one more record writes.
+    #[inline(never)]
     pub fn written_by(&self, body: &[u8]) -> u16
         requires { length body.now ≤ longest_record }
         ensures { result ≡ length (closed_by self.now (framed Variable body.now)) }
@@ -104,6 +105,7 @@ impl Gather {
     /// # Errors
     ///
     /// [`RecordFault::WriteFailed`] and [`RecordFault::TookNothing`]: the sink took a beginning of the block. Then nothing is gathered.
+    #[inline(never)]
     pub fn add<W: Sink>(&mut self, sink: &mut W, body: &[u8]) -> Result<(), RecordFault>
         requires low { 0 < length body.now }
         requires high { 8 + length body.now ≤ self.old.size }

@@ -39,6 +39,7 @@ impl Outlet {
     }
 
     /// How many records are held back in the open block.
+    #[inline(always)]
     pub fn held(&self) -> u16
         ensures { result ≡ records_held self.now }
     {
@@ -50,6 +51,7 @@ impl Outlet {
     }
 
     /// How many bytes one more record writes.
+    #[inline(always)]
     pub fn written_by(&self, body: &[u8]) -> u16
         requires { length body.now ≤ longest_record }
         ensures { result ≡ length (written_by self.now body.now) }
@@ -77,6 +79,7 @@ impl Outlet {
     /// # Errors
     ///
     /// Those of [`put_record`]: the sink took a beginning of the frame, or of the block. Then nothing is held back.
+    #[inline(always)]
     pub fn add<W: Sink>(&mut self, sink: &mut W, body: &[u8]) -> Result<(), RecordFault>
         requires low { 0 < length body.now }
         requires high { length body.now ≤ longest_record }
@@ -124,6 +127,7 @@ impl Outlet {
 /// # Errors
 ///
 /// Those of [`next_record`] and [`next_blocked`].
+#[inline(always)]
 pub fn next_in_form<R: Source>(
     source: &mut R,
     form: Form,

@@ -70,6 +70,7 @@ pub fn is_fitting(form: Form, current: u16, count: usize) -> bool
 /// # Errors
 ///
 /// In forms v and b a count of the record that isn't valid, or a length other than that which its counts give.
+#[inline(always)]
 pub fn measure(
     layout: &Layout,
     form: Form,

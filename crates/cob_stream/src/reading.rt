@@ -21,6 +21,7 @@ use cob_records::{Form, Source, next_in_form};
 ///
 /// The fault of a frame that can't be read, at the front of the record. In forms v and b the first count that isn't valid, at its item, or
 /// [`RecordFault::Length`](cob_records::RecordFault::Length) where the record has another length than its counts give.
+#[inline(always)]
 pub fn read_record<R: Source>(
     source: &mut R,
     layout: &Layout,

@@ -22,6 +22,7 @@ use cob_records::{Form, Source, next_in_form};
 /// # Errors
 ///
 /// The fault of a frame that can't be read, at the front of the record.
+#[inline(always)]
 pub fn next_whole<R: Source>(
     source: &mut R,
     layout: &Layout,

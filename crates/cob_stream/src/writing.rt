@@ -19,6 +19,7 @@ use cob_records::{Form, Outlet, RecordFault, Sink};
 /// # Errors
 ///
 /// The first count of the storage that isn't valid, in every form.
+#[inline(always)]
 pub fn written_length(
     layout: &Layout,
     form: Form,
@@ -45,6 +46,7 @@ pub fn written_length(
 }
 
 /// How many bytes the sink took, where so many were to be written and this was the answer.
+#[inline(always)]
 fn taken_by(answer: Result<(), RecordFault>, whole: u16) -> u64
     ensures { result ≡ taken_in whole answer }
 {
@@ -60,6 +62,7 @@ fn taken_by(answer: Result<(), RecordFault>, whole: u16) -> u64
 /// # Errors
 ///
 /// Those of [`Outlet::add`]: the sink took a beginning of the frame, or of the block.
+#[inline(always)]
 pub fn write_record<W: Sink>(
     sink: &mut W,
     outlet: &mut Outlet,

@@ -1,4 +1,4 @@
-use Rattle.std.proofs.Common.{◌≡◌, ◌≤◌, ◌<◌, length}
+use Rattle.std.proofs.Common.{length}
 use Rattle.cob_records.proofs.Spelled.{SpelledSoFar}
 use Rattle.cob_records.proofs.block_size.block_size_of.Given as goal
 
