@@ -10,3 +10,5 @@ pub mod Writing
 pub mod WordLemmas
 pub mod WordReading
 pub mod WordWriting
+pub mod WideLemmas
+pub mod WideWriting

@@ -20,23 +20,30 @@ last_units x m = let none : m - m ≡ 0 = omega arith in ap (λ k. x / 10 ^ k % 
     one : (x : ℕ) → x / 1 ≡ x
     one x = omega arith
 
-wanted_front : (wanted : ℕ) (s : ℤ) (a : ℕ) (kept : List ℕ) → wanted ≤ 16 → AreWanted wanted s a kept → (i : ℕ) → i ≤ wanted → number_of (take i kept) ≡ shifted a s / 10 ^ (wanted - i) % 10 ^ i
-wanted_front wanted s a kept room k zero le = omega arith
-wanted_front wanted s a kept room k (suc i) le =
+-- digits that are those of a number at powers of ten, the highest first
+pub digits_front : (wanted : ℕ) (s : ℤ) (a : ℕ) (kept : List ℕ) → wanted ≤ length kept → ((j : ℕ) → j < wanted → get_or kept j 0 ≡ digit_at a (pos (wanted - 1 - j) -ℤ s)) → (i : ℕ) → i ≤ wanted
+    → number_of (take i kept) ≡ shifted a s / 10 ^ (wanted - i) % 10 ^ i
+digits_front wanted s a kept long each zero le = omega arith
+digits_front wanted s a kept long each (suc i) le =
     let lt : i < wanted = omega arith in
-    let inside : i < length kept = omega (arith, k.long) in
+    let inside : i < length kept = omega arith in
     let z : ℤ = pos (wanted - 1 - i) -ℤ s in
     let power : z +ℤ s ≡ pos (wanted - (i + 1)) = omega (arith, ints) in
     let more : take (i + 1) kept ≡ take i kept ++ get_or kept i 0 ∷ [] = take_more kept i 0 inside in
-    let so_far : number_of (take i kept) ≡ shifted a s / 10 ^ (wanted - i) % 10 ^ i = wanted_front wanted s a kept room k i (omega arith) in
+    let so_far : number_of (take i kept) ≡ shifted a s / 10 ^ (wanted - i) % 10 ^ i = digits_front wanted s a kept long each i (omega arith) in
     let next : number_of (take i kept ++ get_or kept i 0 ∷ []) ≡ shifted a s / 10 ^ (wanted - (i + 1)) % 10 ^ (i + 1) =
-    align_more a s z (take i kept) wanted i (get_or kept i 0) lt so_far (k.each i lt) power in
+    align_more a s z (take i kept) wanted i (get_or kept i 0) lt so_far (each i lt) power in
     let suc_is : suc i ≡ i + 1 = omega arith in
     ap (λ j. number_of (take j kept)) suc_is ∙ ap number_of more ∙ next ∙ sym (ap (λ j. shifted a s / 10 ^ (wanted - j) % 10 ^ j) suc_is)
 
+-- all of them together are the number, aligned
+pub digits_aligned : (wanted : ℕ) (from to : ℤ) (a : ℕ) (kept : List ℕ) → wanted ≤ length kept → ((j : ℕ) → j < wanted → get_or kept j 0 ≡ digit_at a (pos (wanted - 1 - j) -ℤ (to -ℤ from)))
+    → number_of (take wanted kept) ≡ aligned a from to wanted
+digits_aligned wanted from to a kept long each = digits_front wanted (to -ℤ from) a kept long each wanted (omega arith) ∙ last_units (shifted a (to -ℤ from)) wanted
+
 -- what is kept of a magnitude is the magnitude, aligned
 pub wanted_aligned : (wanted : ℕ) (from to : ℤ) (a : ℕ) (kept : List ℕ) → wanted ≤ 16 → AreWanted wanted (to -ℤ from) a kept → number_of (take wanted kept) ≡ aligned a from to wanted
-wanted_aligned wanted from to a kept room k = wanted_front wanted (to -ℤ from) a kept room k wanted (omega arith) ∙ last_units (shifted a (to -ℤ from)) wanted
+wanted_aligned wanted from to a kept room k = digits_aligned wanted from to a kept (omega (arith, k.long)) k.each
 
 pub wanted_small : (wanted : ℕ) (s : ℤ) (a : ℕ) (kept : List ℕ) → AreWanted wanted s a kept → (i : ℕ) → i < 16 → get_or kept i 0 < 10
 wanted_small wanted s a kept k i lt =
@@ -57,14 +64,14 @@ wanted_tens wanted s a kept k = λ i lt. wanted_small wanted s a kept k i lt
 
 -- ---- whether something is left
 
-zeros_number : (ds : List ℕ) → ((k : ℕ) → k < length ds → get_or ds k 0 ≡ 0) → number_of ds ≡ 0
+pub zeros_number : (ds : List ℕ) → ((k : ℕ) → k < length ds → get_or ds k 0 ≡ 0) → number_of ds ≡ 0
 zeros_number [] h = refl
 zeros_number (d ∷ ds) h =
     let first : d ≡ 0 = h 0 (omega arith) in
     let rest : number_of ds ≡ 0 = zeros_number ds (λ k lt. h (suc k) (omega arith)) in
     ap (λ x. x * 10 ^ length ds + number_of ds) first ∙ omega (arith, rest)
 
-number_zeros : (ds : List ℕ) → number_of ds ≡ 0 → (k : ℕ) → k < length ds → get_or ds k 0 ≡ 0
+pub number_zeros : (ds : List ℕ) → number_of ds ≡ 0 → (k : ℕ) → k < length ds → get_or ds k 0 ≡ 0
 number_zeros [] e k lt = absurd (omega arith)
 number_zeros (zero ∷ ds) e zero lt = refl
 number_zeros (zero ∷ ds) e (suc k) lt = number_zeros ds (omega arith) k (omega arith)

@@ -52,23 +52,29 @@ read_padded r bytes window digits is_number minus few bounds is number nothing t
   taken = taken;
 }
 
--- what was read of the last sixteen bytes
-pub read_last : (r : LaneReader) (bytes digits : List ℕ) (is_number minus : Bool) → 16 ≤ length bytes → ((i : ℕ) → Fits w8 (get_or bytes i 0))
-    → (is_number ≡ true → LanesPass r (drop (length bytes - 16) bytes) minus) → (is_number ≡ false → (m : Bool) → LanesPass r (drop (length bytes - 16) bytes) m → ⊥)
-    → AreTaken r (drop (length bytes - 16) bytes) digits → IsLanesRead r bytes is_number minus digits
-read_last r bytes digits is_number minus many bounds number nothing taken =
+last_vector : (bytes : List ℕ) → 16 ≤ length bytes → ((i : ℕ) → Fits w8 (get_or bytes i 0)) → IsVector (last_bytes 16 bytes)
+last_vector bytes many bounds =
+    let n : ℕ = length bytes - 16 in
+    record { long = omega (arith, length-drop n bytes); small = λ i. omega (arith, get_or-drop n bytes i 0, small_of _ (bounds (n + i))) }
+
+last_same : (bytes : List ℕ) (size : ℕ) → 16 ≤ length bytes → size ≤ 16 → last_bytes size (last_bytes 16 bytes) ≡ last_bytes size bytes
+last_same bytes size many fits =
     let n : ℕ = length bytes - 16 in
     let long : length (drop n bytes) ≡ 16 = omega (arith, length-drop n bytes) in
-    record {
-      window = drop n bytes;
-      vector = record { long = long; small = λ i. omega (arith, get_or-drop n bytes i 0, small_of _ (bounds (n + i))) };
-      same = λ size fits within. (
-          let e : n + (length (drop n bytes) - size) ≡ length bytes - size = omega arith in
-          drop-drop (length (drop n bytes) - size) n bytes ∙ ap (λ m. drop m bytes) e);
-      number = number;
-      nothing = nothing;
-      taken = taken;
-    }
+    let e : n + (length (drop n bytes) - size) ≡ length bytes - size = omega arith in
+    drop-drop (length (drop n bytes) - size) n bytes ∙ ap (λ m. drop m bytes) e
+
+-- what was read of the last sixteen bytes
+pub read_last : (r : LaneReader) (bytes window digits : List ℕ) (is_number minus : Bool) → 16 ≤ length bytes → ((i : ℕ) → Fits w8 (get_or bytes i 0)) → window ≡ last_bytes 16 bytes
+    → (is_number ≡ true → LanesPass r window minus) → (is_number ≡ false → (m : Bool) → LanesPass r window m → ⊥) → AreTaken r window digits → IsLanesRead r bytes is_number minus digits
+read_last r bytes window digits is_number minus many bounds is number nothing taken = record {
+  window = window;
+  vector = rw is (last_vector bytes many bounds);
+  same = λ size fits within. ap (last_bytes size) is ∙ last_same bytes size many fits;
+  number = number;
+  nothing = nothing;
+  taken = taken;
+}
 
 -- ---- bytes put behind zeros
 

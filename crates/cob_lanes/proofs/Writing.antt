@@ -27,7 +27,7 @@ leb_of a b le = go (leb a b) refl
     go false e = absurd (omega (arith, leb-false _ _ e))
 
 -- a half byte that has a digit
-pick_is : (start apart count half k : ℕ) → start ≤ half → (half - start) % apart ≡ 0 → (half - start) / apart ≡ k → k < count → digit_pick start apart count half ≡ k
+pub pick_is : (start apart count half k : ℕ) → start ≤ half → (half - start) % apart ≡ 0 → (half - start) / apart ≡ k → k < count → digit_pick start apart count half ≡ k
 pick_is start apart count half k from whole is lt =
     let e : leb start half ≡ true = leb_of start half from in
     let f : eqb ((half - start) % apart) 0 ≡ true = eq-eqb _ _ whole in
@@ -37,7 +37,7 @@ pick_is start apart count half k from whole is lt =
     ∙ ap (λ b. cond b ((half - start) / apart) 128) g ∙ is
 
 -- one that has none
-no_pick : (start apart count half : ℕ) → (leb start half ≡ true → (half - start) % apart ≡ 0 → count ≤ (half - start) / apart) → digit_pick start apart count half ≡ 128
+pub no_pick : (start apart count half : ℕ) → (leb start half ≡ true → (half - start) % apart ≡ 0 → count ≤ (half - start) / apart) → digit_pick start apart count half ≡ 128
 no_pick start apart count half beyond = go (leb start half) refl (eqb ((half - start) % apart) 0) refl (ltb ((half - start) / apart) count) refl
   where
     go : (a : Bool) → leb start half ≡ a → (b : Bool) → eqb ((half - start) % apart) 0 ≡ b → (c : Bool) → ltb ((half - start) / apart) count ≡ c → cond (a && (b && c)) ((half - start) / apart) 128 ≡ 128
@@ -46,10 +46,10 @@ no_pick start apart count half beyond = go (leb start half) refl (eqb ((half - s
     go true p true q false r = refl
     go true p true q true r = absurd (omega (arith, beyond p (eqb-true _ _ q), ltb-true _ _ r))
 
-lane_is : (digits : List ℕ) (j : ℕ) → j < 16 → picked_at digits j ≡ get_or digits j 0
+pub lane_is : (digits : List ℕ) (j : ℕ) → j < 16 → picked_at digits j ≡ get_or digits j 0
 lane_is digits j lt = ap (λ b. cond b (get_or digits j 0) 0) (lt-ltb _ _ lt)
 
-picked_small : (digits : List ℕ) (j : ℕ) → AreTens digits → picked_at digits j < 10
+pub picked_small : (digits : List ℕ) (j : ℕ) → AreTens digits → picked_at digits j < 10
 picked_small digits j tens = elim (cases_lt j 16) [
   | inl lt ↦ omega (arith, lane_is digits j lt, tens j lt)
   | inr ge ↦ (let e : picked_at digits j ≡ 0 = ap (λ b. cond b (get_or digits j 0) 0) (le-ltb _ _ ge) in omega arith)
@@ -232,7 +232,7 @@ pub record WritesPacked (count : ℕ) (signed : Bool) (w : LaneWriter) : Type 0 
   pub base : (minus : Bool) (i : ℕ) → i < 16 → get_or (base_of w minus) i 0 ≡ cond (eqb i (count / 2)) (sign_code signed minus) 0
 
 -- a byte of pairs of half bytes
-byte_of_halves : (hs : List ℕ) (k : ℕ) → 2 * k + 1 < length hs → get_or (bytes_of_halves hs) k 0 ≡ get_or hs (2 * k) 0 * 16 + get_or hs (2 * k + 1) 0
+pub byte_of_halves : (hs : List ℕ) (k : ℕ) → 2 * k + 1 < length hs → get_or (bytes_of_halves hs) k 0 ≡ get_or hs (2 * k) 0 * 16 + get_or hs (2 * k + 1) 0
 byte_of_halves [] k lt = absurd (omega arith)
 byte_of_halves (a ∷ []) k lt = absurd (omega arith)
 byte_of_halves (a ∷ b ∷ hs) zero lt = refl

@@ -70,13 +70,31 @@ pub(crate) fn are_zero(v: u8x16) -> bool
     v.simd_ne(u8x16::splat(0)).to_bitmask() == 0
 }
 
+/// Whether a minus stays with a number that is zero or not.
+#[inline(always)]
+fn stays(minus: bool, zero: bool) -> bool
+    ensures { result ≡ (minus && not zero) }
+{
+    minus && !zero
+}
+
 /// Whether a minus stays with digits: one of them is not 0.
 #[inline(always)]
 pub fn keeps_minus(minus: bool, digits: u8x16) -> bool
     ensures { (zero : Bool) × (IsTrue zero ↔ AreZero digits) × (result ≡ (minus && not zero)) }
 {
     let zero = are_zero(digits);
-    minus && !zero
+    stays(minus, zero)
+}
+
+/// Whether a minus stays with digits in front and digits behind them: one of all is not 0.
+#[inline(always)]
+pub fn keeps_minus_of_both(minus: bool, front: u8x16, back: u8x16) -> bool
+    ensures { (zero : Bool) × (IsTrue zero ↔ (AreZero front × AreZero back))
+        × (result ≡ (minus && not zero)) }
+{
+    let zero = are_zero(either(front, back));
+    stays(minus, zero)
 }
 
 /// The number of the lowest bit of a mask that is set, and 16 where none is.

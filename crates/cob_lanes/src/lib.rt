@@ -1,4 +1,4 @@
-//! Numbers of at most sixteen digits as lanes of a vector: numeric items read to digits and written from digits, sixteen bytes at a time.
+//! Numbers as digits in lanes of a vector, at most sixteen in one: numeric items read to digits and written from digits, sixteen bytes at a time.
 //!
 //! A [`LaneReader`] reads items of one kind and shape, each at the end of a window of sixteen bytes, and keeps the digits that are
 //! [`Wanted`] when the number is moved by the point; a [`LaneWriter`] writes items of one kind and shape from such digits. Both are
@@ -9,8 +9,9 @@
 //! specs/Readers.antt), and of a reader that was made ready it is proved that this is reading (`IsReaderOf`): bytes pass exactly where they
 //! represent a number by the definitions of `cob_codec`, and what is taken then is that number's digits, aligned (`AreRead`).
 //! [`LaneWriter::write`] leaves the bytes that it makes of digits and a sign (`AreMade` of specs/Writers.antt), and of a writer that was
-//! made ready these are the stored form (`IsWriterOf`). [`LaneText::write`] leaves a text of digits (`AreShown` of specs/Texts.antt): what
-//! each byte shows of them, and what is added to it. [`keeps_minus`] says whether a minus stays with digits, and [`zeros_before`] how many
+//! made ready these are the stored form (`IsWriterOf`). A number of more digits stands in two vectors, its last sixteen digits and those in
+//! front of them: two readers take them of the same packed item, and a [`WideWriter`] writes them (`IsWideWriterOf`). [`LaneText::write`] leaves a text of digits (`AreShown` of specs/Texts.antt): what
+//! each byte shows of them, and what is added to it. [`keeps_minus`] and [`keeps_minus_of_both`] say whether a minus stays with digits, and [`zeros_before`] how many
 //! of them are zeros in front.
 //!
 //! It stands on cob_codec for what bytes represent and what is stored, on cob_decimal for digits and alignment, and on `std::simd`. It
@@ -29,17 +30,19 @@ mod reading;
 mod signs;
 mod text;
 mod wanted;
+mod wide_writer;
 mod width;
 mod words;
 mod writer;
 mod writers;
 
 pub use binary::{BinaryReader, BinaryWriter};
-pub use lanes::{Bounds, NO_LANE, Picks, keeps_minus, zeros_before};
+pub use lanes::{Bounds, NO_LANE, Picks, keeps_minus, keeps_minus_of_both, zeros_before};
 pub use reader::LaneReader;
 pub use reading::LanesRead;
 pub use signs::SignByte;
 pub use text::LaneText;
 pub use wanted::Wanted;
+pub use wide_writer::WideWriter;
 pub use width::Width;
 pub use writer::LaneWriter;

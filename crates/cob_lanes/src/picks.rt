@@ -17,7 +17,6 @@ pub(crate) struct Spread {
     /// How many there are.
     pub(crate) count: usize,
     pub(crate) ghost some: { 0 < apart },
-    pub(crate) ghost most: { count ≤ 16 },
     pub(crate) ghost within: { (k : ℕ) → k < count → start + apart * k < 32 },
 }
 
@@ -73,6 +72,7 @@ pub(crate) fn power_picks(high: bool, by: &Spread, wanted: Wanted) -> Picks
 
 /// The number of the digit that stands in a half byte, or none.
 fn digit_pick(by: &Spread, half: usize) -> u8
+    requires { by.now.count ≤ 16 }
     ensures lane { result ≡ digit_pick by.now.start by.now.apart by.now.count half }
     ensures valid { is_pick result ≡ true }
 {
@@ -97,6 +97,7 @@ fn half_of_byte(high: bool, byte: usize) -> usize
 
 /// The digits that are the high halves of bytes, or the low ones.
 pub(crate) fn digit_picks(high: bool, by: &Spread) -> Picks
+    requires { by.now.count ≤ 16 }
     ensures { AreDigitPicks high by.now.start by.now.apart by.now.count result.lanes }
 {
     let mut lanes = [NO_LANE; 16];

@@ -117,9 +117,8 @@ impl LaneReader {
         }
     }
 
-    /// What reads packed items of a shape of at most 16 digits.
+    /// What reads packed items of a shape.
     pub fn packed(shape: &Shape, wanted: Wanted) -> LaneReader
-        requires { shape.now.digits ≤ 16 }
         ensures { IsReaderOf (IsPacked shape.now.digits shape.now.signed)
             (shape.now.digits / 2 + 1) wanted.digits wanted.shift result }
     {

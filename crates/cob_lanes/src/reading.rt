@@ -1,8 +1,8 @@
 //! Numbers of items, read as digits in lanes.
 
-ghost use Rattle.std.specs.Prelude.{◌≡◌, ◌<◌, Bool, true, false, length};
+ghost use Rattle.std.specs.Prelude.{◌≡◌, ◌<◌, ◌≤◌, Bool, true, false, length};
 ghost use Rattle.cob_lanes.specs.Readers.{AreTaken, IsLanesRead, LanesPass};
-ghost use Rattle.cob_lanes.specs.Windows.{padded_window};
+ghost use Rattle.cob_lanes.specs.Windows.{last_bytes, padded_window};
 
 use crate::lanes::take_halves;
 use crate::reader::LaneReader;
@@ -30,40 +30,41 @@ fn padded_window(bytes: &[u8]) -> [u8; 16]
     window
 }
 
+/// Sixteen bytes that end with the last of these: behind zeros where there are fewer.
+#[inline(always)]
+fn window_of(bytes: &[u8]) -> u8x16
+    ensures few { length bytes.now < 16 → result ≡ padded_window bytes.now }
+    ensures many { 16 ≤ length bytes.now → result ≡ last_bytes 16 bytes.now }
+{
+    if bytes.len() < 16 {
+        u8x16::from_array(padded_window(bytes))
+    } else {
+        u8x16::from_slice(&bytes[bytes.len() - 16..])
+    }
+}
+
 impl LaneReader {
     /// The number of the item at the end of bytes, and of as many before it as there are.
     #[inline(always)]
     pub fn read(&self, bytes: &[u8]) -> LanesRead
         ensures { IsLanesRead self.now bytes.now result.is_number result.minus result.digits }
     {
-        if bytes.len() < 16 {
-            return self.read_few(bytes);
-        }
-        self.read_window(&bytes[bytes.len() - 16..])
-    }
-
-    /// The number of the item at the end of fewer than sixteen bytes.
-    fn read_few(&self, bytes: &[u8]) -> LanesRead
-        requires { length bytes.now < 16 }
-        ensures { IsLanesRead self.now bytes.now result.is_number result.minus result.digits }
-    {
-        self.read_window(&padded_window(bytes))
+        self.read_window(window_of(bytes))
     }
 
     /// The number of the item at the end of sixteen bytes.
     #[inline(always)]
-    fn read_window(&self, window: &[u8]) -> LanesRead
-        requires { length window.now ≡ 16 }
-        ensures number { result.is_number ≡ true → LanesPass self.now window.now result.minus }
+    fn read_window(&self, window: u8x16) -> LanesRead
+        ensures number { result.is_number ≡ true → LanesPass self.now window result.minus }
         ensures nothing { result.is_number ≡ false → (minus : Bool)
-            → ¬ LanesPass self.now window.now minus }
-        ensures digits { AreTaken self.now window.now result.digits }
+            → ¬ LanesPass self.now window minus }
+        ensures digits { AreTaken self.now window result.digits }
     {
-        let v = u8x16::from_slice(window);
-        let taken = take_halves(v, &self.bounds, &self.high, &self.low);
+        let taken = take_halves(window, &self.bounds, &self.high, &self.low);
         let digits = taken.digits;
         let is_within = taken.is_within;
-        match byte_meaning(self.sign, self.signed, window[usize::from(self.place)]) {
+        let byte = window.to_array()[usize::from(self.place)];
+        match byte_meaning(self.sign, self.signed, byte) {
             Some(minus) => LanesRead {
                 is_number: is_within,
                 minus,

@@ -63,6 +63,19 @@ pub(crate) fn put_front(bytes: &[u8; 16], out: &mut [u8])
 }
 
 impl LaneWriter {
+    /// The bytes of the digits of a number with its sign.
+    #[inline(always)]
+    pub(crate) fn made(&self, digits: u8x16, minus: bool) -> u8x16
+        ensures { AreMade self.now minus digits result }
+    {
+        let base = chosen(minus, self.minus, self.plus);
+        let halves = sums(
+            raised(picked(digits, &self.high)),
+            picked(digits, &self.low),
+        );
+        sums(halves, base)
+    }
+
     /// Writes the digits of a number with its sign into all bytes of an item.
     #[inline(always)]
     pub fn write(&self, digits: u8x16, minus: bool, out: &mut [u8])
@@ -70,12 +83,7 @@ impl LaneWriter {
         ensures made { (bytes : List ℕ) × AreMade self.now minus digits bytes
             × (out.new ≡ take (length out.old) bytes) }
     {
-        let base = chosen(minus, self.minus, self.plus);
-        let halves = sums(
-            raised(picked(digits, &self.high)),
-            picked(digits, &self.low),
-        );
-        let bytes = sums(halves, base).to_array();
+        let bytes = self.made(digits, minus).to_array();
         put_front(&bytes, out);
     }
 }

@@ -18,7 +18,7 @@ use cob_codec::Shape;
 const ZONE: u8 = 0xF0;
 
 /// The code of the sign that is written.
-fn sign_code(signed: bool, minus: bool) -> u8
+pub(crate) fn sign_code(signed: bool, minus: bool) -> u8
     ensures { result ≡ sign_code signed minus }
 {
     match (signed, minus) {

@@ -9,7 +9,7 @@ use Rattle.cob_layout_places.specs.declared.operands.PairMoves.{PairMoves}
 use Rattle.cob_layout_places.specs.declared.operands.StatementMoves.{StatementMoves}
 use Rattle.cob_layout_places.specs.Moves.{Move, Records, Sender, moves_by, numbered_move_by, statement_moves_by}
 use Rattle.cob_move_apply.specs.Placed.{IsPlacedMove}
-use Rattle.cob_move_apply.specs.Steps.{AreMovesCut, AreSteps, BeginsWith, Gains, GainsCut, IsMoveOfPart, IsPicturedMove, IsPreparedMove, IsStep, StandFor, Support, alone, pair_at, singles, support_of}
+use Rattle.cob_move_apply.specs.Steps.{AreMovesCut, AreSteps, BeginsWith, Gains, GainsCut, IsMoveOfPart, IsPicturedMove, IsStep, StandFor, Support, alone, pair_at, singles, support_of}
 use Rattle.cob_copybook_tree.specs.declared.node.Kind.{Kind}
 use Rattle.cob_entry.specs.Described.{PlainValue}
 use Rattle.cob_move_prepared.specs.Copies.{IsConstantStep}
@@ -18,6 +18,7 @@ use Rattle.cob_move_prepared.specs.declared.constant_step.ConstantStep.{Constant
 use Rattle.cob_move_prepared.proofs.PoolLemmas.{Grows as IsLonger, as_before, kept_at, put_at}
 use Rattle.cob_move_prepared.specs.Pool.{KeepsSteps}
 use Rattle.cob_move_prepared.specs.declared.pictured.PicturedSteps.{PicturedSteps}
+use Rattle.cob_move_prepared.specs.declared.pool.MoveStep.TheVariants as move_step
 use Rattle.cob_move_prepared.specs.declared.pool.MoveSteps.{MoveSteps}
 use Rattle.cob_move_apply.specs.Written.{IsFixedConstant}
 use Rattle.cob_move_apply.specs.declared.basis.Basis.{Basis}
@@ -25,7 +26,6 @@ use Rattle.cob_move_apply.specs.declared.step.ConstantMove.{ConstantMove}
 use Rattle.cob_move_apply.specs.declared.step.Part.{Part}
 use Rattle.cob_move_apply.specs.declared.step.PicturedMove.{PicturedMove}
 use Rattle.cob_move_apply.specs.declared.step.Plan.{Plan}
-use Rattle.cob_move_apply.specs.declared.step.PreparedMove.{PreparedMove}
 use Rattle.cob_move_apply.specs.declared.step.Step.{Step}
 use Rattle.cob_move_apply.specs.declared.step.Step.TheVariants as step
 use Rattle.cob_move_apply.specs.Joined.{steps_in}
@@ -66,7 +66,11 @@ pub record Grows (a b : Support) : Type 0 where
 step_still : (x : Reading) (r : Records) (given : List StatementMoves) (a b : Support) (s : Step) (own : List Move) → Grows a b → IsStep x r given a s own → IsStep x r given b s own
 step_still x r given a b (step.Part p) own more (m, is, part) =
     (m, is, subst (λ (bs : List Basis). IsMoveOfPart x r given bs p m) (sym more.bases) (part_still x r given a.bases more.more p m part))
-step_still x r given a b (step.Prepared p) own more (k, is, fixed) = (k, more.prepared k p.step is, fixed)
+step_still x r given a b (step.Number p) own more (k, is, fixed) = (k, more.prepared k (move_step.Number p.number) is, fixed)
+step_still x r given a b (step.Wide p) own more (k, is, fixed) = (k, more.prepared k (move_step.Wide p.number) is, fixed)
+step_still x r given a b (step.Binary p) own more (k, is, fixed) = (k, more.prepared k (move_step.Binary p.number) is, fixed)
+step_still x r given a b (step.Edited p) own more (k, is, fixed) = (k, more.prepared k (move_step.Edited p.number) is, fixed)
+step_still x r given a b (step.Characters p) own more (k, is, fixed) = (k, more.prepared k (move_step.Characters p.step) is, fixed)
 step_still x r given a b (step.Pictured q p) own more (m, is, (part, so)) = (
   m,
   is,
@@ -181,11 +185,11 @@ gains_more x r given ms a b c same bases kept pictured constants g parts are =
     (steps_still x r given (support_of a) (support_of b) a.steps.items parts (record { more = []; bases = bases ∙ sym (append-nil a.bases.items); prepared = kept; pictured = pictured; constants = ([], constants ∙ sym (append-nil a.constants.items)) }) are))
 
 -- a single move that was made ready behind steps
-pub by_prepared : (x : Reading) (r : Records) (given : List StatementMoves) (bases : List Basis) (pictured : PicturedSteps) (constants : List ConstantStep) (before now : MoveSteps) (old new : List Step) (p : PreparedMove) (parts own : List Move)
-    → KeepsSteps before now → new ≡ old ++ step.Prepared p ∷ [] → IsPreparedMove x r now p own
+pub by_prepared : (x : Reading) (r : Records) (given : List StatementMoves) (bases : List Basis) (pictured : PicturedSteps) (constants : List ConstantStep) (before now : MoveSteps) (old new : List Step) (s : Step) (parts own : List Move)
+    → KeepsSteps before now → new ≡ old ++ s ∷ [] → IsStep x r given (record { bases = bases; prepared = now; pictured = pictured; constants = constants }) s own
     → AreSteps x r given (record { bases = bases; prepared = before; pictured = pictured; constants = constants }) old parts → AreSteps x r given (record { bases = bases; prepared = now; pictured = pictured; constants = constants }) new (parts ++ own)
-by_prepared x r given bases pictured constants before now old new p parts own kept is made are =
-    by_more x r given (record { bases = bases; prepared = before; pictured = pictured; constants = constants }) (record { bases = bases; prepared = now; pictured = pictured; constants = constants }) old new (step.Prepared p) parts own
+by_prepared x r given bases pictured constants before now old new s parts own kept is made are =
+    by_more x r given (record { bases = bases; prepared = before; pictured = pictured; constants = constants }) (record { bases = bases; prepared = now; pictured = pictured; constants = constants }) old new s parts own
     (record { more = []; bases = sym (append-nil bases); prepared = kept; pictured = λ k t h. h; constants = as_before ConstantStep constants }) is made are
 
 singles_next : (s : Sender) (os : List Operand) (i : ℕ) (o : Operand) → i < length os → o ≡ get_or os i o → singles s (take i os) ++ alone s o ∷ [] ≡ singles s (take (i + 1) os)

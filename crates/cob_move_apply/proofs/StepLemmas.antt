@@ -1,5 +1,5 @@
 -- Steps carried out one after another.
-use Rattle.std.proofs.Common.{◌≡◌, ℕ, ◌+◌, ◌<◌, ◌≤◌, List, [], ◌∷◌, ◌++◌, length, get_or, drop, refl, sym, ap, subst, ◌∙◌, arith, inl, inr}
+use Rattle.std.proofs.Common.{◌≡◌, ℕ, ◌+◌, ◌<◌, ◌≤◌, List, [], ◌∷◌, ◌++◌, length, get_or, drop, refl, sym, ap, subst, ◌∙◌, arith, inl, inr, Option, Some, None}
 use Rattle.std.proofs.lemmas.List.{drop_all, drop_more}
 use Rattle.cob_codec.specs.declared.reading.Reading.{Reading}
 use Rattle.cob_copybook_tree.specs.declared.node.Kind.{Kind}
@@ -11,10 +11,11 @@ use Rattle.cob_layout_places.specs.declared.operands.StatementMoves.{StatementMo
 use Rattle.cob_layout_places.specs.Moves.{Move, Records, moves_by}
 use Rattle.cob_move_apply.specs.Applied.{Applied, Ending, IsMoved, done, stopped}
 use Rattle.cob_move_apply.specs.Made.{IsMadeConstant, IsMadeReady}
-use Rattle.cob_move_apply.specs.Steps.{AreSteps, IsConstantAt, IsMoveOfPart, IsPicturedPart, IsStep, StandFor, Support}
+use Rattle.cob_move_apply.specs.Steps.{AreSteps, IsConstantAt, IsMoveOfPart, IsPicturedPart, IsPreparedMove, IsStep, StandFor, Support}
 use Rattle.cob_move_apply.specs.Surveyed.{IsWorkspace}
-use Rattle.cob_move_apply.specs.Written.{AreCopied, HasPlaces}
+use Rattle.cob_move_apply.specs.Written.{HasPlaces}
 use Rattle.cob_move_prepared.specs.Pool.{IsMoveStep, MoveKinds}
+use Rattle.cob_move_prepared.specs.declared.pool.MoveSteps.{MoveSteps}
 use Rattle.cob_move_apply.specs.declared.step.ConstantMove.{ConstantMove}
 use Rattle.cob_move_apply.specs.declared.step.MovePlaces.{MovePlaces}
 use Rattle.cob_move_apply.specs.declared.step.Part.{Part}
@@ -57,129 +58,92 @@ next_step x r given steps on i s d input before now lt is (rest, are, so) =
       so = λ end h. so end (subst (λ (ps : List Move). Applied r ps input now end) (sym cut) h);
     }
 
+-- ---- a step carried out
+
+pub left_made : (x : Reading) (r : Records) (given : List StatementMoves) (steps : List Step) (on : Support) (i : ℕ) (s : Step) (input before now after : List ℕ)
+    → Next x r given steps on i s input before now → ((own : List Move) → IsStep x r given on s own → Applied r own input now (done after)) → Left x r given steps on (i + 1) input before after
+left_made x r given steps on i s input before now after n made = (n.more, n.others, λ end h. n.so end (applied_both r n.own n.more input now after end (made n.own n.is) h))
+
+pub stopped_made : (x : Reading) (r : Records) (given : List StatementMoves) (steps : List Step) (on : Support) (i : ℕ) (s : Step) (input before now after : List ℕ) (stop : Stop)
+    → Next x r given steps on i s input before now → ((own : List Move) → IsStep x r given on s own → Applied r own input now (stopped stop after)) → Applied r (moves_by x r given) input before (stopped stop after)
+stopped_made x r given steps on i s input before now after stop n made = n.so (stopped stop after) (applied_stopped r n.own n.more input now after stop (made n.own n.is))
+
 -- ---- a part
 
-pub the_part : (x : Reading) (r : Records) (given : List StatementMoves) (steps : List Step) (on : Support) (i : ℕ) (p : Part) (input before now : List ℕ)
-    → Next x r given steps on i (step.Part p) input before now → (m : Move) × IsMoveOfPart x r given on.bases p m
-the_part x r given steps on i p input before now n = let (m, same, part) = n.is in (m, part)
+one_applied : (r : Records) (m : Move) (input now : List ℕ) (stop : Option Stop) (after : List ℕ) → IsMoved r m input now (record { stop = stop; storage = after }) → Applied r (m ∷ []) input now (record { stop = stop; storage = after })
+one_applied r m input now None after moved = inl (after, moved, refl)
+one_applied r m input now (Some stop) after moved = inr (stop, after, moved, refl)
 
-one_part : (r : Records) (own : List Move) (p : Move) (more : List Move) (input now : List ℕ) (end : Ending) → own ≡ p ∷ [] → Applied r (p ∷ more) input now end → Applied r (own ++ more) input now end
-one_part r own p more input now end same h = subst (λ (ps : List Move). Applied r (ps ++ more) input now end) (sym same) h
+made_one : (r : Records) (own : List Move) (m : Move) (input now : List ℕ) (end : Ending) → own ≡ m ∷ [] → IsMoved r m input now end → Applied r own input now end
+made_one r own m input now end same moved = subst (λ (ps : List Move). Applied r ps input now end) (sym same) (one_applied r m input now end.stop end.storage moved)
 
-pub left_part : (x : Reading) (r : Records) (given : List StatementMoves) (steps : List Step) (on : Support) (i : ℕ) (p : Part) (input before now after : List ℕ)
-    → Next x r given steps on i (step.Part p) input before now → ((m : Move) → IsMoveOfPart x r given on.bases p m → IsMoved r m input now (done after)) → Left x r given steps on (i + 1) input before after
-left_part x r given steps on i p input before now after n moved =
-    let (m, same, part) = n.is in
-    (n.more, n.others, λ end h. n.so end (one_part r n.own m n.more input now end same (inl (after, moved m part, h))))
+pub the_part : (x : Reading) (r : Records) (given : List StatementMoves) (on : Support) (p : Part) (own : List Move) → IsStep x r given on (step.Part p) own → (m : Move) × IsMoveOfPart x r given on.bases p m
+the_part x r given on p own (m, same, part) = (m, part)
 
-pub stopped_part : (x : Reading) (r : Records) (given : List StatementMoves) (steps : List Step) (on : Support) (i : ℕ) (p : Part) (input before now after : List ℕ) (stop : Stop)
-    → Next x r given steps on i (step.Part p) input before now → ((m : Move) → IsMoveOfPart x r given on.bases p m → IsMoved r m input now (stopped stop after))
-    → Applied r (moves_by x r given) input before (stopped stop after)
-stopped_part x r given steps on i p input before now after stop n moved =
-    let (m, same, part) = n.is in
-    n.so (stopped stop after) (one_part r n.own m n.more input now (stopped stop after) same (inr (stop, after, moved m part, refl)))
+pub made_part : (x : Reading) (r : Records) (given : List StatementMoves) (on : Support) (p : Part) (own : List Move) (input now : List ℕ) (end : Ending)
+    → ((m : Move) → IsMoveOfPart x r given on.bases p m → IsMoved r m input now end) → IsStep x r given on (step.Part p) own → Applied r own input now end
+made_part x r given on p own input now end moved (m, same, part) = made_one r own m input now end same (moved m part)
 
 -- ---- a single move that was made ready
 
-pub the_prepared : (x : Reading) (r : Records) (given : List StatementMoves) (steps : List Step) (on : Support) (i : ℕ) (p : PreparedMove) (input before now : List ℕ)
-    → Next x r given steps on i (step.Prepared p) input before now → (k : MoveKinds) × IsMoveStep on.prepared k p.step × HasPlaces p.places k
-the_prepared x r given steps on i p input before now n = let (k, is, fixed) = n.is in (k, is, fixed.places)
+pub the_prepared : (x : Reading) (r : Records) (steps : MoveSteps) (p : PreparedMove) (own : List Move) → IsPreparedMove x r steps p own → (k : MoveKinds) × IsMoveStep steps k p.step × HasPlaces p.places k
+the_prepared x r steps p own (k, is, fixed) = (k, is, fixed.places)
 
-pub prepared_reads : (x : Reading) (r : Records) (given : List StatementMoves) (steps : List Step) (on : Support) (i : ℕ) (p : PreparedMove) (input before now : List ℕ)
-    → Next x r given steps on i (step.Prepared p) input before now → IsStorage r.input input → p.places.from.offset + p.places.from.length ≤ length input
-prepared_reads x r given steps on i p input before now n is = let (k, step_is, fixed) = n.is in fixed.reads input is
+pub prepared_reads : (x : Reading) (r : Records) (steps : MoveSteps) (p : PreparedMove) (own : List Move) (input : List ℕ)
+    → IsPreparedMove x r steps p own → IsStorage r.input input → p.places.from.offset + p.places.from.length ≤ length input
+prepared_reads x r steps p own input (k, step_is, fixed) is = fixed.reads input is
 
-pub prepared_within : (x : Reading) (r : Records) (given : List StatementMoves) (steps : List Step) (on : Support) (i : ℕ) (p : PreparedMove) (input before now : List ℕ)
-    → Next x r given steps on i (step.Prepared p) input before now → p.places.to.offset + p.places.to.length ≤ greatest_length r.output
-prepared_within x r given steps on i p input before now n = let (k, step_is, fixed) = n.is in fixed.within
+pub prepared_within : (x : Reading) (r : Records) (steps : MoveSteps) (p : PreparedMove) (own : List Move) → IsPreparedMove x r steps p own → p.places.to.offset + p.places.to.length ≤ greatest_length r.output
+prepared_within x r steps p own (k, step_is, fixed) = fixed.within
 
-own_prepared : (x : Reading) (r : Records) (given : List StatementMoves) (steps : List Step) (on : Support) (i : ℕ) (p : PreparedMove) (input before now : List ℕ) (end : Ending)
-    → IsStorage r.input input → length now ≡ greatest_length r.output → (n : Next x r given steps on i (step.Prepared p) input before now) → IsMadeReady p on.prepared input now end
-    → Applied r n.own input now end
-own_prepared x r given steps on i p input before now end is size n made =
-    let (k, step_is, fixed) = n.is in
+pub made_prepared : (x : Reading) (r : Records) (steps : MoveSteps) (p : PreparedMove) (own : List Move) (input now : List ℕ) (end : Ending)
+    → IsStorage r.input input → length now ≡ greatest_length r.output → IsMadeReady p steps input now end → IsPreparedMove x r steps p own → Applied r own input now end
+made_prepared x r steps p own input now end is size made (k, step_is, fixed) =
     let (outcome, received, same) = made k step_is fixed.places in
-    subst (λ (e : Ending). Applied r n.own input now e) (sym same) (fixed.ends input now outcome is size (received x))
-
-pub left_prepared : (x : Reading) (r : Records) (given : List StatementMoves) (steps : List Step) (on : Support) (i : ℕ) (p : PreparedMove) (input before now after : List ℕ)
-    → IsStorage r.input input → length now ≡ greatest_length r.output → Next x r given steps on i (step.Prepared p) input before now → IsMadeReady p on.prepared input now (done after)
-    → Left x r given steps on (i + 1) input before after
-left_prepared x r given steps on i p input before now after is size n made =
-    (n.more, n.others, λ end h. n.so end (applied_both r n.own n.more input now after end (own_prepared x r given steps on i p input before now (done after) is size n made) h))
-
-pub stopped_prepared : (x : Reading) (r : Records) (given : List StatementMoves) (steps : List Step) (on : Support) (i : ℕ) (p : PreparedMove) (input before now after : List ℕ) (stop : Stop)
-    → IsStorage r.input input → length now ≡ greatest_length r.output → Next x r given steps on i (step.Prepared p) input before now → IsMadeReady p on.prepared input now (stopped stop after)
-    → Applied r (moves_by x r given) input before (stopped stop after)
-stopped_prepared x r given steps on i p input before now after stop is size n made =
-    n.so (stopped stop after) (applied_stopped r n.own n.more input now after stop (own_prepared x r given steps on i p input before now (stopped stop after) is size n made))
+    subst (λ (e : Ending). Applied r own input now e) (sym same) (fixed.ends input now outcome is size (received x))
 
 -- ---- a part that was made ready where senders are read as their pictures say
 
-pub the_pictured : (x : Reading) (r : Records) (given : List StatementMoves) (steps : List Step) (on : Support) (i : ℕ) (q : PicturedMove) (p : Part) (input before now : List ℕ)
-    → Next x r given steps on i (step.Pictured q p) input before now → (m : Move) × IsPicturedPart x r given on.bases on.pictured q p m
-the_pictured x r given steps on i q p input before now n = let (m, same, part) = n.is in (m, part)
+pub the_pictured : (x : Reading) (r : Records) (given : List StatementMoves) (on : Support) (q : PicturedMove) (p : Part) (own : List Move)
+    → IsStep x r given on (step.Pictured q p) own → (m : Move) × IsPicturedPart x r given on.bases on.pictured q p m
+the_pictured x r given on q p own (m, same, part) = (m, part)
 
-pub left_pictured : (x : Reading) (r : Records) (given : List StatementMoves) (steps : List Step) (on : Support) (i : ℕ) (q : PicturedMove) (p : Part) (input before now after : List ℕ)
-    → Next x r given steps on i (step.Pictured q p) input before now → ((m : Move) → IsPicturedPart x r given on.bases on.pictured q p m → IsMoved r m input now (done after)) → Left x r given steps on (i + 1) input before after
-left_pictured x r given steps on i q p input before now after n moved =
-    let (m, same, part) = n.is in
-    (n.more, n.others, λ end h. n.so end (one_part r n.own m n.more input now end same (inl (after, moved m part, h))))
-
-pub stopped_pictured : (x : Reading) (r : Records) (given : List StatementMoves) (steps : List Step) (on : Support) (i : ℕ) (q : PicturedMove) (p : Part) (input before now after : List ℕ) (stop : Stop)
-    → Next x r given steps on i (step.Pictured q p) input before now → ((m : Move) → IsPicturedPart x r given on.bases on.pictured q p m → IsMoved r m input now (stopped stop after))
-    → Applied r (moves_by x r given) input before (stopped stop after)
-stopped_pictured x r given steps on i q p input before now after stop n moved =
-    let (m, same, part) = n.is in
-    n.so (stopped stop after) (one_part r n.own m n.more input now (stopped stop after) same (inr (stop, after, moved m part, refl)))
+pub made_pictured : (x : Reading) (r : Records) (given : List StatementMoves) (on : Support) (q : PicturedMove) (p : Part) (own : List Move) (input now : List ℕ) (end : Ending)
+    → ((m : Move) → IsPicturedPart x r given on.bases on.pictured q p m → IsMoved r m input now end) → IsStep x r given on (step.Pictured q p) own → Applied r own input now end
+made_pictured x r given on q p own input now end moved (m, same, part) = made_one r own m input now end same (moved m part)
 
 -- ---- a constant that was made ready
 
-pub the_constant : (x : Reading) (r : Records) (given : List StatementMoves) (steps : List Step) (on : Support) (i : ℕ) (c : ConstantMove) (input before now : List ℕ)
-    → Next x r given steps on i (step.Constant c) input before now → (constant : PlainValue) × (to : Kind) × IsConstantAt on.constants c constant to
-the_constant x r given steps on i c input before now n = let (constant, to, at, fixed) = n.is in (constant, to, at)
+pub the_constant : (x : Reading) (r : Records) (given : List StatementMoves) (on : Support) (c : ConstantMove) (own : List Move)
+    → IsStep x r given on (step.Constant c) own → (constant : PlainValue) × (to : Kind) × IsConstantAt on.constants c constant to
+the_constant x r given on c own (constant, to, at, fixed) = (constant, to, at)
 
-pub constant_within : (x : Reading) (r : Records) (given : List StatementMoves) (steps : List Step) (on : Support) (i : ℕ) (c : ConstantMove) (input before now : List ℕ)
-    → Next x r given steps on i (step.Constant c) input before now → c.to.offset + c.to.length ≤ greatest_length r.output
-constant_within x r given steps on i c input before now n = let (constant, to, at, fixed) = n.is in fixed.within
+pub constant_within : (x : Reading) (r : Records) (given : List StatementMoves) (on : Support) (c : ConstantMove) (own : List Move) → IsStep x r given on (step.Constant c) own → c.to.offset + c.to.length ≤ greatest_length r.output
+constant_within x r given on c own (constant, to, at, fixed) = fixed.within
 
-own_constant : (x : Reading) (r : Records) (given : List StatementMoves) (steps : List Step) (on : Support) (i : ℕ) (c : ConstantMove) (input before now after : List ℕ)
-    → (n : Next x r given steps on i (step.Constant c) input before now) → IsMadeConstant c on.constants now after → Applied r n.own input now (done after)
-own_constant x r given steps on i c input before now after n made =
-    let (constant, to, at, fixed) = n.is in
+pub made_constant : (x : Reading) (r : Records) (given : List StatementMoves) (on : Support) (c : ConstantMove) (own : List Move) (input now after : List ℕ)
+    → IsMadeConstant c on.constants now after → IsStep x r given on (step.Constant c) own → Applied r own input now (done after)
+made_constant x r given on c own input now after made (constant, to, at, fixed) =
     let (written, received, same) = made constant to at in
-    subst (λ (s : List ℕ). Applied r n.own input now (done s)) (sym same) (fixed.ends input now written received)
-
-pub left_constant : (x : Reading) (r : Records) (given : List StatementMoves) (steps : List Step) (on : Support) (i : ℕ) (c : ConstantMove) (input before now after : List ℕ)
-    → Next x r given steps on i (step.Constant c) input before now → IsMadeConstant c on.constants now after → Left x r given steps on (i + 1) input before after
-left_constant x r given steps on i c input before now after n made =
-    (n.more, n.others, λ end h. n.so end (applied_both r n.own n.more input now after end (own_constant x r given steps on i c input before now after n made) h))
+    subst (λ (s : List ℕ). Applied r own input now (done s)) (sym same) (fixed.ends input now written received)
 
 -- ---- a copy
 
-pub the_copy : (x : Reading) (r : Records) (given : List StatementMoves) (steps : List Step) (on : Support) (i : ℕ) (c : MovePlaces) (input before now : List ℕ)
-    → (n : Next x r given steps on i (step.Copy c) input before now) → AreCopied r c.from c.to n.own
-the_copy x r given steps on i c input before now n = n.is
+pub copy_reads : (x : Reading) (r : Records) (given : List StatementMoves) (on : Support) (c : MovePlaces) (own : List Move) (input : List ℕ)
+    → IsStep x r given on (step.Copy c) own → IsStorage r.input input → c.from.offset + c.from.length ≤ length input
+copy_reads x r given on c own input copied is = copied.reads input is
 
-pub copy_reads : (x : Reading) (r : Records) (given : List StatementMoves) (steps : List Step) (on : Support) (i : ℕ) (c : MovePlaces) (input before now : List ℕ)
-    → Next x r given steps on i (step.Copy c) input before now → IsStorage r.input input → c.from.offset + c.from.length ≤ length input
-copy_reads x r given steps on i c input before now n is = (the_copy x r given steps on i c input before now n).reads input is
+pub copy_within : (x : Reading) (r : Records) (given : List StatementMoves) (on : Support) (c : MovePlaces) (own : List Move) → IsStep x r given on (step.Copy c) own → c.to.offset + c.to.length ≤ greatest_length r.output
+copy_within x r given on c own copied = copied.are.within
 
-pub left_copy : (x : Reading) (r : Records) (given : List StatementMoves) (steps : List Step) (on : Support) (i : ℕ) (c : MovePlaces) (input before now after : List ℕ)
+pub made_copy : (x : Reading) (r : Records) (given : List StatementMoves) (on : Support) (c : MovePlaces) (own : List Move) (input now after : List ℕ)
+    → IsStorage r.input input → length now ≡ greatest_length r.output → after ≡ with_field now c.to (field_of c.from input) → IsStep x r given on (step.Copy c) own → Applied r own input now (done after)
+made_copy x r given on c own input now after is size written copied = subst (λ (s : List ℕ). Applied r own input now (done s)) (sym written) (copied.are.written input now is size)
+
+pub space_copy : (x : Reading) (r : Records) (given : List StatementMoves) (on : Support) (c : MovePlaces) (own : List Move) (input now after : List ℕ) (w : Workspace)
     → IsStorage r.input input → length now ≡ greatest_length r.output → after ≡ with_field now c.to (field_of c.from input)
-    → Next x r given steps on i (step.Copy c) input before now → Left x r given steps on (i + 1) input before after
-left_copy x r given steps on i c input before now after is size written n =
-    let copied : AreCopied r c.from c.to n.own = n.is in (
-      n.more,
-      n.others,
-      λ end h. n.so end (applied_both r n.own n.more input now after end
-          (subst (λ (s : List ℕ). Applied r n.own input now (done s)) (sym written) (copied.are.written input now is size)) h),
-    )
-
-pub space_copy : (x : Reading) (r : Records) (given : List StatementMoves) (steps : List Step) (on : Support) (i : ℕ) (c : MovePlaces) (input before now after : List ℕ) (w : Workspace)
-    → IsStorage r.input input → length now ≡ greatest_length r.output → after ≡ with_field now c.to (field_of c.from input)
-    → Next x r given steps on i (step.Copy c) input before now → IsWorkspace r input now w → IsWorkspace r input after w
-space_copy x r given steps on i c input before now after w is size written n space =
-    let copied : AreCopied r c.from c.to n.own = n.is in
+    → IsStep x r given on (step.Copy c) own → IsWorkspace r input now w → IsWorkspace r input after w
+space_copy x r given on c own input now after w is size written copied space =
     subst (λ (s : List ℕ). IsWorkspace r input s w) (sym written) (record {
       surveyed_input = space.surveyed_input;
       surveyed_output = survey_left r.output now (field_of c.from input) c.to w.output copied.are.leaves (omega (arith, size, copied.are.within)) (copied.are.long input is) space.surveyed_output;
@@ -193,11 +157,3 @@ pub left_none : (x : Reading) (r : Records) (given : List StatementMoves) (steps
 left_none x r given steps on i input before now past (rest, are, so) =
     let none : rest ≡ [] = subst (λ (ss : List Step). AreSteps x r given on ss rest) (drop_all i steps past) are in
     so (done now) (subst (λ (ps : List Move). Applied r ps input now (done now)) (sym none) refl)
-
-pub same_space : (r : Records) (input a b : List ℕ) (u v : Workspace) → b ≡ a → v ≡ u → IsWorkspace r input a u → IsWorkspace r input b v
-same_space r input a b u v same is h =
-    subst (λ (s : List ℕ). IsWorkspace r input s v) (sym same) (subst (λ (w : Workspace). IsWorkspace r input a w) (sym is) h)
-
-pub same_left : (x : Reading) (r : Records) (given : List StatementMoves) (steps : List Step) (on : Support) (i : ℕ) (input before a b : List ℕ) → b ≡ a
-    → Left x r given steps on i input before a → Left x r given steps on i input before b
-same_left x r given steps on i input before a b same h = subst (λ (s : List ℕ). Left x r given steps on i input before s) (sym same) h

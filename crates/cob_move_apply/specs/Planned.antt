@@ -77,7 +77,11 @@ pub record AreWithinLongest (c : MovePlaces) : Type 0 where
 -- for how many steps a step is counted: a part for each of its receivers
 abbrev pub step_count : Step → ℕ
 step_count (step.Part p) = p.count
-step_count (step.Prepared p) = 1
+step_count (step.Number p) = 1
+step_count (step.Wide p) = 1
+step_count (step.Binary p) = 1
+step_count (step.Edited p) = 1
+step_count (step.Characters p) = 1
 step_count (step.Pictured q p) = 1
 step_count (step.Constant c) = 1
 step_count (step.Copy c) = 1
@@ -90,7 +94,11 @@ counted_steps (s ∷ ss) = step_count s + counted_steps ss
 -- where a step ends that is a copy
 abbrev pub step_ends : Step → Option CopyEnds
 step_ends (step.Part p) = None
-step_ends (step.Prepared p) = None
+step_ends (step.Number p) = None
+step_ends (step.Wide p) = None
+step_ends (step.Binary p) = None
+step_ends (step.Edited p) = None
+step_ends (step.Characters p) = None
 step_ends (step.Pictured q p) = None
 step_ends (step.Constant c) = None
 step_ends (step.Copy c) = Some (copy_ends c)

@@ -19,9 +19,12 @@ use Rattle.cob_move_prepared.specs.Copies.{IsConstantStep}
 use Rattle.cob_move_prepared.specs.Pool.{IsMoveStep, IsStepAt, MoveKinds}
 use Rattle.cob_move_prepared.specs.declared.constant_step.ConstantStep.{ConstantStep}
 use Rattle.cob_move_prepared.specs.declared.pictured.PicturedSteps.{PicturedSteps}
+use Rattle.cob_move_prepared.specs.declared.pool.MoveStep.{MoveStep}
+use Rattle.cob_move_prepared.specs.declared.pool.MoveStep.TheVariants as move_step
 use Rattle.cob_move_prepared.specs.declared.pool.MoveSteps.{MoveSteps}
 use Rattle.cob_move_apply.specs.declared.basis.Basis.{Basis}
 use Rattle.cob_move_apply.specs.declared.step.ConstantMove.{ConstantMove}
+use Rattle.cob_move_apply.specs.declared.step.NumberedMove.{NumberedMove}
 use Rattle.cob_move_apply.specs.declared.step.Part.{Part}
 use Rattle.cob_move_apply.specs.declared.step.PicturedMove.{PicturedMove}
 use Rattle.cob_move_apply.specs.declared.step.Plan.{Plan}
@@ -94,11 +97,19 @@ IsConstantAt steps c constant to = IsStepAt ConstantStep (λ step. IsConstantSte
 abbrev pub IsConstantMove : Records → List ConstantStep → ConstantMove → List Move → Type 0
 IsConstantMove r steps c own = (constant : PlainValue) × (to : Kind) × IsConstantAt steps c constant to × IsFixedConstant r c.to constant to own
 
+-- the move that the step of this number, of a kind, carries out
+abbrev pub numbered : (ℕ → MoveStep) → NumberedMove → PreparedMove
+numbered kind p = record { places = p.places; step = kind p.number }
+
 -- a step stands for these moves: for one part, for a single move that was made ready, whatever the reading or as pictures say, or of a constant, or for
 -- those that are a copy
 abbrev pub IsStep : Reading → Records → List StatementMoves → Support → Step → List Move → Type 0
 IsStep reading r given on (step.Part p) own = (m : Move) × (own ≡ m ∷ []) × IsMoveOfPart reading r given on.bases p m
-IsStep reading r given on (step.Prepared p) own = IsPreparedMove reading r on.prepared p own
+IsStep reading r given on (step.Number p) own = IsPreparedMove reading r on.prepared (numbered move_step.Number p) own
+IsStep reading r given on (step.Wide p) own = IsPreparedMove reading r on.prepared (numbered move_step.Wide p) own
+IsStep reading r given on (step.Binary p) own = IsPreparedMove reading r on.prepared (numbered move_step.Binary p) own
+IsStep reading r given on (step.Edited p) own = IsPreparedMove reading r on.prepared (numbered move_step.Edited p) own
+IsStep reading r given on (step.Characters p) own = IsPreparedMove reading r on.prepared (record { places = p.places; step = move_step.Characters p.step }) own
 IsStep reading r given on (step.Pictured q p) own = (m : Move) × (own ≡ m ∷ []) × IsPicturedPart reading r given on.bases on.pictured q p m
 IsStep reading r given on (step.Constant c) own = IsConstantMove r on.constants c own
 IsStep reading r given on (step.Copy places) own = AreCopied r places.from places.to own

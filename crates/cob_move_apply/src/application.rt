@@ -1,11 +1,11 @@
 //! Steps, one after another.
 
-ghost use Rattle.std.specs.Prelude.{◌≡◌, ◌+◌, ◌≤◌, length};
+ghost use Rattle.std.specs.Prelude.{◌≡◌, ◌+◌, ◌≤◌, List, length};
 ghost use Rattle.cob_layout.specs.Sound.{IsSound};
 ghost use Rattle.cob_layout.specs.Storage.{greatest_length, IsStorage};
 ghost use Rattle.cob_layout_places.specs.Moves.{Move as Meant, moves_by};
 ghost use Rattle.cob_move_apply.specs.Applied.{Applied, IsMoved, ending};
-ghost use Rattle.cob_move_apply.specs.Steps.{IsMoveOfPart, IsPicturedPart, StandFor, support_of};
+ghost use Rattle.cob_move_apply.specs.Steps.{IsMoveOfPart, IsPicturedPart, IsPreparedMove, IsStep, StandFor, support_of};
 ghost use Rattle.cob_move_apply.specs.Surveyed.{HasSpace, IsWorkspace, records};
 
 use crate::basis::{Basis, PlacedReceivers};
@@ -14,12 +14,13 @@ use crate::pairs::make_pair_move;
 use crate::pictured::run_pictured;
 use crate::prepared::make_prepared;
 use crate::senders::make_move;
-use crate::step::{Part, PicturedMove, Plan, Step, copy_across};
+use crate::step::{MovePlaces, Part, PicturedMove, Plan, PreparedMove, Step, copy_across};
 use crate::stop::Stop;
 use crate::workspace::{Layouts, Workspace};
 use cob_codec::Reading;
 use cob_layout::one_outcome_of_counts;
 use cob_layout_places::StatementMoves;
+use cob_move_prepared::MoveStep;
 
 /// Carries out a part of the moves of a statement.
 ///
@@ -84,7 +85,7 @@ fn make_pictured(
     given: &[StatementMoves],
     plan: &Plan,
     one: PicturedMove,
-    part: Part,
+    part: &Part,
     layouts: &Layouts<'_>,
     input: &[u8],
     output: &mut [u8],
@@ -93,12 +94,12 @@ fn make_pictured(
     requires in_sound { IsSound layouts.now.input.now }
     requires out_sound { IsSound layouts.now.output.now }
     requires part { (m : Meant) × IsPicturedPart layouts.now.reading (records layouts.now)
-        given.now plan.now.bases.items plan.now.pictured one part m }
+        given.now plan.now.bases.items plan.now.pictured one part.now m }
     requires input { IsStorage layouts.now.input.now input.now }
     requires output { length output.old ≡ greatest_length layouts.now.output.now }
     requires space { IsWorkspace (records layouts.now) input.now output.old space.old }
     ensures moved { (m : Meant) → IsPicturedPart layouts.now.reading (records layouts.now)
-        given.now plan.now.bases.items plan.now.pictured one part m
+        given.now plan.now.bases.items plan.now.pictured one part.now m
         → IsMoved (records layouts.now) m input.now output.old (ending result output.new) }
     ensures space { IsWorkspace (records layouts.now) input.now output.new space.new }
 {
@@ -106,7 +107,103 @@ fn make_pictured(
         Reading::Pictured => run_pictured(&plan.pictured, one, layouts, input, output, space),
         Reading::Whole => {
             let bases = plan.bases.as_slice();
-            make_part(given, bases, part, layouts, input, output, space)
+            make_part(given, bases, *part, layouts, input, output, space)
+        }
+    }
+}
+
+/// Carries out a single move that was made ready, by the step that carries it out.
+///
+/// # Errors
+///
+/// A value of the sender is missing. The storage is as it was then.
+#[inline(always)]
+fn make_single(
+    plan: &Plan,
+    places: MovePlaces,
+    step: MoveStep,
+    layouts: &Layouts<'_>,
+    input: &[u8],
+    output: &mut [u8],
+    space: &mut Workspace,
+) -> Result<(), Stop>
+    requires step { (own : List Meant) × IsPreparedMove layouts.now.reading (records layouts.now)
+        plan.now.prepared (record { places = places; step = step }) own }
+    requires input { IsStorage layouts.now.input.now input.now }
+    requires output { length output.old ≡ greatest_length layouts.now.output.now }
+    requires space { IsWorkspace (records layouts.now) input.now output.old space.old }
+    ensures applied { (own : List Meant)
+        → IsPreparedMove layouts.now.reading (records layouts.now)
+        plan.now.prepared (record { places = places; step = step }) own
+        → Applied (records layouts.now) own input.now output.old (ending result output.new) }
+    ensures space { IsWorkspace (records layouts.now) input.now output.new space.new }
+{
+    let one = PreparedMove { places, step };
+    make_prepared(&plan.prepared, one, layouts, input, output, space)
+}
+
+/// Carries out a step of the plan of moves.
+///
+/// # Errors
+///
+/// The first thing missing. The storage is as the receivers before left it then.
+#[inline(always)]
+fn make_step(
+    given: &[StatementMoves],
+    plan: &Plan,
+    step: &Step,
+    layouts: &Layouts<'_>,
+    input: &[u8],
+    output: &mut [u8],
+    space: &mut Workspace,
+) -> Result<(), Stop>
+    requires in_sound { IsSound layouts.now.input.now }
+    requires out_sound { IsSound layouts.now.output.now }
+    requires step { (own : List Meant) × IsStep layouts.now.reading (records layouts.now)
+        given.now (support_of plan.now) step.now own }
+    requires input { IsStorage layouts.now.input.now input.now }
+    requires output { length output.old ≡ greatest_length layouts.now.output.now }
+    requires space { IsWorkspace (records layouts.now) input.now output.old space.old }
+    ensures applied { (own : List Meant) → IsStep layouts.now.reading (records layouts.now)
+        given.now (support_of plan.now) step.now own
+        → Applied (records layouts.now) own input.now output.old (ending result output.new) }
+    ensures space { IsWorkspace (records layouts.now) input.now output.new space.new }
+{
+    match step {
+        Step::Part(part) => {
+            let bases = plan.bases.as_slice();
+            make_part(given, bases, *part, layouts, input, output, space)
+        }
+        Step::Number(one) => {
+            let step = MoveStep::Number(one.number);
+            make_single(plan, one.places, step, layouts, input, output, space)
+        }
+        Step::Wide(one) => {
+            let step = MoveStep::Wide(one.number);
+            make_single(plan, one.places, step, layouts, input, output, space)
+        }
+        Step::Binary(one) => {
+            let step = MoveStep::Binary(one.number);
+            make_single(plan, one.places, step, layouts, input, output, space)
+        }
+        Step::Edited(one) => {
+            let step = MoveStep::Edited(one.number);
+            make_single(plan, one.places, step, layouts, input, output, space)
+        }
+        Step::Characters(one) => {
+            let step = MoveStep::Characters(one.step);
+            make_single(plan, one.places, step, layouts, input, output, space)
+        }
+        Step::Pictured(one, part) => {
+            make_pictured(given, plan, *one, part, layouts, input, output, space)
+        }
+        Step::Constant(one) => {
+            make_constant(plan, *one, layouts, input, output, space);
+            Ok(())
+        }
+        Step::Copy(places) => {
+            copy_across(*places, input, output);
+            Ok(())
         }
     }
 }
@@ -139,20 +236,9 @@ pub(crate) fn apply_in(
 {
     one_outcome_of_counts();
     space.forget();
-    let bases = plan.bases.as_slice();
     let steps = plan.steps.as_slice();
     for step in steps {
-        match *step {
-            Step::Part(part) => make_part(given, bases, part, layouts, input, output, space)?,
-            Step::Prepared(one) => {
-                make_prepared(&plan.prepared, one, layouts, input, output, space)?
-            }
-            Step::Pictured(one, part) => {
-                make_pictured(given, plan, one, part, layouts, input, output, space)?
-            }
-            Step::Constant(one) => make_constant(plan, one, layouts, input, output, space),
-            Step::Copy(places) => copy_across(places, input, output),
-        }
+        make_step(given, plan, step, layouts, input, output, space)?;
     }
     Ok(())
 }

@@ -35,7 +35,9 @@ use crate::basis::entry_kind;
 use crate::pairs::entry_below;
 use crate::preparation::push_bases;
 use crate::ready::{ReadyConstant, constant_of, pictured_of, prepared_of};
-use crate::step::{ConstantMove, MovePlaces, Part, PicturedMove, Plan, Step, both_copies};
+use crate::step::{
+    ConstantMove, MovePlaces, Part, PicturedMove, Plan, Step, both_copies, prepared_step,
+};
 use cob_layout::{Layout, Ref, places_lie_in_storage, records_are_sound, tables};
 use cob_layout_places::{Move, PairMoves, Sender, Side, StatementMoves};
 use cob_move_prepared::{MoveSteps, PicturedSteps};
@@ -143,7 +145,9 @@ fn joined(last: Step, places: MovePlaces) -> Option<Step>
     ensures none { IfNone result (begun (step_ends last) (Some places) ≡ 1) }
 {
     match last {
-        Step::Part(_) | Step::Prepared(_) | Step::Pictured(_, _) | Step::Constant(_) => None,
+        Step::Part(_) | Step::Pictured(_, _) | Step::Constant(_) => None,
+        Step::Number(_) | Step::Wide(_) | Step::Binary(_) => None,
+        Step::Edited(_) | Step::Characters(_) => None,
         Step::Copy(front) => Some(Step::Copy(both_copies(front, places)?)),
     }
 }
@@ -337,7 +341,7 @@ fn push_other(
     let receiver = &part.receivers[0];
     match prepared_of(part.sender, receiver, both, &mut plan.prepared)? {
         Some(one) => {
-            plan.steps.push(Step::Prepared(one))?;
+            plan.steps.push(prepared_step(one))?;
             Ok(())
         }
         None => push_read(given, part, both, plan),

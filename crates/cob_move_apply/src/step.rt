@@ -1,16 +1,22 @@
 //! Steps: what is carried out in the place of moves.
 
-ghost use Rattle.std.specs.Prelude.{◌≡◌, ◌+◌, ◌≤◌, false, length, min, IfNone, IfSome};
+ghost use Rattle.std.specs.Prelude.{◌≡◌, ◌+◌, ◌≤◌, false, length, min, IfNone, IfSome, List, None};
+ghost use Rattle.cob_codec.specs.declared.reading.Reading.{Reading};
 ghost use Rattle.cob_limits.specs.Limits.{longest_record};
 ghost use Rattle.cob_layout.specs.Fields.{field_of, with_field};
+ghost use Rattle.cob_layout_places.specs.Moves.{Move as Meant, Records};
+ghost use Rattle.cob_layout_places.specs.declared.operands.StatementMoves.{StatementMoves as Said};
 ghost use Rattle.cob_move_apply.specs.Joined.{copy_ends, meets};
-ghost use Rattle.cob_move_apply.specs.Planned.{AreWithinLongest, counted_steps, step_count};
+ghost use Rattle.cob_move_apply.specs.Planned.{AreWithinLongest, counted_steps, step_count, step_ends};
+ghost use Rattle.cob_move_apply.specs.Steps.{IsPreparedMove, IsStep, Support};
 ghost use Rattle.cob_move_apply.specs.Told.{most_moves_told};
 ghost use Rattle.cob_move_apply.specs.Written.{IsBoth};
 
 use crate::basis::Basis;
 use cob_layout::{Place, field};
-use cob_move_prepared::{ConstantStep, MoveStep, MoveSteps, PicturedStep, PicturedSteps, copy_all};
+use cob_move_prepared::{
+    CharactersStep, ConstantStep, MoveStep, MoveSteps, PicturedStep, PicturedSteps, copy_all,
+};
 
 /// A part of the moves of a statement: its one move with so many of the receivers, or the move of one pair.
 #[derive(Clone, Copy, Debug)]
@@ -41,6 +47,24 @@ pub(crate) struct PreparedMove {
     pub(crate) step: MoveStep,
 }
 
+/// A single move of a number between two such places, made ready.
+#[derive(Clone, Copy, Debug)]
+pub(crate) struct NumberedMove {
+    /// Where the sender and the receiver stand.
+    pub(crate) places: MovePlaces,
+    /// The number of what carries the move out.
+    pub(crate) number: usize,
+}
+
+/// A single move of characters between two such places, made ready.
+#[derive(Clone, Copy, Debug)]
+pub(crate) struct CharactersMove {
+    /// Where the sender and the receiver stand.
+    pub(crate) places: MovePlaces,
+    /// What carries the move out.
+    pub(crate) step: CharactersStep,
+}
+
 /// A single move between two such places, made ready where its sender is read as its picture says.
 #[derive(Clone, Copy, Debug)]
 pub(crate) struct PicturedMove {
@@ -59,13 +83,21 @@ pub(crate) struct ConstantMove {
     pub(crate) number: usize,
 }
 
-/// What is carried out at once.
+/// What is carried out at once. Single moves that were made ready stand here by their kinds, so that one jump finds what carries them out.
 #[derive(Clone, Copy, Debug)]
 pub(crate) enum Step {
     /// Places and categories are looked at as the step is carried out.
     Part(Part),
-    /// A single move was made ready.
-    Prepared(PreparedMove),
+    /// A single move of a number from one item to another was made ready.
+    Number(NumberedMove),
+    /// The same to an item of more than sixteen digits.
+    Wide(NumberedMove),
+    /// The same to a binary item.
+    Binary(NumberedMove),
+    /// The same to an edited item.
+    Edited(NumberedMove),
+    /// A single move of characters was made ready.
+    Characters(CharactersMove),
     /// A single move was made ready where senders are read as their pictures say; else it is this part.
     Pictured(PicturedMove, Part),
     /// A single move of a constant was made ready.
@@ -129,13 +161,32 @@ pub(crate) fn copy_across(places: MovePlaces, input: &[u8], output: &mut [u8])
     copy_all(field(input, places.from), &mut output[start..end]);
 }
 
+/// The step that carries a single move out.
+pub(crate) fn prepared_step(one: PreparedMove) -> Step
+    ensures stands { (reading : Reading) (r : Records) (given : List Said) (on : Support)
+        (own : List Meant) → IsPreparedMove reading r on.prepared one own
+        → IsStep reading r given on result own }
+    ensures counts { step_count result ≡ 1 }
+    ensures ends { step_ends result ≡ None }
+{
+    let places = one.places;
+    match one.step {
+        MoveStep::Number(number) => Step::Number(NumberedMove { places, number }),
+        MoveStep::Wide(number) => Step::Wide(NumberedMove { places, number }),
+        MoveStep::Binary(number) => Step::Binary(NumberedMove { places, number }),
+        MoveStep::Edited(number) => Step::Edited(NumberedMove { places, number }),
+        MoveStep::Characters(step) => Step::Characters(CharactersMove { places, step }),
+    }
+}
+
 /// For how many steps a step is counted: a part for each of its receivers.
 fn step_count(step: Step) -> usize
     ensures { result ≡ step_count step }
 {
     match step {
         Step::Part(part) => part.count,
-        Step::Prepared(_) | Step::Pictured(_, _) | Step::Constant(_) | Step::Copy(_) => 1,
+        Step::Number(_) | Step::Wide(_) | Step::Binary(_) | Step::Edited(_) => 1,
+        Step::Characters(_) | Step::Pictured(_, _) | Step::Constant(_) | Step::Copy(_) => 1,
     }
 }
 

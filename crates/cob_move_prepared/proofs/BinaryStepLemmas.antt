@@ -1,5 +1,5 @@
 -- Steps from and to binary items, carried out: what the receiver gets.
-use Rattle.std.proofs.Common.{◌≡◌, ◌↔◌, ◌<◌, ◌≤◌, ℕ, ◌&&◌, ◌-ℤ◌, ℤ, Bool, true, false, not, IsTrue, List, length, take, Some, None, refl, sym, ap, subst, ◌∙◌, inl, inr, arith}
+use Rattle.std.proofs.Common.{◌≡◌, ◌↔◌, ◌<◌, ℕ, ◌&&◌, ◌-ℤ◌, ℤ, Bool, true, false, not, IsTrue, List, take, Some, None, refl, sym, ap, subst, ◌∙◌, inl, inr, arith}
 use Rattle.std.proofs.lemmas.Bool.{cases_eq}
 use Rattle.cob_decimal.specs.Decimal.{number_of}
 use Rattle.cob_picture.specs.Counts.{scale, signed}
@@ -19,14 +19,13 @@ use Rattle.cob_copybook_tree.specs.Lengths.{item_size, stored_size}
 use Rattle.cob_edit.specs.Pictured.{IsEdited}
 use Rattle.cob_lanes.specs.Lanes.{AreTens, AreZero}
 use Rattle.cob_lanes.specs.Windows.{last_bytes}
-use Rattle.cob_lanes.specs.Readers.{AreRead, IsLanesRead}
+use Rattle.cob_lanes.specs.Readers.{AreRead}
 use Rattle.cob_lanes.specs.Words.{IsNumberRead}
-use Rattle.cob_lanes.specs.declared.reader.LaneReader.{LaneReader}
 use Rattle.cob_lanes.proofs.WantedLemmas.{wanted_tens, wanted_zero}
 use Rattle.cob_move_receive.specs.Sent.{Amount, Entry}
 use Rattle.cob_move_receive.specs.Numbers.{IsNumberIn, HoldsAligned, GivesUnder}
 use Rattle.cob_move_receive.specs.Received.{Received, GetsNumber, GetsCharacters, outcome}
-use Rattle.cob_move_prepared.specs.Steps.{is_binary, IsReaderFor, received_form}
+use Rattle.cob_move_prepared.specs.Steps.{is_binary, received_form}
 use Rattle.cob_move_prepared.specs.Ends.{IsBinaryStep, item_digits}
 use Rattle.cob_move_prepared.specs.declared.binary_step.BinaryStep.{BinaryStep}
 use Rattle.cob_move_prepared.proofs.StepLemmas.{from_match, holds, match_true, not_false, not_true, number_item, number_shows}
@@ -55,20 +54,6 @@ word_read from to reading bytes kept told minus is pictured read =
     let here : IsNumberRead (IsSentBy Pictured from (last_bytes (item_size from) bytes)) (item_digits to) s told minus kept =
     subst (λ (f : Form). IsNumberRead (SentAs Pictured f (is_leading from.sign) from.picture (last_bytes (item_size from) bytes)) (item_digits to) s told minus kept) (sym (form_is from is)) sized in
     subst (λ (r : Reading). IsNumberRead (IsSentBy r from (last_bytes (item_size from) bytes)) (item_digits to) s told minus kept) (sym pictured) here
-
--- what was read of another item, by lanes
-pub lanes_read : (from to : Item) (reading : Reading) (r : LaneReader) (bytes kept : List ℕ) (told minus : Bool) → IsReaderFor from to r → item_size from ≤ length bytes → IsLanesRead r bytes told minus kept
-    → IsNumberRead (IsSentBy reading from (last_bytes (item_size from) bytes)) (item_digits to) (scale to.picture.positions -ℤ scale from.picture.positions) told minus kept
-lanes_read from to reading r bytes kept told minus is within read =
-    let item : List ℕ = last_bytes (item_size from) bytes in
-    let s : ℤ = scale to.picture.positions -ℤ scale from.picture.positions in
-    let same : last_bytes (item_size from) read.window ≡ item = read.same (item_size from) (is reading).fits within in
-    record {
-      number = λ e. subst (λ xs. AreRead (IsSentBy reading from xs) (item_digits to) s minus kept) same ((is reading).reads read.window kept minus read.vector (read.number e) read.taken);
-      nothing = λ e negative ds there.
-          let passed = (is reading).passes read.window negative ds read.vector (subst (λ xs. IsSentBy reading from xs negative ds) (sym same) there) in
-          read.nothing e passed.0 passed.1;
-    }
 
 -- what is written of a binary item is what is written of the item
 pub word_written : (to : Item) (minus : Bool) (ds new : List ℕ) → is_binary to.usage ≡ true → new ≡ binary_form (item_digits to) (signed to.picture.positions && minus) ds → new ≡ received_form to minus ds

@@ -1,6 +1,6 @@
 -- From kinds of storage to items.
-use Rattle.std.proofs.Common.{◌≡◌, ◌≤◌, arith, ℕ, ◌+◌, ◌/◌, ◌&&◌, ◌-ℤ◌, ℤ, Bool, true, false, List, take, refl, sym, ap, subst, ◌∙◌}
-use Rattle.cob_picture.specs.Counts.{digits, scale, signed}
+use Rattle.std.proofs.Common.{◌≡◌, ◌≤◌, arith, ℕ, ◌+◌, ◌/◌, ◌&&◌, ℤ, Bool, true, false, List, take, refl, sym, ap, subst, ◌∙◌}
+use Rattle.cob_picture.specs.Counts.{digits, signed}
 use Rattle.cob_picture.specs.Positions.{PlainPicture}
 use Rattle.cob_codec.specs.Zoned.{IsZoned, zoned_form}
 use Rattle.cob_codec.specs.Separate.{IsSignedSeparately, separate_form}
@@ -16,7 +16,7 @@ use Rattle.cob_lanes.specs.Readers.{IsReaderOf}
 use Rattle.cob_lanes.specs.Writers.{IsWriterOf}
 use Rattle.cob_lanes.specs.declared.reader.LaneReader.{LaneReader}
 use Rattle.cob_lanes.specs.declared.writer.LaneWriter.{LaneWriter}
-use Rattle.cob_move_prepared.specs.Steps.{IsReaderFor, IsWriterFor, received_form}
+use Rattle.cob_move_prepared.specs.Steps.{IsItemReader, IsWriterFor, received_form}
 
 -- ---- readers
 
@@ -33,37 +33,39 @@ sent_packed Pictured leading p n w s r h = h
 sent_packed Whole leading p n w s r h = h
 
 -- the reader of a form, at the item's length, is that of the item
-as_item : (i to : Item) (f : Form) (count n w : ℕ) (s : ℤ) (r : LaneReader) → form_of i ≡ f → item_size i ≡ size_as (form_of i) count → size_as f count ≡ n
-    → w ≡ digits to.picture.positions → s ≡ scale to.picture.positions -ℤ scale i.picture.positions
-    → ((reading : Reading) → IsReaderOf (SentAs reading f (is_leading i.sign) i.picture) n w s r) → IsReaderFor i to r
-as_item i to f count n w s r form size many wanted shift h = λ reading.
+as_item : (i : Item) (f : Form) (count n w : ℕ) (s : ℤ) (r : LaneReader) → form_of i ≡ f → item_size i ≡ size_as (form_of i) count → size_as f count ≡ n
+    → ((reading : Reading) → IsReaderOf (SentAs reading f (is_leading i.sign) i.picture) n w s r) → IsItemReader i w s r
+as_item i f count n w s r form size many h = λ reading.
     let e : n ≡ item_size i = sym (size ∙ ap (λ g. size_as g count) form ∙ many) in
     let a : IsReaderOf (SentAs reading (form_of i) (is_leading i.sign) i.picture) n w s r = subst (λ g. IsReaderOf (SentAs reading g (is_leading i.sign) i.picture) n w s r) (sym form) (h reading) in
-    let b : IsReaderOf (IsSentBy reading i) (item_size i) w s r = subst (λ m. IsReaderOf (IsSentBy reading i) m w s r) e a in
-    let c : IsReaderOf (IsSentBy reading i) (item_size i) (digits to.picture.positions) s r = subst (λ m. IsReaderOf (IsSentBy reading i) (item_size i) m s r) wanted b in
-    subst (λ z. IsReaderOf (IsSentBy reading i) (item_size i) (digits to.picture.positions) z r) shift c
+    subst (λ m. IsReaderOf (IsSentBy reading i) m w s r) e a
 
-pub zoned_reader : (i to : Item) (count : ℕ) (sign leading : Bool) (w : ℕ) (s : ℤ) (r : LaneReader) → form_of i ≡ Zoned → item_size i ≡ size_as (form_of i) count → count ≡ digits i.picture.positions → sign ≡ signed i.picture.positions → leading ≡ is_leading i.sign
-    → w ≡ digits to.picture.positions → s ≡ scale to.picture.positions -ℤ scale i.picture.positions → IsReaderOf (IsZoned count sign leading) count w s r → IsReaderFor i to r
-zoned_reader i to count sign leading w s r form size many has lead wanted shift h =
+pub zoned_reader : (i : Item) (count : ℕ) (sign leading : Bool) (w : ℕ) (s : ℤ) (r : LaneReader) → form_of i ≡ Zoned → item_size i ≡ size_as (form_of i) count → count ≡ digits i.picture.positions → sign ≡ signed i.picture.positions → leading ≡ is_leading i.sign
+    → IsReaderOf (IsZoned count sign leading) count w s r → IsItemReader i w s r
+zoned_reader i count sign leading w s r form size many has lead h =
     let a : IsReaderOf (IsZoned count (signed i.picture.positions) (is_leading i.sign)) count w s r =
     subst (λ b. IsReaderOf (IsZoned count b (is_leading i.sign)) count w s r) has (subst (λ b. IsReaderOf (IsZoned count sign b) count w s r) lead h) in
     let b : IsReaderOf (IsZoned (digits i.picture.positions) (signed i.picture.positions) (is_leading i.sign)) count w s r = subst (λ n. IsReaderOf (IsZoned n (signed i.picture.positions) (is_leading i.sign)) count w s r) many a in
-    as_item i to Zoned count count w s r form size refl wanted shift (λ reading. sent_zoned reading (is_leading i.sign) i.picture count w s r b)
+    as_item i Zoned count count w s r form size refl (λ reading. sent_zoned reading (is_leading i.sign) i.picture count w s r b)
 
-pub separate_reader : (i to : Item) (count : ℕ) (leading : Bool) (w : ℕ) (s : ℤ) (r : LaneReader) → form_of i ≡ Separate → item_size i ≡ size_as (form_of i) count → count ≡ digits i.picture.positions → leading ≡ is_leading i.sign
-    → w ≡ digits to.picture.positions → s ≡ scale to.picture.positions -ℤ scale i.picture.positions → IsReaderOf (IsSignedSeparately count leading) (count + 1) w s r → IsReaderFor i to r
-separate_reader i to count leading w s r form size many lead wanted shift h =
+pub separate_reader : (i : Item) (count : ℕ) (leading : Bool) (w : ℕ) (s : ℤ) (r : LaneReader) → form_of i ≡ Separate → item_size i ≡ size_as (form_of i) count → count ≡ digits i.picture.positions → leading ≡ is_leading i.sign
+    → IsReaderOf (IsSignedSeparately count leading) (count + 1) w s r → IsItemReader i w s r
+separate_reader i count leading w s r form size many lead h =
     let a : IsReaderOf (IsSignedSeparately count (is_leading i.sign)) (count + 1) w s r = subst (λ b. IsReaderOf (IsSignedSeparately count b) (count + 1) w s r) lead h in
     let b : IsReaderOf (IsSignedSeparately (digits i.picture.positions) (is_leading i.sign)) (count + 1) w s r = subst (λ n. IsReaderOf (IsSignedSeparately n (is_leading i.sign)) (count + 1) w s r) many a in
-    as_item i to Separate count (count + 1) w s r form size refl wanted shift (λ reading. sent_separate reading (is_leading i.sign) i.picture (count + 1) w s r b)
+    as_item i Separate count (count + 1) w s r form size refl (λ reading. sent_separate reading (is_leading i.sign) i.picture (count + 1) w s r b)
 
-pub packed_reader : (i to : Item) (count : ℕ) (sign : Bool) (w : ℕ) (s : ℤ) (r : LaneReader) → form_of i ≡ Packed → item_size i ≡ size_as (form_of i) count → count ≡ digits i.picture.positions → sign ≡ signed i.picture.positions
-    → w ≡ digits to.picture.positions → s ≡ scale to.picture.positions -ℤ scale i.picture.positions → IsReaderOf (IsPacked count sign) (count / 2 + 1) w s r → IsReaderFor i to r
-packed_reader i to count sign w s r form size many has wanted shift h =
+pub packed_reader : (i : Item) (count : ℕ) (sign : Bool) (w : ℕ) (s : ℤ) (r : LaneReader) → form_of i ≡ Packed → item_size i ≡ size_as (form_of i) count → count ≡ digits i.picture.positions → sign ≡ signed i.picture.positions
+    → IsReaderOf (IsPacked count sign) (count / 2 + 1) w s r → IsItemReader i w s r
+packed_reader i count sign w s r form size many has h =
     let a : IsReaderOf (IsPacked count (signed i.picture.positions)) (count / 2 + 1) w s r = subst (λ b. IsReaderOf (IsPacked count b) (count / 2 + 1) w s r) has h in
     let b : IsReaderOf (IsPacked (digits i.picture.positions) (signed i.picture.positions)) (count / 2 + 1) w s r = subst (λ n. IsReaderOf (IsPacked n (signed i.picture.positions)) (count / 2 + 1) w s r) many a in
-    as_item i to Packed count (count / 2 + 1) w s r form size refl wanted shift (λ reading. sent_packed reading (is_leading i.sign) i.picture (count / 2 + 1) w s r b)
+    as_item i Packed count (count / 2 + 1) w s r form size refl (λ reading. sent_packed reading (is_leading i.sign) i.picture (count / 2 + 1) w s r b)
+
+-- the same, where the digits that are wanted are another's
+pub reader_as : (i : Item) (w v : ℕ) (s z : ℤ) (r : LaneReader) → w ≡ v → s ≡ z → IsItemReader i w s r → IsItemReader i v z r
+reader_as i w v s z r wanted shift h = λ reading.
+    subst (λ x. IsReaderOf (IsSentBy reading i) (item_size i) v x r) shift (subst (λ m. IsReaderOf (IsSentBy reading i) (item_size i) m s r) wanted (h reading))
 
 -- ---- writers
 
@@ -85,7 +87,7 @@ zoned_same : (sign leading minus : Bool) (ds : List ℕ) → zoned_form sign lea
 zoned_same true leading minus ds = refl
 zoned_same false leading minus ds = refl
 
-packed_same : (sign minus : Bool) (ds : List ℕ) → packed_form sign minus ds ≡ packed_form sign (sign && minus) ds
+pub packed_same : (sign minus : Bool) (ds : List ℕ) → packed_form sign minus ds ≡ packed_form sign (sign && minus) ds
 packed_same true minus ds = refl
 packed_same false minus ds = refl
 
@@ -108,6 +110,12 @@ packed_writer i count sign w form size many has h =
     written i Packed count (count / 2 + 1) (packed_form sign) w form size refl many (λ minus ds. packed_same sign minus ds ∙ ap (λ b. packed_form b (b && minus) ds) has) h
 
 -- ---- what lanes hold
+
+-- a zoned item has as many digits as bytes
+pub as_many_digits : (i : Item) (count : ℕ) → item_size i ≡ size_as (form_of i) count → form_of i ≡ Zoned → item_size i ≤ 16 → count ≤ 16
+as_many_digits i count size form fits =
+    let e : item_size i ≡ count = size ∙ ap (λ f. size_as f count) form in
+    omega (arith, e)
 
 -- an item with a separate sign has fewer digits than bytes
 pub fewer_digits : (i : Item) (count : ℕ) → item_size i ≡ size_as (form_of i) count → form_of i ≡ Separate → item_size i ≤ 16 → count ≤ 15

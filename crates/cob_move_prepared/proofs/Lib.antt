@@ -6,3 +6,4 @@ pub mod CopyLemmas
 pub mod PoolLemmas
 pub mod BinaryStepLemmas
 pub mod PicturedLemmas
+pub mod WideStepLemmas

@@ -12,9 +12,10 @@ use Rattle.cob_move_receive.specs.Received.{Received}
 use Rattle.cob_move_receive.specs.Sent.{Entry, Occupies}
 use Rattle.cob_move_prepared.specs.Copies.{AreCharactersCarriedOut, IsCharactersStep}
 use Rattle.cob_move_prepared.specs.Ends.{IsOwnWriter, SuitsReading, item_digits}
-use Rattle.cob_move_prepared.specs.Pool.{AreOccupied, BetweenItems, IsReceived, IsStepAt, IsStepBetween, KeepsSteps, MoveKinds, MovesNumber, MovesToBinary, MovesToEdited}
+use Rattle.cob_move_prepared.specs.Pool.{AreOccupied, BetweenItems, IsReceived, IsStepAt, IsStepBetween, KeepsSteps, MoveKinds, MovesNumber, MovesToBinary, MovesToEdited, MovesWide}
 use Rattle.cob_move_prepared.specs.Running.{IsBinaryCarriedOut, IsCarriedOut, IsEditCarriedOut}
 use Rattle.cob_move_prepared.specs.Steps.{is_binary}
+use Rattle.cob_move_prepared.specs.Wide.{IsWideCarriedOut}
 use Rattle.cob_move_prepared.specs.declared.binary_step.BinaryStep.{BinaryStep}
 use Rattle.cob_move_prepared.specs.declared.characters_step.CharactersStep.{CharactersStep}
 use Rattle.cob_move_prepared.specs.declared.edit_step.EditStep.{EditStep}
@@ -24,6 +25,7 @@ use Rattle.cob_move_prepared.specs.declared.pool.MoveStep.{MoveStep}
 use Rattle.cob_move_prepared.specs.declared.pool.MoveStep.TheVariants as move_step
 use Rattle.cob_move_prepared.specs.declared.pool.MoveSteps.{MoveSteps}
 use Rattle.cob_move_prepared.specs.declared.step.NumberStep.{NumberStep}
+use Rattle.cob_move_prepared.specs.declared.wide_step.WideStep.{WideStep}
 use Rattle.cob_move_prepared.proofs.BinaryStepLemmas.{size_is}
 
 -- ---- more steps
@@ -55,16 +57,17 @@ put_at T moves before now step n grown here meant = record {
 pub read_at : (T : Type 0) (moves : T → Type 0) (steps : List T) (n : ℕ) (step : T) → IsStepAt T moves steps n → step ≡ get_or steps n step → moves step
 read_at T moves steps n step is at = subst moves (is.at ∙ sym (get_or_read steps n step is.below at is.step)) is.is
 
-between_kept : (before now : MoveSteps) (k : MoveKinds) (step : MoveStep) → Grows NumberStep before.numbers.items now.numbers.items → Grows BinaryStep before.binaries.items now.binaries.items
+between_kept : (before now : MoveSteps) (k : MoveKinds) (step : MoveStep) → Grows NumberStep before.numbers.items now.numbers.items → Grows WideStep before.wides.items now.wides.items → Grows BinaryStep before.binaries.items now.binaries.items
     → Grows EditStep before.edits.items now.edits.items → IsStepBetween before k step → IsStepBetween now k step
-between_kept before now k (move_step.Number n) numbers binaries edits is = kept_at NumberStep (λ step. BetweenItems (MovesNumber step) k.sender k.receiver) before.numbers.items now.numbers.items n numbers is
-between_kept before now k (move_step.Binary n) numbers binaries edits is = kept_at BinaryStep (λ step. BetweenItems (MovesToBinary step) k.sender k.receiver) before.binaries.items now.binaries.items n binaries is
-between_kept before now k (move_step.Edited n) numbers binaries edits is = kept_at EditStep (λ step. BetweenItems (MovesToEdited step) k.sender k.receiver) before.edits.items now.edits.items n edits is
-between_kept before now k (move_step.Characters step) numbers binaries edits is = is
+between_kept before now k (move_step.Number n) numbers wides binaries edits is = kept_at NumberStep (λ step. BetweenItems (MovesNumber step) k.sender k.receiver) before.numbers.items now.numbers.items n numbers is
+between_kept before now k (move_step.Wide n) numbers wides binaries edits is = kept_at WideStep (λ step. BetweenItems (MovesWide step) k.sender k.receiver) before.wides.items now.wides.items n wides is
+between_kept before now k (move_step.Binary n) numbers wides binaries edits is = kept_at BinaryStep (λ step. BetweenItems (MovesToBinary step) k.sender k.receiver) before.binaries.items now.binaries.items n binaries is
+between_kept before now k (move_step.Edited n) numbers wides binaries edits is = kept_at EditStep (λ step. BetweenItems (MovesToEdited step) k.sender k.receiver) before.edits.items now.edits.items n edits is
+between_kept before now k (move_step.Characters step) numbers wides binaries edits is = is
 
-pub steps_kept : (before now : MoveSteps) → Grows NumberStep before.numbers.items now.numbers.items → Grows BinaryStep before.binaries.items now.binaries.items
+pub steps_kept : (before now : MoveSteps) → Grows NumberStep before.numbers.items now.numbers.items → Grows WideStep before.wides.items now.wides.items → Grows BinaryStep before.binaries.items now.binaries.items
     → Grows EditStep before.edits.items now.edits.items → KeepsSteps before now
-steps_kept before now numbers binaries edits k step is = record { occupied = is.occupied; between = between_kept before now k step numbers binaries edits is.between }
+steps_kept before now numbers wides binaries edits k step is = record { occupied = is.occupied; between = between_kept before now k step numbers wides binaries edits is.between }
 
 -- ---- a step carried out
 
@@ -82,6 +85,9 @@ writer_fits to (writer.Binary w) own = omega (arith, size_is to own.binary, word
 
 pub few_numbers : (k : MoveKinds) (step : NumberStep) (size : ℕ) → AreOccupied k → BetweenItems (MovesNumber step) k.sender k.receiver → size ≡ k.received → size ≤ 16
 few_numbers k step size occupied between same = omega (arith, same, few_between (MovesNumber step) k.sender k.receiver k.received (λ from to is. is.writer.fits) occupied.receiver between)
+
+pub few_wides : (k : MoveKinds) (step : WideStep) (size : ℕ) → AreOccupied k → BetweenItems (MovesWide step) k.sender k.receiver → size ≡ k.received → size ≤ 16
+few_wides k step size occupied between same = omega (arith, same, few_between (MovesWide step) k.sender k.receiver k.received (λ from to is. is.writer.fits) occupied.receiver between)
 
 pub few_binaries : (k : MoveKinds) (step : BinaryStep) (size : ℕ) → AreOccupied k → BetweenItems (MovesToBinary step) k.sender k.receiver → size ≡ k.received → size ≤ 16
 few_binaries k step size occupied between same =
@@ -114,6 +120,11 @@ pub number_received : (k : MoveKinds) (step : NumberStep) (size : ℕ) (bytes : 
     → size ≡ k.received → IsCarriedOut step bytes size outcome → IsReceived k bytes outcome
 number_received k step size bytes outcome occupied between within same h =
     received_by (MovesNumber step) k size bytes outcome occupied between within same (λ reading from to is fits long. h from to is fits long reading)
+
+pub wide_received : (k : MoveKinds) (step : WideStep) (size : ℕ) (bytes : List ℕ) (outcome : Option (List ℕ)) → AreOccupied k → BetweenItems (MovesWide step) k.sender k.receiver → k.sent ≤ length bytes
+    → size ≡ k.received → IsWideCarriedOut step bytes size outcome → IsReceived k bytes outcome
+wide_received k step size bytes outcome occupied between within same h =
+    received_by (MovesWide step) k size bytes outcome occupied between within same (λ reading from to is fits long. h from to is fits long reading)
 
 -- an item that isn't binary suits any reading
 suits : (from : Item) (reading : Reading) → is_binary from.usage ≡ false → SuitsReading from reading

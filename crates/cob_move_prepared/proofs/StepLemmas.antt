@@ -1,6 +1,7 @@
 -- Steps carried out: what the receiver gets.
 use Rattle.std.proofs.Common.{◌≡◌, ◌↔◌, ◌≤◌, ℕ, ◌&&◌, ◌-ℤ◌, ℤ, Bool, true, false, not, IsTrue, List, length, take, Some, None, MatchBool, refl, sym, ap, subst, ◌∙◌, arith, length-take-le}
-use Rattle.cob_decimal.specs.Decimal.{number_of, aligned}
+use Rattle.cob_decimal.specs.Decimal.{IsDigits, number_of, aligned}
+use Rattle.cob_codec.specs.Sign.{IsSigned}
 use Rattle.cob_picture.specs.Counts.{digits, scale, signed}
 use Rattle.cob_picture.specs.Positions.{shows_number}
 use Rattle.cob_picture.specs.declared.category.Category.{Category}
@@ -15,12 +16,14 @@ use Rattle.cob_edit.specs.Pictured.{IsEdited}
 use Rattle.cob_lanes.specs.Lanes.{AreTens, AreZero}
 use Rattle.cob_lanes.specs.Windows.{last_bytes}
 use Rattle.cob_lanes.specs.Readers.{AreRead, IsLanesRead}
+use Rattle.cob_lanes.specs.Words.{IsNumberRead}
 use Rattle.cob_lanes.specs.Writers.{AreMade}
+use Rattle.cob_lanes.specs.declared.reader.LaneReader.{LaneReader}
 use Rattle.cob_lanes.proofs.WantedLemmas.{wanted_aligned, wanted_valid, wanted_tens, wanted_zero, none_aligned, minus_is}
 use Rattle.cob_move_receive.specs.Sent.{Amount, Entry}
 use Rattle.cob_move_receive.specs.Numbers.{IsNumberIn, HoldsAligned, GivesUnder}
 use Rattle.cob_move_receive.specs.Received.{Received, GetsNumber, GetsCharacters, outcome}
-use Rattle.cob_move_prepared.specs.Steps.{IsNumberStep, received_form}
+use Rattle.cob_move_prepared.specs.Steps.{IsItemReader, IsNumberStep, received_form}
 use Rattle.cob_move_prepared.specs.declared.step.NumberStep.{NumberStep}
 
 pub match_true : (b : Bool) (P Q : Type 0) → b ≡ true → P → MatchBool b P Q
@@ -51,6 +54,25 @@ pub not_false : (b : Bool) → not b ≡ false → b ≡ true
 not_false true e = refl
 not_false false e = sym e
 
+-- what is written of aligned digits is what the receiver holds of the number
+pub holds_digits : (s r : Item) (minus negative zero_is : Bool) (sent ds new : List ℕ) → IsSigned minus sent negative → IsDigits ds → length ds ≡ digits r.picture.positions
+    → number_of ds ≡ aligned (number_of sent) (scale s.picture.positions) (scale r.picture.positions) (digits r.picture.positions)
+    → IsTrue zero_is ↔ (number_of ds ≡ 0) → new ≡ received_form r (minus && not zero_is) ds
+    → HoldsAligned r (record { negative = negative; digits = sent; scale = scale s.picture.positions }) new
+holds_digits s r minus negative zero_is sent ds new sign valid many value nothing stored =
+    let count : ℕ = digits r.picture.positions in
+    let shift : ℤ = scale r.picture.positions -ℤ scale s.picture.positions in
+    let none : number_of sent ≡ 0 → number_of ds ≡ 0 = λ e. value ∙ ap (λ m. aligned m (scale s.picture.positions) (scale r.picture.positions) count) e ∙ none_aligned shift count in
+    record {
+      digits = ds;
+      valid = valid;
+      count = many;
+      value = value;
+      minus = signed r.picture.positions && (minus && not zero_is);
+      sign = sym (minus_is minus negative zero_is (signed r.picture.positions) (number_of sent) (number_of ds) sign none nothing);
+      stored = stored;
+    }
+
 -- what is written of a number is what the receiver holds of it
 pub holds : (s r : Item) (reading : Reading) (item : List ℕ) (minus zero_is : Bool) (kept new : List ℕ) → digits r.picture.positions ≤ 16
     → (a : AreRead (IsSentBy reading s item) (digits r.picture.positions) (scale r.picture.positions -ℤ scale s.picture.positions) minus kept)
@@ -62,17 +84,22 @@ holds s r reading item minus zero_is kept new room a zero stored =
     let ds : List ℕ = take count kept in
     let value : number_of ds ≡ aligned (number_of a.digits) (scale s.picture.positions) (scale r.picture.positions) count =
     wanted_aligned count (scale s.picture.positions) (scale r.picture.positions) (number_of a.digits) kept room a.held in
-    let none : number_of a.digits ≡ 0 → number_of ds ≡ 0 = λ e. value ∙ ap (λ m. aligned m (scale s.picture.positions) (scale r.picture.positions) count) e ∙ none_aligned shift count in
     let both = wanted_zero count shift (number_of a.digits) kept room a.held in
     let nothing : IsTrue zero_is ↔ (number_of ds ≡ 0) = (λ t. both.0 (zero.0 t), λ e. zero.1 (both.1 e)) in
+    let valid : IsDigits ds = wanted_valid count shift (number_of a.digits) kept room a.held in
+    holds_digits s r minus a.negative zero_is a.digits ds new a.sign valid (length-take-le count kept (omega (arith, a.held.long))) value nothing stored
+
+-- what was read of the item at the end of bytes
+pub item_read : (from : Item) (reading : Reading) (wanted : ℕ) (shift : ℤ) (r : LaneReader) (bytes kept : List ℕ) (told minus : Bool) → IsItemReader from wanted shift r → item_size from ≤ length bytes → IsLanesRead r bytes told minus kept
+    → IsNumberRead (IsSentBy reading from (last_bytes (item_size from) bytes)) wanted shift told minus kept
+item_read from reading wanted shift r bytes kept told minus is within read =
+    let item : List ℕ = last_bytes (item_size from) bytes in
+    let same : last_bytes (item_size from) read.window ≡ item = read.same (item_size from) (is reading).fits within in
     record {
-      digits = ds;
-      valid = wanted_valid count shift (number_of a.digits) kept room a.held;
-      count = length-take-le count kept (omega (arith, a.held.long));
-      value = value;
-      minus = signed r.picture.positions && (minus && not zero_is);
-      sign = sym (minus_is minus a.negative zero_is (signed r.picture.positions) (number_of a.digits) (number_of ds) a.sign none nothing);
-      stored = stored;
+      number = λ e. subst (λ xs. AreRead (IsSentBy reading from xs) wanted shift minus kept) same ((is reading).reads read.window kept minus read.vector (read.number e) read.taken);
+      nothing = λ e negative ds there.
+          let passed = (is reading).passes read.window negative ds read.vector (subst (λ xs. IsSentBy reading from xs negative ds) (sym same) there) in
+          read.nothing e passed.0 passed.1;
     }
 
 pub moved : (s r : Item) (step : NumberStep) (reading : Reading) (bytes : List ℕ) (told minus left zero_is : Bool) (kept made new : List ℕ) (n : ℕ) → IsNumberStep s r step → item_size s ≤ length bytes → n ≡ item_size r

@@ -11,12 +11,14 @@ use Rattle.cob_move_prepared.specs.Copies.{IsCharactersStep, gives_bytes}
 use Rattle.cob_move_prepared.specs.Edits.{IsEditedItem, IsEditStep}
 use Rattle.cob_move_prepared.specs.Ends.{IsBinaryStep, IsShortNumber}
 use Rattle.cob_move_prepared.specs.Steps.{IsLaneItem, IsNumberStep, is_binary}
+use Rattle.cob_move_prepared.specs.Wide.{IsWideStep}
 use Rattle.cob_move_prepared.specs.declared.binary_step.BinaryStep.{BinaryStep}
 use Rattle.cob_move_prepared.specs.declared.edit_step.EditStep.{EditStep}
 use Rattle.cob_move_prepared.specs.declared.pool.MoveStep.{MoveStep}
 use Rattle.cob_move_prepared.specs.declared.pool.MoveStep.TheVariants as move_step
 use Rattle.cob_move_prepared.specs.declared.pool.MoveSteps.{MoveSteps}
 use Rattle.cob_move_prepared.specs.declared.step.NumberStep.{NumberStep}
+use Rattle.cob_move_prepared.specs.declared.wide_step.WideStep.{WideStep}
 
 -- what a single move is between: what sender and receiver describe, and how many bytes they have
 pub record MoveKinds : Type 0 where
@@ -44,6 +46,10 @@ BetweenItems holds Group to = ⊥
 abbrev pub MovesNumber : NumberStep → Item → Item → Type 0
 MovesNumber step from to = IsNumberStep from to step
 
+-- the step moves the number of one item to another, of more digits than lanes hold
+abbrev pub MovesWide : WideStep → Item → Item → Type 0
+MovesWide step from to = IsWideStep from to step
+
 -- the step moves the number of an item that isn't binary to another
 abbrev pub MovesToBinary : BinaryStep → Item → Item → Type 0
 MovesToBinary step from to = (is_binary from.usage ≡ false) × IsBinaryStep from to step
@@ -62,6 +68,7 @@ pub record IsStepAt (T : Type 0) (moves : T → Type 0) (steps : List T) (number
 -- the step, one of these, is one between these kinds
 abbrev pub IsStepBetween : MoveSteps → MoveKinds → MoveStep → Type 0
 IsStepBetween steps k (move_step.Number number) = IsStepAt NumberStep (λ step. BetweenItems (MovesNumber step) k.sender k.receiver) steps.numbers.items number
+IsStepBetween steps k (move_step.Wide number) = IsStepAt WideStep (λ step. BetweenItems (MovesWide step) k.sender k.receiver) steps.wides.items number
 IsStepBetween steps k (move_step.Binary number) = IsStepAt BinaryStep (λ step. BetweenItems (MovesToBinary step) k.sender k.receiver) steps.binaries.items number
 IsStepBetween steps k (move_step.Edited number) = IsStepAt EditStep (λ step. BetweenItems (MovesToEdited step) k.sender k.receiver) steps.edits.items number
 IsStepBetween steps k (move_step.Characters step) = IsCharactersStep k.sender k.sent k.receiver step
@@ -86,4 +93,4 @@ KeepsSteps before now = (k : MoveKinds) (step : MoveStep) → IsMoveStep before 
 
 -- there is no step of a number
 abbrev pub HasNoSteps : MoveSteps → Type 0
-HasNoSteps steps = (length steps.numbers.items ≡ 0) × (length steps.binaries.items ≡ 0) × (length steps.edits.items ≡ 0)
+HasNoSteps steps = (length steps.numbers.items ≡ 0) × (length steps.wides.items ≡ 0) × (length steps.binaries.items ≡ 0) × (length steps.edits.items ≡ 0)

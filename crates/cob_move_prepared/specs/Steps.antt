@@ -1,5 +1,5 @@
 -- Single moves of numbers that are made ready.
-use Rattle.std.specs.Prelude.{◌≡◌, ◌≤◌, ◌-ℤ◌, Bool, true, false, ◌&&◌, List, ℕ}
+use Rattle.std.specs.Prelude.{◌≡◌, ◌≤◌, ℤ, ◌-ℤ◌, Bool, true, false, ◌&&◌, List, ℕ}
 use Rattle.cob_picture.specs.Counts.{digits, scale, signed}
 use Rattle.cob_codec.specs.declared.reading.Reading.{Reading}
 use Rattle.cob_entry.specs.declared.kinds.Usage.{Usage}
@@ -36,14 +36,23 @@ pub record IsLaneItem (i : Item) : Type 0 where
   pub few : digits i.picture.positions ≤ 16
   pub fits : item_size i ≤ 16
 
+-- The item is a number that is not binary, of at most sixteen bytes. A packed one may have more digits than bytes.
+pub record IsWindowItem (i : Item) : Type 0 where
+  pub number : IsNumberItem i
+  pub halves : is_binary i.usage ≡ false
+  pub fits : item_size i ≤ 16
+
 -- What is stored in an item for a number of these digits that is negative or not: a minus only where the item has a sign.
 abbrev pub received_form : Item → Bool → List ℕ → List ℕ
 received_form i minus ds = stored_form i (signed i.picture.positions && minus) ds
 
--- The reader reads an item, however it is sent, and keeps the digits that another item has places for.
+-- The reader reads an item, however it is sent, and keeps so many digits when its number is moved left by so many places.
+abbrev pub IsItemReader : Item → (wanted : ℕ) → (shift : ℤ) → LaneReader → Type 0
+IsItemReader from wanted shift r = (reading : Reading) → IsReaderOf (IsSentBy reading from) (item_size from) wanted shift r
+
+-- The same of the digits that another item has places for.
 abbrev pub IsReaderFor : Item → Item → LaneReader → Type 0
-IsReaderFor from to r =
-    (reading : Reading) → IsReaderOf (IsSentBy reading from) (item_size from) (digits to.picture.positions) (scale to.picture.positions -ℤ scale from.picture.positions) r
+IsReaderFor from to r = IsItemReader from (digits to.picture.positions) (scale to.picture.positions -ℤ scale from.picture.positions) r
 
 -- The writer writes an item.
 abbrev pub IsWriterFor : Item → LaneWriter → Type 0

@@ -7,7 +7,7 @@ ghost use Rattle.cob_move_prepared.specs.Ends.{IsNumberReaderFor, IsNumberWriter
 
 use crate::number_ends::{NumberReader, NumberWriter};
 use crate::preparing::{reader_for, wanted_of, writer_for};
-use crate::storage::{lane_storage, number_shape};
+use crate::storage::{lane_storage, number_shape, window_storage};
 use cob_copybook_tree::{Item, Usage, is_number_item};
 use cob_lanes::{BinaryReader, BinaryWriter};
 
@@ -25,13 +25,13 @@ fn is_word_item(item: &Item) -> bool
     is_number_item(item) && is_binary(item.usage) && item.picture.digits() <= 16
 }
 
-/// What reads the number of a sender, if lanes hold it.
+/// What reads the number of a sender, if lanes hold its bytes, or its number where it is binary.
 pub(crate) fn number_reader(sender: &Item, receiver: &Item) -> Option<NumberReader>
     requires { digits receiver.now.picture.positions ≤ 16 }
     ensures reader { IfSome result (IsNumberReaderFor sender.now receiver.now) }
     ensures must { IsShortNumber sender.now → IsSome result }
 {
-    if let Some(storage) = lane_storage(sender) {
+    if let Some(storage) = window_storage(sender) {
         return Some(NumberReader::Lanes(reader_for(sender, storage, receiver)));
     }
     if is_word_item(sender) {

@@ -9,7 +9,8 @@
 //! The kinds of steps:
 //!
 //! - a number from one item to another: [`NumberStep::prepare`] gives one wherever both are zoned, separate or packed numbers of at most sixteen
-//!   digits and bytes.
+//!   digits and bytes. A packed sender may have more digits;
+//! - a number of at most sixteen bytes that isn't binary to a packed item of more than sixteen digits: [`WideStep::prepare`] gives one.
 //!
 //! [`EditStep::prepare`] gives the step of the move of such a number to an item that edits numbers in at most sixteen digits and bytes (`step`,
 //! `must`): it makes the receiver's texts ready, one for each number of zeros that may be in front, as rows of cob_edit. `EditStep::run` leaves
@@ -47,6 +48,9 @@ mod short;
 mod step;
 mod storage;
 mod texts;
+mod wide_preparing;
+mod wide_running;
+mod wide_step;
 
 pub use binary_step::BinaryStep;
 pub use characters_step::CharactersStep;
@@ -57,3 +61,4 @@ pub use pictured::{PicturedStep, PicturedSteps};
 pub use pool::{MoveStep, MoveSteps};
 pub use short::copy_all;
 pub use step::NumberStep;
+pub use wide_step::WideStep;

@@ -1,7 +1,7 @@
 //! Steps of single moves, one for each move that has one.
 
 ghost use Rattle.std.specs.Prelude.{◌≡◌, ◌≤◌, false, length, IfOk, IfSome, IsSome};
-ghost use Rattle.cob_move_prepared.specs.Pool.{AreOccupied, BetweenItems, HasNoSteps, HaveShortNumbers, HaveStep, IsMoveStep, IsReceived, KeepsSteps, MoveKinds, MovesNumber, MovesToBinary, MovesToEdited};
+ghost use Rattle.cob_move_prepared.specs.Pool.{AreOccupied, BetweenItems, HasNoSteps, HaveShortNumbers, HaveStep, IsMoveStep, IsReceived, KeepsSteps, MoveKinds, MovesNumber, MovesToBinary, MovesToEdited, MovesWide};
 ghost use Rattle.cob_copybook_tree.specs.declared.node.Kind.TheVariants.{Item as ItemKind};
 ghost use Rattle.cob_move_receive.specs.Received.{outcome};
 
@@ -9,7 +9,8 @@ use crate::binary_step::BinaryStep;
 use crate::characters_step::CharactersStep;
 use crate::edit_step::EditStep;
 use crate::step::NumberStep;
-use crate::storage::lane_storage;
+use crate::storage::window_storage;
+use crate::wide_step::WideStep;
 use cob_copybook_tree::{Item, Kind};
 use std::alloc::{AllocError, Global};
 use std::fmt;
@@ -19,6 +20,8 @@ use std::fmt;
 pub enum MoveStep {
     /// The step of a number from one item to another that has this number among them.
     Number(usize),
+    /// That of a number to an item of more than sixteen digits.
+    Wide(usize),
     /// That of a number to a binary item.
     Binary(usize),
     /// That of a number to an edited item.
@@ -32,6 +35,7 @@ pub enum MoveStep {
 pub struct MoveSteps {
     alloc: Global,
     pub(crate) numbers: Vec<NumberStep>,
+    pub(crate) wides: Vec<WideStep>,
     pub(crate) binaries: Vec<BinaryStep>,
     pub(crate) edits: Vec<EditStep>,
 }
@@ -39,11 +43,12 @@ pub struct MoveSteps {
 impl fmt::Debug for MoveSteps {
     fn fmt<W: fmt::Write>(&self, f: &mut fmt::Formatter<W>) -> fmt::Result {
         let numbers = self.numbers.len();
+        let wides = self.wides.len();
         let binaries = self.binaries.len();
         let edits = self.edits.len();
         write!(
             f,
-            "MoveSteps {{ numbers: {numbers}, binaries: {binaries}, edits: {edits} }}"
+            "MoveSteps {{ numbers: {numbers}, wides: {wides}, binaries: {binaries}, edits: {edits} }}"
         )
     }
 }
@@ -56,6 +61,7 @@ impl MoveSteps {
         MoveSteps {
             alloc,
             numbers: Vec::new(alloc),
+            wides: Vec::new(alloc),
             binaries: Vec::new(alloc),
             edits: Vec::new(alloc),
         }
@@ -74,6 +80,21 @@ impl MoveSteps {
         let number = self.numbers.len();
         self.numbers.push(step)?;
         Ok(MoveStep::Number(number))
+    }
+
+    /// Puts the step of a number to an item of more than sixteen digits behind those so far.
+    ///
+    /// # Errors
+    ///
+    /// Where no memory is left.
+    fn put_wide(&mut self, step: WideStep) -> Result<MoveStep, AllocError>
+        ensures step { IfOk result (λ put. (k : MoveKinds) → AreOccupied k
+            → BetweenItems (MovesWide step) k.sender k.receiver → IsMoveStep self.new k put) }
+        ensures kept { KeepsSteps self.old self.new }
+    {
+        let number = self.wides.len();
+        self.wides.push(step)?;
+        Ok(MoveStep::Wide(number))
     }
 
     /// Puts the step of a number to a binary item behind those so far.
@@ -119,11 +140,14 @@ impl MoveSteps {
         ensures kept { KeepsSteps self.old self.new }
     {
         // A sender that isn't binary is read in one way.
-        if lane_storage(from).is_none() {
+        if window_storage(from).is_none() {
             return Ok(None);
         }
         if let Some(step) = NumberStep::prepare(from, to) {
             return Ok(Some(self.put_number(step)?));
+        }
+        if let Some(step) = WideStep::prepare(from, to) {
+            return Ok(Some(self.put_wide(step)?));
         }
         if let Some(step) = BinaryStep::prepare(from, to) {
             return Ok(Some(self.put_binary(step)?));
@@ -189,6 +213,7 @@ impl MoveSteps {
     {
         match step {
             MoveStep::Number(number) => self.numbers[number].run(from, to),
+            MoveStep::Wide(number) => self.wides[number].run(from, to),
             MoveStep::Binary(number) => self.binaries[number].run(from, to),
             MoveStep::Edited(number) => self.edits[number].run(from, to),
             MoveStep::Characters(step) => {

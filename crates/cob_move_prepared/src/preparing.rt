@@ -3,10 +3,10 @@
 ghost use Rattle.std.specs.Prelude.{◌≡◌, ◌-ℤ◌, ◌≤◌, IfSome, IsSome};
 ghost use Rattle.cob_picture.specs.Counts.{digits, scale};
 ghost use Rattle.cob_copybook_tree.specs.Items.{form_of};
-ghost use Rattle.cob_move_prepared.specs.Steps.{form_by_lanes, IsLaneItem, IsNumberStep, IsReaderFor, IsWriterFor};
+ghost use Rattle.cob_move_prepared.specs.Steps.{form_by_lanes, IsItemReader, IsLaneItem, IsNumberStep, IsReaderFor, IsWindowItem, IsWriterFor};
 
 use crate::step::NumberStep;
-use crate::storage::{LaneStorage, lane_storage, number_shape};
+use crate::storage::{LaneStorage, lane_storage, number_shape, window_storage};
 use cob_copybook_tree::Item;
 use cob_lanes::{LaneReader, LaneWriter, Wanted};
 
@@ -22,20 +22,28 @@ pub(crate) fn wanted_of(sender: &Item, receiver: &Item) -> Wanted
     Wanted { digits, shift }
 }
 
-/// What reads the number of a sender of this kind of storage.
-pub(crate) fn reader_for(sender: &Item, storage: LaneStorage, receiver: &Item) -> LaneReader
-    requires sender { IsLaneItem sender.now }
+/// What reads the number of a sender of this kind of storage, and keeps the digits that are wanted.
+pub(crate) fn item_reader(sender: &Item, storage: LaneStorage, wanted: Wanted) -> LaneReader
+    requires sender { IsWindowItem sender.now }
     requires form { form_of sender.now ≡ form_by_lanes storage }
-    requires few { digits receiver.now.picture.positions ≤ 16 }
-    ensures { IsReaderFor sender.now receiver.now result }
+    ensures { IsItemReader sender.now wanted.digits wanted.shift result }
 {
-    let wanted = wanted_of(sender, receiver);
     let shape = number_shape(sender);
     match storage {
         LaneStorage::Zoned => LaneReader::zoned(&shape, wanted),
         LaneStorage::Separate => LaneReader::separate(&shape, wanted),
         LaneStorage::Packed => LaneReader::packed(&shape, wanted),
     }
+}
+
+/// What reads the number of a sender of this kind of storage for a receiver.
+pub(crate) fn reader_for(sender: &Item, storage: LaneStorage, receiver: &Item) -> LaneReader
+    requires sender { IsWindowItem sender.now }
+    requires form { form_of sender.now ≡ form_by_lanes storage }
+    requires few { digits receiver.now.picture.positions ≤ 16 }
+    ensures { IsReaderFor sender.now receiver.now result }
+{
+    item_reader(sender, storage, wanted_of(sender, receiver))
 }
 
 /// What writes the number of a receiver of this kind of storage.
@@ -59,7 +67,7 @@ impl NumberStep {
         ensures step { IfSome result (IsNumberStep sender.now receiver.now) }
         ensures must { IsLaneItem sender.now → IsLaneItem receiver.now → IsSome result }
     {
-        let sent = lane_storage(sender)?;
+        let sent = window_storage(sender)?;
         let received = lane_storage(receiver)?;
         let reader = reader_for(sender, sent, receiver);
         let writer = writer_for(receiver, received);

@@ -1,10 +1,10 @@
 //! Items whose numbers lanes hold.
 
-ghost use Rattle.std.specs.Prelude.{◌≡◌, ◌<◌, ◌≤◌, ◌↔◌, IsTrue, IsSome, IfSome};
+ghost use Rattle.std.specs.Prelude.{◌≡◌, ◌<◌, ◌≤◌, ◌↔◌, false, IsTrue, IsSome, IfSome};
 ghost use Rattle.cob_picture.specs.Counts.{digits, signed};
 ghost use Rattle.cob_copybook_tree.specs.Items.{form_of, is_leading, is_separate, size_as, IsNumberItem};
 ghost use Rattle.cob_copybook_tree.specs.Lengths.{item_size};
-ghost use Rattle.cob_move_prepared.specs.Steps.{form_by_lanes, IsLaneItem};
+ghost use Rattle.cob_move_prepared.specs.Steps.{form_by_lanes, is_binary, IsLaneItem, IsWindowItem};
 
 use cob_codec::Shape;
 use cob_copybook_tree::{Item, Sign, Usage, is_number_item};
@@ -39,18 +39,12 @@ pub(crate) fn fits_lanes(item: &Item) -> bool
     item.picture.digits() <= 16 && item.size() <= 16
 }
 
-/// The kind of storage of an item whose number lanes hold, if they do.
-pub(crate) fn lane_storage(item: &Item) -> Option<LaneStorage>
-    ensures item { IfSome result (λ storage. IsLaneItem item.now) }
+/// The kind of storage of an item that isn't binary.
+fn halves_storage(item: &Item) -> Option<LaneStorage>
+    ensures halves { IfSome result (λ storage. is_binary item.now.usage ≡ false) }
     ensures form { IfSome result (λ storage. form_of item.now ≡ form_by_lanes storage) }
-    ensures must { IsLaneItem item.now → IsSome result }
+    ensures must { is_binary item.now.usage ≡ false → IsSome result }
 {
-    if !is_number_item(item) {
-        return None;
-    }
-    if !fits_lanes(item) {
-        return None;
-    }
     match item.usage {
         Usage::Display => {
             if has_own_byte(item.sign) {
@@ -62,6 +56,33 @@ pub(crate) fn lane_storage(item: &Item) -> Option<LaneStorage>
         Usage::Packed => Some(LaneStorage::Packed),
         Usage::Binary => None,
     }
+}
+
+/// The kind of storage of a number of at most sixteen bytes that isn't binary.
+pub(crate) fn window_storage(item: &Item) -> Option<LaneStorage>
+    ensures item { IfSome result (λ storage. IsWindowItem item.now) }
+    ensures form { IfSome result (λ storage. form_of item.now ≡ form_by_lanes storage) }
+    ensures must { IsWindowItem item.now → IsSome result }
+{
+    if !is_number_item(item) {
+        return None;
+    }
+    if item.size() > 16 {
+        return None;
+    }
+    halves_storage(item)
+}
+
+/// The kind of storage of an item whose number lanes hold, if they do.
+pub(crate) fn lane_storage(item: &Item) -> Option<LaneStorage>
+    ensures item { IfSome result (λ storage. IsLaneItem item.now) }
+    ensures form { IfSome result (λ storage. form_of item.now ≡ form_by_lanes storage) }
+    ensures must { IsLaneItem item.now → IsSome result }
+{
+    if !fits_lanes(item) {
+        return None;
+    }
+    window_storage(item)
 }
 
 /// How the number of an item lies in its bytes.

@@ -1,11 +1,12 @@
 use Rattle.std.proofs.Common.{◌≡◌, length}
+use Rattle.cob_move_apply.specs.Steps.{support_of}
 use Rattle.cob_move_apply.specs.Surveyed.{IsWorkspace, records}
 use Rattle.cob_move_apply.proofs.StepLemmas.{Left}
 use Rattle.cob_move_apply.proofs.application.apply_in.Given as goal
 
 abbrev pub invariant-loop-step : goal.invariant-loop-step
 invariant-loop-step l = record {
-  left : Left l.layouts.reading (records l.layouts) l.given l.steps (record { bases = l.bases; prepared = l.plan.prepared; pictured = l.plan.pictured; constants = l.plan.constants.items }) l.step-index l.input l.fn.output l.output;
+  left : Left l.layouts.reading (records l.layouts) l.given l.steps (support_of l.plan) l.step-index l.input l.fn.output l.output;
   output : length l.output ≡ length l.fn.output;
   space : IsWorkspace (records l.layouts) l.input l.output l.space;
 }

@@ -10,34 +10,34 @@ use Rattle.cob_move_apply.proofs.application.make_pictured.Goals as goal
 pub run_pictured-requires-clause-step : goal.run_pictured-requires-clause-step
 run_pictured-requires-clause-step c =
     let (m, part) = c.requires.part in
-    pictured_step c.args.layouts.now.reading (records c.args.layouts.now) c.args.given.now c.args.plan.now.bases.items c.args.plan.now.pictured c.args.one c.args.part m c.in-Pictured.is part
+    pictured_step c.args.layouts.now.reading (records c.args.layouts.now) c.args.given.now c.args.plan.now.bases.items c.args.plan.now.pictured c.args.one c.args.part.now m c.in-Pictured.is part
 
 pub run_pictured-requires-clause-reads : goal.run_pictured-requires-clause-reads
 run_pictured-requires-clause-reads c =
     let (m, part) = c.requires.part in
-    pictured_reads c.args.layouts.now.reading (records c.args.layouts.now) c.args.given.now c.args.plan.now.bases.items c.args.plan.now.pictured c.args.one c.args.part m c.args.input.now c.in-Pictured.is part c.requires.input
+    pictured_reads c.args.layouts.now.reading (records c.args.layouts.now) c.args.given.now c.args.plan.now.bases.items c.args.plan.now.pictured c.args.one c.args.part.now m c.args.input.now c.in-Pictured.is part c.requires.input
 
 pub run_pictured-requires-clause-writes : goal.run_pictured-requires-clause-writes
 run_pictured-requires-clause-writes c =
     let (m, part) = c.requires.part in
-    pictured_within c.args.layouts.now.reading (records c.args.layouts.now) c.args.given.now c.args.plan.now.bases.items c.args.plan.now.pictured c.args.one c.args.part m c.in-Pictured.is part
+    pictured_within c.args.layouts.now.reading (records c.args.layouts.now) c.args.given.now c.args.plan.now.bases.items c.args.plan.now.pictured c.args.one c.args.part.now m c.in-Pictured.is part
 
 pub returns-in-Pictured-clause-moved : goal.returns-in-Pictured-clause-moved
 returns-in-Pictured-clause-moved c = λ m part.
-    part_pictured c.args.layouts.now.reading (records c.args.layouts.now) c.args.given.now c.args.plan.now.bases.items c.args.plan.now.pictured c.args.one c.args.part m c.args.input.now c.args.output.now
+    part_pictured c.args.layouts.now.reading (records c.args.layouts.now) c.args.given.now c.args.plan.now.bases.items c.args.plan.now.pictured c.args.one c.args.part.now m c.args.input.now c.args.output.now
     (ending c.run_pictured.result c.run_pictured.new.output) c.in-Pictured.is c.requires.input c.requires.output c.run_pictured.ensures.made part
 
 pub make_part-requires-clause-part : goal.make_part-requires-clause-part
 make_part-requires-clause-part c =
     let (m, part) = c.requires.part in
-    (m, subst (λ (bs : List Basis). IsMoveOfPart c.args.layouts.now.reading (records c.args.layouts.now) c.args.given.now bs c.args.part m) (sym c.as_slice-bases.ensures.value) part.0)
+    (m, subst (λ (bs : List Basis). IsMoveOfPart c.args.layouts.now.reading (records c.args.layouts.now) c.args.given.now bs c.args.part.now m) (sym c.as_slice-bases.ensures.value) part.0)
 
 pub make_part-requires-clause-room : goal.make_part-requires-clause-room
 make_part-requires-clause-room c =
     let (m, part) = c.requires.part in
-    part_room c.args.layouts.now.reading (records c.args.layouts.now) c.args.given.now c.as_slice-bases.result.now c.args.part m
-    (subst (λ (bs : List Basis). IsMoveOfPart c.args.layouts.now.reading (records c.args.layouts.now) c.args.given.now bs c.args.part m) (sym c.as_slice-bases.ensures.value) part.0)
+    part_room c.args.layouts.now.reading (records c.args.layouts.now) c.args.given.now c.as_slice-bases.result.now c.args.part.now m
+    (subst (λ (bs : List Basis). IsMoveOfPart c.args.layouts.now.reading (records c.args.layouts.now) c.args.given.now bs c.args.part.now m) (sym c.as_slice-bases.ensures.value) part.0)
 
 pub returns-in-Whole-clause-moved : goal.returns-in-Whole-clause-moved
 returns-in-Whole-clause-moved c = λ m part.
-    c.make_part.ensures.moved m (subst (λ (bs : List Basis). IsMoveOfPart c.args.layouts.now.reading (records c.args.layouts.now) c.args.given.now bs c.args.part m) (sym c.as_slice-bases.ensures.value) part.0)
+    c.make_part.ensures.moved m (subst (λ (bs : List Basis). IsMoveOfPart c.args.layouts.now.reading (records c.args.layouts.now) c.args.given.now bs c.args.part.now m) (sym c.as_slice-bases.ensures.value) part.0)

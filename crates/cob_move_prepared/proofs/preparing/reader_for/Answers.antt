@@ -1,38 +1,7 @@
-use Rattle.std.proofs.Common.{◌≡◌, ap, ◌∙◌}
-use Rattle.cob_copybook_tree.specs.Items.{form_of}
-use Rattle.cob_copybook_tree.specs.declared.form.Form.TheVariants.{Zoned, Separate, Packed}
-use Rattle.cob_move_prepared.specs.Steps.{form_by_lanes}
-use Rattle.cob_move_prepared.proofs.KindLemmas.{fewer_digits, packed_reader, separate_reader, zoned_reader}
+use Rattle.cob_move_prepared.proofs.KindLemmas.{reader_as}
 use Rattle.cob_move_prepared.proofs.preparing.reader_for.Goals as goal
 
-pub returns-in-Zoned : goal.returns-in-Zoned
-returns-in-Zoned c =
-    let shape = c.number_shape-shape.result in
-    let wanted = c.wanted_of-wanted.result in
-    let form : form_of c.args.sender.now ≡ Zoned = c.requires.form ∙ ap form_by_lanes c.in-Zoned.is in
-    zoned_reader c.args.sender.now c.args.receiver.now shape.digits shape.signed shape.leading wanted.digits wanted.shift c.zoned.result form
-    c.number_shape-shape.ensures.size c.number_shape-shape.ensures.digits c.number_shape-shape.ensures.signed c.number_shape-shape.ensures.leading
-    c.wanted_of-wanted.ensures.digits c.wanted_of-wanted.ensures.shift c.zoned.ensures
-
-pub separate-requires : goal.separate-requires
-separate-requires c =
-    let form : form_of c.args.sender.now ≡ Separate = c.requires.form ∙ ap form_by_lanes c.in-Separate.is in
-    fewer_digits c.args.sender.now c.number_shape-shape.result.digits c.number_shape-shape.ensures.size form c.requires.sender.fits
-
-pub returns-in-Separate : goal.returns-in-Separate
-returns-in-Separate c =
-    let shape = c.number_shape-shape.result in
-    let wanted = c.wanted_of-wanted.result in
-    let form : form_of c.args.sender.now ≡ Separate = c.requires.form ∙ ap form_by_lanes c.in-Separate.is in
-    separate_reader c.args.sender.now c.args.receiver.now shape.digits shape.leading wanted.digits wanted.shift c.separate.result form
-    c.number_shape-shape.ensures.size c.number_shape-shape.ensures.digits c.number_shape-shape.ensures.leading
-    c.wanted_of-wanted.ensures.digits c.wanted_of-wanted.ensures.shift c.separate.ensures
-
-pub returns-in-Packed : goal.returns-in-Packed
-returns-in-Packed c =
-    let shape = c.number_shape-shape.result in
-    let wanted = c.wanted_of-wanted.result in
-    let form : form_of c.args.sender.now ≡ Packed = c.requires.form ∙ ap form_by_lanes c.in-Packed.is in
-    packed_reader c.args.sender.now c.args.receiver.now shape.digits shape.signed wanted.digits wanted.shift c.packed.result form
-    c.number_shape-shape.ensures.size c.number_shape-shape.ensures.digits c.number_shape-shape.ensures.signed
-    c.wanted_of-wanted.ensures.digits c.wanted_of-wanted.ensures.shift c.packed.ensures
+pub returns : goal.returns
+returns c =
+    let wanted = c.wanted_of.result in
+    reader_as c.args.sender.now wanted.digits _ wanted.shift _ c.item_reader.result c.wanted_of.ensures.digits c.wanted_of.ensures.shift c.item_reader.ensures

@@ -11,7 +11,7 @@ returns c =
     let e : n ≡ s.digits = c.from-count.ensures in
     packed_reader n s.digits s.signed c.args.wanted.digits c.args.wanted.shift _ e (record {
       some = omega (arith, e, s.some);
-      most = omega (arith, e, c.requires);
+      most = omega (arith, e, s.most);
       room = c.args.wanted.most;
       least_high = λ i lt. get_or-replicate 16 i 0 0 lt;
       most_high = λ i lt. c.with_lane.ensures i lt ∙ lane_from i _ _ _ _ _ _ refl c.pad_bound.ensures (c.lanes_between-digits.ensures i lt);

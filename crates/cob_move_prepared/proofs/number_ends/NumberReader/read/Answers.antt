@@ -3,13 +3,14 @@ use Rattle.cob_picture.specs.Counts.{scale, signed}
 use Rattle.cob_codec.specs.Binary.{binary_length}
 use Rattle.cob_move_prepared.specs.Steps.{IsReaderFor}
 use Rattle.cob_move_prepared.specs.Ends.{IsOwnReader, IsWordReaderFor, item_digits}
-use Rattle.cob_move_prepared.proofs.BinaryStepLemmas.{lanes_read, size_is, word_read}
+use Rattle.cob_move_prepared.proofs.BinaryStepLemmas.{size_is, word_read}
+use Rattle.cob_move_prepared.proofs.StepLemmas.{item_read}
 use Rattle.cob_move_prepared.proofs.number_ends.NumberReader.read.Goals as goal
 
 pub returns-in-Lanes : goal.returns-in-Lanes
 returns-in-Lanes c = λ from to reading is suits within.
     let own : IsReaderFor from to c.in-Lanes.reader = subst (λ r. IsOwnReader from to r) c.in-Lanes.is is.own in
-    lanes_read from to reading c.in-Lanes.reader c.args.bytes.now c.read.result.digits c.read.result.is_number c.read.result.minus own within c.read.ensures
+    item_read from reading (item_digits to) (scale to.picture.positions -ℤ scale from.picture.positions) c.in-Lanes.reader c.args.bytes.now c.read.result.digits c.read.result.is_number c.read.result.minus own within c.read.ensures
 
 pub returns-in-Binary : goal.returns-in-Binary
 returns-in-Binary c = λ from to reading is suits within.
