@@ -85,6 +85,11 @@ impl ItemKind {
         matches!(self.usage, Usage::Binary)
     }
 
+    /// Whether it is packed.
+    pub fn is_packed(&self) -> bool {
+        matches!(self.usage, Usage::Packed)
+    }
+
     /// Whether the sign has a byte of its own.
     pub fn is_separate(&self) -> bool {
         matches!(self.sign, Some(sign) if sign.separate)
@@ -101,12 +106,22 @@ impl ItemKind {
     {
         if self.is_separate() { 15 } else { 16 }
     }
+
+    /// The most digits of an item of at most sixteen bytes.
+    pub fn most_wide_digits(&self) -> u32
+        ensures { result ≤ 31 }
+    {
+        match self.usage {
+            Usage::Packed => 31,
+            Usage::Display | Usage::Binary => self.most_digits(),
+        }
+    }
 }
 
 /// A scale of a picture of so many digits: one at an edge, or any.
 pub fn drawn_scale(draws: &mut Draws, digits: u32) -> i32
     requires some { 0 < digits }
-    requires most { digits ≤ 16 }
+    requires most { digits ≤ 31 }
 {
     let places = 31 - digits;
     match draws.below(6) {
@@ -135,7 +150,7 @@ pub fn push_picture(
     digits: u32,
     scale: i32,
 ) -> Result<(), AllocError>
-    requires { digits ≤ 16 }
+    requires { digits ≤ 31 }
 {
     if signed {
         text.push_str("S")?;

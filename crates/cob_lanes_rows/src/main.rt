@@ -1,6 +1,7 @@
 //! Makes single moves by prepared steps, and prints sums of what the receivers hold.
 //!
-//! Numbers are moved between each two kinds of items, of each number of digits, and to edited items; characters between entries of each
+//! Numbers are moved between each two kinds of items, of each number of digits, and to edited items; at the end those of which an item has more
+//! than sixteen digits; characters between entries of each
 //! length; figurative constants to entries of each length. Scales, bytes and signs are drawn, the same in each run. A line tells how many
 //! moves were made, how many senders represented no number, how many moves had no step, and the sum. `tools/lane_sums` works the same out
 //! from the rules alone.
@@ -18,7 +19,7 @@ use crate::characters::{CharacterMove, figuratives, try_characters, try_figurati
 use crate::draws::Draws;
 use crate::edited::{edited_kinds, try_edited};
 use crate::kinds::{all_kinds, kinds};
-use crate::numbers::try_kinds;
+use crate::numbers::{try_kinds, try_wide_kinds};
 use crate::tally::Tally;
 use std::io;
 
@@ -49,6 +50,20 @@ fn print_binary(rt: HostRuntime, draws: &mut Draws) -> io::Result<()> {
         for to in &kinds {
             if from.is_binary() || to.is_binary() {
                 let tally = try_kinds(rt.alloc(), from, to, draws)?;
+                print_tally(rt, from.name, to.name, &tally)?;
+            }
+        }
+    }
+    Ok(())
+}
+
+/// Numbers from and to packed items of more than sixteen digits.
+fn print_wide(rt: HostRuntime, draws: &mut Draws) -> io::Result<()> {
+    let kinds = kinds();
+    for from in &kinds {
+        for to in &kinds {
+            if from.is_packed() || to.is_packed() {
+                let tally = try_wide_kinds(rt.alloc(), from, to, draws)?;
                 print_tally(rt, from.name, to.name, &tally)?;
             }
         }
@@ -97,5 +112,6 @@ fn main(rt: HostRuntime) -> io::Result<()> {
     print_edited(rt, &mut draws)?;
     print_characters(rt, &mut draws)?;
     print_constants(rt)?;
-    print_binary(rt, &mut draws)
+    print_binary(rt, &mut draws)?;
+    print_wide(rt, &mut draws)
 }

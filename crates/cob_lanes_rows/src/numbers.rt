@@ -7,7 +7,7 @@ use crate::kinds::{ItemKind, drawn_scale, push_picture};
 use crate::senders::drawn_record;
 use crate::tally::Tally;
 use cob_copybook_tree::Item;
-use cob_move_prepared::{BinaryStep, NumberStep};
+use cob_move_prepared::{BinaryStep, NumberStep, WideStep};
 use cob_picture::Picture;
 use std::alloc::{AllocError, Global};
 
@@ -25,7 +25,7 @@ pub fn drawn_item(
     draws: &mut Draws,
 ) -> Result<Option<Item>, AllocError>
     requires some { 0 < digits }
-    requires most { digits ≤ 16 }
+    requires most { digits ≤ 31 }
 {
     let scale = drawn_scale(draws, digits);
     let mut text = String::new(alloc);
@@ -47,6 +47,9 @@ fn moved(sender: &Item, receiver: &Item, record: &[u8], to: &mut [u8]) -> Option
     requires { length to.old ≤ 16 }
 {
     if let Some(step) = NumberStep::prepare(sender, receiver) {
+        return Some(step.run(record, to));
+    }
+    if let Some(step) = WideStep::prepare(sender, receiver) {
         return Some(step.run(record, to));
     }
     let step = BinaryStep::prepare(sender, receiver)?;
@@ -78,9 +81,9 @@ fn try_move(
     tally: &mut Tally,
 ) -> Result<(), AllocError>
     requires some_sent { 0 < sent }
-    requires most_sent { sent ≤ 16 }
+    requires most_sent { sent ≤ 31 }
     requires some_received { 0 < received }
-    requires most_received { received ≤ 16 }
+    requires most_received { received ≤ 31 }
 {
     let sender = drawn_item(alloc, from, sent, draws)?;
     let receiver = drawn_item(alloc, to, received, draws)?;
@@ -103,6 +106,24 @@ pub fn try_kinds(
     for sent in 1..from.most_digits() + 1 {
         for received in 1..to.most_digits() + 1 {
             for _ in 0..TRIES {
+                try_move(alloc, from, to, sent, received, draws, &mut tally)?;
+            }
+        }
+    }
+    Ok(tally)
+}
+
+/// Tries the moves between items of two kinds of which one at least has more than sixteen digits.
+pub fn try_wide_kinds(
+    alloc: Global,
+    from: &ItemKind,
+    to: &ItemKind,
+    draws: &mut Draws,
+) -> Result<Tally, AllocError> {
+    let mut tally = Tally::new();
+    for sent in 1..from.most_wide_digits() + 1 {
+        for received in 1..to.most_wide_digits() + 1 {
+            if sent > 16 || received > 16 {
                 try_move(alloc, from, to, sent, received, draws, &mut tally)?;
             }
         }

@@ -10,22 +10,22 @@ use std::alloc::{AllocError, Global};
 /// The digits of an item and the code of its sign.
 #[derive(Clone, Copy)]
 struct Drawn {
-    digits: [u8; 16],
+    digits: [u8; 31],
     count: usize,
     code: u8,
-    ghost most: { count ≤ 16 },
+    ghost most: { count ≤ 31 },
 }
 
 /// Digits: zeros alone, zeros before others, or any.
-fn drawn_digits(draws: &mut Draws, count: usize) -> [u8; 16]
-    requires { count ≤ 16 }
+fn drawn_digits(draws: &mut Draws, count: usize) -> [u8; 31]
+    requires { count ≤ 31 }
 {
     let zeros = match draws.below(4) {
         0 => count,
         1 => draws.below(count as u32 + 1) as usize,
         _ => 0,
     };
-    let mut digits = [0u8; 16];
+    let mut digits = [0u8; 31];
     for place in 0..count {
         let digit = draws.below(10) as u8;
         if place >= zeros {
@@ -157,7 +157,7 @@ fn push_item(
     count: usize,
     draws: &mut Draws,
 ) -> Result<(), AllocError>
-    requires { count ≤ 16 }
+    requires { count ≤ 31 }
 {
     let digits = drawn_digits(draws, count);
     let drawn = Drawn {
@@ -197,7 +197,7 @@ pub fn drawn_record(
     count: usize,
     draws: &mut Draws,
 ) -> Result<Vec<u8>, AllocError>
-    requires { count ≤ 16 }
+    requires { count ≤ 31 }
 {
     let mut bytes = Vec::new(alloc);
     for place in 0..draws.below(24) {
