@@ -1,7 +1,8 @@
 -- Where the conversion of a record stops, and the room to find out.
-use Rattle.std.specs.Prelude.{◌≡◌, ◌≤◌, ℕ, List, length, take, Option, Some, None}
-use Rattle.cob_copybook_tree.specs.Forests.{Forest, entries_in}
+use Rattle.std.specs.Prelude.{◌≤◌, ℕ, List, length, take, Option, Some, None}
+use Rattle.cob_copybook_tree.specs.Forests.{Forest}
 use Rattle.cob_copybook_tree.specs.Nodes.{Resolved}
+use Rattle.cob_layout.specs.Standing.{IsRoomFor}
 use Rattle.cob_layout.specs.Storage.{IsStorage}
 use Rattle.cob_layout_places.specs.Moves.{Records}
 use Rattle.cob_move_apply.specs.declared.stop.Stop.{Stop}
@@ -20,7 +21,7 @@ plain_stop (stop.BehindMoves at) = at
 -- there is room for single moves, and for the counts of the output record
 pub record HasWalkRoom (r : Records) (room : WalkRoom) : Type 0 where
   pub each : HasEachRoom r room.each
-  pub outputs : length room.out_counts ≡ entries_in r.output
+  pub outputs : IsRoomFor r.output room.out_counts
 
 -- what is found in a slice: a record of these entries at its front, or that there are only so many records
 abbrev pub HoldsFound : Forest Resolved → List ℕ → Found → Type 0

@@ -2,10 +2,10 @@
 
 ghost use Rattle.std.specs.Prelude.{◌≡◌, length, take, IfErr, IfOk};
 ghost use Rattle.cob_layout.specs.Storage.{IsStorage};
+ghost use Rattle.cob_layout.specs.Standing.{IsRoomFor};
 ghost use Rattle.cob_move_initial.specs.Initial.{IsInitial};
 ghost use Rattle.cob_convert_record.specs.Becoming.{Becomes, IsCountStop, StopsAt};
 ghost use Rattle.cob_convert_record.specs.Conversion.{out_length};
-ghost use Rattle.cob_copybook_tree.specs.Forests.{entries_in};
 ghost use Rattle.cob_stream.specs.Output.{IsOutputOf};
 ghost use Rattle.cob_move_apply.specs.Applied.{Applied};
 ghost use Rattle.cob_move_each.specs.Each.{each_ending, plain_ending};
@@ -104,11 +104,11 @@ fn walk_moves<W: Watcher>(
 /// The first count of the storage that isn't valid.
 fn written_part(conversion: &Conversion, storage: &[u8], counts: &mut Counts) -> Result<usize, Stop>
     requires storage { length storage.now ≡ out_length conversion.now }
-    requires room { length counts.old ≡ entries_in conversion.now.records.output }
+    requires room { IsRoomFor conversion.now.records.output counts.old }
     ensures written { IfOk result (λ made. IsOutputOf conversion.now.out_form
         conversion.now.records.output storage.now (take made storage.now)) }
     ensures stops { IfErr result (IsCountStop conversion.now.records.output storage.now) }
-    ensures room { length counts.new ≡ length counts.old }
+    ensures room { IsRoomFor conversion.now.records.output counts.new }
 {
     let (_, layout) = conversion.layouts();
     match written_length(layout, conversion.out_form(), storage, counts) {

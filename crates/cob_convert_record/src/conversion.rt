@@ -3,7 +3,7 @@
 ghost use Rattle.std.specs.Prelude.{◌≡◌, ◌<◌, ◌≤◌, false, length, min, take, IfOk, IfErr, IfSome, OnOk};
 ghost use Rattle.cob_limits.specs.Limits.{longest_record};
 ghost use Rattle.cob_layout.specs.Storage.{greatest_length};
-ghost use Rattle.cob_copybook_tree.specs.Forests.{entries_in};
+ghost use Rattle.cob_layout.specs.Standing.{IsRoomFor};
 ghost use Rattle.cob_stream.specs.Output.{IsOutputOf};
 ghost use Rattle.cob_convert_record.specs.Becoming.{IsCountStop};
 
@@ -70,13 +70,13 @@ fn output_length(
     counts: &mut Counts,
 ) -> Result<usize, Stop>
     requires storage { length storage.now ≡ greatest_length layout.now }
-    requires room { length counts.old ≡ entries_in layout.now }
+    requires room { IsRoomFor layout.now counts.old }
     ensures size { IfOk result
         (λ made. (0 < made) × (made ≤ length storage.now) × (made ≤ longest_record)) }
     ensures written { IfOk result
         (λ made. IsOutputOf form layout.now storage.now (take made storage.now)) }
     ensures stops { IfErr result (λ stop. IsCountStop layout.now storage.now stop) }
-    ensures room { length counts.new ≡ length counts.old }
+    ensures room { IsRoomFor layout.now counts.new }
 {
     match written_length(layout, form, storage, counts) {
         Ok(made) => Ok(made),

@@ -17,12 +17,12 @@ pub struct Room {
 }
 
 impl Model for Room {
-    ghost use Rattle.std.specs.Prelude.{length};
+    ghost use Rattle.cob_layout.specs.Standing.{room_in};
     ghost use Rattle.cob_convert_record.specs.Rooms.{Capacity};
 
     ghost Value = { Capacity };
 
-    ghost view = { λ r. record { moves = r.scratch; inputs = length r.in_counts; outputs = length r.out_counts } };
+    ghost view = { λ r. record { moves = r.scratch.room; inputs = room_in r.in_counts; outputs = room_in r.out_counts } };
 }
 
 impl Room {

@@ -13,14 +13,14 @@ use crate::named::Named;
 use crate::text::{Line, push_number, push_text};
 use crate::values::put_value;
 use arrayvec::ArrayVec;
-use cob_layout::{Layout, Place, Places, Ref, field};
+use cob_layout::{Counts, Layout, Place, Ref, field};
 use cob_records::{RecordFault, Sink};
 
 /// What a record holds: its layout, where its entries stand, and its bytes.
 #[derive(Clone, Copy)]
 pub(crate) struct Contents<'a> {
     pub(crate) layout: &'a Layout,
-    pub(crate) places: &'a Places,
+    pub(crate) places: &'a Counts,
     pub(crate) bytes: &'a [u8],
 }
 
@@ -123,7 +123,7 @@ fn put_element<W: Sink>(
 }
 
 /// How often a table occurs.
-fn times_in(places: &Places, table: usize) -> u32
+fn times_in(places: &Counts, table: usize) -> u32
     ensures { result ≡ (spot_at places.now.spots table).times }
 {
     match places.spots().get(table) {

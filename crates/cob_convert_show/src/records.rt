@@ -21,7 +21,7 @@ ghost use Rattle.cob_stream.specs.declared.fault.Cause.TheVariants.{Limit};
 use crate::elements::{Contents, put_items};
 use crate::named::{Named, named_items};
 use crate::text::{Line, push_text, put};
-use cob_layout::{Book, CountFault, Layout, Places, places_end_in_length, records_are_sound};
+use cob_layout::{Book, CountFault, Counts, Layout, places_end_in_length, records_are_sound};
 use cob_records::{Form, RecordFault, Sink, Source, next_in_form};
 use cob_stream::{Cause, Reason, RunFault, Side, is_fitting};
 use itoa::Buffer;
@@ -88,7 +88,7 @@ fn count_reason(fault: CountFault) -> Reason
 }
 
 /// Whether a record that came whole has the length that its counts say.
-fn fits_counts(layout: &Layout, form: Form, places: &Places, count: usize) -> bool
+fn fits_counts(layout: &Layout, form: Form, places: &Counts, count: usize) -> bool
     requires stands { AreSomePlaces layout.now places.now }
     ensures must { IsTrue result
         → IsFitting form (current_length places.now.counts layout.now) count }
@@ -106,7 +106,7 @@ pub fn read_record<R: Source>(
     source: &mut R,
     bytes: &mut [u8],
     left: &mut u16,
-    places: &mut Places,
+    places: &mut Counts,
 ) -> Result<Option<usize>, Reason>
     requires block { HasBlockSize form }
     requires bytes { length bytes.old ≡ sum_of greatest_number layout.now }
@@ -130,7 +130,7 @@ pub fn read_record<R: Source>(
         Ok(Some(count)) => count,
         Err(fault) => return Err(frame_reason(fault)),
     };
-    if let Err(fault) = layout.places_of(&bytes[..count], places) {
+    if let Err(fault) = layout.counts_of(&bytes[..count], places) {
         return Err(count_reason(fault));
     }
     if !fits_counts(layout, form, places, count) {
@@ -213,7 +213,7 @@ pub fn stop_at(number: u64, reason: Reason, written: u64) -> ShowFault
 fn show_records<R: Source, W: Sink>(
     shown: Shown,
     bytes: &mut [u8],
-    places: &mut Places,
+    places: &mut Counts,
     source: &mut R,
     sink: &mut W,
 ) -> Result<u64, ShowFault>
@@ -302,7 +302,7 @@ pub fn show<R: Source, W: Sink>(
         (stopped_by is_error_cause result) (W.errors sink.old) }
 {
     let mut bytes = vec![in alloc; 0u8; usize::from(layout.greatest())]?;
-    let mut places = layout.new_places(alloc)?;
+    let mut places = layout.new_counts(alloc)?;
     let items = items_of(alloc, book)?;
     let shown = Shown {
         layout,

@@ -7,7 +7,7 @@ ghost use Rattle.cob_records.specs.Forms.{HasBlockSize};
 
 use crate::contents::Contents;
 use cob_convert_show::{LIMIT, ShowFault, limit_reason, read_record, stop_at};
-use cob_layout::{Layout, Places};
+use cob_layout::{Counts, Layout};
 use cob_records::{Form, RecordFault, Source};
 use cob_stream::Reason;
 use std::alloc::{AllocError, Global};
@@ -59,7 +59,7 @@ fn list_records<R: Source, L: RecordLines>(
     layout: &Layout,
     form: Form,
     bytes: &mut [u8],
-    places: &mut Places,
+    places: &mut Counts,
     source: &mut R,
     lines: &mut L,
 ) -> Result<u64, ShowFault>
@@ -100,6 +100,6 @@ pub(crate) fn list<R: Source, L: RecordLines>(
     requires block { HasBlockSize form }
 {
     let mut bytes = vec![in alloc; 0u8; usize::from(layout.greatest())]?;
-    let mut places = layout.new_places(alloc)?;
+    let mut places = layout.new_counts(alloc)?;
     list_records(layout, form, &mut bytes, &mut places, source, lines)
 }

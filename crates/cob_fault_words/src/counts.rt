@@ -1,7 +1,7 @@
 //! Which table a count counts.
 
 ghost use Rattle.std.specs.Prelude.{◌≡◌, length};
-ghost use Rattle.cob_copybook_tree.specs.Forests.{entries_in};
+ghost use Rattle.cob_layout.specs.Standing.{IsRoomFor};
 
 use cob_layout::{Counts, Layout, Place, tables};
 use std::alloc::{AllocError, Global};
@@ -19,8 +19,8 @@ pub struct CountTable {
 
 /// Where an entry that is no table, and that none holds, stands in a storage.
 fn place_in(layout: &Layout, number: usize, bytes: &[u8], counts: &mut Counts) -> Option<Place>
-    requires { length counts.old ≡ entries_in layout.now }
-    ensures { length counts.new ≡ length counts.old }
+    requires { IsRoomFor layout.now counts.old }
+    ensures { IsRoomFor layout.now counts.new }
 {
     let reference = layout.reference(number, &[])?;
     if layout.needed(&reference, false, bytes, counts).is_err() {

@@ -25,7 +25,7 @@ same_ok : (v w : ℕ) → the_ok v ≡ the_ok w → v ≡ w
 same_ok v w e = cc
 
 -- a number is that of a table, or of none
-of_table : (xs : List Table) (k : ℕ) → ((z : Table) × IsIn z xs × (z.number ≡ k)) ⊎ ((z : Table) → IsIn z xs → z.number ≡ k → ⊥)
+pub of_table : (xs : List Table) (k : ℕ) → ((z : Table) × IsIn z xs × (z.number ≡ k)) ⊎ ((z : Table) → IsIn z xs → z.number ≡ k → ⊥)
 of_table [] k = inr (λ z i e. i)
 of_table (x ∷ xs) k = elim (same_or_not x.number k) [
   | inl same ↦ inl (x, inl refl, same)
@@ -61,11 +61,11 @@ one place t bytes s x v w i (counted _ _ c before rest is) (counted _ _ d earlie
     are)
 
 -- the counts so far are those of the tables below this number that are read
-abbrev Before : Forest Resolved → List ℕ → (Table → Bool) → ℕ → List ℕ → Type 0
+abbrev pub Before : Forest Resolved → List ℕ → (Table → Bool) → ℕ → List ℕ → Type 0
 Before t bytes read m c = (y : Table) → IsIn y (tables_of t) → y.number < m → read y ≡ true → IsStoredCount t bytes y (slice_index c y.number)
 
 -- and they are the greatest ones where no table is
-abbrev Beside : Forest Resolved → List ℕ → Type 0
+abbrev pub Beside : Forest Resolved → List ℕ → Type 0
 Beside t c = (k : ℕ) → IsNoTable t k → slice_index c k ≡ slice_index (greatest_counts t) k
 
 -- with a table, those up to its count's item are read
@@ -111,12 +111,12 @@ came t bytes x None c r n others stays comes kept (inl (v, m, is, h, e)) = inl (
 came t bytes x None c r n others stays comes kept (inr (e, is, same, last)) = inr (e, is, same)
 
 -- what is so of the counts so far, where these tables are left
-record Sofar (t : Forest Resolved) (bytes : List ℕ) (read : Table → Bool) (xs : List Table) (c : List ℕ) : Type 0 where
-  rise : (n : ℕ) × Rise n (entries_in t) xs
-  among : (x : Table) → IsIn x xs → IsIn x (tables_of t)
-  long : length c ≡ entries_in t
-  beside : Beside t c
-  before : (y : Table) → IsIn y (tables_of t) → read y ≡ true → (IsIn y xs → ⊥) → IsStoredCount t bytes y (slice_index c y.number)
+pub record Sofar (t : Forest Resolved) (bytes : List ℕ) (read : Table → Bool) (xs : List Table) (c : List ℕ) : Type 0 where
+  pub rise : (n : ℕ) × Rise n (entries_in t) xs
+  pub among : (x : Table) → IsIn x xs → IsIn x (tables_of t)
+  pub long : length c ≡ entries_in t
+  pub beside : Beside t c
+  pub before : (y : Table) → IsIn y (tables_of t) → read y ≡ true → (IsIn y xs → ⊥) → IsStoredCount t bytes y (slice_index c y.number)
 
 -- the tables below the first of them
 lower : (t : Forest Resolved) (bytes : List ℕ) (read : Table → Bool) (x : Table) (xs : List Table) (c : List ℕ) → Sofar t bytes read (x ∷ xs) c → Before t bytes read x.number c
@@ -188,7 +188,7 @@ reads_closed t node receiving s x y i j le reads =
     needed_closed _ _ node x y (known t x s i).before le reads
 
 -- from the start
-start : (t : Forest Resolved) (bytes : List ℕ) (read : Table → Bool) → IsSound t → Sofar t bytes read (tables_of t) (greatest_counts t)
+pub start : (t : Forest Resolved) (bytes : List ℕ) (read : Table → Bool) → IsSound t → Sofar t bytes read (tables_of t) (greatest_counts t)
 start t bytes read s = record {
   rise = (0, rise_all t 0 (entries_in t) s.numbered (omega arith));
   among = λ x i. i;
@@ -277,7 +277,7 @@ read_once t bytes read xs ks c d e n = (read_ok t bytes read xs ks c d n, read_e
 
 -- ---- what is kept then
 
-ends : OnePlace → (t : Forest Resolved) (bytes : List ℕ) (read : Table → Bool) → IsSound t → Closed t read → (xs : List Table) (ks : List (Option ℕ)) (c d : List ℕ) (n : ℕ)
+pub ends : OnePlace → (t : Forest Resolved) (bytes : List ℕ) (read : Table → Bool) → IsSound t → Closed t read → (xs : List Table) (ks : List (Option ℕ)) (c d : List ℕ) (n : ℕ)
     → Sofar t bytes read xs c → AreKept t bytes xs ks → TakenAnew t bytes read xs ks c (Ok d) n → Sofar t bytes read [] d
 ends place t bytes read s closed [] ks c d n so kept taken = subst (λ (b : List ℕ). Sofar t bytes read [] b) (same d c taken.0) so
   where

@@ -19,6 +19,7 @@ pub mod KeepLaw
 pub mod KeptLemmas
 pub mod KeepingLemmas
 pub mod WritingLemmas
+pub mod RefreshLemmas
 pub mod StandingLemmas
 pub mod TakingLemmas
 pub mod Loans

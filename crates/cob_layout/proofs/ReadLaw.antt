@@ -10,14 +10,13 @@ use Rattle.cob_layout.specs.Sound.{IsSound}
 use Rattle.cob_layout_places.specs.declared.varying.Table.{Table}
 use Rattle.cob_layout_places.specs.Counts.{tables_of}
 use Rattle.cob_layout_places.specs.Needs.{Has, number_behind, keep, is_needed, needed_tables, NeedsAreRead}
-use Rattle.cob_layout_places.proofs.NeedLaw.{Passes, spared_passes, passes_spared}
 use Rattle.cob_layout_places.proofs.NeedLemmas.{needed_is}
 use Rattle.cob_layout.specs.declared.ways.Way.{Way}
-use Rattle.cob_layout.specs.Counting.{AreThose, IsRead, IsSparedOf, ReadsNone}
-use Rattle.cob_layout.specs.Standing.{are_none, is_spared}
+use Rattle.cob_layout.specs.Counting.{AreThose, IsRead, ReadsNone}
+use Rattle.cob_layout.specs.Standing.{are_none}
 use Rattle.cob_layout.specs.Ways.{held, held_in, held_at, end_of_table}
-use Rattle.cob_layout.proofs.ThoseLemmas.{same_those, kept_those, keep_no, Rise, rise_all}
-use Rattle.cob_layout.proofs.NeedLemmas.{those_needed, known, table_has}
+use Rattle.cob_layout.proofs.ThoseLemmas.{same_those, keep_no, Rise, rise_all}
+use Rattle.cob_layout.proofs.NeedLemmas.{those_needed}
 use Rattle.cob_layout.proofs.SpotLaw.{length_held}
 use Rattle.cob_layout.proofs.WayLaw.{reach_end, reach_table_end}
 
@@ -57,7 +56,7 @@ pub record Known (t : Forest Resolved) (ways : List Way) (tables : List Table) (
   pub has : Has r t
 
 -- the reach of the entry ends with the record's
-last_is : (t : Forest Resolved) (ways : List Way) (tables : List Table) (r : ℕ) (receiving : Bool) → Known t ways tables r
+pub last_is : (t : Forest Resolved) (ways : List Way) (tables : List Table) (r : ℕ) (receiving : Bool) → Known t ways tables r
     → (receiving && ((held_at (map held ways) r).end == length ways)) ≡ (receiving && (number_behind false r t == entries_in t))
 last_is t ways tables r receiving k =
     let long : length ways ≡ entries_in t = sym (length-map ways held) ∙ ap length k.ways_are ∙ length_held [] t in
@@ -88,22 +87,6 @@ reads_below read t ways tables r behind receiving k b below =
         → keep (is_needed behind (receiving && ((held_at (map held ways) r).end == length ways)) r) xs ≡ []
     by [] rise below = refl
     by (x ∷ xs) rise below = keep_none (x ∷ xs) x.number (0 + entries_in t) behind r (receiving && ((held_at (map held ways) r).end == length ways)) (omega arith, rise.1) (below x xs refl)
-
--- ---- counts that are spared
-
--- those that the test keeps are those that the reference is spared
-pub those_spared : (t : Forest Resolved) (ways : List Way) (tables : List Table) (r : ℕ) (receiving last : Bool) → Known t ways tables r
-    → last ≡ (receiving && ((held_at (map held ways) r).end == length ways))
-    → AreThose (IsSparedOf t r receiving) (tables_of t) (keep (is_spared last r) tables)
-those_spared t ways tables r receiving last k l =
-    let same : keep (is_spared last r) tables ≡ keep (Passes t r receiving) (tables_of t) =
-    ap (λ (xs : List Table). keep (is_spared last r) xs) k.tables_are
-    ∙ ap (λ (b : Bool). keep (is_spared b r) (tables_of t)) (l ∙ last_is t ways tables r receiving k) in
-    subst (AreThose (IsSparedOf t r receiving) (tables_of t)) (sym same)
-    (kept_those (IsSparedOf t r receiving) (Passes t r receiving) (tables_of t) (λ x i.
-    (let here = table_has t x k.sound.numbered i in
-    let count = (known t x k.sound i).has in
-    (λ e. passes_spared t r receiving x k.sound.numbered k.has here count e, λ s. spared_passes t r receiving x k.sound.numbered k.has s.0 s.1))))
 
 -- what a layout knows of its record
 pub known_in : (t u : Forest Resolved) (ways : List Way) (tables : List Table) (r : ℕ) → IsSound t → t ≡ u → map held ways ≡ held_in [] t → tables ≡ tables_of t → Has r u → Known u ways tables r

@@ -1,6 +1,7 @@
 -- What holds of a record as a whole.
-use Rattle.std.proofs.Common.{◌≡◌, ℕ, ◌*◌, ◌<◌, ◌≤◌, List, length, sym, ap, subst, ◌∙◌, arith, Option, None, Ok, Err, Result}
+use Rattle.std.proofs.Common.{◌≡◌, ℕ, ◌*◌, ◌<◌, ◌≤◌, List, length, sym, ap, subst, ◌∙◌, arith, Option, None, replicate, Ok, Err, Result}
 use Rattle.std.specs.Prelude.{IfOk}
+use Rattle.std.proofs.lemmas.List.{length-replicate}
 use Rattle.cob_copybook_tree.specs.Forests.{Forest, NoEntries, AnEntry, entries_in}
 use Rattle.cob_copybook_tree.specs.Nodes.{Resolved}
 use Rattle.cob_copybook_tree.specs.Lengths.{greatest_number, own_length, element_length, whole_length, sum_of}
@@ -10,7 +11,9 @@ use Rattle.cob_layout_places.specs.Lengths.{times}
 use Rattle.cob_layout_places.specs.Counts.{tables_of, AreNumberedBelow}
 use Rattle.cob_layout_places.proofs.ForestLemmas.{sum_le, within_always}
 use Rattle.cob_layout_places.specs.References.{Refers}
+use Rattle.cob_layout_places.specs.Spots.{spots_of}
 use Rattle.cob_layout.specs.Counting.{greatest_counts}
+use Rattle.cob_layout.specs.Standing.{Standing, ArePlaces, IsRoomFor, RoomForCounts, room_for}
 use Rattle.cob_layout.proofs.GreatestLemmas.{greatest_length, slots}
 use Rattle.cob_layout.proofs.ReferenceLemmas.{has_below, refers_has}
 
@@ -34,10 +37,28 @@ length_small counts e b n k s en ek = omega (arith, length_least counts e b n k 
 pub as_many : (t u : Forest Resolved) (counts : List ℕ) (n : ℕ) → IsSound t → t ≡ u → counts ≡ greatest_counts t → n ≡ entries_in u → n ≡ length counts
 as_many t u counts n s e is all = all ∙ ap (λ (v : Forest Resolved). entries_in v) (sym e) ∙ sym (ap length is ∙ greatest_length t s.numbered)
 
--- as many are made of them
-pub long_as : {E : Type 0} (r : Result (List ℕ) E) (counts : List ℕ) (n : ℕ) → IfOk r (λ c. c ≡ counts) → length counts ≡ n → IfOk r (λ c. length c ≡ n)
-long_as (Ok c) counts n same long = ap length same ∙ long
-long_as (Err e) counts n same long = tt
+-- the greatest counts of a record, where its entries stand under them, and none that is kept
+pub new_places : (t u : Forest Resolved) (s : Standing) → t ≡ u → s.counts ≡ greatest_counts t → s.spots ≡ spots_of (times (greatest_counts t)) t 0 0 → ArePlaces u (greatest_counts u) s
+new_places t u s same counts spots =
+    (counts ∙ ap (λ (v : Forest Resolved). greatest_counts v) same, spots ∙ ap (λ (v : Forest Resolved). spots_of (times (greatest_counts v)) v 0 0) same)
+
+pub new_room : (t u : Forest Resolved) (s : Standing) → IsSound t → t ≡ u → s.counts ≡ greatest_counts t → s.kept ≡ replicate (length (tables_of t)) None → IsRoomFor u s
+new_room t u s sound same counts kept =
+    let entries : length s.counts ≡ entries_in t = ap length counts ∙ greatest_length t sound.numbered in
+    let tables : length s.kept ≡ length (tables_of t) = ap length kept ∙ length-replicate (length (tables_of t)) None in
+    (λ i. record { entries = entries i; tables = tables i }) ∙ ap (λ (v : Forest Resolved). room_for v) same
+
+-- what is so of counts is so of those that were made
+pub made : {E : Type 0} (P : Standing → Type 0) (r : Result Standing E) (s : Standing) → IfOk r (λ c. c ≡ s) → P s → IfOk r P
+made P (Ok c) s e p = subst P (sym e) p
+made P (Err e) s h p = tt
+
+-- there is room for as many counts as a record has entries, and for as many that are kept as it has tables
+pub room_entries : (u : Forest Resolved) (s : Standing) → IsRoomFor u s → length s.counts ≡ entries_in u
+room_entries u s room = ap (λ (r : RoomForCounts). r.entries) room
+
+pub room_tables : (u : Forest Resolved) (s : Standing) → IsRoomFor u s → length s.kept ≡ length (tables_of u)
+room_tables u s room = ap (λ (r : RoomForCounts). r.tables) room
 
 -- each table has a place among them
 pub slots_for : (t : Forest Resolved) (xs : List Table) (n : ℕ) → IsSound t → xs ≡ tables_of t → n ≡ entries_in t → AreNumberedBelow n xs

@@ -21,7 +21,7 @@ use Rattle.cob_layout.specs.declared.ways.Way.{Way}
 use Rattle.cob_layout.specs.Counting.{greatest_counts}
 use Rattle.cob_layout.specs.Laws.{EndInLength}
 use Rattle.cob_layout.specs.Placed.{placed}
-use Rattle.cob_layout.specs.Standing.{Standing, ArePlaces}
+use Rattle.cob_layout.specs.Standing.{Standing, AreSomePlaces}
 use Rattle.cob_layout.specs.Ways.{held, held_in, held_at, moved, first_element, spot_at}
 use Rattle.cob_layout.proofs.ReferenceLemmas.{found_there, refers_has}
 use Rattle.cob_layout.proofs.EndLemmas.{numbered, found_has, pick, some_is, differs, same, current}
@@ -134,12 +134,9 @@ pub answer_fits : EndInLength → (t u : Forest Resolved) (counts : List ℕ) (r
 answer_fits law t u counts r subscripts f result is eq refers at e =
     most_fits u counts result (answer_current law t u counts r subscripts f result is eq refers at e)
 
--- so it is whatever the counts
-pub answer_all : EndInLength → (u : Forest Resolved) (standing : Standing) (r : ℕ) (subscripts : List ℕ) (f : Found) (result : Result Place PlaceFault) → IsRecordDescription u → Refers r subscripts u
-    → ((counts : List ℕ) → ArePlaces u counts standing → place_of (times counts) r u 0 0 subscripts ≡ Some f) → result ≡ placed f
-    → IfOk result (λ p. (counts : List ℕ) → ArePlaces u counts standing → p.offset + p.length ≤ sum_of (times counts) u)
-answer_all law u standing r subscripts f (Ok p) is refers at e = λ counts are. answer_current law u u counts r subscripts f (Ok p) is refl refers (at counts are) e
-answer_all law u standing r subscripts f (Err fault) is refers at e = tt
+-- the entries stand as they do under the counts
+pub own_spots : (u : Forest Resolved) (standing : Standing) → AreSomePlaces u standing → standing.spots ≡ spots_of (times standing.counts) u 0 0
+own_spots u standing (counts, are) = are.1 ∙ ap (λ (cs : List ℕ). spots_of (times cs) u 0 0) (sym are.0)
 
 -- a place that is there is no fault
 pub no_fault : (f : Found) (fault : PlaceFault) → f.within ≡ true → placed f ≡ Err fault → ⊥
@@ -158,13 +155,14 @@ pub record Lengthy (t : Forest Resolved) (counts : List ℕ) (n : ℕ) : Type 0 
   pub most : n ≤ sum_of greatest_number t
   pub small : n ≤ 32752
 
-pub length_by : (u : Forest Resolved) (counts : List ℕ) (standing : Standing) (spots : List Spot) (own : Spot) → IsSound u → TakeBytes u → ArePlaces u counts standing → spots ≡ standing.spots → own ≡ spot_at spots 0
-    → Lengthy u counts (own.times * own.length)
-length_by NoEntries counts standing spots own s bytes are same is = absurd s.first
-length_by (AnEntry e b (AnEntry d kids more)) counts standing spots own s bytes are same is = absurd s.first
-length_by (AnEntry e b NoEntries) counts standing spots own s bytes are same is =
+pub length_by : (u : Forest Resolved) (standing : Standing) (spots : List Spot) (own : Spot) → IsSound u → TakeBytes u → AreSomePlaces u standing → spots ≡ standing.spots → own ≡ spot_at spots 0
+    → Lengthy u standing.counts (own.times * own.length)
+length_by NoEntries standing spots own s bytes are same is = absurd s.first
+length_by (AnEntry e b (AnEntry d kids more)) standing spots own s bytes are same is = absurd s.first
+length_by (AnEntry e b NoEntries) standing spots own s bytes are same is =
     let u = AnEntry e b NoEntries in
-    let first : own ≡ record { offset = begins e.redefines 0 0; length = element_length (times counts) e b; times = times counts e } = is ∙ ap (λ (zs : List Spot). spot_at zs 0) (same ∙ are.1) in
+    let counts = standing.counts in
+    let first : own ≡ record { offset = begins e.redefines 0 0; length = element_length (times counts) e b; times = times counts e } = is ∙ ap (λ (zs : List Spot). spot_at zs 0) (same ∙ own_spots u standing are) in
     let all : own.times * own.length ≡ sum_of (times counts) u =
     ap (λ (x : Spot). x.times * x.length) first ∙ length_is counts e b (times counts e) (element_length (times counts) e b) s refl refl in
     record {

@@ -1,5 +1,5 @@
 -- Counts of a storage that are kept.
-use Rattle.std.specs.Prelude.{◌≡◌, ◌⊎◌, ℕ, ◌+◌, ◌≤◌, Bool, MatchBool, List, [], ◌∷◌, Option, Some, None, Ok, Err, Result, length, if◌then◌else◌, slice_index, slice_set}
+use Rattle.std.specs.Prelude.{◌≡◌, ◌⊎◌, ℕ, ◌+◌, ◌≤◌, Bool, MatchBool, List, [], ◌∷◌, Option, Some, None, Ok, Err, Result, length, if◌then◌else◌, map, option_map, slice_index, slice_set}
 use Rattle.cob_copybook_tree.specs.Forests.{Forest}
 use Rattle.cob_copybook_tree.specs.Nodes.{Resolved}
 use Rattle.cob_layout_places.specs.declared.counts.CountFault.{CountFault}
@@ -8,9 +8,12 @@ use Rattle.cob_layout_places.specs.Counts.{tables_of, IsCounted, Taken}
 use Rattle.cob_layout_places.specs.Needs.{keep, is_read}
 use Rattle.cob_layout.specs.Counting.{greatest_counts}
 use Rattle.cob_layout.specs.Sound.{IsSound}
+use Rattle.cob_layout.specs.declared.counts.StoredCount.{StoredCount}
 use Rattle.cob_layout.specs.declared.fields.Place.{Place}
 use Rattle.cob_layout.specs.Fields.{with_field}
+use Rattle.cob_layout.specs.Ways.{spot_at}
 use Rattle.cob_layout_places.specs.declared.places.Found.{Found}
+use Rattle.cob_layout_places.specs.declared.spots.Spot.{Spot}
 use Rattle.cob_layout_places.specs.Lengths.{times}
 use Rattle.cob_layout_places.specs.Places.{place_of}
 
@@ -130,3 +133,51 @@ abbrev pub WritesKeep : Type 0
 WritesKeep = (tree : Forest Resolved) (before field : List ℕ) (p : Place) (x : Table) (v : ℕ) → IsSound tree → p.offset + p.length ≤ length before → length field ≡ p.length
     → IsIn x (tables_of tree) → ((y : Table) → IsIn y (tables_of tree) → y.number ≤ x.number → StandsApart tree before p y)
     → IsStoredCount tree before x v → IsStoredCount tree (with_field before p field) x v
+
+-- ---- counts that are kept with the places of their items
+
+-- the count of the table x that is kept among those of these tables is this one
+abbrev pub IsKeptAs : Table → StoredCount → List Table → List (Option StoredCount) → Type 0
+IsKeptAs x k [] ks = ⊥
+IsKeptAs x k (y ∷ ys) [] = ⊥
+IsKeptAs x k (y ∷ ys) (j ∷ js) = ((x ≡ y) × (j ≡ Some k)) ⊎ IsKeptAs x k ys js
+
+-- the item of a table's count stands there in a storage, under counts that are, up to the item, those of the tables there
+pub record HasItemAt (tree : Forest Resolved) (bytes : List ℕ) (x : Table) (p : Place) : Type 0 where
+  pub counts : List ℕ
+  pub found : Found
+  pub before : (y : Table) → IsIn y (tables_of tree) → y.number ≤ x.count → IsStoredCount tree bytes y (slice_index counts y.number)
+  pub beside : (k : ℕ) → IsNoTable tree k → slice_index counts k ≡ slice_index (greatest_counts tree) k
+  pub stands : place_of (times counts) x.count tree 0 0 [] ≡ Some found
+  pub offset : p.offset ≡ found.offset
+  pub length : p.length ≡ found.length
+
+-- The counts that are kept are those of a storage: their numbers, and the places of their items; and with the count of a table those are kept that stand
+-- before its item.
+pub record AreKeptOf (tree : Forest Resolved) (bytes : List ℕ) (ks : List (Option StoredCount)) : Type 0 where
+  pub numbers : (x : Table) (k : StoredCount) → IsKeptAs x k (tables_of tree) ks → IsStoredCount tree bytes x k.number
+  pub items : (x : Table) (k : StoredCount) → IsKeptAs x k (tables_of tree) ks → HasItemAt tree bytes x k.place
+  pub closed : (x y : Table) (k : StoredCount) → IsKeptAs x k (tables_of tree) ks → IsIn y (tables_of tree) → y.number ≤ x.count
+      → (j : StoredCount) × IsKeptAs y j (tables_of tree) ks
+
+-- the number of a count that is kept
+abbrev pub number_of : Option StoredCount → Option ℕ
+number_of k = option_map (λ (stored : StoredCount). stored.number) k
+
+-- those of several
+abbrev pub numbers_of : List (Option StoredCount) → List (Option ℕ)
+numbers_of ks = map number_of ks
+
+-- the count of a table, where the counts are these and the entries stand at these spots
+abbrev pub stored_at : List ℕ → List Spot → Table → StoredCount
+stored_at d spots x = record {
+  number = slice_index d x.number;
+  place = record { offset = (spot_at spots x.count).offset; length = (spot_at spots x.count).length };
+}
+
+-- what is kept behind a reading that gave these counts, under which the entries stand at these spots: the counts of the tables that are read, and those
+-- that were kept before
+abbrev pub kept_read : (Table → Bool) → List ℕ → List Spot → List Table → List (Option StoredCount) → List (Option StoredCount)
+kept_read read d spots [] ks = ks
+kept_read read d spots (x ∷ xs) [] = []
+kept_read read d spots (x ∷ xs) (k ∷ ks) = (if read x then Some (stored_at d spots x) else k) ∷ kept_read read d spots xs ks

@@ -1,30 +1,40 @@
 -- The counts of a record's tables, and where its entries stand under them.
-use Rattle.std.specs.Prelude.{◌≡◌, ◌⊎◌, ◌&&◌, nat_lt, ℕ, ◌+◌, ◌≤◌, Bool, true, false, List, [], ◌∷◌, length, Ok}
-use Rattle.std.specs.List.{AllByRecursion}
+use Rattle.std.specs.Prelude.{◌≡◌, ◌⊎◌, ◌&&◌, ◌||◌, nat_lt, ℕ, ◌+◌, Bool, true, false, List, [], ◌∷◌, length, replicate, Option, Some, None, Ok, if◌then◌else◌}
 use Rattle.cob_copybook_tree.specs.Forests.{Forest, entries_in}
 use Rattle.cob_copybook_tree.specs.Nodes.{Resolved}
+use Rattle.cob_layout.specs.declared.counts.StoredCount.{StoredCount}
 use Rattle.cob_layout.specs.declared.fields.Place.{Place}
-use Rattle.cob_layout.specs.Fields.{with_field}
 use Rattle.cob_layout_places.specs.declared.spots.Spot.{Spot}
 use Rattle.cob_layout_places.specs.declared.varying.Table.{Table}
 use Rattle.cob_layout_places.specs.Lengths.{times}
 use Rattle.cob_layout_places.specs.Spots.{spots_of}
 use Rattle.cob_layout_places.specs.Counts.{tables_of}
-use Rattle.cob_layout.specs.Counting.{AreThose, CountsOf, IsSparedOf}
-use Rattle.cob_layout.specs.Ways.{spot_at}
+use Rattle.cob_layout.specs.Counting.{CountsOf}
+use Rattle.cob_layout.specs.Kept.{AreKeptOf}
 
--- how a record stands: the counts of its tables and the spots of its entries, by the numbers of the entries
+-- How a record stands: the counts of its tables and the spots of its entries, by the numbers of the entries; and the counts of a storage that are
+-- kept, in the order of the tables.
 pub record Standing : Type 0 where
   pub counts : List ℕ
   pub spots : List Spot
+  pub kept : List (Option StoredCount)
 
--- for how many entries there is room
-abbrev pub room_in : Standing → ℕ
-room_in s = length s.counts
+-- how much room there is, and how much a record needs: a count for each entry, and one that is kept for each table that varies
+pub record RoomForCounts : Type 0 where
+  pub entries : ℕ
+  pub tables : ℕ
+
+-- how much room there is
+abbrev pub room_in : Standing → RoomForCounts
+room_in s = record { entries = length s.counts; tables = length s.kept }
+
+-- how much this record needs
+abbrev pub room_for : Forest Resolved → RoomForCounts
+room_for tree = record { entries = entries_in tree; tables = length (tables_of tree) }
 
 -- there is room for this record
 abbrev pub IsRoomFor : Forest Resolved → Standing → Type 0
-IsRoomFor tree s = room_in s ≡ entries_in tree
+IsRoomFor tree s = room_in s ≡ room_for tree
 
 -- the record has these counts, and its entries stand where they do under them
 abbrev pub ArePlaces : Forest Resolved → List ℕ → Standing → Type 0
@@ -38,14 +48,41 @@ AreSomePlaces tree s = (counts : List ℕ) × ArePlaces tree counts s
 abbrev pub StandsIn : Forest Resolved → List ℕ → Standing → Type 0
 StandsIn tree bytes s = (counts : List ℕ) × CountsOf tree bytes (Ok counts) × ArePlaces tree counts s
 
--- Where the bytes of this place alone change in a storage whose counts these are, the counts stay as they are.
-abbrev pub KeepsCounts : Forest Resolved → Place → Standing → Type 0
-KeepsCounts tree p s = (counts before field : List ℕ) → ArePlaces tree counts s → p.offset + p.length ≤ length before → length field ≡ p.length
-    → CountsOf tree before (Ok counts) → CountsOf tree (with_field before p field) (Ok counts)
+-- none of these counts is kept
+abbrev pub are_unkept : List (Option StoredCount) → Bool
+are_unkept [] = true
+are_unkept (None ∷ ks) = are_unkept ks
+are_unkept (Some k ∷ ks) = false
 
--- a reference to an entry, which receives or not, is spared no count
-abbrev pub SparesNone : Forest Resolved → ℕ → Bool → Type 0
-SparesNone tree r receiving = AreThose (IsSparedOf tree r receiving) (tables_of tree) []
+-- none is kept
+abbrev pub KeepsNone : Standing → Type 0
+KeepsNone s = are_unkept s.kept ≡ true
+
+-- the same, and none is kept
+abbrev pub forgotten : Standing → Standing
+forgotten s = record { counts = s.counts; spots = s.spots; kept = replicate (length s.kept) None }
+
+-- the counts that are kept are those of this storage, and where one is, the entries stand as they do under the counts
+abbrev pub KeepsOf : Forest Resolved → List ℕ → Standing → Type 0
+KeepsOf tree bytes s = AreKeptOf tree bytes s.kept × (KeepsNone s ⊎ AreSomePlaces tree s)
+
+-- the first place has a byte that is one of the second's
+abbrev pub meets : Place → Place → Bool
+meets p q = nat_lt 0 p.length && (nat_lt p.offset (q.offset + q.length) && nat_lt q.offset (p.offset + p.length))
+
+-- the place meets the item of a count that is kept
+abbrev pub meets_item : Place → Option StoredCount → Bool
+meets_item p None = false
+meets_item p (Some k) = meets p k.place
+
+-- the place meets the item of one of the counts that are kept
+abbrev pub meets_kept : Place → List (Option StoredCount) → Bool
+meets_kept p [] = false
+meets_kept p (k ∷ ks) = meets_item p k || meets_kept p ks
+
+-- what a write to a place leaves: no count is kept where it meets the item of one that was
+abbrev pub written : Place → Standing → Standing
+written p s = if meets_kept p s.kept then forgotten s else s
 
 -- none of these tables
 abbrev pub are_none : List Table → Bool
@@ -56,19 +93,3 @@ are_none (x ∷ xs) = false
 abbrev pub first_number : List Table → ℕ
 first_number [] = 0
 first_number (x ∷ xs) = x.number
-
--- a reference to entry r is spared the count of the table, where r receives and is the last one or not
-abbrev pub is_spared : (last : Bool) → (r : ℕ) → Table → Bool
-is_spared last r x = last && (nat_lt r x.number && nat_lt r x.count)
-
--- the place ends before the first element that stands there, or begins behind it
-abbrev pub IsApart : Place → Spot → Type 0
-IsApart p s = (p.offset + p.length ≤ s.offset) ⊎ (s.offset + s.length ≤ p.offset)
-
--- the place meets the count of none of these tables, where the counts' items stand at these spots
-abbrev pub MeetsNone : Place → List Spot → List Table → Type 0
-MeetsNone p spots xs = AllByRecursion (λ (x : Table). IsApart p (spot_at spots x.count)) xs
-
--- the place meets no item of the record that counts a table, where these stand in these places
-abbrev pub MeetsNoCount : Forest Resolved → Place → Standing → Type 0
-MeetsNoCount tree p s = MeetsNone p s.spots (tables_of tree)

@@ -1,63 +1,110 @@
-//! The counts of the tables of a record.
+//! The counts of the tables of a record, where its entries stand under them, and which counts of a storage are kept.
 
-ghost use Rattle.std.specs.Prelude.{◌≡◌, ◌++◌, [], ◌∷◌, IfOk};
-ghost use Rattle.cob_copybook_tree.specs.Nodes.{tree_of};
+ghost use Rattle.std.specs.Prelude.{◌≡◌, ◌++◌, [], ◌∷◌, ℕ, List, length, replicate, None, IfOk};
+ghost use Rattle.cob_copybook_tree.specs.Forests.{Forest};
+ghost use Rattle.cob_copybook_tree.specs.Nodes.{Resolved, tree_of};
 ghost use Rattle.cob_layout.specs.Counting.{in_order, varying};
+ghost use Rattle.cob_layout.specs.Standing.{KeepsOf, forgotten};
 
+use crate::fields::Place;
 use cob_copybook::{Node, ResolvedOccurs};
+use cob_layout_places::Spot;
 use std::alloc::{AllocError, Global};
 use std::marker::Model;
 
-/// How often the tables of a record that vary occur.
+/// A count of a storage: the number that its item gives, and where the item stands.
+#[derive(Clone, Copy, Debug)]
+pub struct StoredCount {
+    pub number: u32,
+    pub place: Place,
+}
+
+/// How often the tables of a record that vary occur, and where its entries stand then; and the counts of a storage that are kept, so that they
+/// are not read again.
 ///
-/// Contracts see a list of numbers, by the numbers of the tables' entries.
+/// Contracts see the counts and the spots by the numbers of the entries, and what is kept in the order of the tables.
 #[derive(Debug, Drop)]
 pub struct Counts {
     pub(crate) taken: Vec<u32>,
+    /// Where the first element of each entry stands, and how often the entry occurs.
+    pub(crate) spots: Vec<Spot>,
+    /// The count of each table, where it is kept.
+    pub(crate) kept: Vec<Option<StoredCount>>,
     /// Where counts are taken, so that those that hold stay until all are.
     pub(crate) next: Vec<u32>,
 }
 
 impl Model for Counts {
-    ghost use Rattle.std.specs.Prelude.{◌≡◌, ℕ, List, length};
+    ghost use Rattle.std.specs.Prelude.{◌≡◌, length};
+    ghost use Rattle.cob_layout.specs.Standing.{Standing};
 
-    ghost Value = { List ℕ };
+    ghost Value = { Standing };
 
-    ghost view = { λ c. c.taken.items };
+    ghost view = { λ c. record { counts = c.taken.items; spots = c.spots.items; kept = c.kept.items } };
 
-    ghost invariant = { λ c. length c.next.items ≡ length c.taken.items };
+    ghost invariant = { λ c. (length c.spots.items ≡ length c.taken.items) × (length c.next.items ≡ length c.taken.items) };
 }
 
 impl Counts {
-    /// These counts, with room to take others.
+    /// These counts and spots, with room to take others, and for the counts that are kept of so many tables.
     ///
     /// # Errors
     ///
     /// Where no memory is left.
-    pub(crate) fn new(alloc: Global, taken: Vec<u32>) -> Result<Counts, AllocError>
-        ensures { IfOk result (λ c. c ≡ taken.items) }
+    pub(crate) fn new(
+        alloc: Global,
+        taken: Vec<u32>,
+        spots: Vec<Spot>,
+        tables: usize,
+    ) -> Result<Counts, AllocError>
+        requires spots { length spots.items ≡ length taken.items }
+        ensures { IfOk result (λ c. c ≡ record {
+          counts = taken.items;
+          spots = spots.items;
+          kept = replicate tables None;
+        }) }
     {
         let next = copied_counts(alloc, &taken)?;
-        Ok(Counts { taken, next })
-    }
-
-    /// A copy of these counts, with room to take others.
-    ///
-    /// # Errors
-    ///
-    /// Where no memory is left.
-    pub(crate) fn of(alloc: Global, counts: &[u32]) -> Result<Counts, AllocError>
-        ensures { IfOk result (λ c. c ≡ counts.now) }
-    {
-        let taken = copied_counts(alloc, counts)?;
-        Counts::new(alloc, taken)
+        let kept = vec![in alloc; None; tables]?;
+        Ok(Counts {
+            taken,
+            spots,
+            kept,
+            next,
+        })
     }
 
     /// The counts by the numbers of the tables' entries.
     pub(crate) fn as_slice(&self) -> &[u32]
-        ensures { result.now ≡ self.now }
+        ensures { result.now ≡ self.now.counts }
     {
         &self.taken
+    }
+
+    /// Where the first element of each entry stands and how often the entry occurs, by the numbers of the entries.
+    pub fn spots(&self) -> &[Spot]
+        ensures { result.now ≡ self.now.spots }
+    {
+        &self.spots
+    }
+
+    /// Writes these counts and spots in place of others.
+    pub(crate) fn copy_to(&self, taken: &mut [u32], spots: &mut [Spot])
+        requires counts { length taken.old ≡ length self.now.counts }
+        requires spots { length spots.old ≡ length self.now.counts }
+        ensures counts { taken.new ≡ self.now.counts }
+        ensures spots { spots.new ≡ self.now.spots }
+    {
+        taken.copy_from_slice(&self.taken);
+        spots.copy_from_slice(&self.spots);
+    }
+
+    /// Forgets the counts that are kept, since another storage comes.
+    pub fn forget(&mut self)
+        ensures forgotten { self.new ≡ forgotten self.old }
+        ensures keeps { (tree : Forest Resolved) (bytes : List ℕ) → KeepsOf tree bytes self.new }
+    {
+        self.kept.fill(None);
     }
 }
 

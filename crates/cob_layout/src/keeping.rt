@@ -1,14 +1,18 @@
 //! Counts of a storage, some of which are kept.
 
-ghost use Rattle.std.specs.Prelude.{◌≡◌, ◌+◌, ℕ, length, min, Ok, Err, IfOk, IfErr};
+ghost use Rattle.std.specs.Prelude.{◌≡◌, ◌+◌, ℕ, length, min, slice_index, Ok, Err};
 ghost use Rattle.cob_copybook_tree.specs.Nodes.{node, tree_of};
 ghost use Rattle.cob_layout_places.specs.Counts.{AreCountable, AreNumberedBelow, IsCountable};
 ghost use Rattle.cob_layout_places.specs.Lengths.{EntryFits};
 ghost use Rattle.cob_layout_places.specs.Needs.{is_needed};
-ghost use Rattle.cob_layout.specs.Kept.{most_reads, outcome_of, IsReadOne, TakenAnew};
+ghost use Rattle.cob_layout.specs.Kept.{kept_read, most_reads, number_of, numbers_of, outcome_of, stored_at, IsReadOne, TakenAnew};
+ghost use Rattle.cob_layout.specs.Standing.{are_unkept, meets, meets_kept};
 
+use crate::counts::StoredCount;
+use crate::fields::Place;
+use crate::spots::spot_at;
 use cob_copybook::Node;
-use cob_layout_places::{CountFault, Table, count_of, is_needed};
+use cob_layout_places::{CountFault, Spot, Table, count_of, is_needed};
 
 /// Which counts are needed: those of tables below a number, for the last entry of a record that receives or not.
 #[derive(Clone, Copy)]
@@ -43,6 +47,16 @@ fn count_anew(
     }
 }
 
+/// The number of a count, where it is kept.
+fn number_of(kept: Option<StoredCount>) -> Option<u32>
+    ensures { result ≡ number_of kept }
+{
+    match kept {
+        Some(stored) => Some(stored.number),
+        None => None,
+    }
+}
+
 /// Takes those counts of a storage that are needed, each into its table's place, and reads only those that are not kept.
 ///
 /// # Errors
@@ -53,7 +67,7 @@ pub(crate) fn take_anew(
     tables: &[Table],
     needed: Needed,
     bytes: &[u8],
-    kept: &[Option<u32>],
+    kept: &[Option<StoredCount>],
     counts: &mut [u32],
     reads: &mut u64,
 ) -> Result<(), CountFault>
@@ -62,8 +76,8 @@ pub(crate) fn take_anew(
     requires slots { AreNumberedBelow (length counts.old) tables.now }
     requires as_many { length kept.now ≡ length tables.now }
     ensures taken { (n : ℕ) × TakenAnew (tree_of root.now) bytes.now
-        (is_needed needed.behind needed.last needed.number) tables.now kept.now counts.old
-        (outcome_of result counts.new) n
+        (is_needed needed.behind needed.last needed.number) tables.now (numbers_of kept.now)
+        counts.old (outcome_of result counts.new) n
         × (reads.new ≡ min (reads.old + n) most_reads) }
     ensures room { length counts.new ≡ length counts.old }
 {
@@ -71,9 +85,88 @@ pub(crate) fn take_anew(
     let _before = *reads;
     for (index, table) in tables.iter().enumerate() {
         if is_needed(needed.behind, needed.last, needed.number, *table) {
-            let count = count_anew(root, *table, kept[index], bytes, counts, reads)?;
+            let known = number_of(kept[index]);
+            let count = count_anew(root, *table, known, bytes, counts, reads)?;
             counts[table.number] = count;
         }
     }
     Ok(())
+}
+
+/// The count of an entry: 0 where there is none.
+fn count_at(counts: &[u32], number: usize) -> u32
+    ensures { result ≡ slice_index counts.now number }
+{
+    match counts.get(number) {
+        Some(count) => *count,
+        None => 0,
+    }
+}
+
+/// The count of a table, where the counts are these and the entries stand at these spots.
+fn stored_at(counts: &[u32], spots: &[Spot], table: Table) -> StoredCount
+    ensures { result ≡ stored_at counts.now spots.now table }
+{
+    let item = spot_at(spots, table.count);
+    StoredCount {
+        number: count_at(counts, table.number),
+        place: Place {
+            offset: item.offset,
+            length: item.length,
+        },
+    }
+}
+
+/// Keeps the counts of those tables that are needed, where the counts are these and the entries stand at these spots.
+pub(crate) fn keep_read(
+    tables: &[Table],
+    needed: Needed,
+    counts: &[u32],
+    spots: &[Spot],
+    kept: &mut [Option<StoredCount>],
+)
+    requires as_many { length kept.old ≡ length tables.now }
+    ensures { kept.new ≡ kept_read (is_needed needed.behind needed.last needed.number) counts.now
+        spots.now tables.now kept.old }
+{
+    for (index, table) in tables.iter().enumerate() {
+        if is_needed(needed.behind, needed.last, needed.number, *table) {
+            kept[index] = Some(stored_at(counts, spots, *table));
+        }
+    }
+}
+
+/// Whether none of these counts is kept.
+pub(crate) fn are_unkept(kept: &[Option<StoredCount>]) -> bool
+    ensures { result ≡ are_unkept kept.now }
+{
+    for one in kept {
+        if one.is_some() {
+            return false;
+        }
+    }
+    true
+}
+
+/// Whether the first place has a byte that is one of the second's.
+fn meets(place: Place, other: Place) -> bool
+    ensures { result ≡ meets place other }
+{
+    let place_end = u64::from(place.offset) + u64::from(place.length);
+    let other_end = u64::from(other.offset) + u64::from(other.length);
+    place.length > 0 && u64::from(place.offset) < other_end && u64::from(other.offset) < place_end
+}
+
+/// Whether a place meets the item of one of the counts that are kept.
+pub(crate) fn meets_kept(kept: &[Option<StoredCount>], place: Place) -> bool
+    ensures { result ≡ meets_kept place kept.now }
+{
+    for one in kept {
+        if let Some(stored) = one {
+            if meets(place, stored.place) {
+                return true;
+            }
+        }
+    }
+    false
 }

@@ -12,21 +12,22 @@ ghost use Rattle.cob_copybook.specs.Bytes.{TakeBytes};
 ghost use Rattle.cob_layout_places.specs.References.{Refers};
 ghost use Rattle.cob_layout.specs.Placed.{placed, placed_under};
 ghost use Rattle.cob_layout.specs.Counting.{greatest_counts, AreGreatest, CountsOf, NeededOf};
+ghost use Rattle.cob_layout.specs.Standing.{ArePlaces, AreSomePlaces, IsRoomFor, KeepsNone, StandsIn};
 
 use crate::copy::copied;
-use crate::counts::{Counts, greatest_in_order};
+use crate::counts::{Counts, copied_counts, greatest_in_order};
 use crate::fields::Place;
 use crate::kinds::kinds;
 use crate::laws::{fits_ref, places_end_in_length};
 use crate::sound::records_are_sound;
-use crate::spots::new_spots;
+use crate::spots::{copied_spots, new_spots, stand_under};
 use crate::taking::take_all_counts;
 use crate::ways::{Way, ways};
 use arrayvec::ArrayVec;
 use cob_copybook::{Book, Kind, Node};
 use cob_layout_places::{
-    CountFault, Found, Ref, Spot, Table, covering, element_of, needs_are_read, refers, seek,
-    tables, take_needed, times_of,
+    CountFault, Found, Ref, Table, covering, element_of, needs_are_read, refers, seek, tables,
+    take_needed, times_of,
 };
 use std::alloc::{AllocError, Global};
 use std::marker::Model;
@@ -45,17 +46,16 @@ pub struct PlaceFault {
 pub struct Layout {
     pub(crate) root: Node,
     pub(crate) tables: Vec<Table>,
+    /// The greatest counts, and where the entries stand under them.
     pub(crate) counts: Counts,
     greatest: u16,
     pub(crate) ways: Vec<Way>,
-    /// Where the entries stand under the greatest counts.
-    pub(crate) spots: Vec<Spot>,
     /// What the entries describe.
     pub(crate) kinds: Vec<Kind>,
 }
 
 impl Model for Layout {
-    ghost use Rattle.std.specs.Prelude.{◌≡◌, [], map};
+    ghost use Rattle.std.specs.Prelude.{◌≡◌, [], length, map, replicate, None};
     ghost use Rattle.cob_copybook_tree.specs.Forests.{Forest};
     ghost use Rattle.cob_copybook_tree.specs.Nodes.{Resolved, tree_of};
     ghost use Rattle.cob_copybook_tree.specs.Lengths.{greatest_number, sum_of};
@@ -77,7 +77,7 @@ impl Model for Layout {
 
     ghost view = { λ l. tree_of l.root };
 
-    ghost invariant = { λ l. IsRecordDescription (tree_of l.root) × IsSound (tree_of l.root) × (l.tables.items ≡ tables_of (tree_of l.root)) × (l.counts ≡ greatest_counts (tree_of l.root)) × (l.greatest ≡ sum_of greatest_number (tree_of l.root)) × TakeBytes (tree_of l.root) × (map held l.ways.items ≡ held_in [] (tree_of l.root)) × (l.spots.items ≡ spots_of (times (greatest_counts (tree_of l.root))) (tree_of l.root) 0 0) × (l.kinds.items ≡ kinds_of (tree_of l.root)) };
+    ghost invariant = { λ l. IsRecordDescription (tree_of l.root) × IsSound (tree_of l.root) × (l.tables.items ≡ tables_of (tree_of l.root)) × (l.counts.counts ≡ greatest_counts (tree_of l.root)) × (l.greatest ≡ sum_of greatest_number (tree_of l.root)) × TakeBytes (tree_of l.root) × (map held l.ways.items ≡ held_in [] (tree_of l.root)) × (l.counts.spots ≡ spots_of (times (greatest_counts (tree_of l.root))) (tree_of l.root) 0 0) × (l.kinds.items ≡ kinds_of (tree_of l.root)) × (l.counts.kept ≡ replicate (length (tables_of (tree_of l.root))) None) };
 }
 
 /// The place of an element, or the fault where it isn't one of those that there are.
@@ -115,14 +115,13 @@ impl Layout {
         let entries = in_order.len();
         let ways = ways(alloc, &root, entries)?;
         let kinds = kinds(alloc, &root, entries)?;
-        let counts = Counts::new(alloc, in_order)?;
+        let counts = Counts::new(alloc, in_order, spots, tables.len())?;
         Ok(Layout {
             root,
             tables,
             counts,
             greatest,
             ways,
-            spots,
             kinds,
         })
     }
@@ -149,9 +148,11 @@ impl Layout {
 
     /// The counts under which each table has its greatest number of elements.
     pub fn greatest_counts(&self) -> &Counts
-        ensures value { result.now ≡ greatest_counts self.now }
-        ensures greatest { AreGreatest self.now result.now }
-        ensures room { length result.now ≡ entries_in self.now }
+        ensures value { result.now.counts ≡ greatest_counts self.now }
+        ensures greatest { AreGreatest self.now result.now.counts }
+        ensures places { ArePlaces self.now (greatest_counts self.now) result.now }
+        ensures room { IsRoomFor self.now result.now }
+        ensures none { KeepsNone result.now }
     {
         &self.counts
     }
@@ -162,19 +163,23 @@ impl Layout {
     ///
     /// Where no memory is left.
     pub fn new_counts(&self, alloc: Global) -> Result<Counts, AllocError>
-        ensures value { IfOk result (λ counts. counts ≡ greatest_counts self.now) }
-        ensures room { IfOk result (λ counts. length counts ≡ entries_in self.now) }
+        ensures value { IfOk result (λ counts. counts.counts ≡ greatest_counts self.now) }
+        ensures places { IfOk result (ArePlaces self.now (greatest_counts self.now)) }
+        ensures room { IfOk result (IsRoomFor self.now) }
+        ensures none { IfOk result KeepsNone }
     {
-        Counts::of(alloc, self.counts.as_slice())
+        let taken = copied_counts(alloc, self.counts.as_slice())?;
+        let spots = copied_spots(alloc, self.counts.spots())?;
+        Counts::new(alloc, taken, spots, self.tables.len())
     }
 
     /// The record's length in bytes under these counts: at least 1, since an item comes before the first table that varies.
     pub fn length(&self, counts: &Counts) -> u16
-        ensures value { result ≡ sum_of (times counts.now) self.now }
+        ensures value { result ≡ sum_of (times counts.now.counts) self.now }
         ensures least { 0 < result }
         ensures most { result ≤ sum_of greatest_number self.now }
         // Each byte of the record is in the place of exactly one occurrence of an item that stands in no redefinition.
-        ensures covered { IsCovered (times counts.now) self.now }
+        ensures covered { IsCovered (times counts.now.counts) self.now }
     {
         // For `covered`: each byte of a record is in one occurrence of one item.
         covering();
@@ -210,10 +215,10 @@ impl Layout {
     /// A subscript is past the number of elements that its table has under these counts.
     pub fn place(&self, reference: &Ref, counts: &Counts) -> Result<Place, PlaceFault>
         requires refers { Refers reference.now.node reference.now.subscripts.items self.now }
-        ensures value { placed_under counts.now self.now reference.now ≡ Some result }
+        ensures value { placed_under counts.now.counts self.now reference.now ≡ Some result }
         // An element that is there ends within the record's length under the same counts.
         ensures current { IfOk result
-            (λ p. p.offset + p.length ≤ sum_of (times counts.now) self.now) }
+            (λ p. p.offset + p.length ≤ sum_of (times counts.now.counts) self.now) }
         ensures fits { IfOk result (λ p. p.offset + p.length ≤ sum_of greatest_number self.now) }
     {
         // For `current` and `fits`: an element that is there ends within the record's length.
@@ -230,35 +235,44 @@ impl Layout {
         }
     }
 
-    /// Takes the counts of all tables that vary from a record's bytes.
+    /// Takes the counts of all tables that vary from a record's bytes, and where its entries stand under them. None is kept then. It takes no memory.
     ///
     /// # Errors
     ///
     /// The first count that gives no number within its table's bounds, or that ends past the bytes. The counts are as they were then.
     pub fn counts_of(&self, bytes: &[u8], counts: &mut Counts) -> Result<(), CountFault>
-        requires room { length counts.old ≡ entries_in self.now }
-        ensures ok { OnOk result (CountsOf self.now bytes.now (Ok counts.new)) }
+        requires room { IsRoomFor self.now counts.old }
+        ensures ok { OnOk result (CountsOf self.now bytes.now (Ok counts.new.counts)) }
         ensures err { IfErr result (λ e. CountsOf self.now bytes.now (Err e)) }
         ensures same { OnErr result (counts.new ≡ counts.old) }
-        ensures room { length counts.new ≡ length counts.old }
+        ensures stands { OnOk result (StandsIn self.now bytes.now counts.new) }
+        ensures none { OnOk result (KeepsNone counts.new) }
+        ensures room { IsRoomFor self.now counts.new }
     {
         if self.tables.is_empty() {
-            counts.taken.copy_from_slice(self.counts.as_slice());
+            self.counts.copy_to(&mut counts.taken, &mut counts.spots);
             return Ok(());
         }
         counts.next.copy_from_slice(self.counts.as_slice());
         take_all_counts(
             &self.root,
             &self.tables,
-            &self.spots,
+            self.counts.spots(),
             bytes,
             &mut counts.next,
         )?;
-        counts.taken.copy_from_slice(&counts.next);
+        stand_under(
+            &self.root,
+            &counts.next,
+            false,
+            &mut counts.taken,
+            &mut counts.spots,
+        );
+        counts.kept.fill(None);
         Ok(())
     }
 
-    /// Takes the counts that the place of a reference needs.
+    /// Takes the counts that the place of a reference needs, and where the entries stand under them. None is kept then. It takes no memory.
     ///
     /// # Errors
     ///
@@ -271,13 +285,15 @@ impl Layout {
         counts: &mut Counts,
     ) -> Result<(), CountFault>
         requires refers { Refers reference.now.node reference.now.subscripts.items self.now }
-        requires room { length counts.old ≡ entries_in self.now }
+        requires room { IsRoomFor self.now counts.old }
         ensures ok { OnOk result
-            (NeededOf self.now reference.now.node receiving bytes.now (Ok counts.new)) }
+            (NeededOf self.now reference.now.node receiving bytes.now (Ok counts.new.counts)) }
         ensures err { IfErr result
             (λ e. NeededOf self.now reference.now.node receiving bytes.now (Err e)) }
         ensures same { OnErr result (counts.new ≡ counts.old) }
-        ensures room { length counts.new ≡ length counts.old }
+        ensures stands { OnOk result (AreSomePlaces self.now counts.new) }
+        ensures none { OnOk result (KeepsNone counts.new) }
+        ensures room { IsRoomFor self.now counts.new }
     {
         // For `ok` and `err`: the counts that are read are those that the reference needs.
         needs_are_read();
@@ -290,7 +306,14 @@ impl Layout {
             bytes,
             &mut counts.next,
         )?;
-        counts.taken.copy_from_slice(&counts.next);
+        stand_under(
+            &self.root,
+            &counts.next,
+            false,
+            &mut counts.taken,
+            &mut counts.spots,
+        );
+        counts.kept.fill(None);
         Ok(())
     }
 }

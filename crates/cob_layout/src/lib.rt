@@ -3,8 +3,9 @@
 //!
 //! A [`Layout`] is made once of a copybook's `Book` and then answers every question about places. It holds a copy of the record's tree, its
 //! tables that vary, and their greatest counts, and by the numbers of the entries what each describes, the tables that hold it, and where it
-//! stands under the greatest counts. A [`Counts`] says how often these tables occur in one record, a [`Places`] that and where each entry stands then, and a
-//! [`Ref`] names one element of one entry: the entry by its number, and a subscript for each table that holds it or that it is.
+//! stands under the greatest counts. A [`Counts`] says how often these tables occur in one record and where each entry stands then, and keeps the counts
+//! of a storage that were read, each a [`StoredCount`]; a [`Ref`] names one element of one entry: the entry by its number, and a subscript for each table
+//! that holds it or that it is.
 //!
 //! What is promised:
 //!
@@ -12,7 +13,7 @@
 //! - [`Layout::greatest`] is the record's length where each table has its greatest number of elements (`value`), from 1 byte (`least`) to 32,752
 //!   bytes (`most`); the tree is that of a well-formed record description (`record`), each item of which takes a byte (`bytes`).
 //! - [`Layout::greatest_counts`] and [`Layout::new_counts`] are the counts under which each table has that number (`value`), one for each
-//!   entry of the record (`room`): under them lengths and places are the greatest ones (`greatest`).
+//!   entry of the record (`room`), and none that is kept (`none`): under them lengths and places are the greatest ones (`greatest`, `places`).
 //! - [`Layout::length`] is the sum of the lengths of the entries that redefine none, each as often as it occurs (`value`), at least 1 (`least`)
 //!   and no more than the greatest one (`most`). Each byte of the record is in exactly one occurrence of an item that stands in no redefinition
 //!   (`covered`).
@@ -23,18 +24,19 @@
 //!   (`current`, and the law [`places_end_in_length`]), and so within the greatest one (`fits`). A redefining entry begins where the entry that
 //!   began the area begins ([`redefinitions_begin_with_area`]).
 //! - [`Layout::counts_of`] takes the counts of all tables from a record's bytes, one behind another, each a whole number from its table's least
-//!   to its greatest (`ok`), or answers the first fault (`err`) and leaves the counts as they were (`same`).
+//!   to its greatest (`ok`), and where the entries stand under them (`stands`), or answers the first fault (`err`) and leaves the counts as they were
+//!   (`same`).
 //! - [`Layout::needed`] takes only the counts that a reference reads: those of the tables that stand before its entry, are it, hold it, stand
 //!   beneath it or beneath a table that holds it, but not those that it is spared where it receives; the other tables have their greatest number
 //!   (`ok`, `err`, `same`).
-//! - [`Layout::places_of`] takes all counts of a record's bytes and where its entries stand under them, in one walk and with no memory, into
-//!   [`Places`] that [`Layout::new_places`] made (`ok`), or answers the first fault (`err`). In them [`Layout::place_in`] finds a reference by
-//!   its number and its subscripts alone, with the answer of [`Layout::place`] under these counts (`value`, `current`, `fits`), and
-//!   [`Layout::length_in`] is that of [`Layout::length`]; [`Places::spots`] are where the first elements of all entries stand, and
-//!   [`Layout::greatest_spots`] those under the greatest counts. [`Layout::fixed_place`] does so for a reference that reads no count (`fixed`,
-//!   `value`, `none`), and [`Layout::spares_none`] says whether a reference is spared none (`must`, `only`), so that all counts give it its
-//!   place. [`Layout::keeps_counts`] says whether a place meets the item of no count (`must`, `only`); where it meets none, its bytes may change
-//!   and the counts stay (`keeps`).
+//! - [`Layout::place_in`] finds a reference by its number, its subscripts and the spots of the counts alone, with the answer of [`Layout::place`]
+//!   (`value`, `current`, `fits`), and [`Layout::length_in`] is that of [`Layout::length`]; [`Counts::spots`] are where the first elements of all entries
+//!   stand, and [`Layout::greatest_spots`] those under the greatest counts. [`Layout::fixed_place`] does so for a reference that reads no count
+//!   (`fixed`, `value`, `none`).
+//! - [`Layout::refresh`] answers and sets as [`Layout::needed`] does (`ok`, `err`, `same`, `stands`), but reads only those counts that are not kept, and
+//!   says how many these were, the one that is refused among them (`reads`); then the counts that it read are kept (`kept`), and what is kept is so of
+//!   the bytes (`keeps`). [`Layout::wrote`] says that a place was written: none is kept any more where it meets the item of a count that is kept
+//!   (`drops`), and else what is kept is so of the new bytes too (`keeps`). [`Counts::forget`] forgets what is kept (`forgotten`).
 //! - [`Layout::kind`] is what the entry with a number describes.
 //! - The bytes of a storage say one thing of all counts and of those that are needed ([`one_outcome_of_counts`]). Where all are valid, those
 //!   that are needed are, and the place is that under all counts, but for the tables that the reference is spared, which have their greatest
@@ -47,11 +49,11 @@
 //!   stays (`writes`).
 //!
 //! The definitions: `CountsOf`, `NeededOf` and `AreGreatest` of specs/Counting.antt, `placed` of specs/Placed.antt, `ArePlaces`, `StandsIn`,
-//! `KeepsCounts`, `MeetsNoCount` and `SparesNone` of specs/Standing.antt, those of the laws of specs/Laws.antt and specs/Kept.antt, and what they name of `cob_copybook`
+//! `KeepsOf` and `written` of specs/Standing.antt, `TakenAnew` and `AreKeptOf` of specs/Kept.antt, those of the laws of specs/Laws.antt, and what they name of `cob_copybook`
 //! (`TakeBytes`) and of `cob_layout_places`, which has the arithmetic of lengths and places. What holds of every record description is the law
 //! [`records_are_sound`] (specs/Sound.antt). The bytes of a [`Place`] are read through [`field`] and written through [`field_mut`], which
 //! changes these bytes and no other (specs/Fields.antt).
-//! Only [`Layout::of`], [`Layout::new_counts`] and [`Layout::new_places`] take memory.
+//! Only [`Layout::of`] and [`Layout::new_counts`] take memory.
 #![tactic(auto)]
 
 mod copy;
@@ -63,6 +65,7 @@ mod laws;
 mod layout;
 mod places;
 mod reads;
+mod refreshing;
 mod sound;
 mod spots;
 mod taking;
@@ -75,13 +78,12 @@ pub use cob_copybook::{
 pub use cob_layout_places::{
     CountFault, Ref, Spot, is_number_item, is_table, read_number, tables, times_of,
 };
-pub use counts::Counts;
+pub use counts::{Counts, StoredCount};
 pub use fields::{Place, field, field_mut};
 pub use laws::{
     all_give_needed, fits_ref, kept_give_needed, one_outcome_of_counts, one_place_by_needs,
     places_end_in_length, places_lie_in_storage, redefinitions_begin_with_area,
 };
 pub use layout::{Layout, PlaceFault};
-pub use places::Places;
 pub use sound::records_are_sound;
 pub use ways::{Tables, with_own};

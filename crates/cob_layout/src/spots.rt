@@ -1,6 +1,6 @@
 //! The spots of a record's entries, and elements that subscripts move from them.
 
-ghost use Rattle.std.specs.Prelude.{◌≡◌, ◌+◌, ◌-◌, ◌*◌, ◌≤◌, ◌&&◌, nat_le, length, drop, IfOk};
+ghost use Rattle.std.specs.Prelude.{◌≡◌, ◌+◌, ◌-◌, ◌*◌, ◌≤◌, ◌&&◌, nat_le, length, drop, IfOk, IsTrue};
 ghost use Rattle.cob_copybook_tree.specs.Forests.{entries_in};
 ghost use Rattle.cob_copybook_tree.specs.Nodes.{tree_of};
 ghost use Rattle.cob_limits.specs.Limits.{longest_record};
@@ -36,6 +36,30 @@ pub(crate) fn put_all_spots(root: &Node, counts: &[u32], spots: &mut [Spot])
     ensures { spots.new ≡ spots_of (times counts.now) (tree_of root.now) 0 0 }
 {
     put_spots(root, counts, 0, spots);
+}
+
+/// Lets a record stand under the next counts, in place of those that were taken. Where the entries stand at the spots under the taken ones, and these
+/// are the next ones, it stays as it is.
+pub(crate) fn stand_under(
+    root: &Node,
+    next: &[u32],
+    stands: bool,
+    taken: &mut [u32],
+    spots: &mut [Spot],
+)
+    requires fit { FitsInRecord 0 (tree_of root.now) }
+    requires counts { length taken.old ≡ length next.now }
+    requires room { length spots.old ≡ entries_in (tree_of root.now) }
+    requires stands { IsTrue stands → spots.old
+        ≡ spots_of (times taken.old) (tree_of root.now) 0 0 }
+    ensures counts { taken.new ≡ next.now }
+    ensures spots { spots.new ≡ spots_of (times next.now) (tree_of root.now) 0 0 }
+{
+    if stands && *taken == *next {
+        return;
+    }
+    taken.copy_from_slice(next);
+    put_all_spots(root, next, spots);
 }
 
 /// The spots of a record under these counts, one for each entry.

@@ -9,7 +9,7 @@ ghost use Rattle.cob_map_record.specs.Showing.{ArePlacesShown, FindsShown, Finds
 
 use crate::record::{Found, converted_record};
 use cob_convert_record::{Conversion, Room};
-use cob_layout::{Layout, Places};
+use cob_layout::{Counts, Layout};
 use cob_records::Source;
 use cob_stream::RunFault;
 use std::alloc::{AllocError, Global};
@@ -24,9 +24,9 @@ pub struct Shown {
     /// The bytes of what it becomes.
     pub output: Vec<u8>,
     /// Where its entries stand.
-    pub from: Places,
+    pub from: Counts,
     /// Where the entries of what it becomes stand.
-    pub to: Places,
+    pub to: Counts,
 }
 
 /// Why no record is shown.
@@ -52,13 +52,13 @@ impl From<AllocError> for NotShown {
 }
 
 /// The places of a record that has these bytes. In form f its counts need not be valid: then each table has its greatest number of elements.
-fn places_in(alloc: Global, layout: &Layout, bytes: &[u8]) -> Result<Places, AllocError>
+fn places_in(alloc: Global, layout: &Layout, bytes: &[u8]) -> Result<Counts, AllocError>
     ensures { IfOk result (ArePlacesShown layout.now bytes.now) }
 {
-    let mut places = layout.new_places(alloc)?;
-    match layout.places_of(bytes, &mut places) {
+    let mut places = layout.new_counts(alloc)?;
+    match layout.counts_of(bytes, &mut places) {
         Ok(()) => Ok(places),
-        Err(_) => layout.new_places(alloc),
+        Err(_) => layout.new_counts(alloc),
     }
 }
 

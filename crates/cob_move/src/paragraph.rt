@@ -146,11 +146,11 @@ pub fn apply(
         (both in_layout.now out_layout.now) paragraph.now }
     requires input { IsStorage in_layout.now input.now }
     requires output { length output.old ≡ greatest_length out_layout.now }
-    requires room { scratch.old ≡ room_of
+    requires room { scratch.old.room ≡ room_of
         (both in_layout.now out_layout.now) }
     ensures applied { let r : Records = both in_layout.now out_layout.now in
         Applied r (moves_in r paragraph.now) input.now output.old (ending result output.new) }
-    ensures room { scratch.new ≡ scratch.old }
+    ensures room { scratch.new.room ≡ scratch.old.room }
 {
     paragraph
         .moves

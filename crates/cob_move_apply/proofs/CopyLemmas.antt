@@ -1,5 +1,5 @@
 -- Copies that meet on both sides are one copy.
-use Rattle.std.proofs.Common.{◌≡◌, ℕ, ◌+◌, ◌≤◌, true, false, List, [], ◌∷◌, ◌++◌, length, take, drop, refl, sym, ap, subst, ◌∙◌, arith, append_assoc, inl, Ok, Some, take-add, drop-drop, length-append, length-take-le, length-drop}
+use Rattle.std.proofs.Common.{◌≡◌, ℕ, ◌+◌, ◌≤◌, true, false, List, [], ◌∷◌, ◌++◌, length, take, drop, refl, sym, ap, subst, ◌∙◌, arith, append_assoc, inl, Some, take-add, drop-drop, length-append, length-take-le, length-drop}
 use Rattle.std.proofs.lemmas.List.{take-append-drop}
 use Rattle.std.proofs.Math.Seq.{take-append_seam, drop-append_seam}
 use Rattle.cob_codec.specs.declared.reading.Reading.{Reading}
@@ -7,12 +7,11 @@ use Rattle.cob_copybook.specs.Books.{IsRecordDescription}
 use Rattle.cob_copybook_tree.specs.Forests.{Forest}
 use Rattle.cob_copybook_tree.specs.Nodes.{Resolved}
 use Rattle.cob_layout.specs.declared.fields.Place.{Place}
-use Rattle.cob_layout.specs.Counting.{CountsOf, greatest_counts}
 use Rattle.cob_layout.specs.Fields.{field_of, with_field}
 use Rattle.cob_layout.specs.Laws.{LieInStorage}
 use Rattle.cob_layout.specs.Storage.{greatest_length, IsStorage}
 use Rattle.cob_layout.proofs.KeepLaw.{as_many_with}
-use Rattle.cob_layout_places.specs.Counts.{Taken, tables_of}
+use Rattle.cob_layout_places.specs.Counts.{tables_of}
 use Rattle.cob_layout_places.specs.declared.operands.Side.TheVariants.{In, Out}
 use Rattle.cob_layout_places.specs.declared.operands.Operand.{Operand}
 use Rattle.cob_layout_places.specs.declared.varying.Table.{Table}
@@ -22,12 +21,11 @@ use Rattle.cob_move_receive.specs.Received.{Received}
 use Rattle.cob_move_receive.specs.Sent as sent
 use Rattle.cob_move_apply.specs.Applied.{Applied, content_at, done}
 use Rattle.cob_move_apply.specs.Placed.{IsFixed}
-use Rattle.cob_move_apply.specs.Surveyed.{IsKnown, IsSurvey}
+use Rattle.cob_move_apply.specs.Surveyed.{IsSurvey}
 use Rattle.cob_move_apply.specs.Written.{AreCopied, IsBoth, LeavesCounts}
-use Rattle.cob_move_apply.specs.declared.survey.Known.{Known}
-use Rattle.cob_move_apply.specs.declared.survey.Known.TheVariants as known
 use Rattle.cob_move_apply.specs.declared.survey.Survey.{Survey}
-use Rattle.cob_layout.specs.Standing.{Standing}
+use Rattle.cob_layout.specs.declared.counts.StoredCount.{StoredCount}
+use Rattle.cob_layout.specs.Kept.{AreKeptOf, IsKeptAs}
 use Rattle.cob_move_apply.proofs.CutLemmas.{applied_both}
 
 -- ---- bytes
@@ -75,12 +73,17 @@ as_long p bytes within = length-take-le p.length (drop p.offset bytes) (omega (a
 
 -- where no table varies, there are no counts
 pub no_counts : (t : Forest Resolved) (p : Place) → tables_of t ≡ [] → LeavesCounts t p
-no_counts t p none counts before field fits long taken =
-    subst (λ (xs : List Table). Taken t (with_field before p field) xs (greatest_counts t) (Ok counts)) (sym none)
-    (subst (λ (xs : List Table). Taken t before xs (greatest_counts t) (Ok counts)) none taken)
+no_counts t p none ks before field fits long kept = record {
+  numbers = λ x k is. absurd (nowhere x k is);
+  items = λ x k is. absurd (nowhere x k is);
+  closed = λ x y k is i le. absurd (nowhere x k is);
+}
+  where
+    nowhere : (x : Table) (k : StoredCount) → IsKeptAs x k (tables_of t) ks → ⊥
+    nowhere x k is = subst (λ (xs : List Table). IsKeptAs x k xs ks) none is
 
 leaves_both : (t : Forest Resolved) (p q both : Place) → IsBoth p q both → LeavesCounts t p → LeavesCounts t q → LeavesCounts t both
-leaves_both t p q both is one other counts before field fits long taken =
+leaves_both t p q both is one other ks before field fits long kept =
     let x : List ℕ = take p.length field in
     let y : List ℕ = drop p.length field in
     let x_long : length x ≡ p.length = length-take-le p.length field (omega (arith, long, is.length)) in
@@ -88,22 +91,16 @@ leaves_both t p q both is one other counts before field fits long taken =
     let p_fits : p.offset + p.length ≤ length before = omega (arith, fits, is.length, is.offset) in
     let q_fits : q.offset + q.length ≤ length (with_field before p x) =
     omega (arith, fits, is.length, is.offset, is.meets, as_many_with p before x p_fits x_long) in
-    let then : CountsOf t (with_field (with_field before p x) q y) (Ok counts) =
-    other counts (with_field before p x) y q_fits y_long (one counts before x p_fits x_long taken) in
-    subst (λ (b : List ℕ). CountsOf t b (Ok counts))
+    let then : AreKeptOf t (with_field (with_field before p x) q y) ks =
+    other ks (with_field before p x) y q_fits y_long (one ks before x p_fits x_long kept) in
+    subst (λ (b : List ℕ). AreKeptOf t b ks)
     (both_written p q both before x y is (omega (arith, p_fits)) x_long ∙ ap (with_field before both) (take-append-drop p.length field)) then
 
--- what is known of a storage stays
-known_left : (t : Forest Resolved) (before field : List ℕ) (p : Place) (k : Known) (places : Standing) → LeavesCounts t p → p.offset + p.length ≤ length before → length field ≡ p.length
-    → IsKnown t before k places → IsKnown t (with_field before p field) k places
-known_left t before field p known.Nothing places leaves fits long h = tt
-known_left t before field p known.Places places leaves fits long (counts, taken, are) = (counts, leaves counts before field fits long taken, are)
-known_left t before field p known.Fault places leaves fits long h = tt
-
+-- what is kept of a storage stays
 pub survey_left : (t : Forest Resolved) (before field : List ℕ) (p : Place) (s : Survey) → LeavesCounts t p → p.offset + p.length ≤ length before → length field ≡ p.length
     → IsSurvey t before s → IsSurvey t (with_field before p field) s
 survey_left t before field p s leaves fits long is = record {
-  known = known_left t before field p s.known s.places leaves fits long is.known;
+  kept = (leaves s.counts.kept before field fits long is.kept.0, is.kept.1);
   room = is.room;
 }
 

@@ -1,5 +1,5 @@
 -- Where operands stand.
-use Rattle.std.proofs.Common.{◌≡◌, ℕ, ◌+◌, ◌≤◌, [], ◌==◌, Bool, true, false, List, refl, ap, subst, ◌∙◌, Option, Some, None, inr, Ok, Err, Result}
+use Rattle.std.proofs.Common.{◌≡◌, ℕ, ◌+◌, ◌≤◌, [], ◌==◌, Bool, true, false, List, refl, ap, subst, ◌∙◌, Option, Some, None, Ok}
 use Rattle.std.specs.Prelude.{option_map}
 use Rattle.cob_copybook_tree.specs.declared.node.Item.{Item}
 use Rattle.cob_copybook_tree.specs.declared.node.Kind.{Kind}
@@ -14,19 +14,14 @@ use Rattle.cob_layout_places.specs.Counts.{kind_in}
 use Rattle.cob_layout.proofs.CountLemmas.{found_size, pairs_in}
 use Rattle.cob_layout.specs.Placed.{placed}
 use Rattle.cob_layout.proofs.StorageLemmas.{found_by}
-use Rattle.cob_copybook.specs.Books.{IsRecordDescription}
-use Rattle.cob_layout.specs.declared.layout.PlaceFault.{PlaceFault}
-use Rattle.cob_layout.specs.Counting.{greatest_counts, NeededOf, ReadsNone}
-use Rattle.cob_layout.specs.Laws.{AllGiveNeeded}
-use Rattle.cob_layout.specs.Standing.{ArePlaces, SparesNone, Standing, StandsIn}
+use Rattle.cob_layout.specs.Counting.{greatest_counts, ReadsNone}
 use Rattle.cob_layout.specs.Storage.{greatest_length}
 use Rattle.cob_layout_places.specs.declared.operands.Side.{Side}
 use Rattle.cob_layout_places.specs.declared.operands.Operand.{Operand}
 use Rattle.cob_layout_places.specs.Moves.{IsOperand}
 use Rattle.cob_move_apply.specs.declared.basis.Basis.{Basis}
 use Rattle.cob_move_apply.specs.declared.basis.Basis.TheVariants as basis
-use Rattle.cob_move_apply.specs.declared.stop.StopCause.TheVariants.{Subscript}
-use Rattle.cob_move_apply.specs.Located.{Located, StandsUnder, stop_at}
+use Rattle.cob_move_apply.specs.Located.{Located, StandsUnder}
 use Rattle.cob_move_apply.specs.Placed.{IsFixed, IsPlaced, IsBasis}
 use Rattle.cob_layout.specs.Sound.{IsSound, IsStorableKind, AreStorable}
 use Rattle.cob_move_receive.specs.Sent.{Occupies}
@@ -71,29 +66,6 @@ filled_at side t receiving o bytes p sound is (counts, needs, stands) =
 
 pub fixed_in : (t : Forest Resolved) (receiving : Bool) (o : Operand) (b : Basis) (p : Place) → IsPlaced t receiving o b → b ≡ basis.Fixed p → IsFixed t receiving o p
 fixed_in t receiving o b p is e = subst (IsBasis t receiving o) e is.basis
-
--- where all counts of a storage are valid, and the operand is spared none
-pub under_all : AllGiveNeeded → (t : Forest Resolved) (receiving : Bool) (o : Operand) (bytes : List ℕ) (places : Standing) (there : Result Place PlaceFault)
-    → IsRecordDescription t → IsOperand t o → SparesNone t o.entry.node receiving → StandsIn t bytes places
-    → ((counts : List ℕ) → ArePlaces t counts places → StandsUnder t o counts there)
-    → (d : List ℕ) × NeededOf t o.entry.node receiving bytes (Ok d) × StandsUnder t o d there
-under_all law t receiving o bytes places there is_record is spared (counts, taken, are) stands =
-    let (d, needed, same) = law t bytes counts o.entry.node receiving o.entry.subscripts.items [] is_record is.refers taken spared in
-    (d, needed, ap (option_map placed) same ∙ stands counts are)
-
-pub at_counts : AllGiveNeeded → (side : Side) (t : Forest Resolved) (receiving : Bool) (o : Operand) (bytes : List ℕ) (places : Standing) (p : Place)
-    → IsRecordDescription t → IsOperand t o → SparesNone t o.entry.node receiving → StandsIn t bytes places
-    → ((counts : List ℕ) → ArePlaces t counts places → StandsUnder t o counts (Ok p))
-    → Located side t receiving o bytes (Ok p)
-at_counts law side t receiving o bytes places p is_record is spared stands under = under_all law t receiving o bytes places (Ok p) is_record is spared stands under
-
-pub past_counts : AllGiveNeeded → (side : Side) (t : Forest Resolved) (receiving : Bool) (o : Operand) (bytes : List ℕ) (places : Standing) (f : PlaceFault)
-    → IsRecordDescription t → IsOperand t o → SparesNone t o.entry.node receiving → StandsIn t bytes places
-    → ((counts : List ℕ) → ArePlaces t counts places → StandsUnder t o counts (Err f))
-    → Located side t receiving o bytes (Err (stop_at side f.offset Subscript))
-past_counts law side t receiving o bytes places f is_record is spared stands under =
-    let (d, needed, there) = under_all law t receiving o bytes places (Err f) is_record is spared stands under in
-    inr (d, f, needed, there, refl)
 
 -- where no count is read
 pub fixed : (t : Forest Resolved) (receiving : Bool) (o : Operand) (p : Place) → ReadsNone t o.entry.node receiving → StandsUnder t o (greatest_counts t) (Ok p)

@@ -3,7 +3,6 @@ use Rattle.std.specs.Prelude.{ℕ, ◌+◌, ◌≤◌, Bool, true, false, List, 
 use Rattle.cob_copybook_tree.specs.Forests.{Forest}
 use Rattle.cob_copybook_tree.specs.Nodes.{Resolved}
 use Rattle.cob_layout.specs.declared.fields.Place.{Place}
-use Rattle.cob_layout.specs.Standing.{SparesNone}
 use Rattle.cob_layout.specs.Storage.{greatest_length}
 use Rattle.cob_layout_places.specs.declared.operands.Side.{Side}
 use Rattle.cob_layout_places.specs.declared.operands.Operand.{Operand}
@@ -24,12 +23,10 @@ pub record IsFixed (tree : Forest Resolved) (receiving : Bool) (o : Operand) (p 
   pub place : (side : Side) (bytes : List ℕ) → Located side tree receiving o bytes (Ok p)
   pub within : p.offset + p.length ≤ greatest_length tree
 
--- An operand's place, sending or receiving, may rest on this: on no count where it is noted and the same in every storage; on all counts where the
--- operand is spared none; and on those that it needs.
+-- An operand's place, sending or receiving, may rest on this: on no count where it is noted and the same in every storage; and on those that it needs.
 abbrev pub IsBasis : Forest Resolved → Bool → Operand → Basis → Type 0
 IsBasis tree receiving o (basis.Fixed p) = IsFixed tree receiving o p
-IsBasis tree receiving o basis.AllCounts = SparesNone tree o.entry.node receiving
-IsBasis tree receiving o basis.NeededCounts = Unit {0}
+IsBasis tree receiving o basis.Counted = Unit {0}
 
 -- an operand of the record, with what its place rests on
 pub record IsPlaced (tree : Forest Resolved) (receiving : Bool) (o : Operand) (b : Basis) : Type 0 where

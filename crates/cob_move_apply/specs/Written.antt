@@ -1,5 +1,5 @@
 -- What moves write at a place that is the same in every storage, and how a single move between two such places ends.
-use Rattle.std.specs.Prelude.{◌≡◌, ℕ, ◌+◌, ◌≤◌, List, length, Ok, Option, Some, None}
+use Rattle.std.specs.Prelude.{◌≡◌, ℕ, ◌+◌, ◌≤◌, List, length, Option, Some, None}
 use Rattle.cob_codec.specs.declared.reading.Reading.{Reading}
 use Rattle.cob_codec.specs.declared.reading.Reading.TheVariants.{Pictured}
 use Rattle.cob_copybook_tree.specs.declared.node.Kind.{Kind}
@@ -8,7 +8,8 @@ use Rattle.cob_copybook_tree.specs.Nodes.{Resolved}
 use Rattle.cob_entry.specs.Described.{PlainValue}
 use Rattle.cob_layout.specs.declared.fields.Place.{Place}
 use Rattle.cob_layout.specs.Fields.{field_of, with_field}
-use Rattle.cob_layout.specs.Counting.{CountsOf}
+use Rattle.cob_layout.specs.Kept.{AreKeptOf}
+use Rattle.cob_layout.specs.declared.counts.StoredCount.{StoredCount}
 use Rattle.cob_layout.specs.Storage.{greatest_length, IsStorage}
 use Rattle.cob_layout_places.specs.declared.operands.Side.TheVariants.{In}
 use Rattle.cob_layout_places.specs.Moves.{Move, Records}
@@ -20,10 +21,10 @@ use Rattle.cob_move_apply.specs.Located.{stop_at}
 use Rattle.cob_move_apply.specs.declared.step.MovePlaces.{MovePlaces}
 use Rattle.cob_move_apply.specs.declared.stop.StopCause.TheVariants.{NoValue}
 
--- Whatever bytes come to this place, the counts of a storage stay as they are.
+-- Whatever bytes come to this place, the counts that are kept of a storage stay its own.
 abbrev pub LeavesCounts : Forest Resolved → Place → Type 0
-LeavesCounts tree p = (counts before field : List ℕ) → p.offset + p.length ≤ length before → length field ≡ p.length
-    → CountsOf tree before (Ok counts) → CountsOf tree (with_field before p field) (Ok counts)
+LeavesCounts tree p = (ks : List (Option StoredCount)) (before field : List ℕ) → p.offset + p.length ≤ length before → length field ≡ p.length
+    → AreKeptOf tree before ks → AreKeptOf tree (with_field before p field) ks
 
 -- Moves write bytes at a place of the output record, which follow from the input alone: no other byte changes, and no count.
 pub record AreWritten (r : Records) (to : Place) (bytes : List ℕ → List ℕ) (ms : List Move) : Type 0 where

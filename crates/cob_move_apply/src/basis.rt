@@ -13,10 +13,8 @@ use cob_layout_places::Side;
 pub(crate) enum Basis {
     /// On no count: it is the same in every storage.
     Fixed(Place),
-    /// On all counts of the storage, of which the operand is spared none.
-    AllCounts,
-    /// On the counts that the operand needs.
-    NeededCounts,
+    /// On the counts of the storage that the operand needs.
+    Counted,
 }
 
 /// An operand, with what its place rests on.

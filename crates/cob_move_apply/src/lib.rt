@@ -20,8 +20,8 @@
 //! is carried out. Only moves whose sender no receiver changes are cut into their single moves (`IsMoveCut`), so that what the
 //! steps make of a storage is what the moves make.
 //!
-//! A place that depends on counts is found by all counts of the storage, where the operand is spared none of them and all are valid: they are
-//! taken once, and again only behind a receiver whose place meets the item of a count. Else it is found by those that the operand needs.
+//! A place that depends on counts is found by those that the operand needs. A count that was read is kept from move to move, and is read again only
+//! behind a receiver whose place meets the item of a kept one; [`Scratch::reads`] tells how many count items of the output record were read.
 //!
 //! It stands on cob_layout_places for moves as data, on cob_layout for places, counts and what holds of every record, on cob_move_receive
 //! for what one receiver gets, and on cob_move_prepared for single moves that are made ready. [`Moves::apply`] takes no memory: its room is a [`Scratch`].

@@ -140,12 +140,12 @@ impl Moves {
             (record { input = input_layout.now; output = output_layout.now }) self.now }
         requires input { IsStorage input_layout.now input.now }
         requires output { length output.old ≡ greatest_length output_layout.now }
-        requires room { scratch.old ≡ room_of
+        requires room { scratch.old.room ≡ room_of
             (record { input = input_layout.now; output = output_layout.now }) }
         ensures applied { Applied (record { input = input_layout.now; output = output_layout.now })
             (moves_of (record { input = input_layout.now; output = output_layout.now }) self.now)
             input.now output.old (ending result output.new) }
-        ensures room { scratch.new ≡ scratch.old }
+        ensures room { scratch.new.room ≡ scratch.old.room }
     {
         records_are_sound();
         let _ = input_layout.greatest();

@@ -26,13 +26,9 @@ fn basis_of(layout: &Layout, entry: &Ref, receiving: bool) -> Basis
     requires operand { IsOperand layout.now (operand_in layout.now entry.now) }
     ensures { IsBasis layout.now receiving (operand_in layout.now entry.now) result }
 {
-    if let Some(place) = layout.fixed_place(entry, receiving) {
-        return Basis::Fixed(place);
-    }
-    if layout.spares_none(entry, receiving) {
-        Basis::AllCounts
-    } else {
-        Basis::NeededCounts
+    match layout.fixed_place(entry, receiving) {
+        Some(place) => Basis::Fixed(place),
+        None => Basis::Counted,
     }
 }
 
@@ -44,7 +40,7 @@ fn sender_basis(given: &Sender, input: &Layout, output: &Layout) -> Basis
         (sender (record { input = input.now; output = output.now }) given.now) result }
 {
     match given {
-        Sender::Constant(_) => Basis::NeededCounts,
+        Sender::Constant(_) => Basis::Counted,
         Sender::Entry { side, entry } => match *side {
             Side::In => basis_of(input, entry, false),
             Side::Out => basis_of(output, entry, false),

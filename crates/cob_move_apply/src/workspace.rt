@@ -17,7 +17,7 @@ pub(crate) struct Layouts<'a> {
     pub(crate) reading: Reading,
 }
 
-/// What is known of both records' storages, and room for the bytes of a sender that lies in the output record.
+/// What is kept of both records' storages, and room for the bytes of a sender that lies in the output record.
 #[derive(Debug, Drop)]
 pub(crate) struct Workspace {
     pub(crate) input: Survey,
@@ -36,8 +36,9 @@ impl Workspace {
         input: &Layout,
         output: &Layout,
     ) -> Result<Workspace, AllocError>
-        ensures { IfOk result
+        ensures room { IfOk result
             (λ space. HasSpace (record { input = input.now; output = output.now }) space) }
+        ensures none { IfOk result (λ space. space.output.reads ≡ 0) }
     {
         let content = vec![in alloc; 0u8; output.greatest() as usize]?;
         Ok(Workspace {
@@ -47,7 +48,7 @@ impl Workspace {
         })
     }
 
-    /// Forgets what is known of the records before.
+    /// Forgets what is kept of the records before.
     pub(crate) fn forget(&mut self)
         ensures { (r : Records) (input output : List ℕ)
             → HasSpace r self.old → IsWorkspace r input output self.new }

@@ -1,12 +1,12 @@
 -- The room that single moves are carried out in.
 use Rattle.std.specs.Prelude.{◌≡◌, length}
-use Rattle.cob_copybook_tree.specs.Forests.{entries_in}
+use Rattle.cob_layout.specs.Standing.{IsRoomFor}
 use Rattle.cob_layout.specs.Storage.{greatest_length}
 use Rattle.cob_layout_places.specs.Moves.{Records}
 use Rattle.cob_move_each.specs.declared.room.EachRoom.{EachRoom}
 
--- there is room for a count of each entry of either record, and for the bytes of a sender that lies in the output record
+-- there is room for the counts of either record, and for the bytes of a sender that lies in the output record
 pub record HasEachRoom (r : Records) (room : EachRoom) : Type 0 where
-  pub inputs : length room.in_counts ≡ entries_in r.input
-  pub outputs : length room.out_counts ≡ entries_in r.output
+  pub inputs : IsRoomFor r.input room.in_counts
+  pub outputs : IsRoomFor r.output room.out_counts
   pub bytes : length room.content.items ≡ greatest_length r.output

@@ -2,9 +2,9 @@
 
 ghost use Rattle.std.specs.Prelude.{◌≡◌, [], ◌∷◌, length, map, IfErr, IfOk, OnErr, OnOk};
 ghost use Rattle.std.specs.List.{AllByRecursion};
-ghost use Rattle.cob_copybook_tree.specs.Forests.{entries_in};
 ghost use Rattle.cob_layout.specs.Sound.{IsSound};
 ghost use Rattle.cob_layout.specs.Storage.{greatest_length};
+ghost use Rattle.cob_layout.specs.Standing.{IsRoomFor};
 ghost use Rattle.cob_layout_places.specs.Moves.{IsOperand, operand_in};
 ghost use Rattle.cob_move_receive.specs.Sent.{HasAllBytes, sent};
 ghost use Rattle.cob_move_each.specs.Each.{GetsAt, LacksFor, asked_stop, each_ending, stop_of};
@@ -54,13 +54,13 @@ fn receive_one(
     requires given { HasAllBytes (sent given.now.sent) }
     requires operand { IsOperand layout.now (operand_in layout.now entry.now) }
     requires output { length output.old ≡ greatest_length layout.now }
-    requires room { length counts.old ≡ entries_in layout.now }
+    requires room { IsRoomFor layout.now counts.old }
     ensures gets { IfOk result
         (λ p. GetsAt layout.now (given_content given.now) entry.now output.old p output.new) }
     ensures lacks { IfErr result
         (LacksFor layout.now (given_content given.now) entry.now output.old) }
     ensures same { OnErr result (output.new ≡ output.old) }
-    ensures room { length counts.new ≡ length counts.old }
+    ensures room { IsRoomFor layout.now counts.new }
 {
     let stored = Stored {
         side: Side::Out,
@@ -108,13 +108,13 @@ fn give_one<W: Watcher>(
     requires given { HasAllBytes (sent given.now.sent) }
     requires operand { IsOperand layout.now (operand_in layout.now entry.now) }
     requires output { length output.old ≡ greatest_length layout.now }
-    requires room { length counts.old ≡ entries_in layout.now }
+    requires room { IsRoomFor layout.now counts.old }
     ensures gives { OnOk result (HandsOut layout.now parts.now index given.now entry.now output.old output.new
         (W.seen watcher.old) (W.seen watcher.new)) }
     ensures stops { IfErr result (StopsAtReceiver layout.now parts.now index given.now entry.now output.old) }
     ensures same { OnErr result (output.new ≡ output.old) }
     ensures unseen { OnErr result (W.seen watcher.new ≡ W.seen watcher.old) }
-    ensures room { length counts.new ≡ length counts.old }
+    ensures room { IsRoomFor layout.now counts.new }
 {
     match receive_one(layout, given, entry, output, counts) {
         Ok(place) => {
@@ -154,10 +154,10 @@ pub(crate) fn give_all<W: Watcher>(
     requires receivers { AllByRecursion (IsOperand layout.now)
         (map (operand_in layout.now) parts.now.receivers.now) }
     requires output { length output.old ≡ greatest_length layout.now }
-    requires room { length counts.old ≡ entries_in layout.now }
+    requires room { IsRoomFor layout.now counts.old }
     ensures seen { SeesSingles layout.now parts.now given.now output.old (each_ending result output.new)
         (W.seen watcher.old) (W.seen watcher.new) }
-    ensures room { length counts.new ≡ length counts.old }
+    ensures room { IsRoomFor layout.now counts.new }
 {
     for (index, entry) in parts.receivers.iter().enumerate() {
         give_one(layout, parts, given, index, entry, output, counts, watcher)?;

@@ -1,9 +1,9 @@
 //! Where operands stand.
 
 ghost use Rattle.std.specs.Prelude.{◌≡◌, ◌+◌, ◌≤◌, length, IfOk};
-ghost use Rattle.cob_copybook_tree.specs.Forests.{entries_in};
 ghost use Rattle.cob_layout.specs.Sound.{IsSound};
 ghost use Rattle.cob_layout.specs.Storage.{greatest_length};
+ghost use Rattle.cob_layout.specs.Standing.{IsRoomFor};
 ghost use Rattle.cob_layout_places.specs.Moves.{IsOperand, operand_in};
 ghost use Rattle.cob_move_receive.specs.Sent.{Occupies};
 ghost use Rattle.cob_move_apply.specs.Located.{Located};
@@ -43,14 +43,14 @@ pub(crate) fn locate(
     requires sound { IsSound stored.now.layout.now }
     requires operand { IsOperand stored.now.layout.now
         (operand_in stored.now.layout.now entry.now) }
-    requires room { length counts.old ≡ entries_in stored.now.layout.now }
+    requires room { IsRoomFor stored.now.layout.now counts.old }
     ensures located { Located stored.now.side stored.now.layout.now receiving
         (operand_in stored.now.layout.now entry.now) stored.now.bytes.now result }
     ensures fits { IfOk result
         (λ p. p.offset + p.length ≤ greatest_length stored.now.layout.now) }
     ensures filled { IfOk result
         (λ p. Occupies (operand_in stored.now.layout.now entry.now).kind p.length) }
-    ensures room { length counts.new ≡ length counts.old }
+    ensures room { IsRoomFor stored.now.layout.now counts.new }
 {
     let layout = stored.layout;
     if let Err(fault) = layout.needed(entry, receiving, stored.bytes, counts) {

@@ -1,7 +1,7 @@
 //! What rows ask about: an element of a record under counts.
 
 ghost use Rattle.std.specs.Prelude.{◌≡◌, length, IfOk};
-ghost use Rattle.cob_copybook_tree.specs.Forests.{entries_in};
+ghost use Rattle.cob_layout.specs.Standing.{IsRoomFor};
 
 use crate::books::{book_of, reference_of};
 use crate::counted::{Counted, counts_for, legal, take};
@@ -33,7 +33,7 @@ pub(crate) fn question(
     place: usize,
     counted: &Counted,
 ) -> Result<Asked, Refusal>
-    ensures room { IfOk result (λ a. length a.counts ≡ entries_in a.layout) }
+    ensures room { IfOk result (λ a. IsRoomFor a.layout a.counts) }
 {
     let (layout, reference) = element(alloc, row, place)?;
     let counts = counts_for(alloc, &layout, Some(&reference), counted)?;
@@ -46,7 +46,7 @@ pub(crate) fn question(
 
 /// Takes counts anew.
 pub(crate) fn take_again(asked: &mut Asked, counted: &Counted) -> Result<(), Refusal>
-    requires room { length asked.old.counts ≡ entries_in asked.old.layout }
+    requires room { IsRoomFor asked.old.layout asked.old.counts }
 {
     let Asked {
         layout,

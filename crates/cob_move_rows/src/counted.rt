@@ -1,8 +1,8 @@
 //! How the counts are taken under which a row asks.
 
 ghost use Rattle.std.specs.Prelude.{◌≡◌, length, IfOk};
-ghost use Rattle.cob_copybook_tree.specs.Forests.{entries_in};
 ghost use Rattle.cob_layout_places.specs.References.{Refers};
+ghost use Rattle.cob_layout.specs.Standing.{IsRoomFor};
 
 use crate::refusal::Refusal;
 use cob_layout::{Counts, Layout};
@@ -72,8 +72,8 @@ fn take_needed(
     bytes: &[u8],
     counts: &mut Counts,
 ) -> Result<(), Refusal>
-    requires room { length counts.old ≡ entries_in layout.now }
-    ensures room { length counts.new ≡ length counts.old }
+    requires room { IsRoomFor layout.now counts.old }
+    ensures room { IsRoomFor layout.now counts.new }
 {
     let Some(reference) = reference else {
         return Err(Refusal::Row(RowFault::BadRow));
@@ -89,8 +89,8 @@ pub(crate) fn take(
     counted: &Counted,
     counts: &mut Counts,
 ) -> Result<(), Refusal>
-    requires room { length counts.old ≡ entries_in layout.now }
-    ensures room { length counts.new ≡ length counts.old }
+    requires room { IsRoomFor layout.now counts.old }
+    ensures room { IsRoomFor layout.now counts.new }
 {
     let bytes = counted.bytes.as_slice();
     match counted.which {
@@ -108,7 +108,7 @@ pub(crate) fn counts_for(
     reference: Option<&Ref>,
     counted: &Counted,
 ) -> Result<Counts, Refusal>
-    ensures room { IfOk result (λ counts. length counts ≡ entries_in layout.now) }
+    ensures room { IfOk result (IsRoomFor layout.now) }
 {
     let mut counts = layout.new_counts(alloc)?;
     take(layout, reference, counted, &mut counts)?;

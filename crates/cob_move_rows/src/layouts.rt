@@ -12,7 +12,7 @@
 //! - `kept`, record, its bytes, counts, element: the fault of the counts, and the length and the place under those of the bytes.
 
 ghost use Rattle.std.specs.Prelude.{◌≡◌, length, IfOk};
-ghost use Rattle.cob_copybook_tree.specs.Forests.{entries_in};
+ghost use Rattle.cob_layout.specs.Standing.{IsRoomFor};
 
 use crate::asked::{Asked, placed, question, take_again};
 use crate::books::layout_of;
@@ -123,7 +123,7 @@ fn push_kept(out: &mut String, asked: &Asked) -> Result<(), RowFault> {
 
 /// The question of a row about the element that its last field names, under the counts of a first record.
 fn asked_first(alloc: Global, row: &Row) -> Result<Asked, Refusal>
-    ensures room { IfOk result (λ a. length a.counts ≡ entries_in a.layout) }
+    ensures room { IfOk result (λ a. IsRoomFor a.layout a.counts) }
 {
     let first = Counted {
         which: Which::All,

@@ -1,10 +1,11 @@
 //! Whether a record that came is one of its layout.
 
 ghost use Rattle.std.specs.Prelude.{◌≡◌, ℕ, List, length, Err, IfErr, IsFalse, IsTrue, OnOk};
-ghost use Rattle.cob_copybook_tree.specs.Forests.{Forest, entries_in};
+ghost use Rattle.cob_copybook_tree.specs.Forests.{Forest};
 ghost use Rattle.cob_copybook_tree.specs.Nodes.{Resolved};
 ghost use Rattle.cob_layout.specs.Counting.{CountsOf};
 ghost use Rattle.cob_layout.specs.Storage.{greatest_length};
+ghost use Rattle.cob_layout.specs.Standing.{IsRoomFor};
 ghost use Rattle.cob_records.specs.Frame.{IsRecord};
 ghost use Rattle.cob_records.specs.declared.records.Form.TheVariants.{Variable};
 ghost use Rattle.cob_stream.specs.Sizes.{IsFitting, IsMeasureFault, IsSized};
@@ -38,15 +39,15 @@ fn measure_fault_of(fault: CountFault) -> MeasureFault
 
 /// Whether a record has the length that its own counts give.
 fn measure_current(layout: &Layout, input: &[u8], counts: &mut Counts) -> Result<(), MeasureFault>
-    requires room { length counts.old ≡ entries_in layout.now }
+    requires room { IsRoomFor layout.now counts.old }
     ensures sized { OnOk result (IsSized Variable layout.now input.now) }
     ensures misfit { IfErr result (λ why. IsMeasureFault Variable layout.now input.now why) }
-    ensures room { length counts.new ≡ length counts.old }
+    ensures room { IsRoomFor layout.now counts.new }
 {
     if let Err(fault) = layout.counts_of(input, counts) {
         return Err(measure_fault_of(fault));
     }
-    if input.len() == usize::from(layout.length(counts)) {
+    if input.len() == usize::from(layout.length_in(counts)) {
         Ok(())
     } else {
         Err(MeasureFault::Length)
@@ -78,10 +79,10 @@ pub fn measure(
     counts: &mut Counts,
 ) -> Result<(), MeasureFault>
     requires record { IsRecord form (greatest_length layout.now) input.now }
-    requires room { length counts.old ≡ entries_in layout.now }
+    requires room { IsRoomFor layout.now counts.old }
     ensures sized { OnOk result (IsSized form layout.now input.now) }
     ensures misfit { IfErr result (λ why. IsMeasureFault form layout.now input.now why) }
-    ensures room { length counts.new ≡ length counts.old }
+    ensures room { IsRoomFor layout.now counts.new }
 {
     match form {
         Form::Fixed => Ok(()),

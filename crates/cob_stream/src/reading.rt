@@ -1,8 +1,8 @@
 //! Reading a record and judging it.
 
 ghost use Rattle.std.specs.Prelude.{◌≡◌, false, length, IfErr, IfOk, IfSome};
-ghost use Rattle.cob_copybook_tree.specs.Forests.{entries_in};
 ghost use Rattle.cob_layout.specs.Storage.{greatest_length};
+ghost use Rattle.cob_layout.specs.Standing.{IsRoomFor};
 ghost use Rattle.cob_records.specs.Device.{Told, counted};
 ghost use Rattle.cob_records.specs.Forms.{HasBlockSize};
 ghost use Rattle.cob_stream.specs.Input.{IsInputReason, IsJudged, ReadsRecord};
@@ -32,7 +32,7 @@ pub fn read_record<R: Source>(
 ) -> Result<Option<usize>, Reason>
     requires block { HasBlockSize form }
     requires slot { length slot.old ≡ greatest_length layout.now }
-    requires room { length counts.old ≡ entries_in layout.now }
+    requires room { IsRoomFor layout.now counts.old }
 
     // Where the source tells its bytes: which of them were read, and what they are.
     ensures reads { Told (R.coming source.old) (R.coming source.new)
@@ -47,7 +47,7 @@ pub fn read_record<R: Source>(
     // A read failed exactly where that is the reason.
     ensures cause { R.failures source.new
         ≡ counted (is_refused_for is_read_cause result) (R.failures source.old) }
-    ensures room { length counts.new ≡ length counts.old }
+    ensures room { IsRoomFor layout.now counts.new }
 {
     let count = match next_in_form(source, form, layout.greatest(), slot, left) {
         Ok(None) => return Ok(None),

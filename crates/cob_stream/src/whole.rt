@@ -1,8 +1,8 @@
 //! Reading a record as it came, and judging it behind that.
 
 ghost use Rattle.std.specs.Prelude.{◌≡◌, false, length, IfErr, IfOk, IfSome, OnOk};
-ghost use Rattle.cob_copybook_tree.specs.Forests.{entries_in};
 ghost use Rattle.cob_layout.specs.Storage.{greatest_length};
+ghost use Rattle.cob_layout.specs.Standing.{IsRoomFor};
 ghost use Rattle.cob_records.specs.Device.{Told, counted};
 ghost use Rattle.cob_records.specs.Forms.{HasBlockSize};
 ghost use Rattle.cob_records.specs.Frame.{IsRecord};
@@ -60,10 +60,10 @@ pub fn next_whole<R: Source>(
 /// has another length than its counts give.
 pub fn judge(layout: &Layout, form: Form, input: &[u8], counts: &mut Counts) -> Result<(), Reason>
     requires record { IsRecord form (greatest_length layout.now) input.now }
-    requires room { length counts.old ≡ entries_in layout.now }
+    requires room { IsRoomFor layout.now counts.old }
     ensures sized { OnOk result (IsSized form layout.now input.now) }
     ensures misfit { IfErr result (IsMisfitReason form layout.now input.now) }
-    ensures room { length counts.new ≡ length counts.old }
+    ensures room { IsRoomFor layout.now counts.new }
 {
     match measure(layout, form, input, counts) {
         Ok(()) => Ok(()),

@@ -2,9 +2,9 @@
 
 ghost use Rattle.std.specs.Prelude.{◌≡◌, ◌<◌, ◌≤◌, true, length, take, Err, IfErr, IfOk, OnErr, OnOk, is_err};
 ghost use Rattle.cob_limits.specs.Limits.{longest_record};
-ghost use Rattle.cob_copybook_tree.specs.Forests.{entries_in};
 ghost use Rattle.cob_layout.specs.Counting.{CountsOf};
 ghost use Rattle.cob_layout.specs.Storage.{greatest_length};
+ghost use Rattle.cob_layout.specs.Standing.{IsRoomFor};
 ghost use Rattle.cob_records.specs.Device.{Took, counted};
 ghost use Rattle.cob_records.specs.Frame.{is_write_error, is_write_fault};
 ghost use Rattle.cob_records.specs.Forms.{FitsIn, emptied, pending_in, outlet_with, written_by};
@@ -27,20 +27,20 @@ pub fn written_length(
     counts: &mut Counts,
 ) -> Result<usize, CountFault>
     requires storage { length storage.now ≡ greatest_length layout.now }
-    requires room { length counts.old ≡ entries_in layout.now }
+    requires room { IsRoomFor layout.now counts.old }
     ensures size { IfOk result
         (λ made. (0 < made) × (made ≤ length storage.now) × (made ≤ longest_record)) }
     ensures written { IfOk result
         (λ made. IsOutputOf form layout.now storage.now (take made storage.now)) }
     ensures faulty { IfErr result (λ fault. CountsOf layout.now storage.now (Err fault)) }
-    ensures room { length counts.new ≡ length counts.old }
+    ensures room { IsRoomFor layout.now counts.new }
 {
     layout.counts_of(storage, counts)?;
     let greatest = layout.greatest();
     let made = match form {
         Form::Fixed => greatest,
-        Form::Variable => layout.length(counts),
-        Form::Blocked(_) => layout.length(counts),
+        Form::Variable => layout.length_in(counts),
+        Form::Blocked(_) => layout.length_in(counts),
     };
     Ok(usize::from(made))
 }

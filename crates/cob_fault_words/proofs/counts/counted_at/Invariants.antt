@@ -1,6 +1,5 @@
-use Rattle.std.proofs.Common.{◌≡◌, length}
-use Rattle.cob_copybook_tree.specs.Forests.{entries_in}
+use Rattle.cob_layout.specs.Standing.{IsRoomFor}
 use Rattle.cob_fault_words.proofs.counts.counted_at.Given as goal
 
 abbrev pub invariant-loop-table : goal.invariant-loop-table
-invariant-loop-table l = length l.counts ≡ entries_in l.layout
+invariant-loop-table l = IsRoomFor l.layout l.counts

@@ -22,7 +22,7 @@ loop-index-preserved g c = record {
       c.give_one.new.output (g.W.Watcher.seen c.args.watcher.now) (g.W.Watcher.seen c.loop-index.watcher) (g.W.Watcher.seen c.give_one.new.watcher) c.loop-index-test.true c.entry-item.is
       c.loop-index.invariant.seen c.in_ok-give_one.ensures.gives;
   output = c.give_one.auto.output ∙ c.loop-index.invariant.output;
-  room = c.in_ok-give_one.ensures.room ∙ c.loop-index.invariant.room;
+  room = c.in_ok-give_one.ensures.room;
 }
 
 pub returns-in_err-give_one-clause-seen : goal.returns-in_err-give_one-clause-seen

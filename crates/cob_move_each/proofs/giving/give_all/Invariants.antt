@@ -1,5 +1,5 @@
 use Rattle.std.proofs.Common.{◌≡◌, length}
-use Rattle.cob_copybook_tree.specs.Forests.{entries_in}
+use Rattle.cob_layout.specs.Standing.{IsRoomFor}
 use Rattle.cob_move_each.specs.Seen.{given_content, move_of}
 use Rattle.cob_move_each.proofs.EachLemmas.{SoFar}
 use Rattle.cob_move_each.proofs.giving.give_all.Given as goal
@@ -8,5 +8,5 @@ abbrev pub invariant-loop-index : goal.invariant-loop-index
 invariant-loop-index g l = record {
   seen : SoFar l.layout (move_of l.parts) (given_content l.given) l.parts.receivers.now l.index l.fn.output l.output (g.W.Watcher.seen l.fn.watcher) (g.W.Watcher.seen l.watcher);
   output : length l.output ≡ length l.fn.output;
-  room : length l.counts ≡ entries_in l.layout;
+  room : IsRoomFor l.layout l.counts;
 }

@@ -24,8 +24,8 @@ returns-clause-most c =
 
 pub returns-clause-covered : goal.returns-clause-covered
 returns-clause-covered c =
-    subst (λ t. IsCovered (times c.args.counts.now) t) c.self.view_is
-    (c.covering.ensures.covered (times c.args.counts.now) (tree_of c.self.inside.root) (c.covering.ensures.counted c.args.counts.now) c.self.invariant.1.numbered)
+    subst (λ t. IsCovered (times c.args.counts.now.counts) t) c.self.view_is
+    (c.covering.ensures.covered (times c.args.counts.now.counts) (tree_of c.self.inside.root) (c.covering.ensures.counted c.args.counts.now.counts) c.self.invariant.1.numbered)
 
 pub returns-clause-least : goal.returns-clause-least
 returns-clause-least c =

@@ -1,10 +1,12 @@
-use Rattle.std.proofs.Common.{rules, ◌≡◌, ap, ◌∙◌, length, arith, Err}
+use Rattle.std.proofs.Common.{rules, ◌≡◌, ap, ◌∙◌, length, arith, Err, None, replicate}
 use Rattle.std.specs.Prelude.{IfErr}
 use Rattle.std.proofs.lemmas.List.{length-replicate}
 use Rattle.cob_copybook_tree.specs.Forests.{entries_in}
 use Rattle.cob_copybook_tree.specs.Nodes.{node, tree_of}
 use Rattle.cob_layout_places.proofs.PlaceLemmas.{entry_fits}
-use Rattle.cob_layout.proofs.RecordLemmas.{number_below, slots_for}
+use Rattle.cob_layout.specs.Standing.{Standing, are_unkept}
+use Rattle.cob_layout.proofs.RefreshLemmas.{unkept}
+use Rattle.cob_layout.proofs.RecordLemmas.{number_below, room_entries, slots_for}
 use Rattle.cob_layout_places.specs.Counts.{tables_of, Taken}
 use Rattle.cob_layout_places.specs.Needs.{needed_tables}
 use Rattle.cob_layout.specs.Counting.{greatest_counts}
@@ -19,7 +21,7 @@ take_needed-requires-clause-slots c =
     let t = tree_of c.self.inside.root in
     let e = ap (λ u. entries_in u) c.self.view_is in
     let n : length c.deref_mut.result.now ≡ entries_in t
-    = omega (arith, e, ap length c.deref_mut.ensures.value, ap length (c.fill.ensures.items (λ y e. e)) ∙ length-replicate _ 0, c.counts.inside.next.ok.0, c.counts.invariant, ap length c.counts.view_is, c.requires.room) in
+    = omega (arith, e, ap length c.deref_mut.ensures.value, ap length (c.fill.ensures.items (λ y e. e)) ∙ length-replicate _ 0, c.counts.inside.next.ok.0, c.counts.invariant.1, ap (λ (s : Standing). length s.counts) c.counts.view_is, room_entries c.args.self.now c.args.counts.now c.requires.room) in
     slots_for t c.deref.result.now (length c.deref_mut.result.now) c.self.invariant.1 (c.deref.ensures.value ∙ c.self.invariant.2) n
 
 pub take_needed-requires-clause-there : goal.take_needed-requires-clause-there
@@ -27,7 +29,7 @@ take_needed-requires-clause-there c =
     let t = tree_of c.self.inside.root in
     let e = ap (λ u. entries_in u) c.self.view_is in
     let n : length c.deref_mut.result.now ≡ entries_in t
-    = omega (arith, e, ap length c.deref_mut.ensures.value, ap length (c.fill.ensures.items (λ y e. e)) ∙ length-replicate _ 0, c.counts.inside.next.ok.0, c.counts.invariant, ap length c.counts.view_is, c.requires.room) in
+    = omega (arith, e, ap length c.deref_mut.ensures.value, ap length (c.fill.ensures.items (λ y e. e)) ∙ length-replicate _ 0, c.counts.inside.next.ok.0, c.counts.invariant.1, ap (λ (s : Standing). length s.counts) c.counts.view_is, room_entries c.args.self.now c.args.counts.now c.requires.room) in
     number_below t c.args.self.now c.args.reference.now.node (length c.deref_mut.result.now) c.args.reference.now.subscripts.items c.self.invariant.1 c.self.view_is c.requires.refers n
 
 pub returns-in_err-take_needed-clause-err : goal.returns-in_err-take_needed-clause-err
@@ -43,9 +45,14 @@ returns-clause-ok c =
     let u = c.args.self.now in
     let e = ap (λ u. entries_in u) c.self.view_is in
     let n : length c.deref_mut.result.now ≡ entries_in t
-    = omega (arith, e, ap length c.deref_mut.ensures.value, ap length (c.fill.ensures.items (λ y e. e)) ∙ length-replicate _ 0, c.counts.inside.next.ok.0, c.counts.invariant, ap length c.counts.view_is, c.requires.room) in
+    = omega (arith, e, ap length c.deref_mut.ensures.value, ap length (c.fill.ensures.items (λ y e. e)) ∙ length-replicate _ 0, c.counts.inside.next.ok.0, c.counts.invariant.1, ap (λ (s : Standing). length s.counts) c.counts.view_is, room_entries c.args.self.now c.args.counts.now c.requires.room) in
     let zeros = zeros_are _ _ (entries_in t) (c.deref_mut.ensures.value ∙ c.fill.ensures.items (λ y e. e)) n in
     let long : length c.take_needed.new.counts ≡ c.fill.new.self.len = search rules in
-    let made : c.copy_from_slice.new.self.items ≡ c.take_needed.new.counts = c.copy_from_slice.ensures.items ∙ c.deref-2.ensures.value ∙ front_is _ c.take_needed.new.counts _ long in
-    needed_at c.needs_are_read.ensures t u c.args.reference.now.node c.args.receiving c.args.bytes.now c.args.reference.now.subscripts.items c.deref.result.now c.deref_mut.result.now c.take_needed.new.counts c.copy_from_slice.new.self.items
-    c.self.invariant.1 c.self.view_is c.requires.refers (c.deref.ensures.value ∙ c.self.invariant.2) zeros made c.in_ok-take_needed.ensures.ok
+    let made : c.stand_under.new.taken ≡ c.take_needed.new.counts = c.stand_under.ensures.counts ∙ c.deref-2.ensures.value ∙ front_is _ c.take_needed.new.counts _ long in
+    needed_at c.needs_are_read.ensures t u c.args.reference.now.node c.args.receiving c.args.bytes.now c.args.reference.now.subscripts.items c.deref.result.now c.deref_mut.result.now c.take_needed.new.counts _
+    c.self.invariant.1 c.self.view_is c.requires.refers (c.deref.ensures.value ∙ c.self.invariant.2) zeros (front_is _ c.stand_under.new.taken _ (search rules) ∙ made) c.in_ok-take_needed.ensures.ok
+
+pub returns-clause-none : goal.returns-clause-none
+returns-clause-none c =
+    let none : c.fill-2.new.self.items ≡ replicate (length c.counts.inside.kept.items) None = search rules in
+    ap are_unkept none ∙ unkept (length c.counts.inside.kept.items)

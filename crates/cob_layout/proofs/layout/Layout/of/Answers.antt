@@ -1,10 +1,13 @@
-use Rattle.std.proofs.Common.{◌≡◌, ℕ, List, length, sym, ap, subst, ◌∙◌, arith}
+use Rattle.std.proofs.Common.{◌≡◌, ℕ, List, length, None, replicate, sym, ap, subst, ◌∙◌, arith}
 use Rattle.cob_copybook_tree.specs.Forests.{Tree, NoEntries, AnEntry}
 use Rattle.cob_copybook_tree.specs.Nodes.{Resolved, tree_of}
 use Rattle.cob_copybook_tree.specs.Lengths.{greatest_number, sum_of}
 use Rattle.cob_copybook.specs.Books.{IsRecordDescription}
 use Rattle.cob_layout_places.specs.Lengths.{times}
+use Rattle.cob_layout_places.specs.Counts.{tables_of}
 use Rattle.cob_layout_places.specs.Spots.{spots_of}
+use Rattle.cob_layout_places.proofs.SpotLemmas.{length_spots}
+use Rattle.cob_layout.specs.Standing.{Standing}
 use Rattle.cob_layout.proofs.GreatestLemmas.{greatest_is, length_in_order}
 use Rattle.cob_layout.proofs.layout.Layout.of.Goals as goal
 
@@ -14,8 +17,12 @@ invariant_of-result c =
     let same : t ≡ c.args.book.now = ap (λ (n : Tree Resolved). AnEntry n.top n.beneath NoEntries) c.in_ok-root.ensures.same ∙ c.root.ensures.tree in
     let is : IsRecordDescription t = subst IsRecordDescription (sym same) c.root.ensures.record in
     let sound = c.records_are_sound.ensures t is in
-    let counts = c.in_ok-counts.ensures ∙ c.in_ok-in_order.ensures ∙ sym (greatest_is t sound.numbered) in
-    (is, sound, c.in_ok-tables.ensures, counts, c.greatest-greatest.ensures.value ∙ ap (sum_of greatest_number) (sym same), c.in_ok-root.ensures.bytes, c.in_ok-ways.ensures, c.in_ok-spots.ensures ∙ ap (λ (cs : List ℕ). spots_of (times cs) t 0 0) (c.deref.ensures.value ∙ c.in_ok-in_order.ensures ∙ sym (greatest_is t sound.numbered)), c.in_ok-kinds.ensures)
+    let made = c.in_ok-counts.ensures in
+    let counts = ap (λ (x : Standing). x.counts) made ∙ c.in_ok-in_order.ensures ∙ sym (greatest_is t sound.numbered) in
+    let spots = ap (λ (x : Standing). x.spots) made ∙ c.in_ok-spots.ensures ∙ ap (λ (cs : List ℕ). spots_of (times cs) t 0 0) (c.deref.ensures.value ∙ c.in_ok-in_order.ensures ∙ sym (greatest_is t sound.numbered)) in
+    let many : c.len.result ≡ length (tables_of t) = omega (arith, c.len.ensures, c.in_ok-tables.tables.ok.0, ap length c.in_ok-tables.ensures) in
+    let kept = ap (λ (x : Standing). x.kept) made ∙ ap (λ (n : ℕ). replicate n None) many in
+    (is, sound, c.in_ok-tables.ensures, counts, c.greatest-greatest.ensures.value ∙ ap (sum_of greatest_number) (sym same), c.in_ok-root.ensures.bytes, c.in_ok-ways.ensures, spots, c.in_ok-kinds.ensures, kept)
 
 pub ways-requires-clause-end : goal.ways-requires-clause-end
 ways-requires-clause-end c =
@@ -26,3 +33,8 @@ pub new_spots-requires-clause-room : goal.new_spots-requires-clause-room
 new_spots-requires-clause-room c =
     let t = tree_of c.in_ok-root.root in
     ap length (c.deref.ensures.value ∙ c.in_ok-in_order.ensures) ∙ length_in_order t
+
+pub new-requires : goal.new-requires
+new-requires c =
+    let t = tree_of c.in_ok-root.root in
+    record { spots = ap length c.in_ok-spots.ensures ∙ length_spots _ t 0 0 ∙ sym (ap length c.in_ok-in_order.ensures ∙ length_in_order t) }

@@ -25,7 +25,7 @@ returns-in-Some-clause-current c =
     let t = tree_of c.self.inside.root in
     let r = c.args.reference.now.node in
     let at = sym c.seek.ensures ∙ c.in-Some.is in
-    current c.places_end_in_length.ensures t c.args.self.now c.args.counts.now c.as_slice.result.now r c.args.reference.now.subscripts.items c.as_slice-2.result.now c.in-Some.found c.placed.result
+    current c.places_end_in_length.ensures t c.args.self.now c.args.counts.now.counts c.as_slice.result.now r c.args.reference.now.subscripts.items c.as_slice-2.result.now c.in-Some.found c.placed.result
     c.self.invariant.0 c.self.view_is c.requires.refers c.as_slice.ensures c.as_slice-2.ensures.value at c.placed.ensures
 
 pub returns-in-Some-clause-fits : goal.returns-in-Some-clause-fits
@@ -33,5 +33,5 @@ returns-in-Some-clause-fits c =
     let t = tree_of c.self.inside.root in
     let r = c.args.reference.now.node in
     let at = sym c.seek.ensures ∙ c.in-Some.is in
-    most_fits c.args.self.now c.args.counts.now c.placed.result (current c.places_end_in_length.ensures t c.args.self.now c.args.counts.now c.as_slice.result.now r c.args.reference.now.subscripts.items c.as_slice-2.result.now c.in-Some.found c.placed.result
+    most_fits c.args.self.now c.args.counts.now.counts c.placed.result (current c.places_end_in_length.ensures t c.args.self.now c.args.counts.now.counts c.as_slice.result.now r c.args.reference.now.subscripts.items c.as_slice-2.result.now c.in-Some.found c.placed.result
     c.self.invariant.0 c.self.view_is c.requires.refers c.as_slice.ensures c.as_slice-2.ensures.value at c.placed.ensures)

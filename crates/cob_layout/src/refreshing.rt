@@ -1,0 +1,125 @@
+//! The counts of a storage that are kept while it changes.
+
+ghost use Rattle.std.specs.Prelude.{◌≡◌, ◌==◌, ◌&&◌, ◌+◌, ◌≤◌, true, false, ℕ, List, length, min, Ok, Err, OnOk, OnErr, IfErr};
+ghost use Rattle.cob_copybook_tree.specs.Forests.{entries_in};
+ghost use Rattle.cob_layout_places.specs.Counts.{tables_of};
+ghost use Rattle.cob_layout_places.specs.Needs.{Has, is_read, number_behind};
+ghost use Rattle.cob_layout_places.specs.References.{Refers};
+ghost use Rattle.cob_layout.specs.Counting.{greatest_counts, NeededOf};
+ghost use Rattle.cob_layout.specs.Fields.{with_field};
+ghost use Rattle.cob_layout.specs.Kept.{kept_read, most_reads, numbers_of, outcome_of, TakenAnew};
+ghost use Rattle.cob_layout.specs.Standing.{AreSomePlaces, IsRoomFor, KeepsOf, written};
+
+use crate::counts::Counts;
+use crate::fields::Place;
+use crate::keeping::{Needed, are_unkept, keep_read, meets_kept, take_anew};
+use crate::layout::Layout;
+use crate::sound::records_are_sound;
+use crate::spots::stand_under;
+use crate::ways::{end_of_table, is_last_receiver};
+use cob_layout_places::{CountFault, Ref, needs_are_read, one_place};
+
+impl Layout {
+    /// Which counts a reference to an entry needs, which receives or not.
+    fn needed_by(&self, number: usize, receiving: bool) -> Needed
+        requires there { Has number self.now }
+        ensures behind { result.behind ≡ number_behind true number self.now }
+        ensures last { result.last
+            ≡ (receiving && (number_behind false number self.now == entries_in self.now)) }
+        ensures number { result.number ≡ number }
+    {
+        let behind = end_of_table(&self.ways, number);
+        let last = is_last_receiver(&self.ways, number, receiving);
+        Needed {
+            behind,
+            last,
+            number,
+        }
+    }
+
+    /// Takes the counts that the place of a reference needs, as [`Layout::needed`] does, but reads only those of them that are not kept, and keeps
+    /// those that it reads. Each count that is read adds one to `reads`, one that is refused too; `reads` stays at the greatest `u64`. The counts
+    /// that are kept are those of these bytes. It takes no memory.
+    ///
+    /// # Errors
+    ///
+    /// The first count that is read and that gives no number within its table's bounds, or that ends past the bytes. The counts are as they were then.
+    pub fn refresh(
+        &self,
+        reference: &Ref,
+        receiving: bool,
+        bytes: &[u8],
+        counts: &mut Counts,
+        reads: &mut u64,
+    ) -> Result<(), CountFault>
+        requires refers { Refers reference.now.node reference.now.subscripts.items self.now }
+        requires room { IsRoomFor self.now counts.old }
+        requires kept { KeepsOf self.now bytes.now counts.old }
+        ensures ok { OnOk result
+            (NeededOf self.now reference.now.node receiving bytes.now (Ok counts.new.counts)) }
+        ensures err { IfErr result
+            (λ e. NeededOf self.now reference.now.node receiving bytes.now (Err e)) }
+        ensures same { OnErr result (counts.new ≡ counts.old) }
+        ensures stands { OnOk result (AreSomePlaces self.now counts.new) }
+        // The counts that are kept then are those of these bytes: those that were needed, and those that were kept before.
+        ensures keeps { OnOk result (KeepsOf self.now bytes.now counts.new) }
+        ensures kept { OnOk result (counts.new.kept ≡ kept_read
+            (is_read self.now reference.now.node receiving) counts.new.counts counts.new.spots
+            (tables_of self.now) counts.old.kept) }
+        // So many counts were read, none of them one that was kept.
+        ensures reads { (n : ℕ) × TakenAnew self.now bytes.now
+            (is_read self.now reference.now.node receiving) (tables_of self.now)
+            (numbers_of counts.old.kept) (greatest_counts self.now)
+            (outcome_of result counts.new.counts) n
+            × (reads.new ≡ min (reads.old + n) most_reads) }
+        ensures room { IsRoomFor self.now counts.new }
+    {
+        // For `ok`, `err` and `keeps`: the counts that are read are those that the reference needs, and a count has one place.
+        needs_are_read();
+        one_place();
+        let needed = self.needed_by(reference.node, receiving);
+        counts.next.copy_from_slice(self.counts.as_slice());
+        take_anew(
+            &self.root,
+            &self.tables,
+            needed,
+            bytes,
+            &counts.kept,
+            &mut counts.next,
+            reads,
+        )?;
+        let stands = !are_unkept(&counts.kept);
+        stand_under(
+            &self.root,
+            &counts.next,
+            stands,
+            &mut counts.taken,
+            &mut counts.spots,
+        );
+        keep_read(
+            &self.tables,
+            needed,
+            &counts.taken,
+            &counts.spots,
+            &mut counts.kept,
+        );
+        Ok(())
+    }
+
+    /// Says that the bytes of a place were written: where it meets the item of a count that is kept, none is kept any more.
+    pub fn wrote(&self, place: Place, counts: &mut Counts)
+        ensures drops { counts.new ≡ written place counts.old }
+        // What is kept then is so of the storage as it is now.
+        ensures keeps { (before field : List ℕ) → place.offset + place.length ≤ length before
+            → length field ≡ place.length → KeepsOf self.now before counts.old
+            → KeepsOf self.now (with_field before place field) counts.new }
+    {
+        // For `keeps`: a record description is sound, and counts that agree on what an item needs give it one place.
+        records_are_sound();
+        one_place();
+        let _ = self.greatest();
+        if meets_kept(&counts.kept, place) {
+            counts.forget();
+        }
+    }
+}
