@@ -1,5 +1,6 @@
 //! Answers tables of rows about records and moves between them: places and lengths under counts, the counts that places need, bytes in
-//! places, the storage before the first move, single moves, whole paragraphs, and each text of templates of copybooks and of paragraphs.
+//! places, the storage before the first move, single moves, whole paragraphs, the counts that these read, and each text of templates of copybooks
+//! and of paragraphs.
 //!
 //! [`MoveRows`] answers them; each table belongs to one module, which says how its rows are read. Mostly the first field of a row is the question,
 //! and a record is written as the entries of its copybook, parted by bars, one a line. The tables stand in `data/moves` of `cob_jobs`, and what must
@@ -16,6 +17,7 @@ mod moves;
 mod paragraphs;
 mod places;
 mod reader;
+mod reads;
 mod refusal;
 mod storage;
 mod tables;
@@ -42,6 +44,7 @@ impl Family for MoveRows {
                 paragraphs::answer(alloc, row, false, out)
             }
             "steps" => paragraphs::answer(alloc, row, true, out),
+            "reads" => reads::answer(alloc, row, out),
             "copybook_templates" | "line_templates" => templates::read_copybooks(alloc, row, out),
             "paragraph_templates" => templates::read_paragraphs(alloc, row, out),
             _ => Err(RowFault::BadRow),
