@@ -157,8 +157,9 @@ fn meets(place: Place, other: Place) -> bool
     place.length > 0 && u64::from(place.offset) < other_end && u64::from(other.offset) < place_end
 }
 
-/// Whether a place meets the item of one of the counts that are kept.
-pub(crate) fn meets_kept(kept: &[Option<StoredCount>], place: Place) -> bool
+/// Whether a place meets the item of one of the counts that are kept, looked at one after another.
+#[inline(never)]
+fn meets_one_of(kept: &[Option<StoredCount>], place: Place) -> bool
     ensures { result ≡ meets_kept place kept.now }
 {
     for one in kept {
@@ -169,4 +170,15 @@ pub(crate) fn meets_kept(kept: &[Option<StoredCount>], place: Place) -> bool
         }
     }
     false
+}
+
+/// Whether a place meets the item of one of the counts that are kept. It is inlined, so that it costs no call where no table varies.
+#[inline(always)]
+pub(crate) fn meets_kept(kept: &[Option<StoredCount>], place: Place) -> bool
+    ensures { result ≡ meets_kept place kept.now }
+{
+    match kept {
+        [] => false,
+        _ => meets_one_of(kept, place),
+    }
 }

@@ -1,11 +1,12 @@
 //! Layouts.
 
-ghost use Rattle.std.specs.Prelude.{◌≡◌, ◌<◌, ◌≤◌, ◌+◌, length, Ok, Err, Some, OnOk, IfNone, IfOk, IfErr, IfSome, OnErr, option_map};
+ghost use Rattle.std.specs.Prelude.{◌≡◌, ◌==◌, ◌<◌, ◌≤◌, ◌+◌, not, IsFalse, ℕ, List, length, Ok, Err, Some, OnOk, IfNone, IfOk, IfErr, IfSome, OnErr, option_map};
 ghost use Rattle.cob_copybook_tree.specs.Forests.{entries_in};
 ghost use Rattle.cob_copybook_tree.specs.Lengths.{greatest_number, sum_of};
 ghost use Rattle.cob_copybook_tree.specs.Nodes.{tree_of};
 ghost use Rattle.cob_limits.specs.Limits.{longest_record};
 ghost use Rattle.cob_copybook.specs.Books.{IsRecordDescription};
+ghost use Rattle.cob_layout_places.specs.Counts.{tables_of};
 ghost use Rattle.cob_layout_places.specs.Lengths.{times};
 ghost use Rattle.cob_layout_places.specs.Cover.{IsCovered};
 ghost use Rattle.cob_copybook.specs.Bytes.{TakeBytes};
@@ -144,6 +145,16 @@ impl Layout {
         ensures bytes { TakeBytes self.now }
     {
         self.greatest
+    }
+
+    /// Whether a table varies. Where none does, each storage has the greatest counts.
+    #[inline(always)]
+    pub fn varies(&self) -> bool
+        ensures exact { result ≡ not (length (tables_of self.now) == 0) }
+        ensures same { IsFalse result → (bytes : List ℕ)
+            → CountsOf self.now bytes (Ok (greatest_counts self.now)) }
+    {
+        !self.tables.is_empty()
     }
 
     /// The counts under which each table has its greatest number of elements.

@@ -107,6 +107,7 @@ impl Layout {
     }
 
     /// Says that the bytes of a place were written: where it meets the item of a count that is kept, none is kept any more.
+    #[inline(always)]
     pub fn wrote(&self, place: Place, counts: &mut Counts)
         ensures drops { counts.new ≡ written place counts.old }
         // What is kept then is so of the storage as it is now.

@@ -1,6 +1,6 @@
 //! Writing records and counting what the sink took.
 
-ghost use Rattle.std.specs.Prelude.{◌≡◌, ◌<◌, ◌≤◌, true, length, take, Err, IfErr, IfOk, OnErr, OnOk, is_err};
+ghost use Rattle.std.specs.Prelude.{◌≡◌, ◌<◌, ◌≤◌, true, ℕ, List, length, take, Err, IfErr, IfOk, IsTrue, OnErr, OnOk, is_err};
 ghost use Rattle.cob_limits.specs.Limits.{longest_record};
 ghost use Rattle.cob_layout.specs.Counting.{CountsOf};
 ghost use Rattle.cob_layout.specs.Storage.{greatest_length};
@@ -13,6 +13,17 @@ ghost use Rattle.cob_stream.specs.Output.{IsOutputOf, PutsCounted, taken_in};
 use cob_layout::{Counts, Layout};
 use cob_layout_places::CountFault;
 use cob_records::{Form, Outlet, RecordFault, Sink};
+
+/// Whether all of a storage is written, whatever its bytes: in form f, where no table varies.
+#[inline(always)]
+fn is_always_whole(layout: &Layout, form: Form) -> bool
+    ensures { IsTrue result → (storage : List ℕ) → IsOutputOf form layout.now storage storage }
+{
+    if layout.varies() {
+        return false;
+    }
+    matches!(form, Form::Fixed)
+}
 
 /// How many bytes of an output storage are written: all in form f, and in forms v and b its current part.
 ///
@@ -35,8 +46,11 @@ pub fn written_length(
     ensures faulty { IfErr result (λ fault. CountsOf layout.now storage.now (Err fault)) }
     ensures room { IsRoomFor layout.now counts.new }
 {
-    layout.counts_of(storage, counts)?;
     let greatest = layout.greatest();
+    if is_always_whole(layout, form) {
+        return Ok(usize::from(greatest));
+    }
+    layout.counts_of(storage, counts)?;
     let made = match form {
         Form::Fixed => greatest,
         Form::Variable => layout.length_in(counts),

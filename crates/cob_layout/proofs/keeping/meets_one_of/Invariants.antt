@@ -1,6 +1,6 @@
 use Rattle.std.proofs.Common.{◌≡◌, drop}
 use Rattle.cob_layout.specs.Standing.{meets_kept}
-use Rattle.cob_layout.proofs.keeping.meets_kept.Given as goal
+use Rattle.cob_layout.proofs.keeping.meets_one_of.Given as goal
 
 abbrev pub invariant-loop-one : goal.invariant-loop-one
 invariant-loop-one l = record {
