@@ -4,6 +4,10 @@
 //! parted by bars, from column 8 on; for `raw` as the whole text. The answer is the number of single moves, and where steps are asked for
 //! the number of steps that they make behind it; or the rule that the paragraph breaks with its line.
 
+ghost use Rattle.std.specs.Prelude.{IfOk};
+ghost use Rattle.cob_move.specs.Among.{both};
+ghost use Rattle.cob_move.specs.Paragraphs.{IsReadyFor};
+
 use crate::books::layout_at;
 use cob_copybook::Role;
 use cob_layout::Layout;
@@ -27,7 +31,9 @@ pub(crate) fn read_paragraph(
     input: &Layout,
     output: &Layout,
     text: &[u8],
-) -> Result<Paragraph, MoveFault> {
+) -> Result<Paragraph, MoveFault>
+    ensures { IfOk result (λ p. IsReadyFor (both input.now output.now) p) }
+{
     Paragraph::read(alloc, input, output, text)
 }
 
