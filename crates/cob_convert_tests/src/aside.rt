@@ -4,7 +4,7 @@
 ghost use Rattle.std.specs.Prelude.{◌≡◌, ◌<◌, None};
 ghost use Rattle.cob_convert.specs.Outcomes.{append_notes};
 
-use crate::runs::{OUTPUT, UNLIMITED, prepared};
+use crate::runs::{OUTPUT, UNLIMITED, are_same, prepared};
 use cob_convert::{AsideFault, Cause, Converter, Notes, RunFault, Side, Tally};
 use cob_records::{Form, Limited, MemSink, MemSource, RecordFault};
 use std::test::Fail;
@@ -118,11 +118,6 @@ struct Places<'a> {
     written: &'a [u8],
     aside: &'a [u8],
     noted: &'a [RunFault],
-}
-
-/// Whether these bytes are those.
-fn are_same(some: &[u8], others: &[u8]) -> bool {
-    some == others
 }
 
 /// Runs over these ends, which move so many bytes a call, and says whether it answers this and leaves this.

@@ -1,9 +1,9 @@
 //! Runs that write blocks on ends that fail: at the first block, at one in the middle, and at the last, which the end of the input or a stop
 //! closes. What is expected was made by hand.
 
-use crate::runs::{Ends, UNLIMITED, prepared, stopped};
-use cob_convert::{Cause, PrepareFault, RunFault, Side};
-use cob_records::{Form, Limited, MemSink, MemSource, RecordFault};
+use crate::runs::{ROOM, UNLIMITED, comes_to, failing, no_value, prepared, sound_ends, stopped};
+use cob_convert::{PrepareFault, Side};
+use cob_records::{Form, RecordFault};
 use std::test::Fail;
 
 /// The greatest size of the output's blocks: two frames have room in one.
@@ -20,11 +20,6 @@ const OUTPUT: &[u8; 77] =
 /// The block of the last record alone.
 const LAST: &[u8; 17] = b"\x00\x11\x00\x00\x00\x0D\x00\x00\xF0\xF0\xF3\xF4\xC3\xC3\xC3\x40\x40";
 
-/// Ends that give so many bytes, take so many, and have room for so many.
-fn ends(gives: u64, takes: u64, room: usize) -> Ends {
-    Ends { gives, takes, room }
-}
-
 /// A write of a block fails in the name of the block's first record, also where a failed read was to be answered; the open block is written before
 /// that is.
 #[test]
@@ -32,59 +27,54 @@ fn ends_fail_at_blocks(rt: HostRuntime) -> Result<(), Fail> {
     let unread = stopped(5, Side::In, RecordFault::ReadFailed, 60);
     let rows = [
         (
-            ends(UNLIMITED, 0, 77),
+            failing(UNLIMITED, 0, 77),
             stopped(1, Side::Out, RecordFault::WriteFailed { taken: 0 }, 0),
             0,
         ),
         (
-            ends(UNLIMITED, 29, 77),
+            failing(UNLIMITED, 29, 77),
             stopped(1, Side::Out, RecordFault::WriteFailed { taken: 29 }, 29),
             29,
         ),
         (
-            ends(UNLIMITED, 35, 77),
+            failing(UNLIMITED, 35, 77),
             stopped(3, Side::Out, RecordFault::WriteFailed { taken: 5 }, 35),
             35,
         ),
         (
-            ends(UNLIMITED, 63, 77),
+            failing(UNLIMITED, 63, 77),
             stopped(5, Side::Out, RecordFault::WriteFailed { taken: 3 }, 63),
             63,
         ),
         (
-            ends(UNLIMITED, UNLIMITED, 40),
+            failing(UNLIMITED, UNLIMITED, 40),
             stopped(3, Side::Out, RecordFault::TookNothing { taken: 10 }, 40),
             40,
         ),
         (
-            ends(UNLIMITED, UNLIMITED, 76),
+            failing(UNLIMITED, UNLIMITED, 76),
             stopped(5, Side::Out, RecordFault::TookNothing { taken: 16 }, 76),
             76,
         ),
-        (ends(22, UNLIMITED, 77), unread, 60),
+        (failing(22, UNLIMITED, 77), unread, 60),
         (
-            ends(22, 30, 77),
+            failing(22, 30, 77),
             stopped(3, Side::Out, RecordFault::WriteFailed { taken: 0 }, 30),
             30,
         ),
         (
-            ends(25, 77, 77),
+            failing(25, 77, 77),
             stopped(6, Side::In, RecordFault::ReadFailed, 77),
             77,
         ),
-        (ends(UNLIMITED, 77, 77), Ok(5), 77),
+        (failing(UNLIMITED, 77, 77), Ok(5), 77),
     ];
     let mut converter = prepared(rt.alloc(), Form::Fixed, Form::Blocked(SIZE))?;
-    for (ends, expected, written) in rows {
-        for piece in [1, 100] {
-            let mut room = [0u8; 77];
-            assert!(rt; piece > 0 && ends.room <= room.len() && written <= OUTPUT.len());
-            let mut source = Limited::new(MemSource::new(INPUT), piece, ends.gives);
-            let mut sink = Limited::new(MemSink::new(&mut room[..ends.room]), piece, ends.takes);
-            let answer = converter.run(&mut source, &mut sink);
-            assert_eq!(rt; answer, expected, "in pieces of {piece}");
-            assert_eq!(rt; sink.inner().taken(), &OUTPUT[..written]);
-        }
+    for (ends, answer, written) in rows {
+        assert!(rt; ends.room <= ROOM && written <= OUTPUT.len());
+        let written = &OUTPUT[..written];
+        assert!(rt; comes_to(&mut converter, INPUT, ends, 1, answer, written));
+        assert!(rt; comes_to(&mut converter, INPUT, ends, 100, answer, written));
     }
     Ok(())
 }
@@ -93,22 +83,18 @@ fn ends_fail_at_blocks(rt: HostRuntime) -> Result<(), Fail> {
 #[test]
 fn stops_close_the_open_block(rt: HostRuntime) -> Result<(), Fail> {
     let mut converter = prepared(rt.alloc(), Form::Fixed, Form::Blocked(SIZE))?;
-    let no_value = RunFault {
-        number: 2,
-        side: Side::In,
-        offset: 3,
-        cause: Cause::NoValue,
-        written: 17,
-    };
+    let stops: &[u8] = b"\xC3\xC3\xC3\xF3\xF4\xC1\xC2\xC3\xF0\x40";
     for _ in 0..2 {
-        let mut room = [0u8; 77];
-        let mut sink = MemSink::new(&mut room);
-        let answer = converter.run(
-            &mut MemSource::new(b"\xC3\xC3\xC3\xF3\xF4\xC1\xC2\xC3\xF0\x40"),
-            &mut sink,
+        assert!(rt;
+            comes_to(
+                &mut converter,
+                stops,
+                sound_ends(),
+                100,
+                no_value(2, 17),
+                LAST
+            )
         );
-        assert_eq!(rt; answer, Err(no_value));
-        assert_eq!(rt; sink.taken(), LAST.as_slice());
     }
     Ok(())
 }

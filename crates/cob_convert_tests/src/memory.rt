@@ -1,10 +1,9 @@
 //! Requests for memory that are refused, as `rt try --test --fail-alloc` has it.
 
-use crate::jobs::{JOB, PRINTED};
-use crate::runs::{INPUT, OUTPUT, prepared};
+use crate::jobs::{JOB, PRINTED, SOUND, job_comes_to};
+use crate::runs::{INPUT, OUTPUT, comes_to, prepared, sound_ends};
 use cob_convert::{Converter, PrepareFault};
-use cob_job::job;
-use cob_records::{Form, MemSink, MemSource};
+use cob_records::Form;
 use std::alloc::Global;
 use std::test::Fail;
 
@@ -35,13 +34,7 @@ fn varying(alloc: Global) -> Result<Converter, PrepareFault> {
 fn varying_records_take_no_memory(rt: HostRuntime) -> Result<(), Fail> {
     let mut converter = varying(rt.alloc())?;
     for _ in 0..2 {
-        let mut room = [0u8; 12];
-        let mut sink = MemSink::new(&mut room);
-        assert_eq!(rt;
-            converter.run(&mut MemSource::new(RECORDS), &mut sink),
-            Ok(2)
-        );
-        assert_eq!(rt; sink.taken(), RECORDS.as_slice());
+        assert!(rt; comes_to(&mut converter, RECORDS, sound_ends(), 100, Ok(2), RECORDS));
     }
     Ok(())
 }
@@ -52,20 +45,15 @@ fn varying_records_take_no_memory(rt: HostRuntime) -> Result<(), Fail> {
 fn memory_is_refused(rt: HostRuntime) -> Result<(), Fail> {
     let mut refused = false;
     for _ in 0..3 {
-        let mut room = [0u8; 40];
-        let mut sink = MemSink::new(&mut room);
-        if job(rt.alloc(), &mut MemSource::new(JOB), &mut sink) == 5 {
-            assert_eq!(rt; sink.taken(), b"memory\n".as_slice());
-            assert!(rt; !refused, "one request is refused");
-            refused = true;
-        } else {
-            assert_eq!(rt; sink.taken(), PRINTED);
+        match job_comes_to(rt.alloc(), JOB, SOUND, 0, PRINTED) {
+            Some(came) => assert!(rt; came),
+            None => {
+                assert!(rt; !refused, "one request is refused");
+                refused = true;
+            }
         }
     }
     let mut converter = prepared(rt.alloc(), Form::Fixed, Form::Fixed)?;
-    let mut room = [0u8; 18];
-    let mut sink = MemSink::new(&mut room);
-    assert_eq!(rt; converter.run(&mut MemSource::new(INPUT), &mut sink), Ok(2));
-    assert_eq!(rt; sink.taken(), OUTPUT.as_slice());
+    assert!(rt; comes_to(&mut converter, INPUT, sound_ends(), 100, Ok(2), OUTPUT));
     Ok(())
 }

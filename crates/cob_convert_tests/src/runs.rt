@@ -1,5 +1,6 @@
 //! Runs on ends that fail, and one after another. What is expected was made by hand.
 
+ghost use Rattle.std.specs.Prelude.{◌≡◌, ◌<◌, ◌≤◌};
 ghost use Rattle.cob_records.specs.Forms.{HasBlockSize};
 
 use cob_convert::{Cause, Converter, PrepareFault, RunFault, Side};
@@ -39,18 +40,27 @@ pub(crate) fn prepared(
     }
 }
 
+/// What a run answers.
+pub(crate) type Answer = Result<u64, RunFault>;
+
 /// The stop of a run at a record, by a fault of its frame.
-pub(crate) fn stopped(
-    number: u64,
-    side: Side,
-    fault: RecordFault,
-    written: u64,
-) -> Result<u64, RunFault> {
+pub(crate) fn stopped(number: u64, side: Side, fault: RecordFault, written: u64) -> Answer {
     Err(RunFault {
         number,
         side,
         offset: 0,
         cause: Cause::Record(fault),
+        written,
+    })
+}
+
+/// The stop of a run at a record whose number is none, three bytes behind its front.
+pub(crate) fn no_value(number: u64, written: u64) -> Answer {
+    Err(RunFault {
+        number,
+        side: Side::In,
+        offset: 3,
+        cause: Cause::NoValue,
         written,
     })
 }
@@ -67,66 +77,79 @@ pub(crate) struct Ends {
 /// As many bytes as no end here moves.
 pub(crate) const UNLIMITED: u64 = 1000;
 
+/// The most bytes that a sink here has room for.
+pub(crate) const ROOM: usize = 77;
+
+/// Ends that give so many bytes, take so many, and have room for so many.
+pub(crate) fn failing(gives: u64, takes: u64, room: usize) -> Ends
+    ensures { result.room ≡ room }
+{
+    Ends { gives, takes, room }
+}
+
+/// Ends that never fail.
+pub(crate) fn sound_ends() -> Ends
+    ensures { result.room ≡ ROOM }
+{
+    failing(UNLIMITED, UNLIMITED, ROOM)
+}
+
+/// Whether these bytes are those.
+pub(crate) fn are_same(some: &[u8], others: &[u8]) -> bool {
+    some == others
+}
+
+/// Runs from this input over these ends, which move so many bytes a call, and says whether the run answers this and leaves these bytes.
+pub(crate) fn comes_to(
+    converter: &mut Converter,
+    input: &[u8],
+    ends: Ends,
+    piece: usize,
+    answer: Answer,
+    written: &[u8],
+) -> bool
+    requires piece { 0 < piece }
+    requires room { ends.room ≤ ROOM }
+{
+    let mut room = [0u8; ROOM];
+    let mut source = Limited::new(MemSource::new(input), piece, ends.gives);
+    let mut sink = Limited::new(MemSink::new(&mut room[..ends.room]), piece, ends.takes);
+    let came = converter.run(&mut source, &mut sink);
+    came == answer && are_same(sink.inner().taken(), written)
+}
+
 #[test]
 fn ends_fail(rt: HostRuntime) -> Result<(), Fail> {
+    let all = UNLIMITED;
     let rows = [
         (
-            Ends {
-                gives: 7,
-                takes: UNLIMITED,
-                room: 18,
-            },
+            failing(7, all, 18),
             stopped(2, Side::In, RecordFault::ReadFailed, 9),
             9,
         ),
         (
-            Ends {
-                gives: 10,
-                takes: UNLIMITED,
-                room: 18,
-            },
+            failing(10, all, 18),
             stopped(3, Side::In, RecordFault::ReadFailed, 18),
             18,
         ),
         (
-            Ends {
-                gives: UNLIMITED,
-                takes: 12,
-                room: 18,
-            },
+            failing(all, 12, 18),
             stopped(2, Side::Out, RecordFault::WriteFailed { taken: 3 }, 12),
             12,
         ),
         (
-            Ends {
-                gives: UNLIMITED,
-                takes: UNLIMITED,
-                room: 12,
-            },
+            failing(all, all, 12),
             stopped(2, Side::Out, RecordFault::TookNothing { taken: 3 }, 12),
             12,
         ),
-        (
-            Ends {
-                gives: UNLIMITED,
-                takes: 18,
-                room: 18,
-            },
-            Ok(2),
-            18,
-        ),
+        (failing(all, 18, 18), Ok(2), 18),
     ];
     let mut converter = prepared(rt.alloc(), Form::Fixed, Form::Fixed)?;
-    for (ends, expected, written) in rows {
-        for piece in [1, 100] {
-            let mut room = [0u8; 18];
-            assert!(rt; piece > 0 && ends.room <= room.len() && written <= OUTPUT.len());
-            let mut source = Limited::new(MemSource::new(INPUT), piece, ends.gives);
-            let mut sink = Limited::new(MemSink::new(&mut room[..ends.room]), piece, ends.takes);
-            let answer = converter.run(&mut source, &mut sink);
-            assert_eq!(rt; answer, expected, "in pieces of {piece}");
-            assert_eq!(rt; sink.inner().taken(), &OUTPUT[..written]);
-        }
+    for (ends, answer, written) in rows {
+        assert!(rt; ends.room <= ROOM && written <= OUTPUT.len());
+        let written = &OUTPUT[..written];
+        assert!(rt; comes_to(&mut converter, INPUT, ends, 1, answer, written));
+        assert!(rt; comes_to(&mut converter, INPUT, ends, 100, answer, written));
     }
     Ok(())
 }
@@ -134,22 +157,18 @@ fn ends_fail(rt: HostRuntime) -> Result<(), Fail> {
 /// A run begins anew where the one before it stopped at a record.
 #[test]
 fn starts_anew(rt: HostRuntime) -> Result<(), Fail> {
+    let stops: &[u8] = b"\xC1\xC2\xC3\xF0\xF7\xC1\xC2\xC3\xF0\x40";
     let mut converter = prepared(rt.alloc(), Form::Fixed, Form::Fixed)?;
-    let mut room = [0u8; 18];
-    let answer = converter.run(
-        &mut MemSource::new(b"\xC1\xC2\xC3\xF0\xF7\xC1\xC2\xC3\xF0\x40"),
-        &mut MemSink::new(&mut room),
+    assert!(rt;
+        comes_to(
+            &mut converter,
+            stops,
+            sound_ends(),
+            100,
+            no_value(2, 9),
+            &OUTPUT[..9]
+        )
     );
-    let no_value = RunFault {
-        number: 2,
-        side: Side::In,
-        offset: 3,
-        cause: Cause::NoValue,
-        written: 9,
-    };
-    assert_eq!(rt; answer, Err(no_value));
-    let mut sink = MemSink::new(&mut room);
-    assert_eq!(rt; converter.run(&mut MemSource::new(INPUT), &mut sink), Ok(2));
-    assert_eq!(rt; sink.taken(), OUTPUT.as_slice());
+    assert!(rt; comes_to(&mut converter, INPUT, sound_ends(), 100, Ok(2), OUTPUT));
     Ok(())
 }
