@@ -22,6 +22,8 @@ pub mod WritingLemmas
 pub mod RefreshLemmas
 pub mod StandingLemmas
 pub mod TakingLemmas
+pub mod ShiftLaw
+pub mod ShiftLemmas
 pub mod Loans
 pub mod Lists
 pub mod Numbers

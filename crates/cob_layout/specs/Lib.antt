@@ -8,3 +8,4 @@ pub mod Standing
 pub mod Fields
 pub mod Sound
 pub mod Kept
+pub mod Shifts

@@ -1,6 +1,6 @@
 //! The counts of the tables of a record, where its entries stand under them, and which counts of a storage are kept.
 
-ghost use Rattle.std.specs.Prelude.{◌≡◌, ◌++◌, [], ◌∷◌, ℕ, List, length, replicate, None, IfOk};
+ghost use Rattle.std.specs.Prelude.{◌≡◌, ◌++◌, [], ◌∷◌, ℕ, List, length, replicate, slice_index, None, IfOk};
 ghost use Rattle.cob_copybook_tree.specs.Forests.{Forest};
 ghost use Rattle.cob_copybook_tree.specs.Nodes.{Resolved, tree_of};
 ghost use Rattle.cob_layout.specs.Counting.{in_order, varying};
@@ -32,17 +32,19 @@ pub struct Counts {
     pub(crate) kept: Vec<Option<StoredCount>>,
     /// Where counts are taken, so that those that hold stay until all are.
     pub(crate) next: Vec<u32>,
+    /// Room for the bytes of the tables, before each of them and of all, from which the spots are found.
+    pub(crate) sums: Vec<u32>,
 }
 
 impl Model for Counts {
-    ghost use Rattle.std.specs.Prelude.{◌≡◌, length};
+    ghost use Rattle.std.specs.Prelude.{◌≡◌, ◌+◌, length};
     ghost use Rattle.cob_layout.specs.Standing.{Standing};
 
     ghost Value = { Standing };
 
     ghost view = { λ c. record { counts = c.taken.items; spots = c.spots.items; kept = c.kept.items } };
 
-    ghost invariant = { λ c. (length c.spots.items ≡ length c.taken.items) × (length c.next.items ≡ length c.taken.items) };
+    ghost invariant = { λ c. (length c.spots.items ≡ length c.taken.items) × (length c.next.items ≡ length c.taken.items) × (length c.sums.items ≡ length c.kept.items + 1) };
 }
 
 impl Counts {
@@ -66,11 +68,14 @@ impl Counts {
     {
         let next = copied_counts(alloc, &taken)?;
         let kept = vec![in alloc; None; tables]?;
+        let mut sums = vec![in alloc; 0; tables]?;
+        sums.push(0)?;
         Ok(Counts {
             taken,
             spots,
             kept,
             next,
+            sums,
         })
     }
 
@@ -121,8 +126,18 @@ pub(crate) fn copied_counts(alloc: Global, counts: &[u32]) -> Result<Vec<u32>, A
     Ok(same)
 }
 
+/// The count of an entry: 0 where there is none.
+pub(crate) fn count_at(counts: &[u32], number: usize) -> u32
+    ensures { result ≡ slice_index counts.now number }
+{
+    match counts.get(number) {
+        Some(count) => *count,
+        None => 0,
+    }
+}
+
 /// The greatest count of an entry: 0 for one that doesn't vary.
-fn greatest_count(occurs: ResolvedOccurs) -> u32
+pub(crate) fn greatest_count(occurs: ResolvedOccurs) -> u32
     ensures { result ≡ varying occurs }
 {
     match occurs {

@@ -1,6 +1,6 @@
 //! Counts of a storage, some of which are kept.
 
-ghost use Rattle.std.specs.Prelude.{◌≡◌, ◌+◌, ℕ, length, min, slice_index, Ok, Err};
+ghost use Rattle.std.specs.Prelude.{◌≡◌, ◌+◌, ℕ, length, min, Ok, Err};
 ghost use Rattle.cob_copybook_tree.specs.Nodes.{node, tree_of};
 ghost use Rattle.cob_layout_places.specs.Counts.{AreCountable, AreNumberedBelow, IsCountable};
 ghost use Rattle.cob_layout_places.specs.Lengths.{EntryFits};
@@ -8,7 +8,7 @@ ghost use Rattle.cob_layout_places.specs.Needs.{is_needed};
 ghost use Rattle.cob_layout.specs.Kept.{kept_read, most_reads, number_of, numbers_of, outcome_of, stored_at, IsReadOne, TakenAnew};
 ghost use Rattle.cob_layout.specs.Standing.{are_unkept, meets, meets_kept};
 
-use crate::counts::StoredCount;
+use crate::counts::{StoredCount, count_at};
 use crate::fields::Place;
 use crate::spots::spot_at;
 use cob_copybook::Node;
@@ -91,16 +91,6 @@ pub(crate) fn take_anew(
         }
     }
     Ok(())
-}
-
-/// The count of an entry: 0 where there is none.
-fn count_at(counts: &[u32], number: usize) -> u32
-    ensures { result ≡ slice_index counts.now number }
-{
-    match counts.get(number) {
-        Some(count) => *count,
-        None => 0,
-    }
 }
 
 /// The count of a table, where the counts are these and the entries stand at these spots.

@@ -20,15 +20,16 @@ use crate::counts::{Counts, copied_counts, greatest_in_order};
 use crate::fields::Place;
 use crate::kinds::kinds;
 use crate::laws::{fits_ref, places_end_in_length};
+use crate::shifts::{Shift, is_unnested, shifts};
 use crate::sound::records_are_sound;
-use crate::spots::{copied_spots, new_spots, stand_under};
+use crate::spots::{copied_spots, new_spots};
 use crate::taking::take_all_counts;
 use crate::ways::{Way, ways};
 use arrayvec::ArrayVec;
 use cob_copybook::{Book, Kind, Node};
 use cob_layout_places::{
-    CountFault, Found, Ref, Table, covering, element_of, needs_are_read, refers, seek, tables,
-    take_needed, times_of,
+    CountFault, Found, Ref, Spot, Table, covering, element_of, needs_are_read, refers, seek,
+    tables, take_needed, times_of,
 };
 use std::alloc::{AllocError, Global};
 use std::marker::Model;
@@ -53,10 +54,16 @@ pub struct Layout {
     pub(crate) ways: Vec<Way>,
     /// What the entries describe.
     pub(crate) kinds: Vec<Kind>,
+    /// Where the entries stand while the tables that vary have no element.
+    pub(crate) least: Vec<Spot>,
+    /// How the spots of the entries follow from these and the counts.
+    pub(crate) shifts: Vec<Shift>,
+    /// Whether they do: no table that varies stands beneath another table.
+    pub(crate) unnested: bool,
 }
 
 impl Model for Layout {
-    ghost use Rattle.std.specs.Prelude.{◌≡◌, [], length, map, replicate, None};
+    ghost use Rattle.std.specs.Prelude.{◌≡◌, [], false, length, map, replicate, None};
     ghost use Rattle.cob_copybook_tree.specs.Forests.{Forest};
     ghost use Rattle.cob_copybook_tree.specs.Nodes.{Resolved, tree_of};
     ghost use Rattle.cob_copybook_tree.specs.Lengths.{greatest_number, sum_of};
@@ -66,6 +73,7 @@ impl Model for Layout {
     ghost use Rattle.cob_layout_places.specs.Spots.{spots_of};
     ghost use Rattle.cob_layout.specs.Ways.{held, held_in};
     ghost use Rattle.cob_layout.specs.Kinds.{kinds_of};
+    ghost use Rattle.cob_layout.specs.Shifts.{are_unnested, shifts_from};
     ghost use Rattle.cob_layout.specs.Sound.{IsSound};
     ghost use Rattle.cob_layout.specs.Counting.{greatest_counts};
     ghost use Rattle.cob_copybook.specs.Bytes.{TakeBytes};
@@ -78,7 +86,7 @@ impl Model for Layout {
 
     ghost view = { λ l. tree_of l.root };
 
-    ghost invariant = { λ l. IsRecordDescription (tree_of l.root) × IsSound (tree_of l.root) × (l.tables.items ≡ tables_of (tree_of l.root)) × (l.counts.counts ≡ greatest_counts (tree_of l.root)) × (l.greatest ≡ sum_of greatest_number (tree_of l.root)) × TakeBytes (tree_of l.root) × (map held l.ways.items ≡ held_in [] (tree_of l.root)) × (l.counts.spots ≡ spots_of (times (greatest_counts (tree_of l.root))) (tree_of l.root) 0 0) × (l.kinds.items ≡ kinds_of (tree_of l.root)) × (l.counts.kept ≡ replicate (length (tables_of (tree_of l.root))) None) };
+    ghost invariant = { λ l. IsRecordDescription (tree_of l.root) × IsSound (tree_of l.root) × (l.tables.items ≡ tables_of (tree_of l.root)) × (l.counts.counts ≡ greatest_counts (tree_of l.root)) × (l.greatest ≡ sum_of greatest_number (tree_of l.root)) × TakeBytes (tree_of l.root) × (map held l.ways.items ≡ held_in [] (tree_of l.root)) × (l.counts.spots ≡ spots_of (times (greatest_counts (tree_of l.root))) (tree_of l.root) 0 0) × (l.kinds.items ≡ kinds_of (tree_of l.root)) × (l.counts.kept ≡ replicate (length (tables_of (tree_of l.root))) None) × (l.least.items ≡ spots_of (times []) (tree_of l.root) 0 0) × (l.shifts.items ≡ shifts_from 0 (tree_of l.root)) × (l.unnested ≡ are_unnested false (tree_of l.root)) };
 }
 
 /// The place of an element, or the fault where it isn't one of those that there are.
@@ -111,9 +119,12 @@ impl Layout {
         let root = copied(alloc, book.root())?;
         let tables = tables(alloc, &root)?;
         let in_order = greatest_in_order(alloc, &root)?;
-        let spots = new_spots(alloc, &root, &in_order)?;
-        let greatest = book.greatest();
         let entries = in_order.len();
+        let spots = new_spots(alloc, &root, &in_order, entries)?;
+        let least = new_spots(alloc, &root, &[], entries)?;
+        let shifts = shifts(alloc, &root, entries)?;
+        let unnested = is_unnested(&root, false);
+        let greatest = book.greatest();
         let ways = ways(alloc, &root, entries)?;
         let kinds = kinds(alloc, &root, entries)?;
         let counts = Counts::new(alloc, in_order, spots, tables.len())?;
@@ -124,6 +135,9 @@ impl Layout {
             greatest,
             ways,
             kinds,
+            least,
+            shifts,
+            unnested,
         })
     }
 
@@ -272,11 +286,11 @@ impl Layout {
             bytes,
             &mut counts.next,
         )?;
-        stand_under(
-            &self.root,
+        self.stand_under(
             &counts.next,
             false,
             &mut counts.taken,
+            &mut counts.sums,
             &mut counts.spots,
         );
         counts.kept.fill(None);
@@ -317,11 +331,11 @@ impl Layout {
             bytes,
             &mut counts.next,
         )?;
-        stand_under(
-            &self.root,
+        self.stand_under(
             &counts.next,
             false,
             &mut counts.taken,
+            &mut counts.sums,
             &mut counts.spots,
         );
         counts.kept.fill(None);

@@ -66,6 +66,7 @@ mod layout;
 mod places;
 mod reads;
 mod refreshing;
+mod shifts;
 mod sound;
 mod spots;
 mod taking;

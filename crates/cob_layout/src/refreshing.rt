@@ -15,7 +15,6 @@ use crate::fields::Place;
 use crate::keeping::{Needed, are_unkept, keep_read, meets_kept, take_anew};
 use crate::layout::Layout;
 use crate::sound::records_are_sound;
-use crate::spots::stand_under;
 use crate::ways::{end_of_table, is_last_receiver};
 use cob_layout_places::{CountFault, Ref, needs_are_read, one_place};
 
@@ -89,11 +88,11 @@ impl Layout {
             reads,
         )?;
         let stands = !are_unkept(&counts.kept);
-        stand_under(
-            &self.root,
+        self.stand_under(
             &counts.next,
             stands,
             &mut counts.taken,
+            &mut counts.sums,
             &mut counts.spots,
         );
         keep_read(

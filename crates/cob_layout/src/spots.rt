@@ -1,6 +1,6 @@
 //! The spots of a record's entries, and elements that subscripts move from them.
 
-ghost use Rattle.std.specs.Prelude.{◌≡◌, ◌+◌, ◌-◌, ◌*◌, ◌≤◌, ◌&&◌, nat_le, length, drop, IfOk, IsTrue};
+ghost use Rattle.std.specs.Prelude.{◌≡◌, ◌+◌, ◌-◌, ◌*◌, ◌≤◌, ◌&&◌, nat_le, length, drop, IfOk};
 ghost use Rattle.cob_copybook_tree.specs.Forests.{entries_in};
 ghost use Rattle.cob_copybook_tree.specs.Nodes.{tree_of};
 ghost use Rattle.cob_limits.specs.Limits.{longest_record};
@@ -38,42 +38,23 @@ pub(crate) fn put_all_spots(root: &Node, counts: &[u32], spots: &mut [Spot])
     put_spots(root, counts, 0, spots);
 }
 
-/// Lets a record stand under the next counts, in place of those that were taken. Where the entries stand at the spots under the taken ones, and these
-/// are the next ones, it stays as it is.
-pub(crate) fn stand_under(
-    root: &Node,
-    next: &[u32],
-    stands: bool,
-    taken: &mut [u32],
-    spots: &mut [Spot],
-)
-    requires fit { FitsInRecord 0 (tree_of root.now) }
-    requires counts { length taken.old ≡ length next.now }
-    requires room { length spots.old ≡ entries_in (tree_of root.now) }
-    requires stands { IsTrue stands → spots.old
-        ≡ spots_of (times taken.old) (tree_of root.now) 0 0 }
-    ensures counts { taken.new ≡ next.now }
-    ensures spots { spots.new ≡ spots_of (times next.now) (tree_of root.now) 0 0 }
-{
-    if stands && *taken == *next {
-        return;
-    }
-    taken.copy_from_slice(next);
-    put_all_spots(root, next, spots);
-}
-
-/// The spots of a record under these counts, one for each entry.
+/// The spots of a record under these counts, by the numbers of the entries; `entries` is how many these are.
 ///
 /// # Errors
 ///
 /// Where no memory is left.
-pub(crate) fn new_spots(alloc: Global, root: &Node, counts: &[u32]) -> Result<Vec<Spot>, AllocError>
+pub(crate) fn new_spots(
+    alloc: Global,
+    root: &Node,
+    counts: &[u32],
+    entries: usize,
+) -> Result<Vec<Spot>, AllocError>
     requires fit { FitsInRecord 0 (tree_of root.now) }
-    requires room { length counts.now ≡ entries_in (tree_of root.now) }
+    requires room { entries ≡ entries_in (tree_of root.now) }
     ensures { IfOk result
         (λ spots. spots.items ≡ spots_of (times counts.now) (tree_of root.now) 0 0) }
 {
-    let mut spots = vec![in alloc; NOWHERE; counts.len()]?;
+    let mut spots = vec![in alloc; NOWHERE; entries]?;
     put_all_spots(root, counts, &mut spots);
     Ok(spots)
 }

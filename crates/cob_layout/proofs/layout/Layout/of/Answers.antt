@@ -22,7 +22,7 @@ invariant_of-result c =
     let spots = ap (λ (x : Standing). x.spots) made ∙ c.in_ok-spots.ensures ∙ ap (λ (cs : List ℕ). spots_of (times cs) t 0 0) (c.deref.ensures.value ∙ c.in_ok-in_order.ensures ∙ sym (greatest_is t sound.numbered)) in
     let many : c.len.result ≡ length (tables_of t) = omega (arith, c.len.ensures, c.in_ok-tables.tables.ok.0, ap length c.in_ok-tables.ensures) in
     let kept = ap (λ (x : Standing). x.kept) made ∙ ap (λ (n : ℕ). replicate n None) many in
-    (is, sound, c.in_ok-tables.ensures, counts, c.greatest-greatest.ensures.value ∙ ap (sum_of greatest_number) (sym same), c.in_ok-root.ensures.bytes, c.in_ok-ways.ensures, spots, c.in_ok-kinds.ensures, kept)
+    (is, sound, c.in_ok-tables.ensures, counts, c.greatest-greatest.ensures.value ∙ ap (sum_of greatest_number) (sym same), c.in_ok-root.ensures.bytes, c.in_ok-ways.ensures, spots, c.in_ok-kinds.ensures, kept, c.in_ok-least.ensures, c.in_ok-shifts.ensures, c.is_unnested-unnested.ensures)
 
 pub ways-requires-clause-end : goal.ways-requires-clause-end
 ways-requires-clause-end c =
@@ -32,7 +32,12 @@ ways-requires-clause-end c =
 pub new_spots-requires-clause-room : goal.new_spots-requires-clause-room
 new_spots-requires-clause-room c =
     let t = tree_of c.in_ok-root.root in
-    ap length (c.deref.ensures.value ∙ c.in_ok-in_order.ensures) ∙ length_in_order t
+    omega (arith, c.len-entries.ensures, c.deref.ensures.len, ap length (c.deref.ensures.value ∙ c.in_ok-in_order.ensures), length_in_order t)
+
+pub new_spots-requires-2-clause-room : goal.new_spots-requires-2-clause-room
+new_spots-requires-2-clause-room c =
+    let t = tree_of c.in_ok-root.root in
+    omega (arith, c.len-entries.ensures, c.deref.ensures.len, ap length (c.deref.ensures.value ∙ c.in_ok-in_order.ensures), length_in_order t)
 
 pub new-requires : goal.new-requires
 new-requires c =

@@ -99,9 +99,9 @@ returns-clause-kept c =
     let long_kept : length c.keep_read.new.kept ≡ c.counts.inside.kept.len = search rules in
     let spots = front_of c.counts.inside.spots.len c.stand_under.new.spots (drop (length c.stand_under.new.spots) c.counts.inside.spots.items) long_spots in
     let kept = front_of c.counts.inside.kept.len c.keep_read.new.kept (drop (length c.keep_read.new.kept) c.counts.inside.kept.items) long_kept ∙ c.keep_read.ensures
-    ∙ kept_is t u r c.args.receiving c.needed_by-needed.result.behind c.needed_by-needed.result.last c.needed_by-needed.result.number c.deref-5.result.now c.deref-6.result.now _ c.deref-7.result.now _ c.deref_mut-4.result.now ks c.self.view_is
+    ∙ kept_is t u r c.args.receiving c.needed_by-needed.result.behind c.needed_by-needed.result.last c.needed_by-needed.result.number c.deref-5.result.now c.deref-6.result.now _ c.deref-7.result.now _ c.deref_mut-5.result.now ks c.self.view_is
     (c.deref-5.ensures.value ∙ c.self.invariant.2) c.needed_by-needed.ensures.behind c.needed_by-needed.ensures.last c.needed_by-needed.ensures.number c.deref-6.ensures.value c.deref-7.ensures.value
-    (c.deref_mut-4.ensures.value ∙ ap (λ (s : Standing). s.kept) c.counts.view_is) in
+    (c.deref_mut-5.ensures.value ∙ ap (λ (s : Standing). s.kept) c.counts.view_is) in
     kept
 
 pub returns-clause-keeps : goal.returns-clause-keeps
@@ -123,10 +123,10 @@ returns-clause-keeps c =
     let long_kept : length c.keep_read.new.kept ≡ c.counts.inside.kept.len = search rules in
     let spots = front_of c.counts.inside.spots.len c.stand_under.new.spots (drop (length c.stand_under.new.spots) c.counts.inside.spots.items) long_spots in
     let kept = front_of c.counts.inside.kept.len c.keep_read.new.kept (drop (length c.keep_read.new.kept) c.counts.inside.kept.items) long_kept ∙ c.keep_read.ensures
-    ∙ kept_is t u r c.args.receiving c.needed_by-needed.result.behind c.needed_by-needed.result.last c.needed_by-needed.result.number c.deref-5.result.now c.deref-6.result.now _ c.deref-7.result.now _ c.deref_mut-4.result.now ks c.self.view_is
+    ∙ kept_is t u r c.args.receiving c.needed_by-needed.result.behind c.needed_by-needed.result.last c.needed_by-needed.result.number c.deref-5.result.now c.deref-6.result.now _ c.deref-7.result.now _ c.deref_mut-5.result.now ks c.self.view_is
     (c.deref-5.ensures.value ∙ c.self.invariant.2) c.needed_by-needed.ensures.behind c.needed_by-needed.ensures.last c.needed_by-needed.ensures.number c.deref-6.ensures.value c.deref-7.ensures.value
-    (c.deref_mut-4.ensures.value ∙ ap (λ (s : Standing). s.kept) c.counts.view_is) in
-    let stands = spots_under t u c.deref-4.result.now _ _ c.self.view_is (sym taken) (spots ∙ c.stand_under.ensures.spots) in (
+    (c.deref_mut-5.ensures.value ∙ ap (λ (s : Standing). s.kept) c.counts.view_is) in
+    let stands = spots_under u u c.deref-4.result.now _ _ refl (sym taken) (spots ∙ c.stand_under.ensures.spots) in (
       subst (λ (js : List (Option StoredCount)). AreKeptOf u c.args.bytes.now js) (sym kept)
           (kept_behind c.one_place.ensures u c.args.bytes.now r c.args.receiving ks _ h.0 _ (subst IsSound c.self.view_is c.self.invariant.1) (room_tables u c.args.counts.now c.requires.room) c.requires.kept.0 stands anew),
       inr (_, (refl, stands)),
