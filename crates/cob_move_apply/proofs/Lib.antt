@@ -18,5 +18,6 @@ pub mod PreparedLemmas
 pub mod PicturedLemmas
 pub mod ConstantLemmas
 pub mod StepLemmas
+pub mod LocatedLemmas
 pub use Rattle.cob_layout.proofs.EntryNoRule
 pub use Rattle.cob_layout.proofs.EntryOneList

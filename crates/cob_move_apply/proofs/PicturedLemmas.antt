@@ -20,8 +20,8 @@ use Rattle.cob_move_receive.specs.Sent as sent
 use Rattle.cob_move_apply.specs.Applied.{Applied, Ending, IsMoved, done, stopped}
 use Rattle.cob_move_apply.specs.Located.{stop_at}
 use Rattle.cob_move_apply.specs.Made.{IsMadePictured}
-use Rattle.cob_move_apply.specs.Planned.{AreFixedPlaces, copied_move}
-use Rattle.cob_move_apply.specs.Steps.{IsPicturedMove, IsPicturedPart}
+use Rattle.cob_move_apply.specs.Planned.{AreFixedPlaces}
+use Rattle.cob_move_apply.specs.Steps.{IsPicturedMove, IsPicturedPart, copied_move}
 use Rattle.cob_move_apply.specs.Written.{HasPlaces, IsReceivedPicturedFrom}
 use Rattle.cob_move_apply.specs.declared.basis.Basis.{Basis}
 use Rattle.cob_move_apply.specs.declared.step.MovePlaces.{MovePlaces}

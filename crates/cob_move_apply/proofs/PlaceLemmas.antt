@@ -36,7 +36,7 @@ storable_choose : (b : Bool) (q : Kind) (o : Option Kind) (k : Kind) → IsStora
 storable_choose true q o k s h e = let same : q ≡ k = cc in subst IsStorableKind same s
 storable_choose false q o k s h e = h k e
 
-storable_in : (number : ℕ) (f : Forest Resolved) → AreStorable f → (k : Kind) → kind_in number f ≡ Some k → IsStorableKind k
+pub storable_in : (number : ℕ) (f : Forest Resolved) → AreStorable f → (k : Kind) → kind_in number f ≡ Some k → IsStorableKind k
 storable_in number NoEntries s k e = cc
 storable_in number (AnEntry e children more) s k is =
     storable_or (choose (e.number == number) e.kind (kind_in number children)) (kind_in number more) k

@@ -17,7 +17,7 @@ use Rattle.cob_layout_places.specs.declared.varying.Table.{Table}
 use Rattle.cob_layout_places.specs.Moves.{Entry, IsOperand, Literal, Records, Sender, operand_in}
 use Rattle.cob_move_receive.specs.Copying.{CopiesBytes, copies_bytes}
 use Rattle.cob_move_apply.specs.Joined.{copy_between, neither_varies, plain_copy}
-use Rattle.cob_move_apply.specs.Planned.{copied_move}
+use Rattle.cob_move_apply.specs.Steps.{copied_move}
 use Rattle.cob_move_apply.specs.Written.{AreCopied}
 use Rattle.cob_move_apply.specs.declared.step.MovePlaces.{MovePlaces}
 use Rattle.cob_move_apply.proofs.CopyLemmas.{copied_one, no_counts}

@@ -22,8 +22,8 @@ use Rattle.cob_move_apply.specs.Applied.{Applied, content_at, done, stopped}
 use Rattle.cob_move_apply.specs.Located.{stop_at}
 use Rattle.cob_move_apply.specs.Made.{IsMadeReady}
 use Rattle.cob_move_apply.specs.Placed.{IsFixed}
-use Rattle.cob_move_apply.specs.Planned.{AreFixedPlaces, copied_move}
-use Rattle.cob_move_apply.specs.Steps.{IsPreparedMove, alone}
+use Rattle.cob_move_apply.specs.Planned.{AreFixedPlaces}
+use Rattle.cob_move_apply.specs.Steps.{IsPreparedMove, alone, copied_move}
 use Rattle.cob_move_apply.specs.Written.{HasPlaces, IsFixedMove, IsReceivedFrom, received_at}
 use Rattle.cob_move_apply.specs.declared.step.MovePlaces.{MovePlaces}
 use Rattle.cob_move_apply.specs.declared.step.PreparedMove.{PreparedMove}

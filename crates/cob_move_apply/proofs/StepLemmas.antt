@@ -74,7 +74,7 @@ one_applied : (r : Records) (m : Move) (input now : List ℕ) (stop : Option Sto
 one_applied r m input now None after moved = inl (after, moved, refl)
 one_applied r m input now (Some stop) after moved = inr (stop, after, moved, refl)
 
-made_one : (r : Records) (own : List Move) (m : Move) (input now : List ℕ) (end : Ending) → own ≡ m ∷ [] → IsMoved r m input now end → Applied r own input now end
+pub made_one : (r : Records) (own : List Move) (m : Move) (input now : List ℕ) (end : Ending) → own ≡ m ∷ [] → IsMoved r m input now end → Applied r own input now end
 made_one r own m input now end same moved = subst (λ (ps : List Move). Applied r ps input now end) (sym same) (one_applied r m input now end.stop end.storage moved)
 
 pub the_part : (x : Reading) (r : Records) (given : List StatementMoves) (on : Support) (p : Part) (own : List Move) → IsStep x r given on (step.Part p) own → (m : Move) × IsMoveOfPart x r given on.bases p m

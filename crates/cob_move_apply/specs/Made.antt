@@ -1,8 +1,11 @@
 -- What single moves that were made ready make of the output record's storage.
-use Rattle.std.specs.Prelude.{◌≡◌, ℕ, List, Option, Some}
+use Rattle.std.specs.Prelude.{◌≡◌, ℕ, ◌+◌, ◌≤◌, false, true, List, length, Ok, Option, Some}
 use Rattle.cob_copybook_tree.specs.declared.node.Kind.{Kind}
 use Rattle.cob_entry.specs.Described.{PlainValue}
 use Rattle.cob_layout.specs.Fields.{with_field}
+use Rattle.cob_layout.specs.Storage.{greatest_length}
+use Rattle.cob_layout_places.specs.declared.operands.Side.TheVariants.{In, Out}
+use Rattle.cob_layout_places.specs.Moves.{Records, operand_in}
 use Rattle.cob_move_prepared.specs.Pictured.{IsPicturedStep}
 use Rattle.cob_move_prepared.specs.Pool.{IsMoveStep, MoveKinds}
 use Rattle.cob_move_prepared.specs.declared.constant_step.ConstantStep.{ConstantStep}
@@ -10,10 +13,14 @@ use Rattle.cob_move_prepared.specs.declared.pictured.PicturedSteps.{PicturedStep
 use Rattle.cob_move_prepared.specs.declared.pool.MoveSteps.{MoveSteps}
 use Rattle.cob_move_receive.specs.Received.{Received}
 use Rattle.cob_move_receive.specs.Sent as sent
+use Rattle.cob_move_receive.specs.Sent.{Occupies}
 use Rattle.cob_move_apply.specs.Applied.{Ending}
+use Rattle.cob_move_apply.specs.Located.{Located}
 use Rattle.cob_move_apply.specs.Steps.{IsConstantAt}
 use Rattle.cob_move_apply.specs.Written.{HasPlaces, IsReceivedFrom, IsReceivedPicturedFrom, received_at}
 use Rattle.cob_move_apply.specs.declared.step.ConstantMove.{ConstantMove}
+use Rattle.cob_move_apply.specs.declared.step.LocatedMove.{LocatedMove}
+use Rattle.cob_move_apply.specs.declared.step.MovePlaces.{MovePlaces}
 use Rattle.cob_move_apply.specs.declared.step.PicturedMove.{PicturedMove}
 use Rattle.cob_move_apply.specs.declared.step.PreparedMove.{PreparedMove}
 
@@ -34,3 +41,12 @@ abbrev pub IsMadeConstant : ConstantMove → List ConstantStep → (before after
 IsMadeConstant c steps before after =
     (constant : PlainValue) (to : Kind) → IsConstantAt steps c constant to
     → (written : List ℕ) × Received (sent.Literal constant) to c.to.length (Some written) × (after ≡ with_field before c.to written)
+
+-- The sender and the receiver of a move stand there: within the input record's storage and the output record's, with all their bytes.
+pub record StandAt (r : Records) (one : LocatedMove) (input before : List ℕ) (p : MovePlaces) : Type 0 where
+  pub sends : Located In r.input false (operand_in r.input one.sent) input (Ok p.from)
+  pub reads : p.from.offset + p.from.length ≤ length input
+  pub sent : Occupies (operand_in r.input one.sent).kind p.from.length
+  pub receives : Located Out r.output true (operand_in r.output one.receiver) before (Ok p.to)
+  pub within : p.to.offset + p.to.length ≤ greatest_length r.output
+  pub received : Occupies (operand_in r.output one.receiver).kind p.to.length

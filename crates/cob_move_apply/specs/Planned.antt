@@ -11,15 +11,15 @@ use Rattle.cob_layout.specs.Placed.{placed_under}
 use Rattle.cob_layout.specs.Storage.{greatest_length}
 use Rattle.cob_layout_places.specs.declared.operands.PairMoves.{PairMoves}
 use Rattle.cob_layout_places.specs.declared.operands.Sender as code_sender
-use Rattle.cob_layout_places.specs.declared.operands.Side.TheVariants.{In}
 use Rattle.cob_layout_places.specs.declared.operands.StatementMoves.{StatementMoves}
 use Rattle.cob_layout_places.specs.declared.reference.Ref.{Ref}
-use Rattle.cob_layout_places.specs.Moves.{Entry, Literal, IsMove, Move, Records, numbered_move_by, operand_in, sender, sender_by}
+use Rattle.cob_layout_places.specs.Moves.{Literal, IsMove, Move, Records, numbered_move_by, operand_in, sender, sender_by}
 use Rattle.cob_move_apply.specs.Joined.{CopyEnds, copies_of, copy_ends, last_end, neither_varies, steps_behind}
-use Rattle.cob_move_apply.specs.Steps.{Gains, GainsCut, HasPart, IsPicturedMove, IsPreparedMove, alone, pair_at, part_of}
+use Rattle.cob_move_apply.specs.Steps.{Gains, GainsCut, HasPart, IsPicturedMove, IsPreparedMove, IsReadyAnywhere, alone, copied_move, pair_at, part_of}
 use Rattle.cob_move_apply.specs.Written.{AreCopied, IsFixedConstant}
 use Rattle.cob_move_prepared.specs.Copies.{IsConstantStep}
 use Rattle.cob_move_apply.specs.declared.step.Plan.{Plan}
+use Rattle.cob_move_apply.specs.declared.step.LocatedMove.{LocatedMove}
 use Rattle.cob_move_apply.specs.declared.step.PreparedMove.{PreparedMove}
 use Rattle.cob_move_apply.specs.declared.step.PicturedMove.{PicturedMove}
 use Rattle.cob_move_prepared.specs.declared.pictured.PicturedSteps.{PicturedSteps}
@@ -38,11 +38,6 @@ records_between b = record { input = b.input.now; output = b.output.now }
 -- what is noted of them holds
 abbrev pub AreBetween : Between → Type 0
 AreBetween b = b.is_fixed ≡ neither_varies (records_between b)
-
--- the move of an entry of the input record to one of the output record
-abbrev pub copied_move : Reading → Records → Ref → Ref → Move
-copied_move reading r sent receiver =
-    alone (Entry In reading (operand_in r.input sent)) (operand_in r.output receiver)
 
 -- the move that a part is, its sender read so
 abbrev pub meant : Reading → Records → StatementPart → Move
@@ -84,6 +79,7 @@ step_count (step.Edited p) = 1
 step_count (step.Characters p) = 1
 step_count (step.Pictured q p) = 1
 step_count (step.Constant c) = 1
+step_count (step.Located number) = 1
 step_count (step.Copy c) = 1
 
 -- for how many these are
@@ -101,6 +97,7 @@ step_ends (step.Edited p) = None
 step_ends (step.Characters p) = None
 step_ends (step.Pictured q p) = None
 step_ends (step.Constant c) = None
+step_ends (step.Located number) = None
 step_ends (step.Copy c) = Some (copy_ends c)
 
 -- where the last of these steps ends, if it is a copy
@@ -168,6 +165,10 @@ AlwaysPrepared b steps p ms = (reading : Reading) → IsPreparedMove reading (re
 -- Where senders are read as their pictures say, moves are a single one that was made ready so, by one of these steps.
 abbrev pub IsPictured : Between → PicturedSteps → PicturedMove → (Reading → List Move) → Type 0
 IsPictured b steps p ms = IsPicturedMove (records_between b) steps p (ms Pictured)
+
+-- Whatever the reading, moves are a single one that was made ready so wherever its items stand, by one of these steps.
+abbrev pub AlwaysLocated : Records → MoveSteps → LocatedMove → (Reading → List Move) → Type 0
+AlwaysLocated r steps p ms = IsReadyAnywhere r steps p × ((reading : Reading) → ms reading ≡ copied_move reading r p.sent p.receiver ∷ [])
 
 -- Whatever the reading, moves are a single one of a constant that was made ready so.
 abbrev pub IsReady : Records → ReadyConstant → (Reading → List Move) → Type 0

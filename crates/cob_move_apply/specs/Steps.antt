@@ -1,5 +1,5 @@
 -- Steps: what is carried out in the place of moves.
-use Rattle.std.specs.Prelude.{◌≡◌, ◌⊎◌, ℕ, ◌+◌, ◌<◌, ◌≤◌, List, [], ◌∷◌, ◌++◌, length, get_or, map, take, drop}
+use Rattle.std.specs.Prelude.{◌≡◌, ◌⊎◌, ℕ, ◌+◌, ◌<◌, ◌≤◌, false, true, List, [], ◌∷◌, ◌++◌, length, get_or, map, take, drop}
 use Rattle.cob_codec.specs.declared.reading.Reading.{Reading}
 use Rattle.cob_codec.specs.declared.reading.Reading.TheVariants.{Pictured}
 use Rattle.cob_copybook_tree.specs.declared.node.Kind.{Kind}
@@ -12,8 +12,10 @@ use Rattle.cob_layout_places.specs.declared.operands.PairMoves.{PairMoves}
 use Rattle.cob_layout_places.specs.declared.operands.StatementMoves.{StatementMoves}
 use Rattle.cob_layout_places.specs.declared.operands.StatementMoves.TheVariants.{Single, Pairs}
 use Rattle.cob_layout_places.specs.Moves.{Move, Records, Sender, Entry, Literal, numbered_move_by, operand_in, sender_by}
-use Rattle.cob_move_apply.specs.Placed.{IsPlacedMove}
+use Rattle.cob_layout_places.specs.declared.reference.Ref.{Ref}
+use Rattle.cob_move_apply.specs.Placed.{IsPlaced, IsPlacedMove}
 use Rattle.cob_move_apply.specs.Written.{AreCopied, IsFixedConstant, IsFixedMove}
+use Rattle.cob_move_receive.specs.Sent.{Occupies}
 use Rattle.cob_move_prepared.specs.Pictured.{IsPicturedStep}
 use Rattle.cob_move_prepared.specs.Copies.{IsConstantStep}
 use Rattle.cob_move_prepared.specs.Pool.{IsMoveStep, IsStepAt, MoveKinds}
@@ -24,6 +26,7 @@ use Rattle.cob_move_prepared.specs.declared.pool.MoveStep.TheVariants as move_st
 use Rattle.cob_move_prepared.specs.declared.pool.MoveSteps.{MoveSteps}
 use Rattle.cob_move_apply.specs.declared.basis.Basis.{Basis}
 use Rattle.cob_move_apply.specs.declared.step.ConstantMove.{ConstantMove}
+use Rattle.cob_move_apply.specs.declared.step.LocatedMove.{LocatedMove}
 use Rattle.cob_move_apply.specs.declared.step.NumberedMove.{NumberedMove}
 use Rattle.cob_move_apply.specs.declared.step.Part.{Part}
 use Rattle.cob_move_apply.specs.declared.step.PicturedMove.{PicturedMove}
@@ -31,6 +34,14 @@ use Rattle.cob_move_apply.specs.declared.step.Plan.{Plan}
 use Rattle.cob_move_apply.specs.declared.step.PreparedMove.{PreparedMove}
 use Rattle.cob_move_apply.specs.declared.step.Step.{Step}
 use Rattle.cob_move_apply.specs.declared.step.Step.TheVariants as step
+
+-- a sender with one receiver
+abbrev pub alone : Sender → Operand → Move
+alone s o = record { sender = s; receivers = o ∷ [] }
+
+-- the move of an entry of the input record to one of the output record
+abbrev pub copied_move : Reading → Records → Ref → Ref → Move
+copied_move reading r sent receiver = alone (Entry In reading (operand_in r.input sent)) (operand_in r.output receiver)
 
 -- the pair of two groups with this number
 abbrev pub pair_at : PairMoves → ℕ → NumberedPair
@@ -66,16 +77,17 @@ pub record IsMoveOfPart (reading : Reading) (r : Records) (given : List Statemen
   pub placed : BeginsWith r m (drop p.base bases)
 
 -- what steps rest on: the bases of the operands of parts, and the single moves that were made ready, whatever the reading or as pictures say, and the
--- constants
+-- constants, and those that were made ready wherever their items stand
 pub record Support : Type 0 where
   pub bases : List Basis
   pub prepared : MoveSteps
   pub pictured : PicturedSteps
   pub constants : List ConstantStep
+  pub located : List LocatedMove
 
 -- what the steps of a plan rest on
 abbrev pub support_of : Plan → Support
-support_of plan = record { bases = plan.bases.items; prepared = plan.prepared; pictured = plan.pictured; constants = plan.constants.items }
+support_of plan = record { bases = plan.bases.items; prepared = plan.prepared; pictured = plan.pictured; constants = plan.constants.items; located = plan.located.items }
 
 -- these are a single move that was made ready so, by one of these steps
 abbrev pub IsPreparedMove : Reading → Records → MoveSteps → PreparedMove → List Move → Type 0
@@ -97,12 +109,28 @@ IsConstantAt steps c constant to = IsStepAt ConstantStep (λ step. IsConstantSte
 abbrev pub IsConstantMove : Records → List ConstantStep → ConstantMove → List Move → Type 0
 IsConstantMove r steps c own = (constant : PlainValue) × (to : Kind) × IsConstantAt steps c constant to × IsFixedConstant r c.to constant to own
 
+-- the step, one of these, carries out moves between what two such entries describe, however many bytes it may have
+abbrev pub CarriesAnywhere : MoveSteps → (sender receiver : Kind) → MoveStep → Type 0
+CarriesAnywhere steps sender receiver s = (sent received : ℕ) → Occupies sender sent → Occupies receiver received
+    → IsMoveStep steps (record { sender = sender; sent = sent; receiver = receiver; received = received }) s
+
+-- a move was made ready so: what is noted of either place is what this may rest on, and the step, one of these, carries the move out wherever they are
+pub record IsReadyAnywhere (r : Records) (steps : MoveSteps) (p : LocatedMove) : Type 0 where
+  pub sends : IsPlaced r.input false (operand_in r.input p.sent) p.from
+  pub receives : IsPlaced r.output true (operand_in r.output p.receiver) p.to
+  pub carries : CarriesAnywhere steps (operand_in r.input p.sent).kind (operand_in r.output p.receiver).kind p.step
+
+-- these are the single move with this number among some that were made ready wherever their items stand, by one of these steps
+abbrev pub IsLocatedMove : Reading → Records → MoveSteps → List LocatedMove → ℕ → List Move → Type 0
+IsLocatedMove reading r steps located number own =
+    IsStepAt LocatedMove (λ p. IsReadyAnywhere r steps p × (own ≡ copied_move reading r p.sent p.receiver ∷ [])) located number
+
 -- the move that the step of this number, of a kind, carries out
 abbrev pub numbered : (ℕ → MoveStep) → NumberedMove → PreparedMove
 numbered kind p = record { places = p.places; step = kind p.number }
 
--- a step stands for these moves: for one part, for a single move that was made ready, whatever the reading or as pictures say, or of a constant, or for
--- those that are a copy
+-- a step stands for these moves: for one part, for a single move that was made ready, whatever the reading or as pictures say, or of a constant, or
+-- wherever its items stand, or for those that are a copy
 abbrev pub IsStep : Reading → Records → List StatementMoves → Support → Step → List Move → Type 0
 IsStep reading r given on (step.Part p) own = (m : Move) × (own ≡ m ∷ []) × IsMoveOfPart reading r given on.bases p m
 IsStep reading r given on (step.Number p) own = IsPreparedMove reading r on.prepared (numbered move_step.Number p) own
@@ -112,6 +140,7 @@ IsStep reading r given on (step.Edited p) own = IsPreparedMove reading r on.prep
 IsStep reading r given on (step.Characters p) own = IsPreparedMove reading r on.prepared (record { places = p.places; step = move_step.Characters p.step }) own
 IsStep reading r given on (step.Pictured q p) own = (m : Move) × (own ≡ m ∷ []) × IsPicturedPart reading r given on.bases on.pictured q p m
 IsStep reading r given on (step.Constant c) own = IsConstantMove r on.constants c own
+IsStep reading r given on (step.Located number) own = IsLocatedMove reading r on.prepared on.located number own
 IsStep reading r given on (step.Copy places) own = AreCopied r places.from places.to own
 
 -- steps stand for these moves, one step's behind another's
@@ -124,10 +153,6 @@ AreSteps reading r given on (s ∷ ss) parts =
 abbrev pub AreReceived : Sender → List Move → List Operand → Type 0
 AreReceived s [] os = os ≡ []
 AreReceived s (p ∷ ps) os = (p.sender ≡ s) × ((rest : List Operand) × (os ≡ p.receivers ++ rest) × AreReceived s ps rest)
-
--- a sender with one receiver
-abbrev pub alone : Sender → Operand → Move
-alone s o = record { sender = s; receivers = o ∷ [] }
 
 -- a sender with each of some receivers by itself
 abbrev pub singles : Sender → List Operand → List Move

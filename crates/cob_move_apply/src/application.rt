@@ -10,6 +10,7 @@ ghost use Rattle.cob_move_apply.specs.Surveyed.{HasSpace, IsWorkspace, records};
 
 use crate::basis::{Basis, PlacedReceivers};
 use crate::constant::make_constant;
+use crate::located::make_located;
 use crate::pairs::make_pair_move;
 use crate::pictured::run_pictured;
 use crate::prepared::make_prepared;
@@ -177,6 +178,9 @@ fn make_step(
         Step::Constant(one) => {
             make_constant(plan, *one, layouts, input, output, space);
             return Ok(());
+        }
+        Step::Located(number) => {
+            return make_located(plan, *number, layouts, input, output, space);
         }
         Step::Copy(places) => {
             copy_across(*places, input, output);

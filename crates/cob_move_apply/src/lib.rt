@@ -31,6 +31,7 @@ mod application;
 mod basis;
 mod constant;
 mod laws;
+mod located;
 mod moves;
 mod pairs;
 mod pictured;

@@ -31,6 +31,13 @@ fn same_subscripts(subscripts: &[u32]) -> ArrayVec<u32, MAX_SUBSCRIPTS>
     same
 }
 
+/// The same reference once more.
+pub(crate) fn same_entry(entry: &Ref) -> Ref
+    ensures { result ≡ entry.now }
+{
+    entry_below(entry, entry.node)
+}
+
 /// The entry with this number, with the subscripts of a group.
 pub(crate) fn entry_below(group: &Ref, number: usize) -> Ref
     ensures { result ≡ entry_below group.now number }

@@ -22,7 +22,7 @@ use cob_layout_places::{Sender, Side};
 use std::alloc::AllocError;
 
 /// What an operand's place rests on.
-fn basis_of(layout: &Layout, entry: &Ref, receiving: bool) -> Basis
+pub(crate) fn basis_of(layout: &Layout, entry: &Ref, receiving: bool) -> Basis
     requires operand { IsOperand layout.now (operand_in layout.now entry.now) }
     ensures { IsBasis layout.now receiving (operand_in layout.now entry.now) result }
 {

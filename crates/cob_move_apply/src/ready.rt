@@ -1,18 +1,21 @@
 //! Single moves made ready, before a record comes.
 
 ghost use Rattle.std.specs.Prelude.{IfOk, IfSome};
+ghost use Rattle.cob_layout.specs.Sound.{IsStorableKind};
 ghost use Rattle.cob_layout_places.specs.Moves.{IsMove, IsOperand, operand_in, sender};
-ghost use Rattle.cob_move_apply.specs.Planned.{AlwaysPrepared, AreFixedPlaces, IsPictured, IsReady, constant_alone, entry_alone, records_between, single_alone};
-ghost use Rattle.cob_move_apply.specs.Steps.{alone};
+ghost use Rattle.cob_move_apply.specs.Planned.{AlwaysLocated, AlwaysPrepared, AreFixedPlaces, IsPictured, IsReady, constant_alone, entry_alone, records_between, single_alone};
+ghost use Rattle.cob_move_apply.specs.Steps.{CarriesAnywhere, alone};
 ghost use Rattle.cob_move_prepared.specs.Pictured.{KeepsPictured};
 ghost use Rattle.cob_move_prepared.specs.Pool.{KeepsSteps};
 
 use crate::basis::entry_kind;
+use crate::pairs::same_entry;
 use crate::planning::Between;
-use crate::step::{MovePlaces, PicturedMove, PreparedMove};
-use cob_layout::{Place, Ref, Value, places_lie_in_storage, records_are_sound};
+use crate::preparation::basis_of;
+use crate::step::{LocatedMove, MovePlaces, PicturedMove, PreparedMove};
+use cob_layout::{Kind, Place, Ref, Value, places_lie_in_storage, records_are_sound};
 use cob_layout_places::{Sender, Side};
-use cob_move_prepared::{ConstantStep, MoveSteps, PicturedSteps};
+use cob_move_prepared::{ConstantStep, MoveStep, MoveSteps, PicturedSteps};
 use std::alloc::AllocError;
 
 /// To how many bytes a constant is made ready at most: of longer ones a paragraph could name more than there is memory for.
@@ -160,6 +163,98 @@ pub(crate) fn prepared_of(
     match given {
         Sender::Entry { side, entry } => match *side {
             Side::In => prepared_entry(entry, receiver, both, prepared),
+            Side::Out => Ok(None),
+        },
+        Sender::Constant(_) => Ok(None),
+    }
+}
+
+/// The step that carries out the moves of an item to another wherever they stand; None where one of them is a group, or nothing carries such moves out.
+///
+/// # Errors
+///
+/// Where no memory is left.
+fn step_between(
+    sends: &Kind,
+    receives: &Kind,
+    prepared: &mut MoveSteps,
+) -> Result<Option<MoveStep>, AllocError>
+    requires sends { IsStorableKind sends.now }
+    requires receives { IsStorableKind receives.now }
+    ensures step { IfOk result (λ found. IfSome found
+        (CarriesAnywhere prepared.new sends.now receives.now)) }
+    ensures kept { KeepsSteps prepared.old prepared.new }
+{
+    let Kind::Item(from) = sends else {
+        return Ok(None);
+    };
+    let Kind::Item(to) = receives else {
+        return Ok(None);
+    };
+    let sent = u32::from(from.size());
+    let received = u32::from(to.size());
+    prepared.prepare(sends, sent, receives, received)
+}
+
+/// The single move of an entry of the input record to one of the output record, made ready wherever they stand; None where one of them is a group, or
+/// nothing carries such moves out.
+///
+/// # Errors
+///
+/// Where no memory is left.
+fn located_entry(
+    sent: &Ref,
+    receiver: &Ref,
+    both: &Between<'_>,
+    prepared: &mut MoveSteps,
+) -> Result<Option<LocatedMove>, AllocError>
+    requires sent { IsOperand both.now.input.now (operand_in both.now.input.now sent.now) }
+    requires receiver { IsOperand both.now.output.now
+        (operand_in both.now.output.now receiver.now) }
+    ensures step { IfOk result (λ found. IfSome found
+        (λ one. AlwaysLocated (records_between both.now) prepared.new one
+        (entry_alone both.now sent.now receiver.now))) }
+    ensures kept { KeepsSteps prepared.old prepared.new }
+{
+    records_are_sound();
+    let _ = both.input.greatest();
+    let _ = both.output.greatest();
+    let sends = entry_kind(both.input, sent);
+    let receives = entry_kind(both.output, receiver);
+    match step_between(sends, receives, prepared)? {
+        Some(step) => Ok(Some(LocatedMove {
+            sent: same_entry(sent),
+            from: basis_of(both.input, sent, false),
+            receiver: same_entry(receiver),
+            to: basis_of(both.output, receiver, true),
+            step,
+        })),
+        None => Ok(None),
+    }
+}
+
+/// A single move, made ready wherever its operands stand; None where nothing carries it out.
+///
+/// # Errors
+///
+/// Where no memory is left.
+pub(crate) fn located_of(
+    given: &Sender,
+    receiver: &Ref,
+    both: &Between<'_>,
+    prepared: &mut MoveSteps,
+) -> Result<Option<LocatedMove>, AllocError>
+    requires legal { IsMove (records_between both.now)
+        (alone (sender (records_between both.now) given.now)
+        (operand_in both.now.output.now receiver.now)) }
+    ensures step { IfOk result (λ found. IfSome found
+        (λ one. AlwaysLocated (records_between both.now) prepared.new one
+        (single_alone both.now given.now receiver.now))) }
+    ensures kept { KeepsSteps prepared.old prepared.new }
+{
+    match given {
+        Sender::Entry { side, entry } => match *side {
+            Side::In => located_entry(entry, receiver, both, prepared),
             Side::Out => Ok(None),
         },
         Sender::Constant(_) => Ok(None),

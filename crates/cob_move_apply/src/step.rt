@@ -13,7 +13,7 @@ ghost use Rattle.cob_move_apply.specs.Told.{most_moves_told};
 ghost use Rattle.cob_move_apply.specs.Written.{IsBoth};
 
 use crate::basis::Basis;
-use cob_layout::{Place, field};
+use cob_layout::{Place, Ref, field};
 use cob_move_prepared::{
     CharactersStep, ConstantStep, MoveStep, MoveSteps, PicturedStep, PicturedSteps, copy_all,
 };
@@ -83,6 +83,19 @@ pub(crate) struct ConstantMove {
     pub(crate) number: usize,
 }
 
+/// A single move of an item of the input record to one of the output record, made ready wherever these stand: an item has as many bytes everywhere.
+#[derive(Debug, Drop)]
+pub(crate) struct LocatedMove {
+    pub(crate) sent: Ref,
+    /// What the place of the sender rests on.
+    pub(crate) from: Basis,
+    pub(crate) receiver: Ref,
+    /// What the place of the receiver rests on.
+    pub(crate) to: Basis,
+    /// What carries the move out.
+    pub(crate) step: MoveStep,
+}
+
 /// What is carried out at once. Single moves that were made ready stand here by their kinds, so that one jump finds what carries them out.
 #[derive(Clone, Copy, Debug)]
 pub(crate) enum Step {
@@ -102,6 +115,8 @@ pub(crate) enum Step {
     Pictured(PicturedMove, Part),
     /// A single move of a constant was made ready.
     Constant(ConstantMove),
+    /// A single move between items was made ready, and where they stand is found as the step is carried out: the one that has this number.
+    Located(usize),
     /// Bytes of the input record are copied: one single move, or several, each of which begins on both sides where the one before ends.
     Copy(MovePlaces),
 }
@@ -118,6 +133,8 @@ pub(crate) struct Plan {
     pub(crate) pictured: PicturedSteps,
     /// What writes the constants of moves that were made ready.
     pub(crate) constants: Vec<ConstantStep>,
+    /// The single moves that were made ready wherever their items stand.
+    pub(crate) located: Vec<LocatedMove>,
 }
 
 /// The place of both, where the second begins where the first ends.
@@ -186,7 +203,8 @@ fn step_count(step: Step) -> usize
     match step {
         Step::Part(part) => part.count,
         Step::Number(_) | Step::Wide(_) | Step::Binary(_) | Step::Edited(_) => 1,
-        Step::Characters(_) | Step::Pictured(_, _) | Step::Constant(_) | Step::Copy(_) => 1,
+        Step::Characters(_) | Step::Pictured(_, _) | Step::Constant(_) => 1,
+        Step::Located(_) | Step::Copy(_) => 1,
     }
 }
 

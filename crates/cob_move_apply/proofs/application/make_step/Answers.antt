@@ -101,6 +101,21 @@ returns-in-Copy-clause-space c =
     let is = subst (λ (s : Step). IsStep x r c.args.given.now on s c.requires.step.0) c.in-Copy.is c.requires.step.1 in
     space_copy x r c.args.given.now on c.in-Copy.places c.requires.step.0 c.args.input.now c.args.output.now c.copy_across.new.output c.args.space.now c.requires.input c.requires.output c.copy_across.ensures is c.requires.space
 
+pub make_located-requires-clause-step : goal.make_located-requires-clause-step
+make_located-requires-clause-step c =
+    let x = c.args.layouts.now.reading in
+    let r = records c.args.layouts.now in
+    let on : Support = support_of c.args.plan.now in
+    (c.requires.step.0, subst (λ (s : Step). IsStep x r c.args.given.now on s c.requires.step.0) c.in-Located.is c.requires.step.1)
+
+pub returns-in-Located-clause-applied : goal.returns-in-Located-clause-applied
+returns-in-Located-clause-applied c = λ own is.
+    let x = c.args.layouts.now.reading in
+    let r = records c.args.layouts.now in
+    let on : Support = support_of c.args.plan.now in
+    let this = subst (λ (s : Step). IsStep x r c.args.given.now on s own) c.in-Located.is is in
+    c.make_located.ensures.applied own this
+
 pub returns-clause-applied : goal.returns-clause-applied
 returns-clause-applied c = λ own is.
     let x = c.args.layouts.now.reading in

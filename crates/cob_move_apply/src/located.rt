@@ -1,0 +1,101 @@
+//! Single moves that were made ready wherever their items stand, carried out.
+
+ghost use Rattle.std.specs.Prelude.{◌≡◌, false, length, true, IfErr, IfOk, List};
+ghost use Rattle.cob_layout.specs.Sound.{IsSound};
+ghost use Rattle.cob_layout.specs.Storage.{greatest_length, IsStorage};
+ghost use Rattle.cob_layout_places.specs.Moves.{Move as Meant, operand_in};
+ghost use Rattle.cob_move_apply.specs.Applied.{Applied, IsMoved, ending, stopped};
+ghost use Rattle.cob_move_apply.specs.Made.{StandAt};
+ghost use Rattle.cob_move_apply.specs.Placed.{IsPlaced};
+ghost use Rattle.cob_move_apply.specs.Steps.{IsLocatedMove, copied_move};
+ghost use Rattle.cob_move_apply.specs.Surveyed.{IsWorkspace, records};
+
+use crate::basis::placed_operand;
+use crate::places::{Stored, locate};
+use crate::prepared::make_prepared;
+use crate::step::{LocatedMove, MovePlaces, Plan, PreparedMove};
+use crate::stop::Stop;
+use crate::workspace::{Layouts, Workspace};
+use cob_layout::places_lie_in_storage;
+use cob_layout_places::Side;
+
+/// Where the sender and the receiver of a move stand: the sender's place is found first.
+///
+/// # Errors
+///
+/// The first thing missing.
+fn locate_both(
+    one: &LocatedMove,
+    layouts: &Layouts<'_>,
+    input: &[u8],
+    output: &[u8],
+    space: &mut Workspace,
+) -> Result<MovePlaces, Stop>
+    requires in_sound { IsSound layouts.now.input.now }
+    requires out_sound { IsSound layouts.now.output.now }
+    requires sends { IsPlaced layouts.now.input.now false
+        (operand_in layouts.now.input.now one.now.sent) one.now.from }
+    requires receives { IsPlaced layouts.now.output.now true
+        (operand_in layouts.now.output.now one.now.receiver) one.now.to }
+    requires input { IsStorage layouts.now.input.now input.now }
+    requires space { IsWorkspace (records layouts.now) input.now output.now space.old }
+    ensures stand { IfOk result (StandAt (records layouts.now) one.now input.now output.now) }
+    ensures stops { IfErr result (λ stop. IsMoved (records layouts.now)
+        (copied_move layouts.now.reading (records layouts.now) one.now.sent one.now.receiver)
+        input.now output.now (stopped stop output.now)) }
+    ensures space { IsWorkspace (records layouts.now) input.now output.now space.new }
+{
+    let _ = layouts.input.greatest();
+    places_lie_in_storage();
+    let sending = Stored {
+        side: Side::In,
+        layout: layouts.input,
+        bytes: input,
+    };
+    let sender = placed_operand(layouts.input, &one.sent, one.from);
+    let from = locate(&sending, &sender, false, &mut space.input)?;
+    let receiving = Stored {
+        side: Side::Out,
+        layout: layouts.output,
+        bytes: output,
+    };
+    let receiver = placed_operand(layouts.output, &one.receiver, one.to);
+    let to = locate(&receiving, &receiver, true, &mut space.output)?;
+    Ok(MovePlaces { from, to })
+}
+
+/// Carries out the single move with this number among those that were made ready wherever their items stand. It isn't inlined, so that steps whose
+/// places are known stay short.
+///
+/// # Errors
+///
+/// The first thing missing: a place of the sender, one of the receiver, a value of the sender. The storage is as it was then.
+#[inline(never)]
+pub(crate) fn make_located(
+    plan: &Plan,
+    number: usize,
+    layouts: &Layouts<'_>,
+    input: &[u8],
+    output: &mut [u8],
+    space: &mut Workspace,
+) -> Result<(), Stop>
+    requires in_sound { IsSound layouts.now.input.now }
+    requires out_sound { IsSound layouts.now.output.now }
+    requires step { (own : List Meant) × IsLocatedMove layouts.now.reading (records layouts.now)
+        plan.now.prepared plan.now.located.items number own }
+    requires input { IsStorage layouts.now.input.now input.now }
+    requires output { length output.old ≡ greatest_length layouts.now.output.now }
+    requires space { IsWorkspace (records layouts.now) input.now output.old space.old }
+    ensures applied { (own : List Meant) → IsLocatedMove layouts.now.reading (records layouts.now)
+        plan.now.prepared plan.now.located.items number own
+        → Applied (records layouts.now) own input.now output.old (ending result output.new) }
+    ensures space { IsWorkspace (records layouts.now) input.now output.new space.new }
+{
+    let one = &plan.located[number];
+    let places = locate_both(one, layouts, input, output, space)?;
+    let ready = PreparedMove {
+        places,
+        step: one.step,
+    };
+    make_prepared(&plan.prepared, ready, layouts, input, output, space)
+}
