@@ -15,7 +15,7 @@ use crate::pairs::make_pair_move;
 use crate::pictured::run_pictured;
 use crate::prepared::make_prepared;
 use crate::senders::make_move;
-use crate::step::{Part, PicturedMove, Plan, PreparedMove, Step, copy_across};
+use crate::step::{MovePlaces, Part, PicturedMove, Plan, PreparedMove, Step, copy_across};
 use crate::stop::Stop;
 use crate::workspace::{Layouts, Workspace};
 use cob_codec::Reading;
@@ -121,22 +121,25 @@ fn make_pictured(
 #[inline(always)]
 fn make_single(
     plan: &Plan,
-    one: PreparedMove,
+    places: MovePlaces,
+    step: MoveStep,
     layouts: &Layouts<'_>,
     input: &[u8],
     output: &mut [u8],
     space: &mut Workspace,
 ) -> Result<(), Stop>
-    requires step { (own : List Meant)
-        × IsPreparedMove layouts.now.reading (records layouts.now) plan.now.prepared one own }
+    requires step { (own : List Meant) × IsPreparedMove layouts.now.reading (records layouts.now)
+        plan.now.prepared (record { places = places; step = step }) own }
     requires input { IsStorage layouts.now.input.now input.now }
     requires output { length output.old ≡ greatest_length layouts.now.output.now }
     requires space { IsWorkspace (records layouts.now) input.now output.old space.old }
     ensures applied { (own : List Meant)
-        → IsPreparedMove layouts.now.reading (records layouts.now) plan.now.prepared one own
+        → IsPreparedMove layouts.now.reading (records layouts.now)
+        plan.now.prepared (record { places = places; step = step }) own
         → Applied (records layouts.now) own input.now output.old (ending result output.new) }
     ensures space { IsWorkspace (records layouts.now) input.now output.new space.new }
 {
+    let one = PreparedMove { places, step };
     make_prepared(&plan.prepared, one, layouts, input, output, space)
 }
 
@@ -167,48 +170,44 @@ fn make_step(
         → Applied (records layouts.now) own input.now output.old (ending result output.new) }
     ensures space { IsWorkspace (records layouts.now) input.now output.new space.new }
 {
-    let one = match step {
+    match step {
         Step::Part(part) => {
             let bases = plan.bases.as_slice();
-            return make_part(given, bases, *part, layouts, input, output, space);
+            make_part(given, bases, *part, layouts, input, output, space)
+        }
+        Step::Number(one) => {
+            let step = MoveStep::Number(one.number);
+            make_single(plan, one.places, step, layouts, input, output, space)
+        }
+        Step::Wide(one) => {
+            let step = MoveStep::Wide(one.number);
+            make_single(plan, one.places, step, layouts, input, output, space)
+        }
+        Step::Binary(one) => {
+            let step = MoveStep::Binary(one.number);
+            make_single(plan, one.places, step, layouts, input, output, space)
+        }
+        Step::Edited(one) => {
+            let step = MoveStep::Edited(one.number);
+            make_single(plan, one.places, step, layouts, input, output, space)
+        }
+        Step::Characters(one) => {
+            let step = MoveStep::Characters(one.step);
+            make_single(plan, one.places, step, layouts, input, output, space)
         }
         Step::Pictured(one, part) => {
-            return make_pictured(given, plan, *one, part, layouts, input, output, space);
+            make_pictured(given, plan, *one, part, layouts, input, output, space)
         }
         Step::Constant(one) => {
             make_constant(plan, *one, layouts, input, output, space);
-            return Ok(());
+            Ok(())
         }
-        Step::Located(number) => {
-            return make_located(plan, *number, layouts, input, output, space);
-        }
+        Step::Located(number) => make_located(plan, *number, layouts, input, output, space),
         Step::Copy(places) => {
             copy_across(*places, input, output);
-            return Ok(());
+            Ok(())
         }
-        Step::Number(one) => PreparedMove {
-            places: one.places,
-            step: MoveStep::Number(one.number),
-        },
-        Step::Wide(one) => PreparedMove {
-            places: one.places,
-            step: MoveStep::Wide(one.number),
-        },
-        Step::Binary(one) => PreparedMove {
-            places: one.places,
-            step: MoveStep::Binary(one.number),
-        },
-        Step::Edited(one) => PreparedMove {
-            places: one.places,
-            step: MoveStep::Edited(one.number),
-        },
-        Step::Characters(one) => PreparedMove {
-            places: one.places,
-            step: MoveStep::Characters(one.step),
-        },
-    };
-    // One call for all of them, so that it is inlined and each goes on where its kind is known.
-    make_single(plan, one, layouts, input, output, space)
+    }
 }
 
 /// Carries out the steps of the plan of moves, in order.

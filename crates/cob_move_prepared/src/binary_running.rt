@@ -12,7 +12,7 @@ impl BinaryStep {
     /// picture says.
     ///
     /// False where the sender's bytes represent no number: the receiver's bytes are as they were then.
-    #[inline(always)]
+    #[inline(never)]
     pub fn run(&self, from: &[u8], to: &mut [u8]) -> bool
         requires { length to.old ≤ 16 }
         ensures gets { IsBinaryCarriedOut

@@ -50,8 +50,9 @@ fn put_left(text: &[u8], to: &mut [u8])
     fill_spaces(tail);
 }
 
-/// Writes characters from the right, cut at the left, with spaces before them.
-#[inline(always)]
+/// Writes characters from the right, cut at the left, with spaces before them. Few receivers are JUSTIFIED: so it is a call, and what is inlined where
+/// moves are carried out stays short.
+#[inline(never)]
 fn put_right(text: &[u8], to: &mut [u8])
     ensures { to.new ≡ padded_left (length to.old) text.now }
 {

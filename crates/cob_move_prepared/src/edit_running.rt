@@ -24,7 +24,7 @@ impl EditStep {
     /// Moves the number of the sender that ends bytes to a receiver's bytes, as a step of two numbers does.
     ///
     /// False where the sender's bytes represent no number: the receiver's bytes are as they were then.
-    #[inline(always)]
+    #[inline(never)]
     pub fn run(&self, from: &[u8], to: &mut [u8]) -> bool
         requires { length to.old ≤ 16 }
         ensures gets { IsEditCarriedOut self.now from.now (length to.old) (outcome result to.new) }

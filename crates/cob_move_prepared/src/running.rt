@@ -11,7 +11,7 @@ impl NumberStep {
     /// Moves the number of the sender that ends bytes to a receiver's bytes: best the bytes of a record up to the sender's last.
     ///
     /// False where the sender's bytes represent no number: the receiver's bytes are as they were then.
-    #[inline(always)]
+    #[inline(never)]
     pub fn run(&self, from: &[u8], to: &mut [u8]) -> bool
         requires { length to.old ≤ 16 }
         ensures gets { IsCarriedOut self.now from.now (length to.old) (outcome result to.new) }

@@ -1,14 +1,12 @@
 use Rattle.std.proofs.Common.{List, subst, sym}
 use Rattle.cob_move_apply.specs.Applied.{ending}
-use Rattle.cob_move_apply.specs.Steps.{IsMoveOfPart, IsPreparedMove, IsStep, Support, support_of}
+use Rattle.cob_move_apply.specs.Steps.{IsMoveOfPart, IsStep, Support, support_of}
 use Rattle.cob_move_apply.specs.Surveyed.{records}
 use Rattle.cob_move_apply.specs.declared.basis.Basis.{Basis}
-use Rattle.cob_move_apply.specs.declared.step.PreparedMove.{PreparedMove}
 use Rattle.cob_move_apply.specs.declared.step.Step.{Step}
 use Rattle.cob_move_apply.proofs.PartLemmas.{part_room}
 use Rattle.cob_move_apply.proofs.StepLemmas.{constant_within, copy_reads, made_constant, made_copy, made_part, made_pictured, space_copy, the_constant, the_part, the_pictured}
 use Rattle.cob_move_apply.proofs.application.make_step.Goals as goal
-use Rattle.cob_move_apply.proofs.application.make_step.Goals.{in-Number, in-Wide, in-Binary, in-Edited, in-Characters}
 
 pub make_part-requires-clause-part : goal.make_part-requires-clause-part
 make_part-requires-clause-part c =
@@ -36,6 +34,81 @@ returns-in-Part-clause-applied c = λ own is.
     let this = subst (λ (s : Step). IsStep x r c.args.given.now on s own) c.in-Part.is is in
     made_part x r c.args.given.now on c.in-Part.part own c.args.input.now c.args.output.now (ending c.make_part.result c.make_part.new.output)
     (λ m part. c.make_part.ensures.moved m (subst (λ (bs : List Basis). IsMoveOfPart x r c.args.given.now bs c.in-Part.part m) (sym c.as_slice-bases.ensures.value) part)) this
+
+pub make_single-requires-clause-step : goal.make_single-requires-clause-step
+make_single-requires-clause-step c =
+    let x = c.args.layouts.now.reading in
+    let r = records c.args.layouts.now in
+    let on : Support = support_of c.args.plan.now in
+    (c.requires.step.0, subst (λ (s : Step). IsStep x r c.args.given.now on s c.requires.step.0) c.in-Number.is c.requires.step.1)
+
+pub returns-in-Number-clause-applied : goal.returns-in-Number-clause-applied
+returns-in-Number-clause-applied c = λ own is.
+    let x = c.args.layouts.now.reading in
+    let r = records c.args.layouts.now in
+    let on : Support = support_of c.args.plan.now in
+    let this = subst (λ (s : Step). IsStep x r c.args.given.now on s own) c.in-Number.is is in
+    c.make_single.ensures.applied own this
+
+pub make_single-requires-in-Wide-clause-step : goal.make_single-requires-in-Wide-clause-step
+make_single-requires-in-Wide-clause-step c =
+    let x = c.args.layouts.now.reading in
+    let r = records c.args.layouts.now in
+    let on : Support = support_of c.args.plan.now in
+    (c.requires.step.0, subst (λ (s : Step). IsStep x r c.args.given.now on s c.requires.step.0) c.in-Wide.is c.requires.step.1)
+
+pub returns-in-Wide-clause-applied : goal.returns-in-Wide-clause-applied
+returns-in-Wide-clause-applied c = λ own is.
+    let x = c.args.layouts.now.reading in
+    let r = records c.args.layouts.now in
+    let on : Support = support_of c.args.plan.now in
+    let this = subst (λ (s : Step). IsStep x r c.args.given.now on s own) c.in-Wide.is is in
+    c.make_single-in-Wide.ensures.applied own this
+
+pub make_single-requires-in-Binary-clause-step : goal.make_single-requires-in-Binary-clause-step
+make_single-requires-in-Binary-clause-step c =
+    let x = c.args.layouts.now.reading in
+    let r = records c.args.layouts.now in
+    let on : Support = support_of c.args.plan.now in
+    (c.requires.step.0, subst (λ (s : Step). IsStep x r c.args.given.now on s c.requires.step.0) c.in-Binary.is c.requires.step.1)
+
+pub returns-in-Binary-clause-applied : goal.returns-in-Binary-clause-applied
+returns-in-Binary-clause-applied c = λ own is.
+    let x = c.args.layouts.now.reading in
+    let r = records c.args.layouts.now in
+    let on : Support = support_of c.args.plan.now in
+    let this = subst (λ (s : Step). IsStep x r c.args.given.now on s own) c.in-Binary.is is in
+    c.make_single-in-Binary.ensures.applied own this
+
+pub make_single-requires-in-Edited-clause-step : goal.make_single-requires-in-Edited-clause-step
+make_single-requires-in-Edited-clause-step c =
+    let x = c.args.layouts.now.reading in
+    let r = records c.args.layouts.now in
+    let on : Support = support_of c.args.plan.now in
+    (c.requires.step.0, subst (λ (s : Step). IsStep x r c.args.given.now on s c.requires.step.0) c.in-Edited.is c.requires.step.1)
+
+pub returns-in-Edited-clause-applied : goal.returns-in-Edited-clause-applied
+returns-in-Edited-clause-applied c = λ own is.
+    let x = c.args.layouts.now.reading in
+    let r = records c.args.layouts.now in
+    let on : Support = support_of c.args.plan.now in
+    let this = subst (λ (s : Step). IsStep x r c.args.given.now on s own) c.in-Edited.is is in
+    c.make_single-in-Edited.ensures.applied own this
+
+pub make_single-requires-in-Characters-clause-step : goal.make_single-requires-in-Characters-clause-step
+make_single-requires-in-Characters-clause-step c =
+    let x = c.args.layouts.now.reading in
+    let r = records c.args.layouts.now in
+    let on : Support = support_of c.args.plan.now in
+    (c.requires.step.0, subst (λ (s : Step). IsStep x r c.args.given.now on s c.requires.step.0) c.in-Characters.is c.requires.step.1)
+
+pub returns-in-Characters-clause-applied : goal.returns-in-Characters-clause-applied
+returns-in-Characters-clause-applied c = λ own is.
+    let x = c.args.layouts.now.reading in
+    let r = records c.args.layouts.now in
+    let on : Support = support_of c.args.plan.now in
+    let this = subst (λ (s : Step). IsStep x r c.args.given.now on s own) c.in-Characters.is is in
+    c.make_single-in-Characters.ensures.applied own this
 
 pub make_pictured-requires-clause-part : goal.make_pictured-requires-clause-part
 make_pictured-requires-clause-part c =
@@ -115,17 +188,3 @@ returns-in-Located-clause-applied c = λ own is.
     let on : Support = support_of c.args.plan.now in
     let this = subst (λ (s : Step). IsStep x r c.args.given.now on s own) c.in-Located.is is in
     c.make_located.ensures.applied own this
-
-pub returns-clause-applied : goal.returns-clause-applied
-returns-clause-applied c = λ own is.
-    let x = c.args.layouts.now.reading in
-    let r = records c.args.layouts.now in
-    let on : Support = support_of c.args.plan.now in
-    let prepared : IsPreparedMove x r c.args.plan.now.prepared c.match-step.one own = elim c.match-step.branch [
-      | in-Number w ↦ subst (λ (o : PreparedMove). IsPreparedMove x r c.args.plan.now.prepared o own) (sym w.one-is) (subst (λ (s : Step). IsStep x r c.args.given.now on s own) w.in-Number.is is)
-      | in-Wide w ↦ subst (λ (o : PreparedMove). IsPreparedMove x r c.args.plan.now.prepared o own) (sym w.one-is) (subst (λ (s : Step). IsStep x r c.args.given.now on s own) w.in-Wide.is is)
-      | in-Binary w ↦ subst (λ (o : PreparedMove). IsPreparedMove x r c.args.plan.now.prepared o own) (sym w.one-is) (subst (λ (s : Step). IsStep x r c.args.given.now on s own) w.in-Binary.is is)
-      | in-Edited w ↦ subst (λ (o : PreparedMove). IsPreparedMove x r c.args.plan.now.prepared o own) (sym w.one-is) (subst (λ (s : Step). IsStep x r c.args.given.now on s own) w.in-Edited.is is)
-      | in-Characters w ↦ subst (λ (o : PreparedMove). IsPreparedMove x r c.args.plan.now.prepared o own) (sym w.one-is) (subst (λ (s : Step). IsStep x r c.args.given.now on s own) w.in-Characters.is is)
-    ] in
-    c.make_single.ensures.applied own prepared
