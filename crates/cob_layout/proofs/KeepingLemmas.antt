@@ -6,6 +6,8 @@ use Rattle.cob_copybook_tree.specs.Forests.{Forest}
 use Rattle.cob_copybook_tree.specs.Nodes.{Resolved}
 use Rattle.cob_layout_places.specs.declared.counts.CountFault.{CountFault}
 use Rattle.cob_layout_places.specs.declared.varying.Table.{Table}
+use Rattle.cob_layout_places.specs.Counts.{tables_of}
+use Rattle.cob_layout.specs.Counting.{greatest_counts}
 use Rattle.cob_layout.specs.declared.counts.StoredCount.{StoredCount}
 use Rattle.cob_layout.specs.Kept.{IsReadOne, TakenAnew, TakenBy, first_kept, number_of, numbers_of, others_kept}
 
@@ -126,3 +128,10 @@ pub same_counted : (t : Forest Resolved) (bytes : List ℕ) (read : Table → Bo
     → Counted t bytes read xs ks before reads i now so → Counted t bytes read xs ks before reads i other new
 same_counted t bytes read xs ks before reads i now other so new same is h =
     subst (λ (c : List ℕ). Counted t bytes read xs ks before reads i c new) (sym same) (subst (λ (n : ℕ). Counted t bytes read xs ks before reads i now n) (sym is) h)
+
+-- from the list of the tables to those of the record, and from the counts that were begun with to the greatest ones
+pub anew_in : (t : Forest Resolved) (bytes : List ℕ) (read : Table → Bool) (xs : List Table) (ks : List (Option ℕ)) (before : List ℕ) (r : Result (List ℕ) CountFault) (reads new : ℕ) → xs ≡ tables_of t → before ≡ greatest_counts t
+    → (n : ℕ) × TakenAnew t bytes read xs ks before r n × (new ≡ min (reads + n) 18446744073709551615)
+    → (n : ℕ) × TakenAnew t bytes read (tables_of t) ks (greatest_counts t) r n × (new ≡ min (reads + n) 18446744073709551615)
+anew_in t bytes read xs ks before r reads new all is (n, taken, so) =
+    (n, subst (λ (c : List ℕ). TakenAnew t bytes read (tables_of t) ks c r n) is (subst (λ (ys : List Table). TakenAnew t bytes read ys ks before r n) all taken), so)

@@ -130,7 +130,7 @@ within_from sums n (AnEntry e children more) lt =
     let further = n + length (table_of e.occurs e.number) + length (tables_of children) in (
       record { order = omega arith; there = omega (arith, lt, long, rest) },
       all_within_append sums (shifts_from n children) (shifts_from further more) (within_from sums n children (omega (arith, lt, long, rest)))
-      (within_from sums further more (omega (arith, lt, long, rest))),
+          (within_from sums further more (omega (arith, lt, long, rest))),
     )
 
 pub shifts_within : (t : Forest Resolved) (tables : List Table) (least : List Spot) (shifts : List Shift) (sums : List ℕ) → Unnested t tables least shifts → length sums ≡ length tables + 1

@@ -1,18 +1,17 @@
 //! Counts of a storage, some of which are kept.
 
-ghost use Rattle.std.specs.Prelude.{◌≡◌, ◌+◌, ℕ, length, min, Ok, Err};
-ghost use Rattle.cob_copybook_tree.specs.Nodes.{node, tree_of};
-ghost use Rattle.cob_layout_places.specs.Counts.{AreCountable, AreNumberedBelow, IsCountable};
-ghost use Rattle.cob_layout_places.specs.Lengths.{EntryFits};
+ghost use Rattle.std.specs.Prelude.{◌≡◌, ◌+◌, ◌<◌, ℕ, length, min, slice_index, Ok, Err};
+ghost use Rattle.cob_layout_places.specs.Counts.{tables_of};
 ghost use Rattle.cob_layout_places.specs.Needs.{is_needed};
-ghost use Rattle.cob_layout.specs.Kept.{kept_read, most_reads, number_of, numbers_of, outcome_of, stored_at, IsReadOne, TakenAnew};
-ghost use Rattle.cob_layout.specs.Standing.{are_unkept, meets, meets_kept};
+ghost use Rattle.cob_layout.specs.Counting.{greatest_counts};
+ghost use Rattle.cob_layout.specs.Kept.{IsIn, kept_read, most_reads, number_of, numbers_of, outcome_of, stored_at, IsReadOne, TakenAnew};
+ghost use Rattle.cob_layout.specs.Standing.{are_unkept, first_number, meets, meets_kept};
 
 use crate::counts::{StoredCount, count_at};
 use crate::fields::Place;
+use crate::layout::Layout;
 use crate::spots::spot_at;
-use cob_copybook::Node;
-use cob_layout_places::{CountFault, Spot, Table, count_of, is_needed};
+use cob_layout_places::{CountFault, Spot, Table, is_needed};
 
 /// Which counts are needed: those of tables below a number, for the last entry of a record that receives or not.
 #[derive(Clone, Copy)]
@@ -20,31 +19,6 @@ pub(crate) struct Needed {
     pub(crate) behind: usize,
     pub(crate) last: bool,
     pub(crate) number: usize,
-}
-
-/// The count of a table: the one that is kept, or else what the bytes say, which is one read more.
-fn count_anew(
-    root: &Node,
-    table: Table,
-    kept: Option<u32>,
-    bytes: &[u8],
-    counts: &[u32],
-    reads: &mut u64,
-) -> Result<u32, CountFault>
-    requires fit { EntryFits 0 (node root.now).top (node root.now).beneath }
-    requires countable { IsCountable (tree_of root.now) table }
-    ensures read { (n : ℕ) × IsReadOne (tree_of root.now) bytes.now table kept counts.now result n
-        × (reads.new ≡ min (reads.old + n) most_reads) }
-{
-    // For `read`: how many reads there were is a count of 64 bits.
-    let _before = *reads;
-    match kept {
-        Some(count) => Ok(count),
-        None => {
-            *reads = reads.saturating_add(1);
-            count_of(root, table, bytes, counts)
-        }
-    }
 }
 
 /// The number of a count, where it is kept.
@@ -57,40 +31,66 @@ fn number_of(kept: Option<StoredCount>) -> Option<u32>
     }
 }
 
-/// Takes those counts of a storage that are needed, each into its table's place, and reads only those that are not kept.
-///
-/// # Errors
-///
-/// The first count that is read and that gives no number from its table's least to its greatest one, or that ends past the bytes.
-pub(crate) fn take_anew(
-    root: &Node,
-    tables: &[Table],
-    needed: Needed,
-    bytes: &[u8],
-    kept: &[Option<StoredCount>],
-    counts: &mut [u32],
-    reads: &mut u64,
-) -> Result<(), CountFault>
-    requires fit { EntryFits 0 (node root.now).top (node root.now).beneath }
-    requires countable { AreCountable (tree_of root.now) tables.now }
-    requires slots { AreNumberedBelow (length counts.old) tables.now }
-    requires as_many { length kept.now ≡ length tables.now }
-    ensures taken { (n : ℕ) × TakenAnew (tree_of root.now) bytes.now
-        (is_needed needed.behind needed.last needed.number) tables.now (numbers_of kept.now)
-        counts.old (outcome_of result counts.new) n
-        × (reads.new ≡ min (reads.old + n) most_reads) }
-    ensures room { length counts.new ≡ length counts.old }
-{
-    // For `taken`: how many reads there were is a count of 64 bits.
-    let _before = *reads;
-    for (index, table) in tables.iter().enumerate() {
-        if is_needed(needed.behind, needed.last, needed.number, *table) {
-            let known = number_of(kept[index]);
-            let count = count_anew(root, *table, known, bytes, counts, reads)?;
-            counts[table.number] = count;
+impl Layout {
+    /// The count of a table: the one that is kept, or else what the bytes say, which is one read more.
+    fn count_anew(
+        &self,
+        table: Table,
+        kept: Option<u32>,
+        bytes: &[u8],
+        counts: &[u32],
+        reads: &mut u64,
+    ) -> Result<u32, CountFault>
+        requires table { IsIn table (tables_of self.now) }
+        requires early { (k : ℕ) → k < first_number (tables_of self.now)
+            → slice_index counts.now k ≡ slice_index (greatest_counts self.now) k }
+        ensures read { (n : ℕ) × IsReadOne self.now bytes.now table kept counts.now result n
+            × (reads.new ≡ min (reads.old + n) most_reads) }
+    {
+        // For `read`: how many reads there were is a count of 64 bits.
+        let _before = *reads;
+        match kept {
+            Some(count) => Ok(count),
+            None => {
+                *reads = reads.saturating_add(1);
+                self.count_in(table, bytes, counts)
+            }
         }
     }
-    Ok(())
+
+    /// Takes those counts of a storage that are needed, each into its table's place, and reads only those that are not kept.
+    ///
+    /// # Errors
+    ///
+    /// The first count that is read and that gives no number from its table's least to its greatest one, or that ends past the bytes.
+    pub(crate) fn take_anew(
+        &self,
+        needed: Needed,
+        bytes: &[u8],
+        kept: &[Option<StoredCount>],
+        counts: &mut [u32],
+        reads: &mut u64,
+    ) -> Result<(), CountFault>
+        requires counts { counts.old ≡ greatest_counts self.now }
+        requires as_many { length kept.now ≡ length (tables_of self.now) }
+        ensures taken { (n : ℕ) × TakenAnew self.now bytes.now
+            (is_needed needed.behind needed.last needed.number) (tables_of self.now)
+            (numbers_of kept.now) (greatest_counts self.now) (outcome_of result counts.new) n
+            × (reads.new ≡ min (reads.old + n) most_reads) }
+        ensures room { length counts.new ≡ length counts.old }
+    {
+        // For `taken`: how many reads there were is a count of 64 bits.
+        let _before = *reads;
+        let tables = self.tables.as_slice();
+        for (index, table) in tables.iter().enumerate() {
+            if is_needed(needed.behind, needed.last, needed.number, *table) {
+                let known = number_of(kept[index]);
+                let count = self.count_anew(*table, known, bytes, counts, reads)?;
+                counts[table.number] = count;
+            }
+        }
+        Ok(())
+    }
 }
 
 /// The count of a table, where the counts are these and the entries stand at these spots.

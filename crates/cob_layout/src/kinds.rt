@@ -36,7 +36,7 @@ pub(crate) fn kinds(alloc: Global, root: &Node, entries: usize) -> Result<Vec<Ki
 }
 
 /// What the entry with this number describes, of all entries.
-fn kind_at(kinds: &[Kind], number: usize) -> &Kind
+pub(crate) fn kind_at(kinds: &[Kind], number: usize) -> &Kind
     requires { number < length kinds.now }
     ensures { result.now ≡ slice_index_or kinds.now number result.now }
 {

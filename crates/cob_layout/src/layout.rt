@@ -23,7 +23,6 @@ use crate::laws::{fits_ref, places_end_in_length};
 use crate::shifts::{Shift, is_unnested, shifts};
 use crate::sound::records_are_sound;
 use crate::spots::{copied_spots, new_spots};
-use crate::taking::take_all_counts;
 use crate::ways::{Way, ways};
 use arrayvec::ArrayVec;
 use cob_copybook::{Book, Kind, Node};
@@ -279,13 +278,7 @@ impl Layout {
             return Ok(());
         }
         counts.next.copy_from_slice(self.counts.as_slice());
-        take_all_counts(
-            &self.root,
-            &self.tables,
-            self.counts.spots(),
-            bytes,
-            &mut counts.next,
-        )?;
+        self.take_all_counts(bytes, &mut counts.next)?;
         self.stand_under(
             &counts.next,
             false,

@@ -12,7 +12,7 @@ ghost use Rattle.cob_layout.specs.Standing.{AreSomePlaces, IsRoomFor, KeepsOf, w
 
 use crate::counts::Counts;
 use crate::fields::Place;
-use crate::keeping::{Needed, are_unkept, keep_read, meets_kept, take_anew};
+use crate::keeping::{Needed, are_unkept, keep_read, meets_kept};
 use crate::layout::Layout;
 use crate::sound::records_are_sound;
 use crate::ways::{end_of_table, is_last_receiver};
@@ -78,15 +78,7 @@ impl Layout {
         one_place();
         let needed = self.needed_by(reference.node, receiving);
         counts.next.copy_from_slice(self.counts.as_slice());
-        take_anew(
-            &self.root,
-            &self.tables,
-            needed,
-            bytes,
-            &counts.kept,
-            &mut counts.next,
-            reads,
-        )?;
+        self.take_anew(needed, bytes, &counts.kept, &mut counts.next, reads)?;
         let stands = !are_unkept(&counts.kept);
         self.stand_under(
             &counts.next,

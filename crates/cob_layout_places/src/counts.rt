@@ -62,8 +62,12 @@ fn count(item: &Item, table: Table, part: &[u8]) -> Option<u32>
     Some(count)
 }
 
-/// What the bytes say of a table whose count stands there.
-fn count_at(item: &Item, table: Table, found: Found, bytes: &[u8]) -> Result<u32, CountFault>
+/// What the bytes say of a table whose count is this item and stands there.
+///
+/// # Errors
+///
+/// The count gives no number from its table's least to its greatest one, or ends past the bytes.
+pub fn count_at(item: &Item, table: Table, found: Found, bytes: &[u8]) -> Result<u32, CountFault>
     requires number { IsNumberItem item.now }
     requires long { found.length ≡ item_size item.now }
     ensures ok { IfOk result (λ v. SaysOfTable item.now table found bytes.now (Ok v)) }

@@ -13,7 +13,8 @@
 //!   record (`spots_of` of specs/Spots.antt).
 //! - [`refers`] says whether a number with subscripts is a legal reference to an entry: `Refers` of specs/References.antt. A [`Ref`] holds one.
 //! - [`tables`] lists the tables that vary. [`count_of`] and [`count_there`] take the count of one from a storage, or answer that it ends past the bytes
-//!   or gives no number within its table's bounds (`IsCounted` of specs/Counts.antt). All of them, taken one behind another, have one outcome (`Taken`,
+//!   or gives no number within its table's bounds (`IsCounted` of specs/Counts.antt); [`count_at`] does so where the count's item is known
+//!   (`SaysOfTable`). All of them, taken one behind another, have one outcome (`Taken`,
 //!   [`one_outcome`]), and storages that agree where the counts stand have the same one ([`same_counts`]).
 //! - [`take_needed`] takes only the counts that the place of one entry needs, and none that a receiver is spared (`needed_tables` of specs/Needs.antt).
 //!   [`is_needed`] is its test of a table. [`needs_are_read`] says which these are in the words of COBOL, and [`one_place`] that counts that
@@ -44,7 +45,7 @@ mod spots;
 mod varying;
 
 pub use cob_copybook_tree::{Kind, Name, Node, is_number_item, read_number};
-pub use counts::{CountFault, count_of, count_there};
+pub use counts::{CountFault, count_at, count_of, count_there};
 pub use laws::{
     covering, needs_are_read, one_outcome, one_place, places_end_in_record, same_counts,
 };

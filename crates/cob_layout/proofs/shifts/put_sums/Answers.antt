@@ -7,15 +7,22 @@ pub bytes_of-sum-requires : goal.bytes_of-sum-requires
 bytes_of-sum-requires c =
     let d : Table = record { number = 0; least = 0; most = 0; count = 0 } in
     record {
-      small = omega (arith, next_small c.args.least.now c.args.counts.now c.args.tables.now c.loop-index.sums c.loop-index.index c.loop-index.sum d _ c.loop-index-test.true
-          (omega (arith, c.loop-index-test.true, c.loop-index.invariant.room, c.requires.room)) c.loop-index.invariant.same c.requires.small);
+      small = omega (
+        arith,
+        next_small c.args.least.now c.args.counts.now c.args.tables.now c.loop-index.sums c.loop-index.index c.loop-index.sum d _ c.loop-index-test.true
+            (omega (arith, c.loop-index-test.true, c.loop-index.invariant.room, c.requires.room)) c.loop-index.invariant.same c.requires.small,
+      );
     }
 
 pub overflow_add-sum : goal.overflow_add-sum
 overflow_add-sum c =
     let d : Table = record { number = 0; least = 0; most = 0; count = 0 } in
-    omega (arith, c.bytes_of-sum.ensures, next_small c.args.least.now c.args.counts.now c.args.tables.now c.loop-index.sums c.loop-index.index c.loop-index.sum d _ c.loop-index-test.true
-    (omega (arith, c.loop-index-test.true, c.loop-index.invariant.room, c.requires.room)) c.loop-index.invariant.same c.requires.small)
+    omega (
+      arith,
+      c.bytes_of-sum.ensures,
+      next_small c.args.least.now c.args.counts.now c.args.tables.now c.loop-index.sums c.loop-index.index c.loop-index.sum d _ c.loop-index-test.true
+          (omega (arith, c.loop-index-test.true, c.loop-index.invariant.room, c.requires.room)) c.loop-index.invariant.same c.requires.small,
+    )
 
 pub returns : goal.returns
 returns c =

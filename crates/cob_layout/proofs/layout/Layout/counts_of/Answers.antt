@@ -1,8 +1,9 @@
 use Rattle.std.proofs.Common.{◌≡◌, ap, ◌∙◌, length, arith, None, replicate, rules}
-use Rattle.cob_copybook_tree.specs.Nodes.{tree_of}
+use Rattle.cob_copybook_tree.specs.Forests.{Forest}
+use Rattle.cob_copybook_tree.specs.Nodes.{Resolved, tree_of}
+use Rattle.cob_layout.specs.Counting.{greatest_counts}
 use Rattle.cob_layout.specs.Standing.{Standing, are_unkept}
-use Rattle.cob_layout.proofs.RecordLemmas.{as_many, room_entries, slots_for}
-use Rattle.cob_layout.proofs.GreatestLemmas.{greatest_length}
+use Rattle.cob_layout.proofs.RecordLemmas.{as_many, room_entries}
 use Rattle.cob_layout.proofs.RefreshLemmas.{unkept}
 use Rattle.cob_layout.proofs.layout.Layout.counts_of.Goals as goal
 
@@ -11,11 +12,10 @@ copy_from_slice-requires c =
     let m = as_many (tree_of c.self.inside.root) c.args.self.now c.self.inside.counts.counts (length c.args.counts.now.counts) c.self.invariant.1 c.self.view_is c.self.invariant.3 (room_entries c.args.self.now c.args.counts.now c.requires.room) in
     omega (arith, m, ap length c.as_slice.ensures, ap (λ (s : Standing). length s.counts) c.counts.view_is, c.counts.invariant.1, c.counts.inside.next.ok.0)
 
-pub take_all_counts-requires-clause-slots : goal.take_all_counts-requires-clause-slots
-take_all_counts-requires-clause-slots c =
-    let t = tree_of c.self.inside.root in
-    let n = ap length (c.deref_mut-2.ensures.value ∙ c.copy_from_slice.ensures.items ∙ c.as_slice.ensures ∙ c.self.invariant.3) ∙ greatest_length t c.self.invariant.1.numbered in
-    slots_for t c.deref.result.now (length c.deref_mut-2.result.now) c.self.invariant.1 (c.deref.ensures.value ∙ c.self.invariant.2) n
+pub take_all_counts-requires : goal.take_all_counts-requires
+take_all_counts-requires c = record {
+  counts = c.deref_mut-2.ensures.value ∙ c.copy_from_slice.ensures.items ∙ c.as_slice.ensures ∙ c.self.invariant.3 ∙ ap (λ (v : Forest Resolved). greatest_counts v) c.self.view_is;
+}
 
 pub returns-clause-none : goal.returns-clause-none
 returns-clause-none c =

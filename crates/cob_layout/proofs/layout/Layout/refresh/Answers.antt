@@ -1,6 +1,7 @@
 use Rattle.std.proofs.Common.{◌≡◌, ◌∙◌, ℕ, List, Option, ap, drop, inr, refl, subst, sym, length, arith, Err, Ok, rules}
 use Rattle.std.proofs.lemmas.Result.{err_from_is_err_and}
-use Rattle.cob_copybook_tree.specs.Nodes.{tree_of}
+use Rattle.cob_copybook_tree.specs.Forests.{Forest}
+use Rattle.cob_copybook_tree.specs.Nodes.{Resolved, tree_of}
 use Rattle.cob_layout_places.specs.Counts.{tables_of}
 use Rattle.cob_layout_places.specs.Needs.{is_read}
 use Rattle.cob_layout.specs.declared.counts.StoredCount.{StoredCount}
@@ -8,8 +9,7 @@ use Rattle.cob_layout.specs.Counting.{greatest_counts}
 use Rattle.cob_layout.specs.Kept.{AreKeptOf, TakenAnew, numbers_of}
 use Rattle.cob_layout.specs.Sound.{IsSound}
 use Rattle.cob_layout.specs.Standing.{Standing}
-use Rattle.cob_layout.proofs.GreatestLemmas.{greatest_length}
-use Rattle.cob_layout.proofs.RecordLemmas.{as_many, room_entries, room_tables, slots_for}
+use Rattle.cob_layout.proofs.RecordLemmas.{as_many, room_entries, room_tables}
 use Rattle.cob_layout.proofs.ReferenceLemmas.{refers_has}
 use Rattle.cob_layout.proofs.RefreshLemmas.{anew_is, front_of, kept_behind, kept_is, needed_anew, spots_under}
 use Rattle.cob_layout.proofs.layout.Layout.refresh.Goals as goal
@@ -22,11 +22,13 @@ copy_from_slice-requires c =
     let m = as_many (tree_of c.self.inside.root) c.args.self.now c.self.inside.counts.counts (length c.args.counts.now.counts) c.self.invariant.1 c.self.view_is c.self.invariant.3 (room_entries c.args.self.now c.args.counts.now c.requires.room) in
     omega (arith, m, ap length c.as_slice.ensures, ap (λ (s : Standing). length s.counts) c.counts.view_is, c.counts.invariant.1, c.counts.inside.next.ok.0)
 
-pub take_anew-requires-clause-slots : goal.take_anew-requires-clause-slots
-take_anew-requires-clause-slots c =
-    let t = tree_of c.self.inside.root in
-    let n = ap length (c.deref_mut.ensures.value ∙ c.copy_from_slice.ensures.items ∙ c.as_slice.ensures ∙ c.self.invariant.3) ∙ greatest_length t c.self.invariant.1.numbered in
-    slots_for t c.deref.result.now (length c.deref_mut.result.now) c.self.invariant.1 (c.deref.ensures.value ∙ c.self.invariant.2) n
+pub take_anew-requires-clause-counts : goal.take_anew-requires-clause-counts
+take_anew-requires-clause-counts c =
+    c.deref_mut.ensures.value ∙ c.copy_from_slice.ensures.items ∙ c.as_slice.ensures ∙ c.self.invariant.3 ∙ ap (λ (v : Forest Resolved). greatest_counts v) c.self.view_is
+
+pub take_anew-requires-clause-as_many : goal.take_anew-requires-clause-as_many
+take_anew-requires-clause-as_many c =
+    ap length (c.deref.ensures.value ∙ ap (λ (s : Standing). s.kept) c.counts.view_is) ∙ room_tables c.args.self.now c.args.counts.now c.requires.room
 
 pub returns-in_err-take_anew-clause-reads : goal.returns-in_err-take_anew-clause-reads
 returns-in_err-take_anew-clause-reads c =
@@ -36,9 +38,9 @@ returns-in_err-take_anew-clause-reads c =
     let h = c.in_err-take_anew.ensures.taken in
     rw (p.1, p.2) (
       h.0,
-      anew_is t u c.args.bytes.now c.args.reference.now.node c.args.receiving c.needed_by-needed.result.behind c.needed_by-needed.result.last c.needed_by-needed.result.number c.deref.result.now c.deref-2.result.now c.args.counts.now.kept c.deref_mut.result.now
-          (Err c.in_err-take_anew.field-0.0) h.0 c.self.view_is (c.deref.ensures.value ∙ c.self.invariant.2) c.needed_by-needed.ensures.behind c.needed_by-needed.ensures.last c.needed_by-needed.ensures.number
-          (c.deref_mut.ensures.value ∙ c.copy_from_slice.ensures.items ∙ c.as_slice.ensures ∙ c.self.invariant.3) (c.deref-2.ensures.value ∙ ap (λ (s : Standing). s.kept) c.counts.view_is) h.1,
+      anew_is u u c.args.bytes.now c.args.reference.now.node c.args.receiving c.needed_by-needed.result.behind c.needed_by-needed.result.last c.needed_by-needed.result.number (tables_of u) c.deref.result.now c.args.counts.now.kept (greatest_counts u)
+          (Err c.in_err-take_anew.field-0.0) h.0 refl refl c.needed_by-needed.ensures.behind c.needed_by-needed.ensures.last c.needed_by-needed.ensures.number
+          refl (c.deref.ensures.value ∙ ap (λ (s : Standing). s.kept) c.counts.view_is) h.1,
       h.2,
     )
 
@@ -50,9 +52,9 @@ returns-in_err-take_anew-clause-err c =
     let h = c.in_err-take_anew.ensures.taken in
     rw (p.1, p.2) (needed_anew c.needs_are_read.ensures c.one_place.ensures u c.args.bytes.now c.args.reference.now.node c.args.receiving c.args.reference.now.subscripts.items c.args.counts.now.kept (Err c.in_err-take_anew.field-0.0) h.0
     (subst IsSound c.self.view_is c.self.invariant.1) c.requires.refers (room_tables u c.args.counts.now c.requires.room) c.requires.kept.0
-    (anew_is t u c.args.bytes.now c.args.reference.now.node c.args.receiving c.needed_by-needed.result.behind c.needed_by-needed.result.last c.needed_by-needed.result.number c.deref.result.now c.deref-2.result.now c.args.counts.now.kept c.deref_mut.result.now
-    (Err c.in_err-take_anew.field-0.0) h.0 c.self.view_is (c.deref.ensures.value ∙ c.self.invariant.2) c.needed_by-needed.ensures.behind c.needed_by-needed.ensures.last c.needed_by-needed.ensures.number
-    (c.deref_mut.ensures.value ∙ c.copy_from_slice.ensures.items ∙ c.as_slice.ensures ∙ c.self.invariant.3) (c.deref-2.ensures.value ∙ ap (λ (s : Standing). s.kept) c.counts.view_is) h.1))
+    (anew_is u u c.args.bytes.now c.args.reference.now.node c.args.receiving c.needed_by-needed.result.behind c.needed_by-needed.result.last c.needed_by-needed.result.number (tables_of u) c.deref.result.now c.args.counts.now.kept (greatest_counts u)
+    (Err c.in_err-take_anew.field-0.0) h.0 refl refl c.needed_by-needed.ensures.behind c.needed_by-needed.ensures.last c.needed_by-needed.ensures.number
+    refl (c.deref.ensures.value ∙ ap (λ (s : Standing). s.kept) c.counts.view_is) h.1))
 
 pub returns-clause-reads : goal.returns-clause-reads
 returns-clause-reads c =
@@ -63,12 +65,12 @@ returns-clause-reads c =
     let h = c.in_ok-take_anew.ensures.taken in
     let long_next : length c.take_anew.new.counts ≡ c.copy_from_slice.new.self.len = search rules in
     let long_taken : length c.stand_under.new.taken ≡ c.counts.inside.taken.len = search rules in
-    let next : c.deref-4.result.now ≡ c.take_anew.new.counts = c.deref-4.ensures.value ∙ front_of c.copy_from_slice.new.self.len c.take_anew.new.counts _ long_next in
+    let next : c.deref-3.result.now ≡ c.take_anew.new.counts = c.deref-3.ensures.value ∙ front_of c.copy_from_slice.new.self.len c.take_anew.new.counts _ long_next in
     let taken = front_of c.counts.inside.taken.len c.stand_under.new.taken (drop (length c.stand_under.new.taken) c.counts.inside.taken.items) long_taken ∙ c.stand_under.ensures.counts in
     let anew = subst (λ (d : List ℕ). TakenAnew u c.args.bytes.now (is_read u r c.args.receiving) (tables_of u) (numbers_of ks) (greatest_counts u) (Ok d) h.0) (sym (taken ∙ next))
-    (anew_is t u c.args.bytes.now r c.args.receiving c.needed_by-needed.result.behind c.needed_by-needed.result.last c.needed_by-needed.result.number c.deref.result.now c.deref-2.result.now ks c.deref_mut.result.now
-    (Ok c.take_anew.new.counts) h.0 c.self.view_is (c.deref.ensures.value ∙ c.self.invariant.2) c.needed_by-needed.ensures.behind c.needed_by-needed.ensures.last c.needed_by-needed.ensures.number
-    (c.deref_mut.ensures.value ∙ c.copy_from_slice.ensures.items ∙ c.as_slice.ensures ∙ c.self.invariant.3) (c.deref-2.ensures.value ∙ ap (λ (s : Standing). s.kept) c.counts.view_is) h.1) in
+    (anew_is u u c.args.bytes.now r c.args.receiving c.needed_by-needed.result.behind c.needed_by-needed.result.last c.needed_by-needed.result.number (tables_of u) c.deref.result.now ks (greatest_counts u)
+    (Ok c.take_anew.new.counts) h.0 refl refl c.needed_by-needed.ensures.behind c.needed_by-needed.ensures.last c.needed_by-needed.ensures.number
+    refl (c.deref.ensures.value ∙ ap (λ (s : Standing). s.kept) c.counts.view_is) h.1) in
     (h.0, anew, h.2)
 
 pub returns-clause-ok : goal.returns-clause-ok
@@ -80,12 +82,12 @@ returns-clause-ok c =
     let h = c.in_ok-take_anew.ensures.taken in
     let long_next : length c.take_anew.new.counts ≡ c.copy_from_slice.new.self.len = search rules in
     let long_taken : length c.stand_under.new.taken ≡ c.counts.inside.taken.len = search rules in
-    let next : c.deref-4.result.now ≡ c.take_anew.new.counts = c.deref-4.ensures.value ∙ front_of c.copy_from_slice.new.self.len c.take_anew.new.counts _ long_next in
+    let next : c.deref-3.result.now ≡ c.take_anew.new.counts = c.deref-3.ensures.value ∙ front_of c.copy_from_slice.new.self.len c.take_anew.new.counts _ long_next in
     let taken = front_of c.counts.inside.taken.len c.stand_under.new.taken (drop (length c.stand_under.new.taken) c.counts.inside.taken.items) long_taken ∙ c.stand_under.ensures.counts in
     let anew = subst (λ (d : List ℕ). TakenAnew u c.args.bytes.now (is_read u r c.args.receiving) (tables_of u) (numbers_of ks) (greatest_counts u) (Ok d) h.0) (sym (taken ∙ next))
-    (anew_is t u c.args.bytes.now r c.args.receiving c.needed_by-needed.result.behind c.needed_by-needed.result.last c.needed_by-needed.result.number c.deref.result.now c.deref-2.result.now ks c.deref_mut.result.now
-    (Ok c.take_anew.new.counts) h.0 c.self.view_is (c.deref.ensures.value ∙ c.self.invariant.2) c.needed_by-needed.ensures.behind c.needed_by-needed.ensures.last c.needed_by-needed.ensures.number
-    (c.deref_mut.ensures.value ∙ c.copy_from_slice.ensures.items ∙ c.as_slice.ensures ∙ c.self.invariant.3) (c.deref-2.ensures.value ∙ ap (λ (s : Standing). s.kept) c.counts.view_is) h.1) in
+    (anew_is u u c.args.bytes.now r c.args.receiving c.needed_by-needed.result.behind c.needed_by-needed.result.last c.needed_by-needed.result.number (tables_of u) c.deref.result.now ks (greatest_counts u)
+    (Ok c.take_anew.new.counts) h.0 refl refl c.needed_by-needed.ensures.behind c.needed_by-needed.ensures.last c.needed_by-needed.ensures.number
+    refl (c.deref.ensures.value ∙ ap (λ (s : Standing). s.kept) c.counts.view_is) h.1) in
     needed_anew c.needs_are_read.ensures c.one_place.ensures u c.args.bytes.now r c.args.receiving c.args.reference.now.subscripts.items ks (Ok _) h.0
     (subst IsSound c.self.view_is c.self.invariant.1) c.requires.refers (room_tables u c.args.counts.now c.requires.room) c.requires.kept.0 anew
 
@@ -99,8 +101,8 @@ returns-clause-kept c =
     let long_kept : length c.keep_read.new.kept ≡ c.counts.inside.kept.len = search rules in
     let spots = front_of c.counts.inside.spots.len c.stand_under.new.spots (drop (length c.stand_under.new.spots) c.counts.inside.spots.items) long_spots in
     let kept = front_of c.counts.inside.kept.len c.keep_read.new.kept (drop (length c.keep_read.new.kept) c.counts.inside.kept.items) long_kept ∙ c.keep_read.ensures
-    ∙ kept_is t u r c.args.receiving c.needed_by-needed.result.behind c.needed_by-needed.result.last c.needed_by-needed.result.number c.deref-5.result.now c.deref-6.result.now _ c.deref-7.result.now _ c.deref_mut-5.result.now ks c.self.view_is
-    (c.deref-5.ensures.value ∙ c.self.invariant.2) c.needed_by-needed.ensures.behind c.needed_by-needed.ensures.last c.needed_by-needed.ensures.number c.deref-6.ensures.value c.deref-7.ensures.value
+    ∙ kept_is t u r c.args.receiving c.needed_by-needed.result.behind c.needed_by-needed.result.last c.needed_by-needed.result.number c.deref-4.result.now c.deref-5.result.now _ c.deref-6.result.now _ c.deref_mut-5.result.now ks c.self.view_is
+    (c.deref-4.ensures.value ∙ c.self.invariant.2) c.needed_by-needed.ensures.behind c.needed_by-needed.ensures.last c.needed_by-needed.ensures.number c.deref-5.ensures.value c.deref-6.ensures.value
     (c.deref_mut-5.ensures.value ∙ ap (λ (s : Standing). s.kept) c.counts.view_is) in
     kept
 
@@ -113,20 +115,20 @@ returns-clause-keeps c =
     let h = c.in_ok-take_anew.ensures.taken in
     let long_next : length c.take_anew.new.counts ≡ c.copy_from_slice.new.self.len = search rules in
     let long_taken : length c.stand_under.new.taken ≡ c.counts.inside.taken.len = search rules in
-    let next : c.deref-4.result.now ≡ c.take_anew.new.counts = c.deref-4.ensures.value ∙ front_of c.copy_from_slice.new.self.len c.take_anew.new.counts _ long_next in
+    let next : c.deref-3.result.now ≡ c.take_anew.new.counts = c.deref-3.ensures.value ∙ front_of c.copy_from_slice.new.self.len c.take_anew.new.counts _ long_next in
     let taken = front_of c.counts.inside.taken.len c.stand_under.new.taken (drop (length c.stand_under.new.taken) c.counts.inside.taken.items) long_taken ∙ c.stand_under.ensures.counts in
     let anew = subst (λ (d : List ℕ). TakenAnew u c.args.bytes.now (is_read u r c.args.receiving) (tables_of u) (numbers_of ks) (greatest_counts u) (Ok d) h.0) (sym (taken ∙ next))
-    (anew_is t u c.args.bytes.now r c.args.receiving c.needed_by-needed.result.behind c.needed_by-needed.result.last c.needed_by-needed.result.number c.deref.result.now c.deref-2.result.now ks c.deref_mut.result.now
-    (Ok c.take_anew.new.counts) h.0 c.self.view_is (c.deref.ensures.value ∙ c.self.invariant.2) c.needed_by-needed.ensures.behind c.needed_by-needed.ensures.last c.needed_by-needed.ensures.number
-    (c.deref_mut.ensures.value ∙ c.copy_from_slice.ensures.items ∙ c.as_slice.ensures ∙ c.self.invariant.3) (c.deref-2.ensures.value ∙ ap (λ (s : Standing). s.kept) c.counts.view_is) h.1) in
+    (anew_is u u c.args.bytes.now r c.args.receiving c.needed_by-needed.result.behind c.needed_by-needed.result.last c.needed_by-needed.result.number (tables_of u) c.deref.result.now ks (greatest_counts u)
+    (Ok c.take_anew.new.counts) h.0 refl refl c.needed_by-needed.ensures.behind c.needed_by-needed.ensures.last c.needed_by-needed.ensures.number
+    refl (c.deref.ensures.value ∙ ap (λ (s : Standing). s.kept) c.counts.view_is) h.1) in
     let long_spots : length c.stand_under.new.spots ≡ c.counts.inside.spots.len = search rules in
     let long_kept : length c.keep_read.new.kept ≡ c.counts.inside.kept.len = search rules in
     let spots = front_of c.counts.inside.spots.len c.stand_under.new.spots (drop (length c.stand_under.new.spots) c.counts.inside.spots.items) long_spots in
     let kept = front_of c.counts.inside.kept.len c.keep_read.new.kept (drop (length c.keep_read.new.kept) c.counts.inside.kept.items) long_kept ∙ c.keep_read.ensures
-    ∙ kept_is t u r c.args.receiving c.needed_by-needed.result.behind c.needed_by-needed.result.last c.needed_by-needed.result.number c.deref-5.result.now c.deref-6.result.now _ c.deref-7.result.now _ c.deref_mut-5.result.now ks c.self.view_is
-    (c.deref-5.ensures.value ∙ c.self.invariant.2) c.needed_by-needed.ensures.behind c.needed_by-needed.ensures.last c.needed_by-needed.ensures.number c.deref-6.ensures.value c.deref-7.ensures.value
+    ∙ kept_is t u r c.args.receiving c.needed_by-needed.result.behind c.needed_by-needed.result.last c.needed_by-needed.result.number c.deref-4.result.now c.deref-5.result.now _ c.deref-6.result.now _ c.deref_mut-5.result.now ks c.self.view_is
+    (c.deref-4.ensures.value ∙ c.self.invariant.2) c.needed_by-needed.ensures.behind c.needed_by-needed.ensures.last c.needed_by-needed.ensures.number c.deref-5.ensures.value c.deref-6.ensures.value
     (c.deref_mut-5.ensures.value ∙ ap (λ (s : Standing). s.kept) c.counts.view_is) in
-    let stands = spots_under u u c.deref-4.result.now _ _ refl (sym taken) (spots ∙ c.stand_under.ensures.spots) in (
+    let stands = spots_under u u c.deref-3.result.now _ _ refl (sym taken) (spots ∙ c.stand_under.ensures.spots) in (
       subst (λ (js : List (Option StoredCount)). AreKeptOf u c.args.bytes.now js) (sym kept)
           (kept_behind c.one_place.ensures u c.args.bytes.now r c.args.receiving ks _ h.0 _ (subst IsSound c.self.view_is c.self.invariant.1) (room_tables u c.args.counts.now c.requires.room) c.requires.kept.0 stands anew),
       inr (_, (refl, stands)),
