@@ -1,18 +1,13 @@
 -- Single moves that are made ready wherever their items stand.
-use Rattle.std.proofs.Common.{◌≡◌, ℕ, true, false, List, [], ◌∷◌, length, get_or, refl, sym, ap, subst, ◌∙◌, inl, inr, Ok, Err, Option, Some, None}
+use Rattle.std.proofs.Common.{◌≡◌, ℕ, true, false, List, [], ◌∷◌, get_or, refl, sym, subst, inl, inr, Ok, Err, Option, Some, None}
 use Rattle.cob_codec.specs.declared.reading.Reading.{Reading}
 use Rattle.cob_codec.specs.declared.reading.Reading.TheVariants.{Pictured}
-use Rattle.cob_copybook_tree.specs.declared.node.Item.{Item}
-use Rattle.cob_copybook_tree.specs.declared.node.Kind.{Kind}
-use Rattle.cob_copybook_tree.specs.declared.node.Kind.TheVariants.{Item as ItemKind}
-use Rattle.cob_copybook_tree.specs.Lengths.{item_size}
 use Rattle.cob_layout.specs.Fields.{field_of, with_field}
 use Rattle.cob_layout.specs.declared.fields.Place.{Place}
 use Rattle.cob_layout_places.specs.declared.operands.Operand.{Operand}
 use Rattle.cob_layout_places.specs.declared.operands.Side.TheVariants.{In, Out}
-use Rattle.cob_layout_places.specs.declared.reference.Ref.{Ref}
 use Rattle.cob_layout_places.specs.Moves.{Entry, Move, Records, operand_in}
-use Rattle.cob_move_prepared.specs.Pool.{IsMoveStep, MoveKinds}
+use Rattle.cob_move_prepared.specs.Pool.{MoveKinds}
 use Rattle.cob_move_prepared.specs.declared.pictured.PicturedStep.{PicturedStep}
 use Rattle.cob_move_prepared.specs.declared.pictured.PicturedSteps.{PicturedSteps}
 use Rattle.cob_move_prepared.specs.declared.pool.MoveStep.{MoveStep}
@@ -25,7 +20,7 @@ use Rattle.cob_move_apply.specs.Applied.{Applied, Ending, IsMoved, content_at, s
 use Rattle.cob_move_apply.specs.Located.{Located, stop_at}
 use Rattle.cob_move_apply.specs.Made.{IsMadePictured, IsMadeReady, StandAt}
 use Rattle.cob_move_apply.specs.Steps.{CarriesAnywhere, CarriesLocated, CarriesPictured, IsLocatedMove, IsReadyAnywhere, copied_move}
-use Rattle.cob_move_apply.specs.Written.{HasPlaces, received_at}
+use Rattle.cob_move_apply.specs.Written.{received_at}
 use Rattle.cob_move_apply.specs.declared.step.LocatedMove.{LocatedMove}
 use Rattle.cob_move_apply.specs.declared.step.LocatedStep.{LocatedStep}
 use Rattle.cob_move_apply.specs.declared.step.MovePlaces.{MovePlaces}
