@@ -1,17 +1,15 @@
 -- Single moves that are made ready wherever their items stand.
-use Rattle.std.proofs.Common.{◌≡◌, ℕ, true, false, List, [], ◌∷◌, length, get_or, refl, sym, ap, subst, ◌∙◌, inl, inr, Ok, Err, Option, Some, None}
+use Rattle.std.proofs.Common.{◌≡◌, ℕ, true, false, List, [], ◌∷◌, get_or, refl, sym, subst, inl, inr, Ok, Err, Option, Some, None}
 use Rattle.cob_codec.specs.declared.reading.Reading.{Reading}
-use Rattle.cob_copybook_tree.specs.declared.node.Item.{Item}
-use Rattle.cob_copybook_tree.specs.declared.node.Kind.{Kind}
-use Rattle.cob_copybook_tree.specs.declared.node.Kind.TheVariants.{Item as ItemKind}
-use Rattle.cob_copybook_tree.specs.Lengths.{item_size}
+use Rattle.cob_codec.specs.declared.reading.Reading.TheVariants.{Pictured}
 use Rattle.cob_layout.specs.Fields.{field_of, with_field}
 use Rattle.cob_layout.specs.declared.fields.Place.{Place}
 use Rattle.cob_layout_places.specs.declared.operands.Operand.{Operand}
 use Rattle.cob_layout_places.specs.declared.operands.Side.TheVariants.{In, Out}
-use Rattle.cob_layout_places.specs.declared.reference.Ref.{Ref}
 use Rattle.cob_layout_places.specs.Moves.{Entry, Move, Records, operand_in}
-use Rattle.cob_move_prepared.specs.Pool.{IsMoveStep, MoveKinds}
+use Rattle.cob_move_prepared.specs.Pool.{MoveKinds}
+use Rattle.cob_move_prepared.specs.declared.pictured.PicturedStep.{PicturedStep}
+use Rattle.cob_move_prepared.specs.declared.pictured.PicturedSteps.{PicturedSteps}
 use Rattle.cob_move_prepared.specs.declared.pool.MoveStep.{MoveStep}
 use Rattle.cob_move_prepared.specs.declared.pool.MoveSteps.{MoveSteps}
 use Rattle.cob_move_prepared.proofs.PoolLemmas.{read_at}
@@ -20,10 +18,11 @@ use Rattle.cob_move_receive.specs.Sent as sent
 use Rattle.cob_move_receive.specs.Sent.{Occupies}
 use Rattle.cob_move_apply.specs.Applied.{Applied, Ending, IsMoved, content_at, stopped}
 use Rattle.cob_move_apply.specs.Located.{Located, stop_at}
-use Rattle.cob_move_apply.specs.Made.{IsMadeReady, StandAt}
-use Rattle.cob_move_apply.specs.Steps.{CarriesAnywhere, IsLocatedMove, IsReadyAnywhere, copied_move}
-use Rattle.cob_move_apply.specs.Written.{HasPlaces, received_at}
+use Rattle.cob_move_apply.specs.Made.{IsMadePictured, IsMadeReady, StandAt}
+use Rattle.cob_move_apply.specs.Steps.{CarriesAnywhere, CarriesLocated, CarriesPictured, IsLocatedMove, IsReadyAnywhere, copied_move}
+use Rattle.cob_move_apply.specs.Written.{received_at}
 use Rattle.cob_move_apply.specs.declared.step.LocatedMove.{LocatedMove}
+use Rattle.cob_move_apply.specs.declared.step.LocatedStep.{LocatedStep}
 use Rattle.cob_move_apply.specs.declared.step.MovePlaces.{MovePlaces}
 use Rattle.cob_move_apply.specs.declared.stop.Stop.{Stop}
 use Rattle.cob_move_apply.specs.declared.stop.StopCause.TheVariants.{NoValue}
@@ -49,22 +48,35 @@ located_ends r x one p input before None stand received =
     let stop : Stop = stop_at In p.from.offset NoValue in
     inl (content_at In x (operand_in r.input one.sent) input p.from, (p.from, stand.sends, refl), inr (stop, inr (p.to, stand.receives, received, refl), refl))
 
-pub made_located : (r : Records) (x : Reading) (steps : MoveSteps) (one : LocatedMove) (p : MovePlaces) (input before : List ℕ) (end : Ending) → StandAt r one input before p → IsReadyAnywhere r steps one
-    → IsMadeReady (record { places = p; step = one.step }) steps input before end → IsMoved r (copied_move x r one.sent one.receiver) input before end
-made_located r x steps one p input before end stand ready made =
+pub made_always : (r : Records) (x : Reading) (steps : MoveSteps) (one : LocatedMove) (step : MoveStep) (p : MovePlaces) (input before : List ℕ) (end : Ending) → StandAt r one input before p
+    → CarriesAnywhere steps (operand_in r.input one.sent).kind (operand_in r.output one.receiver).kind step → IsMadeReady (record { places = p; step = step }) steps input before end → IsMoved r (copied_move x r one.sent one.receiver) input before end
+made_always r x steps one step p input before end stand carries made =
     let k : MoveKinds = kinds_of (operand_in r.input one.sent).kind (operand_in r.output one.receiver).kind p.from p.to in
-    let (outcome, received, same) = made k (ready.carries p.from.length p.to.length stand.sent stand.received) (record { sent = refl; received = refl }) in
+    let (outcome, received, same) = made k (carries p.from.length p.to.length stand.sent stand.received) (record { sent = refl; received = refl }) in
     subst (λ (e : Ending). IsMoved r (copied_move x r one.sent one.receiver) input before e) (sym same) (located_ends r x one p input before outcome stand (received x))
+
+pub made_by_picture : (r : Records) (x : Reading) (steps : PicturedSteps) (one : LocatedMove) (step : PicturedStep) (p : MovePlaces) (input before : List ℕ) (end : Ending) → x ≡ Pictured → StandAt r one input before p
+    → CarriesPictured steps (operand_in r.input one.sent).kind (operand_in r.output one.receiver).kind step → IsMadePictured (record { places = p; step = step }) steps input before end → IsMoved r (copied_move x r one.sent one.receiver) input before end
+made_by_picture r x steps one step p input before end read stand carries made =
+    let k : MoveKinds = kinds_of (operand_in r.input one.sent).kind (operand_in r.output one.receiver).kind p.from p.to in
+    let (outcome, received, same) = made k (carries p.from.length p.to.length stand.sent stand.received) (record { sent = refl; received = refl }) in
+    subst (λ (e : Ending). IsMoved r (copied_move x r one.sent one.receiver) input before e) (sym same)
+    (located_ends r x one p input before outcome stand (subst (λ (y : Reading). Received (sent.Entry k.sender (field_of p.from input) y) k.receiver k.received outcome) (sym read) received))
 
 -- ---- the one that has a number
 
 -- it was made ready
-pub the_located : (x : Reading) (r : Records) (steps : MoveSteps) (located : List LocatedMove) (number : ℕ) (own : List Move) (one : LocatedMove) → IsLocatedMove x r steps located number own → one ≡ get_or located number one
-    → IsReadyAnywhere r steps one × (own ≡ copied_move x r one.sent one.receiver ∷ [])
-the_located x r steps located number own one is at = read_at LocatedMove (λ p. IsReadyAnywhere r steps p × (own ≡ copied_move x r p.sent p.receiver ∷ [])) located number one is at
+pub the_located : (x : Reading) (r : Records) (steps : MoveSteps) (pictured : PicturedSteps) (located : List LocatedMove) (number : ℕ) (own : List Move) (one : LocatedMove) → IsLocatedMove x r steps pictured located number own → one ≡ get_or located number one
+    → IsReadyAnywhere r steps pictured one × (own ≡ copied_move x r one.sent one.receiver ∷ [])
+the_located x r steps pictured located number own one is at = read_at LocatedMove (λ p. IsReadyAnywhere r steps pictured p × (own ≡ copied_move x r p.sent p.receiver ∷ [])) located number one is at
 
-pub applied_located : (x : Reading) (r : Records) (steps : MoveSteps) (located : List LocatedMove) (number : ℕ) (own : List Move) (one : LocatedMove) (input before : List ℕ) (end : Ending)
-    → IsLocatedMove x r steps located number own → one ≡ get_or located number one → (IsReadyAnywhere r steps one → IsMoved r (copied_move x r one.sent one.receiver) input before end) → Applied r own input before end
-applied_located x r steps located number own one input before end is at moved =
-    let (ready, same) = the_located x r steps located number own one is at in
-    made_one r own (copied_move x r one.sent one.receiver) input before end same (moved ready)
+-- by the step that it has
+pub carries_by : (r : Records) (steps : MoveSteps) (pictured : PicturedSteps) (one : LocatedMove) (step : LocatedStep) → one.step ≡ step → IsReadyAnywhere r steps pictured one
+    → CarriesLocated steps pictured (operand_in r.input one.sent).kind (operand_in r.output one.receiver).kind step
+carries_by r steps pictured one step same ready = subst (λ (s : LocatedStep). CarriesLocated steps pictured (operand_in r.input one.sent).kind (operand_in r.output one.receiver).kind s) same ready.carries
+
+pub applied_located : (x : Reading) (r : Records) (steps : MoveSteps) (pictured : PicturedSteps) (located : List LocatedMove) (number : ℕ) (own : List Move) (one : LocatedMove) (input before : List ℕ) (end : Ending)
+    → IsLocatedMove x r steps pictured located number own → one ≡ get_or located number one → IsMoved r (copied_move x r one.sent one.receiver) input before end → Applied r own input before end
+applied_located x r steps pictured located number own one input before end is at moved =
+    let (ready, same) = the_located x r steps pictured located number own one is at in
+    made_one r own (copied_move x r one.sent one.receiver) input before end same moved

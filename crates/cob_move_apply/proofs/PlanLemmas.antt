@@ -9,7 +9,7 @@ use Rattle.cob_layout_places.specs.declared.operands.PairMoves.{PairMoves}
 use Rattle.cob_layout_places.specs.declared.operands.StatementMoves.{StatementMoves}
 use Rattle.cob_layout_places.specs.Moves.{Move, Records, Sender, moves_by, numbered_move_by, operand_in, statement_moves_by}
 use Rattle.cob_move_apply.specs.Placed.{IsPlacedMove}
-use Rattle.cob_move_apply.specs.Steps.{AreMovesCut, AreSteps, BeginsWith, Gains, GainsCut, IsMoveOfPart, IsPicturedMove, IsReadyAnywhere, IsStep, StandFor, Support, alone, copied_move, pair_at, singles, support_of}
+use Rattle.cob_move_apply.specs.Steps.{AreMovesCut, AreSteps, BeginsWith, CarriesLocated, Gains, GainsCut, IsMoveOfPart, IsPicturedMove, IsReadyAnywhere, IsStep, StandFor, Support, alone, copied_move, pair_at, singles, support_of}
 use Rattle.cob_copybook_tree.specs.declared.node.Kind.{Kind}
 use Rattle.cob_entry.specs.Described.{PlainValue}
 use Rattle.cob_move_prepared.specs.Copies.{IsConstantStep}
@@ -24,6 +24,8 @@ use Rattle.cob_move_apply.specs.Written.{IsFixedConstant}
 use Rattle.cob_move_apply.specs.declared.basis.Basis.{Basis}
 use Rattle.cob_move_apply.specs.declared.step.ConstantMove.{ConstantMove}
 use Rattle.cob_move_apply.specs.declared.step.LocatedMove.{LocatedMove}
+use Rattle.cob_move_apply.specs.declared.step.LocatedStep.{LocatedStep}
+use Rattle.cob_move_apply.specs.declared.step.LocatedStep.TheVariants as located_step
 use Rattle.cob_move_apply.specs.declared.step.Part.{Part}
 use Rattle.cob_move_apply.specs.declared.step.PicturedMove.{PicturedMove}
 use Rattle.cob_move_apply.specs.declared.step.Plan.{Plan}
@@ -69,12 +71,19 @@ pub record Grows (a b : Support) : Type 0 where
 step_as : (T : Type 0) (holds also : T → Type 0) (steps : List T) (n : ℕ) → ((s : T) → holds s → also s) → IsStepAt T holds steps n → IsStepAt T also steps n
 step_as T holds also steps n so is = record { step = is.step; below = is.below; at = is.at; is = so is.step is.is }
 
+-- what carries moves out wherever their items stand, where the steps became more
+carries_still : (before now : MoveSteps) (old new : PicturedSteps) (s t : Kind) (step : LocatedStep) → KeepsSteps before now → KeepsPictured old new → CarriesLocated before old s t step → CarriesLocated now new s t step
+carries_still before now old new s t (located_step.Always step) kept pictured carries = λ sent received has gets.
+    kept (record { sender = s; sent = sent; receiver = t; received = received }) step (carries sent received has gets)
+carries_still before now old new s t (located_step.Pictured step) kept pictured carries = λ sent received has gets.
+    pictured (record { sender = s; sent = sent; receiver = t; received = received }) step (carries sent received has gets)
+
 -- a move that was made ready wherever its items stand, where the steps became more
-ready_still : (r : Records) (before now : MoveSteps) (p : LocatedMove) → KeepsSteps before now → IsReadyAnywhere r before p → IsReadyAnywhere r now p
-ready_still r before now p kept ready = record {
+ready_still : (r : Records) (a b : Support) (p : LocatedMove) → Grows a b → IsReadyAnywhere r a.prepared a.pictured p → IsReadyAnywhere r b.prepared b.pictured p
+ready_still r a b p more ready = record {
   sends = ready.sends;
   receives = ready.receives;
-  carries = λ sent received has gets. kept (record { sender = (operand_in r.input p.sent).kind; sent = sent; receiver = (operand_in r.output p.receiver).kind; received = received }) p.step (ready.carries sent received has gets);
+  carries = carries_still a.prepared b.prepared a.pictured b.pictured (operand_in r.input p.sent).kind (operand_in r.output p.receiver).kind p.step more.prepared more.pictured ready.carries;
 }
 
 step_still : (x : Reading) (r : Records) (given : List StatementMoves) (a b : Support) (s : Step) (own : List Move) → Grows a b → IsStep x r given a s own → IsStep x r given b s own
@@ -96,9 +105,9 @@ step_still x r given a b (step.Pictured q p) own more (m, is, (part, so)) = (
 step_still x r given a b (step.Constant c) own more (constant, to, at, fixed) =
     (constant, to, kept_at ConstantStep (λ step. IsConstantStep constant to c.to.length step) a.constants b.constants c.number more.constants at, fixed)
 step_still x r given a b (step.Located number) own more is =
-    step_as LocatedMove (λ p. IsReadyAnywhere r a.prepared p × (own ≡ copied_move x r p.sent p.receiver ∷ [])) (λ p. IsReadyAnywhere r b.prepared p × (own ≡ copied_move x r p.sent p.receiver ∷ [])) b.located number
-    (λ p (ready, same). (ready_still r a.prepared b.prepared p more.prepared ready, same))
-    (kept_at LocatedMove (λ p. IsReadyAnywhere r a.prepared p × (own ≡ copied_move x r p.sent p.receiver ∷ [])) a.located b.located number more.located is)
+    step_as LocatedMove (λ p. IsReadyAnywhere r a.prepared a.pictured p × (own ≡ copied_move x r p.sent p.receiver ∷ [])) (λ p. IsReadyAnywhere r b.prepared b.pictured p × (own ≡ copied_move x r p.sent p.receiver ∷ [])) b.located number
+    (λ p (ready, same). (ready_still r a b p more ready, same))
+    (kept_at LocatedMove (λ p. IsReadyAnywhere r a.prepared a.pictured p × (own ≡ copied_move x r p.sent p.receiver ∷ [])) a.located b.located number more.located is)
 step_still x r given a b (step.Copy places) own more h = h
 
 steps_still : (x : Reading) (r : Records) (given : List StatementMoves) (a b : Support) (ss : List Step) (parts : List Move) → Grows a b
@@ -180,13 +189,13 @@ by_constant x r given bases prepared pictured located before now written old new
 
 -- a move that was made ready wherever its items stand behind steps
 pub by_located : (x : Reading) (r : Records) (given : List StatementMoves) (bases : List Basis) (prepared : MoveSteps) (pictured : PicturedSteps) (constants : List ConstantStep) (before now : List LocatedMove) (one : LocatedMove) (old new : List Step)
-    (number : ℕ) (parts own : List Move) → now ≡ before ++ one ∷ [] → number ≡ length before → IsReadyAnywhere r prepared one → own ≡ copied_move x r one.sent one.receiver ∷ []
+    (number : ℕ) (parts own : List Move) → now ≡ before ++ one ∷ [] → number ≡ length before → IsReadyAnywhere r prepared pictured one → own ≡ copied_move x r one.sent one.receiver ∷ []
     → new ≡ old ++ step.Located number ∷ [] → AreSteps x r given (record { bases = bases; prepared = prepared; pictured = pictured; constants = constants; located = before }) old parts
     → AreSteps x r given (record { bases = bases; prepared = prepared; pictured = pictured; constants = constants; located = now }) new (parts ++ own)
 by_located x r given bases prepared pictured constants before now one old new number parts own grown here ready same is are =
     by_more x r given (record { bases = bases; prepared = prepared; pictured = pictured; constants = constants; located = before }) (record { bases = bases; prepared = prepared; pictured = pictured; constants = constants; located = now }) old new (step.Located number) parts own
     (record { more = []; bases = sym (append-nil bases); prepared = λ k t h. h; pictured = λ k t h. h; constants = as_before ConstantStep constants; located = (one ∷ [], grown) }) is
-    (put_at LocatedMove (λ p. IsReadyAnywhere r prepared p × (own ≡ copied_move x r p.sent p.receiver ∷ [])) before now one number grown here (ready, same)) are
+    (put_at LocatedMove (λ p. IsReadyAnywhere r prepared pictured p × (own ≡ copied_move x r p.sent p.receiver ∷ [])) before now one number grown here (ready, same)) are
 
 -- the bases that were put behind others begin there
 pub begin_there : (r : Records) (m : Move) (old own : List Basis) (n : ℕ) → n ≡ length old → IsPlacedMove r m own → BeginsWith r m (drop n (old ++ own))

@@ -167,8 +167,8 @@ abbrev pub IsPictured : Between → PicturedSteps → PicturedMove → (Reading 
 IsPictured b steps p ms = IsPicturedMove (records_between b) steps p (ms Pictured)
 
 -- Whatever the reading, moves are a single one that was made ready so wherever its items stand, by one of these steps.
-abbrev pub AlwaysLocated : Records → MoveSteps → LocatedMove → (Reading → List Move) → Type 0
-AlwaysLocated r steps p ms = IsReadyAnywhere r steps p × ((reading : Reading) → ms reading ≡ copied_move reading r p.sent p.receiver ∷ [])
+abbrev pub AlwaysLocated : Records → MoveSteps → PicturedSteps → LocatedMove → (Reading → List Move) → Type 0
+AlwaysLocated r steps pictured p ms = IsReadyAnywhere r steps pictured p × ((reading : Reading) → ms reading ≡ copied_move reading r p.sent p.receiver ∷ [])
 
 -- Whatever the reading, moves are a single one of a constant that was made ready so.
 abbrev pub IsReady : Records → ReadyConstant → (Reading → List Move) → Type 0

@@ -20,6 +20,7 @@ use Rattle.cob_move_prepared.specs.Pictured.{IsPicturedStep}
 use Rattle.cob_move_prepared.specs.Copies.{IsConstantStep}
 use Rattle.cob_move_prepared.specs.Pool.{IsMoveStep, IsStepAt, MoveKinds}
 use Rattle.cob_move_prepared.specs.declared.constant_step.ConstantStep.{ConstantStep}
+use Rattle.cob_move_prepared.specs.declared.pictured.PicturedStep.{PicturedStep}
 use Rattle.cob_move_prepared.specs.declared.pictured.PicturedSteps.{PicturedSteps}
 use Rattle.cob_move_prepared.specs.declared.pool.MoveStep.{MoveStep}
 use Rattle.cob_move_prepared.specs.declared.pool.MoveStep.TheVariants as move_step
@@ -27,6 +28,8 @@ use Rattle.cob_move_prepared.specs.declared.pool.MoveSteps.{MoveSteps}
 use Rattle.cob_move_apply.specs.declared.basis.Basis.{Basis}
 use Rattle.cob_move_apply.specs.declared.step.ConstantMove.{ConstantMove}
 use Rattle.cob_move_apply.specs.declared.step.LocatedMove.{LocatedMove}
+use Rattle.cob_move_apply.specs.declared.step.LocatedStep.{LocatedStep}
+use Rattle.cob_move_apply.specs.declared.step.LocatedStep.TheVariants as located_step
 use Rattle.cob_move_apply.specs.declared.step.NumberedMove.{NumberedMove}
 use Rattle.cob_move_apply.specs.declared.step.Part.{Part}
 use Rattle.cob_move_apply.specs.declared.step.PicturedMove.{PicturedMove}
@@ -114,16 +117,26 @@ abbrev pub CarriesAnywhere : MoveSteps → (sender receiver : Kind) → MoveStep
 CarriesAnywhere steps sender receiver s = (sent received : ℕ) → Occupies sender sent → Occupies receiver received
     → IsMoveStep steps (record { sender = sender; sent = sent; receiver = receiver; received = received }) s
 
+-- so does this one, where senders are read as their pictures say
+abbrev pub CarriesPictured : PicturedSteps → (sender receiver : Kind) → PicturedStep → Type 0
+CarriesPictured steps sender receiver s = (sent received : ℕ) → Occupies sender sent → Occupies receiver received
+    → IsPicturedStep steps (record { sender = sender; sent = sent; receiver = receiver; received = received }) s
+
+-- so does this one, whatever the reading or as pictures say
+abbrev pub CarriesLocated : MoveSteps → PicturedSteps → (sender receiver : Kind) → LocatedStep → Type 0
+CarriesLocated steps pictured sender receiver (located_step.Always s) = CarriesAnywhere steps sender receiver s
+CarriesLocated steps pictured sender receiver (located_step.Pictured s) = CarriesPictured pictured sender receiver s
+
 -- a move was made ready so: what is noted of either place is what this may rest on, and the step, one of these, carries the move out wherever they are
-pub record IsReadyAnywhere (r : Records) (steps : MoveSteps) (p : LocatedMove) : Type 0 where
+pub record IsReadyAnywhere (r : Records) (steps : MoveSteps) (pictured : PicturedSteps) (p : LocatedMove) : Type 0 where
   pub sends : IsPlaced r.input false (operand_in r.input p.sent) p.from
   pub receives : IsPlaced r.output true (operand_in r.output p.receiver) p.to
-  pub carries : CarriesAnywhere steps (operand_in r.input p.sent).kind (operand_in r.output p.receiver).kind p.step
+  pub carries : CarriesLocated steps pictured (operand_in r.input p.sent).kind (operand_in r.output p.receiver).kind p.step
 
 -- these are the single move with this number among some that were made ready wherever their items stand, by one of these steps
-abbrev pub IsLocatedMove : Reading → Records → MoveSteps → List LocatedMove → ℕ → List Move → Type 0
-IsLocatedMove reading r steps located number own =
-    IsStepAt LocatedMove (λ p. IsReadyAnywhere r steps p × (own ≡ copied_move reading r p.sent p.receiver ∷ [])) located number
+abbrev pub IsLocatedMove : Reading → Records → MoveSteps → PicturedSteps → List LocatedMove → ℕ → List Move → Type 0
+IsLocatedMove reading r steps pictured located number own =
+    IsStepAt LocatedMove (λ p. IsReadyAnywhere r steps pictured p × (own ≡ copied_move reading r p.sent p.receiver ∷ [])) located number
 
 -- the move that the step of this number, of a kind, carries out
 abbrev pub numbered : (ℕ → MoveStep) → NumberedMove → PreparedMove
@@ -140,7 +153,7 @@ IsStep reading r given on (step.Edited p) own = IsPreparedMove reading r on.prep
 IsStep reading r given on (step.Characters p) own = IsPreparedMove reading r on.prepared (record { places = p.places; step = move_step.Characters p.step }) own
 IsStep reading r given on (step.Pictured q p) own = (m : Move) × (own ≡ m ∷ []) × IsPicturedPart reading r given on.bases on.pictured q p m
 IsStep reading r given on (step.Constant c) own = IsConstantMove r on.constants c own
-IsStep reading r given on (step.Located number) own = IsLocatedMove reading r on.prepared on.located number own
+IsStep reading r given on (step.Located number) own = IsLocatedMove reading r on.prepared on.pictured on.located number own
 IsStep reading r given on (step.Copy places) own = AreCopied r places.from places.to own
 
 -- steps stand for these moves, one step's behind another's

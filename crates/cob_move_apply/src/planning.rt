@@ -243,7 +243,7 @@ fn push_constant(one: ReadyConstant, plan: &mut Plan) -> Result<(), AllocError>
 /// Where no memory is left.
 fn push_located(one: LocatedMove, plan: &mut Plan) -> Result<(), AllocError>
     ensures gains { OnOk result ((reading : Reading) (r : Records) (given : List Said)
-        (ms : Reading → List Meant) → AlwaysLocated r plan.old.prepared one ms
+        (ms : Reading → List Meant) → AlwaysLocated r plan.old.prepared plan.old.pictured one ms
         → Gains reading r given (ms reading) plan.old plan.new) }
     ensures added { OnOk result (HasOneMore plan.old.steps.items plan.new.steps.items) }
 {
@@ -272,7 +272,8 @@ fn push_anywhere(
     ensures added { OnOk result (HasOneMore plan.old.steps.items plan.new.steps.items) }
 {
     let receiver = &part.receivers[0];
-    match located_of(part.sender, receiver, both, &mut plan.prepared)? {
+    let prepared = &mut plan.prepared;
+    match located_of(part.sender, receiver, both, prepared, &mut plan.pictured)? {
         Some(one) => push_located(one, plan),
         None => push_part(given, part, both, plan),
     }

@@ -4,7 +4,7 @@ ghost use Rattle.std.specs.Prelude.{IfOk, IfSome};
 ghost use Rattle.cob_layout.specs.Sound.{IsStorableKind};
 ghost use Rattle.cob_layout_places.specs.Moves.{IsMove, IsOperand, operand_in, sender};
 ghost use Rattle.cob_move_apply.specs.Planned.{AlwaysLocated, AlwaysPrepared, AreFixedPlaces, IsPictured, IsReady, constant_alone, entry_alone, records_between, single_alone};
-ghost use Rattle.cob_move_apply.specs.Steps.{CarriesAnywhere, alone};
+ghost use Rattle.cob_move_apply.specs.Steps.{CarriesLocated, alone};
 ghost use Rattle.cob_move_prepared.specs.Pictured.{KeepsPictured};
 ghost use Rattle.cob_move_prepared.specs.Pool.{KeepsSteps};
 
@@ -12,10 +12,10 @@ use crate::basis::entry_kind;
 use crate::pairs::same_entry;
 use crate::planning::Between;
 use crate::preparation::basis_of;
-use crate::step::{LocatedMove, MovePlaces, PicturedMove, PreparedMove};
+use crate::step::{LocatedMove, LocatedStep, MovePlaces, PicturedMove, PreparedMove};
 use cob_layout::{Kind, Place, Ref, Value, places_lie_in_storage, records_are_sound};
 use cob_layout_places::{Sender, Side};
-use cob_move_prepared::{ConstantStep, MoveStep, MoveSteps, PicturedSteps};
+use cob_move_prepared::{ConstantStep, MoveSteps, PicturedSteps};
 use std::alloc::AllocError;
 
 /// To how many bytes a constant is made ready at most: of longer ones a paragraph could name more than there is memory for.
@@ -169,21 +169,24 @@ pub(crate) fn prepared_of(
     }
 }
 
-/// The step that carries out the moves of an item to another wherever they stand; None where one of them is a group, or nothing carries such moves out.
+/// The step that carries out the moves of an item to another wherever they stand, whatever the reading or where senders are read as their pictures
+/// say; None where one of them is a group, or nothing carries such moves out.
 ///
 /// # Errors
 ///
 /// Where no memory is left.
-fn step_between(
+fn located_step(
     sends: &Kind,
     receives: &Kind,
     prepared: &mut MoveSteps,
-) -> Result<Option<MoveStep>, AllocError>
+    pictured: &mut PicturedSteps,
+) -> Result<Option<LocatedStep>, AllocError>
     requires sends { IsStorableKind sends.now }
     requires receives { IsStorableKind receives.now }
     ensures step { IfOk result (λ found. IfSome found
-        (CarriesAnywhere prepared.new sends.now receives.now)) }
-    ensures kept { KeepsSteps prepared.old prepared.new }
+        (CarriesLocated prepared.new pictured.new sends.now receives.now)) }
+    ensures prepared { KeepsSteps prepared.old prepared.new }
+    ensures pictured { KeepsPictured pictured.old pictured.new }
 {
     let Kind::Item(from) = sends else {
         return Ok(None);
@@ -193,7 +196,13 @@ fn step_between(
     };
     let sent = u32::from(from.size());
     let received = u32::from(to.size());
-    prepared.prepare(sends, sent, receives, received)
+    if let Some(step) = prepared.prepare(sends, sent, receives, received)? {
+        return Ok(Some(LocatedStep::Always(step)));
+    }
+    match pictured.prepare(sends, sent, receives, received)? {
+        Some(step) => Ok(Some(LocatedStep::Pictured(step))),
+        None => Ok(None),
+    }
 }
 
 /// The single move of an entry of the input record to one of the output record, made ready wherever they stand; None where one of them is a group, or
@@ -207,21 +216,23 @@ fn located_entry(
     receiver: &Ref,
     both: &Between<'_>,
     prepared: &mut MoveSteps,
+    pictured: &mut PicturedSteps,
 ) -> Result<Option<LocatedMove>, AllocError>
     requires sent { IsOperand both.now.input.now (operand_in both.now.input.now sent.now) }
     requires receiver { IsOperand both.now.output.now
         (operand_in both.now.output.now receiver.now) }
     ensures step { IfOk result (λ found. IfSome found
-        (λ one. AlwaysLocated (records_between both.now) prepared.new one
+        (λ one. AlwaysLocated (records_between both.now) prepared.new pictured.new one
         (entry_alone both.now sent.now receiver.now))) }
-    ensures kept { KeepsSteps prepared.old prepared.new }
+    ensures prepared { KeepsSteps prepared.old prepared.new }
+    ensures pictured { KeepsPictured pictured.old pictured.new }
 {
     records_are_sound();
     let _ = both.input.greatest();
     let _ = both.output.greatest();
     let sends = entry_kind(both.input, sent);
     let receives = entry_kind(both.output, receiver);
-    match step_between(sends, receives, prepared)? {
+    match located_step(sends, receives, prepared, pictured)? {
         Some(step) => Ok(Some(LocatedMove {
             sent: same_entry(sent),
             from: basis_of(both.input, sent, false),
@@ -243,18 +254,20 @@ pub(crate) fn located_of(
     receiver: &Ref,
     both: &Between<'_>,
     prepared: &mut MoveSteps,
+    pictured: &mut PicturedSteps,
 ) -> Result<Option<LocatedMove>, AllocError>
     requires legal { IsMove (records_between both.now)
         (alone (sender (records_between both.now) given.now)
         (operand_in both.now.output.now receiver.now)) }
     ensures step { IfOk result (λ found. IfSome found
-        (λ one. AlwaysLocated (records_between both.now) prepared.new one
+        (λ one. AlwaysLocated (records_between both.now) prepared.new pictured.new one
         (single_alone both.now given.now receiver.now))) }
-    ensures kept { KeepsSteps prepared.old prepared.new }
+    ensures prepared { KeepsSteps prepared.old prepared.new }
+    ensures pictured { KeepsPictured pictured.old pictured.new }
 {
     match given {
         Sender::Entry { side, entry } => match *side {
-            Side::In => located_entry(entry, receiver, both, prepared),
+            Side::In => located_entry(entry, receiver, both, prepared, pictured),
             Side::Out => Ok(None),
         },
         Sender::Constant(_) => Ok(None),

@@ -83,6 +83,15 @@ pub(crate) struct ConstantMove {
     pub(crate) number: usize,
 }
 
+/// What carries out the moves of one item to another, wherever they stand.
+#[derive(Clone, Copy, Debug)]
+pub(crate) enum LocatedStep {
+    /// Whatever the reading of binary senders.
+    Always(MoveStep),
+    /// Where senders are read as their pictures say.
+    Pictured(PicturedStep),
+}
+
 /// A single move of an item of the input record to one of the output record, made ready wherever these stand: an item has as many bytes everywhere.
 #[derive(Debug, Drop)]
 pub(crate) struct LocatedMove {
@@ -93,7 +102,7 @@ pub(crate) struct LocatedMove {
     /// What the place of the receiver rests on.
     pub(crate) to: Basis,
     /// What carries the move out.
-    pub(crate) step: MoveStep,
+    pub(crate) step: LocatedStep,
 }
 
 /// What is carried out at once. Single moves that were made ready stand here by their kinds, so that one jump finds what carries them out.

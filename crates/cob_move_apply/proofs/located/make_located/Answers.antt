@@ -1,19 +1,32 @@
-use Rattle.std.proofs.lemmas.Result.{err_from_is_err_and}
-use Rattle.cob_move_apply.specs.Applied.{ending, stopped}
+use Rattle.cob_move_apply.specs.Applied.{ending}
 use Rattle.cob_move_apply.specs.Surveyed.{records}
-use Rattle.cob_move_apply.proofs.LocatedLemmas.{applied_located, made_located}
+use Rattle.cob_move_apply.specs.declared.step.LocatedStep.TheVariants.{Always, Pictured}
+use Rattle.cob_move_apply.proofs.LocatedLemmas.{applied_located, carries_by, the_located}
 use Rattle.cob_move_apply.proofs.located.make_located.Goals as goal
 
-pub returns-in_err-places-clause-applied : goal.returns-in_err-places-clause-applied
-returns-in_err-places-clause-applied c = λ own is.
-    let p = err_from_is_err_and c.from_residual.result c.from_residual.ensures.1 in
-    rw (p.1, p.2)
-    (applied_located c.args.layouts.now.reading (records c.args.layouts.now) c.args.plan.now.prepared c.args.plan.now.located.items c.args.number own c.index-one.result.now c.args.input.now c.args.output.now
-    (stopped c.in_err-places.field-0.0 c.args.output.now) is c.index-one.ensures (λ ready. c.in_err-places.ensures.stops))
+pub move_always-requires-clause-carries : goal.move_always-requires-clause-carries
+move_always-requires-clause-carries c =
+    let (own, is) = c.requires.step in
+    let ready = the_located c.args.layouts.now.reading (records c.args.layouts.now) c.args.plan.now.prepared c.args.plan.now.pictured c.args.plan.now.located.items c.args.number own c.index-one.result.now is c.index-one.ensures in
+    carries_by (records c.args.layouts.now) c.args.plan.now.prepared c.args.plan.now.pictured c.index-one.result.now (Always c.in-Always.step) c.in-Always.is ready.0
 
-pub returns-clause-applied : goal.returns-clause-applied
-returns-clause-applied c = λ own is.
-    applied_located c.args.layouts.now.reading (records c.args.layouts.now) c.args.plan.now.prepared c.args.plan.now.located.items c.args.number own c.index-one.result.now c.args.input.now c.args.output.now
-    (ending c.make_prepared.result c.make_prepared.new.output) is c.index-one.ensures
-    (λ ready. made_located (records c.args.layouts.now) c.args.layouts.now.reading c.args.plan.now.prepared c.index-one.result.now c.in_ok-places.places c.args.input.now c.args.output.now
-    (ending c.make_prepared.result c.make_prepared.new.output) c.in_ok-places.ensures.stand ready c.make_prepared.ensures.made)
+pub returns-in-Always-clause-applied : goal.returns-in-Always-clause-applied
+returns-in-Always-clause-applied c = λ own is.
+    applied_located c.args.layouts.now.reading (records c.args.layouts.now) c.args.plan.now.prepared c.args.plan.now.pictured c.args.plan.now.located.items c.args.number own c.index-one.result.now c.args.input.now c.args.output.now
+    (ending c.move_always.result c.move_always.new.output) is c.index-one.ensures c.move_always.ensures.moved
+
+pub move_pictured-requires-clause-carries : goal.move_pictured-requires-clause-carries
+move_pictured-requires-clause-carries c =
+    let (own, is) = c.requires.step in
+    let ready = the_located c.args.layouts.now.reading (records c.args.layouts.now) c.args.plan.now.prepared c.args.plan.now.pictured c.args.plan.now.located.items c.args.number own c.index-one.result.now is c.index-one.ensures in
+    carries_by (records c.args.layouts.now) c.args.plan.now.prepared c.args.plan.now.pictured c.index-one.result.now (Pictured c.in-Pictured.step) c.in-Pictured.is ready.0
+
+pub returns-in-Pictured-reading-clause-applied : goal.returns-in-Pictured-reading-clause-applied
+returns-in-Pictured-reading-clause-applied c = λ own is.
+    applied_located c.args.layouts.now.reading (records c.args.layouts.now) c.args.plan.now.prepared c.args.plan.now.pictured c.args.plan.now.located.items c.args.number own c.index-one.result.now c.args.input.now c.args.output.now
+    (ending c.move_pictured.result c.move_pictured.new.output) is c.index-one.ensures c.move_pictured.ensures.moved
+
+pub returns-in-Whole-clause-applied : goal.returns-in-Whole-clause-applied
+returns-in-Whole-clause-applied c = λ own is.
+    applied_located c.args.layouts.now.reading (records c.args.layouts.now) c.args.plan.now.prepared c.args.plan.now.pictured c.args.plan.now.located.items c.args.number own c.index-one.result.now c.args.input.now c.args.output.now
+    (ending c.move_unready.result c.move_unready.new.output) is c.index-one.ensures c.move_unready.ensures.moved
