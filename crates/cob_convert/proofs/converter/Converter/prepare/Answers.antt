@@ -49,3 +49,15 @@ returns-in_err-check_block-clause-refused c =
       paragraph = paragraph_too c.args.moves.now _ _ _ _ made.moves input output c.in_ok-conversion.ensures.paragraph;
     } in
     rw (p.1, p.2) (block_refused c.args.out_form c.in_err-check_block.field-0.0 c.out_length.result c.args.in_book.now c.args.out_book.now c.args.moves.now made means c.out_length.ensures.value c.in_err-check_block.ensures.refused)
+
+pub returns-clause-means : goal.returns-clause-means
+returns-clause-means c =
+    let made = c.in_ok-conversion.conversion in
+    let input = c.in_ok-conversion.ensures.input in
+    let output = c.in_ok-conversion.ensures.output in
+    let means : Means c.args.in_book.now c.args.out_book.now c.args.moves.now made = record {
+      input = subst (IsBookOf In c.args.in_book.now) (sym input) c.in_ok-input.ensures.found;
+      output = subst (IsBookOf Out c.args.out_book.now) (sym output) c.in_ok-output.ensures.found;
+      paragraph = paragraph_too c.args.moves.now _ _ _ _ made.moves input output c.in_ok-conversion.ensures.paragraph;
+    } in
+    subst (Means c.args.in_book.now c.args.out_book.now c.args.moves.now) (sym c.in_ok-of.ensures.made) means
