@@ -25,7 +25,7 @@ use Rattle.cob_layout.specs.declared.shifts.Shift.{Shift}
 use Rattle.cob_layout.specs.Shifts.{all_shifted, are_unnested, bytes_of, shifted, shifts_from, sums_from}
 use Rattle.cob_layout.proofs.SpotLaw.{AreSpots, nowhere, at_seam, one_longer}
 
-both : (a b : Bool) → (a && b) ≡ true → (a ≡ true) × (b ≡ true)
+pub both : (a b : Bool) → (a && b) ≡ true → (a ≡ true) × (b ≡ true)
 both true b e = (refl, e)
 both false b e = cc
 
