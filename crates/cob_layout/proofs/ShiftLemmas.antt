@@ -1,13 +1,13 @@
 -- The sums of the bytes of tables, and the spots that follow from them.
-use Rattle.std.proofs.Common.{◌≡◌, ◌⊎◌, ℕ, zero, suc, ◌+◌, ◌*◌, ◌-◌, ◌<◌, ◌≤◌, ◌==◌, ◌&&◌, min, max, Bool, true, false, List, [], ◌∷◌, ◌++◌, length, get_or, take, drop, refl, sym, ap, subst, ◌∙◌, arith, inl, inr, append-nil, append_assoc}
+use Rattle.std.proofs.Common.{◌≡◌, ℕ, zero, suc, ◌+◌, ◌-◌, ◌<◌, ◌≤◌, ◌==◌, ◌&&◌, min, max, true, false, List, [], ◌∷◌, ◌++◌, length, get_or, take, drop, refl, sym, ap, subst, ◌∙◌, arith, inl, inr, append-nil, append_assoc}
 use Rattle.std.specs.Prelude.{slice_index, slice_set}
 use Rattle.std.specs.List.{AllByRecursion}
 use Rattle.std.proofs.Math.Seq.{set-append_seam}
 use Rattle.std.proofs.lemmas.Bool.{cases_lt}
-use Rattle.std.proofs.lemmas.List.{length-append, drop_more, drop_all, drop-set-lt, take_more_set, take_all, get_or_past, length-set, length-take-le}
+use Rattle.std.proofs.lemmas.List.{length-append, drop_more, drop_all, take_more_set, take_all, get_or_past, length-set, length-take-le}
 use Rattle.cob_copybook_tree.specs.Forests.{Forest, NoEntries, AnEntry, entries_in}
 use Rattle.cob_copybook_tree.specs.Nodes.{Resolved}
-use Rattle.cob_copybook_tree.specs.Lengths.{greatest_number, element_length, whole_length, own_length, sum_of}
+use Rattle.cob_copybook_tree.specs.Lengths.{greatest_number, element_length, whole_length, own_length}
 use Rattle.cob_layout_places.specs.declared.spots.Spot.{Spot}
 use Rattle.cob_layout_places.specs.declared.varying.Table.{Table}
 use Rattle.cob_layout_places.specs.Counts.{table_of, tables_of}
@@ -16,7 +16,7 @@ use Rattle.cob_layout_places.specs.Places.{begins}
 use Rattle.cob_layout_places.specs.Spots.{spots_of}
 use Rattle.cob_layout_places.proofs.ForestLemmas.{sum_le, within_always, element_le, element_small}
 use Rattle.cob_layout_places.proofs.SpotLemmas.{length_spots}
-use Rattle.cob_layout_places.proofs.PlaceLemmas.{Left, Fits, first_of, rest_of, beneath_fits}
+use Rattle.cob_layout_places.proofs.PlaceLemmas.{Left, first_of, rest_of, beneath_fits}
 use Rattle.cob_layout.specs.Counting.{varying}
 use Rattle.cob_layout.specs.Sound.{IsSound}
 use Rattle.cob_layout.specs.declared.shifts.Shift.{Shift}
