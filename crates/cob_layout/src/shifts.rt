@@ -2,8 +2,8 @@
 //!
 //! Where no table that varies stands beneath another table, the spot of each entry follows from the one that it has where these tables have no
 //! element, its least spot: it begins behind the bytes of the tables that end before it, and is longer by the bytes of those beneath it. So one sum
-//! for each table, and what each entry needs of them, give all spots. A table that stands in another one shifts what stands behind it in each element
-//! by as much, so that its bytes count once for each of them; such a record is walked.
+//! for each table, and what each entry needs of them, give all spots (`spots_of` of cob_layout_places). A table that varies in another table takes its
+//! bytes in each element of that one, so that no such sum says where what follows stands; a record that has one is walked.
 
 ghost use Rattle.std.specs.Prelude.{◌≡◌, ◌++◌, ◌+◌, ◌<◌, ◌≤◌, ◌^◌, ℕ, length, slice_index, IfOk, IsTrue};
 ghost use Rattle.std.specs.List.{AllByRecursion};
@@ -56,7 +56,7 @@ fn varies(occurs: ResolvedOccurs) -> bool
     matches!(occurs, ResolvedOccurs::Varying { .. })
 }
 
-/// Whether no table that varies is or stands beneath an entry that stands in a table, or beneath a table that it is or holds.
+/// Whether no table that varies stands beneath a table, among an entry and those beneath it; `within` says that the entry itself stands beneath one.
 pub(crate) fn is_unnested(entry: &Node, within: bool) -> bool
     ensures { result ≡ are_unnested within (tree_of entry.now) }
 {
