@@ -1,7 +1,6 @@
 -- Where no table that varies stands beneath another table, the spots of entries are the least ones, shifted.
-use Rattle.std.proofs.Common.{◌≡◌, ◌⊎◌, ℕ, zero, suc, ◌+◌, ◌-◌, ◌*◌, ◌<◌, ◌≤◌, min, max, Bool, true, false, List, [], ◌∷◌, ◌++◌, length, get_or, Option, Some, None, refl, sym, ap, subst, ◌∙◌, arith, inl, inr, append-nil, append_assoc}
+use Rattle.std.proofs.Common.{◌≡◌, ◌⊎◌, ℕ, ◌+◌, ◌-◌, ◌*◌, min, max, Bool, true, false, List, [], ◌∷◌, ◌++◌, length, Option, Some, None, refl, sym, ap, subst, ◌∙◌, arith, inl, inr}
 use Rattle.std.specs.Prelude.{not, ◌&&◌, ◌||◌, slice_index}
-use Rattle.std.specs.List.{AllByRecursion}
 use Rattle.std.proofs.lemmas.List.{length-append}
 use Rattle.cob_copybook_tree.specs.declared.node.Kind.{Kind}
 use Rattle.cob_copybook_tree.specs.declared.node.Kind.TheVariants.{Group, Item as ItemKind}
@@ -9,7 +8,7 @@ use Rattle.cob_copybook_tree.specs.declared.node.ResolvedOccurs.{ResolvedOccurs}
 use Rattle.cob_copybook_tree.specs.declared.node.ResolvedOccurs.TheVariants.{Once, Fixed, Varying}
 use Rattle.cob_copybook_tree.specs.Forests.{Forest, NoEntries, AnEntry, Tree, entries_in}
 use Rattle.cob_copybook_tree.specs.Nodes.{Resolved, MayHold}
-use Rattle.cob_copybook_tree.specs.Lengths.{greatest_number, element_length, whole_length, own_length, length_by_kind, sum_of, item_size}
+use Rattle.cob_copybook_tree.specs.Lengths.{element_length, whole_length, own_length, length_by_kind, sum_of, item_size}
 use Rattle.cob_copybook_lengths.specs.Areas.{is_varying, hold_varying, HasFixedLength, FitsFirst, MayFollow, AreAreas, area_with}
 use Rattle.cob_layout_places.specs.declared.spots.Spot.{Spot}
 use Rattle.cob_layout_places.specs.declared.varying.Table.{Table}
@@ -22,10 +21,10 @@ use Rattle.cob_layout_places.proofs.SpotLemmas.{length_spots}
 use Rattle.cob_layout.specs.Counting.{varying}
 use Rattle.cob_layout.specs.Ways.{spot_at}
 use Rattle.cob_layout.specs.declared.shifts.Shift.{Shift}
-use Rattle.cob_layout.specs.Shifts.{all_shifted, are_unnested, bytes_of, shifted, shifts_from, sums_from}
-use Rattle.cob_layout.proofs.SpotLaw.{AreSpots, nowhere, at_seam, one_longer}
+use Rattle.cob_layout.specs.Shifts.{all_shifted, are_unnested, bytes_of, shifted, shifts_from}
+use Rattle.cob_layout.proofs.SpotLaw.{AreSpots, nowhere}
 
-both : (a b : Bool) → (a && b) ≡ true → (a ≡ true) × (b ≡ true)
+pub both : (a b : Bool) → (a && b) ≡ true → (a ≡ true) × (b ≡ true)
 both true b e = (refl, e)
 both false b e = cc
 

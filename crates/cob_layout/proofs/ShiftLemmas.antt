@@ -1,13 +1,13 @@
 -- The sums of the bytes of tables, and the spots that follow from them.
-use Rattle.std.proofs.Common.{◌≡◌, ◌⊎◌, ℕ, zero, suc, ◌+◌, ◌*◌, ◌<◌, ◌≤◌, Bool, true, false, List, [], ◌∷◌, ◌++◌, length, get_or, take, drop, refl, sym, ap, subst, ◌∙◌, arith, inl, inr, append-nil, append_assoc}
+use Rattle.std.proofs.Common.{◌≡◌, ℕ, zero, suc, ◌+◌, ◌-◌, ◌<◌, ◌≤◌, ◌==◌, ◌&&◌, min, max, true, false, List, [], ◌∷◌, ◌++◌, length, get_or, take, drop, refl, sym, ap, subst, ◌∙◌, arith, inl, inr, append-nil, append_assoc}
 use Rattle.std.specs.Prelude.{slice_index, slice_set}
 use Rattle.std.specs.List.{AllByRecursion}
 use Rattle.std.proofs.Math.Seq.{set-append_seam}
 use Rattle.std.proofs.lemmas.Bool.{cases_lt}
-use Rattle.std.proofs.lemmas.List.{length-append, drop_more, drop_all, drop-set-lt, take_more_set, take_all, get_or_past, length-set, length-take-le}
+use Rattle.std.proofs.lemmas.List.{length-append, drop_more, drop_all, take_more_set, take_all, get_or_past, length-set, length-take-le}
 use Rattle.cob_copybook_tree.specs.Forests.{Forest, NoEntries, AnEntry, entries_in}
 use Rattle.cob_copybook_tree.specs.Nodes.{Resolved}
-use Rattle.cob_copybook_tree.specs.Lengths.{greatest_number, element_length, whole_length, own_length, sum_of}
+use Rattle.cob_copybook_tree.specs.Lengths.{greatest_number, element_length, whole_length, own_length}
 use Rattle.cob_layout_places.specs.declared.spots.Spot.{Spot}
 use Rattle.cob_layout_places.specs.declared.varying.Table.{Table}
 use Rattle.cob_layout_places.specs.Counts.{table_of, tables_of}
@@ -16,12 +16,14 @@ use Rattle.cob_layout_places.specs.Places.{begins}
 use Rattle.cob_layout_places.specs.Spots.{spots_of}
 use Rattle.cob_layout_places.proofs.ForestLemmas.{sum_le, within_always, element_le, element_small}
 use Rattle.cob_layout_places.proofs.SpotLemmas.{length_spots}
-use Rattle.cob_layout_places.proofs.PlaceLemmas.{Left, Fits, first_of, rest_of, beneath_fits}
+use Rattle.cob_layout_places.proofs.PlaceLemmas.{Left, first_of, rest_of, beneath_fits}
+use Rattle.cob_layout.specs.Counting.{varying}
 use Rattle.cob_layout.specs.Sound.{IsSound}
 use Rattle.cob_layout.specs.declared.shifts.Shift.{Shift}
 use Rattle.cob_layout.specs.Shifts.{all_shifted, are_unnested, bytes_of, shifted, shifts_from, sums_from, IsWithin}
+use Rattle.cob_layout.proofs.EndLemmas.{same}
 use Rattle.cob_layout.proofs.SpotLaw.{are_spots, at_seam, one_longer}
-use Rattle.cob_layout.proofs.ShiftLaw.{AreSums, grow, length_shifts, stand_shifted, sum_grows}
+use Rattle.cob_layout.proofs.ShiftLaw.{both, AreSums, grow, length_shifts, stand_shifted, sum_grows}
 
 -- ---- the sums
 
@@ -122,13 +124,18 @@ all_within_append : (sums : List ℕ) (ss ts : List Shift) → AllByRecursion (I
 all_within_append sums [] ts h k = k
 all_within_append sums (s ∷ ss) ts h k = (h.0, all_within_append sums ss ts h.1 k)
 
+plain_is : (a b m : ℕ) → ((a == b) && (m == 0)) ≡ true → (a ≡ b) × (m ≡ 0)
+plain_is a b m is =
+    let (here, most) = both (a == b) (m == 0) is in
+    (same a b here, same m 0 most)
+
 within_from : (sums : List ℕ) (n : ℕ) (f : Forest Resolved) → n + length (tables_of f) < length sums → AllByRecursion (IsWithin sums) (shifts_from n f)
 within_from sums n NoEntries lt = tt
 within_from sums n (AnEntry e children more) lt =
     let long = length-append (table_of e.occurs e.number) (tables_of children ++ tables_of more) in
     let rest = length-append (tables_of children) (tables_of more) in
     let further = n + length (table_of e.occurs e.number) + length (tables_of children) in (
-      record { order = omega arith; there = omega (arith, lt, long, rest) },
+      record { order = omega arith; there = omega (arith, lt, long, rest); plain = λ is. plain_is (n + length (tables_of children)) n (varying e.occurs) is },
       all_within_append sums (shifts_from n children) (shifts_from further more) (within_from sums n children (omega (arith, lt, long, rest)))
           (within_from sums further more (omega (arith, lt, long, rest))),
     )
@@ -253,3 +260,11 @@ IsLow sums = (k : ℕ) → slice_index sums k ≤ 32752
 
 abbrev pub IsRising : List ℕ → Type 0
 IsRising sums = (j k : ℕ) → j ≤ k → k < length sums → slice_index sums j ≤ slice_index sums k
+
+-- an entry that only moves
+pub only_moved : (sums : List ℕ) (count : ℕ) (s : Shift) (x : Spot) → (s.through ≡ s.before) × (s.most ≡ 0)
+    → record { offset = x.offset + slice_index sums s.before; length = x.length; times = x.times } ≡ shifted sums count s x
+only_moved sums count s x (here, none) =
+    let long : x.length ≡ x.length + slice_index sums s.through - slice_index sums s.before = omega (arith, ap (λ (k : ℕ). slice_index sums k) here) in
+    let often : x.times ≡ max x.times (min count s.most) = omega (arith, none) in
+    λ i. record { offset = x.offset + slice_index sums s.before; length = long i; times = often i }

@@ -3,7 +3,8 @@
 //!
 //! A [`Layout`] is made once of a copybook's `Book` and then answers every question about places. It holds a copy of the record's tree, its
 //! tables that vary, and their greatest counts, and by the numbers of the entries what each describes, the tables that hold it, and where it
-//! stands under the greatest counts. A [`Counts`] says how often these tables occur in one record and where each entry stands then, and keeps the counts
+//! stands under the greatest counts and while these tables have no element. Where none of them stands beneath another table, the entries stand under
+//! other counts as many bytes further as the tables before them have, and are as much longer as those beneath them have (specs/Shifts.antt). A [`Counts`] says how often these tables occur in one record and where each entry stands then, and keeps the counts
 //! of a storage that were read, each a [`StoredCount`]; a [`Ref`] names one element of one entry: the entry by its number, and a subscript for each table
 //! that holds it or that it is.
 //!

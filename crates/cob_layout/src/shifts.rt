@@ -2,8 +2,8 @@
 //!
 //! Where no table that varies stands beneath another table, the spot of each entry follows from the one that it has where these tables have no
 //! element, its least spot: it begins behind the bytes of the tables that end before it, and is longer by the bytes of those beneath it. So one sum
-//! for each table, and what each entry needs of them, give all spots. A table that stands in another one shifts what stands behind it in each element
-//! by as much, so that its bytes count once for each of them; such a record is walked.
+//! for each table, and what each entry needs of them, give all spots (`spots_of` of cob_layout_places). A table that varies in another table takes its
+//! bytes in each element of that one, so that no such sum says where what follows stands; a record that has one is walked.
 
 ghost use Rattle.std.specs.Prelude.{◌≡◌, ◌++◌, ◌+◌, ◌<◌, ◌≤◌, ◌^◌, ℕ, length, slice_index, IfOk, IsTrue};
 ghost use Rattle.std.specs.List.{AllByRecursion};
@@ -15,7 +15,7 @@ ghost use Rattle.cob_layout_places.specs.declared.spots.Spot.{Spot};
 ghost use Rattle.cob_layout_places.specs.Counts.{table_of, tables_of};
 ghost use Rattle.cob_layout_places.specs.Lengths.{times};
 ghost use Rattle.cob_layout_places.specs.Spots.{spots_of};
-ghost use Rattle.cob_layout.specs.Shifts.{all_shifted, are_unnested, bytes_of, shifted, shifts_from, sums_from, IsWithin};
+ghost use Rattle.cob_layout.specs.Shifts.{all_shifted, are_unnested, bytes_of, shift_of, shifted, shifts_from, sums_from, IsWithin};
 
 use crate::counts::{count_at, greatest_count};
 use crate::layout::Layout;
@@ -33,6 +33,20 @@ pub(crate) struct Shift {
     pub(crate) through: usize,
     /// How often it occurs at most, where it is one of them, and else 0.
     pub(crate) most: u32,
+    /// Whether it is none of them and none stands beneath it, so that its length and how often it occurs stay.
+    pub(crate) only_moves: bool,
+}
+
+/// The shift of an entry, where so many tables that vary end before it begins and before its first element ends, and it occurs so often at most.
+fn shift_of(before: usize, through: usize, most: u32) -> Shift
+    ensures { result ≡ shift_of before through most }
+{
+    Shift {
+        before,
+        through,
+        most,
+        only_moves: through == before && most == 0,
+    }
 }
 
 /// Whether an entry is a table that varies.
@@ -42,7 +56,7 @@ fn varies(occurs: ResolvedOccurs) -> bool
     matches!(occurs, ResolvedOccurs::Varying { .. })
 }
 
-/// Whether no table that varies is or stands beneath an entry that stands in a table, or beneath a table that it is or holds.
+/// Whether no table that varies stands beneath a table, among an entry and those beneath it; `within` says that the entry itself stands beneath one.
 pub(crate) fn is_unnested(entry: &Node, within: bool) -> bool
     ensures { result ≡ are_unnested within (tree_of entry.now) }
 {
@@ -82,20 +96,14 @@ fn push_shifts(entry: &Node, before: usize, shifts: &mut Vec<Shift>) -> Result<u
 {
     let at = shifts.len();
     let most = greatest_count(entry.occurs);
+    let first = shift_of(before, before, most);
     let mut through = before;
-    shifts.push(Shift {
-        before,
-        through,
-        most,
-    })?;
+    shifts.push(first)?;
     for child in entry.children.iter() {
         through = push_shifts(child, through, shifts)?;
     }
-    shifts[at] = Shift {
-        before,
-        through,
-        most,
-    };
+    let own = shift_of(before, through, most);
+    shifts[at] = own;
     Ok(behind(entry, through))
 }
 
@@ -146,8 +154,16 @@ fn shifted(shift: Shift, least: Spot, sums: &[u32], count: u32) -> Spot
     ensures { result ≡ shifted sums.now count shift least }
 {
     let before = sums[shift.before];
+    let offset = least.offset + before;
+    if shift.only_moves {
+        return Spot {
+            offset,
+            length: least.length,
+            times: least.times,
+        };
+    }
     Spot {
-        offset: least.offset + before,
+        offset,
         length: least.length + sums[shift.through] - before,
         times: least.times.max(count.min(shift.most)),
     }

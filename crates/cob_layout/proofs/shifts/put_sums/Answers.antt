@@ -1,6 +1,6 @@
 use Rattle.std.proofs.Common.{◌≡◌, arith, length}
 use Rattle.cob_layout_places.specs.declared.varying.Table.{Table}
-use Rattle.cob_layout.proofs.ShiftLemmas.{next_small, sums_more, sums_end}
+use Rattle.cob_layout.proofs.ShiftLemmas.{next_small, sums_end}
 use Rattle.cob_layout.proofs.shifts.put_sums.Goals as goal
 
 pub bytes_of-sum-requires : goal.bytes_of-sum-requires

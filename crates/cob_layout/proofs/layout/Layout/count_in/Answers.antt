@@ -1,8 +1,6 @@
-use Rattle.std.proofs.Common.{◌≡◌, ◌<◌, ◌∙◌, [], Some, ap, sym, subst, length, arith}
-use Rattle.cob_copybook_tree.specs.declared.node.Kind.{Kind}
+use Rattle.std.proofs.Common.{◌≡◌, ◌∙◌, Some, subst}
 use Rattle.cob_copybook_tree.specs.declared.node.Kind.TheVariants.{Group, Item as ItemKind}
-use Rattle.cob_copybook_tree.specs.Forests.{Forest, entries_in}
-use Rattle.cob_copybook_tree.specs.Nodes.{Resolved, tree_of}
+use Rattle.cob_copybook_tree.specs.Nodes.{tree_of}
 use Rattle.cob_layout_places.specs.Counts.{kind_in}
 use Rattle.cob_layout_places.proofs.CountLemmas.{at_counts, counted_err, counted_ok, fault_at_counts}
 use Rattle.cob_layout.specs.Sound.{IsSound}

@@ -1,9 +1,7 @@
-use Rattle.std.proofs.Common.{◌≡◌, ◌≤◌, ◌<◌, ◌∙◌, ℕ, true, false, List, ap, sym, subst, length, arith, rules}
-use Rattle.std.specs.Prelude.{slice_index}
-use Rattle.std.specs.List.{AllByRecursion}
+use Rattle.std.proofs.Common.{◌≡◌, ◌∙◌, ℕ, true, List, ap, sym, subst, length, rules}
 use Rattle.cob_copybook_tree.specs.Nodes.{tree_of}
 use Rattle.cob_layout_places.specs.declared.spots.Spot.{Spot}
-use Rattle.cob_layout.specs.Shifts.{all_shifted, sums_from}
+use Rattle.cob_layout.specs.Shifts.{all_shifted}
 use Rattle.cob_layout.proofs.ShiftLemmas.{as_many_least, as_many_shifts, least_small, length_sums, rising, shifts_within, spots_shifted, sums_small, unnested_in, IsRising, IsLow}
 use Rattle.cob_layout.proofs.layout.Layout.put_spots.Goals as goal
 

@@ -1,13 +1,13 @@
-use Rattle.std.proofs.Common.{◌≡◌, ◌<◌, ◌≤◌, ◌∙◌, ℕ, sym, ap, subst, Err, arith, length, rules}
-use Rattle.std.specs.Prelude.{IfErr, slice_index, slice_index_or}
+use Rattle.std.proofs.Common.{◌≡◌, ◌<◌, ◌≤◌, ◌∙◌, sym, ap, subst, Err, arith, length, rules}
+use Rattle.std.specs.Prelude.{IfErr, slice_index_or}
 use Rattle.std.proofs.lemmas.Grind.{common_steps}
 use Rattle.std.proofs.lemmas.List.{length-set}
 use Rattle.cob_copybook_tree.specs.Forests.{Forest, entries_in}
-use Rattle.cob_copybook_tree.specs.Nodes.{Resolved, tree_of}
+use Rattle.cob_copybook_tree.specs.Nodes.{Resolved}
 use Rattle.cob_layout_places.specs.declared.varying.Table.{Table}
 use Rattle.cob_layout_places.specs.Counts.{tables_of}
 use Rattle.cob_layout_places.proofs.CountLemmas.{next_taken, stops_here}
-use Rattle.cob_layout.specs.Counting.{greatest_counts, CountsOf}
+use Rattle.cob_layout.specs.Counting.{CountsOf}
 use Rattle.cob_layout.specs.Sound.{IsSound}
 use Rattle.cob_layout.specs.Standing.{first_number}
 use Rattle.cob_layout.proofs.GreatestLemmas.{greatest_length}

@@ -1,7 +1,6 @@
 use Rattle.std.proofs.Common.{◌≡◌, ◌<◌, ℕ, length}
 use Rattle.std.specs.Prelude.{slice_index}
 use Rattle.cob_layout_places.specs.Needs.{is_needed}
-use Rattle.cob_layout.specs.Counting.{greatest_counts}
 use Rattle.cob_layout.specs.Kept.{numbers_of}
 use Rattle.cob_layout.specs.Standing.{first_number}
 use Rattle.cob_layout.proofs.KeepingLemmas.{Counted}
