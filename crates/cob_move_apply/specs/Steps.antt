@@ -112,7 +112,7 @@ IsConstantAt steps c constant to = IsStepAt ConstantStep (λ step. IsConstantSte
 abbrev pub IsConstantMove : Records → List ConstantStep → ConstantMove → List Move → Type 0
 IsConstantMove r steps c own = (constant : PlainValue) × (to : Kind) × IsConstantAt steps c constant to × IsFixedConstant r c.to constant to own
 
--- the step, one of these, carries out moves between what two such entries describe, however many bytes it may have
+-- the step, one of these, carries moves between entries of these two kinds out, whatever places they fill
 abbrev pub CarriesAnywhere : MoveSteps → (sender receiver : Kind) → MoveStep → Type 0
 CarriesAnywhere steps sender receiver s = (sent received : ℕ) → Occupies sender sent → Occupies receiver received
     → IsMoveStep steps (record { sender = sender; sent = sent; receiver = receiver; received = received }) s
@@ -127,7 +127,7 @@ abbrev pub CarriesLocated : MoveSteps → PicturedSteps → (sender receiver : K
 CarriesLocated steps pictured sender receiver (located_step.Always s) = CarriesAnywhere steps sender receiver s
 CarriesLocated steps pictured sender receiver (located_step.Pictured s) = CarriesPictured pictured sender receiver s
 
--- a move was made ready so: what is noted of either place is what this may rest on, and the step, one of these, carries the move out wherever they are
+-- a move was made ready so: what is noted of either place is what this may rest on, and the step, one of these, carries the move out wherever they stand
 pub record IsReadyAnywhere (r : Records) (steps : MoveSteps) (pictured : PicturedSteps) (p : LocatedMove) : Type 0 where
   pub sends : IsPlaced r.input false (operand_in r.input p.sent) p.from
   pub receives : IsPlaced r.output true (operand_in r.output p.receiver) p.to
