@@ -1,5 +1,6 @@
 //! What a source tells of its progress, over a clock that jumps.
-use cob_records::{Form, MemSource, Progress, Telling, next_record};
+use crate::calls::read;
+use cob_records::{Form, MemSource, Progress, Telling};
 use std::alloc::Global;
 use std::cell::Cell;
 use std::fmt::Display;
@@ -63,7 +64,7 @@ fn told_of(alloc: Global, seconds: &[u64], telling: Telling) -> Vec<u8> {
     let mut source = Progress::new(MemSource::new(b"ABCDEFGH"), &watch, Form::Fixed, 1, telling);
     let mut slot = [0u8; 1];
     for _ in 0..9 {
-        let _ = next_record(&mut source, Form::Fixed, 1, &mut slot);
+        let _ = read(&mut source, Form::Fixed, &mut slot);
     }
     source.finish();
     watch.told.into_inner()

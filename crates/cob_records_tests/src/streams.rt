@@ -1,7 +1,8 @@
 //! Readers and writers as ends.
 
+use crate::calls::{put, read};
 use crate::frames::FRAME;
-use cob_records::{Form, ReadSource, RecordFault, Sink, WriteSink, next_record, put_record};
+use cob_records::{Form, ReadSource, RecordFault, Sink, WriteSink};
 use std::io;
 use std::io::{BufWriter, ErrorKind, Read, Write};
 use std::test::Fail;
@@ -53,15 +54,9 @@ impl Write for Device {
 fn reads_from_a_reader(rt: HostRuntime) {
     let mut slot = [0u8; 8];
     let mut source = ReadSource::new(FRAME);
-    assert_eq!(rt;
-        next_record(&mut source, Form::Variable, 8, &mut slot),
-        Ok(Some(4))
-    );
+    assert_eq!(rt; read(&mut source, Form::Variable, &mut slot), Ok(Some(4)));
     assert_eq!(rt; &slot[..4], b"\xF1\xC1\xC2\xE9".as_slice());
-    assert_eq!(rt;
-        next_record(&mut source, Form::Variable, 8, &mut slot),
-        Ok(None)
-    );
+    assert_eq!(rt; read(&mut source, Form::Variable, &mut slot), Ok(None));
     assert_eq!(rt; source.into_inner().len(), 0);
 
     let mut slot = [0u8; 2];
@@ -69,22 +64,16 @@ fn reads_from_a_reader(rt: HostRuntime) {
         interrupted: false,
         left: 3,
     });
-    assert_eq!(rt;
-        next_record(&mut source, Form::Fixed, 2, &mut slot),
-        Ok(Some(2))
-    );
+    assert_eq!(rt; read(&mut source, Form::Fixed, &mut slot), Ok(Some(2)));
     assert_eq!(rt; slot.as_slice(), b"\xC1\xC1".as_slice());
-    let failed = next_record(&mut source, Form::Fixed, 2, &mut slot);
+    let failed = read(&mut source, Form::Fixed, &mut slot);
     assert_eq!(rt; failed, Err(RecordFault::ReadFailed));
 }
 
 #[test]
 fn writes_to_a_writer(rt: HostRuntime) {
     let mut sink = WriteSink::new(Vec::new(rt.alloc()));
-    assert_eq!(rt;
-        put_record(&mut sink, Form::Variable, b"\xF1\xC1\xC2\xE9"),
-        Ok(())
-    );
+    assert_eq!(rt; put(&mut sink, Form::Variable, b"\xF1\xC1\xC2\xE9"), Ok(()));
     let written = sink.into_inner();
     assert_eq!(rt; written.as_slice(), FRAME);
 
@@ -92,13 +81,13 @@ fn writes_to_a_writer(rt: HostRuntime) {
         interrupted: false,
         left: 6,
     });
-    let failed = put_record(&mut sink, Form::Variable, b"\xF1\xC1\xC2\xE9");
+    let failed = put(&mut sink, Form::Variable, b"\xF1\xC1\xC2\xE9");
     assert_eq!(rt; failed, Err(RecordFault::WriteFailed { taken: 6 }));
 
     let mut room = [0u8; 2];
     let mut sink = WriteSink::new(room.as_mut_slice());
     assert_eq!(rt; sink.write(b"\xC1\xC2\xC3"), Ok(2));
-    let full = put_record(&mut sink, Form::Fixed, b"\xC3");
+    let full = put(&mut sink, Form::Fixed, b"\xC3");
     assert_eq!(rt; full, Err(RecordFault::TookNothing { taken: 0 }));
 }
 
@@ -111,8 +100,8 @@ fn flushes_a_buffered_writer(rt: HostRuntime) -> Result<(), Fail> {
             left,
         };
         let mut sink = WriteSink::new(BufWriter::new(rt.alloc(), device)?);
-        let put = put_record(&mut sink, Form::Variable, b"\xF1\xC1\xC2\xE9");
-        assert_eq!(rt; put, Ok(()));
+        let written = put(&mut sink, Form::Variable, b"\xF1\xC1\xC2\xE9");
+        assert_eq!(rt; written, Ok(()));
         assert_eq!(rt; sink.flush().is_ok(), left == 9);
         assert_eq!(rt; sink.into_inner().buffer().len(), held);
     }
@@ -152,17 +141,17 @@ impl Write for Blocked {
 fn asks_a_blocked_device_once(rt: HostRuntime) -> Result<(), Fail> {
     let mut slot = [0u8; 2];
     let mut source = ReadSource::new(Blocked { calls: 0 });
-    let failed = next_record(&mut source, Form::Fixed, 2, &mut slot);
+    let failed = read(&mut source, Form::Fixed, &mut slot);
     assert_eq!(rt; failed, Err(RecordFault::ReadFailed));
     assert_eq!(rt; source.into_inner().calls, 1);
 
     let mut sink = WriteSink::new(Blocked { calls: 0 });
-    let failed = put_record(&mut sink, Form::Fixed, b"\xC1");
+    let failed = put(&mut sink, Form::Fixed, b"\xC1");
     assert_eq!(rt; failed, Err(RecordFault::WriteFailed { taken: 0 }));
     assert_eq!(rt; sink.into_inner().calls, 1);
 
     let mut sink = WriteSink::new(BufWriter::new(rt.alloc(), Blocked { calls: 0 })?);
-    assert_eq!(rt; put_record(&mut sink, Form::Fixed, b"\xC1"), Ok(()));
+    assert_eq!(rt; put(&mut sink, Form::Fixed, b"\xC1"), Ok(()));
     assert_eq!(rt; sink.flush().is_err(), true);
     assert_eq!(rt; sink.into_inner().get_ref().calls, 1);
     Ok(())
