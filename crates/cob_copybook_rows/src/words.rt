@@ -66,6 +66,23 @@ fn read(alloc: Global, is_paragraph: bool, text: &[u8]) -> Result<Vec<Token>, So
     }
 }
 
+/// Writes tokens, or how many there are.
+fn push_list(out: &mut String, is_counted: bool, list: &[Token]) -> Result<(), AllocError> {
+    if is_counted {
+        write!(out, "{} tokens", list.len())
+    } else {
+        push_tokens(out, list)
+    }
+}
+
+/// Writes what the tokens of a text of this table are, or the rule that the text breaks.
+fn push_read(alloc: Global, table: &str, text: &[u8], out: &mut String) -> Result<(), AllocError> {
+    match read(alloc, table == "paragraphs", text) {
+        Ok(list) => push_list(out, table == "long_texts", list.as_slice()),
+        Err(fault) => write!(out, "{fault}"),
+    }
+}
+
 /// Writes the tokens of a row's text, of the table `paragraphs` as those of a paragraph, and of `long_texts` how many there are.
 pub(crate) fn answer(
     alloc: Global,
@@ -74,9 +91,5 @@ pub(crate) fn answer(
     out: &mut String,
 ) -> Result<(), RowFault> {
     let text = text_of(alloc, table, row)?;
-    match read(alloc, table == "paragraphs", text.as_slice()) {
-        Ok(list) if table == "long_texts" => Ok(write!(out, "{} tokens", list.len())?),
-        Ok(list) => Ok(push_tokens(out, list.as_slice())?),
-        Err(fault) => Ok(write!(out, "{fault}")?),
-    }
+    Ok(push_read(alloc, table, text.as_slice(), out)?)
 }
