@@ -52,7 +52,7 @@ Gained r content os ms input before end =
     ⊎ ((stop : Stop) × (after : List ℕ) × AllGet r.output content os before (stopped stop after) × (end ≡ stopped stop after))
 
 -- a steady sender gives the same, whatever the output is
-gives_on : (r : Records) (s : Sender) (input a b : List ℕ) (g : Result Content Stop) → IsSteady s → Gives r s input a g → Gives r s input b g
+pub gives_on : (r : Records) (s : Sender) (input a b : List ℕ) (g : Result Content Stop) → IsSteady s → Gives r s input a g → Gives r s input b g
 gives_on r (Entry In reading o) input a b g steady h = h
 gives_on r (Entry Out reading o) input a b g steady h = absurd steady
 gives_on r (Literal c) input a b g steady h = h

@@ -19,5 +19,8 @@ pub mod PicturedLemmas
 pub mod ConstantLemmas
 pub mod StepLemmas
 pub mod LocatedLemmas
+pub mod MetLemmas
+pub mod SpentLemmas
+pub mod SpendingLemmas
 pub use Rattle.cob_layout.proofs.EntryNoRule
 pub use Rattle.cob_layout.proofs.EntryOneList

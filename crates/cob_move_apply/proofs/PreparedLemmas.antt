@@ -21,6 +21,7 @@ use Rattle.cob_move_receive.specs.Sent as sent
 use Rattle.cob_move_apply.specs.Applied.{Applied, content_at, done, stopped}
 use Rattle.cob_move_apply.specs.Located.{stop_at}
 use Rattle.cob_move_apply.specs.Made.{IsMadeReady}
+use Rattle.cob_move_apply.specs.Met.{HaveMet}
 use Rattle.cob_move_apply.specs.Placed.{IsFixed}
 use Rattle.cob_move_apply.specs.Planned.{AreFixedPlaces}
 use Rattle.cob_move_apply.specs.Steps.{IsPreparedMove, alone, copied_move}
@@ -29,6 +30,7 @@ use Rattle.cob_move_apply.specs.declared.step.MovePlaces.{MovePlaces}
 use Rattle.cob_move_apply.specs.declared.step.PreparedMove.{PreparedMove}
 use Rattle.cob_move_apply.specs.declared.stop.Stop.{Stop}
 use Rattle.cob_move_apply.specs.declared.stop.StopCause.TheVariants.{NoValue}
+use Rattle.cob_move_apply.proofs.MetLemmas.{met_one, met_there}
 use Rattle.cob_move_apply.proofs.PlaceLemmas.{filled, fixed}
 use Rattle.cob_move_apply.proofs.ReceiverLemmas.{put_is}
 use Rattle.std.proofs.lemmas.List.{drop-take, take-append-drop}
@@ -56,6 +58,13 @@ fixed_move law r p reading o q described operand sends gets = record {
   reads = reach;
   within = gets.within;
   ends = λ input before outcome is size received. move_ends r p reading o q sends gets input before outcome received;
+  meets = λ input before bytes met rest others received one more.
+      inr (
+        content_at In reading o input p.from,
+        (p.from, sends.place In input, refl),
+        met_one r.output (content_at In reading o input p.from) q [] before (with_field before p.to bytes) met rest (λ now n. HaveMet r others input now n)
+            (p.to, bytes, gets.place Out before, received, refl) (met_there r.output q before p.to met (gets.place Out before) one) more,
+      );
 }
   where
     reach : (input : List ℕ) → IsStorage r.input input → p.from.offset + p.from.length ≤ length input

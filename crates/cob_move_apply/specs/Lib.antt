@@ -12,3 +12,5 @@ pub mod Made
 pub mod Planned
 pub mod Prepared
 pub mod Surveyed
+pub mod Met
+pub mod Spent

@@ -1,5 +1,5 @@
 -- What moves write at a place that is the same in every storage, and how a single move between two such places ends.
-use Rattle.std.specs.Prelude.{◌≡◌, ℕ, ◌+◌, ◌≤◌, List, length, Option, Some, None}
+use Rattle.std.specs.Prelude.{◌≡◌, ℕ, ◌+◌, ◌≤◌, List, ◌++◌, length, Option, Some, None}
 use Rattle.cob_codec.specs.declared.reading.Reading.{Reading}
 use Rattle.cob_codec.specs.declared.reading.Reading.TheVariants.{Pictured}
 use Rattle.cob_copybook_tree.specs.declared.node.Kind.{Kind}
@@ -18,6 +18,8 @@ use Rattle.cob_move_receive.specs.Received.{Received}
 use Rattle.cob_move_receive.specs.Sent as sent
 use Rattle.cob_move_apply.specs.Applied.{Applied, Ending, done, stopped}
 use Rattle.cob_move_apply.specs.Located.{stop_at}
+use Rattle.cob_move_apply.specs.Met.{HaveMet}
+use Rattle.cob_move_apply.specs.Spent.{PlaceMet}
 use Rattle.cob_move_apply.specs.declared.step.MovePlaces.{MovePlaces}
 use Rattle.cob_move_apply.specs.declared.stop.StopCause.TheVariants.{NoValue}
 
@@ -65,15 +67,21 @@ IsReceivedFrom p k input outcome = (reading : Reading) → Received (sent.Entry 
 abbrev pub IsReceivedPicturedFrom : MovePlaces → MoveKinds → List ℕ → Option (List ℕ) → Type 0
 IsReceivedPicturedFrom p k input outcome = Received (sent.Entry k.sender (field_of p.from input) Pictured) k.receiver k.received outcome
 
--- Moves are the single move of an entry of the input record to one of the output record, each of which stands at its place in every storage.
+-- Moves are the single move of an entry of the input record to one of the output record, each of which stands at its place in every storage; where
+-- that of the output record meets the item of a count, its receiver does.
 pub record IsFixedMove (reading : Reading) (r : Records) (p : MovePlaces) (k : MoveKinds) (ms : List Move) : Type 0 where
   pub places : HasPlaces p k
   pub reads : (input : List ℕ) → IsStorage r.input input → p.from.offset + p.from.length ≤ length input
   pub within : p.to.offset + p.to.length ≤ greatest_length r.output
   pub ends : (input before : List ℕ) (outcome : Option (List ℕ)) → IsStorage r.input input → length before ≡ greatest_length r.output
       → Received (sent.Entry k.sender (field_of p.from input) reading) k.receiver k.received outcome → Applied r ms input before (received_at p before outcome)
+  pub meets : (input before bytes : List ℕ) (met rest : ℕ) (others : List Move) → Received (sent.Entry k.sender (field_of p.from input) reading) k.receiver k.received (Some bytes)
+      → PlaceMet r.output before p.to met → HaveMet r others input (with_field before p.to bytes) rest → HaveMet r (ms ++ others) input before (met + rest)
 
--- Moves are the single move of a constant to an entry of the output record that stands at its place in every storage.
+-- Moves are the single move of a constant to an entry of the output record that stands at its place in every storage; where the place meets the item
+-- of a count, its receiver does.
 pub record IsFixedConstant (r : Records) (to : Place) (constant : PlainValue) (k : Kind) (ms : List Move) : Type 0 where
   pub within : to.offset + to.length ≤ greatest_length r.output
   pub ends : (input before written : List ℕ) → Received (sent.Literal constant) k to.length (Some written) → Applied r ms input before (done (with_field before to written))
+  pub meets : (input before written : List ℕ) (met rest : ℕ) (others : List Move) → Received (sent.Literal constant) k to.length (Some written)
+      → PlaceMet r.output before to met → HaveMet r others input (with_field before to written) rest → HaveMet r (ms ++ others) input before (met + rest)

@@ -1,10 +1,13 @@
 //! Steps, one after another.
 
-ghost use Rattle.std.specs.Prelude.{◌≡◌, ◌+◌, ◌≤◌, List, length};
+ghost use Rattle.std.specs.Prelude.{◌≡◌, ◌+◌, ◌*◌, ◌≤◌, [], ◌∷◌, ℕ, List, length};
 ghost use Rattle.cob_layout.specs.Sound.{IsSound};
 ghost use Rattle.cob_layout.specs.Storage.{greatest_length, IsStorage};
+ghost use Rattle.cob_layout_places.specs.Counts.{tables_of};
 ghost use Rattle.cob_layout_places.specs.Moves.{Move as Meant, moves_by};
 ghost use Rattle.cob_move_apply.specs.Applied.{Applied, IsMoved, ending};
+ghost use Rattle.cob_move_apply.specs.Met.{HaveMet};
+ghost use Rattle.cob_move_apply.specs.Spent.{MovesSpend};
 ghost use Rattle.cob_move_apply.specs.Steps.{IsMoveOfPart, IsPicturedPart, IsPreparedMove, IsStep, StandFor, support_of};
 ghost use Rattle.cob_move_apply.specs.Surveyed.{HasSpace, IsWorkspace, records};
 
@@ -49,6 +52,9 @@ fn make_part(
         → IsMoveOfPart layouts.now.reading (records layouts.now) given.now bases.now part m
         → IsMoved (records layouts.now) m input.now output.old (ending result output.new) }
     ensures space { IsWorkspace (records layouts.now) input.now output.new space.new }
+    ensures spends { (m : Meant) → IsMoveOfPart layouts.now.reading (records layouts.now) given.now bases.now part m
+        → MovesSpend (records layouts.now) (m ∷ []) input.now output.old result output.new
+        space.old.output space.new.output }
 {
     let own = &bases[part.base..];
     match &given[part.statement] {
@@ -103,6 +109,10 @@ fn make_pictured(
         given.now plan.now.bases.items plan.now.pictured one part.now m
         → IsMoved (records layouts.now) m input.now output.old (ending result output.new) }
     ensures space { IsWorkspace (records layouts.now) input.now output.new space.new }
+    ensures spends { (m : Meant) → IsPicturedPart layouts.now.reading (records layouts.now)
+        given.now plan.now.bases.items plan.now.pictured one part.now m
+        → MovesSpend (records layouts.now) (m ∷ []) input.now output.old result output.new
+        space.old.output space.new.output }
 {
     match layouts.reading {
         Reading::Pictured => run_pictured(&plan.pictured, one, layouts, input, output, space),
@@ -138,6 +148,10 @@ fn make_single(
         plan.now.prepared (record { places = places; step = step }) own
         → Applied (records layouts.now) own input.now output.old (ending result output.new) }
     ensures space { IsWorkspace (records layouts.now) input.now output.new space.new }
+    ensures spends { (own : List Meant) → IsPreparedMove layouts.now.reading (records layouts.now)
+        plan.now.prepared (record { places = places; step = step }) own
+        → MovesSpend (records layouts.now) own input.now output.old result output.new
+        space.old.output space.new.output }
 {
     let one = PreparedMove { places, step };
     make_prepared(&plan.prepared, one, layouts, input, output, space)
@@ -169,6 +183,10 @@ fn make_step(
         given.now (support_of plan.now) step.now own
         → Applied (records layouts.now) own input.now output.old (ending result output.new) }
     ensures space { IsWorkspace (records layouts.now) input.now output.new space.new }
+    ensures spends { (own : List Meant) → IsStep layouts.now.reading (records layouts.now)
+        given.now (support_of plan.now) step.now own
+        → MovesSpend (records layouts.now) own input.now output.old result output.new
+        space.old.output space.new.output }
 {
     match step {
         Step::Part(part) => {
@@ -235,6 +253,9 @@ pub(crate) fn apply_in(
         (moves_by layouts.now.reading (records layouts.now) given.now) input.now output.old
         (ending result output.new) }
     ensures space { HasSpace (records layouts.now) space.new }
+    ensures reads { (met : ℕ) × HaveMet (records layouts.now)
+        (moves_by layouts.now.reading (records layouts.now) given.now) input.now output.old met
+        × (space.new.output.reads ≤ length (tables_of layouts.now.output.now) * (1 + met)) }
 {
     one_outcome_of_counts();
     space.forget();

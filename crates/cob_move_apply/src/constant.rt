@@ -5,6 +5,7 @@ ghost use Rattle.cob_copybook_tree.specs.declared.node.Kind.{Kind};
 ghost use Rattle.cob_entry.specs.Described.{PlainValue};
 ghost use Rattle.cob_layout.specs.Storage.{greatest_length};
 ghost use Rattle.cob_move_apply.specs.Made.{IsMadeConstant};
+ghost use Rattle.cob_move_apply.specs.Spent.{PlaceSpends};
 ghost use Rattle.cob_move_apply.specs.Steps.{IsConstantAt};
 ghost use Rattle.cob_move_apply.specs.Surveyed.{IsWorkspace, records};
 
@@ -28,6 +29,8 @@ pub(crate) fn make_constant(
     requires space { IsWorkspace (records layouts.now) input.now output.old space.old }
     ensures made { IsMadeConstant one plan.now.constants.items output.old output.new }
     ensures space { IsWorkspace (records layouts.now) input.now output.new space.new }
+    ensures spends { PlaceSpends layouts.now.output.now output.old one.to space.old.output
+        space.new.output }
 {
     let start = one.to.offset as usize;
     let end = start + one.to.length as usize;

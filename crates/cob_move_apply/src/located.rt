@@ -1,6 +1,6 @@
 //! Single moves that were made ready wherever their items stand, carried out.
 
-ghost use Rattle.std.specs.Prelude.{◌≡◌, false, length, true, IfErr, IfOk, List};
+ghost use Rattle.std.specs.Prelude.{◌≡◌, [], ◌∷◌, false, length, true, IfErr, IfOk, List};
 ghost use Rattle.cob_codec.specs.declared.reading.Reading.TheVariants.{Pictured};
 ghost use Rattle.cob_layout.specs.Sound.{IsSound};
 ghost use Rattle.cob_layout.specs.Storage.{greatest_length, IsStorage};
@@ -8,6 +8,7 @@ ghost use Rattle.cob_layout_places.specs.Moves.{Move as Meant, operand_in};
 ghost use Rattle.cob_move_apply.specs.Applied.{Applied, IsMoved, ending, stopped};
 ghost use Rattle.cob_move_apply.specs.Made.{StandAt};
 ghost use Rattle.cob_move_apply.specs.Placed.{IsPlaced};
+ghost use Rattle.cob_move_apply.specs.Spent.{MovesSpend, Spends};
 ghost use Rattle.cob_move_apply.specs.Steps.{CarriesAnywhere, CarriesPictured, IsLocatedMove, copied_move};
 ghost use Rattle.cob_move_apply.specs.Surveyed.{IsWorkspace, records};
 
@@ -50,6 +51,7 @@ fn locate_both(
         (copied_move layouts.now.reading (records layouts.now) one.now.sent one.now.receiver)
         input.now output.now (stopped stop output.now)) }
     ensures space { IsWorkspace (records layouts.now) input.now output.now space.new }
+    ensures spends { Spends layouts.now.output.now 0 result space.old.output space.new.output }
 {
     let _ = layouts.input.greatest();
     places_lie_in_storage();
@@ -100,6 +102,8 @@ fn move_always(
         (copied_move layouts.now.reading (records layouts.now) one.now.sent one.now.receiver)
         input.now output.old (ending result output.new) }
     ensures space { IsWorkspace (records layouts.now) input.now output.new space.new }
+    ensures spends { MovesSpend (records layouts.now)
+        (copied_move layouts.now.reading (records layouts.now) one.now.sent one.now.receiver ∷ []) input.now output.old result output.new space.old.output space.new.output }
 {
     let places = locate_both(one, layouts, input, output, space)?;
     let ready = PreparedMove { places, step };
@@ -137,6 +141,8 @@ fn move_pictured(
         (copied_move layouts.now.reading (records layouts.now) one.now.sent one.now.receiver)
         input.now output.old (ending result output.new) }
     ensures space { IsWorkspace (records layouts.now) input.now output.new space.new }
+    ensures spends { MovesSpend (records layouts.now)
+        (copied_move layouts.now.reading (records layouts.now) one.now.sent one.now.receiver ∷ []) input.now output.old result output.new space.old.output space.new.output }
 {
     let places = locate_both(one, layouts, input, output, space)?;
     let ready = PicturedMove { places, step };
@@ -168,6 +174,8 @@ fn move_unready(
         (copied_move layouts.now.reading (records layouts.now) one.now.sent one.now.receiver)
         input.now output.old (ending result output.new) }
     ensures space { IsWorkspace (records layouts.now) input.now output.new space.new }
+    ensures spends { MovesSpend (records layouts.now)
+        (copied_move layouts.now.reading (records layouts.now) one.now.sent one.now.receiver ∷ []) input.now output.old result output.new space.old.output space.new.output }
 {
     let sent = SentEntry {
         side: Side::In,
@@ -207,6 +215,10 @@ pub(crate) fn make_located(
         plan.now.prepared plan.now.pictured plan.now.located.items number own
         → Applied (records layouts.now) own input.now output.old (ending result output.new) }
     ensures space { IsWorkspace (records layouts.now) input.now output.new space.new }
+    ensures spends { (own : List Meant) → IsLocatedMove layouts.now.reading (records layouts.now)
+        plan.now.prepared plan.now.pictured plan.now.located.items number own
+        → MovesSpend (records layouts.now) own input.now output.old result output.new
+        space.old.output space.new.output }
 {
     let one = &plan.located[number];
     match one.step {

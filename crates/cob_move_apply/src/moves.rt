@@ -1,11 +1,13 @@
 //! Moves that are ready to be carried out.
 
-ghost use Rattle.std.specs.Prelude.{◌≡◌, length, map, min, IfOk};
+ghost use Rattle.std.specs.Prelude.{◌≡◌, ◌+◌, ◌*◌, ◌≤◌, ℕ, length, map, min, IfOk};
 ghost use Rattle.cob_codec.specs.declared.reading.Reading.{Reading as Read};
 ghost use Rattle.cob_layout.specs.Storage.{greatest_length, IsStorage};
+ghost use Rattle.cob_layout_places.specs.Counts.{tables_of};
 ghost use Rattle.cob_layout_places.specs.Moves.{AreMoves, Records, moves, moves_by, read_by, statement_moves_by};
 ghost use Rattle.cob_move_apply.specs.Applied.{Applied, ending};
 ghost use Rattle.cob_move_apply.specs.Joined.{steps_in};
+ghost use Rattle.cob_move_apply.specs.Met.{HaveMet};
 ghost use Rattle.cob_move_apply.specs.Told.{most_moves_told, single_moves};
 ghost use Rattle.cob_move_apply.specs.Room.{room_of};
 
@@ -146,6 +148,12 @@ impl Moves {
             (moves_of (record { input = input_layout.now; output = output_layout.now }) self.now)
             input.now output.old (ending result output.new) }
         ensures room { scratch.new.room ≡ scratch.old.room }
+        // Counts of the output record are read again only where a receiver met the item of one.
+        ensures reads { (met : ℕ)
+            × HaveMet (record { input = input_layout.now; output = output_layout.now })
+            (moves_of (record { input = input_layout.now; output = output_layout.now }) self.now)
+            input.now output.old met
+            × (scratch.new.reads ≤ length (tables_of output_layout.now) * (1 + met)) }
     {
         records_are_sound();
         let _ = input_layout.greatest();

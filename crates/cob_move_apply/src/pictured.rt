@@ -3,6 +3,7 @@
 ghost use Rattle.std.specs.Prelude.{◌≡◌, ◌+◌, ◌≤◌, length};
 ghost use Rattle.cob_layout.specs.Storage.{greatest_length};
 ghost use Rattle.cob_move_apply.specs.Applied.{ending};
+ghost use Rattle.cob_move_apply.specs.Spent.{WriteSpends};
 ghost use Rattle.cob_move_apply.specs.Surveyed.{IsWorkspace, records};
 ghost use Rattle.cob_move_apply.specs.Made.{IsMadePictured};
 ghost use Rattle.cob_move_apply.specs.Written.{HasPlaces};
@@ -39,6 +40,8 @@ pub(crate) fn run_pictured(
     ensures made { IsMadePictured one pictured.now input.now output.old
         (ending result output.new) }
     ensures space { IsWorkspace (records layouts.now) input.now output.new space.new }
+    ensures spends { WriteSpends layouts.now.output.now output.old one.places.to result
+        space.old.output space.new.output }
 {
     let from = one.places.from;
     let to = one.places.to;

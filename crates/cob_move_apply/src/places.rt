@@ -9,12 +9,13 @@ ghost use Rattle.cob_move_apply.specs.Located.{Located, stop_at};
 ghost use Rattle.cob_move_apply.specs.Placed.{IsPlaced};
 ghost use Rattle.cob_move_apply.specs.Seen.{operand_of};
 ghost use Rattle.cob_move_apply.specs.declared.stop.StopCause.TheVariants.{Subscript};
+ghost use Rattle.cob_move_apply.specs.Spent.{Spends};
 ghost use Rattle.cob_move_apply.specs.Surveyed.{IsSurvey};
 
 use crate::basis::{Basis, PlacedOperand};
 use crate::stop::{Stop, StopCause};
 use crate::survey::Survey;
-use cob_layout::{Layout, Place, PlaceFault};
+use cob_layout::{Layout, Place, PlaceFault, kept_give_needed};
 use cob_layout_places::Side;
 
 /// The storage of the record of one side.
@@ -57,7 +58,10 @@ fn place_by_counts(
         (λ p. p.offset + p.length ≤ greatest_length stored.now.layout.now) }
     ensures filled { IfOk result (λ p. Occupies operand.now.kind.now p.length) }
     ensures survey { IsSurvey stored.now.layout.now stored.now.bytes.now survey.new }
+    ensures spends { Spends stored.now.layout.now 0 result survey.old survey.new }
 {
+    // For `spends`: each count is read once at most while it is kept.
+    kept_give_needed();
     let layout = stored.layout;
     let counts = &mut survey.counts;
     let reads = &mut survey.reads;
@@ -96,6 +100,7 @@ pub(crate) fn locate(
         (λ p. p.offset + p.length ≤ greatest_length stored.now.layout.now) }
     ensures filled { IfOk result (λ p. Occupies placed.now.kind.now p.length) }
     ensures survey { IsSurvey stored.now.layout.now stored.now.bytes.now survey.new }
+    ensures spends { Spends stored.now.layout.now 0 result survey.old survey.new }
 {
     match placed.basis {
         Basis::Fixed(place) => Ok(place),

@@ -3,6 +3,7 @@
 ghost use Rattle.std.specs.Prelude.{◌≡◌, ◌+◌, ◌≤◌, length};
 ghost use Rattle.cob_layout.specs.Storage.{greatest_length};
 ghost use Rattle.cob_move_apply.specs.Applied.{ending};
+ghost use Rattle.cob_move_apply.specs.Spent.{WriteSpends};
 ghost use Rattle.cob_move_apply.specs.Surveyed.{IsWorkspace, records};
 ghost use Rattle.cob_move_apply.specs.Made.{IsMadeReady};
 ghost use Rattle.cob_move_apply.specs.Written.{HasPlaces};
@@ -36,6 +37,8 @@ pub(crate) fn make_prepared(
     requires space { IsWorkspace (records layouts.now) input.now output.old space.old }
     ensures made { IsMadeReady one prepared.now input.now output.old (ending result output.new) }
     ensures space { IsWorkspace (records layouts.now) input.now output.new space.new }
+    ensures spends { WriteSpends layouts.now.output.now output.old one.places.to result
+        space.old.output space.new.output }
 {
     let from = one.places.from;
     let to = one.places.to;

@@ -7,6 +7,7 @@ ghost use Rattle.cob_move_receive.specs.Sent.{sent, HasAllBytes};
 ghost use Rattle.cob_move_apply.specs.Applied.{AllGet, Gets, ending, kept};
 ghost use Rattle.cob_move_apply.specs.Placed.{ArePlacedReceivers, IsPlaced, content_of};
 ghost use Rattle.cob_move_apply.specs.Seen.{operand_of, receivers_in};
+ghost use Rattle.cob_move_apply.specs.Spent.{ReceiversSpend, ReceiverSpends};
 ghost use Rattle.cob_move_apply.specs.Surveyed.{IsSurvey};
 
 use crate::basis::{PlacedOperand, PlacedReceivers, placed_operand};
@@ -46,6 +47,8 @@ fn receive_one(
         (kept result output.new) }
     ensures same { OnErr result (output.new ≡ output.old) }
     ensures survey { IsSurvey layout.now output.new survey.new }
+    ensures spends { ReceiverSpends layout.now (operand_of receiver.now) output.old result
+        survey.old survey.new }
 {
     let stored = Stored {
         side: Side::Out,
@@ -88,6 +91,8 @@ pub(crate) fn receive_all(
     ensures get { AllGet layout.now (content_of given.now)
         (receivers_in layout.now receivers.now) output.old (ending result output.new) }
     ensures survey { IsSurvey layout.now output.new survey.new }
+    ensures spends { ReceiversSpend layout.now (content_of given.now)
+        (receivers_in layout.now receivers.now) output.old result output.new survey.old survey.new }
 {
     for (index, entry) in receivers.entries.iter().enumerate() {
         let receiver = placed_operand(layout, entry, receivers.bases[index]);

@@ -1,6 +1,6 @@
 //! One move: what its sender gives, and its receivers in turn.
 
-ghost use Rattle.std.specs.Prelude.{◌≡◌, ◌+◌, ◌≤◌, ℕ, List, length, take, true, false};
+ghost use Rattle.std.specs.Prelude.{◌≡◌, ◌+◌, ◌≤◌, [], ◌∷◌, ℕ, List, length, take, true, false};
 ghost use Rattle.cob_layout.specs.Fields.{field_of};
 ghost use Rattle.cob_layout.specs.Sound.{IsSound};
 ghost use Rattle.cob_layout.specs.Storage.{greatest_length, IsStorage};
@@ -9,6 +9,7 @@ ghost use Rattle.cob_layout_places.specs.declared.operands.Side.TheVariants.{In,
 ghost use Rattle.cob_move_apply.specs.Applied.{IsMoved, ending};
 ghost use Rattle.cob_move_apply.specs.Placed.{ArePlacedReceivers, IsPlaced, IsPlacedSender};
 ghost use Rattle.cob_move_apply.specs.Seen.{entry_sent, operand_of, receivers_in};
+ghost use Rattle.cob_move_apply.specs.Spent.{MovesSpend};
 ghost use Rattle.cob_move_apply.specs.Surveyed.{IsWorkspace, records};
 
 use crate::basis::{Basis, PlacedOperand, PlacedReceivers, SentEntry, placed_operand};
@@ -59,6 +60,11 @@ fn move_from_input(
         })
         input.now output.old (ending result output.new) }
     ensures space { IsWorkspace (records layouts.now) input.now output.new space.new }
+    ensures spends { MovesSpend (records layouts.now)
+        ((record {
+          sender = Entry In layouts.now.reading (operand_of sender.now);
+          receivers = receivers_in layouts.now.output.now receivers.now;
+        }) ∷ []) input.now output.old result output.new space.old.output space.new.output }
 {
     let _ = layouts.input.greatest();
     places_lie_in_storage();
@@ -107,6 +113,11 @@ fn move_within_output(
         })
         input.now output.old (ending result output.new) }
     ensures space { IsWorkspace (records layouts.now) input.now output.new space.new }
+    ensures spends { MovesSpend (records layouts.now)
+        ((record {
+          sender = Entry Out layouts.now.reading (operand_of sender.now);
+          receivers = receivers_in layouts.now.output.now receivers.now;
+        }) ∷ []) input.now output.old result output.new space.old.output space.new.output }
 {
     let stored = Stored {
         side: Side::Out,
@@ -155,6 +166,11 @@ pub(crate) fn move_entry(
     })
         input.now output.old (ending result output.new) }
     ensures space { IsWorkspace (records layouts.now) input.now output.new space.new }
+    ensures spends { MovesSpend (records layouts.now)
+        ((record {
+          sender = entry_sent layouts.now.reading (records layouts.now) sent.now;
+          receivers = receivers_in layouts.now.output.now receivers.now;
+        }) ∷ []) input.now output.old result output.new space.old.output space.new.output }
 {
     match sent.side {
         Side::In => {
@@ -198,6 +214,11 @@ pub(crate) fn make_move(
         })
         input.now output.old (ending result output.new) }
     ensures space { IsWorkspace (records layouts.now) input.now output.new space.new }
+    ensures spends { MovesSpend (records layouts.now)
+        ((record {
+          sender = sender_by layouts.now.reading (records layouts.now) given.now;
+          receivers = receivers_in layouts.now.output.now receivers.now;
+        }) ∷ []) input.now output.old result output.new space.old.output space.new.output }
 {
     match given {
         Sender::Entry { side, entry } => {

@@ -4,6 +4,7 @@ ghost use Rattle.std.specs.Prelude.{◌≡◌, ◌+◌, ◌≤◌, ℕ, List, le
 ghost use Rattle.cob_copybook_tree.specs.Forests.{Forest};
 ghost use Rattle.cob_copybook_tree.specs.Nodes.{Resolved};
 ghost use Rattle.cob_layout.specs.Fields.{with_field};
+ghost use Rattle.cob_move_apply.specs.Spent.{kept_of, PlaceSpends};
 ghost use Rattle.cob_move_apply.specs.Surveyed.{HasRoom, IsSurvey};
 
 use cob_layout::{Counts, Layout, Place};
@@ -32,8 +33,10 @@ impl Survey {
 
     /// Forgets what is kept of a storage, since another one comes.
     pub(crate) fn forget(&mut self)
-        ensures { (tree : Forest Resolved) (bytes : List ℕ)
+        ensures survey { (tree : Forest Resolved) (bytes : List ℕ)
             → HasRoom tree self.old → IsSurvey tree bytes self.new }
+        ensures none { self.new.reads ≡ 0 }
+        ensures unkept { (tree : Forest Resolved) → kept_of tree self.new ≡ 0 }
     {
         self.counts.forget();
         self.reads = 0;
@@ -43,9 +46,12 @@ impl Survey {
     /// where no table varies.
     #[inline(always)]
     pub(crate) fn change(&mut self, layout: &Layout, place: Place)
-        ensures { (before field : List ℕ) → place.offset + place.length ≤ length before
+        ensures survey { (before field : List ℕ) → place.offset + place.length ≤ length before
             → length field ≡ place.length → IsSurvey layout.now before self.old
             → IsSurvey layout.now (with_field before place field) self.new }
+        // Counts are forgotten only where the place meets the item of one.
+        ensures spends { (before : List ℕ) → IsSurvey layout.now before self.old
+            → PlaceSpends layout.now before place self.old self.new }
     {
         layout.wrote(place, &mut self.counts);
     }

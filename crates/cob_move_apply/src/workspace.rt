@@ -1,7 +1,10 @@
 //! What moves on one record work with.
 
 ghost use Rattle.std.specs.Prelude.{◌≡◌, List, ℕ, IfOk};
+ghost use Rattle.cob_copybook_tree.specs.Forests.{Forest};
+ghost use Rattle.cob_copybook_tree.specs.Nodes.{Resolved};
 ghost use Rattle.cob_layout_places.specs.Moves.{Records};
+ghost use Rattle.cob_move_apply.specs.Spent.{kept_of};
 ghost use Rattle.cob_move_apply.specs.Surveyed.{HasSpace, IsWorkspace};
 
 use crate::survey::Survey;
@@ -50,8 +53,10 @@ impl Workspace {
 
     /// Forgets what is kept of the records before.
     pub(crate) fn forget(&mut self)
-        ensures { (r : Records) (input output : List ℕ)
+        ensures space { (r : Records) (input output : List ℕ)
             → HasSpace r self.old → IsWorkspace r input output self.new }
+        ensures none { self.new.output.reads ≡ 0 }
+        ensures unkept { (tree : Forest Resolved) → kept_of tree self.new.output ≡ 0 }
     {
         self.input.forget();
         self.output.forget();

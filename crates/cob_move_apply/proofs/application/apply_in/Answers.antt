@@ -4,6 +4,7 @@ use Rattle.cob_layout_places.specs.Moves.{Records, moves_by}
 use Rattle.cob_move_apply.specs.Steps.{StandFor, Support, support_of}
 use Rattle.cob_move_apply.specs.declared.step.Step.{Step}
 use Rattle.cob_move_apply.specs.Surveyed.{records}
+use Rattle.cob_move_apply.proofs.SpendingLemmas.{spent_steps_all, spent_steps_first, spent_steps_next, spent_steps_stop}
 use Rattle.cob_move_apply.proofs.StepLemmas.{left_all, left_made, left_none, next_step, stopped_made}
 use Rattle.cob_move_apply.proofs.application.apply_in.Goals as goal
 
@@ -16,7 +17,9 @@ loop-step-init c =
       left = left_all c.one_outcome_of_counts.ensures.needed x r c.args.given.now c.as_slice-steps.result.now on c.args.input.now c.args.output.now
           (subst (λ (ss : List Step). StandFor x r c.args.given.now ss on (moves_by x r c.args.given.now)) (sym c.as_slice-steps.ensures.value) c.requires.steps);
       output = refl;
-      space = c.forget.ensures r c.args.input.now c.args.output.now c.requires.space;
+      space = c.forget.ensures.space r c.args.input.now c.args.output.now c.requires.space;
+      spends = spent_steps_first c.one_outcome_of_counts.ensures.needed x r c.args.given.now c.as_slice-steps.result.now on c.args.input.now c.args.output.now c.forget.new.self.output
+          (subst (λ (ss : List Step). StandFor x r c.args.given.now ss on (moves_by x r c.args.given.now)) (sym c.as_slice-steps.ensures.value) c.requires.steps) c.forget.ensures.none;
     }
 
 pub make_step-requires-clause-step : goal.make_step-requires-clause-step
@@ -43,8 +46,22 @@ loop-step-preserved c =
       left = left_made x r c.args.given.now c.as_slice-steps.result.now (support_of c.args.plan.now) c.loop-step.step-index _ c.args.input.now c.args.output.now c.loop-step.output c.make_step.new.output next c.in_ok-make_step.ensures.applied;
       output = c.make_step.auto.output ∙ c.loop-step.invariant.output;
       space = c.in_ok-make_step.ensures.space;
+      spends = spent_steps_next x r c.args.given.now c.as_slice-steps.result.now (support_of c.args.plan.now) c.loop-step.step-index _ _ c.args.input.now c.args.output.now c.loop-step.output c.make_step.new.output
+          c.loop-step.space.output c.make_step.new.space.output c.loop-step-test.true refl c.loop-step.invariant.spends c.in_ok-make_step.ensures.spends;
     }
 
 pub returns-clause-applied : goal.returns-clause-applied
 returns-clause-applied c =
     left_none c.args.layouts.now.reading (records c.args.layouts.now) c.args.given.now c.as_slice-steps.result.now (support_of c.args.plan.now) c.loop-step.step-index c.args.input.now c.args.output.now c.loop-step.output c.loop-step-test.false c.loop-step.invariant.left
+
+pub returns-in_err-make_step-clause-reads : goal.returns-in_err-make_step-clause-reads
+returns-in_err-make_step-clause-reads c =
+    let x = c.args.layouts.now.reading in
+    let r : Records = records c.args.layouts.now in
+    spent_steps_stop x r c.args.given.now c.as_slice-steps.result.now (support_of c.args.plan.now) c.loop-step.step-index _ _ c.args.input.now c.args.output.now c.loop-step.output
+    c.loop-step.space.output c.make_step.new.space.output c.loop-step-test.true refl c.loop-step.invariant.spends c.in_err-make_step.ensures.spends
+
+pub returns-clause-reads : goal.returns-clause-reads
+returns-clause-reads c =
+    spent_steps_all c.args.layouts.now.reading (records c.args.layouts.now) c.args.given.now c.as_slice-steps.result.now (support_of c.args.plan.now) c.loop-step.step-index c.args.input.now c.args.output.now c.loop-step.output
+    c.loop-step.space.output c.loop-step-test.false c.loop-step.invariant.spends

@@ -5,6 +5,7 @@ use Rattle.cob_move_apply.specs.Surveyed.{records}
 use Rattle.cob_move_apply.specs.declared.basis.Basis.{Basis}
 use Rattle.cob_move_apply.proofs.PartLemmas.{part_room}
 use Rattle.cob_move_apply.proofs.PicturedLemmas.{part_pictured, pictured_reads, pictured_step, pictured_within}
+use Rattle.cob_move_apply.proofs.SpendingLemmas.{part_spends}
 use Rattle.cob_move_apply.proofs.application.make_pictured.Goals as goal
 
 pub run_pictured-requires-clause-step : goal.run_pictured-requires-clause-step
@@ -41,3 +42,12 @@ make_part-requires-clause-room c =
 pub returns-in-Whole-clause-moved : goal.returns-in-Whole-clause-moved
 returns-in-Whole-clause-moved c = λ m part.
     c.make_part.ensures.moved m (subst (λ (bs : List Basis). IsMoveOfPart c.args.layouts.now.reading (records c.args.layouts.now) c.args.given.now bs c.args.part.now m) (sym c.as_slice-bases.ensures.value) part.0)
+
+pub returns-in-Pictured-clause-spends : goal.returns-in-Pictured-clause-spends
+returns-in-Pictured-clause-spends c = λ m part.
+    part_spends c.args.layouts.now.reading (records c.args.layouts.now) c.args.given.now c.args.plan.now.bases.items c.args.plan.now.pictured c.args.one c.args.part.now m c.args.input.now c.args.output.now
+    c.run_pictured.result c.run_pictured.new.output _ _ c.in-Pictured.is c.run_pictured.ensures.made c.run_pictured.ensures.spends part
+
+pub returns-in-Whole-clause-spends : goal.returns-in-Whole-clause-spends
+returns-in-Whole-clause-spends c = λ m part.
+    c.make_part.ensures.spends m (subst (λ (bs : List Basis). IsMoveOfPart c.args.layouts.now.reading (records c.args.layouts.now) c.args.given.now bs c.args.part.now m) (sym c.as_slice-bases.ensures.value) part.0)

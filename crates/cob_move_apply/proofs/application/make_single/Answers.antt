@@ -2,6 +2,7 @@ use Rattle.cob_move_apply.specs.Applied.{ending}
 use Rattle.cob_move_apply.specs.Surveyed.{records}
 use Rattle.cob_move_apply.specs.declared.step.PreparedMove.{PreparedMove}
 use Rattle.cob_move_apply.proofs.StepLemmas.{made_prepared, prepared_reads, prepared_within, the_prepared}
+use Rattle.cob_move_apply.proofs.SpendingLemmas.{prepared_spends}
 use Rattle.cob_move_apply.proofs.application.make_single.Goals as goal
 
 pub make_prepared-requires-clause-step : goal.make_prepared-requires-clause-step
@@ -24,3 +25,9 @@ returns-clause-applied c = λ own is.
     let p : PreparedMove = record { places = c.args.places; step = c.args.step } in
     made_prepared c.args.layouts.now.reading (records c.args.layouts.now) c.args.plan.now.prepared p own c.args.input.now c.args.output.now (ending c.make_prepared.result c.make_prepared.new.output)
     c.requires.input c.requires.output c.make_prepared.ensures.made is
+
+pub returns-clause-spends : goal.returns-clause-spends
+returns-clause-spends c = λ own is.
+    let p : PreparedMove = record { places = c.args.places; step = c.args.step } in
+    prepared_spends c.args.layouts.now.reading (records c.args.layouts.now) c.args.plan.now.prepared p own c.args.input.now c.args.output.now c.make_prepared.result c.make_prepared.new.output _ _
+    c.make_prepared.ensures.made c.make_prepared.ensures.spends is

@@ -6,6 +6,7 @@ use Rattle.cob_move_apply.specs.declared.basis.Basis.{Basis}
 use Rattle.cob_move_apply.specs.declared.step.Step.{Step}
 use Rattle.cob_move_apply.proofs.PartLemmas.{part_room}
 use Rattle.cob_move_apply.proofs.StepLemmas.{constant_within, copy_reads, made_constant, made_copy, made_part, made_pictured, space_copy, the_constant, the_part, the_pictured}
+use Rattle.cob_move_apply.proofs.SpendingLemmas.{constant_spends, copy_spends, part_step_spends, pictured_step_spends}
 use Rattle.cob_move_apply.proofs.application.make_step.Goals as goal
 
 pub make_part-requires-clause-part : goal.make_part-requires-clause-part
@@ -188,3 +189,85 @@ returns-in-Located-clause-applied c = λ own is.
     let on : Support = support_of c.args.plan.now in
     let this = subst (λ (s : Step). IsStep x r c.args.given.now on s own) c.in-Located.is is in
     c.make_located.ensures.applied own this
+
+pub returns-in-Part-clause-spends : goal.returns-in-Part-clause-spends
+returns-in-Part-clause-spends c = λ own is.
+    let x = c.args.layouts.now.reading in
+    let r = records c.args.layouts.now in
+    let on : Support = support_of c.args.plan.now in
+    let this = subst (λ (s : Step). IsStep x r c.args.given.now on s own) c.in-Part.is is in
+    part_step_spends x r c.args.given.now on c.in-Part.part own c.args.input.now c.args.output.now c.make_part.result c.make_part.new.output _ _
+    (λ m part. c.make_part.ensures.spends m (subst (λ (bs : List Basis). IsMoveOfPart x r c.args.given.now bs c.in-Part.part m) (sym c.as_slice-bases.ensures.value) part)) this
+
+pub returns-in-Number-clause-spends : goal.returns-in-Number-clause-spends
+returns-in-Number-clause-spends c = λ own is.
+    let x = c.args.layouts.now.reading in
+    let r = records c.args.layouts.now in
+    let on : Support = support_of c.args.plan.now in
+    let this = subst (λ (s : Step). IsStep x r c.args.given.now on s own) c.in-Number.is is in
+    c.make_single.ensures.spends own this
+
+pub returns-in-Wide-clause-spends : goal.returns-in-Wide-clause-spends
+returns-in-Wide-clause-spends c = λ own is.
+    let x = c.args.layouts.now.reading in
+    let r = records c.args.layouts.now in
+    let on : Support = support_of c.args.plan.now in
+    let this = subst (λ (s : Step). IsStep x r c.args.given.now on s own) c.in-Wide.is is in
+    c.make_single-in-Wide.ensures.spends own this
+
+pub returns-in-Binary-clause-spends : goal.returns-in-Binary-clause-spends
+returns-in-Binary-clause-spends c = λ own is.
+    let x = c.args.layouts.now.reading in
+    let r = records c.args.layouts.now in
+    let on : Support = support_of c.args.plan.now in
+    let this = subst (λ (s : Step). IsStep x r c.args.given.now on s own) c.in-Binary.is is in
+    c.make_single-in-Binary.ensures.spends own this
+
+pub returns-in-Edited-clause-spends : goal.returns-in-Edited-clause-spends
+returns-in-Edited-clause-spends c = λ own is.
+    let x = c.args.layouts.now.reading in
+    let r = records c.args.layouts.now in
+    let on : Support = support_of c.args.plan.now in
+    let this = subst (λ (s : Step). IsStep x r c.args.given.now on s own) c.in-Edited.is is in
+    c.make_single-in-Edited.ensures.spends own this
+
+pub returns-in-Characters-clause-spends : goal.returns-in-Characters-clause-spends
+returns-in-Characters-clause-spends c = λ own is.
+    let x = c.args.layouts.now.reading in
+    let r = records c.args.layouts.now in
+    let on : Support = support_of c.args.plan.now in
+    let this = subst (λ (s : Step). IsStep x r c.args.given.now on s own) c.in-Characters.is is in
+    c.make_single-in-Characters.ensures.spends own this
+
+pub returns-in-Located-clause-spends : goal.returns-in-Located-clause-spends
+returns-in-Located-clause-spends c = λ own is.
+    let x = c.args.layouts.now.reading in
+    let r = records c.args.layouts.now in
+    let on : Support = support_of c.args.plan.now in
+    let this = subst (λ (s : Step). IsStep x r c.args.given.now on s own) c.in-Located.is is in
+    c.make_located.ensures.spends own this
+
+pub returns-in-Pictured-clause-spends : goal.returns-in-Pictured-clause-spends
+returns-in-Pictured-clause-spends c = λ own is.
+    let x = c.args.layouts.now.reading in
+    let r = records c.args.layouts.now in
+    let on : Support = support_of c.args.plan.now in
+    let this = subst (λ (s : Step). IsStep x r c.args.given.now on s own) c.in-Pictured.is is in
+    pictured_step_spends x r c.args.given.now on c.in-Pictured.one c.in-Pictured.part own c.args.input.now c.args.output.now c.make_pictured.result c.make_pictured.new.output _ _ c.make_pictured.ensures.spends this
+
+pub returns-in-Constant-clause-spends : goal.returns-in-Constant-clause-spends
+returns-in-Constant-clause-spends c = λ own is.
+    let x = c.args.layouts.now.reading in
+    let r = records c.args.layouts.now in
+    let on : Support = support_of c.args.plan.now in
+    let this = subst (λ (s : Step). IsStep x r c.args.given.now on s own) c.in-Constant.is is in
+    constant_spends x r c.args.given.now on c.in-Constant.one own c.args.input.now c.args.output.now c.make_constant.new.output _ _ c.make_constant.ensures.made c.make_constant.ensures.spends this
+
+pub returns-in-Copy-clause-spends : goal.returns-in-Copy-clause-spends
+returns-in-Copy-clause-spends c = λ own is.
+    let x = c.args.layouts.now.reading in
+    let r = records c.args.layouts.now in
+    let on : Support = support_of c.args.plan.now in
+    let this = subst (λ (s : Step). IsStep x r c.args.given.now on s own) c.in-Copy.is is in
+    copy_spends r own c.args.input.now c.args.output.now c.copy_across.new.output c.args.space.now.output
+    (made_copy x r c.args.given.now on c.in-Copy.places own c.args.input.now c.args.output.now c.copy_across.new.output c.requires.input c.requires.output c.copy_across.ensures this)

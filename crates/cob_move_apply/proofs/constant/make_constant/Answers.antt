@@ -30,6 +30,9 @@ returns-clause-space c =
     record {
       surveyed_input = c.requires.space.surveyed_input;
       surveyed_output = subst (λ (bytes : List ℕ). IsSurvey c.args.layouts.now.output.now bytes c.change.new.self) (sym (put_is c.args.one.to c.run.new.to c.args.output.now))
-          (c.change.ensures c.args.output.now c.run.new.to (omega (arith, c.requires.writes, c.requires.output)) size c.requires.space.surveyed_output);
+          (c.change.ensures.survey c.args.output.now c.run.new.to (omega (arith, c.requires.writes, c.requires.output)) size c.requires.space.surveyed_output);
       content = c.requires.space.content;
     }
+
+pub returns-clause-spends : goal.returns-clause-spends
+returns-clause-spends c = c.change.ensures.spends c.args.output.now c.requires.space.surveyed_output

@@ -8,6 +8,7 @@ use Rattle.cob_move_apply.specs.Located.{Located}
 use Rattle.cob_move_apply.specs.Surveyed.{records}
 use Rattle.cob_move_apply.proofs.LocatedLemmas.{stops_second}
 use Rattle.cob_move_apply.proofs.ReceiverLemmas.{stops_first}
+use Rattle.cob_move_apply.proofs.SpendingLemmas.{stop_none}
 use Rattle.cob_move_apply.proofs.located.locate_both.Goals as goal
 
 pub returns-in_err-from-clause-stops : goal.returns-in_err-from-clause-stops
@@ -38,3 +39,16 @@ returns-clause-stand c =
       within = c.in_ok-to.ensures.fits;
       received = subst (λ (o : Operand). Occupies o.kind c.in_ok-to.to.length) c.placed_operand-receiver.ensures.operand c.in_ok-to.ensures.filled;
     }
+
+pub returns-in_err-from-clause-spends : goal.returns-in_err-from-clause-spends
+returns-in_err-from-clause-spends c =
+    let p = err_from_is_err_and c.from_residual.result c.from_residual.ensures.1 in
+    rw (p.1) (stop_none c.args.layouts.now.output.now c.args.space.now.output)
+
+pub returns-in_err-to-clause-spends : goal.returns-in_err-to-clause-spends
+returns-in_err-to-clause-spends c =
+    let p = err_from_is_err_and c.from_residual-in_err-to.result c.from_residual-in_err-to.ensures.1 in
+    rw (p.1) c.in_err-to.ensures.spends
+
+pub returns-clause-spends : goal.returns-clause-spends
+returns-clause-spends c = c.in_ok-to.ensures.spends

@@ -3,6 +3,7 @@ use borrow.Rule.Slice.PartMut.{mid_len}
 use Rattle.cob_move_apply.specs.Surveyed.{IsSurvey}
 use Rattle.cob_move_apply.proofs.PicturedLemmas.{pictured_made, pictured_not_made}
 use Rattle.cob_move_apply.proofs.ReceiverLemmas.{put_is}
+use Rattle.cob_move_apply.proofs.SpentLemmas.{spent_none}
 use Rattle.cob_move_apply.proofs.pictured.run_pictured.Goals as goal
 
 pub returns-then-run-clause-made : goal.returns-then-run-clause-made
@@ -22,7 +23,7 @@ returns-then-run-clause-space c =
     record {
       surveyed_input = c.requires.space.surveyed_input;
       surveyed_output = subst (λ (bytes : List ℕ). IsSurvey c.args.layouts.now.output.now bytes c.change.new.self) (sym (put_is c.args.one.places.to c.run.new.to c.args.output.now))
-          (c.change.ensures c.args.output.now c.run.new.to (omega (arith, c.requires.writes, c.requires.output)) size c.requires.space.surveyed_output);
+          (c.change.ensures.survey c.args.output.now c.run.new.to (omega (arith, c.requires.writes, c.requires.output)) size c.requires.space.surveyed_output);
       content = c.requires.space.content;
     }
 
@@ -33,3 +34,9 @@ returns-else-run-clause-made c =
     let back : end - start ≡ c.args.one.places.to.length = omega arith in
     pictured_not_made c.args.one c.args.pictured.now c.args.input.now c.args.output.now c.run.new.to _ c.run.result c.requires.reads
     (mid_len start end c.args.output.now (omega (arith, c.requires.writes, c.requires.output)) ∙ back) c.if-run.false c.run.ensures.gets c.run.ensures.same
+
+pub returns-then-run-clause-spends : goal.returns-then-run-clause-spends
+returns-then-run-clause-spends c = c.change.ensures.spends c.args.output.now c.requires.space.surveyed_output
+
+pub returns-else-run-clause-spends : goal.returns-else-run-clause-spends
+returns-else-run-clause-spends c = spent_none c.args.layouts.now.output.now c.args.space.now.output

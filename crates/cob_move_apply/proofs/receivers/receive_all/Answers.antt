@@ -1,17 +1,20 @@
-use Rattle.std.proofs.Common.{◌∙◌, true, Err, List, Ok, subst, sym}
+use Rattle.std.proofs.Common.{◌∙◌, ℕ, true, Err, List, Ok, refl, subst, sym}
 use Rattle.std.proofs.lemmas.Result.{err_from_is_err_and}
 use Rattle.cob_copybook_tree.specs.Forests.{Forest}
 use Rattle.cob_copybook_tree.specs.Nodes.{Resolved}
 use Rattle.cob_layout_places.specs.declared.operands.Operand.{Operand}
 use Rattle.cob_layout_places.specs.Moves.{operand_in}
 use Rattle.cob_move_apply.specs.Applied.{Content, Gets}
+use Rattle.cob_move_apply.specs.Met.{ReceiverMet}
 use Rattle.cob_move_apply.specs.Placed.{IsPlaced, content_of}
 use Rattle.cob_move_apply.specs.Seen.{receivers_in}
+use Rattle.cob_move_apply.specs.Spent.{IsSpent}
 use Rattle.cob_move_apply.specs.declared.basis.Basis.{Basis}
 use Rattle.cob_move_apply.specs.declared.basis.Basis.TheVariants.{Counted}
 use Rattle.cob_move_apply.proofs.BasisLemmas.{in_both, left_receiver, more_left}
 use Rattle.cob_move_apply.proofs.ListLemmas.{at, below, past}
 use Rattle.cob_move_apply.proofs.ReceiverLemmas.{get_more, get_stops, get_all}
+use Rattle.cob_move_apply.proofs.SpendingLemmas.{receivers_done, receivers_stop, spent_to_first, spent_to_next}
 use Rattle.cob_move_apply.proofs.receivers.receive_all.Goals as goal
 
 pub placed_operand-receiver-requires-clause-operand : goal.placed_operand-receiver-requires-clause-operand
@@ -64,9 +67,35 @@ loop-index-preserved c =
           (in_both tree os c.args.receivers.now.bases.now c.loop-index.index c.requires.receivers lt) c.loop-index.invariant.left;
       output = c.receive_one.auto.output ∙ c.loop-index.invariant.output;
       survey = c.in_ok-receive_one.ensures.survey;
+      spends = spent_to_next tree content os c.loop-index.index (operand_in tree c.entry-item.result) c.args.output.now c.loop-index.output c.receive_one.new.output c.args.survey.now c.loop-index.survey c.receive_one.new.survey
+          lt is c.loop-index.invariant.spends
+          (subst (λ (o : Operand). Gets tree content o c.loop-index.output (Ok c.receive_one.new.output)) c.placed_operand-receiver.ensures.operand c.in_ok-receive_one.ensures.gets)
+          (subst (λ (o : Operand). (met : ℕ) × ReceiverMet tree o c.loop-index.output met × IsSpent tree met c.loop-index.survey c.receive_one.new.survey) c.placed_operand-receiver.ensures.operand c.in_ok-receive_one.ensures.spends);
     }
 
 pub returns-clause-get : goal.returns-clause-get
 returns-clause-get c =
     get_all c.args.layout.now (content_of c.args.given.now) (receivers_in c.args.layout.now c.args.receivers.now) c.loop-index.index c.args.output.now c.loop-index.output
     (past (operand_in c.args.layout.now) c.args.receivers.now.entries.now c.loop-index.index c.loop-index-test.false) c.loop-index.invariant.get
+
+pub loop-index-init : goal.loop-index-init
+loop-index-init c = record {
+  get = λ end h. h;
+  left = c.requires.receivers;
+  output = refl;
+  survey = c.requires.survey;
+  spends = spent_to_first c.args.layout.now (content_of c.args.given.now) (receivers_in c.args.layout.now c.args.receivers.now) c.args.output.now c.args.survey.now;
+}
+
+pub returns-in_err-receive_one-clause-spends : goal.returns-in_err-receive_one-clause-spends
+returns-in_err-receive_one-clause-spends c =
+    let tree : Forest Resolved = c.args.layout.now in
+    let p = err_from_is_err_and c.from_residual.result c.from_residual.ensures.1 in
+    rw (p.1)
+    (receivers_stop tree (content_of c.args.given.now) (receivers_in tree c.args.receivers.now) c.loop-index.index c.args.output.now c.loop-index.output c.args.survey.now c.loop-index.survey c.receive_one.new.survey
+    c.loop-index.invariant.spends c.in_err-receive_one.ensures.spends)
+
+pub returns-clause-spends : goal.returns-clause-spends
+returns-clause-spends c =
+    receivers_done c.args.layout.now (content_of c.args.given.now) (receivers_in c.args.layout.now c.args.receivers.now) c.loop-index.index c.args.output.now c.loop-index.output c.args.survey.now c.loop-index.survey
+    (past (operand_in c.args.layout.now) c.args.receivers.now.entries.now c.loop-index.index c.loop-index-test.false) c.loop-index.invariant.spends

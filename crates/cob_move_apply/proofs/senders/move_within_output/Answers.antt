@@ -1,10 +1,12 @@
-use Rattle.std.proofs.Common.{◌≡◌, ◌∙◌, ap, arith, length, take}
+use Rattle.std.proofs.Common.{◌≡◌, ◌∙◌, [], ◌∷◌, ap, arith, length, take}
 use Rattle.std.proofs.lemmas.Result.{err_from_is_err_and}
 use Rattle.cob_layout_places.specs.declared.operands.Side.TheVariants.{Out}
 use Rattle.cob_move_apply.specs.Applied.{ending}
 use Rattle.cob_move_apply.specs.Surveyed.{records}
 use Rattle.cob_move_apply.proofs.ReceiverLemmas.{front_is, stops_first, moved}
 use Rattle.cob_move_apply.specs.Seen.{operand_of, receivers_in}
+use Rattle.cob_layout_places.specs.Moves.{Entry, Move}
+use Rattle.cob_move_apply.proofs.SpendingLemmas.{entry_spends, spends_after, stopped_spends}
 use Rattle.cob_move_apply.proofs.senders.move_within_output.Goals as goal
 
 pub returns-in_err-place-clause-moved : goal.returns-in_err-place-clause-moved
@@ -24,3 +26,22 @@ returns-clause-moved c =
     c.in_ok-place.ensures.located
     (ap (take c.in_ok-place.place.length) (c.as_slice.ensures.value ∙ front_is c.args.space.now.content.len c.copy_field.new.content _ size) ∙ c.copy_field.ensures)
     c.receive_all.ensures.get
+
+pub returns-in_err-place-clause-spends : goal.returns-in_err-place-clause-spends
+returns-in_err-place-clause-spends c =
+    let m : Move = record { sender = Entry Out c.args.layouts.now.reading (operand_of c.args.sender.now); receivers = receivers_in c.args.layouts.now.output.now c.args.receivers.now } in
+    let p = err_from_is_err_and c.from_residual.result c.from_residual.ensures.1 in
+    rw (p.1) (stopped_spends (records c.args.layouts.now) (m ∷ []) c.args.input.now c.args.output.now _ _ c.in_err-place.ensures.spends)
+
+pub returns-clause-spends : goal.returns-clause-spends
+returns-clause-spends c =
+    let m : Move = record { sender = Entry Out c.args.layouts.now.reading (operand_of c.args.sender.now); receivers = receivers_in c.args.layouts.now.output.now c.args.receivers.now } in
+    let size : c.args.space.now.content.len ≡ length c.copy_field.new.content =
+    omega (arith, c.args.space.now.content.ok.0, c.copy_field.auto.content, ap length c.as_mut_slice.ensures.value) in
+    spends_after (records c.args.layouts.now) (m ∷ []) c.args.input.now c.args.output.now c.receive_all.result c.receive_all.new.output _ _ _ c.in_ok-place.ensures.spends
+    (entry_spends (records c.args.layouts.now) Out c.args.layouts.now.reading (operand_of c.args.sender.now) (receivers_in c.args.layouts.now.output.now c.args.receivers.now) c.args.input.now c.args.output.now
+    (take c.in_ok-place.place.length c.as_slice.result.now)
+    c.in_ok-place.place c.receive_all.result c.receive_all.new.output _ _
+    c.in_ok-place.ensures.located
+    (ap (take c.in_ok-place.place.length) (c.as_slice.ensures.value ∙ front_is c.args.space.now.content.len c.copy_field.new.content _ size) ∙ c.copy_field.ensures)
+    c.receive_all.ensures.spends)

@@ -1,0 +1,19 @@
+use Rattle.std.proofs.Common.{Ok, refl, subst, sym}
+use Rattle.cob_entry.specs.Described.{plain_value}
+use Rattle.cob_layout_places.specs.declared.operands.Sender as code
+use Rattle.cob_layout_places.specs.declared.operands.Side.TheVariants.{Out}
+use Rattle.cob_layout_places.specs.Moves.{sender_by}
+use Rattle.cob_move_receive.specs.Sent as sent
+use Rattle.cob_move_apply.specs.Applied.{Content, Gives}
+use Rattle.cob_move_apply.specs.Seen.{receivers_in}
+use Rattle.cob_move_apply.specs.Surveyed.{records}
+use Rattle.cob_move_apply.proofs.SpendingLemmas.{given_spends}
+use Rattle.cob_move_apply.proofs.senders.make_move.Goals as goal
+
+pub returns-in-Constant-clause-spends : goal.returns-in-Constant-clause-spends
+returns-in-Constant-clause-spends c =
+    let r = records c.args.layouts.now in
+    let x = c.args.layouts.now.reading in
+    let content : Content = record { sent = sent.Literal (plain_value c.in-Constant.value); side = Out; offset = 0 } in
+    given_spends r (sender_by x r c.args.given.now) (receivers_in c.args.layouts.now.output.now c.args.receivers.now) content c.args.input.now c.args.output.now c.receive_all.result c.receive_all.new.output _ _
+    (subst (λ (s : code.Sender). Gives r (sender_by x r s) c.args.input.now c.args.output.now (Ok content)) (sym c.in-Constant.is) refl) c.receive_all.ensures.spends
