@@ -1,12 +1,14 @@
 //! Paragraphs.
 
-ghost use Rattle.std.specs.Prelude.{◌≡◌, length, map, min, IfErr, IfOk, List};
+ghost use Rattle.std.specs.Prelude.{◌≡◌, ◌+◌, ◌*◌, ◌≤◌, ℕ, length, map, min, IfErr, IfOk, List};
 ghost use Rattle.cob_copybook.specs.Books.{IsRecordDescription};
 ghost use Rattle.cob_layout.specs.Storage.{IsStorage, greatest_length};
 ghost use Rattle.cob_move_apply.specs.Applied.{Applied, ending};
 ghost use Rattle.cob_move_apply.specs.Joined.{steps_in};
+ghost use Rattle.cob_move_apply.specs.Met.{HaveMet};
 ghost use Rattle.cob_move_apply.specs.Told.{most_moves_told, single_moves};
 ghost use Rattle.cob_move_apply.specs.Room.{room_of};
+ghost use Rattle.cob_layout_places.specs.Counts.{tables_of};
 ghost use Rattle.cob_layout_places.specs.Moves.{Move as Meant, Records, moves, read_by};
 ghost use Rattle.cob_move_statements.specs.Reading.{IsOrLacksMemory};
 ghost use Rattle.cob_move.specs.Among.{both};
@@ -151,6 +153,10 @@ pub fn apply(
     ensures applied { let r : Records = both in_layout.now out_layout.now in
         Applied r (moves_in r paragraph.now) input.now output.old (ending result output.new) }
     ensures room { scratch.new.room ≡ scratch.old.room }
+    // Counts of the output record are read again only where a receiver met the item of one.
+    ensures reads { let r : Records = both in_layout.now out_layout.now in
+        (met : ℕ) × HaveMet r (moves_in r paragraph.now) input.now output.old met
+        × (scratch.new.reads ≤ length (tables_of out_layout.now) * (1 + met)) }
 {
     paragraph
         .moves
