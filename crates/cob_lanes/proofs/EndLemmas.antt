@@ -6,9 +6,9 @@ use borrow.Rule.Slice.PartMut.{put_mid}
 use Rattle.cob_lanes.proofs.WindowLemmas.{nothing_more}
 
 -- both together are as many bytes as there is room for
-pub ends_written : (N n : ℕ) (out bytes front back : List ℕ) → n ≡ length out → N ≤ n → n ≤ 2 * N → n ≤ 16 → length bytes ≡ 16
+pub ends_written : (N n : ℕ) (out bytes front back : List ℕ) → n ≡ length out → N ≤ n → n ≤ 2 * N → n ≤ length bytes
     → front ≡ take N bytes → back ≡ take N (drop (n - N) bytes) → put_mid (n - N) (length (front ++ drop N out) - (n - N)) (front ++ drop N out) back ≡ take n bytes
-ends_written N n out bytes front back many least most room long first last =
+ends_written N n out bytes front back many least most room first last =
     let a : ℕ = n - N in
     let before : List ℕ = front ++ drop N out in
     let k : ℕ = length before - a in

@@ -12,3 +12,5 @@ pub mod WordReading
 pub mod WordWriting
 pub mod WideLemmas
 pub mod WideWriting
+pub mod SignLemmas
+pub mod FourLemmas

@@ -31,19 +31,14 @@ four_digits xs i lt =
     omega arith
 
 -- what is made of the pairs of digits
-pub pairs_number : (v pairs : List ℕ) (a b c d : ℕ) → length v ≡ 16 → AreTens v → ((i : ℕ) → i < 8 → get_or pairs i 0 ≡ (get_or v (2 * i) 0 * 10 + get_or v (2 * i + 1) 0) % 65536)
-    → a ≡ get_or pairs 0 0 * 100 + get_or pairs 1 0 → b ≡ get_or pairs 2 0 * 100 + get_or pairs 3 0 → c ≡ get_or pairs 4 0 * 100 + get_or pairs 5 0 → d ≡ get_or pairs 6 0 * 100 + get_or pairs 7 0
-    → (a * 10000 + b) * 100000000 + (c * 10000 + d) ≡ number_of v
-pairs_number v pairs a b c d long tens each ea eb ec ed =
-    let pair : (i : ℕ) → i < 8 → get_or pairs i 0 ≡ get_or v (2 * i) 0 * 10 + get_or v (2 * i + 1) 0 = λ i lt. omega (arith, each i lt, tens (2 * i) (omega arith), tens (2 * i + 1) (omega arith)) in
-    let p0 : get_or pairs 0 0 ≡ get_or v 0 0 * 10 + get_or v 1 0 = pair 0 (omega arith) in
-    let p1 : get_or pairs 1 0 ≡ get_or v 2 0 * 10 + get_or v 3 0 = pair 1 (omega arith) in
-    let p2 : get_or pairs 2 0 ≡ get_or v 4 0 * 10 + get_or v 5 0 = pair 2 (omega arith) in
-    let p3 : get_or pairs 3 0 ≡ get_or v 6 0 * 10 + get_or v 7 0 = pair 3 (omega arith) in
-    let p4 : get_or pairs 4 0 ≡ get_or v 8 0 * 10 + get_or v 9 0 = pair 4 (omega arith) in
-    let p5 : get_or pairs 5 0 ≡ get_or v 10 0 * 10 + get_or v 11 0 = pair 5 (omega arith) in
-    let p6 : get_or pairs 6 0 ≡ get_or v 12 0 * 10 + get_or v 13 0 = pair 6 (omega arith) in
-    let p7 : get_or pairs 7 0 ≡ get_or v 14 0 * 10 + get_or v 15 0 = pair 7 (omega arith) in
+pub fours_number : (v fours : List ℕ) (a b c d : ℕ) → length v ≡ 16
+    → ((i : ℕ) → i < 4 → get_or fours i 0 ≡ get_or v (4 * i) 0 * 1000 + get_or v (4 * i + 1) 0 * 100 + get_or v (4 * i + 2) 0 * 10 + get_or v (4 * i + 3) 0)
+    → a ≡ get_or fours 0 0 → b ≡ get_or fours 1 0 → c ≡ get_or fours 2 0 → d ≡ get_or fours 3 0 → (a * 10000 + b) * 100000000 + (c * 10000 + d) ≡ number_of v
+fours_number v fours a b c d long each ea eb ec ed =
+    let p0 : get_or fours 0 0 ≡ get_or v 0 0 * 1000 + get_or v 1 0 * 100 + get_or v 2 0 * 10 + get_or v 3 0 = each 0 (omega arith) in
+    let p1 : get_or fours 1 0 ≡ get_or v 4 0 * 1000 + get_or v 5 0 * 100 + get_or v 6 0 * 10 + get_or v 7 0 = each 1 (omega arith) in
+    let p2 : get_or fours 2 0 ≡ get_or v 8 0 * 1000 + get_or v 9 0 * 100 + get_or v 10 0 * 10 + get_or v 11 0 = each 2 (omega arith) in
+    let p3 : get_or fours 3 0 ≡ get_or v 12 0 * 1000 + get_or v 13 0 * 100 + get_or v 14 0 * 10 + get_or v 15 0 = each 3 (omega arith) in
     let f0 : number_of (take 4 v) ≡ number_of (take 0 v) * 10000 + (get_or v 0 0 * 1000 + get_or v 1 0 * 100 + get_or v 2 0 * 10 + get_or v 3 0) = four_digits v 0 (omega arith) in
     let f1 : number_of (take 8 v) ≡ number_of (take 4 v) * 10000 + (get_or v 4 0 * 1000 + get_or v 5 0 * 100 + get_or v 6 0 * 10 + get_or v 7 0) = four_digits v 4 (omega arith) in
     let f2 : number_of (take 12 v) ≡ number_of (take 8 v) * 10000 + (get_or v 8 0 * 1000 + get_or v 9 0 * 100 + get_or v 10 0 * 10 + get_or v 11 0) = four_digits v 8 (omega arith) in

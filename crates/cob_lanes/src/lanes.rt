@@ -144,7 +144,7 @@ pub struct Bounds {
     pub most_low: [u8; 16],
 }
 
-/// Whether the half bytes of sixteen bytes are within their bounds.
+/// Whether these high halves and low halves of sixteen bytes are within their bounds.
 #[inline(always)]
 fn are_within(v: u8x16, high: u8x16, low: u8x16, by: &Bounds) -> bool
     requires high { (i : ℕ) → i < 16 → slice_index high i ≡ slice_index v i / 16 }
@@ -158,25 +158,23 @@ fn are_within(v: u8x16, high: u8x16, low: u8x16, by: &Bounds) -> bool
     are_zero(either(either(least, most), more))
 }
 
-/// Half bytes that were taken, and whether all are within their bounds.
-#[derive(Clone, Copy)]
-pub(crate) struct Taken {
-    pub(crate) is_within: bool,
-    pub(crate) digits: u8x16,
+/// Whether the half bytes of sixteen bytes are within their bounds.
+#[inline(always)]
+pub(crate) fn are_bounded(v: u8x16, by: &Bounds) -> bool
+    ensures { IsTrue result
+        ↔ AreBounded by.now.least_high by.now.most_high by.now.most_low v }
+{
+    are_within(v, highs(v), lows(v), by)
 }
 
 /// The half bytes of sixteen bytes at the lanes of these numbers.
 #[inline(always)]
-pub(crate) fn take_halves(v: u8x16, bounds: &Bounds, high: &Picks, low: &Picks) -> Taken
-    ensures long { length result.digits ≡ 16 }
-    ensures within { IsTrue result.is_within
-        ↔ AreBounded bounds.now.least_high bounds.now.most_high bounds.now.most_low v }
-    ensures lanes { (i : ℕ) → i < 16 → slice_index result.digits i
+pub(crate) fn take_halves(v: u8x16, high: &Picks, low: &Picks) -> u8x16
+    ensures long { length result ≡ 16 }
+    ensures lanes { (i : ℕ) → i < 16 → slice_index result i
         ≡ halves_at v (slice_index high.now.lanes i) (slice_index low.now.lanes i) }
 {
     let upper = highs(v);
     let lower = lows(v);
-    let is_within = are_within(v, upper, lower, bounds);
-    let digits = sums(picked(upper, high), picked(lower, low));
-    Taken { is_within, digits }
+    sums(picked(upper, high), picked(lower, low))
 }

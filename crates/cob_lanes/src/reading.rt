@@ -4,9 +4,10 @@ ghost use Rattle.std.specs.Prelude.{◌≡◌, ◌<◌, ◌≤◌, Bool, true, f
 ghost use Rattle.cob_lanes.specs.Readers.{AreTaken, IsLanesRead, LanesPass};
 ghost use Rattle.cob_lanes.specs.Windows.{last_bytes, padded_window};
 
-use crate::lanes::take_halves;
+use crate::lanes::{are_bounded, take_halves};
 use crate::reader::LaneReader;
-use crate::signs::byte_meaning;
+use crate::signs::{code_of, is_minus, is_sign};
+use crate::writer::put_front;
 use std::simd::prelude::*;
 
 /// What was read of an item.
@@ -21,12 +22,13 @@ pub struct LanesRead {
 }
 
 /// Fewer than sixteen bytes, behind zeros.
+#[inline(always)]
 fn padded_window(bytes: &[u8]) -> [u8; 16]
     requires { length bytes.now < 16 }
     ensures { result ≡ padded_window bytes.now }
 {
     let mut window = [0u8; 16];
-    window[16 - bytes.len()..].copy_from_slice(bytes);
+    put_front(bytes, &mut window[16 - bytes.len()..]);
     window
 }
 
@@ -60,21 +62,20 @@ impl LaneReader {
             → ¬ LanesPass self.now window minus }
         ensures digits { AreTaken self.now window result.digits }
     {
-        let taken = take_halves(window, &self.bounds, &self.high, &self.low);
-        let digits = taken.digits;
-        let is_within = taken.is_within;
+        let digits = take_halves(window, &self.high, &self.low);
         let byte = window.to_array()[usize::from(self.place)];
-        match byte_meaning(self.sign, self.signed, byte) {
-            Some(minus) => LanesRead {
-                is_number: is_within,
-                minus,
-                digits,
-            },
-            None => LanesRead {
+        let code = code_of(self.sign, byte);
+        if !is_sign(self.signed, code) {
+            return LanesRead {
                 is_number: false,
                 minus: false,
                 digits,
-            },
+            };
+        }
+        LanesRead {
+            is_number: are_bounded(window, &self.bounds),
+            minus: is_minus(code),
+            digits,
         }
     }
 }

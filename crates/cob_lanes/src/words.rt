@@ -104,23 +104,23 @@ pub(crate) fn lanes_of(number: u64) -> u8x16
     bytes_in_turn(first, ones(pairs, first))
 }
 
-/// The numbers of two digits each.
-#[inline(always)]
-fn pairs_in(v: u8x16) -> u16x8
-    ensures long { length result ≡ 8 }
-    ensures lanes { (i : ℕ) → i < 8 → slice_index result i
-        ≡ (slice_index v (2 * i) * 10 + slice_index v (2 * i + 1)) % 65536 }
-{
-    let both = u16x8::from_le_bytes(v);
-    (both & u16x8::splat(255)) * u16x8::splat(10) + (both >> u16x8::splat(8))
-}
+/// The weights of the first two of each four digits: a twentieth of what they stand for, since a weight is below 128.
+const FRONT: [u8; 16] = [50, 5, 0, 0, 50, 5, 0, 0, 50, 5, 0, 0, 50, 5, 0, 0];
 
-/// The number of four digits, as two pairs.
+/// The weights of the last two of each four digits.
+const BACK: [u8; 16] = [0, 0, 10, 1, 0, 0, 10, 1, 0, 0, 10, 1, 0, 0, 10, 1];
+
+/// The numbers of four digits each.
 #[inline(always)]
-fn four_in(first: u16, last: u16) -> u64
-    ensures { result ≡ first * 100 + last }
+fn fours_in(v: u8x16) -> u32x4
+    ensures long { length result ≡ 4 }
+    ensures lanes { (i : ℕ) → i < 4 → slice_index result i
+        ≡ slice_index v (4 * i) * 1000 + slice_index v (4 * i + 1) * 100
+        + slice_index v (4 * i + 2) * 10 + slice_index v (4 * i + 3) }
 {
-    u64::from(first) * 100 + u64::from(last)
+    let front = v.dot4(u8x16::from_array(FRONT));
+    let back = v.dot4(u8x16::from_array(BACK));
+    front * u32x4::splat(20) + back
 }
 
 /// The number of sixteen digits.
@@ -128,8 +128,8 @@ fn four_in(first: u16, last: u16) -> u64
 pub(crate) fn number_in(v: u8x16) -> u64
     ensures { AreTens v → result ≡ number_of v }
 {
-    let pairs = pairs_in(v).to_array();
-    let high = four_in(pairs[0], pairs[1]) * 10_000 + four_in(pairs[2], pairs[3]);
-    let low = four_in(pairs[4], pairs[5]) * 10_000 + four_in(pairs[6], pairs[7]);
+    let fours = fours_in(v).to_array();
+    let high = u64::from(fours[0]) * 10_000 + u64::from(fours[1]);
+    let low = u64::from(fours[2]) * 10_000 + u64::from(fours[3]);
     high * 100_000_000 + low
 }

@@ -33,10 +33,10 @@ pub(crate) fn chosen(is_first: bool, first: [u8; 16], second: [u8; 16]) -> u8x16
 
 /// Writes the first bytes that there is room for: so many, and the last so many again, since a copy of a known length costs no call.
 #[inline(always)]
-fn put_ends<const N: usize>(bytes: &[u8; 16], out: &mut [u8])
+fn put_ends<const N: usize>(bytes: &[u8], out: &mut [u8])
     requires least { N ≤ length out.old }
     requires most { length out.old ≤ 2 * N }
-    requires room { length out.old ≤ 16 }
+    requires enough { length out.old ≤ length bytes.now }
     ensures { out.new ≡ take (length out.old) bytes.now }
 {
     let count = out.len();
@@ -44,10 +44,23 @@ fn put_ends<const N: usize>(bytes: &[u8; 16], out: &mut [u8])
     out[count - N..].copy_from_slice(&bytes[count - N..count]);
 }
 
-/// Writes the first of sixteen bytes, as many as there are to be written.
+/// Writes the first byte, where there is room for one and no more.
 #[inline(always)]
-pub(crate) fn put_front(bytes: &[u8; 16], out: &mut [u8])
-    requires { length out.old ≤ 16 }
+fn put_one(bytes: &[u8], out: &mut [u8])
+    requires few { length out.old < 2 }
+    requires enough { length out.old ≤ length bytes.now }
+    ensures { out.new ≡ take (length out.old) bytes.now }
+{
+    if out.len() == 1 {
+        out[0] = bytes[0];
+    }
+}
+
+/// Writes the first bytes, as many as there are to be written, at most sixteen.
+#[inline(always)]
+pub(crate) fn put_front(bytes: &[u8], out: &mut [u8])
+    requires room { length out.old ≤ 16 }
+    requires enough { length out.old ≤ length bytes.now }
     ensures { out.new ≡ take (length out.old) bytes.now }
 {
     let count = out.len();
@@ -58,7 +71,7 @@ pub(crate) fn put_front(bytes: &[u8; 16], out: &mut [u8])
     } else if count >= 2 {
         put_ends::<2>(bytes, out);
     } else {
-        out.copy_from_slice(&bytes[..count]);
+        put_one(bytes, out);
     }
 }
 

@@ -70,12 +70,12 @@ record Begun (all : Forest Resolved) (n : ℕ) (f : Forest Resolved) : Type 0 wh
   shown : (k : ℕ) (kind : Kind) → n ≤ k → kind_in k f ≡ Some kind → kind_in k all ≡ Some kind
   counted : (x : Table) → IsIn x (tables_of f) → (i : Item) × (kind_in x.count all ≡ Some (ItemKind i)) × (x.count < x.number)
 
-in_front : (x : Table) (xs ys : List Table) → IsIn x xs → IsIn x (xs ++ ys)
+pub in_front : (x : Table) (xs ys : List Table) → IsIn x xs → IsIn x (xs ++ ys)
 in_front x [] ys i = absurd i
 in_front x (z ∷ zs) ys (inl e) = inl e
 in_front x (z ∷ zs) ys (inr i) = inr (in_front x zs ys i)
 
-in_back : (x : Table) (xs ys : List Table) → IsIn x ys → IsIn x (xs ++ ys)
+pub in_back : (x : Table) (xs ys : List Table) → IsIn x ys → IsIn x (xs ++ ys)
 in_back x [] ys i = i
 in_back x (z ∷ zs) ys i = inr (in_back x zs ys i)
 

@@ -98,9 +98,10 @@ slots (AnEntry e children more) n m h l =
 
 -- ---- under them each entry occurs as often as at most
 
-abbrev AreMost : (Resolved → ℕ) → Forest Resolved → Type 0
-AreMost c NoEntries = Unit {0}
-AreMost c (AnEntry e children more) = (c e ≡ greatest_number e) × AreMost c children × AreMost c more
+-- both numbers of times are the same for each entry
+abbrev pub AreSame : (Resolved → ℕ) → (Resolved → ℕ) → Forest Resolved → Type 0
+AreSame c d NoEntries = Unit {0}
+AreSame c d (AnEntry e children more) = (c e ≡ d e) × AreSame c d children × AreSame c d more
 
 most_times : (o : ResolvedOccurs) → times_by (varying o) o ≡ greatest_number_by o
 most_times Once = refl
@@ -113,7 +114,7 @@ most_one o front rest n e =
     ∙ ap (λ (v : ℕ). times_by v o) (get_or-append_seam front (varying o) rest 0)
     ∙ most_times o
 
-all_most : (f : Forest Resolved) (front back : List ℕ) (n : ℕ) → n ≡ length front → AreNumbered n f → AreMost (times (front ++ (in_order f ++ back))) f
+all_most : (f : Forest Resolved) (front back : List ℕ) (n : ℕ) → n ≡ length front → AreNumbered n f → AreSame (times (front ++ (in_order f ++ back))) greatest_number f
 all_most NoEntries front back n l h = tt
 all_most (AnEntry e children more) front back n l h =
     let v = varying e.occurs in
@@ -127,38 +128,39 @@ all_most (AnEntry e children more) front back n l h =
     let below_is : next ++ whole ≡ front ++ v ∷ whole = append_assoc front (v ∷ []) whole in
     let beside_is : far ++ (in_order more ++ back) ≡ next ++ whole = append_assoc next (in_order children) (in_order more ++ back) in
     let first = most_one e.occurs front ((in_order children ++ in_order more) ++ back) e.number (h.0 ∙ l) in
-    let below = subst (λ (c : List ℕ). AreMost (times c) children) (below_is ∙ back_is) (all_most children next (in_order more ++ back) (n + 1) m h.1) in
-    let beside = subst (λ (c : List ℕ). AreMost (times c) more) (beside_is ∙ below_is ∙ back_is) (all_most more far back (n + 1 + entries_in children) k h.2) in
+    let below = subst (λ (c : List ℕ). AreSame (times c) greatest_number children) (below_is ∙ back_is) (all_most children next (in_order more ++ back) (n + 1) m h.1) in
+    let beside = subst (λ (c : List ℕ). AreSame (times c) greatest_number more) (beside_is ∙ below_is ∙ back_is) (all_most more far back (n + 1 + entries_in children) k h.2) in
     (first, below, beside)
 
-sum_most : (c : Resolved → ℕ) (f : Forest Resolved) → AreMost c f → sum_of c f ≡ sum_of greatest_number f
-sum_most c NoEntries h = refl
-sum_most c (AnEntry e children more) h =
+sum_same : (c d : Resolved → ℕ) (f : Forest Resolved) → AreSame c d f → sum_of c f ≡ sum_of d f
+sum_same c d NoEntries h = refl
+sum_same c d (AnEntry e children more) h =
     let k = h.0 in
-    let b = sum_most c children h.1 in
-    let r = sum_most c more h.2 in
+    let b = sum_same c d children h.1 in
+    let r = sum_same c d more h.2 in
     λ j. own_length e.redefines (k j * length_by_kind e.kind (b j)) + r j
 
-find_most : (c : Resolved → ℕ) (number : ℕ) (f : Forest Resolved) (at area : ℕ) (subscripts : List ℕ) → AreMost c f
-    → place_of c number f at area subscripts ≡ place_of greatest_number number f at area subscripts
-find_most c number NoEntries at area subscripts h = refl
-find_most c number (AnEntry e children more) at area subscripts h =
+-- then each entry stands in one place
+pub find_same : (c d : Resolved → ℕ) (number : ℕ) (f : Forest Resolved) (at area : ℕ) (subscripts : List ℕ) → AreSame c d f
+    → place_of c number f at area subscripts ≡ place_of d number f at area subscripts
+find_same c d number NoEntries at area subscripts h = refl
+find_same c d number (AnEntry e children more) at area subscripts h =
     let k = h.0 in
-    let b = sum_most c children h.1 in
+    let b = sum_same c d children h.1 in
     let table = is_table e.occurs in
     let start = begins e.redefines at area in
     let skip = skipped table (greatest_number e) subscripts in
     λ j.
     or_else
     (choose (e.number == number) (record { offset = start + skip * length_by_kind e.kind (b j); length = length_by_kind e.kind (b j); within = is_there table (k j) subscripts })
-    (also (is_there table (k j) subscripts) (find_most c number children (start + skip * length_by_kind e.kind (b j)) (start + skip * length_by_kind e.kind (b j)) (later table subscripts) h.1 j)))
-    (find_most c number more (at + own_length e.redefines (k j * length_by_kind e.kind (b j))) start subscripts h.2 j)
+    (also (is_there table (k j) subscripts) (find_same c d number children (start + skip * length_by_kind e.kind (b j)) (start + skip * length_by_kind e.kind (b j)) (later table subscripts) h.1 j)))
+    (find_same c d number more (at + own_length e.redefines (k j * length_by_kind e.kind (b j))) start subscripts h.2 j)
 
 pub are_greatest : (t : Forest Resolved) (counts : List ℕ) → AreNumbered 0 t → counts ≡ greatest_counts t → AreGreatest t counts
 are_greatest t counts h e =
     let is : in_order t ++ [] ≡ counts = append-nil (in_order t) ∙ sym (greatest_is t h) ∙ sym e in
-    let all = subst (λ (c : List ℕ). AreMost (times c) t) is (all_most t [] [] 0 refl h) in
+    let all = subst (λ (c : List ℕ). AreSame (times c) greatest_number t) is (all_most t [] [] 0 refl h) in
     record {
-      length = sum_most (times counts) t all;
-      places = λ number subscripts. find_most (times counts) number t 0 0 subscripts all;
+      length = sum_same (times counts) greatest_number t all;
+      places = λ number subscripts. find_same (times counts) greatest_number number t 0 0 subscripts all;
     }

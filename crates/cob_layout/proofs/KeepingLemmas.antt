@@ -19,11 +19,11 @@ Onward t bytes read xs ks before i now m = (r : Result (List ℕ) CountFault) (n
 abbrev pub Counted : Forest Resolved → List ℕ → (Table → Bool) → List Table → List (Option ℕ) → List ℕ → ℕ → ℕ → List ℕ → ℕ → Type 0
 Counted t bytes read xs ks before reads i now so = (m : ℕ) × (so ≡ min (reads + m) 18446744073709551615) × Onward t bytes read xs ks before i now m
 
-yes_of : (b : Bool) (A B : Type 0) → b ≡ true → A → MatchBool b A B
+pub yes_of : (b : Bool) (A B : Type 0) → b ≡ true → A → MatchBool b A B
 yes_of true A B e a = a
 yes_of false A B e a = absurd (cc)
 
-no_of : (b : Bool) (A B : Type 0) → b ≡ false → B → MatchBool b A B
+pub no_of : (b : Bool) (A B : Type 0) → b ≡ false → B → MatchBool b A B
 no_of false A B e a = a
 no_of true A B e a = absurd (cc)
 

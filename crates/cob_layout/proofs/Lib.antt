@@ -21,6 +21,7 @@ pub mod KeepingLemmas
 pub mod WritingLemmas
 pub mod RefreshLemmas
 pub mod StandingLemmas
+pub mod FindLemmas
 pub mod TakingLemmas
 pub mod ShiftLaw
 pub mod ShiftLemmas

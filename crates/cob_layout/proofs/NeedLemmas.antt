@@ -82,7 +82,7 @@ greatest_other [] c k other = refl
 greatest_other (x ∷ xs) c k other = greatest_other xs (slice_set c x.number x.most) k (λ y i. other y (inr i)) ∙ other_index c x.number k x.most (λ e. other x (inl refl) (sym e))
 
 -- and stand by the tables
-greatest_own : (n m : ℕ) (xs : List Table) (c : List ℕ) (z : Table) → Rise n m xs → m ≤ length c → IsIn z xs → slice_index (greatest xs c) z.number ≡ z.most
+pub greatest_own : (n m : ℕ) (xs : List Table) (c : List ℕ) (z : Table) → Rise n m xs → m ≤ length c → IsIn z xs → slice_index (greatest xs c) z.number ≡ z.most
 greatest_own n m [] c z rise long i = absurd i
 greatest_own n m (x ∷ xs) c z rise long (inl e) =
     let same : z.number ≡ x.number = ap (λ (y : Table). y.number) e in
@@ -303,7 +303,7 @@ and_true false = refl
 not_receiving : false ≡ true → ⊥
 not_receiving e = cc
 
-needs_below : NeedsAreRead → (t : Forest Resolved) (r x : ℕ) → AreNumbered 0 t → Has r t → Has x t → Needs r x t → x < number_behind true r t
+pub needs_below : NeedsAreRead → (t : Forest Resolved) (r x : ℕ) → AreNumbered 0 t → Has r t → Has x t → Needs r x t → x < number_behind true r t
 needs_below read t r x numbered has there needs =
     let y : Table = record { number = x; least = 0; most = 0; count = x } in
     let is = (read t r false y numbered has there there).1 (needs, λ e spared. not_receiving e) in

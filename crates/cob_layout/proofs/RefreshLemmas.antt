@@ -109,11 +109,11 @@ came_from read d spots x k (y ∷ ys) (j ∷ js) (inr rest) = elim (came_from re
   | inr b ↦ inr (b.0, inr b.1)
 ]
 
-if_true : {A : Type 0} (b : Bool) (a c : A) → b ≡ true → (if b then a else c) ≡ a
+pub if_true : {A : Type 0} (b : Bool) (a c : A) → b ≡ true → (if b then a else c) ≡ a
 if_true true a c e = refl
 if_true false a c e = absurd (cc)
 
-if_false : {A : Type 0} (b : Bool) (a c : A) → b ≡ false → (if b then a else c) ≡ c
+pub if_false : {A : Type 0} (b : Bool) (a c : A) → b ≡ false → (if b then a else c) ≡ c
 if_false false a c e = refl
 if_false true a c e = absurd (cc)
 

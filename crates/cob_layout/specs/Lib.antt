@@ -8,4 +8,5 @@ pub mod Standing
 pub mod Fields
 pub mod Sound
 pub mod Kept
+pub mod Finding
 pub mod Shifts

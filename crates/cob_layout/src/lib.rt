@@ -38,6 +38,9 @@
 //!   says how many these were, the one that is refused among them (`reads`); then the counts that it read are kept (`kept`), and what is kept is so of
 //!   the bytes (`keeps`). [`Layout::wrote`] says that a place was written: none is kept any more where it meets the item of a count that is kept
 //!   (`drops`), and else what is kept is so of the new bytes too (`keeps`). [`Counts::forget`] forgets what is kept (`forgotten`).
+//! - [`Layout::find`] answers as [`Layout::refresh`] and then [`Layout::place_in`] do (`found`, `current`, `fits`), and reads, keeps and counts as
+//!   [`Layout::refresh`] does (`reads`, `kept`, `keeps`, `same`). But the record stands under all counts that are kept then, whichever of them a reference
+//!   needs, so that it stays as it is while no other is read.
 //! - [`Layout::kind`] is what the entry with a number describes.
 //! - The bytes of a storage say one thing of all counts and of those that are needed ([`one_outcome_of_counts`]). Where all are valid, those
 //!   that are needed are, and the place is that under all counts, but for the tables that the reference is spared, which have their greatest
@@ -50,7 +53,7 @@
 //!   stays (`writes`).
 //!
 //! The definitions: `CountsOf`, `NeededOf` and `AreGreatest` of specs/Counting.antt, `placed` of specs/Placed.antt, `ArePlaces`, `StandsIn`,
-//! `KeepsOf` and `written` of specs/Standing.antt, `TakenAnew` and `AreKeptOf` of specs/Kept.antt, those of the laws of specs/Laws.antt, and what they name of `cob_copybook`
+//! `KeepsOf` and `written` of specs/Standing.antt, `TakenAnew` and `AreKeptOf` of specs/Kept.antt, `IsFound` of specs/Finding.antt, those of the laws of specs/Laws.antt, and what they name of `cob_copybook`
 //! (`TakeBytes`) and of `cob_layout_places`, which has the arithmetic of lengths and places. What holds of every record description is the law
 //! [`records_are_sound`] (specs/Sound.antt). The bytes of a [`Place`] are read through [`field`] and written through [`field_mut`], which
 //! changes these bytes and no other (specs/Fields.antt).
@@ -60,6 +63,7 @@
 mod copy;
 mod counts;
 mod fields;
+mod finding;
 mod keeping;
 mod kinds;
 mod laws;
@@ -82,6 +86,7 @@ pub use cob_layout_places::{
 };
 pub use counts::{Counts, StoredCount};
 pub use fields::{Place, field, field_mut};
+pub use finding::FindFault;
 pub use laws::{
     all_give_needed, fits_ref, kept_give_needed, one_outcome_of_counts, one_place_by_needs,
     places_end_in_length, places_lie_in_storage, redefinitions_begin_with_area,

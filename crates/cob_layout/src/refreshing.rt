@@ -20,7 +20,7 @@ use cob_layout_places::{CountFault, Ref, needs_are_read, one_place};
 
 impl Layout {
     /// Which counts a reference to an entry needs, which receives or not.
-    fn needed_by(&self, number: usize, receiving: bool) -> Needed
+    pub(crate) fn needed_by(&self, number: usize, receiving: bool) -> Needed
         requires there { Has number self.now }
         ensures behind { result.behind ≡ number_behind true number self.now }
         ensures last { result.last

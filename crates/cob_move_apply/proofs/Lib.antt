@@ -21,6 +21,7 @@ pub mod StepLemmas
 pub mod LocatedLemmas
 pub mod MetLemmas
 pub mod SpentLemmas
+pub mod FindLemmas
 pub mod SpendingLemmas
 pub use Rattle.cob_layout.proofs.EntryNoRule
 pub use Rattle.cob_layout.proofs.EntryOneList

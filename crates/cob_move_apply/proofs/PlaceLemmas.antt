@@ -1,5 +1,5 @@
 -- Where operands stand.
-use Rattle.std.proofs.Common.{◌≡◌, ℕ, ◌+◌, ◌≤◌, [], ◌==◌, Bool, true, false, List, refl, ap, subst, ◌∙◌, Option, Some, None, Ok}
+use Rattle.std.proofs.Common.{◌≡◌, ℕ, ◌+◌, ◌≤◌, [], ◌==◌, Bool, true, false, List, refl, sym, ap, subst, ◌∙◌, inl, inr, Option, Some, None, Ok, Err, Result}
 use Rattle.std.specs.Prelude.{option_map}
 use Rattle.cob_copybook_tree.specs.declared.node.Item.{Item}
 use Rattle.cob_copybook_tree.specs.declared.node.Kind.{Kind}
@@ -12,6 +12,9 @@ use Rattle.cob_layout_places.specs.Lengths.{times}
 use Rattle.cob_layout_places.specs.Places.{place_of, or_else, choose}
 use Rattle.cob_layout_places.specs.Counts.{kind_in}
 use Rattle.cob_layout.proofs.CountLemmas.{found_size, pairs_in}
+use Rattle.cob_layout.specs.declared.finding.FindFault.{FindFault}
+use Rattle.cob_layout.specs.declared.finding.FindFault.TheVariants as finding
+use Rattle.cob_layout.specs.Finding.{IsFound}
 use Rattle.cob_layout.specs.Placed.{placed}
 use Rattle.cob_layout.proofs.StorageLemmas.{found_by}
 use Rattle.cob_layout.specs.Counting.{greatest_counts, ReadsNone}
@@ -21,7 +24,8 @@ use Rattle.cob_layout_places.specs.declared.operands.Operand.{Operand}
 use Rattle.cob_layout_places.specs.Moves.{IsOperand}
 use Rattle.cob_move_apply.specs.declared.basis.Basis.{Basis}
 use Rattle.cob_move_apply.specs.declared.basis.Basis.TheVariants as basis
-use Rattle.cob_move_apply.specs.Located.{Located, StandsUnder}
+use Rattle.cob_move_apply.specs.Located.{Located, StandsUnder, stop_of}
+use Rattle.cob_move_apply.specs.declared.stop.Stop.{Stop}
 use Rattle.cob_move_apply.specs.Placed.{IsFixed, IsPlaced, IsBasis}
 use Rattle.cob_layout.specs.Sound.{IsSound, IsStorableKind, AreStorable}
 use Rattle.cob_move_receive.specs.Sent.{Occupies}
@@ -61,6 +65,22 @@ pub filled_at : (side : Side) (t : Forest Resolved) (receiving : Bool) (o : Oper
     → Located side t receiving o bytes (Ok p) → Occupies o.kind p.length
 filled_at side t receiving o bytes p sound is (counts, needs, stands) =
     filled t o.entry.node counts o.entry.subscripts.items o.kind p sound is.is stands
+
+-- ---- what a layout finds
+
+pub found_at : (side : Side) (t : Forest Resolved) (receiving : Bool) (o : Operand) (bytes : List ℕ) (r : Result Place FindFault) (p : Place) → r ≡ Ok p
+    → IsFound t o.entry receiving bytes r → Located side t receiving o bytes (Ok p)
+found_at side t receiving o bytes r p is found = subst (IsFound t o.entry receiving bytes) is found
+
+no_place : (side : Side) (t : Forest Resolved) (receiving : Bool) (o : Operand) (bytes : List ℕ) (f : FindFault) → IsFound t o.entry receiving bytes (Err f)
+    → Located side t receiving o bytes (Err (stop_of side f))
+no_place side t receiving o bytes (finding.Count f) needs = inl (f, needs, refl)
+no_place side t receiving o bytes (finding.Subscript f) (counts, needs, stands) = inr (counts, f, needs, stands, refl)
+
+pub nowhere : (side : Side) (t : Forest Resolved) (receiving : Bool) (o : Operand) (bytes : List ℕ) (r : Result Place FindFault) (f : FindFault) (stop : Stop) → r ≡ Err f
+    → stop ≡ stop_of side f → IsFound t o.entry receiving bytes r → Located side t receiving o bytes (Err stop)
+nowhere side t receiving o bytes r f stop is same found =
+    subst (λ (s : Stop). Located side t receiving o bytes (Err s)) (sym same) (no_place side t receiving o bytes f (subst (IsFound t o.entry receiving bytes) is found))
 
 -- ---- what a place rests on
 

@@ -3,13 +3,11 @@ use Rattle.std.proofs.Common.{◌≡◌, ℕ, zero, suc, ◌+◌, ◌≤◌, Boo
 use Rattle.std.proofs.Math.Nat.{add-mul}
 use Rattle.cob_copybook_tree.specs.Forests.{Forest}
 use Rattle.cob_copybook_tree.specs.Nodes.{Resolved}
-use Rattle.cob_layout.proofs.RefreshLemmas.{numbers_read}
 use Rattle.cob_layout.specs.declared.counts.StoredCount.{StoredCount}
 use Rattle.cob_layout.specs.declared.fields.Place.{Place}
-use Rattle.cob_layout.specs.Kept.{IsIn, IsKeptAs, ReadOnce, TakenAnew, kept_after, kept_in, kept_read, most_reads, numbers_of, one_if, first_kept, others_kept}
+use Rattle.cob_layout.specs.Kept.{IsIn, IsKeptAs, ReadOnce, TakenAnew, kept_after, kept_in, most_reads, numbers_of, one_if, first_kept, others_kept}
 use Rattle.cob_layout.specs.Standing.{RoomForCounts, Standing, forgotten, meets, meets_kept, written}
 use Rattle.cob_layout_places.specs.declared.counts.CountFault.{CountFault}
-use Rattle.cob_layout_places.specs.declared.spots.Spot.{Spot}
 use Rattle.cob_layout_places.specs.declared.varying.Table.{Table}
 use Rattle.cob_layout_places.specs.Counts.{tables_of}
 use Rattle.cob_move_apply.specs.Spent.{IsSpent, IsSpentAtStop, PlaceSpends, allowed, kept_of}
@@ -78,15 +76,13 @@ as_many t s room = ap (λ (counts : RoomForCounts). counts.tables) room
 -- ---- a reading
 
 -- where none was refused
-pub read_spends : ReadOnce → (t : Forest Resolved) (bytes : List ℕ) (read : Table → Bool) (c d : List ℕ) (spots : List Spot) (n : ℕ) (old new : Survey) → HasRoom t old
+pub read_spends : ReadOnce → (t : Forest Resolved) (bytes : List ℕ) (read : Table → Bool) (c d : List ℕ) (n : ℕ) (old new : Survey)
     → TakenAnew t bytes read (tables_of t) (numbers_of old.counts.kept) c (Ok d) n → new.reads ≡ min (old.reads + n) most_reads
-    → new.counts.kept ≡ kept_read read d spots (tables_of t) old.counts.kept → IsSpent t 0 old new
-read_spends law t bytes read c d spots n old new room taken reads kept =
-    let long : length old.counts.kept ≡ length (tables_of t) = as_many t old room in
+    → numbers_of new.counts.kept ≡ kept_after read d (tables_of t) (numbers_of old.counts.kept) → IsSpent t 0 old new
+read_spends law t bytes read c d n old new taken reads kept =
     let xs : List Table = tables_of t in
     let once = (law t bytes read xs (numbers_of old.counts.kept) c d (record { offset = 0; short = false }) n).0 taken in
-    let same : kept_of t new ≡ kept_in xs (kept_after read d xs (numbers_of old.counts.kept)) =
-    ap (λ ks. kept_in xs (numbers_of ks)) kept ∙ ap (kept_in xs) (numbers_read read d spots xs old.counts.kept long) in
+    let same : kept_of t new ≡ kept_in xs (kept_after read d xs (numbers_of old.counts.kept)) = ap (kept_in xs) kept in
     record { most = omega (arith, once, same, reads, allowed_none t) }
 
 -- where one was refused

@@ -7,6 +7,8 @@ use Rattle.cob_layout_places.specs.declared.counts.CountFault.{CountFault}
 use Rattle.cob_layout_places.specs.Lengths.{times}
 use Rattle.cob_layout_places.specs.Places.{place_of}
 use Rattle.cob_layout.specs.declared.layout.PlaceFault.{PlaceFault}
+use Rattle.cob_layout.specs.declared.finding.FindFault.{FindFault}
+use Rattle.cob_layout.specs.declared.finding.FindFault.TheVariants as finding
 use Rattle.cob_layout.specs.Placed.{placed}
 use Rattle.cob_layout.specs.Counting.{NeededOf}
 use Rattle.cob_layout_places.specs.declared.operands.Side.{Side}
@@ -18,6 +20,11 @@ use Rattle.cob_move_apply.specs.declared.stop.StopCause.TheVariants.{Count, Subs
 -- a stop at these bytes of a record
 abbrev pub stop_at : Side → ℕ → StopCause → Stop
 stop_at side offset cause = record { side = side; offset = offset; cause = cause }
+
+-- the stop where an operand stands nowhere: at a count's item, or where its element would begin
+abbrev pub stop_of : Side → FindFault → Stop
+stop_of side (finding.Count f) = stop_at side f.offset Count
+stop_of side (finding.Subscript f) = stop_at side f.offset Subscript
 
 -- under these counts the operand stands there, or would begin there where its element is past its table's count
 abbrev pub StandsUnder : Forest Resolved → Operand → List ℕ → Result Place PlaceFault → Type 0

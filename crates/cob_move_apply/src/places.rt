@@ -5,18 +5,17 @@ ghost use Rattle.cob_layout.specs.Sound.{IsSound};
 ghost use Rattle.cob_layout.specs.Storage.{greatest_length};
 ghost use Rattle.cob_layout_places.specs.Moves.{IsOperand};
 ghost use Rattle.cob_move_receive.specs.Sent.{Occupies};
-ghost use Rattle.cob_move_apply.specs.Located.{Located, stop_at};
+ghost use Rattle.cob_move_apply.specs.Located.{Located, stop_of};
 ghost use Rattle.cob_move_apply.specs.Placed.{IsPlaced};
 ghost use Rattle.cob_move_apply.specs.Seen.{operand_of};
-ghost use Rattle.cob_move_apply.specs.declared.stop.StopCause.TheVariants.{Subscript};
 ghost use Rattle.cob_move_apply.specs.Spent.{Spends};
 ghost use Rattle.cob_move_apply.specs.Surveyed.{IsSurvey};
 
 use crate::basis::{Basis, PlacedOperand};
 use crate::stop::{Stop, StopCause};
 use crate::survey::Survey;
-use cob_layout::{Layout, Place, PlaceFault, kept_give_needed};
-use cob_layout_places::Side;
+use cob_layout::{FindFault, Layout, Place, kept_give_needed, one_outcome_of_counts};
+use cob_layout_places::{Side, needs_are_read};
 
 /// The storage of the record of one side.
 #[derive(Clone, Copy)]
@@ -26,14 +25,21 @@ pub(crate) struct Stored<'a> {
     pub(crate) bytes: &'a [u8],
 }
 
-/// The stop at an element past its table's count.
-fn past_count(side: Side, fault: PlaceFault) -> Stop
-    ensures { result ≡ stop_at side fault.offset Subscript }
+/// The stop where an operand stands nowhere: at the item of a count that isn't valid, or at an element past its table's count.
+fn stop_of(side: Side, fault: FindFault) -> Stop
+    ensures { result ≡ stop_of side fault }
 {
-    Stop {
-        side,
-        offset: fault.offset,
-        cause: StopCause::Subscript,
+    match fault {
+        FindFault::Count(count) => Stop {
+            side,
+            offset: count.offset,
+            cause: StopCause::Count,
+        },
+        FindFault::Subscript(element) => Stop {
+            side,
+            offset: element.offset,
+            cause: StopCause::Subscript,
+        },
     }
 }
 
@@ -60,21 +66,16 @@ fn place_by_counts(
     ensures survey { IsSurvey stored.now.layout.now stored.now.bytes.now survey.new }
     ensures spends { Spends stored.now.layout.now 0 result survey.old survey.new }
 {
-    // For `spends`: each count is read once at most while it is kept.
+    // For `spends`: each count is read once at most while it is kept, and those that are kept then are those that were needed.
     kept_give_needed();
+    needs_are_read();
+    one_outcome_of_counts();
     let layout = stored.layout;
     let counts = &mut survey.counts;
     let reads = &mut survey.reads;
-    if let Err(fault) = layout.refresh(operand.entry, receiving, stored.bytes, counts, reads) {
-        return Err(Stop {
-            side: stored.side,
-            offset: fault.offset,
-            cause: StopCause::Count,
-        });
-    }
-    match layout.place_in(operand.entry, &survey.counts) {
+    match layout.find(operand.entry, receiving, stored.bytes, counts, reads) {
         Ok(place) => Ok(place),
-        Err(fault) => Err(past_count(stored.side, fault)),
+        Err(fault) => Err(stop_of(stored.side, fault)),
     }
 }
 

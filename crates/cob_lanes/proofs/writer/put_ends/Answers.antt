@@ -1,4 +1,4 @@
-use Rattle.std.proofs.Common.{◌≡◌, ◌-◌, ◌≤◌, ℕ, List, length, take, drop, refl, rules, ap, ◌∙◌, arith}
+use Rattle.std.proofs.Common.{◌≡◌, ◌-◌, ◌≤◌, ℕ, List, length, take, drop, refl, ap, ◌∙◌, arith}
 use Rattle.cob_lanes.proofs.EndLemmas.{ends_written}
 use Rattle.cob_lanes.proofs.writer.put_ends.Goals as goal
 
@@ -12,7 +12,6 @@ returns g c =
     let front : List ℕ = c.copy_from_slice.new.self in
     let back : List ℕ = c.copy_from_slice-2.new.self in
     let first : front ≡ take N bytes = c.copy_from_slice.ensures.after in
-    let long : length bytes ≡ 16 = search rules in
     let width : n - (n - N) ≡ N = omega arith in
     let last : back ≡ take N (drop (n - N) bytes) = c.copy_from_slice-2.ensures.after ∙ ap (λ k. take k (drop (n - N) bytes)) width in
-    ends_written N n out bytes front back refl least c.requires.most c.requires.room long first last
+    ends_written N n out bytes front back refl least c.requires.most c.requires.enough first last

@@ -1,36 +1,32 @@
-use Rattle.std.proofs.Common.{◌∙◌, ap, Some}
-use Rattle.cob_move_apply.proofs.PlaceLemmas.{filled}
-use Rattle.cob_layout.specs.Counting.{greatest_counts}
-use Rattle.cob_layout_places.specs.Needs.{is_read}
+use Rattle.cob_move_apply.proofs.FindLemmas.{Laws, found_spends, nowhere_spends}
+use Rattle.cob_move_apply.proofs.PlaceLemmas.{filled_at, found_at, nowhere}
+use Rattle.cob_move_apply.specs.Seen.{operand_of}
 use Rattle.cob_move_apply.specs.declared.survey.Survey.{Survey}
-use Rattle.cob_move_apply.proofs.SpentLemmas.{at_stop, read_spends, refused_spends}
 use Rattle.cob_move_apply.proofs.places.place_by_counts.Goals as goal
+
+pub returns-in-Ok-clause-located : goal.returns-in-Ok-clause-located
+returns-in-Ok-clause-located c =
+    found_at c.args.stored.now.side c.args.stored.now.layout.now c.args.receiving (operand_of c.args.operand.now) c.args.stored.now.bytes.now c.find.result c.in-Ok.place c.in-Ok.is c.find.ensures.found
 
 pub returns-in-Ok-clause-filled : goal.returns-in-Ok-clause-filled
 returns-in-Ok-clause-filled c =
-    filled c.args.stored.now.layout.now c.args.operand.now.entry.now.node c.refresh.new.counts.counts c.args.operand.now.entry.now.subscripts.items c.args.operand.now.kind.now c.in-Ok.place c.requires.sound c.requires.operand.is
-    (c.place_in.ensures.value ∙ ap (λ r. Some r) c.in-Ok.is)
-
-pub returns-in-Err-clause-spends : goal.returns-in-Err-clause-spends
-returns-in-Err-clause-spends c =
-    let tree = c.args.stored.now.layout.now in
-    let new : Survey = record { counts = c.refresh.new.counts; reads = c.refresh.new.reads } in
-    let (n, taken, reads) = c.in-Err.ensures.reads in
-    refused_spends c.kept_give_needed.ensures.once tree c.args.stored.now.bytes.now (is_read tree c.args.operand.now.entry.now.node c.args.receiving) (greatest_counts tree) c.in-Err.fault n c.args.survey.now new taken reads
+    filled_at c.args.stored.now.side c.args.stored.now.layout.now c.args.receiving (operand_of c.args.operand.now) c.args.stored.now.bytes.now c.in-Ok.place c.requires.sound c.requires.operand
+    (found_at c.args.stored.now.side c.args.stored.now.layout.now c.args.receiving (operand_of c.args.operand.now) c.args.stored.now.bytes.now c.find.result c.in-Ok.place c.in-Ok.is c.find.ensures.found)
 
 pub returns-in-Ok-clause-spends : goal.returns-in-Ok-clause-spends
 returns-in-Ok-clause-spends c =
-    let tree = c.args.stored.now.layout.now in
-    let new : Survey = record { counts = c.refresh.new.counts; reads = c.refresh.new.reads } in
-    let (n, taken, reads) = c.in_default.ensures.reads in
-    read_spends c.kept_give_needed.ensures.once tree c.args.stored.now.bytes.now (is_read tree c.args.operand.now.entry.now.node c.args.receiving) (greatest_counts tree) c.refresh.new.counts.counts c.refresh.new.counts.spots n
-    c.args.survey.now new c.requires.survey.room taken reads c.in_default.ensures.kept
+    let laws : Laws = record { once = c.kept_give_needed.ensures.once; needed = c.kept_give_needed.ensures.needed; read = c.needs_are_read.ensures; one = c.one_outcome_of_counts.ensures.needed } in
+    let new : Survey = record { counts = c.find.new.counts; reads = c.find.new.reads } in
+    found_spends laws c.args.stored.now.layout.now c.args.stored.now.bytes.now (operand_of c.args.operand.now) c.args.receiving c.args.survey.now new c.find.result c.in-Ok.place c.in-Ok.is
+    c.requires.sound c.requires.operand c.requires.survey c.find.ensures.kept c.find.ensures.reads
 
-pub returns-in-Err-place_in-clause-spends : goal.returns-in-Err-place_in-clause-spends
-returns-in-Err-place_in-clause-spends c =
-    let tree = c.args.stored.now.layout.now in
-    let new : Survey = record { counts = c.refresh.new.counts; reads = c.refresh.new.reads } in
-    let (n, taken, reads) = c.in_default.ensures.reads in
-    at_stop tree 0 c.args.survey.now new
-    (read_spends c.kept_give_needed.ensures.once tree c.args.stored.now.bytes.now (is_read tree c.args.operand.now.entry.now.node c.args.receiving) (greatest_counts tree) c.refresh.new.counts.counts c.refresh.new.counts.spots n
-    c.args.survey.now new c.requires.survey.room taken reads c.in_default.ensures.kept)
+pub returns-in-Err-clause-located : goal.returns-in-Err-clause-located
+returns-in-Err-clause-located c =
+    nowhere c.args.stored.now.side c.args.stored.now.layout.now c.args.receiving (operand_of c.args.operand.now) c.args.stored.now.bytes.now c.find.result c.in-Err.fault c.stop_of.result c.in-Err.is c.stop_of.ensures c.find.ensures.found
+
+pub returns-in-Err-clause-spends : goal.returns-in-Err-clause-spends
+returns-in-Err-clause-spends c =
+    let laws : Laws = record { once = c.kept_give_needed.ensures.once; needed = c.kept_give_needed.ensures.needed; read = c.needs_are_read.ensures; one = c.one_outcome_of_counts.ensures.needed } in
+    let new : Survey = record { counts = c.find.new.counts; reads = c.find.new.reads } in
+    nowhere_spends laws c.args.stored.now.layout.now c.args.stored.now.bytes.now (operand_of c.args.operand.now) c.args.receiving c.args.survey.now new c.find.result c.in-Err.fault c.in-Err.is
+    c.requires.sound c.requires.operand c.requires.survey c.find.ensures.found c.find.ensures.kept c.find.ensures.reads

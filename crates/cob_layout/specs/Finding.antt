@@ -1,0 +1,68 @@
+-- Where references stand in a storage, by those of its counts that they need.
+use Rattle.std.specs.Prelude.{◌≡◌, ℕ, Bool, true, false, ◌==◌, ◌&&◌, not, nat_le, List, [], ◌∷◌, Option, Some, None, Ok, Err, Result, if◌then◌else◌, slice_index}
+use Rattle.cob_copybook_tree.specs.Forests.{Forest, entries_in}
+use Rattle.cob_copybook_tree.specs.Nodes.{Resolved}
+use Rattle.cob_layout_places.specs.declared.reference.Ref.{Ref}
+use Rattle.cob_layout_places.specs.declared.varying.Table.{Table}
+use Rattle.cob_layout_places.specs.Counts.{tables_of}
+use Rattle.cob_layout_places.specs.Lengths.{times}
+use Rattle.cob_layout_places.specs.Needs.{is_needed, number_behind}
+use Rattle.cob_layout_places.specs.Places.{place_of}
+use Rattle.cob_layout.specs.declared.counts.StoredCount.{StoredCount}
+use Rattle.cob_layout.specs.declared.fields.Place.{Place}
+use Rattle.cob_layout.specs.declared.finding.FindFault.{FindFault}
+use Rattle.cob_layout.specs.declared.finding.FindFault.TheVariants.{Count, Subscript}
+use Rattle.cob_layout.specs.Counting.{NeededOf}
+use Rattle.cob_layout.specs.Placed.{placed_under}
+use Rattle.cob_layout.specs.Standing.{Standing, are_unkept}
+
+-- A reference stands there in a storage, receiving or not: where its element stands under the counts that it needs there, or would begin where it isn't
+-- one of those that there are; and nowhere where the first of these counts that isn't valid has this fault.
+abbrev pub IsFound : Forest Resolved → Ref → Bool → List ℕ → Result Place FindFault → Type 0
+IsFound tree r receiving bytes (Ok p) =
+    (counts : List ℕ) × NeededOf tree r.node receiving bytes (Ok counts) × (placed_under counts tree r ≡ Some (Ok p))
+IsFound tree r receiving bytes (Err (Subscript f)) =
+    (counts : List ℕ) × NeededOf tree r.node receiving bytes (Ok counts) × (placed_under counts tree r ≡ Some (Err f))
+IsFound tree r receiving bytes (Err (Count f)) = NeededOf tree r.node receiving bytes (Err f)
+
+-- this is so where the counts that a reference needs are valid
+abbrev pub OnCounts : Result Place FindFault → Type 0 → Type 0
+OnCounts (Ok p) A = A
+OnCounts (Err (Subscript f)) A = A
+OnCounts (Err (Count f)) A = Unit {0}
+
+-- and this where one of them isn't
+abbrev pub OnCountFault : Result Place FindFault → Type 0 → Type 0
+OnCountFault (Ok p) A = Unit {0}
+OnCountFault (Err (Subscript f)) A = Unit {0}
+OnCountFault (Err (Count f)) A = A
+
+-- these counts put each element of an entry where those do
+abbrev pub StandsFor : Forest Resolved → ℕ → List ℕ → List ℕ → Type 0
+StandsFor tree r counts those =
+    (subscripts : List ℕ) → place_of (times counts) r tree 0 0 subscripts ≡ place_of (times those) r tree 0 0 subscripts
+
+-- the count that is kept is this one
+abbrev pub is_kept_as : Option StoredCount → ℕ → Bool
+is_kept_as None n = false
+is_kept_as (Some k) n = k.number == n
+
+-- A count is what a reference asks of a table, where so much is kept of it: the kept count, where it reads the table's count; the greatest one, where it
+-- is spared it; and any for a table from its reach on.
+abbrev pub is_met : (behind : ℕ) → (last : Bool) → (r : ℕ) → Table → Option StoredCount → ℕ → Bool
+is_met behind last r x kept count =
+    if nat_le behind x.number then true else
+    if is_needed behind last r x then is_kept_as kept count else count == x.most
+
+-- so it is of all these tables
+abbrev pub are_met : (behind : ℕ) → (last : Bool) → (r : ℕ) → List ℕ → List Table → List (Option StoredCount) → Bool
+are_met behind last r counts [] ks = true
+are_met behind last r counts (x ∷ xs) [] = false
+are_met behind last r counts (x ∷ xs) (k ∷ ks) =
+    is_met behind last r x k (slice_index counts x.number) && are_met behind last r counts xs ks
+
+-- a count is kept, and the counts of a record are what a reference asks of its tables
+abbrev pub stands_for : Forest Resolved → ℕ → Bool → Standing → Bool
+stands_for tree r receiving s =
+    not (are_unkept s.kept)
+    && are_met (number_behind true r tree) (receiving && (number_behind false r tree == entries_in tree)) r s.counts (tables_of tree) s.kept
