@@ -31,7 +31,7 @@ use Rattle.cob_move_apply.specs.Applied.{Applied, Content, Ending, Gets, Gives, 
 use Rattle.cob_move_apply.specs.Located.{Located}
 use Rattle.cob_move_apply.specs.Made.{IsMadeConstant, IsMadePictured, IsMadeReady, StandAt}
 use Rattle.cob_move_apply.specs.Met.{HaveMet, ReceiverMet, ReceiversMet}
-use Rattle.cob_move_apply.specs.Spent.{IsSpent, IsSpentAtStop, MovesSpend, PlaceMet, PlaceSpends, ReceiversSpend, WriteSpends, allowed, kept_of}
+use Rattle.cob_move_apply.specs.Spent.{HaveSpent, IsSpent, IsSpentAtStop, MovesSpend, PlaceMet, PlaceSpends, ReceiversSpend, WriteSpends, allowed, kept_of}
 use Rattle.cob_move_apply.specs.Steps.{AreSteps, CarriesAnywhere, CarriesPictured, HasPart, IsLocatedMove, IsMoveOfPart, IsPicturedPart, IsPreparedMove, IsStep, StandFor, Support, copied_move, pair_at}
 use Rattle.cob_move_apply.specs.Written.{received_at}
 use Rattle.cob_move_apply.specs.declared.basis.Basis.{Basis}
@@ -217,6 +217,11 @@ pub constant_spends : (x : Reading) (r : Records) (given : List StatementMoves) 
 constant_spends x r given on c own input before after old new made (met, meets, spent) (constant, to, at, fixed) =
     let (written, received, same) = made constant to at in
     (met, λ ms rest h. fixed.meets input before written met rest ms received meets (subst (λ (b : List ℕ). HaveMet r ms input b rest) same h), spent)
+
+pub pictured_step_has_spent : (x : Reading) (r : Records) (given : List StatementMoves) (on : Support) (q : PicturedMove) (p : Part) (own : List Move) (input before after : List ℕ) (old new : Survey)
+    → ((m : Move) → IsPicturedPart x r given on.bases on.pictured q p m → HaveSpent r (m ∷ []) input before after old new) → IsStep x r given on (step.Pictured q p) own → HaveSpent r own input before after old new
+pictured_step_has_spent x r given on q p own input before after old new so (m, same, part) =
+    subst (λ (ms : List Move). HaveSpent r ms input before after old new) (sym same) (so m part)
 
 -- moves that write over the item of no count
 pub copy_spends : (r : Records) (own : List Move) (input before after : List ℕ) (s : Survey) → Applied r own input before (done after)

@@ -73,3 +73,8 @@ MetBehind r own input before met (Err stop) after = (ms : List Move) → HaveMet
 abbrev pub MovesSpend : {A : Type 0} → Records → List Move → List ℕ → List ℕ → Result A Stop → List ℕ → Survey → Survey → Type 0
 MovesSpend r own input before result after old new =
     (met : ℕ) × MetBehind r own input before met result after × Spends r.output met result old new
+
+-- the same of moves that all went well
+abbrev pub HaveSpent : Records → List Move → (input before after : List ℕ) → Survey → Survey → Type 0
+HaveSpent r own input before after old new =
+    (met : ℕ) × ((ms : List Move) (rest : ℕ) → HaveMet r ms input after rest → HaveMet r (own ++ ms) input before (met + rest)) × IsSpent r.output met old new

@@ -1,6 +1,6 @@
 //! Steps, one after another.
 
-ghost use Rattle.std.specs.Prelude.{◌≡◌, ◌+◌, ◌*◌, ◌≤◌, [], ◌∷◌, ℕ, List, length};
+ghost use Rattle.std.specs.Prelude.{◌≡◌, ◌+◌, ◌*◌, ◌≤◌, [], ◌∷◌, ℕ, List, length, OnErr};
 ghost use Rattle.cob_layout.specs.Sound.{IsSound};
 ghost use Rattle.cob_layout.specs.Storage.{greatest_length, IsStorage};
 ghost use Rattle.cob_layout_places.specs.Counts.{tables_of};
@@ -17,6 +17,7 @@ use crate::located::make_located;
 use crate::pairs::make_pair_move;
 use crate::pictured::run_pictured;
 use crate::prepared::make_prepared;
+use crate::running::run_step;
 use crate::senders::make_move;
 use crate::step::{MovePlaces, Part, PicturedMove, Plan, PreparedMove, Step, copy_across};
 use crate::stop::Stop;
@@ -129,7 +130,7 @@ fn make_pictured(
 ///
 /// A value of the sender is missing. The storage is as it was then.
 #[inline(always)]
-fn make_single(
+pub(crate) fn make_single(
     plan: &Plan,
     places: MovePlaces,
     step: MoveStep,
@@ -152,17 +153,19 @@ fn make_single(
         plan.now.prepared (record { places = places; step = step }) own
         → MovesSpend (records layouts.now) own input.now output.old result output.new
         space.old.output space.new.output }
+    ensures same { OnErr result ((output.new ≡ output.old) × (space.new ≡ space.old)) }
 {
     let one = PreparedMove { places, step };
     make_prepared(&plan.prepared, one, layouts, input, output, space)
 }
 
-/// Carries out a step of the plan of moves.
+/// Carries out a step of the plan of moves, whatever it is. It isn't inlined, so that the loop over steps stays short: it carries out those whose places
+/// are found as they are carried out, and those that stop.
 ///
 /// # Errors
 ///
 /// The first thing missing. The storage is as the receivers before left it then.
-#[inline(always)]
+#[inline(never)]
 fn make_step(
     given: &[StatementMoves],
     plan: &Plan,
@@ -228,6 +231,43 @@ fn make_step(
     }
 }
 
+/// Carries out a step of the plan of moves: at once where it was made ready for places that are the same in every storage, and nothing is missing.
+///
+/// # Errors
+///
+/// The first thing missing. The storage is as the receivers before left it then.
+#[inline(always)]
+fn carry_out(
+    given: &[StatementMoves],
+    plan: &Plan,
+    step: &Step,
+    layouts: &Layouts<'_>,
+    input: &[u8],
+    output: &mut [u8],
+    space: &mut Workspace,
+) -> Result<(), Stop>
+    requires in_sound { IsSound layouts.now.input.now }
+    requires out_sound { IsSound layouts.now.output.now }
+    requires step { (own : List Meant) × IsStep layouts.now.reading (records layouts.now)
+        given.now (support_of plan.now) step.now own }
+    requires input { IsStorage layouts.now.input.now input.now }
+    requires output { length output.old ≡ greatest_length layouts.now.output.now }
+    requires space { IsWorkspace (records layouts.now) input.now output.old space.old }
+    ensures applied { (own : List Meant) → IsStep layouts.now.reading (records layouts.now)
+        given.now (support_of plan.now) step.now own
+        → Applied (records layouts.now) own input.now output.old (ending result output.new) }
+    ensures space { IsWorkspace (records layouts.now) input.now output.new space.new }
+    ensures spends { (own : List Meant) → IsStep layouts.now.reading (records layouts.now)
+        given.now (support_of plan.now) step.now own
+        → MovesSpend (records layouts.now) own input.now output.old result output.new
+        space.old.output space.new.output }
+{
+    if run_step(plan, step, layouts, input, output, space) {
+        return Ok(());
+    }
+    make_step(given, plan, step, layouts, input, output, space)
+}
+
 /// Carries out the steps of the plan of moves, in order.
 ///
 /// # Errors
@@ -261,7 +301,7 @@ pub(crate) fn apply_in(
     space.forget();
     let steps = plan.steps.as_slice();
     for step in steps {
-        make_step(given, plan, step, layouts, input, output, space)?;
+        carry_out(given, plan, step, layouts, input, output, space)?;
     }
     Ok(())
 }

@@ -44,6 +44,7 @@ mod preparation;
 mod prepared;
 mod ready;
 mod receivers;
+mod running;
 mod scratch;
 mod senders;
 mod step;

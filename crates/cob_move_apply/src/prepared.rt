@@ -1,6 +1,6 @@
 //! Single moves that were made ready, carried out.
 
-ghost use Rattle.std.specs.Prelude.{◌≡◌, ◌+◌, ◌≤◌, length};
+ghost use Rattle.std.specs.Prelude.{◌≡◌, ◌+◌, ◌≤◌, length, OnErr};
 ghost use Rattle.cob_layout.specs.Storage.{greatest_length};
 ghost use Rattle.cob_move_apply.specs.Applied.{ending};
 ghost use Rattle.cob_move_apply.specs.Spent.{WriteSpends};
@@ -39,6 +39,7 @@ pub(crate) fn make_prepared(
     ensures space { IsWorkspace (records layouts.now) input.now output.new space.new }
     ensures spends { WriteSpends layouts.now.output.now output.old one.places.to result
         space.old.output space.new.output }
+    ensures same { OnErr result ((output.new ≡ output.old) × (space.new ≡ space.old)) }
 {
     let from = one.places.from;
     let to = one.places.to;

@@ -22,20 +22,20 @@ loop-step-init c =
           (subst (λ (ss : List Step). StandFor x r c.args.given.now ss on (moves_by x r c.args.given.now)) (sym c.as_slice-steps.ensures.value) c.requires.steps) c.forget.ensures.none;
     }
 
-pub make_step-requires-clause-step : goal.make_step-requires-clause-step
-make_step-requires-clause-step c =
+pub carry_out-requires-clause-step : goal.carry_out-requires-clause-step
+carry_out-requires-clause-step c =
     let x = c.args.layouts.now.reading in
     let r : Records = records c.args.layouts.now in
     let next = next_step x r c.args.given.now c.as_slice-steps.result.now (support_of c.args.plan.now) c.loop-step.step-index _ _ c.args.input.now c.args.output.now c.loop-step.output c.loop-step-test.true refl c.loop-step.invariant.left in
     (next.own, next.is)
 
-pub returns-in_err-make_step-clause-applied : goal.returns-in_err-make_step-clause-applied
-returns-in_err-make_step-clause-applied c =
+pub returns-in_err-carry_out-clause-applied : goal.returns-in_err-carry_out-clause-applied
+returns-in_err-carry_out-clause-applied c =
     let x = c.args.layouts.now.reading in
     let r : Records = records c.args.layouts.now in
     let p = err_from_is_err_and c.from_residual.result c.from_residual.ensures.1 in
     let next = next_step x r c.args.given.now c.as_slice-steps.result.now (support_of c.args.plan.now) c.loop-step.step-index _ _ c.args.input.now c.args.output.now c.loop-step.output c.loop-step-test.true refl c.loop-step.invariant.left in
-    rw (p.1, p.2) (stopped_made x r c.args.given.now c.as_slice-steps.result.now (support_of c.args.plan.now) c.loop-step.step-index _ c.args.input.now c.args.output.now c.loop-step.output c.make_step.new.output c.in_err-make_step.field-0.0 next c.in_err-make_step.ensures.applied)
+    rw (p.1, p.2) (stopped_made x r c.args.given.now c.as_slice-steps.result.now (support_of c.args.plan.now) c.loop-step.step-index _ c.args.input.now c.args.output.now c.loop-step.output c.carry_out.new.output c.in_err-carry_out.field-0.0 next c.in_err-carry_out.ensures.applied)
 
 pub loop-step-preserved : goal.loop-step-preserved
 loop-step-preserved c =
@@ -43,23 +43,23 @@ loop-step-preserved c =
     let r : Records = records c.args.layouts.now in
     let next = next_step x r c.args.given.now c.as_slice-steps.result.now (support_of c.args.plan.now) c.loop-step.step-index _ _ c.args.input.now c.args.output.now c.loop-step.output c.loop-step-test.true refl c.loop-step.invariant.left in
     record {
-      left = left_made x r c.args.given.now c.as_slice-steps.result.now (support_of c.args.plan.now) c.loop-step.step-index _ c.args.input.now c.args.output.now c.loop-step.output c.make_step.new.output next c.in_ok-make_step.ensures.applied;
-      output = c.make_step.auto.output ∙ c.loop-step.invariant.output;
-      space = c.in_ok-make_step.ensures.space;
-      spends = spent_steps_next x r c.args.given.now c.as_slice-steps.result.now (support_of c.args.plan.now) c.loop-step.step-index _ _ c.args.input.now c.args.output.now c.loop-step.output c.make_step.new.output
-          c.loop-step.space.output c.make_step.new.space.output c.loop-step-test.true refl c.loop-step.invariant.spends c.in_ok-make_step.ensures.spends;
+      left = left_made x r c.args.given.now c.as_slice-steps.result.now (support_of c.args.plan.now) c.loop-step.step-index _ c.args.input.now c.args.output.now c.loop-step.output c.carry_out.new.output next c.in_ok-carry_out.ensures.applied;
+      output = c.carry_out.auto.output ∙ c.loop-step.invariant.output;
+      space = c.in_ok-carry_out.ensures.space;
+      spends = spent_steps_next x r c.args.given.now c.as_slice-steps.result.now (support_of c.args.plan.now) c.loop-step.step-index _ _ c.args.input.now c.args.output.now c.loop-step.output c.carry_out.new.output
+          c.loop-step.space.output c.carry_out.new.space.output c.loop-step-test.true refl c.loop-step.invariant.spends c.in_ok-carry_out.ensures.spends;
     }
 
 pub returns-clause-applied : goal.returns-clause-applied
 returns-clause-applied c =
     left_none c.args.layouts.now.reading (records c.args.layouts.now) c.args.given.now c.as_slice-steps.result.now (support_of c.args.plan.now) c.loop-step.step-index c.args.input.now c.args.output.now c.loop-step.output c.loop-step-test.false c.loop-step.invariant.left
 
-pub returns-in_err-make_step-clause-reads : goal.returns-in_err-make_step-clause-reads
-returns-in_err-make_step-clause-reads c =
+pub returns-in_err-carry_out-clause-reads : goal.returns-in_err-carry_out-clause-reads
+returns-in_err-carry_out-clause-reads c =
     let x = c.args.layouts.now.reading in
     let r : Records = records c.args.layouts.now in
     spent_steps_stop x r c.args.given.now c.as_slice-steps.result.now (support_of c.args.plan.now) c.loop-step.step-index _ _ c.args.input.now c.args.output.now c.loop-step.output
-    c.loop-step.space.output c.make_step.new.space.output c.loop-step-test.true refl c.loop-step.invariant.spends c.in_err-make_step.ensures.spends
+    c.loop-step.space.output c.carry_out.new.space.output c.loop-step-test.true refl c.loop-step.invariant.spends c.in_err-carry_out.ensures.spends
 
 pub returns-clause-reads : goal.returns-clause-reads
 returns-clause-reads c =

@@ -1,7 +1,7 @@
-use Rattle.std.proofs.Common.{◌≡◌, ◌+◌, ◌-◌, ◌∙◌, ℕ, List, arith, length, sym, subst}
+use Rattle.std.proofs.Common.{◌≡◌, ◌+◌, ◌-◌, ◌∙◌, ℕ, List, arith, length, refl, sym, subst}
 use borrow.Rule.Slice.PartMut.{mid_len}
 use Rattle.cob_move_apply.specs.Surveyed.{IsSurvey}
-use Rattle.cob_move_apply.proofs.PreparedLemmas.{made, not_made}
+use Rattle.cob_move_apply.proofs.PreparedLemmas.{made, not_made, put_back}
 use Rattle.cob_move_apply.proofs.ReceiverLemmas.{put_is}
 use Rattle.cob_move_apply.proofs.SpentLemmas.{spent_none}
 use Rattle.cob_move_apply.proofs.prepared.make_prepared.Goals as goal
@@ -40,3 +40,6 @@ returns-then-run-clause-spends c = c.change.ensures.spends c.args.output.now c.r
 
 pub returns-else-run-clause-spends : goal.returns-else-run-clause-spends
 returns-else-run-clause-spends c = spent_none c.args.layouts.now.output.now c.args.space.now.output
+
+pub returns-else-run-clause-same : goal.returns-else-run-clause-same
+returns-else-run-clause-same c = (put_back c.args.one.places.to c.args.output.now c.run.new.to (c.run.ensures.same c.if-run.false), refl)

@@ -1,0 +1,228 @@
+use Rattle.std.proofs.Common.{subst}
+use Rattle.cob_move_apply.specs.Applied.{done}
+use Rattle.cob_move_apply.specs.Steps.{IsStep, Support, support_of}
+use Rattle.cob_move_apply.specs.Surveyed.{records}
+use Rattle.cob_move_apply.specs.declared.step.Step.{Step}
+use Rattle.cob_move_apply.proofs.StepLemmas.{constant_within, copy_reads, made_constant, made_copy, made_pictured, space_copy, the_constant, the_pictured}
+use Rattle.cob_move_apply.proofs.SpendingLemmas.{constant_spends, copy_spends, pictured_step_has_spent}
+use Rattle.cob_move_apply.proofs.running.run_step.Goals as goal
+
+pub run_single-requires-clause-step : goal.run_single-requires-clause-step
+run_single-requires-clause-step c =
+    let x = c.args.layouts.now.reading in
+    let r = records c.args.layouts.now in
+    let on : Support = support_of c.args.plan.now in
+    let (given, own, at) = c.requires.step in
+    let is = subst (λ (s : Step). IsStep x r given on s own) c.in-Number.is at in
+    (own, is)
+
+pub returns-in-Number-clause-applied : goal.returns-in-Number-clause-applied
+returns-in-Number-clause-applied c = λ yes given own is.
+    let x = c.args.layouts.now.reading in
+    let r = records c.args.layouts.now in
+    let on : Support = support_of c.args.plan.now in
+    let this = subst (λ (s : Step). IsStep x r given on s own) c.in-Number.is is in
+    c.run_single.ensures.applied yes own this
+
+pub returns-in-Number-clause-spends : goal.returns-in-Number-clause-spends
+returns-in-Number-clause-spends c = λ yes given own is.
+    let x = c.args.layouts.now.reading in
+    let r = records c.args.layouts.now in
+    let on : Support = support_of c.args.plan.now in
+    let this = subst (λ (s : Step). IsStep x r given on s own) c.in-Number.is is in
+    c.run_single.ensures.spends yes own this
+
+pub run_single-requires-in-Wide-clause-step : goal.run_single-requires-in-Wide-clause-step
+run_single-requires-in-Wide-clause-step c =
+    let x = c.args.layouts.now.reading in
+    let r = records c.args.layouts.now in
+    let on : Support = support_of c.args.plan.now in
+    let (given, own, at) = c.requires.step in
+    let is = subst (λ (s : Step). IsStep x r given on s own) c.in-Wide.is at in
+    (own, is)
+
+pub returns-in-Wide-clause-applied : goal.returns-in-Wide-clause-applied
+returns-in-Wide-clause-applied c = λ yes given own is.
+    let x = c.args.layouts.now.reading in
+    let r = records c.args.layouts.now in
+    let on : Support = support_of c.args.plan.now in
+    let this = subst (λ (s : Step). IsStep x r given on s own) c.in-Wide.is is in
+    c.run_single-in-Wide.ensures.applied yes own this
+
+pub returns-in-Wide-clause-spends : goal.returns-in-Wide-clause-spends
+returns-in-Wide-clause-spends c = λ yes given own is.
+    let x = c.args.layouts.now.reading in
+    let r = records c.args.layouts.now in
+    let on : Support = support_of c.args.plan.now in
+    let this = subst (λ (s : Step). IsStep x r given on s own) c.in-Wide.is is in
+    c.run_single-in-Wide.ensures.spends yes own this
+
+pub run_single-requires-in-Binary-clause-step : goal.run_single-requires-in-Binary-clause-step
+run_single-requires-in-Binary-clause-step c =
+    let x = c.args.layouts.now.reading in
+    let r = records c.args.layouts.now in
+    let on : Support = support_of c.args.plan.now in
+    let (given, own, at) = c.requires.step in
+    let is = subst (λ (s : Step). IsStep x r given on s own) c.in-Binary.is at in
+    (own, is)
+
+pub returns-in-Binary-clause-applied : goal.returns-in-Binary-clause-applied
+returns-in-Binary-clause-applied c = λ yes given own is.
+    let x = c.args.layouts.now.reading in
+    let r = records c.args.layouts.now in
+    let on : Support = support_of c.args.plan.now in
+    let this = subst (λ (s : Step). IsStep x r given on s own) c.in-Binary.is is in
+    c.run_single-in-Binary.ensures.applied yes own this
+
+pub returns-in-Binary-clause-spends : goal.returns-in-Binary-clause-spends
+returns-in-Binary-clause-spends c = λ yes given own is.
+    let x = c.args.layouts.now.reading in
+    let r = records c.args.layouts.now in
+    let on : Support = support_of c.args.plan.now in
+    let this = subst (λ (s : Step). IsStep x r given on s own) c.in-Binary.is is in
+    c.run_single-in-Binary.ensures.spends yes own this
+
+pub run_single-requires-in-Edited-clause-step : goal.run_single-requires-in-Edited-clause-step
+run_single-requires-in-Edited-clause-step c =
+    let x = c.args.layouts.now.reading in
+    let r = records c.args.layouts.now in
+    let on : Support = support_of c.args.plan.now in
+    let (given, own, at) = c.requires.step in
+    let is = subst (λ (s : Step). IsStep x r given on s own) c.in-Edited.is at in
+    (own, is)
+
+pub returns-in-Edited-clause-applied : goal.returns-in-Edited-clause-applied
+returns-in-Edited-clause-applied c = λ yes given own is.
+    let x = c.args.layouts.now.reading in
+    let r = records c.args.layouts.now in
+    let on : Support = support_of c.args.plan.now in
+    let this = subst (λ (s : Step). IsStep x r given on s own) c.in-Edited.is is in
+    c.run_single-in-Edited.ensures.applied yes own this
+
+pub returns-in-Edited-clause-spends : goal.returns-in-Edited-clause-spends
+returns-in-Edited-clause-spends c = λ yes given own is.
+    let x = c.args.layouts.now.reading in
+    let r = records c.args.layouts.now in
+    let on : Support = support_of c.args.plan.now in
+    let this = subst (λ (s : Step). IsStep x r given on s own) c.in-Edited.is is in
+    c.run_single-in-Edited.ensures.spends yes own this
+
+pub run_single-requires-in-Characters-clause-step : goal.run_single-requires-in-Characters-clause-step
+run_single-requires-in-Characters-clause-step c =
+    let x = c.args.layouts.now.reading in
+    let r = records c.args.layouts.now in
+    let on : Support = support_of c.args.plan.now in
+    let (given, own, at) = c.requires.step in
+    let is = subst (λ (s : Step). IsStep x r given on s own) c.in-Characters.is at in
+    (own, is)
+
+pub returns-in-Characters-clause-applied : goal.returns-in-Characters-clause-applied
+returns-in-Characters-clause-applied c = λ yes given own is.
+    let x = c.args.layouts.now.reading in
+    let r = records c.args.layouts.now in
+    let on : Support = support_of c.args.plan.now in
+    let this = subst (λ (s : Step). IsStep x r given on s own) c.in-Characters.is is in
+    c.run_single-in-Characters.ensures.applied yes own this
+
+pub returns-in-Characters-clause-spends : goal.returns-in-Characters-clause-spends
+returns-in-Characters-clause-spends c = λ yes given own is.
+    let x = c.args.layouts.now.reading in
+    let r = records c.args.layouts.now in
+    let on : Support = support_of c.args.plan.now in
+    let this = subst (λ (s : Step). IsStep x r given on s own) c.in-Characters.is is in
+    c.run_single-in-Characters.ensures.spends yes own this
+
+pub run_part-requires-clause-part : goal.run_part-requires-clause-part
+run_part-requires-clause-part c =
+    let x = c.args.layouts.now.reading in
+    let r = records c.args.layouts.now in
+    let on : Support = support_of c.args.plan.now in
+    let (given, own, at) = c.requires.step in
+    let is = subst (λ (s : Step). IsStep x r given on s own) c.in-Pictured.is at in
+    let (m, part) = the_pictured x r given on c.in-Pictured.one c.in-Pictured.field-1 own is in
+    (given, c.in-Pictured.field-1, m, part)
+
+pub returns-in-Pictured-clause-applied : goal.returns-in-Pictured-clause-applied
+returns-in-Pictured-clause-applied c = λ yes given own is.
+    let x = c.args.layouts.now.reading in
+    let r = records c.args.layouts.now in
+    let on : Support = support_of c.args.plan.now in
+    let this = subst (λ (s : Step). IsStep x r given on s own) c.in-Pictured.is is in
+    made_pictured x r given on c.in-Pictured.one c.in-Pictured.field-1 own c.args.input.now c.args.output.now (done c.run_part.new.output) (c.run_part.ensures.moved yes given c.in-Pictured.field-1) this
+
+pub returns-in-Pictured-clause-spends : goal.returns-in-Pictured-clause-spends
+returns-in-Pictured-clause-spends c = λ yes given own is.
+    let x = c.args.layouts.now.reading in
+    let r = records c.args.layouts.now in
+    let on : Support = support_of c.args.plan.now in
+    let this = subst (λ (s : Step). IsStep x r given on s own) c.in-Pictured.is is in
+    pictured_step_has_spent x r given on c.in-Pictured.one c.in-Pictured.field-1 own c.args.input.now c.args.output.now c.run_part.new.output _ _ (c.run_part.ensures.spends yes given c.in-Pictured.field-1) this
+
+pub make_constant-requires-clause-step : goal.make_constant-requires-clause-step
+make_constant-requires-clause-step c =
+    let x = c.args.layouts.now.reading in
+    let r = records c.args.layouts.now in
+    let on : Support = support_of c.args.plan.now in
+    let (given, own, at) = c.requires.step in
+    let is = subst (λ (s : Step). IsStep x r given on s own) c.in-Constant.is at in
+    the_constant x r given on c.in-Constant.one own is
+
+pub make_constant-requires-clause-writes : goal.make_constant-requires-clause-writes
+make_constant-requires-clause-writes c =
+    let x = c.args.layouts.now.reading in
+    let r = records c.args.layouts.now in
+    let on : Support = support_of c.args.plan.now in
+    let (given, own, at) = c.requires.step in
+    let is = subst (λ (s : Step). IsStep x r given on s own) c.in-Constant.is at in
+    constant_within x r given on c.in-Constant.one own is
+
+pub returns-in-Constant-clause-applied : goal.returns-in-Constant-clause-applied
+returns-in-Constant-clause-applied c = λ yes given own is.
+    let x = c.args.layouts.now.reading in
+    let r = records c.args.layouts.now in
+    let on : Support = support_of c.args.plan.now in
+    let this = subst (λ (s : Step). IsStep x r given on s own) c.in-Constant.is is in
+    made_constant x r given on c.in-Constant.one own c.args.input.now c.args.output.now c.make_constant.new.output c.make_constant.ensures.made this
+
+pub returns-in-Constant-clause-spends : goal.returns-in-Constant-clause-spends
+returns-in-Constant-clause-spends c = λ yes given own is.
+    let x = c.args.layouts.now.reading in
+    let r = records c.args.layouts.now in
+    let on : Support = support_of c.args.plan.now in
+    let this = subst (λ (s : Step). IsStep x r given on s own) c.in-Constant.is is in
+    constant_spends x r given on c.in-Constant.one own c.args.input.now c.args.output.now c.make_constant.new.output _ _ c.make_constant.ensures.made c.make_constant.ensures.spends this
+
+pub copy_across-requires-clause-reads : goal.copy_across-requires-clause-reads
+copy_across-requires-clause-reads c =
+    let x = c.args.layouts.now.reading in
+    let r = records c.args.layouts.now in
+    let on : Support = support_of c.args.plan.now in
+    let (given, own, at) = c.requires.step in
+    let is = subst (λ (s : Step). IsStep x r given on s own) c.in-Copy.is at in
+    copy_reads x r given on c.in-Copy.places own c.args.input.now is c.requires.input
+
+pub returns-in-Copy-clause-applied : goal.returns-in-Copy-clause-applied
+returns-in-Copy-clause-applied c = λ yes given own is.
+    let x = c.args.layouts.now.reading in
+    let r = records c.args.layouts.now in
+    let on : Support = support_of c.args.plan.now in
+    let this = subst (λ (s : Step). IsStep x r given on s own) c.in-Copy.is is in
+    made_copy x r given on c.in-Copy.places own c.args.input.now c.args.output.now c.copy_across.new.output c.requires.input c.requires.output c.copy_across.ensures this
+
+pub returns-in-Copy-clause-space : goal.returns-in-Copy-clause-space
+returns-in-Copy-clause-space c =
+    let x = c.args.layouts.now.reading in
+    let r = records c.args.layouts.now in
+    let on : Support = support_of c.args.plan.now in
+    let (given, own, at) = c.requires.step in
+    let is = subst (λ (s : Step). IsStep x r given on s own) c.in-Copy.is at in
+    space_copy x r given on c.in-Copy.places own c.args.input.now c.args.output.now c.copy_across.new.output c.args.space.now c.requires.input c.requires.output c.copy_across.ensures is c.requires.space
+
+pub returns-in-Copy-clause-spends : goal.returns-in-Copy-clause-spends
+returns-in-Copy-clause-spends c = λ yes given own is.
+    let x = c.args.layouts.now.reading in
+    let r = records c.args.layouts.now in
+    let on : Support = support_of c.args.plan.now in
+    let this = subst (λ (s : Step). IsStep x r given on s own) c.in-Copy.is is in
+    copy_spends r own c.args.input.now c.args.output.now c.copy_across.new.output c.args.space.now.output
+    (made_copy x r given on c.in-Copy.places own c.args.input.now c.args.output.now c.copy_across.new.output c.requires.input c.requires.output c.copy_across.ensures this)

@@ -1,0 +1,157 @@
+//! Steps that were made ready, carried out at once: an answer of yes or no is all that goes from one to the next, so that many of them go fast.
+//!
+//! A step that stops is carried out once more, as all others are (`application`), to say why.
+
+ghost use Rattle.std.specs.Prelude.{◌≡◌, ◌∷◌, [], List, false, length, IsTrue};
+ghost use Rattle.cob_layout.specs.Storage.{greatest_length, IsStorage};
+ghost use Rattle.cob_layout_places.specs.declared.operands.StatementMoves.{StatementMoves as Said};
+ghost use Rattle.cob_layout_places.specs.Moves.{Move as Meant};
+ghost use Rattle.cob_move_apply.specs.Applied.{Applied, IsMoved, done};
+ghost use Rattle.cob_move_apply.specs.Spent.{HaveSpent};
+ghost use Rattle.cob_move_apply.specs.Steps.{IsPicturedPart, IsPreparedMove, IsStep, support_of};
+ghost use Rattle.cob_move_apply.specs.Surveyed.{IsWorkspace, records};
+ghost use Rattle.cob_move_apply.specs.declared.step.Part.{Part as PartOf};
+
+use crate::application::make_single;
+use crate::constant::make_constant;
+use crate::pictured::run_pictured;
+use crate::step::{MovePlaces, PicturedMove, Plan, Step, copy_across};
+use crate::workspace::{Layouts, Workspace};
+use cob_codec::Reading;
+use cob_move_prepared::MoveStep;
+
+/// Carries out a single move that was made ready. False where a value of the sender is missing: all is as it was then.
+#[inline(always)]
+fn run_single(
+    plan: &Plan,
+    places: MovePlaces,
+    step: MoveStep,
+    layouts: &Layouts<'_>,
+    input: &[u8],
+    output: &mut [u8],
+    space: &mut Workspace,
+) -> bool
+    requires step { (own : List Meant) × IsPreparedMove layouts.now.reading (records layouts.now)
+        plan.now.prepared (record { places = places; step = step }) own }
+    requires input { IsStorage layouts.now.input.now input.now }
+    requires output { length output.old ≡ greatest_length layouts.now.output.now }
+    requires space { IsWorkspace (records layouts.now) input.now output.old space.old }
+    ensures applied { IsTrue result → (own : List Meant)
+        → IsPreparedMove layouts.now.reading (records layouts.now)
+        plan.now.prepared (record { places = places; step = step }) own
+        → Applied (records layouts.now) own input.now output.old (done output.new) }
+    ensures space { IsWorkspace (records layouts.now) input.now output.new space.new }
+    ensures spends { IsTrue result → (own : List Meant)
+        → IsPreparedMove layouts.now.reading (records layouts.now)
+        plan.now.prepared (record { places = places; step = step }) own
+        → HaveSpent (records layouts.now) own input.now output.old output.new
+        space.old.output space.new.output }
+    ensures same { result ≡ false → (output.new ≡ output.old) × (space.new ≡ space.old) }
+{
+    match make_single(plan, places, step, layouts, input, output, space) {
+        Ok(()) => true,
+        Err(_) => false,
+    }
+}
+
+/// Carries out a single move that was made ready where senders are read as their pictures say. False where they are read otherwise, or a value of the
+/// sender is missing: all is as it was then.
+#[inline(always)]
+fn run_part(
+    plan: &Plan,
+    one: PicturedMove,
+    layouts: &Layouts<'_>,
+    input: &[u8],
+    output: &mut [u8],
+    space: &mut Workspace,
+) -> bool
+    requires part { (given : List Said) × (part : PartOf) × (m : Meant)
+        × IsPicturedPart layouts.now.reading (records layouts.now)
+        given plan.now.bases.items plan.now.pictured one part m }
+    requires input { IsStorage layouts.now.input.now input.now }
+    requires output { length output.old ≡ greatest_length layouts.now.output.now }
+    requires space { IsWorkspace (records layouts.now) input.now output.old space.old }
+    ensures moved { IsTrue result → (given : List Said) (part : PartOf) (m : Meant)
+        → IsPicturedPart layouts.now.reading (records layouts.now)
+        given plan.now.bases.items plan.now.pictured one part m
+        → IsMoved (records layouts.now) m input.now output.old (done output.new) }
+    ensures space { IsWorkspace (records layouts.now) input.now output.new space.new }
+    ensures spends { IsTrue result → (given : List Said) (part : PartOf) (m : Meant)
+        → IsPicturedPart layouts.now.reading (records layouts.now)
+        given plan.now.bases.items plan.now.pictured one part m
+        → HaveSpent (records layouts.now) (m ∷ []) input.now output.old output.new
+        space.old.output space.new.output }
+    ensures same { result ≡ false → (output.new ≡ output.old) × (space.new ≡ space.old) }
+{
+    match layouts.reading {
+        Reading::Pictured => {
+            match run_pictured(&plan.pictured, one, layouts, input, output, space) {
+                Ok(()) => true,
+                Err(_) => false,
+            }
+        }
+        Reading::Whole => false,
+    }
+}
+
+/// Carries out a step that was made ready for places that are the same in every storage. False where it is another one, or a value of a sender is
+/// missing: all is as it was then.
+#[inline(always)]
+pub(crate) fn run_step(
+    plan: &Plan,
+    step: &Step,
+    layouts: &Layouts<'_>,
+    input: &[u8],
+    output: &mut [u8],
+    space: &mut Workspace,
+) -> bool
+    requires step { (given : List Said) × (own : List Meant)
+        × IsStep layouts.now.reading (records layouts.now)
+        given (support_of plan.now) step.now own }
+    requires input { IsStorage layouts.now.input.now input.now }
+    requires output { length output.old ≡ greatest_length layouts.now.output.now }
+    requires space { IsWorkspace (records layouts.now) input.now output.old space.old }
+    ensures applied { IsTrue result → (given : List Said) (own : List Meant)
+        → IsStep layouts.now.reading (records layouts.now) given (support_of plan.now) step.now own
+        → Applied (records layouts.now) own input.now output.old (done output.new) }
+    ensures space { IsWorkspace (records layouts.now) input.now output.new space.new }
+    ensures spends { IsTrue result → (given : List Said) (own : List Meant)
+        → IsStep layouts.now.reading (records layouts.now) given (support_of plan.now) step.now own
+        → HaveSpent (records layouts.now) own input.now output.old output.new
+        space.old.output space.new.output }
+    ensures same { result ≡ false → (output.new ≡ output.old) × (space.new ≡ space.old) }
+{
+    match step {
+        Step::Number(one) => {
+            let step = MoveStep::Number(one.number);
+            run_single(plan, one.places, step, layouts, input, output, space)
+        }
+        Step::Wide(one) => {
+            let step = MoveStep::Wide(one.number);
+            run_single(plan, one.places, step, layouts, input, output, space)
+        }
+        Step::Binary(one) => {
+            let step = MoveStep::Binary(one.number);
+            run_single(plan, one.places, step, layouts, input, output, space)
+        }
+        Step::Edited(one) => {
+            let step = MoveStep::Edited(one.number);
+            run_single(plan, one.places, step, layouts, input, output, space)
+        }
+        Step::Characters(one) => {
+            let step = MoveStep::Characters(one.step);
+            run_single(plan, one.places, step, layouts, input, output, space)
+        }
+        Step::Pictured(one, _) => run_part(plan, *one, layouts, input, output, space),
+        Step::Constant(one) => {
+            make_constant(plan, *one, layouts, input, output, space);
+            true
+        }
+        Step::Copy(places) => {
+            copy_across(*places, input, output);
+            true
+        }
+        Step::Part(_) => false,
+        Step::Located(_) => false,
+    }
+}
