@@ -45,6 +45,7 @@ use Rattle.cob_move_apply.specs.declared.step.Step.{Step}
 use Rattle.cob_move_apply.specs.declared.step.Step.TheVariants as step
 use Rattle.cob_move_apply.specs.declared.stop.Stop.{Stop}
 use Rattle.cob_move_apply.specs.declared.survey.Survey.{Survey}
+use Rattle.cob_move_apply.specs.declared.workspace.Workspace.{Workspace}
 use Rattle.cob_move_apply.proofs.LocatedLemmas.{the_located}
 use Rattle.cob_move_apply.proofs.MetLemmas.{MetFrom, cut_met, met_all, met_more, met_one, met_stops, met_there, none_met, past_moves}
 use Rattle.cob_move_apply.proofs.OneLemmas.{stop_of}
@@ -278,6 +279,11 @@ record NextSpent (x : Reading) (r : Records) (given : List StatementMoves) (step
   others : AreSteps x r given on (drop (i + 1) steps) more
   so : (n : ℕ) → HaveMet r (own ++ more) input now n → HaveMet r (moves_by x r given) input before (met + n)
   most : s.reads ≤ kept_of r.output s + allowed r.output met
+
+pub spent_same : (x : Reading) (r : Records) (given : List StatementMoves) (steps : List Step) (on : Support) (i : ℕ) (input before now same : List ℕ) (old new : Workspace) → same ≡ now → new ≡ old
+    → SpentSteps x r given steps on i input before now old.output → SpentSteps x r given steps on i input before same new.output
+spent_same x r given steps on i input before now same old new is kept so =
+    subst (λ (w : Workspace). SpentSteps x r given steps on i input before same w.output) (sym kept) (subst (λ (bytes : List ℕ). SpentSteps x r given steps on i input before bytes old.output) (sym is) so)
 
 next_spent : (x : Reading) (r : Records) (given : List StatementMoves) (steps : List Step) (on : Support) (i : ℕ) (t d : Step) (input before now : List ℕ) (s : Survey) → i < length steps → get_or steps i d ≡ t
     → SpentSteps x r given steps on i input before now s → NextSpent x r given steps on i t input before now s
