@@ -25,6 +25,7 @@ pub mod FindLemmas
 pub mod TakingLemmas
 pub mod ShiftLaw
 pub mod ShiftLemmas
+pub mod MeasuringLemmas
 pub mod Loans
 pub mod Lists
 pub mod Numbers

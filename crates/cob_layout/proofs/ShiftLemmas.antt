@@ -7,7 +7,7 @@ use Rattle.std.proofs.lemmas.Bool.{cases_lt}
 use Rattle.std.proofs.lemmas.List.{length-append, drop_more, drop_all, take_more_set, take_all, get_or_past, length-set, length-take-le}
 use Rattle.cob_copybook_tree.specs.Forests.{Forest, NoEntries, AnEntry, entries_in}
 use Rattle.cob_copybook_tree.specs.Nodes.{Resolved}
-use Rattle.cob_copybook_tree.specs.Lengths.{greatest_number, element_length, whole_length, own_length}
+use Rattle.cob_copybook_tree.specs.Lengths.{greatest_number, element_length, whole_length, own_length, sum_of}
 use Rattle.cob_layout_places.specs.declared.spots.Spot.{Spot}
 use Rattle.cob_layout_places.specs.declared.varying.Table.{Table}
 use Rattle.cob_layout_places.specs.Counts.{table_of, tables_of}
@@ -80,7 +80,7 @@ unnested_in t u tables least shifts same sound tables_are least_are shifts_are i
     subst (λ (v : Forest Resolved). Unnested v tables least shifts) same
     (record { sound = sound; tables_are = tables_are; least_are = least_are; shifts_are = shifts_are; unnested = is })
 
-grown : (t : Forest Resolved) (tables : List Table) (least : List Spot) (shifts : List Shift) (counts : List ℕ) → Unnested t tables least shifts
+pub grown : (t : Forest Resolved) (tables : List Table) (least : List Spot) (shifts : List Shift) (counts : List ℕ) → Unnested t tables least shifts
     → (AreSums (sums_from least counts tables 0) least counts 0 (tables_of t))
 grown t tables least shifts counts u =
     subst (λ (xs : List Table). AreSums (sums_from least counts tables 0) least counts 0 xs) u.tables_are
@@ -99,22 +99,34 @@ spots_shifted t tables least shifts counts u =
     ∙ sym (stand_shifted sums counts t [] 0 0 0 0 0 false s.numbered s.fit.leaves s.areas tt u.unnested g)
     ∙ ap (λ (k : ℕ). spots_of (times counts) t k k) start
 
--- no sum is longer than the longest record
-pub sums_small : (t : Forest Resolved) (tables : List Table) (least : List Spot) (shifts : List Shift) (counts : List ℕ) → Unnested t tables least shifts
-    → (k : ℕ) → slice_index (sums_from least counts tables 0) k ≤ 32752
-sums_small t tables least shifts counts u k =
+-- what the first sum and the last one say of a record
+pub record Grows (t : Forest Resolved) (tables : List Table) (least : List Spot) (counts : List ℕ) : Type 0 where
+  pub first : slice_index (sums_from least counts tables 0) 0 ≡ 0
+  pub all : sum_of (times counts) t ≡ sum_of (times []) t + slice_index (sums_from least counts tables 0) (length tables)
+
+-- it is as much longer than without elements of its tables as the last of the sums
+pub grows_by_last : (t : Forest Resolved) (tables : List Table) (least : List Spot) (shifts : List Shift) (counts : List ℕ) → Unnested t tables least shifts → Grows t tables least counts
+grows_by_last t tables least shifts counts u =
     let sums = sums_from least counts tables 0 in
     let s = u.sound in
     let none : slice_index sums 0 ≡ 0 = first_sum least counts tables 0 0 [] sums refl refl in
     let g = grow sums least counts t 0 0 0 false (are_spots (times []) t 0 0 0 [] [] least refl s.numbered (u.least_are ∙ sym (append-nil (spots_of (times []) t 0 0)))) u.unnested (grown t tables least shifts counts u) in
     let all = sum_grows sums counts t [] 0 false s.fit.leaves s.areas u.unnested g in
+    let last : 0 + length (tables_of t) ≡ length tables = omega (arith, ap length u.tables_are) in
+    record { first = none; all = omega (arith, none, all, ap (λ (i : ℕ). slice_index sums i) last) }
+
+-- no sum is longer than the longest record
+pub sums_small : (t : Forest Resolved) (tables : List Table) (least : List Spot) (shifts : List Shift) (counts : List ℕ) → Unnested t tables least shifts
+    → (k : ℕ) → slice_index (sums_from least counts tables 0) k ≤ 32752
+sums_small t tables least shifts counts u k =
+    let sums = sums_from least counts tables 0 in
+    let last = grows_by_last t tables least shifts counts u in
     let most = sum_le (times counts) t (within_always counts t) in
-    let long : length sums ≡ length (tables_of t) + 1 = omega (arith, length_sums least counts tables 0, ap length u.tables_are) in
-    let last : 0 + length (tables_of t) ≡ length (tables_of t) = omega arith in
-    let top : slice_index sums (length (tables_of t)) ≤ 32752 = omega (arith, none, all, most, s.fit.small, ap (λ (i : ℕ). slice_index sums i) last) in
+    let long : length sums ≡ length tables + 1 = length_sums least counts tables 0 in
+    let top : slice_index sums (length tables) ≤ 32752 = omega (arith, last.all, most, u.sound.fit.small) in
     elim (cases_lt k (length sums)) [
-      | inl lt ↦ (let le : k ≤ length (tables_of t) = omega (arith, lt, long) in
-          omega (arith, top, rising least counts tables 0 k (length (tables_of t)) le (omega (arith, long))))
+      | inl lt ↦ (let le : k ≤ length tables = omega (arith, lt, long) in
+          omega (arith, top, rising least counts tables 0 k (length tables) le (omega (arith, long))))
       | inr past ↦ omega (arith, get_or_past sums k 0 past)
     ]
 

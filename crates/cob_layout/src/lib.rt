@@ -34,6 +34,8 @@
 //!   (`value`, `current`, `fits`), and [`Layout::length_in`] is that of [`Layout::length`]; [`Counts::spots`] are where the first elements of all entries
 //!   stand, and [`Layout::greatest_spots`] those under the greatest counts. [`Layout::fixed_place`] does so for a reference that reads no count
 //!   (`fixed`, `value`, `none`).
+//! - [`Layout::current_length`] is [`Layout::length_in`] after [`Layout::counts_of`] (`ok`, `least`, `most`, `err`), but places no entry and leaves the
+//!   counts as they were (`same`).
 //! - [`Layout::refresh`] answers and sets as [`Layout::needed`] does (`ok`, `err`, `same`, `stands`), but reads only those counts that are not kept, and
 //!   says how many these were, the one that is refused among them (`reads`); then the counts that it read are kept (`kept`), and what is kept is so of
 //!   the bytes (`keeps`). [`Layout::wrote`] says that a place was written: none is kept any more where it meets the item of a count that is kept
@@ -68,6 +70,7 @@ mod keeping;
 mod kinds;
 mod laws;
 mod layout;
+mod measuring;
 mod places;
 mod reads;
 mod refreshing;

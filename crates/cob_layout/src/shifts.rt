@@ -122,7 +122,7 @@ pub(crate) fn shifts(alloc: Global, root: &Node, entries: usize) -> Result<Vec<S
 }
 
 /// The bytes of all elements of a table, where one stands at its least spot.
-fn bytes_of(table: Table, least: &[Spot], counts: &[u32]) -> u32
+pub(crate) fn bytes_of(table: Table, least: &[Spot], counts: &[u32]) -> u32
     requires small { bytes_of least.now counts.now table ≤ longest_record }
     ensures { result ≡ bytes_of least.now counts.now table }
 {

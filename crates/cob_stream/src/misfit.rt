@@ -44,10 +44,11 @@ fn measure_current(layout: &Layout, input: &[u8], counts: &mut Counts) -> Result
     ensures misfit { IfErr result (λ why. IsMeasureFault Variable layout.now input.now why) }
     ensures room { IsRoomFor layout.now counts.new }
 {
-    if let Err(fault) = layout.counts_of(input, counts) {
-        return Err(measure_fault_of(fault));
-    }
-    if input.len() == usize::from(layout.length_in(counts)) {
+    let current = match layout.current_length(input, counts) {
+        Ok(current) => current,
+        Err(fault) => return Err(measure_fault_of(fault)),
+    };
+    if input.len() == usize::from(current) {
         Ok(())
     } else {
         Err(MeasureFault::Length)
@@ -65,8 +66,7 @@ pub fn is_fitting(form: Form, current: u16, count: usize) -> bool
     }
 }
 
-/// Whether a record that came in a frame is one of its layout. In form f no count is looked at. The counts are those of the record
-/// where they were taken.
+/// Whether a record that came in a frame is one of its layout. In form f no count is looked at. The counts are room that it needs.
 ///
 /// # Errors
 ///

@@ -25,7 +25,7 @@ fn is_always_whole(layout: &Layout, form: Form) -> bool
     matches!(form, Form::Fixed)
 }
 
-/// How many bytes of an output storage are written: all in form f, and in forms v and b its current part.
+/// How many bytes of an output storage are written: all in form f, and in forms v and b its current part. The counts are room that it needs.
 ///
 /// # Errors
 ///
@@ -50,11 +50,11 @@ pub fn written_length(
     if is_always_whole(layout, form) {
         return Ok(usize::from(greatest));
     }
-    layout.counts_of(storage, counts)?;
+    let current = layout.current_length(storage, counts)?;
     let made = match form {
         Form::Fixed => greatest,
-        Form::Variable => layout.length_in(counts),
-        Form::Blocked(_) => layout.length_in(counts),
+        Form::Variable => current,
+        Form::Blocked(_) => current,
     };
     Ok(usize::from(made))
 }
