@@ -1,5 +1,5 @@
 -- Numbers of items that are not below zero, as a few steps tell them.
-use Rattle.std.proofs.Common.{◌≡◌, ◌≢◌, ℕ, ◌+◌, ◌-◌, ◌*◌, ◌/◌, ◌%◌, ◌^◌, ◌<◌, ◌≤◌, List, [], ◌∷◌, ◌++◌, length, map, get_or, take, refl, sym, subst, ap, ◌∙◌, arith, zero, suc, Bool, true, false, Option, Some, None}
+use Rattle.std.proofs.Common.{◌≡◌, ℕ, ◌+◌, ◌*◌, ◌/◌, ◌%◌, ◌^◌, ◌<◌, ◌≤◌, List, [], ◌∷◌, ◌++◌, length, map, get_or, take, refl, sym, subst, ap, ◌∙◌, arith, zero, suc, Bool, true, false, Option, Some, None}
 use Rattle.std.specs.Prelude.{pos, IfSome}
 use Rattle.std.proofs.Math.Nat.{pow-le-pow_right}
 use Rattle.std.proofs.lemmas.List.{take_more, length_push, map-append, length-map, get_or-map, length-take-le}
@@ -16,7 +16,7 @@ use Rattle.cob_picture.specs.Counts.{digits, signed, size}
 use Rattle.cob_copybook_tree.specs.declared.node.Item.{Item}
 use Rattle.cob_copybook_tree.specs.declared.form.Form.{Form}
 use Rattle.cob_copybook_tree.specs.declared.form.Form.TheVariants.{Zoned, Binary}
-use Rattle.cob_copybook_tree.specs.Items.{form_of, is_leading, size_as, Represents, RepresentsAs}
+use Rattle.cob_copybook_tree.specs.Items.{form_of, is_leading, size_as, RepresentsAs}
 use Rattle.cob_copybook_tree.specs.Lengths.{item_size}
 use Rattle.cob_copybook_tree.proofs.ItemLemmas.{sizes}
 use Rattle.cob_layout_places.specs.Counts.{IsNatural}

@@ -1,4 +1,4 @@
-use Rattle.std.proofs.Common.{◌≡◌, ◌∙◌, ◌<◌, ◌≤◌, ◌^◌, sym, ap, length, rules, arith}
+use Rattle.std.proofs.Common.{◌≡◌, ◌∙◌, ◌^◌, ap, length, rules, arith}
 use Rattle.cob_picture.specs.Counts.{digits}
 use Rattle.cob_codec.specs.Binary.{binary_length}
 use Rattle.cob_layout_places.proofs.NaturalLemmas.{unsigned_natural}

@@ -1,5 +1,5 @@
-use Rattle.std.proofs.Common.{◌≡◌, ◌+◌, ◌-◌, ◌*◌, ◌^◌, ◌<◌, ap, subst, arith, get_or, take}
-use Rattle.cob_layout_places.proofs.NaturalLemmas.{IsTextOf, more_text, room}
+use Rattle.std.proofs.Common.{◌≡◌, ◌+◌, ◌^◌, ◌<◌, arith, get_or}
+use Rattle.cob_layout_places.proofs.NaturalLemmas.{more_text, room}
 use Rattle.cob_layout_places.proofs.naturals.number_of_text.Goals as goal
 
 pub overflow_mul-value : goal.overflow_mul-value
