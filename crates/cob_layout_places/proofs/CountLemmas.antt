@@ -1,6 +1,6 @@
 -- The counts of tables, one behind another.
 use Rattle.std.proofs.Common.{◌≡◌, ℕ, ◌+◌, ◌-◌, ◌*◌, ◌<◌, ◌≤◌, List, [], ◌∷◌, ◌++◌, length, get_or, take, drop, refl, sym, ap, subst, ◌∙◌, arith, Option, Some, None, Bool, true, false, Ok, Err, Result, inl, inr, ◌==◌, append-nil, append_assoc}
-use Rattle.std.specs.Prelude.{slice_set, IfOk, IfErr}
+use Rattle.std.specs.Prelude.{slice_set, IfOk, IfErr, IfNone}
 use Rattle.std.proofs.lemmas.List.{drop_more, drop_all, take_more, take-append-drop}
 use Rattle.cob_decimal.specs.Decimal.{number_of}
 use Rattle.cob_decimal.proofs.DecimalLemmas.{number_of-push}
@@ -16,7 +16,7 @@ use Rattle.cob_layout_places.specs.declared.places.Found.{Found}
 use Rattle.cob_layout_places.specs.declared.varying.Table.{Table}
 use Rattle.cob_layout_places.specs.Lengths.{times}
 use Rattle.cob_layout_places.specs.Places.{place_of, or_else, choose, also}
-use Rattle.cob_layout_places.specs.Counts.{kind_in, bytes_at, IsCountValue, IsFaulty, SaysOfTable, IsCounted, Taken, OneOutcome}
+use Rattle.cob_layout_places.specs.Counts.{kind_in, bytes_at, IsNatural, IsCountValue, IsFaulty, SaysOfTable, IsCounted, Taken, OneOutcome}
 
 -- ---- digits
 
@@ -31,6 +31,18 @@ digits_so_far ds k = omega (arith, ap number_of (take-append-drop k ds), more_di
 
 pub one_digit : (ds : List ℕ) (k : ℕ) → k < length ds → number_of (take (k + 1) ds) ≡ number_of (take k ds) * 10 + get_or ds k 0
 one_digit ds k lt = ap number_of (take_more ds k 0 lt) ∙ number_of-push (take k ds) (get_or ds k 0)
+
+-- ---- a count is a natural number from its table's least to its greatest one
+
+pub no_value : (i : Item) (x : Table) (part : List ℕ) (r : Option ℕ) → ((v : ℕ) → IsNatural i part v → v ≤ x.most → ⊥) → IfNone r ((v : ℕ) → IsCountValue i x part v → ⊥)
+no_value i x part None none = λ v is. none v (is.digits, is.represents, is.value) is.most
+no_value i x part (Some n) none = tt
+
+pub below_least : (i : Item) (x : Table) (part : List ℕ) (n : ℕ) → IsNatural i part n → n < x.least → (v : ℕ) → IsCountValue i x part v → ⊥
+below_least i x part n natural lt v is =
+    let same = one_number i part false false is.digits natural.0 is.represents natural.1 in
+    let value : v ≡ n = is.value ∙ ap number_of same.1 ∙ sym natural.2 in
+    omega (arith, is.least)
 
 -- ---- what stands under a number has a place
 

@@ -52,6 +52,10 @@ AreNumberedBelow n xs = AllByRecursion (λ (x : Table). x.number < n) xs
 abbrev pub bytes_at : ℕ → ℕ → List ℕ → List ℕ
 bytes_at offset long bytes = take long (drop offset bytes)
 
+-- the bytes of an item represent this number, which is not below zero, without its scale
+abbrev pub IsNatural : Item → List ℕ → ℕ → Type 0
+IsNatural i part v = (digits : List ℕ) × Represents i part false digits × (v ≡ number_of digits)
+
 -- These bytes of a table's count give this number: they represent it, and it is from the table's least to its greatest one. What is below zero
 -- is none; minus zero is zero.
 pub record IsCountValue (i : Item) (x : Table) (part : List ℕ) (v : ℕ) : Type 0 where

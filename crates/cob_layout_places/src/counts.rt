@@ -1,5 +1,4 @@
 ghost use Rattle.std.specs.Prelude.{◌≡◌, ◌≢◌, ℕ, ◌+◌, ◌<◌, ◌≤◌, List, [], length, Ok, Err, Result, Some, IfOk, IfErr, IfSome, IfNone};
-ghost use Rattle.cob_decimal.specs.Decimal.{IsDigits, number_of};
 ghost use Rattle.cob_copybook_tree.specs.declared.node.Item.{Item};
 ghost use Rattle.cob_copybook_tree.specs.declared.node.Kind.TheVariants.{Item as ItemKind};
 ghost use Rattle.cob_copybook_tree.specs.Nodes.{node, tree_of};
@@ -9,9 +8,10 @@ ghost use Rattle.cob_layout_places.specs.Lengths.{times, EntryFits};
 ghost use Rattle.cob_layout_places.specs.Places.{place_of};
 ghost use Rattle.cob_layout_places.specs.Counts.{IsCountValue, IsCountable, IsCounted, IsCountedThere, kind_in, SaysOfTable};
 
+use crate::naturals::read_natural;
 use crate::places::{Found, seek};
 use crate::varying::{Table, kind_with};
-use cob_copybook_tree::{Item, Kind, Node, read_number};
+use cob_copybook_tree::{Item, Kind, Node};
 
 /// A count that gives no number from its table's least to its greatest one.
 #[derive(Clone, Copy, Debug, PartialEq, Eq)]
@@ -28,34 +28,15 @@ const NOWHERE: CountFault = CountFault {
     short: false,
 };
 
-/// The whole number of these digits, if it is no more than that.
-fn whole(digits: &[u8], most: u32) -> Option<u32>
-    requires { IsDigits digits.now }
-    ensures found { IfSome result (λ v. (v ≡ number_of digits.now) × (v ≤ most)) }
-    ensures none { IfNone result (most < number_of digits.now) }
-{
-    let mut value: u64 = 0;
-    for digit in digits {
-        value = value * 10 + u64::from(*digit);
-        if value > u64::from(most) {
-            return None;
-        }
-    }
-    Some(value as u32)
-}
-
 /// The number that a table's count gives, if it gives one.
+#[inline(always)]
 fn count(item: &Item, table: Table, part: &[u8]) -> Option<u32>
     requires number { IsNumberItem item.now }
     requires long { length part.now ≡ item_size item.now }
     ensures found { IfSome result (λ v. IsCountValue item.now table part.now v) }
     ensures none { IfNone result ((v : ℕ) → IsCountValue item.now table part.now v → ⊥) }
 {
-    let number = read_number(item, part)?;
-    if number.negative() {
-        return None;
-    }
-    let count = whole(number.digits().as_slice(), table.most)?;
+    let count = read_natural(item, table.most, part)?;
     if count < table.least {
         return None;
     }

@@ -37,6 +37,7 @@
 mod counts;
 mod laws;
 mod lengths;
+mod naturals;
 mod needs;
 mod operands;
 mod places;

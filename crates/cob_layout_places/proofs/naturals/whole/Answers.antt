@@ -1,6 +1,6 @@
 use Rattle.std.proofs.Common.{◌+◌, arith}
 use Rattle.cob_layout_places.proofs.CountLemmas.{digits_so_far, one_digit}
-use Rattle.cob_layout_places.proofs.counts.whole.Goals as goal
+use Rattle.cob_layout_places.proofs.naturals.whole.Goals as goal
 
 pub loop-digit-preserved : goal.loop-digit-preserved
 loop-digit-preserved c =
