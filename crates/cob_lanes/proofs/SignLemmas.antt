@@ -1,71 +1,79 @@
--- Codes of signs as bits.
-use Rattle.std.proofs.Common.{◌≡◌, ◌==◌, ◌+◌, ◌/◌, ◌%◌, ◌^◌, ◌<◌, ◌≤◌, ℕ, zero, suc, Bool, true, false, Some, None, refl, sym, subst, ap, ◌∙◌, inl, inr, arith}
-use Rattle.std.specs.Prelude.{if◌then◌else◌, Option}
-use Rattle.std.proofs.lemmas.Bool.{cases_eq}
-use Rattle.cob_lanes.specs.Signs.{code_meaning, is_some}
+-- What the tables of signs say.
+use Rattle.std.proofs.Common.{◌≡◌, ◌==◌, ◌&&◌, ◌+◌, ◌<◌, ℕ, zero, suc, Bool, true, false, Some, None, List, [], ◌∷◌, length, get_or, refl, sym, ap, ◌∙◌, arith}
+use Rattle.std.specs.Prelude.{Option}
+use Rattle.cob_lanes.specs.Signs.{byte_meaning, number_meaning}
+use Rattle.cob_lanes.specs.declared.signs.SignByte.{SignByte}
+use Rattle.cob_lanes.specs.declared.signs.SignByte.TheVariants.{Zone, LowHalf, Own}
+use Rattle.cob_lanes.specs.declared.signs.TheConstants.{SIGNED_ZONES, UNSIGNED_ZONES, SIGNED_LOW_HALVES, UNSIGNED_LOW_HALVES, OWN_SIGNS}
 
--- P holds of so many numbers from one on
-Each : (ℕ → Type 0) → (n start : ℕ) → Type 0
-Each P zero start = Unit {0}
-Each P (suc n) start = P start × Each P n (start + 1)
+-- whether two say the same
+abbrev same_said : Option Bool → Option Bool → Bool
+same_said None None = true
+same_said (Some true) (Some true) = true
+same_said (Some false) (Some false) = true
+same_said None (Some b) = false
+same_said (Some b) None = false
+same_said (Some true) (Some false) = false
+same_said (Some false) (Some true) = false
 
-each_at : (P : ℕ → Type 0) (n start : ℕ) → Each P n start → (k : ℕ) → start ≤ k → k < start + n → P k
-unfolding Each
-each_at P zero start all k ge lt = absurd (omega (arith, ge, lt))
-each_at P (suc n) start all k ge lt =
-    elim (cases_eq k start) [
-      | inl same ↦ subst (λ m. P m) (sym same) all.0
-      | inr other ↦ each_at P n (start + 1) all.1 k (omega (arith, ge, other)) (omega (arith, lt))
-    ]
+said_same : (a b : Option Bool) → same_said a b ≡ true → a ≡ b
+said_same None None h = refl
+said_same (Some true) (Some true) h = refl
+said_same (Some false) (Some false) h = refl
+said_same None (Some b) h = absurd (cc)
+said_same (Some b) None h = absurd (cc)
+said_same (Some true) (Some false) h = absurd (cc)
+said_same (Some false) (Some true) h = absurd (cc)
 
--- whether the bit of a code is set
-abbrev pub bit : ℕ → ℕ → Bool
-bit codes code = codes / 2 ^ code % 2 == 1
+-- whether each of the numbers says what the byte does, from this byte on
+abbrev all_say : (sign : SignByte) → (signed : Bool) → ℕ → List ℕ → Bool
+all_say sign signed from [] = true
+all_say sign signed from (n ∷ ns) = same_said (number_meaning n) (byte_meaning sign signed from) && all_say sign signed (from + 1) ns
 
--- what two flags say: whether there is a sign, and whether it is a minus
-abbrev pub said : Bool → Bool → Option Bool
-said is minus = if is then Some minus else None
+both_true : (a b : Bool) → (a && b) ≡ true → (a ≡ true) × (b ≡ true)
+both_true true b h = (refl, h)
+both_true false b h = absurd (cc)
 
--- the bits say what a code does
-abbrev Agree : (signed : Bool) → (codes code : ℕ) → Type 0
-Agree signed codes code = said (bit codes code) (bit 0x22800 code) ≡ code_meaning signed code
+says_at : (sign : SignByte) (signed : Bool) (from : ℕ) (ns : List ℕ) (k : ℕ) → all_say sign signed from ns ≡ true → k < length ns
+    → number_meaning (get_or ns k 0) ≡ byte_meaning sign signed (from + k)
+says_at sign signed from [] k all lt = absurd (omega arith)
+says_at sign signed from (n ∷ ns) zero all lt =
+    let e : from ≡ from + 0 = omega arith in
+    said_same (number_meaning n) (byte_meaning sign signed from) (both_true _ (all_say sign signed (from + 1) ns) all).0 ∙ ap (λ k. byte_meaning sign signed k) e
+says_at sign signed from (n ∷ ns) (suc k) all lt =
+    let e : from + 1 + k ≡ from + suc k = omega arith in
+    says_at sign signed (from + 1) ns k (both_true (same_said (number_meaning n) (byte_meaning sign signed from)) (all_say sign signed (from + 1) ns) all).1 (omega arith)
+    ∙ ap (λ j. byte_meaning sign signed j) e
 
-signed_codes : Each (Agree true 0x3FC00) 18 0
-unfolding Each
-signed_codes = (refl, (refl, (refl, (refl, (refl, (refl, (refl, (refl, (refl, (refl, (refl, (refl, (refl, (refl, (refl, (refl, (refl, (refl, tt))))))))))))))))))
+-- a table of all bytes
+says : (sign : SignByte) (signed : Bool) (ns : List ℕ) → all_say sign signed 0 ns ≡ true → length ns ≡ 256
+    → (byte : ℕ) → byte < 256 → number_meaning (get_or ns byte 0) ≡ byte_meaning sign signed byte
+says sign signed ns all long byte lt =
+    let e : 0 + byte ≡ byte = omega arith in
+    says_at sign signed 0 ns byte all (omega (arith, long, lt)) ∙ ap (λ j. byte_meaning sign signed j) e
 
-unsigned_codes : Each (Agree false 0x3D400) 18 0
-unfolding Each
-unsigned_codes = (refl, (refl, (refl, (refl, (refl, (refl, (refl, (refl, (refl, (refl, (refl, (refl, (refl, (refl, (refl, (refl, (refl, (refl, tt))))))))))))))))))
+-- the same, where what the table is for stands in other words
+in_other_words : (kind sign : SignByte) (is signed : Bool) (ns : List ℕ) → sign ≡ kind → signed ≡ is → all_say kind is 0 ns ≡ true → length ns ≡ 256
+    → (byte : ℕ) → byte < 256 → number_meaning (get_or ns byte 0) ≡ byte_meaning sign signed byte
+in_other_words kind sign is signed ns k s all long byte lt =
+    says kind is ns all long byte lt ∙ sym (ap (λ m. byte_meaning m signed byte) k ∙ ap (λ b. byte_meaning kind b byte) s)
 
--- the codes that are signs
-abbrev pub codes_of : Bool → ℕ
-codes_of signed = if signed then 0x3FC00 else 0x3D400
+pub signed_zones : (sign : SignByte) (signed : Bool) → sign ≡ Zone → signed ≡ true
+    → (byte : ℕ) → byte < 256 → number_meaning (get_or SIGNED_ZONES byte 0) ≡ byte_meaning sign signed byte
+signed_zones sign signed k s = in_other_words Zone sign true signed SIGNED_ZONES k s refl refl
 
-agree : (signed : Bool) (code : ℕ) → code < 18 → Agree signed (codes_of signed) code
-agree true code few = each_at (Agree true 0x3FC00) 18 0 signed_codes code (omega arith) (omega (arith, few))
-agree false code few = each_at (Agree false 0x3D400) 18 0 unsigned_codes code (omega arith) (omega (arith, few))
+pub unsigned_zones : (sign : SignByte) (signed : Bool) → sign ≡ Zone → signed ≡ false
+    → (byte : ℕ) → byte < 256 → number_meaning (get_or UNSIGNED_ZONES byte 0) ≡ byte_meaning sign signed byte
+unsigned_zones sign signed k s = in_other_words Zone sign false signed UNSIGNED_ZONES k s refl refl
 
--- flags that are these bits say what the code does
-pub code_said : (signed : Bool) (codes code : ℕ) (is minus : Bool) → code < 18 → codes ≡ codes_of signed → is ≡ bit codes code → minus ≡ bit 0x22800 code
-    → said is minus ≡ code_meaning signed code
-code_said signed codes code is minus few these first second =
-    ap (λ b. said b minus) (first ∙ ap (λ m. bit m code) these) ∙ ap (λ b. said (bit (codes_of signed) code) b) second ∙ agree signed code few
+pub signed_low_halves : (sign : SignByte) (signed : Bool) → sign ≡ LowHalf → signed ≡ true
+    → (byte : ℕ) → byte < 256 → number_meaning (get_or SIGNED_LOW_HALVES byte 0) ≡ byte_meaning sign signed byte
+signed_low_halves sign signed k s = in_other_words LowHalf sign true signed SIGNED_LOW_HALVES k s refl refl
 
-some_said : (is minus : Bool) → is_some (said is minus) ≡ is
-some_said true minus = refl
-some_said false minus = refl
+pub unsigned_low_halves : (sign : SignByte) (signed : Bool) → sign ≡ LowHalf → signed ≡ false
+    → (byte : ℕ) → byte < 256 → number_meaning (get_or UNSIGNED_LOW_HALVES byte 0) ≡ byte_meaning sign signed byte
+unsigned_low_halves sign signed k s = in_other_words LowHalf sign false signed UNSIGNED_LOW_HALVES k s refl refl
 
--- the bit of a code that is a sign
-pub sign_said : (signed : Bool) (codes code : ℕ) (is : Bool) → code < 18 → codes ≡ codes_of signed → is ≡ bit codes code → is ≡ is_some (code_meaning signed code)
-sign_said signed codes code is few these bits =
-    sym (some_said is (bit 0x22800 code)) ∙ ap is_some (code_said signed codes code is (bit 0x22800 code) few these bits refl)
-
-minus_said_at : (signed is minus : Bool) (code : ℕ) → said is minus ≡ code_meaning signed code → is_some (code_meaning signed code) ≡ true → code_meaning signed code ≡ Some minus
-minus_said_at signed true minus code same some = sym same
-minus_said_at signed false minus code same some = absurd (cc (ap is_some same ∙ some))
-
--- the bit of a code that is a minus
-pub minus_said : (signed : Bool) (code : ℕ) (minus : Bool) → code < 18 → minus ≡ bit 0x22800 code → is_some (code_meaning signed code) ≡ true → code_meaning signed code ≡ Some minus
-minus_said signed code minus few bits some =
-    minus_said_at signed (bit (codes_of signed) code) minus code (code_said signed (codes_of signed) code (bit (codes_of signed) code) minus few refl refl bits) some
+pub own_signs : (sign : SignByte) (signed : Bool) → sign ≡ Own → (byte : ℕ) → byte < 256 → number_meaning (get_or OWN_SIGNS byte 0) ≡ byte_meaning sign signed byte
+own_signs sign true k = in_other_words Own sign true true OWN_SIGNS k refl refl refl
+own_signs sign false k = in_other_words Own sign false false OWN_SIGNS k refl refl refl

@@ -1,8 +1,7 @@
 //! The byte of a sign.
 
-ghost use Rattle.std.specs.Prelude.{◌≡◌, ◌<◌, ◌==◌, ◌/◌, ◌%◌, ◌^◌, Bool, true, Some};
-ghost use Rattle.cob_lanes.specs.Readers.{byte_meaning};
-ghost use Rattle.cob_lanes.specs.Signs.{code_meaning, own_code, is_some};
+ghost use Rattle.std.specs.Prelude.{◌≡◌, ◌<◌, ℕ, Bool, true, Some, slice_index};
+ghost use Rattle.cob_lanes.specs.Signs.{byte_meaning, is_some, number_meaning};
 
 /// Where in its byte a sign is.
 #[derive(Clone, Copy, Debug)]
@@ -15,67 +14,92 @@ pub enum SignByte {
     Own,
 }
 
-/// The codes that are signs of a signed item, a bit for each: the half bytes from A to F, and both bytes that are signs as a whole.
-const SIGNED: u32 = 0x3_FC00;
+/// What each byte says where the sign of a signed item is its high half: 0 plus, 1 minus, and 2 that it is none.
+static SIGNED_ZONES: [u8; 256] = [
+    2, 2, 2, 2, 2, 2, 2, 2, 2, 2, 2, 2, 2, 2, 2, 2, 2, 2, 2, 2, 2, 2, 2, 2, 2, 2, 2, 2, 2, 2, 2, 2,
+    2, 2, 2, 2, 2, 2, 2, 2, 2, 2, 2, 2, 2, 2, 2, 2, 2, 2, 2, 2, 2, 2, 2, 2, 2, 2, 2, 2, 2, 2, 2, 2,
+    2, 2, 2, 2, 2, 2, 2, 2, 2, 2, 2, 2, 2, 2, 2, 2, 2, 2, 2, 2, 2, 2, 2, 2, 2, 2, 2, 2, 2, 2, 2, 2,
+    2, 2, 2, 2, 2, 2, 2, 2, 2, 2, 2, 2, 2, 2, 2, 2, 2, 2, 2, 2, 2, 2, 2, 2, 2, 2, 2, 2, 2, 2, 2, 2,
+    2, 2, 2, 2, 2, 2, 2, 2, 2, 2, 2, 2, 2, 2, 2, 2, 2, 2, 2, 2, 2, 2, 2, 2, 2, 2, 2, 2, 2, 2, 2, 2,
+    0, 0, 0, 0, 0, 0, 0, 0, 0, 0, 0, 0, 0, 0, 0, 0, 1, 1, 1, 1, 1, 1, 1, 1, 1, 1, 1, 1, 1, 1, 1, 1,
+    0, 0, 0, 0, 0, 0, 0, 0, 0, 0, 0, 0, 0, 0, 0, 0, 1, 1, 1, 1, 1, 1, 1, 1, 1, 1, 1, 1, 1, 1, 1, 1,
+    0, 0, 0, 0, 0, 0, 0, 0, 0, 0, 0, 0, 0, 0, 0, 0, 0, 0, 0, 0, 0, 0, 0, 0, 0, 0, 0, 0, 0, 0, 0, 0,
+];
 
-/// Those of an item without sign: B and D are none.
-const UNSIGNED: u32 = 0x3_D400;
+/// The same of an item without sign.
+static UNSIGNED_ZONES: [u8; 256] = [
+    2, 2, 2, 2, 2, 2, 2, 2, 2, 2, 2, 2, 2, 2, 2, 2, 2, 2, 2, 2, 2, 2, 2, 2, 2, 2, 2, 2, 2, 2, 2, 2,
+    2, 2, 2, 2, 2, 2, 2, 2, 2, 2, 2, 2, 2, 2, 2, 2, 2, 2, 2, 2, 2, 2, 2, 2, 2, 2, 2, 2, 2, 2, 2, 2,
+    2, 2, 2, 2, 2, 2, 2, 2, 2, 2, 2, 2, 2, 2, 2, 2, 2, 2, 2, 2, 2, 2, 2, 2, 2, 2, 2, 2, 2, 2, 2, 2,
+    2, 2, 2, 2, 2, 2, 2, 2, 2, 2, 2, 2, 2, 2, 2, 2, 2, 2, 2, 2, 2, 2, 2, 2, 2, 2, 2, 2, 2, 2, 2, 2,
+    2, 2, 2, 2, 2, 2, 2, 2, 2, 2, 2, 2, 2, 2, 2, 2, 2, 2, 2, 2, 2, 2, 2, 2, 2, 2, 2, 2, 2, 2, 2, 2,
+    0, 0, 0, 0, 0, 0, 0, 0, 0, 0, 0, 0, 0, 0, 0, 0, 2, 2, 2, 2, 2, 2, 2, 2, 2, 2, 2, 2, 2, 2, 2, 2,
+    0, 0, 0, 0, 0, 0, 0, 0, 0, 0, 0, 0, 0, 0, 0, 0, 2, 2, 2, 2, 2, 2, 2, 2, 2, 2, 2, 2, 2, 2, 2, 2,
+    0, 0, 0, 0, 0, 0, 0, 0, 0, 0, 0, 0, 0, 0, 0, 0, 0, 0, 0, 0, 0, 0, 0, 0, 0, 0, 0, 0, 0, 0, 0, 0,
+];
 
-/// The codes of which a sign is a minus.
-const MINUS: u32 = 0x2_2800;
+/// What each byte says where the sign of a signed item is its low half.
+static SIGNED_LOW_HALVES: [u8; 256] = [
+    2, 2, 2, 2, 2, 2, 2, 2, 2, 2, 0, 1, 0, 1, 0, 0, 2, 2, 2, 2, 2, 2, 2, 2, 2, 2, 0, 1, 0, 1, 0, 0,
+    2, 2, 2, 2, 2, 2, 2, 2, 2, 2, 0, 1, 0, 1, 0, 0, 2, 2, 2, 2, 2, 2, 2, 2, 2, 2, 0, 1, 0, 1, 0, 0,
+    2, 2, 2, 2, 2, 2, 2, 2, 2, 2, 0, 1, 0, 1, 0, 0, 2, 2, 2, 2, 2, 2, 2, 2, 2, 2, 0, 1, 0, 1, 0, 0,
+    2, 2, 2, 2, 2, 2, 2, 2, 2, 2, 0, 1, 0, 1, 0, 0, 2, 2, 2, 2, 2, 2, 2, 2, 2, 2, 0, 1, 0, 1, 0, 0,
+    2, 2, 2, 2, 2, 2, 2, 2, 2, 2, 0, 1, 0, 1, 0, 0, 2, 2, 2, 2, 2, 2, 2, 2, 2, 2, 0, 1, 0, 1, 0, 0,
+    2, 2, 2, 2, 2, 2, 2, 2, 2, 2, 0, 1, 0, 1, 0, 0, 2, 2, 2, 2, 2, 2, 2, 2, 2, 2, 0, 1, 0, 1, 0, 0,
+    2, 2, 2, 2, 2, 2, 2, 2, 2, 2, 0, 1, 0, 1, 0, 0, 2, 2, 2, 2, 2, 2, 2, 2, 2, 2, 0, 1, 0, 1, 0, 0,
+    2, 2, 2, 2, 2, 2, 2, 2, 2, 2, 0, 1, 0, 1, 0, 0, 2, 2, 2, 2, 2, 2, 2, 2, 2, 2, 0, 1, 0, 1, 0, 0,
+];
 
-/// Whether the bit of a code is set.
-#[inline(always)]
-fn is_among(codes: u32, code: u8) -> bool
-    requires { code < 18 }
-    ensures { result ≡ (codes / 2 ^ code % 2 == 1) }
+/// The same of an item without sign.
+static UNSIGNED_LOW_HALVES: [u8; 256] = [
+    2, 2, 2, 2, 2, 2, 2, 2, 2, 2, 0, 2, 0, 2, 0, 0, 2, 2, 2, 2, 2, 2, 2, 2, 2, 2, 0, 2, 0, 2, 0, 0,
+    2, 2, 2, 2, 2, 2, 2, 2, 2, 2, 0, 2, 0, 2, 0, 0, 2, 2, 2, 2, 2, 2, 2, 2, 2, 2, 0, 2, 0, 2, 0, 0,
+    2, 2, 2, 2, 2, 2, 2, 2, 2, 2, 0, 2, 0, 2, 0, 0, 2, 2, 2, 2, 2, 2, 2, 2, 2, 2, 0, 2, 0, 2, 0, 0,
+    2, 2, 2, 2, 2, 2, 2, 2, 2, 2, 0, 2, 0, 2, 0, 0, 2, 2, 2, 2, 2, 2, 2, 2, 2, 2, 0, 2, 0, 2, 0, 0,
+    2, 2, 2, 2, 2, 2, 2, 2, 2, 2, 0, 2, 0, 2, 0, 0, 2, 2, 2, 2, 2, 2, 2, 2, 2, 2, 0, 2, 0, 2, 0, 0,
+    2, 2, 2, 2, 2, 2, 2, 2, 2, 2, 0, 2, 0, 2, 0, 0, 2, 2, 2, 2, 2, 2, 2, 2, 2, 2, 0, 2, 0, 2, 0, 0,
+    2, 2, 2, 2, 2, 2, 2, 2, 2, 2, 0, 2, 0, 2, 0, 0, 2, 2, 2, 2, 2, 2, 2, 2, 2, 2, 0, 2, 0, 2, 0, 0,
+    2, 2, 2, 2, 2, 2, 2, 2, 2, 2, 0, 2, 0, 2, 0, 0, 2, 2, 2, 2, 2, 2, 2, 2, 2, 2, 0, 2, 0, 2, 0, 0,
+];
+
+/// What each byte says where it is a sign as a whole.
+static OWN_SIGNS: [u8; 256] = [
+    2, 2, 2, 2, 2, 2, 2, 2, 2, 2, 2, 2, 2, 2, 2, 2, 2, 2, 2, 2, 2, 2, 2, 2, 2, 2, 2, 2, 2, 2, 2, 2,
+    2, 2, 2, 2, 2, 2, 2, 2, 2, 2, 2, 2, 2, 2, 2, 2, 2, 2, 2, 2, 2, 2, 2, 2, 2, 2, 2, 2, 2, 2, 2, 2,
+    2, 2, 2, 2, 2, 2, 2, 2, 2, 2, 2, 2, 2, 2, 0, 2, 2, 2, 2, 2, 2, 2, 2, 2, 2, 2, 2, 2, 2, 2, 2, 2,
+    1, 2, 2, 2, 2, 2, 2, 2, 2, 2, 2, 2, 2, 2, 2, 2, 2, 2, 2, 2, 2, 2, 2, 2, 2, 2, 2, 2, 2, 2, 2, 2,
+    2, 2, 2, 2, 2, 2, 2, 2, 2, 2, 2, 2, 2, 2, 2, 2, 2, 2, 2, 2, 2, 2, 2, 2, 2, 2, 2, 2, 2, 2, 2, 2,
+    2, 2, 2, 2, 2, 2, 2, 2, 2, 2, 2, 2, 2, 2, 2, 2, 2, 2, 2, 2, 2, 2, 2, 2, 2, 2, 2, 2, 2, 2, 2, 2,
+    2, 2, 2, 2, 2, 2, 2, 2, 2, 2, 2, 2, 2, 2, 2, 2, 2, 2, 2, 2, 2, 2, 2, 2, 2, 2, 2, 2, 2, 2, 2, 2,
+    2, 2, 2, 2, 2, 2, 2, 2, 2, 2, 2, 2, 2, 2, 2, 2, 2, 2, 2, 2, 2, 2, 2, 2, 2, 2, 2, 2, 2, 2, 2, 2,
+];
+
+/// What each byte says where a sign is so in it, of an item that is signed or not.
+pub(crate) fn meanings_of(sign: SignByte, signed: bool) -> &'static [u8; 256]
+    ensures { (byte : ℕ) → byte < 256
+        → number_meaning (slice_index result.now byte) ≡ byte_meaning sign signed byte }
 {
-    (codes >> u32::from(code)) % 2 == 1
-}
-
-/// Whether a code is that of a sign.
-#[inline(always)]
-pub(crate) fn is_sign(signed: bool, code: u8) -> bool
-    requires { code < 18 }
-    ensures { result ≡ is_some (code_meaning signed code) }
-{
-    let signs = if signed { SIGNED } else { UNSIGNED };
-    is_among(signs, code)
-}
-
-/// Whether the sign of a code is a minus.
-#[inline(always)]
-pub(crate) fn is_minus(code: u8) -> bool
-    requires { code < 18 }
-    ensures { (signed : Bool) → is_some (code_meaning signed code) ≡ true
-        → code_meaning signed code ≡ Some result }
-{
-    is_among(MINUS, code)
-}
-
-/// The code of a byte that is a sign as a whole: behind the half bytes, and 0 for one that is no sign.
-#[inline(always)]
-fn own_code(byte: u8) -> u8
-    ensures code { result ≡ own_code byte }
-    ensures few { result < 18 }
-{
-    match byte {
-        0x4E => 16,
-        0x60 => 17,
-        _ => 0,
+    match (sign, signed) {
+        (SignByte::Zone, true) => &SIGNED_ZONES,
+        (SignByte::Zone, false) => &UNSIGNED_ZONES,
+        (SignByte::LowHalf, true) => &SIGNED_LOW_HALVES,
+        (SignByte::LowHalf, false) => &UNSIGNED_LOW_HALVES,
+        (SignByte::Own, _) => &OWN_SIGNS,
     }
 }
 
-/// The code of the sign that stands so in a byte.
+/// Whether what a byte says is a sign.
 #[inline(always)]
-pub(crate) fn code_of(sign: SignByte, byte: u8) -> u8
-    ensures code { (signed : Bool)
-        → code_meaning signed result ≡ byte_meaning sign signed byte }
-    ensures few { result < 18 }
+pub(crate) fn is_sign(meaning: u8) -> bool
+    ensures { result ≡ is_some (number_meaning meaning) }
 {
-    match sign {
-        SignByte::Zone => byte / 16,
-        SignByte::LowHalf => byte % 16,
-        SignByte::Own => own_code(byte),
-    }
+    meaning < 2
+}
+
+/// Whether the sign that a byte says is a minus.
+#[inline(always)]
+pub(crate) fn is_minus(meaning: u8) -> bool
+    ensures { is_some (number_meaning meaning) ≡ true → number_meaning meaning ≡ Some result }
+{
+    meaning == 1
 }
