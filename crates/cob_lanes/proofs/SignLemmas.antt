@@ -1,10 +1,11 @@
 -- What the tables of signs say.
-use Rattle.std.proofs.Common.{◌≡◌, ◌==◌, ◌&&◌, ◌+◌, ◌<◌, ℕ, zero, suc, Bool, true, false, Some, None, List, [], ◌∷◌, length, get_or, refl, sym, ap, ◌∙◌, arith}
+use Rattle.std.proofs.Common.{◌≡◌, ◌==◌, ◌&&◌, ◌+◌, ◌<◌, ℕ, zero, suc, Bool, true, false, Some, None, List, [], ◌∷◌, drop, get_or, refl, sym, ap, ◌∙◌, arith}
 use Rattle.std.specs.Prelude.{Option}
-use Rattle.cob_lanes.specs.Signs.{byte_meaning, number_meaning}
+use Rattle.std.proofs.lemmas.List.{get_or-drop}
+use Rattle.cob_lanes.specs.Signs.{byte_meaning, number_meaning, table_start}
 use Rattle.cob_lanes.specs.declared.signs.SignByte.{SignByte}
 use Rattle.cob_lanes.specs.declared.signs.SignByte.TheVariants.{Zone, LowHalf, Own}
-use Rattle.cob_lanes.specs.declared.signs.TheConstants.{SIGNED_ZONES, UNSIGNED_ZONES, SIGNED_LOW_HALVES, UNSIGNED_LOW_HALVES, OWN_SIGNS}
+use Rattle.cob_lanes.specs.declared.signs.TheConstants.{SIGNS}
 
 -- whether two say the same
 abbrev same_said : Option Bool → Option Bool → Bool
@@ -25,55 +26,46 @@ said_same (Some b) None h = absurd (cc)
 said_same (Some true) (Some false) h = absurd (cc)
 said_same (Some false) (Some true) h = absurd (cc)
 
--- whether each of the numbers says what the byte does, from this byte on
-abbrev all_say : (sign : SignByte) → (signed : Bool) → ℕ → List ℕ → Bool
-all_say sign signed from [] = true
-all_say sign signed from (n ∷ ns) = same_said (number_meaning n) (byte_meaning sign signed from) && all_say sign signed (from + 1) ns
+-- whether each of so many numbers says what the byte does, from this byte on
+abbrev all_say : (sign : SignByte) → (signed : Bool) → (from count : ℕ) → List ℕ → Bool
+all_say sign signed from zero ns = true
+all_say sign signed from (suc count) [] = false
+all_say sign signed from (suc count) (n ∷ ns) = same_said (number_meaning n) (byte_meaning sign signed from) && all_say sign signed (from + 1) count ns
 
 both_true : (a b : Bool) → (a && b) ≡ true → (a ≡ true) × (b ≡ true)
 both_true true b h = (refl, h)
 both_true false b h = absurd (cc)
 
-says_at : (sign : SignByte) (signed : Bool) (from : ℕ) (ns : List ℕ) (k : ℕ) → all_say sign signed from ns ≡ true → k < length ns
+says_at : (sign : SignByte) (signed : Bool) (from count : ℕ) (ns : List ℕ) (k : ℕ) → all_say sign signed from count ns ≡ true → k < count
     → number_meaning (get_or ns k 0) ≡ byte_meaning sign signed (from + k)
-says_at sign signed from [] k all lt = absurd (omega arith)
-says_at sign signed from (n ∷ ns) zero all lt =
+says_at sign signed from zero ns k all lt = absurd (omega arith)
+says_at sign signed from (suc count) [] k all lt = absurd (cc)
+says_at sign signed from (suc count) (n ∷ ns) zero all lt =
     let e : from ≡ from + 0 = omega arith in
-    said_same (number_meaning n) (byte_meaning sign signed from) (both_true _ (all_say sign signed (from + 1) ns) all).0 ∙ ap (λ k. byte_meaning sign signed k) e
-says_at sign signed from (n ∷ ns) (suc k) all lt =
+    said_same (number_meaning n) (byte_meaning sign signed from) (both_true _ (all_say sign signed (from + 1) count ns) all).0 ∙ ap (λ k. byte_meaning sign signed k) e
+says_at sign signed from (suc count) (n ∷ ns) (suc k) all lt =
     let e : from + 1 + k ≡ from + suc k = omega arith in
-    says_at sign signed (from + 1) ns k (both_true (same_said (number_meaning n) (byte_meaning sign signed from)) (all_say sign signed (from + 1) ns) all).1 (omega arith)
+    says_at sign signed (from + 1) count ns k (both_true (same_said (number_meaning n) (byte_meaning sign signed from)) (all_say sign signed (from + 1) count ns) all).1 (omega arith)
     ∙ ap (λ j. byte_meaning sign signed j) e
 
--- a table of all bytes
-says : (sign : SignByte) (signed : Bool) (ns : List ℕ) → all_say sign signed 0 ns ≡ true → length ns ≡ 256
-    → (byte : ℕ) → byte < 256 → number_meaning (get_or ns byte 0) ≡ byte_meaning sign signed byte
-says sign signed ns all long byte lt =
+-- a table that begins there
+says : (sign : SignByte) (signed : Bool) (start byte : ℕ) → all_say sign signed 0 256 (drop start SIGNS) ≡ true → byte < 256
+    → number_meaning (get_or SIGNS (start + byte) 0) ≡ byte_meaning sign signed byte
+says sign signed start byte all lt =
     let e : 0 + byte ≡ byte = omega arith in
-    says_at sign signed 0 ns byte all (omega (arith, long, lt)) ∙ ap (λ j. byte_meaning sign signed j) e
+    sym (ap (λ n. number_meaning n) (get_or-drop start SIGNS byte 0)) ∙ says_at sign signed 0 256 (drop start SIGNS) byte all lt ∙ ap (λ j. byte_meaning sign signed j) e
 
--- the same, where what the table is for stands in other words
-in_other_words : (kind sign : SignByte) (is signed : Bool) (ns : List ℕ) → sign ≡ kind → signed ≡ is → all_say kind is 0 ns ≡ true → length ns ≡ 256
-    → (byte : ℕ) → byte < 256 → number_meaning (get_or ns byte 0) ≡ byte_meaning sign signed byte
-in_other_words kind sign is signed ns k s all long byte lt =
-    says kind is ns all long byte lt ∙ sym (ap (λ m. byte_meaning m signed byte) k ∙ ap (λ b. byte_meaning kind b byte) s)
+-- the table for each sign
+pub table_says : (sign : SignByte) (signed : Bool) (byte : ℕ) → byte < 256 → number_meaning (get_or SIGNS (table_start sign signed + byte) 0) ≡ byte_meaning sign signed byte
+table_says Zone true byte lt = says Zone true 0 byte refl lt
+table_says Zone false byte lt = says Zone false 256 byte refl lt
+table_says LowHalf true byte lt = says LowHalf true 512 byte refl lt
+table_says LowHalf false byte lt = says LowHalf false 768 byte refl lt
+table_says Own true byte lt = says Own true 1024 byte refl lt
+table_says Own false byte lt = says Own false 1024 byte refl lt
 
-pub signed_zones : (sign : SignByte) (signed : Bool) → sign ≡ Zone → signed ≡ true
-    → (byte : ℕ) → byte < 256 → number_meaning (get_or SIGNED_ZONES byte 0) ≡ byte_meaning sign signed byte
-signed_zones sign signed k s = in_other_words Zone sign true signed SIGNED_ZONES k s refl refl
-
-pub unsigned_zones : (sign : SignByte) (signed : Bool) → sign ≡ Zone → signed ≡ false
-    → (byte : ℕ) → byte < 256 → number_meaning (get_or UNSIGNED_ZONES byte 0) ≡ byte_meaning sign signed byte
-unsigned_zones sign signed k s = in_other_words Zone sign false signed UNSIGNED_ZONES k s refl refl
-
-pub signed_low_halves : (sign : SignByte) (signed : Bool) → sign ≡ LowHalf → signed ≡ true
-    → (byte : ℕ) → byte < 256 → number_meaning (get_or SIGNED_LOW_HALVES byte 0) ≡ byte_meaning sign signed byte
-signed_low_halves sign signed k s = in_other_words LowHalf sign true signed SIGNED_LOW_HALVES k s refl refl
-
-pub unsigned_low_halves : (sign : SignByte) (signed : Bool) → sign ≡ LowHalf → signed ≡ false
-    → (byte : ℕ) → byte < 256 → number_meaning (get_or UNSIGNED_LOW_HALVES byte 0) ≡ byte_meaning sign signed byte
-unsigned_low_halves sign signed k s = in_other_words LowHalf sign false signed UNSIGNED_LOW_HALVES k s refl refl
-
-pub own_signs : (sign : SignByte) (signed : Bool) → sign ≡ Own → (byte : ℕ) → byte < 256 → number_meaning (get_or OWN_SIGNS byte 0) ≡ byte_meaning sign signed byte
-own_signs sign true k = in_other_words Own sign true true OWN_SIGNS k refl refl refl
-own_signs sign false k = in_other_words Own sign false false OWN_SIGNS k refl refl refl
+-- the same, where other numbers stand for where it begins and for the byte
+pub said_by : (table at byte : ℕ) → at ≡ byte → byte < 256 → (sign : SignByte) (signed : Bool) → table ≡ table_start sign signed
+    → number_meaning (get_or SIGNS (table + at) 0) ≡ byte_meaning sign signed byte
+said_by table at byte same lt sign signed is =
+    ap (λ k. number_meaning (get_or SIGNS (table + k) 0)) same ∙ ap (λ t. number_meaning (get_or SIGNS (t + byte) 0)) is ∙ table_says sign signed byte lt

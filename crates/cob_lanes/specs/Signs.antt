@@ -14,7 +14,15 @@ byte_meaning Zone signed byte = sign_meaning signed (byte / 16)
 byte_meaning LowHalf signed byte = sign_meaning signed (byte % 16)
 byte_meaning Own signed byte = own_meaning byte
 
--- What a number in a table of such bytes says: 0 is a plus, 1 a minus, and all else no sign.
+-- Where among the tables of all bytes, which stand in turn, that begins by which such a byte is read.
+abbrev pub table_start : SignByte → Bool → ℕ
+table_start Zone true = 0
+table_start Zone false = 256
+table_start LowHalf true = 512
+table_start LowHalf false = 768
+table_start Own signed = 1024
+
+-- What a number in them says: 0 is a plus, 1 a minus, and all else no sign.
 abbrev pub number_meaning : ℕ → Option Bool
 number_meaning n = if n == 0 then Some false else (if n == 1 then Some true else None)
 

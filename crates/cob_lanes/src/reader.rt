@@ -1,7 +1,7 @@
 //! What reads numbers of items.
 
-ghost use Rattle.std.specs.Prelude.{◌≡◌, ◌<◌, ℕ, slice_index};
-ghost use Rattle.cob_lanes.specs.Signs.{byte_meaning, number_meaning};
+ghost use Rattle.std.specs.Prelude.{◌≡◌, ◌<◌, ◌≤◌};
+ghost use Rattle.cob_lanes.specs.Signs.{table_start};
 
 use crate::lanes::{Bounds, Picks};
 use crate::signs::SignByte;
@@ -20,9 +20,9 @@ pub struct LaneReader {
     pub signed: bool,
     /// Which of the sixteen bytes has the sign.
     pub place: u8,
-    /// What each byte says as the sign's: 0 plus, 1 minus, and all else that it is none.
-    pub meanings: &'static [u8; 256],
+    /// Where the table begins that says what the byte of the sign means.
+    pub table: usize,
     pub ghost within: { place < 16 },
-    pub ghost known: { (byte : ℕ) → byte < 256
-        → number_meaning (slice_index meanings.now byte) ≡ byte_meaning sign signed byte },
+    pub ghost tabled: { table ≡ table_start sign signed },
+    pub ghost last: { table ≤ 1024 },
 }

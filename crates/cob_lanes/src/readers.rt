@@ -12,7 +12,7 @@ use crate::filling::{lanes_between, with_lane};
 use crate::lanes::Bounds;
 use crate::picks::{Spread, power_picks};
 use crate::reader::LaneReader;
-use crate::signs::{SignByte, meanings_of};
+use crate::signs::{SignByte, table_start};
 use crate::wanted::Wanted;
 use cob_codec::Shape;
 
@@ -84,7 +84,7 @@ impl LaneReader {
             low: power_picks(false, &spread, wanted),
             sign: SignByte::Zone,
             signed: shape.signed,
-            meanings: meanings_of(SignByte::Zone, shape.signed),
+            table: table_start(SignByte::Zone, shape.signed),
             place: place as u8,
         }
     }
@@ -114,7 +114,7 @@ impl LaneReader {
             low: power_picks(false, &spread, wanted),
             sign: SignByte::Own,
             signed: true,
-            meanings: meanings_of(SignByte::Own, true),
+            table: table_start(SignByte::Own, true),
             place: place as u8,
         }
     }
@@ -143,7 +143,7 @@ impl LaneReader {
             low: power_picks(false, &spread, wanted),
             sign: SignByte::LowHalf,
             signed: shape.signed,
-            meanings: meanings_of(SignByte::LowHalf, shape.signed),
+            table: table_start(SignByte::LowHalf, shape.signed),
             place: 15,
         }
     }

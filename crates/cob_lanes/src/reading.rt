@@ -6,7 +6,7 @@ ghost use Rattle.cob_lanes.specs.Windows.{last_bytes, padded_window};
 
 use crate::lanes::{are_bounded, take_halves};
 use crate::reader::LaneReader;
-use crate::signs::{is_minus, is_sign};
+use crate::signs::{is_minus, is_sign, meaning_by};
 use crate::writer::put_front;
 use std::simd::prelude::*;
 
@@ -64,7 +64,7 @@ impl LaneReader {
     {
         let digits = take_halves(window, &self.high, &self.low);
         let byte = window.to_array()[usize::from(self.place)];
-        let meaning = self.meanings[usize::from(byte)];
+        let meaning = meaning_by(self.table, byte);
         if !is_sign(meaning) {
             return LanesRead {
                 is_number: false,

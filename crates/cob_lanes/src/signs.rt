@@ -1,7 +1,7 @@
 //! The byte of a sign.
 
-ghost use Rattle.std.specs.Prelude.{◌≡◌, ◌<◌, ℕ, Bool, true, Some, slice_index};
-ghost use Rattle.cob_lanes.specs.Signs.{byte_meaning, is_some, number_meaning};
+ghost use Rattle.std.specs.Prelude.{◌≡◌, ◌≤◌, Bool, true, Some};
+ghost use Rattle.cob_lanes.specs.Signs.{byte_meaning, is_some, number_meaning, table_start};
 
 /// Where in its byte a sign is.
 #[derive(Clone, Copy, Debug)]
@@ -14,8 +14,9 @@ pub enum SignByte {
     Own,
 }
 
-/// What each byte says where the sign of a signed item is its high half: 0 plus, 1 minus, and 2 that it is none.
-static SIGNED_ZONES: [u8; 256] = [
+/// What bytes say: 0 plus, 1 minus, and 2 that there is no sign. Five tables of all bytes in turn: for a sign in the zone, of a signed item and of one
+/// without sign; for one in the low half, of both likewise; and for a sign of its own.
+static SIGNS: [u8; 1280] = [
     2, 2, 2, 2, 2, 2, 2, 2, 2, 2, 2, 2, 2, 2, 2, 2, 2, 2, 2, 2, 2, 2, 2, 2, 2, 2, 2, 2, 2, 2, 2, 2,
     2, 2, 2, 2, 2, 2, 2, 2, 2, 2, 2, 2, 2, 2, 2, 2, 2, 2, 2, 2, 2, 2, 2, 2, 2, 2, 2, 2, 2, 2, 2, 2,
     2, 2, 2, 2, 2, 2, 2, 2, 2, 2, 2, 2, 2, 2, 2, 2, 2, 2, 2, 2, 2, 2, 2, 2, 2, 2, 2, 2, 2, 2, 2, 2,
@@ -24,10 +25,6 @@ static SIGNED_ZONES: [u8; 256] = [
     0, 0, 0, 0, 0, 0, 0, 0, 0, 0, 0, 0, 0, 0, 0, 0, 1, 1, 1, 1, 1, 1, 1, 1, 1, 1, 1, 1, 1, 1, 1, 1,
     0, 0, 0, 0, 0, 0, 0, 0, 0, 0, 0, 0, 0, 0, 0, 0, 1, 1, 1, 1, 1, 1, 1, 1, 1, 1, 1, 1, 1, 1, 1, 1,
     0, 0, 0, 0, 0, 0, 0, 0, 0, 0, 0, 0, 0, 0, 0, 0, 0, 0, 0, 0, 0, 0, 0, 0, 0, 0, 0, 0, 0, 0, 0, 0,
-];
-
-/// The same of an item without sign.
-static UNSIGNED_ZONES: [u8; 256] = [
     2, 2, 2, 2, 2, 2, 2, 2, 2, 2, 2, 2, 2, 2, 2, 2, 2, 2, 2, 2, 2, 2, 2, 2, 2, 2, 2, 2, 2, 2, 2, 2,
     2, 2, 2, 2, 2, 2, 2, 2, 2, 2, 2, 2, 2, 2, 2, 2, 2, 2, 2, 2, 2, 2, 2, 2, 2, 2, 2, 2, 2, 2, 2, 2,
     2, 2, 2, 2, 2, 2, 2, 2, 2, 2, 2, 2, 2, 2, 2, 2, 2, 2, 2, 2, 2, 2, 2, 2, 2, 2, 2, 2, 2, 2, 2, 2,
@@ -36,10 +33,6 @@ static UNSIGNED_ZONES: [u8; 256] = [
     0, 0, 0, 0, 0, 0, 0, 0, 0, 0, 0, 0, 0, 0, 0, 0, 2, 2, 2, 2, 2, 2, 2, 2, 2, 2, 2, 2, 2, 2, 2, 2,
     0, 0, 0, 0, 0, 0, 0, 0, 0, 0, 0, 0, 0, 0, 0, 0, 2, 2, 2, 2, 2, 2, 2, 2, 2, 2, 2, 2, 2, 2, 2, 2,
     0, 0, 0, 0, 0, 0, 0, 0, 0, 0, 0, 0, 0, 0, 0, 0, 0, 0, 0, 0, 0, 0, 0, 0, 0, 0, 0, 0, 0, 0, 0, 0,
-];
-
-/// What each byte says where the sign of a signed item is its low half.
-static SIGNED_LOW_HALVES: [u8; 256] = [
     2, 2, 2, 2, 2, 2, 2, 2, 2, 2, 0, 1, 0, 1, 0, 0, 2, 2, 2, 2, 2, 2, 2, 2, 2, 2, 0, 1, 0, 1, 0, 0,
     2, 2, 2, 2, 2, 2, 2, 2, 2, 2, 0, 1, 0, 1, 0, 0, 2, 2, 2, 2, 2, 2, 2, 2, 2, 2, 0, 1, 0, 1, 0, 0,
     2, 2, 2, 2, 2, 2, 2, 2, 2, 2, 0, 1, 0, 1, 0, 0, 2, 2, 2, 2, 2, 2, 2, 2, 2, 2, 0, 1, 0, 1, 0, 0,
@@ -48,10 +41,6 @@ static SIGNED_LOW_HALVES: [u8; 256] = [
     2, 2, 2, 2, 2, 2, 2, 2, 2, 2, 0, 1, 0, 1, 0, 0, 2, 2, 2, 2, 2, 2, 2, 2, 2, 2, 0, 1, 0, 1, 0, 0,
     2, 2, 2, 2, 2, 2, 2, 2, 2, 2, 0, 1, 0, 1, 0, 0, 2, 2, 2, 2, 2, 2, 2, 2, 2, 2, 0, 1, 0, 1, 0, 0,
     2, 2, 2, 2, 2, 2, 2, 2, 2, 2, 0, 1, 0, 1, 0, 0, 2, 2, 2, 2, 2, 2, 2, 2, 2, 2, 0, 1, 0, 1, 0, 0,
-];
-
-/// The same of an item without sign.
-static UNSIGNED_LOW_HALVES: [u8; 256] = [
     2, 2, 2, 2, 2, 2, 2, 2, 2, 2, 0, 2, 0, 2, 0, 0, 2, 2, 2, 2, 2, 2, 2, 2, 2, 2, 0, 2, 0, 2, 0, 0,
     2, 2, 2, 2, 2, 2, 2, 2, 2, 2, 0, 2, 0, 2, 0, 0, 2, 2, 2, 2, 2, 2, 2, 2, 2, 2, 0, 2, 0, 2, 0, 0,
     2, 2, 2, 2, 2, 2, 2, 2, 2, 2, 0, 2, 0, 2, 0, 0, 2, 2, 2, 2, 2, 2, 2, 2, 2, 2, 0, 2, 0, 2, 0, 0,
@@ -60,10 +49,6 @@ static UNSIGNED_LOW_HALVES: [u8; 256] = [
     2, 2, 2, 2, 2, 2, 2, 2, 2, 2, 0, 2, 0, 2, 0, 0, 2, 2, 2, 2, 2, 2, 2, 2, 2, 2, 0, 2, 0, 2, 0, 0,
     2, 2, 2, 2, 2, 2, 2, 2, 2, 2, 0, 2, 0, 2, 0, 0, 2, 2, 2, 2, 2, 2, 2, 2, 2, 2, 0, 2, 0, 2, 0, 0,
     2, 2, 2, 2, 2, 2, 2, 2, 2, 2, 0, 2, 0, 2, 0, 0, 2, 2, 2, 2, 2, 2, 2, 2, 2, 2, 0, 2, 0, 2, 0, 0,
-];
-
-/// What each byte says where it is a sign as a whole.
-static OWN_SIGNS: [u8; 256] = [
     2, 2, 2, 2, 2, 2, 2, 2, 2, 2, 2, 2, 2, 2, 2, 2, 2, 2, 2, 2, 2, 2, 2, 2, 2, 2, 2, 2, 2, 2, 2, 2,
     2, 2, 2, 2, 2, 2, 2, 2, 2, 2, 2, 2, 2, 2, 2, 2, 2, 2, 2, 2, 2, 2, 2, 2, 2, 2, 2, 2, 2, 2, 2, 2,
     2, 2, 2, 2, 2, 2, 2, 2, 2, 2, 2, 2, 2, 2, 0, 2, 2, 2, 2, 2, 2, 2, 2, 2, 2, 2, 2, 2, 2, 2, 2, 2,
@@ -74,18 +59,28 @@ static OWN_SIGNS: [u8; 256] = [
     2, 2, 2, 2, 2, 2, 2, 2, 2, 2, 2, 2, 2, 2, 2, 2, 2, 2, 2, 2, 2, 2, 2, 2, 2, 2, 2, 2, 2, 2, 2, 2,
 ];
 
-/// What each byte says where a sign is so in it, of an item that is signed or not.
-pub(crate) fn meanings_of(sign: SignByte, signed: bool) -> &'static [u8; 256]
-    ensures { (byte : ℕ) → byte < 256
-        → number_meaning (slice_index result.now byte) ≡ byte_meaning sign signed byte }
+/// Where in them the table begins for a sign that is so in its byte, of an item that is signed or not.
+pub(crate) fn table_start(sign: SignByte, signed: bool) -> usize
+    ensures start { result ≡ table_start sign signed }
+    ensures most { result ≤ 1024 }
 {
     match (sign, signed) {
-        (SignByte::Zone, true) => &SIGNED_ZONES,
-        (SignByte::Zone, false) => &UNSIGNED_ZONES,
-        (SignByte::LowHalf, true) => &SIGNED_LOW_HALVES,
-        (SignByte::LowHalf, false) => &UNSIGNED_LOW_HALVES,
-        (SignByte::Own, _) => &OWN_SIGNS,
+        (SignByte::Zone, true) => 0,
+        (SignByte::Zone, false) => 256,
+        (SignByte::LowHalf, true) => 512,
+        (SignByte::LowHalf, false) => 768,
+        (SignByte::Own, _) => 1024,
     }
+}
+
+/// What a byte says by the table that begins there.
+#[inline(always)]
+pub(crate) fn meaning_by(table: usize, byte: u8) -> u8
+    requires { table ≤ 1024 }
+    ensures { (sign : SignByte) (signed : Bool) → table ≡ table_start sign signed
+        → number_meaning result ≡ byte_meaning sign signed byte }
+{
+    SIGNS[table + usize::from(byte)]
 }
 
 /// Whether what a byte says is a sign.
