@@ -96,5 +96,5 @@ pub(crate) fn is_sign(meaning: u8) -> bool
 pub(crate) fn is_minus(meaning: u8) -> bool
     ensures { is_some (number_meaning meaning) ≡ true → number_meaning meaning ≡ Some result }
 {
-    meaning == 1
+    meaning % 2 == 1
 }
