@@ -10,7 +10,8 @@ use Rattle.cob_codec.proofs.PackedLemmas.{all_but_last}
 use Rattle.cob_codec.proofs.SignLemmas.{digit_small}
 use Rattle.cob_lanes.specs.Lanes.{AreBounded, IsVector}
 use Rattle.cob_lanes.specs.Windows.{last_bytes, lane_between, pad_bound, ArePowerPicks}
-use Rattle.cob_lanes.specs.Readers.{AreRead, AreTaken, IsReaderOf, LanesPass, byte_meaning}
+use Rattle.cob_lanes.specs.Readers.{AreRead, AreTaken, IsReaderOf, LanesPass}
+use Rattle.cob_lanes.specs.Signs.{byte_meaning}
 use Rattle.cob_lanes.specs.declared.signs.SignByte.TheVariants.{LowHalf}
 use Rattle.cob_lanes.specs.declared.reader.LaneReader.{LaneReader}
 use Rattle.cob_lanes.proofs.HalfLemmas.{all_digits, signed_as, inside_is, before_is, behind_is, last_byte, last_length, last_half, high_half, low_half, wanted_digits}

@@ -1,71 +1,71 @@
--- Codes of signs as bits.
-use Rattle.std.proofs.Common.{◌≡◌, ◌==◌, ◌+◌, ◌/◌, ◌%◌, ◌^◌, ◌<◌, ◌≤◌, ℕ, zero, suc, Bool, true, false, Some, None, refl, sym, subst, ap, ◌∙◌, inl, inr, arith}
-use Rattle.std.specs.Prelude.{if◌then◌else◌, Option}
-use Rattle.std.proofs.lemmas.Bool.{cases_eq}
-use Rattle.cob_lanes.specs.Signs.{code_meaning, is_some}
+-- What the tables of signs say.
+use Rattle.std.proofs.Common.{◌≡◌, ◌==◌, ◌&&◌, ◌+◌, ◌<◌, ℕ, zero, suc, Bool, true, false, Some, None, List, [], ◌∷◌, drop, get_or, refl, sym, ap, ◌∙◌, arith}
+use Rattle.std.specs.Prelude.{Option}
+use Rattle.std.proofs.lemmas.List.{get_or-drop}
+use Rattle.cob_lanes.specs.Signs.{byte_meaning, number_meaning, table_start}
+use Rattle.cob_lanes.specs.declared.signs.SignByte.{SignByte}
+use Rattle.cob_lanes.specs.declared.signs.SignByte.TheVariants.{Zone, LowHalf, Own}
+use Rattle.cob_lanes.specs.declared.signs.TheConstants.{SIGNS}
 
--- P holds of so many numbers from one on
-Each : (ℕ → Type 0) → (n start : ℕ) → Type 0
-Each P zero start = Unit {0}
-Each P (suc n) start = P start × Each P n (start + 1)
+-- whether two say the same
+abbrev same_said : Option Bool → Option Bool → Bool
+same_said None None = true
+same_said (Some true) (Some true) = true
+same_said (Some false) (Some false) = true
+same_said None (Some b) = false
+same_said (Some b) None = false
+same_said (Some true) (Some false) = false
+same_said (Some false) (Some true) = false
 
-each_at : (P : ℕ → Type 0) (n start : ℕ) → Each P n start → (k : ℕ) → start ≤ k → k < start + n → P k
-unfolding Each
-each_at P zero start all k ge lt = absurd (omega (arith, ge, lt))
-each_at P (suc n) start all k ge lt =
-    elim (cases_eq k start) [
-      | inl same ↦ subst (λ m. P m) (sym same) all.0
-      | inr other ↦ each_at P n (start + 1) all.1 k (omega (arith, ge, other)) (omega (arith, lt))
-    ]
+said_same : (a b : Option Bool) → same_said a b ≡ true → a ≡ b
+said_same None None h = refl
+said_same (Some true) (Some true) h = refl
+said_same (Some false) (Some false) h = refl
+said_same None (Some b) h = absurd (cc)
+said_same (Some b) None h = absurd (cc)
+said_same (Some true) (Some false) h = absurd (cc)
+said_same (Some false) (Some true) h = absurd (cc)
 
--- whether the bit of a code is set
-abbrev pub bit : ℕ → ℕ → Bool
-bit codes code = codes / 2 ^ code % 2 == 1
+-- whether each of so many numbers says what the byte does, from this byte on
+abbrev all_say : (sign : SignByte) → (signed : Bool) → (from count : ℕ) → List ℕ → Bool
+all_say sign signed from zero ns = true
+all_say sign signed from (suc count) [] = false
+all_say sign signed from (suc count) (n ∷ ns) = same_said (number_meaning n) (byte_meaning sign signed from) && all_say sign signed (from + 1) count ns
 
--- what two flags say: whether there is a sign, and whether it is a minus
-abbrev pub said : Bool → Bool → Option Bool
-said is minus = if is then Some minus else None
+both_true : (a b : Bool) → (a && b) ≡ true → (a ≡ true) × (b ≡ true)
+both_true true b h = (refl, h)
+both_true false b h = absurd (cc)
 
--- the bits say what a code does
-abbrev Agree : (signed : Bool) → (codes code : ℕ) → Type 0
-Agree signed codes code = said (bit codes code) (bit 0x22800 code) ≡ code_meaning signed code
+says_at : (sign : SignByte) (signed : Bool) (from count : ℕ) (ns : List ℕ) (k : ℕ) → all_say sign signed from count ns ≡ true → k < count
+    → number_meaning (get_or ns k 0) ≡ byte_meaning sign signed (from + k)
+says_at sign signed from zero ns k all lt = absurd (omega arith)
+says_at sign signed from (suc count) [] k all lt = absurd (cc)
+says_at sign signed from (suc count) (n ∷ ns) zero all lt =
+    let e : from ≡ from + 0 = omega arith in
+    said_same (number_meaning n) (byte_meaning sign signed from) (both_true _ (all_say sign signed (from + 1) count ns) all).0 ∙ ap (λ k. byte_meaning sign signed k) e
+says_at sign signed from (suc count) (n ∷ ns) (suc k) all lt =
+    let e : from + 1 + k ≡ from + suc k = omega arith in
+    says_at sign signed (from + 1) count ns k (both_true (same_said (number_meaning n) (byte_meaning sign signed from)) (all_say sign signed (from + 1) count ns) all).1 (omega arith)
+    ∙ ap (λ j. byte_meaning sign signed j) e
 
-signed_codes : Each (Agree true 0x3FC00) 18 0
-unfolding Each
-signed_codes = (refl, (refl, (refl, (refl, (refl, (refl, (refl, (refl, (refl, (refl, (refl, (refl, (refl, (refl, (refl, (refl, (refl, (refl, tt))))))))))))))))))
+-- a table that begins there
+says : (sign : SignByte) (signed : Bool) (start byte : ℕ) → all_say sign signed 0 256 (drop start SIGNS) ≡ true → byte < 256
+    → number_meaning (get_or SIGNS (start + byte) 0) ≡ byte_meaning sign signed byte
+says sign signed start byte all lt =
+    let e : 0 + byte ≡ byte = omega arith in
+    sym (ap (λ n. number_meaning n) (get_or-drop start SIGNS byte 0)) ∙ says_at sign signed 0 256 (drop start SIGNS) byte all lt ∙ ap (λ j. byte_meaning sign signed j) e
 
-unsigned_codes : Each (Agree false 0x3D400) 18 0
-unfolding Each
-unsigned_codes = (refl, (refl, (refl, (refl, (refl, (refl, (refl, (refl, (refl, (refl, (refl, (refl, (refl, (refl, (refl, (refl, (refl, (refl, tt))))))))))))))))))
+-- the table for each sign
+pub table_says : (sign : SignByte) (signed : Bool) (byte : ℕ) → byte < 256 → number_meaning (get_or SIGNS (table_start sign signed + byte) 0) ≡ byte_meaning sign signed byte
+table_says Zone true byte lt = says Zone true 0 byte refl lt
+table_says Zone false byte lt = says Zone false 256 byte refl lt
+table_says LowHalf true byte lt = says LowHalf true 512 byte refl lt
+table_says LowHalf false byte lt = says LowHalf false 768 byte refl lt
+table_says Own true byte lt = says Own true 1024 byte refl lt
+table_says Own false byte lt = says Own false 1024 byte refl lt
 
--- the codes that are signs
-abbrev pub codes_of : Bool → ℕ
-codes_of signed = if signed then 0x3FC00 else 0x3D400
-
-agree : (signed : Bool) (code : ℕ) → code < 18 → Agree signed (codes_of signed) code
-agree true code few = each_at (Agree true 0x3FC00) 18 0 signed_codes code (omega arith) (omega (arith, few))
-agree false code few = each_at (Agree false 0x3D400) 18 0 unsigned_codes code (omega arith) (omega (arith, few))
-
--- flags that are these bits say what the code does
-pub code_said : (signed : Bool) (codes code : ℕ) (is minus : Bool) → code < 18 → codes ≡ codes_of signed → is ≡ bit codes code → minus ≡ bit 0x22800 code
-    → said is minus ≡ code_meaning signed code
-code_said signed codes code is minus few these first second =
-    ap (λ b. said b minus) (first ∙ ap (λ m. bit m code) these) ∙ ap (λ b. said (bit (codes_of signed) code) b) second ∙ agree signed code few
-
-some_said : (is minus : Bool) → is_some (said is minus) ≡ is
-some_said true minus = refl
-some_said false minus = refl
-
--- the bit of a code that is a sign
-pub sign_said : (signed : Bool) (codes code : ℕ) (is : Bool) → code < 18 → codes ≡ codes_of signed → is ≡ bit codes code → is ≡ is_some (code_meaning signed code)
-sign_said signed codes code is few these bits =
-    sym (some_said is (bit 0x22800 code)) ∙ ap is_some (code_said signed codes code is (bit 0x22800 code) few these bits refl)
-
-minus_said_at : (signed is minus : Bool) (code : ℕ) → said is minus ≡ code_meaning signed code → is_some (code_meaning signed code) ≡ true → code_meaning signed code ≡ Some minus
-minus_said_at signed true minus code same some = sym same
-minus_said_at signed false minus code same some = absurd (cc (ap is_some same ∙ some))
-
--- the bit of a code that is a minus
-pub minus_said : (signed : Bool) (code : ℕ) (minus : Bool) → code < 18 → minus ≡ bit 0x22800 code → is_some (code_meaning signed code) ≡ true → code_meaning signed code ≡ Some minus
-minus_said signed code minus few bits some =
-    minus_said_at signed (bit (codes_of signed) code) minus code (code_said signed (codes_of signed) code (bit (codes_of signed) code) minus few refl refl bits) some
+-- the same, where other numbers stand for where it begins and for the byte
+pub said_by : (table at byte : ℕ) → at ≡ byte → byte < 256 → (sign : SignByte) (signed : Bool) → table ≡ table_start sign signed
+    → number_meaning (get_or SIGNS (table + at) 0) ≡ byte_meaning sign signed byte
+said_by table at byte same lt sign signed is =
+    ap (λ k. number_meaning (get_or SIGNS (table + k) 0)) same ∙ ap (λ t. number_meaning (get_or SIGNS (t + byte) 0)) is ∙ table_says sign signed byte lt

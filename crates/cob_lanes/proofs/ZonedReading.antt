@@ -11,7 +11,7 @@ use Rattle.cob_lanes.specs.Lanes.{IsVector}
 use Rattle.cob_lanes.specs.Windows.{last_bytes, lane_between, ArePowerPicks}
 use Rattle.cob_lanes.specs.Readers.{AreRead, AreTaken, IsReaderOf, LanesPass}
 use Rattle.cob_lanes.specs.declared.signs.SignByte.TheVariants.{Zone}
-use Rattle.cob_lanes.specs.Readers.{byte_meaning}
+use Rattle.cob_lanes.specs.Signs.{byte_meaning}
 use Rattle.cob_lanes.specs.declared.reader.LaneReader.{LaneReader}
 use Rattle.cob_lanes.proofs.HalfLemmas.{all_digits, signed_as, inside_is, before_is, last_byte, last_length, half_odd, wanted_digits}
 

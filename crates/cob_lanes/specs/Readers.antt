@@ -1,22 +1,11 @@
 -- What a reader of lanes takes of a window, and what it is to read a kind of item.
 use Rattle.std.specs.Prelude.{◌≡◌, ℕ, ◌-◌, ◌/◌, ◌%◌, ◌==◌, ◌<◌, ◌≤◌, ℤ, pos, ◌-ℤ◌, Bool, true, false, if◌then◌else◌, List, length, slice_index, Option, Some, None}
 use Rattle.cob_decimal.specs.Decimal.{IsDigits, number_of, digit_at}
-use Rattle.cob_codec.specs.Sign.{sign_meaning, IsSigned}
+use Rattle.cob_codec.specs.Sign.{IsSigned}
 use Rattle.cob_lanes.specs.Lanes.{AreBounded, IsVector, halves_at}
 use Rattle.cob_lanes.specs.Windows.{last_bytes}
-use Rattle.cob_lanes.specs.declared.signs.SignByte.{SignByte}
-use Rattle.cob_lanes.specs.declared.signs.SignByte.TheVariants.{Zone, LowHalf, Own}
+use Rattle.cob_lanes.specs.Signs.{byte_meaning}
 use Rattle.cob_lanes.specs.declared.reader.LaneReader.{LaneReader}
-
--- What a sign's byte says where it is the whole byte: 4E is a plus, 60 a minus, and all else no sign.
-abbrev pub own_meaning : ℕ → Option Bool
-own_meaning byte = if byte == 0x4E then Some false else (if byte == 0x60 then Some true else None)
-
--- What the byte of a sign says, by where in it the sign is: plus, or, where it is true, minus.
-abbrev pub byte_meaning : SignByte → Bool → ℕ → Option Bool
-byte_meaning Zone signed byte = sign_meaning signed (byte / 16)
-byte_meaning LowHalf signed byte = sign_meaning signed (byte % 16)
-byte_meaning Own signed byte = own_meaning byte
 
 -- The window passes the reader: its half bytes are within the bounds, and the sign's byte is a sign, a minus or not.
 pub record LanesPass (r : LaneReader) (v : List ℕ) (minus : Bool) : Type 0 where

@@ -1,6 +1,7 @@
 //! What reads numbers of items.
 
-ghost use Rattle.std.specs.Prelude.{◌<◌};
+ghost use Rattle.std.specs.Prelude.{◌≡◌, ◌<◌, ◌≤◌};
+ghost use Rattle.cob_lanes.specs.Signs.{table_start};
 
 use crate::lanes::{Bounds, Picks};
 use crate::signs::SignByte;
@@ -19,5 +20,9 @@ pub struct LaneReader {
     pub signed: bool,
     /// Which of the sixteen bytes has the sign.
     pub place: u8,
+    /// Where the table begins that says what the byte of the sign means.
+    pub table: usize,
     pub ghost within: { place < 16 },
+    pub ghost tabled: { table ≡ table_start sign signed },
+    pub ghost last: { table ≤ 1024 },
 }

@@ -12,7 +12,7 @@ use crate::filling::{lanes_between, with_lane};
 use crate::lanes::Bounds;
 use crate::picks::{Spread, power_picks};
 use crate::reader::LaneReader;
-use crate::signs::SignByte;
+use crate::signs::{SignByte, table_start};
 use crate::wanted::Wanted;
 use cob_codec::Shape;
 
@@ -84,6 +84,7 @@ impl LaneReader {
             low: power_picks(false, &spread, wanted),
             sign: SignByte::Zone,
             signed: shape.signed,
+            table: table_start(SignByte::Zone, shape.signed),
             place: place as u8,
         }
     }
@@ -113,6 +114,7 @@ impl LaneReader {
             low: power_picks(false, &spread, wanted),
             sign: SignByte::Own,
             signed: true,
+            table: table_start(SignByte::Own, true),
             place: place as u8,
         }
     }
@@ -141,6 +143,7 @@ impl LaneReader {
             low: power_picks(false, &spread, wanted),
             sign: SignByte::LowHalf,
             signed: shape.signed,
+            table: table_start(SignByte::LowHalf, shape.signed),
             place: 15,
         }
     }

@@ -6,7 +6,7 @@ ghost use Rattle.cob_lanes.specs.Windows.{last_bytes, padded_window};
 
 use crate::lanes::{are_bounded, take_halves};
 use crate::reader::LaneReader;
-use crate::signs::{code_of, is_minus, is_sign};
+use crate::signs::{is_minus, is_sign, meaning_by};
 use crate::writer::put_front;
 use std::simd::prelude::*;
 
@@ -64,8 +64,8 @@ impl LaneReader {
     {
         let digits = take_halves(window, &self.high, &self.low);
         let byte = window.to_array()[usize::from(self.place)];
-        let code = code_of(self.sign, byte);
-        if !is_sign(self.signed, code) {
+        let meaning = meaning_by(self.table, byte);
+        if !is_sign(meaning) {
             return LanesRead {
                 is_number: false,
                 minus: false,
@@ -74,7 +74,7 @@ impl LaneReader {
         }
         LanesRead {
             is_number: are_bounded(window, &self.bounds),
-            minus: is_minus(code),
+            minus: is_minus(meaning),
             digits,
         }
     }

@@ -1,8 +1,7 @@
 //! The byte of a sign.
 
-ghost use Rattle.std.specs.Prelude.{◌≡◌, ◌<◌, ◌==◌, ◌/◌, ◌%◌, ◌^◌, Bool, true, Some};
-ghost use Rattle.cob_lanes.specs.Readers.{byte_meaning};
-ghost use Rattle.cob_lanes.specs.Signs.{code_meaning, own_code, is_some};
+ghost use Rattle.std.specs.Prelude.{◌≡◌, ◌≤◌, Bool, true, Some};
+ghost use Rattle.cob_lanes.specs.Signs.{byte_meaning, is_some, number_meaning, table_start};
 
 /// Where in its byte a sign is.
 #[derive(Clone, Copy, Debug)]
@@ -15,67 +14,87 @@ pub enum SignByte {
     Own,
 }
 
-/// The codes that are signs of a signed item, a bit for each: the half bytes from A to F, and both bytes that are signs as a whole.
-const SIGNED: u32 = 0x3_FC00;
+/// What bytes say: 0 plus, 1 minus, and 2 that there is no sign. Five tables of all bytes in turn: for a sign in the zone, of a signed item and of one
+/// without sign; for one in the low half, of both likewise; and for a sign of its own.
+static SIGNS: [u8; 1280] = [
+    2, 2, 2, 2, 2, 2, 2, 2, 2, 2, 2, 2, 2, 2, 2, 2, 2, 2, 2, 2, 2, 2, 2, 2, 2, 2, 2, 2, 2, 2, 2, 2,
+    2, 2, 2, 2, 2, 2, 2, 2, 2, 2, 2, 2, 2, 2, 2, 2, 2, 2, 2, 2, 2, 2, 2, 2, 2, 2, 2, 2, 2, 2, 2, 2,
+    2, 2, 2, 2, 2, 2, 2, 2, 2, 2, 2, 2, 2, 2, 2, 2, 2, 2, 2, 2, 2, 2, 2, 2, 2, 2, 2, 2, 2, 2, 2, 2,
+    2, 2, 2, 2, 2, 2, 2, 2, 2, 2, 2, 2, 2, 2, 2, 2, 2, 2, 2, 2, 2, 2, 2, 2, 2, 2, 2, 2, 2, 2, 2, 2,
+    2, 2, 2, 2, 2, 2, 2, 2, 2, 2, 2, 2, 2, 2, 2, 2, 2, 2, 2, 2, 2, 2, 2, 2, 2, 2, 2, 2, 2, 2, 2, 2,
+    0, 0, 0, 0, 0, 0, 0, 0, 0, 0, 0, 0, 0, 0, 0, 0, 1, 1, 1, 1, 1, 1, 1, 1, 1, 1, 1, 1, 1, 1, 1, 1,
+    0, 0, 0, 0, 0, 0, 0, 0, 0, 0, 0, 0, 0, 0, 0, 0, 1, 1, 1, 1, 1, 1, 1, 1, 1, 1, 1, 1, 1, 1, 1, 1,
+    0, 0, 0, 0, 0, 0, 0, 0, 0, 0, 0, 0, 0, 0, 0, 0, 0, 0, 0, 0, 0, 0, 0, 0, 0, 0, 0, 0, 0, 0, 0, 0,
+    2, 2, 2, 2, 2, 2, 2, 2, 2, 2, 2, 2, 2, 2, 2, 2, 2, 2, 2, 2, 2, 2, 2, 2, 2, 2, 2, 2, 2, 2, 2, 2,
+    2, 2, 2, 2, 2, 2, 2, 2, 2, 2, 2, 2, 2, 2, 2, 2, 2, 2, 2, 2, 2, 2, 2, 2, 2, 2, 2, 2, 2, 2, 2, 2,
+    2, 2, 2, 2, 2, 2, 2, 2, 2, 2, 2, 2, 2, 2, 2, 2, 2, 2, 2, 2, 2, 2, 2, 2, 2, 2, 2, 2, 2, 2, 2, 2,
+    2, 2, 2, 2, 2, 2, 2, 2, 2, 2, 2, 2, 2, 2, 2, 2, 2, 2, 2, 2, 2, 2, 2, 2, 2, 2, 2, 2, 2, 2, 2, 2,
+    2, 2, 2, 2, 2, 2, 2, 2, 2, 2, 2, 2, 2, 2, 2, 2, 2, 2, 2, 2, 2, 2, 2, 2, 2, 2, 2, 2, 2, 2, 2, 2,
+    0, 0, 0, 0, 0, 0, 0, 0, 0, 0, 0, 0, 0, 0, 0, 0, 2, 2, 2, 2, 2, 2, 2, 2, 2, 2, 2, 2, 2, 2, 2, 2,
+    0, 0, 0, 0, 0, 0, 0, 0, 0, 0, 0, 0, 0, 0, 0, 0, 2, 2, 2, 2, 2, 2, 2, 2, 2, 2, 2, 2, 2, 2, 2, 2,
+    0, 0, 0, 0, 0, 0, 0, 0, 0, 0, 0, 0, 0, 0, 0, 0, 0, 0, 0, 0, 0, 0, 0, 0, 0, 0, 0, 0, 0, 0, 0, 0,
+    2, 2, 2, 2, 2, 2, 2, 2, 2, 2, 0, 1, 0, 1, 0, 0, 2, 2, 2, 2, 2, 2, 2, 2, 2, 2, 0, 1, 0, 1, 0, 0,
+    2, 2, 2, 2, 2, 2, 2, 2, 2, 2, 0, 1, 0, 1, 0, 0, 2, 2, 2, 2, 2, 2, 2, 2, 2, 2, 0, 1, 0, 1, 0, 0,
+    2, 2, 2, 2, 2, 2, 2, 2, 2, 2, 0, 1, 0, 1, 0, 0, 2, 2, 2, 2, 2, 2, 2, 2, 2, 2, 0, 1, 0, 1, 0, 0,
+    2, 2, 2, 2, 2, 2, 2, 2, 2, 2, 0, 1, 0, 1, 0, 0, 2, 2, 2, 2, 2, 2, 2, 2, 2, 2, 0, 1, 0, 1, 0, 0,
+    2, 2, 2, 2, 2, 2, 2, 2, 2, 2, 0, 1, 0, 1, 0, 0, 2, 2, 2, 2, 2, 2, 2, 2, 2, 2, 0, 1, 0, 1, 0, 0,
+    2, 2, 2, 2, 2, 2, 2, 2, 2, 2, 0, 1, 0, 1, 0, 0, 2, 2, 2, 2, 2, 2, 2, 2, 2, 2, 0, 1, 0, 1, 0, 0,
+    2, 2, 2, 2, 2, 2, 2, 2, 2, 2, 0, 1, 0, 1, 0, 0, 2, 2, 2, 2, 2, 2, 2, 2, 2, 2, 0, 1, 0, 1, 0, 0,
+    2, 2, 2, 2, 2, 2, 2, 2, 2, 2, 0, 1, 0, 1, 0, 0, 2, 2, 2, 2, 2, 2, 2, 2, 2, 2, 0, 1, 0, 1, 0, 0,
+    2, 2, 2, 2, 2, 2, 2, 2, 2, 2, 0, 2, 0, 2, 0, 0, 2, 2, 2, 2, 2, 2, 2, 2, 2, 2, 0, 2, 0, 2, 0, 0,
+    2, 2, 2, 2, 2, 2, 2, 2, 2, 2, 0, 2, 0, 2, 0, 0, 2, 2, 2, 2, 2, 2, 2, 2, 2, 2, 0, 2, 0, 2, 0, 0,
+    2, 2, 2, 2, 2, 2, 2, 2, 2, 2, 0, 2, 0, 2, 0, 0, 2, 2, 2, 2, 2, 2, 2, 2, 2, 2, 0, 2, 0, 2, 0, 0,
+    2, 2, 2, 2, 2, 2, 2, 2, 2, 2, 0, 2, 0, 2, 0, 0, 2, 2, 2, 2, 2, 2, 2, 2, 2, 2, 0, 2, 0, 2, 0, 0,
+    2, 2, 2, 2, 2, 2, 2, 2, 2, 2, 0, 2, 0, 2, 0, 0, 2, 2, 2, 2, 2, 2, 2, 2, 2, 2, 0, 2, 0, 2, 0, 0,
+    2, 2, 2, 2, 2, 2, 2, 2, 2, 2, 0, 2, 0, 2, 0, 0, 2, 2, 2, 2, 2, 2, 2, 2, 2, 2, 0, 2, 0, 2, 0, 0,
+    2, 2, 2, 2, 2, 2, 2, 2, 2, 2, 0, 2, 0, 2, 0, 0, 2, 2, 2, 2, 2, 2, 2, 2, 2, 2, 0, 2, 0, 2, 0, 0,
+    2, 2, 2, 2, 2, 2, 2, 2, 2, 2, 0, 2, 0, 2, 0, 0, 2, 2, 2, 2, 2, 2, 2, 2, 2, 2, 0, 2, 0, 2, 0, 0,
+    2, 2, 2, 2, 2, 2, 2, 2, 2, 2, 2, 2, 2, 2, 2, 2, 2, 2, 2, 2, 2, 2, 2, 2, 2, 2, 2, 2, 2, 2, 2, 2,
+    2, 2, 2, 2, 2, 2, 2, 2, 2, 2, 2, 2, 2, 2, 2, 2, 2, 2, 2, 2, 2, 2, 2, 2, 2, 2, 2, 2, 2, 2, 2, 2,
+    2, 2, 2, 2, 2, 2, 2, 2, 2, 2, 2, 2, 2, 2, 0, 2, 2, 2, 2, 2, 2, 2, 2, 2, 2, 2, 2, 2, 2, 2, 2, 2,
+    1, 2, 2, 2, 2, 2, 2, 2, 2, 2, 2, 2, 2, 2, 2, 2, 2, 2, 2, 2, 2, 2, 2, 2, 2, 2, 2, 2, 2, 2, 2, 2,
+    2, 2, 2, 2, 2, 2, 2, 2, 2, 2, 2, 2, 2, 2, 2, 2, 2, 2, 2, 2, 2, 2, 2, 2, 2, 2, 2, 2, 2, 2, 2, 2,
+    2, 2, 2, 2, 2, 2, 2, 2, 2, 2, 2, 2, 2, 2, 2, 2, 2, 2, 2, 2, 2, 2, 2, 2, 2, 2, 2, 2, 2, 2, 2, 2,
+    2, 2, 2, 2, 2, 2, 2, 2, 2, 2, 2, 2, 2, 2, 2, 2, 2, 2, 2, 2, 2, 2, 2, 2, 2, 2, 2, 2, 2, 2, 2, 2,
+    2, 2, 2, 2, 2, 2, 2, 2, 2, 2, 2, 2, 2, 2, 2, 2, 2, 2, 2, 2, 2, 2, 2, 2, 2, 2, 2, 2, 2, 2, 2, 2,
+];
 
-/// Those of an item without sign: B and D are none.
-const UNSIGNED: u32 = 0x3_D400;
-
-/// The codes of which a sign is a minus.
-const MINUS: u32 = 0x2_2800;
-
-/// Whether the bit of a code is set.
-#[inline(always)]
-fn is_among(codes: u32, code: u8) -> bool
-    requires { code < 18 }
-    ensures { result ≡ (codes / 2 ^ code % 2 == 1) }
+/// Where in them the table begins for a sign that is so in its byte, of an item that is signed or not.
+pub(crate) fn table_start(sign: SignByte, signed: bool) -> usize
+    ensures start { result ≡ table_start sign signed }
+    ensures most { result ≤ 1024 }
 {
-    (codes >> u32::from(code)) % 2 == 1
-}
-
-/// Whether a code is that of a sign.
-#[inline(always)]
-pub(crate) fn is_sign(signed: bool, code: u8) -> bool
-    requires { code < 18 }
-    ensures { result ≡ is_some (code_meaning signed code) }
-{
-    let signs = if signed { SIGNED } else { UNSIGNED };
-    is_among(signs, code)
-}
-
-/// Whether the sign of a code is a minus.
-#[inline(always)]
-pub(crate) fn is_minus(code: u8) -> bool
-    requires { code < 18 }
-    ensures { (signed : Bool) → is_some (code_meaning signed code) ≡ true
-        → code_meaning signed code ≡ Some result }
-{
-    is_among(MINUS, code)
-}
-
-/// The code of a byte that is a sign as a whole: behind the half bytes, and 0 for one that is no sign.
-#[inline(always)]
-fn own_code(byte: u8) -> u8
-    ensures code { result ≡ own_code byte }
-    ensures few { result < 18 }
-{
-    match byte {
-        0x4E => 16,
-        0x60 => 17,
-        _ => 0,
+    match (sign, signed) {
+        (SignByte::Zone, true) => 0,
+        (SignByte::Zone, false) => 256,
+        (SignByte::LowHalf, true) => 512,
+        (SignByte::LowHalf, false) => 768,
+        (SignByte::Own, _) => 1024,
     }
 }
 
-/// The code of the sign that stands so in a byte.
+/// What a byte says by the table that begins there.
 #[inline(always)]
-pub(crate) fn code_of(sign: SignByte, byte: u8) -> u8
-    ensures code { (signed : Bool)
-        → code_meaning signed result ≡ byte_meaning sign signed byte }
-    ensures few { result < 18 }
+pub(crate) fn meaning_by(table: usize, byte: u8) -> u8
+    requires { table ≤ 1024 }
+    ensures { (sign : SignByte) (signed : Bool) → table ≡ table_start sign signed
+        → number_meaning result ≡ byte_meaning sign signed byte }
 {
-    match sign {
-        SignByte::Zone => byte / 16,
-        SignByte::LowHalf => byte % 16,
-        SignByte::Own => own_code(byte),
-    }
+    SIGNS[table + usize::from(byte)]
+}
+
+/// Whether what a byte says is a sign.
+#[inline(always)]
+pub(crate) fn is_sign(meaning: u8) -> bool
+    ensures { result ≡ is_some (number_meaning meaning) }
+{
+    meaning < 2
+}
+
+/// Whether the sign that a byte says is a minus.
+#[inline(always)]
+pub(crate) fn is_minus(meaning: u8) -> bool
+    ensures { is_some (number_meaning meaning) ≡ true → number_meaning meaning ≡ Some result }
+{
+    meaning % 2 == 1
 }

@@ -75,8 +75,8 @@ fn fours_of(number: u64) -> u16x8
     ensures lanes { result ≡ number / 1000000000000 ∷ number / 100000000 % 10000
         ∷ number / 10000 % 10000 ∷ number % 10000 ∷ 0 ∷ 0 ∷ 0 ∷ 0 ∷ [] }
 {
-    let high = number / 100_000_000;
-    let low = number % 100_000_000;
+    let high = (number / 100_000_000) as u32;
+    let low = (number % 100_000_000) as u32;
     u16x8::from_array([
         (high / 10_000) as u16,
         (high % 10_000) as u16,
