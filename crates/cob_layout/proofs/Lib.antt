@@ -26,6 +26,7 @@ pub mod TakingLemmas
 pub mod ShiftLaw
 pub mod ShiftLemmas
 pub mod MeasuringLemmas
+pub mod RoomLemmas
 pub mod Loans
 pub mod Lists
 pub mod Numbers

@@ -6,7 +6,8 @@ use Rattle.std.proofs.Math.Seq.{set-append_seam}
 use Rattle.std.proofs.lemmas.Bool.{cases_lt}
 use Rattle.std.proofs.lemmas.List.{length-append, drop_more, drop_all, take_more_set, take_all, get_or_past, length-set, length-take-le}
 use Rattle.cob_copybook_tree.specs.Forests.{Forest, NoEntries, AnEntry, entries_in}
-use Rattle.cob_copybook_tree.specs.Nodes.{Resolved}
+use Rattle.cob_copybook_tree.specs.declared.node.Node.{Node}
+use Rattle.cob_copybook_tree.specs.Nodes.{Resolved, node, tree_of}
 use Rattle.cob_copybook_tree.specs.Lengths.{greatest_number, element_length, whole_length, own_length, sum_of}
 use Rattle.cob_layout_places.specs.declared.spots.Spot.{Spot}
 use Rattle.cob_layout_places.specs.declared.varying.Table.{Table}
@@ -14,13 +15,13 @@ use Rattle.cob_layout_places.specs.Counts.{table_of, tables_of}
 use Rattle.cob_layout_places.specs.Lengths.{times}
 use Rattle.cob_layout_places.specs.Places.{begins}
 use Rattle.cob_layout_places.specs.Spots.{spots_of}
-use Rattle.cob_layout_places.proofs.ForestLemmas.{sum_le, within_always, element_le, element_small}
+use Rattle.cob_layout_places.proofs.ForestLemmas.{below, below_is, left, left_is, sum_le, within_always, element_le, element_small}
 use Rattle.cob_layout_places.proofs.SpotLemmas.{length_spots}
 use Rattle.cob_layout_places.proofs.PlaceLemmas.{Left, first_of, rest_of, beneath_fits}
 use Rattle.cob_layout.specs.Counting.{varying}
 use Rattle.cob_layout.specs.Sound.{IsSound}
 use Rattle.cob_layout.specs.declared.shifts.Shift.{Shift}
-use Rattle.cob_layout.specs.Shifts.{all_shifted, are_unnested, bytes_of, shifted, shifts_from, sums_from, IsWithin}
+use Rattle.cob_layout.specs.Shifts.{all_shifted, are_unnested, bytes_of, shift_of, shifted, shifts_from, sums_from, IsWithin}
 use Rattle.cob_layout.proofs.EndLemmas.{same}
 use Rattle.cob_layout.proofs.SpotLaw.{are_spots, at_seam, one_longer}
 use Rattle.cob_layout.proofs.ShiftLaw.{both, AreSums, grow, length_shifts, stand_shifted, sum_grows}
@@ -280,3 +281,38 @@ only_moved sums count s x (here, none) =
     let long : x.length ≡ x.length + slice_index sums s.through - slice_index sums s.before = omega (arith, ap (λ (k : ℕ). slice_index sums k) here) in
     let often : x.times ≡ max x.times (min count s.most) = omega (arith, none) in
     λ i. record { offset = x.offset + slice_index sums s.before; length = long i; times = often i }
+
+-- ---- the entries beneath an entry, one after another
+
+tables_split : (xs ys zs : List Table) → length (xs ++ (ys ++ zs)) ≡ length (xs ++ (ys ++ [])) + length zs
+tables_split xs ys zs = omega (arith, length-append xs (ys ++ zs), length-append ys zs, length-append xs (ys ++ []), length-append ys [])
+
+-- the tables of an entry and of those behind it
+pub tables_next : (children : List Node) (k : ℕ) (n : Node) → k < length children → n ≡ get_or children k n
+    → length (tables_of (left children k)) ≡ length (tables_of (tree_of n)) + length (tables_of (left children (k + 1)))
+tables_next children k n lt is =
+    ap (λ (f : Forest Resolved). length (tables_of f)) (left_is children k n lt is)
+    ∙ tables_split (table_of (node n).top.occurs (node n).top.number) (tables_of (node n).beneath) (tables_of (left children (k + 1)))
+
+-- the tables of an entry are itself, where it is one, and those beneath it
+pub tables_own : (n : Node) → length (tables_of (tree_of n)) ≡ length (table_of (node n).top.occurs (node n).top.number) + length (tables_of (below n))
+tables_own n =
+    let own = table_of (node n).top.occurs (node n).top.number in
+    omega (arith, length-append own (tables_of (node n).beneath ++ []), length-append (tables_of (node n).beneath) [], ap (λ (f : Forest Resolved). length (tables_of f)) (below_is n))
+
+-- the shifts of an entry and of those behind it
+pub shifts_next : (children : List Node) (k : ℕ) (n : Node) (before after : ℕ) → k < length children → n ≡ get_or children k n → after ≡ before + length (tables_of (tree_of n))
+    → shifts_from before (tree_of n) ++ shifts_from after (left children (k + 1)) ≡ shifts_from before (left children k)
+shifts_next children k n before after lt is many =
+    let own = table_of (node n).top.occurs (node n).top.number in
+    let kids = (node n).beneath in
+    let more = left children (k + 1) in
+    let first = shift_of before (before + length (tables_of kids)) (varying (node n).top.occurs) in
+    let further : after ≡ before + length own + length (tables_of kids) = omega (arith, many, length-append own (tables_of kids ++ []), length-append (tables_of kids) []) in
+    ap (λ (zs : List Shift). first ∷ (zs ++ shifts_from after more)) (append-nil (shifts_from before kids))
+    ∙ ap (λ (m : ℕ). first ∷ (shifts_from before kids ++ shifts_from m more)) further
+    ∙ sym (ap (λ (f : Forest Resolved). shifts_from before f) (left_is children k n lt is))
+
+-- a list that goes on behind another is longer
+pub longer : (xs ys zs : List Shift) (first : Shift) → xs ++ [] ≡ (ys ++ first ∷ []) ++ zs → length ys < length xs
+longer xs ys zs first is = omega (arith, ap length is, length-append xs [], length-append (ys ++ first ∷ []) zs, length-append ys (first ∷ []))

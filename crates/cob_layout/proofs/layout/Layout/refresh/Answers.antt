@@ -1,4 +1,4 @@
-use Rattle.std.proofs.Common.{◌≡◌, ◌∙◌, ℕ, List, Option, ap, drop, inr, refl, subst, sym, length, arith, Err, Ok, rules}
+use Rattle.std.proofs.Common.{◌≡◌, ◌∙◌, ℕ, List, Option, ap, drop, inr, refl, subst, sym, length, arith, Err, Ok, rules, ◌++◌, take}
 use Rattle.std.proofs.lemmas.Result.{err_from_is_err_and}
 use Rattle.cob_copybook_tree.specs.Forests.{Forest}
 use Rattle.cob_copybook_tree.specs.Nodes.{Resolved, tree_of}
@@ -8,10 +8,12 @@ use Rattle.cob_layout.specs.declared.counts.StoredCount.{StoredCount}
 use Rattle.cob_layout.specs.Counting.{greatest_counts}
 use Rattle.cob_layout.specs.Kept.{AreKeptOf, TakenAnew, numbers_of}
 use Rattle.cob_layout.specs.Sound.{IsSound}
-use Rattle.cob_layout.specs.Standing.{Standing}
+use Rattle.cob_layout.specs.Standing.{Standing, IsRoomFor}
 use Rattle.cob_layout.proofs.RecordLemmas.{as_many, room_entries, room_tables}
 use Rattle.cob_layout.proofs.ReferenceLemmas.{refers_has}
 use Rattle.cob_layout.proofs.RefreshLemmas.{anew_is, front_of, kept_behind, kept_is, needed_anew, spots_under}
+use Rattle.cob_layout_places.specs.declared.spots.Spot.{Spot}
+use Rattle.cob_layout.proofs.RoomLemmas.{room_still, Written, written}
 use Rattle.cob_layout.proofs.layout.Layout.refresh.Goals as goal
 
 pub needed_by-needed-requires : goal.needed_by-needed-requires
@@ -63,8 +65,8 @@ returns-clause-reads c =
     let r = c.args.reference.now.node in
     let ks = c.args.counts.now.kept in
     let h = c.in_ok-take_anew.ensures.taken in
-    let long_next : length c.take_anew.new.counts ≡ c.copy_from_slice.new.self.len = search rules in
-    let long_taken : length c.stand_under.new.taken ≡ c.counts.inside.taken.len = search rules in
+    let long_next : length c.take_anew.new.counts ≡ c.copy_from_slice.new.self.len = c.take_anew.auto.counts ∙ c.deref_mut.ensures.len in
+    let long_taken : length c.stand_under.new.taken ≡ c.counts.inside.taken.len = c.stand_under.auto.taken ∙ c.deref_mut-2.ensures.len in
     let next : c.deref-3.result.now ≡ c.take_anew.new.counts = c.deref-3.ensures.value ∙ front_of c.copy_from_slice.new.self.len c.take_anew.new.counts _ long_next in
     let taken = front_of c.counts.inside.taken.len c.stand_under.new.taken (drop (length c.stand_under.new.taken) c.counts.inside.taken.items) long_taken ∙ c.stand_under.ensures.counts in
     let anew = subst (λ (d : List ℕ). TakenAnew u c.args.bytes.now (is_read u r c.args.receiving) (tables_of u) (numbers_of ks) (greatest_counts u) (Ok d) h.0) (sym (taken ∙ next))
@@ -80,8 +82,8 @@ returns-clause-ok c =
     let r = c.args.reference.now.node in
     let ks = c.args.counts.now.kept in
     let h = c.in_ok-take_anew.ensures.taken in
-    let long_next : length c.take_anew.new.counts ≡ c.copy_from_slice.new.self.len = search rules in
-    let long_taken : length c.stand_under.new.taken ≡ c.counts.inside.taken.len = search rules in
+    let long_next : length c.take_anew.new.counts ≡ c.copy_from_slice.new.self.len = c.take_anew.auto.counts ∙ c.deref_mut.ensures.len in
+    let long_taken : length c.stand_under.new.taken ≡ c.counts.inside.taken.len = c.stand_under.auto.taken ∙ c.deref_mut-2.ensures.len in
     let next : c.deref-3.result.now ≡ c.take_anew.new.counts = c.deref-3.ensures.value ∙ front_of c.copy_from_slice.new.self.len c.take_anew.new.counts _ long_next in
     let taken = front_of c.counts.inside.taken.len c.stand_under.new.taken (drop (length c.stand_under.new.taken) c.counts.inside.taken.items) long_taken ∙ c.stand_under.ensures.counts in
     let anew = subst (λ (d : List ℕ). TakenAnew u c.args.bytes.now (is_read u r c.args.receiving) (tables_of u) (numbers_of ks) (greatest_counts u) (Ok d) h.0) (sym (taken ∙ next))
@@ -97,8 +99,8 @@ returns-clause-kept c =
     let u = c.args.self.now in
     let r = c.args.reference.now.node in
     let ks = c.args.counts.now.kept in
-    let long_spots : length c.stand_under.new.spots ≡ c.counts.inside.spots.len = search rules in
-    let long_kept : length c.keep_read.new.kept ≡ c.counts.inside.kept.len = search rules in
+    let long_spots : length c.stand_under.new.spots ≡ c.counts.inside.spots.len = c.stand_under.auto.spots ∙ c.deref_mut-4.ensures.len in
+    let long_kept : length c.keep_read.new.kept ≡ c.counts.inside.kept.len = c.keep_read.auto.kept ∙ c.deref_mut-5.ensures.len in
     let spots = front_of c.counts.inside.spots.len c.stand_under.new.spots (drop (length c.stand_under.new.spots) c.counts.inside.spots.items) long_spots in
     let kept = front_of c.counts.inside.kept.len c.keep_read.new.kept (drop (length c.keep_read.new.kept) c.counts.inside.kept.items) long_kept ∙ c.keep_read.ensures
     ∙ kept_is t u r c.args.receiving c.needed_by-needed.result.behind c.needed_by-needed.result.last c.needed_by-needed.result.number c.deref-4.result.now c.deref-5.result.now _ c.deref-6.result.now _ c.deref_mut-5.result.now ks c.self.view_is
@@ -113,16 +115,16 @@ returns-clause-keeps c =
     let r = c.args.reference.now.node in
     let ks = c.args.counts.now.kept in
     let h = c.in_ok-take_anew.ensures.taken in
-    let long_next : length c.take_anew.new.counts ≡ c.copy_from_slice.new.self.len = search rules in
-    let long_taken : length c.stand_under.new.taken ≡ c.counts.inside.taken.len = search rules in
+    let long_next : length c.take_anew.new.counts ≡ c.copy_from_slice.new.self.len = c.take_anew.auto.counts ∙ c.deref_mut.ensures.len in
+    let long_taken : length c.stand_under.new.taken ≡ c.counts.inside.taken.len = c.stand_under.auto.taken ∙ c.deref_mut-2.ensures.len in
     let next : c.deref-3.result.now ≡ c.take_anew.new.counts = c.deref-3.ensures.value ∙ front_of c.copy_from_slice.new.self.len c.take_anew.new.counts _ long_next in
     let taken = front_of c.counts.inside.taken.len c.stand_under.new.taken (drop (length c.stand_under.new.taken) c.counts.inside.taken.items) long_taken ∙ c.stand_under.ensures.counts in
     let anew = subst (λ (d : List ℕ). TakenAnew u c.args.bytes.now (is_read u r c.args.receiving) (tables_of u) (numbers_of ks) (greatest_counts u) (Ok d) h.0) (sym (taken ∙ next))
     (anew_is u u c.args.bytes.now r c.args.receiving c.needed_by-needed.result.behind c.needed_by-needed.result.last c.needed_by-needed.result.number (tables_of u) c.deref.result.now ks (greatest_counts u)
     (Ok c.take_anew.new.counts) h.0 refl refl c.needed_by-needed.ensures.behind c.needed_by-needed.ensures.last c.needed_by-needed.ensures.number
     refl (c.deref.ensures.value ∙ ap (λ (s : Standing). s.kept) c.counts.view_is) h.1) in
-    let long_spots : length c.stand_under.new.spots ≡ c.counts.inside.spots.len = search rules in
-    let long_kept : length c.keep_read.new.kept ≡ c.counts.inside.kept.len = search rules in
+    let long_spots : length c.stand_under.new.spots ≡ c.counts.inside.spots.len = c.stand_under.auto.spots ∙ c.deref_mut-4.ensures.len in
+    let long_kept : length c.keep_read.new.kept ≡ c.counts.inside.kept.len = c.keep_read.auto.kept ∙ c.deref_mut-5.ensures.len in
     let spots = front_of c.counts.inside.spots.len c.stand_under.new.spots (drop (length c.stand_under.new.spots) c.counts.inside.spots.items) long_spots in
     let kept = front_of c.counts.inside.kept.len c.keep_read.new.kept (drop (length c.keep_read.new.kept) c.counts.inside.kept.items) long_kept ∙ c.keep_read.ensures
     ∙ kept_is t u r c.args.receiving c.needed_by-needed.result.behind c.needed_by-needed.result.last c.needed_by-needed.result.number c.deref-4.result.now c.deref-5.result.now _ c.deref-6.result.now _ c.deref_mut-5.result.now ks c.self.view_is
@@ -133,3 +135,62 @@ returns-clause-keeps c =
           (kept_behind c.one_place.ensures u c.args.bytes.now r c.args.receiving ks _ h.0 _ (subst IsSound c.self.view_is c.self.invariant.1) (room_tables u c.args.counts.now c.requires.room) c.requires.kept.0 stands anew),
       inr (_, (refl, stands)),
     )
+
+pub returns-in_err-take_anew-clause-same : goal.returns-in_err-take_anew-clause-same
+returns-in_err-take_anew-clause-same c =
+    let p = err_from_is_err_and c.from_residual.result c.from_residual.ensures.1 in
+    rw p.1 c.counts.view_is
+
+pub returns-in_err-take_anew-clause-room : goal.returns-in_err-take_anew-clause-room
+returns-in_err-take_anew-clause-room c = subst (λ (s : Standing). IsRoomFor c.args.self.now s) (sym c.counts.view_is) c.requires.room
+
+pub stand_under-requires-clause-counts : goal.stand_under-requires-clause-counts
+stand_under-requires-clause-counts c =
+    omega (arith, c.deref_mut-2.ensures.len, c.counts.inside.taken.ok.0, c.counts.invariant.1, ap length c.deref-3.ensures.value, ap length (front_of c.copy_from_slice.new.self.len c.take_anew.new.counts (drop (length c.take_anew.new.counts) c.copy_from_slice.new.self.items) (c.take_anew.auto.counts ∙ c.deref_mut.ensures.len)), c.take_anew.auto.counts, c.deref_mut.ensures.len, c.copy_from_slice.ensures.len, c.counts.inside.next.ok.0)
+
+pub stand_under-requires-clause-next : goal.stand_under-requires-clause-next
+stand_under-requires-clause-next c =
+    omega (arith, ap length c.deref-3.ensures.value, ap length (front_of c.copy_from_slice.new.self.len c.take_anew.new.counts (drop (length c.take_anew.new.counts) c.copy_from_slice.new.self.items) (c.take_anew.auto.counts ∙ c.deref_mut.ensures.len)), c.take_anew.auto.counts, c.deref_mut.ensures.len, c.copy_from_slice.ensures.len, c.counts.inside.next.ok.0, c.counts.invariant.1, ap (λ (s : Standing). length s.counts) c.counts.view_is, room_entries c.args.self.now c.args.counts.now c.requires.room)
+
+pub stand_under-requires-clause-sums : goal.stand_under-requires-clause-sums
+stand_under-requires-clause-sums c =
+    omega (arith, c.deref_mut-3.ensures.len, c.counts.inside.sums.ok.0, c.counts.invariant.2, ap (λ (s : Standing). length s.kept) c.counts.view_is, room_tables c.args.self.now c.args.counts.now c.requires.room)
+
+pub stand_under-requires-clause-room : goal.stand_under-requires-clause-room
+stand_under-requires-clause-room c =
+    omega (arith, c.deref_mut-4.ensures.len, c.counts.inside.spots.ok.0, c.counts.invariant.0, ap (λ (s : Standing). length s.counts) c.counts.view_is, room_entries c.args.self.now c.args.counts.now c.requires.room)
+
+pub invariant_of-counts-2 : goal.invariant_of-counts-2
+invariant_of-counts-2 c =
+    let taken = ap length (front_of c.counts.inside.taken.len c.stand_under.new.taken (drop (length c.stand_under.new.taken) c.counts.inside.taken.items) (c.stand_under.auto.taken ∙ c.deref_mut-2.ensures.len)) in
+    let spots = ap length (front_of c.counts.inside.spots.len c.stand_under.new.spots (drop (length c.stand_under.new.spots) c.counts.inside.spots.items) (c.stand_under.auto.spots ∙ c.deref_mut-4.ensures.len)) in
+    let sums = ap length (front_of c.counts.inside.sums.len c.stand_under.new.sums (drop (length c.stand_under.new.sums) c.counts.inside.sums.items) (c.stand_under.auto.sums ∙ c.deref_mut-3.ensures.len)) in (
+      omega (arith, taken, c.stand_under.auto.taken, c.deref_mut-2.ensures.len, spots, c.stand_under.auto.spots, c.deref_mut-4.ensures.len, c.counts.inside.taken.ok.0, c.counts.inside.spots.ok.0, c.counts.invariant.0),
+      omega (arith, taken, c.stand_under.auto.taken, c.deref_mut-2.ensures.len, c.counts.inside.taken.ok.0, c.counts.invariant.1, ap length (front_of c.copy_from_slice.new.self.len c.take_anew.new.counts (drop (length c.take_anew.new.counts) c.copy_from_slice.new.self.items) (c.take_anew.auto.counts ∙ c.deref_mut.ensures.len)), c.take_anew.auto.counts, c.deref_mut.ensures.len, c.copy_from_slice.ensures.len, c.counts.inside.next.ok.0),
+      omega (arith, sums, c.stand_under.auto.sums, c.deref_mut-3.ensures.len, c.counts.inside.sums.ok.0, c.counts.invariant.2, ap length (front_of c.counts.inside.kept.len c.keep_read.new.kept (drop (length c.keep_read.new.kept) c.counts.inside.kept.items) (c.keep_read.auto.kept ∙ c.deref_mut-5.ensures.len)), c.keep_read.auto.kept, c.deref_mut-5.ensures.len, c.counts.inside.kept.ok.0),
+    )
+
+pub returns-clause-room : goal.returns-clause-room
+returns-clause-room c =
+    let taken = ap length (front_of c.counts.inside.taken.len c.stand_under.new.taken (drop (length c.stand_under.new.taken) c.counts.inside.taken.items) (c.stand_under.auto.taken ∙ c.deref_mut-2.ensures.len)) in
+    let after : Standing = record {
+      counts = take c.counts.inside.taken.len (c.stand_under.new.taken ++ drop (length c.stand_under.new.taken) c.counts.inside.taken.items);
+      spots = take c.counts.inside.spots.len (c.stand_under.new.spots ++ drop (length c.stand_under.new.spots) c.counts.inside.spots.items);
+      kept = take c.counts.inside.kept.len (c.keep_read.new.kept ++ drop (length c.keep_read.new.kept) c.counts.inside.kept.items);
+    } in
+    room_still c.args.self.now c.args.counts.now after c.requires.room (omega (arith, taken, c.stand_under.auto.taken, c.deref_mut-2.ensures.len, c.counts.inside.taken.ok.0, ap (λ (s : Standing). length s.counts) c.counts.view_is)) (omega (arith, ap length (front_of c.counts.inside.kept.len c.keep_read.new.kept (drop (length c.keep_read.new.kept) c.counts.inside.kept.items) (c.keep_read.auto.kept ∙ c.deref_mut-5.ensures.len)), c.keep_read.auto.kept, c.deref_mut-5.ensures.len, c.counts.inside.kept.ok.0, ap (λ (s : Standing). length s.kept) c.counts.view_is))
+
+pub invariant_of-counts : goal.invariant_of-counts
+invariant_of-counts c =
+    let long = c.take_anew.auto.counts ∙ c.deref_mut.ensures.len in
+    (c.counts.invariant.0, omega (arith, ap length (front_of c.copy_from_slice.new.self.len c.take_anew.new.counts (drop (length c.take_anew.new.counts) c.copy_from_slice.new.self.items) long), long, c.copy_from_slice.ensures.len, c.counts.inside.next.ok.0, c.counts.invariant.1), c.counts.invariant.2)
+
+pub returns-clause-stands : goal.returns-clause-stands
+returns-clause-stands c =
+    let taken : List ℕ = take c.counts.inside.taken.len (c.stand_under.new.taken ++ drop (length c.stand_under.new.taken) c.counts.inside.taken.items) in
+    let spots : List Spot = take c.counts.inside.spots.len (c.stand_under.new.spots ++ drop (length c.stand_under.new.spots) c.counts.inside.spots.items) in
+    let w : Written c.args.self.now taken spots c.take_anew.new.counts =
+    written c.args.self.now c.copy_from_slice.new.self.len c.counts.inside.taken.len c.counts.inside.spots.len c.take_anew.new.counts c.deref-3.result.now c.stand_under.new.taken (drop (length c.take_anew.new.counts) c.copy_from_slice.new.self.items)
+    (drop (length c.stand_under.new.taken) c.counts.inside.taken.items) c.stand_under.new.spots (drop (length c.stand_under.new.spots) c.counts.inside.spots.items) (c.take_anew.auto.counts ∙ c.deref_mut.ensures.len)
+    (c.stand_under.auto.taken ∙ c.deref_mut-2.ensures.len) (c.stand_under.auto.spots ∙ c.deref_mut-4.ensures.len) c.deref-3.ensures.value c.stand_under.ensures.counts c.stand_under.ensures.spots in
+    (taken, (refl, w.spots_are))
