@@ -42,6 +42,13 @@ pub record IsReaderOf (represents : List ℕ → Bool → List ℕ → Type 0) (
   pub passes : (v : List ℕ) (negative : Bool) (digits : List ℕ) → IsVector v → represents (last_bytes size v) negative digits
       → (minus : Bool) × LanesPass r v minus
 
+-- The lanes that were taken of the item at the end of bytes, whether they represent a number or not: of a window that ends with the same bytes.
+pub record AreLanesTaken (r : LaneReader) (bytes digits : List ℕ) : Type 0 where
+  pub window : List ℕ
+  pub vector : IsVector window
+  pub same : (size : ℕ) → size ≤ 16 → size ≤ length bytes → last_bytes size window ≡ last_bytes size bytes
+  pub taken : AreTaken r window digits
+
 -- What was read of the item at the end of bytes: of a window that ends with the same bytes, whether it passes, and the lanes that were taken.
 pub record IsLanesRead (r : LaneReader) (bytes : List ℕ) (is_number minus : Bool) (digits : List ℕ) : Type 0 where
   pub window : List ℕ
