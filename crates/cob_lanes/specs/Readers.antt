@@ -1,5 +1,5 @@
 -- What a reader of lanes takes of a window, and what it is to read a kind of item.
-use Rattle.std.specs.Prelude.{◌≡◌, ℕ, ◌-◌, ◌/◌, ◌%◌, ◌==◌, ◌<◌, ◌≤◌, ℤ, pos, ◌-ℤ◌, Bool, true, false, if◌then◌else◌, List, length, slice_index, Option, Some, None}
+use Rattle.std.specs.Prelude.{◌≡◌, ℕ, ◌-◌, ◌<◌, ◌≤◌, ℤ, pos, ◌-ℤ◌, Bool, true, false, List, length, slice_index, Some}
 use Rattle.cob_decimal.specs.Decimal.{IsDigits, number_of, digit_at}
 use Rattle.cob_codec.specs.Sign.{IsSigned}
 use Rattle.cob_lanes.specs.Lanes.{AreBounded, IsVector, halves_at}

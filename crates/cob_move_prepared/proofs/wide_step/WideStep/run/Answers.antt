@@ -1,4 +1,4 @@
-use Rattle.std.proofs.Common.{length, pos, ◌-◌, ◌-ℤ◌}
+use Rattle.std.proofs.Common.{length, ◌-ℤ◌}
 use Rattle.cob_picture.specs.Counts.{scale}
 use Rattle.cob_copybook_tree.specs.Lengths.{item_size}
 use Rattle.cob_lanes.specs.Windows.{last_bytes}
