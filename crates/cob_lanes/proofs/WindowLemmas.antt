@@ -7,7 +7,7 @@ use Rattle.std.proofs.lemmas.Slice.{take-put_mid, drop-put_mid}
 use borrow.Rule.Slice.PartMut.{put_mid}
 use Rattle.cob_lanes.specs.Lanes.{IsVector}
 use Rattle.cob_lanes.specs.Windows.{last_bytes, padded_window}
-use Rattle.cob_lanes.specs.Readers.{AreTaken, IsLanesRead, LanesPass}
+use Rattle.cob_lanes.specs.Readers.{AreLanesTaken, AreTaken, IsLanesRead, LanesPass}
 use Rattle.cob_lanes.specs.declared.reader.LaneReader.{LaneReader}
 
 small_of : (x : ℕ) → Fits w8 x → x < 256
@@ -73,6 +73,26 @@ read_last r bytes window digits is_number minus many bounds is number nothing ta
   same = λ size fits within. ap (last_bytes size) is ∙ last_same bytes size many fits;
   number = number;
   nothing = nothing;
+  taken = taken;
+}
+
+-- what was taken of bytes behind zeros
+pub take_padded : (r : LaneReader) (bytes window digits : List ℕ) → length bytes < 16 → ((i : ℕ) → Fits w8 (get_or bytes i 0)) → window ≡ padded_window bytes
+    → AreTaken r window digits → AreLanesTaken r bytes digits
+take_padded r bytes window digits few bounds is taken = record {
+  window = window;
+  vector = rw is (padded_vector bytes few bounds);
+  same = λ size fits within. ap (last_bytes size) is ∙ padded_same bytes size few within;
+  taken = taken;
+}
+
+-- what was taken of the last sixteen bytes
+pub take_last : (r : LaneReader) (bytes window digits : List ℕ) → 16 ≤ length bytes → ((i : ℕ) → Fits w8 (get_or bytes i 0)) → window ≡ last_bytes 16 bytes
+    → AreTaken r window digits → AreLanesTaken r bytes digits
+take_last r bytes window digits many bounds is taken = record {
+  window = window;
+  vector = rw is (last_vector bytes many bounds);
+  same = λ size fits within. ap (last_bytes size) is ∙ last_same bytes size many fits;
   taken = taken;
 }
 

@@ -4,7 +4,9 @@ use Rattle.std.proofs.lemmas.Bool.{cases_lt}
 use Rattle.cob_decimal.specs.Decimal.{IsDigits, number_of, digit_at}
 use Rattle.cob_decimal.proofs.DecimalLemmas.{digit_in, digit_beyond, number_of-push, number_of-lt, IsDigits-push, ten_more}
 use Rattle.cob_codec.specs.Binary.{IsBinary, binary_length, binary_number, signed_number}
-use Rattle.cob_codec.proofs.BinaryLaws.{same_signed}
+use Rattle.byteorder.specs.Endian.{big_number, twos_complement}
+use Rattle.cob_codec.proofs.BinaryLaws.{same_signed, twos_minus, twos_number}
+use Rattle.cob_lanes.specs.Widths.{greatest_plain}
 use Rattle.cob_lanes.specs.Lanes.{picked_at}
 use Rattle.cob_lanes.specs.Windows.{ArePowerPicks, half_lane, last_bytes, power_pick}
 use Rattle.cob_lanes.specs.Readers.{AreWanted}
@@ -123,3 +125,40 @@ read_none count signed wanted shift r bytes kept minus magnitude is value nonzer
       let small : number_of digits < 10 ^ count = rw (← it.count_is) (number_of-lt digits it.valid) in
       omega (arith, is.limits, equal, small);
 }
+
+-- ---- words of two's complement
+
+half_next : (w : Width) → half_in w ≡ greatest_plain true w + 1
+unfolding half_in
+half_next Two = refl
+half_next Four = refl
+half_next Eight = refl
+
+widest : (w : Width) → 256 ^ width_bytes w ≤ greatest_plain false w + 1
+widest Two = let e : 256 ^ 2 ≡ 65536 = refl in omega (arith, e)
+widest Four = let e : 256 ^ 4 ≡ 4294967296 = refl in omega (arith, e)
+widest Eight = let e : 256 ^ 8 ≡ 18446744073709551616 = refl in omega (arith, e)
+
+-- a word past the plain ones is below zero
+pub word_below : (w : Width) (signed : Bool) (plain number greatest : ℕ) (field : List ℕ) → plain ≡ greatest_plain signed w → number < 256 ^ width_bytes w → greatest + 1 ≡ 256 ^ width_bytes w → plain < number
+    → number ≡ big_number (width_bytes w) field → length field ≡ width_bytes w → signed_number true (greatest - number + 1) ≡ binary_number signed field
+word_below w false plain number greatest field is fits whole past value long = absurd (omega (arith, is, fits, past, widest w))
+word_below w true plain number greatest field is fits whole past value long =
+    let n : ℕ = width_bytes w in
+    let half : ℕ = half_in w in
+    let h : Halved n half = halved w in
+    let minus : ℕ = greatest - number + 1 in
+    let upper : half ≤ number = omega (arith, half_next w, is, past) in
+    let sum : number + minus ≡ 2 * half = omega (arith, h.whole, fits, whole) in
+    sym (ap (λ k. twos_complement k (big_number k field)) long ∙ ap (λ x. twos_complement n x) (sym value) ∙ twos_minus n number minus half h.low h.bits upper sum)
+
+-- a plain word is its number
+pub word_plain : (w : Width) (signed : Bool) (plain number : ℕ) (field : List ℕ) → plain ≡ greatest_plain signed w → number ≤ plain
+    → number ≡ big_number (width_bytes w) field → length field ≡ width_bytes w → signed_number false number ≡ binary_number signed field
+word_plain w false plain number field is within value long = ap (λ x. pos x) value ∙ sym (ap (λ k. pos (big_number k field)) long)
+word_plain w true plain number field is within value long =
+    let n : ℕ = width_bytes w in
+    let half : ℕ = half_in w in
+    let h : Halved n half = halved w in
+    let lower : number < half = omega (arith, half_next w, is, within) in
+    sym (ap (λ k. twos_complement k (big_number k field)) long ∙ ap (λ x. twos_complement n x) (sym value) ∙ twos_number n number half h.low h.bits lower)

@@ -5,3 +5,4 @@ pub mod Signs
 pub mod Writers
 pub mod Texts
 pub mod Words
+pub mod Widths

@@ -1,5 +1,5 @@
 -- What a reader of lanes takes of a window, and what it is to read a kind of item.
-use Rattle.std.specs.Prelude.{◌≡◌, ℕ, ◌-◌, ◌/◌, ◌%◌, ◌==◌, ◌<◌, ◌≤◌, ℤ, pos, ◌-ℤ◌, Bool, true, false, if◌then◌else◌, List, length, slice_index, Option, Some, None}
+use Rattle.std.specs.Prelude.{◌≡◌, ℕ, ◌-◌, ◌<◌, ◌≤◌, ℤ, pos, ◌-ℤ◌, Bool, true, false, List, length, slice_index, Some}
 use Rattle.cob_decimal.specs.Decimal.{IsDigits, number_of, digit_at}
 use Rattle.cob_codec.specs.Sign.{IsSigned}
 use Rattle.cob_lanes.specs.Lanes.{AreBounded, IsVector, halves_at}
@@ -41,6 +41,13 @@ pub record IsReaderOf (represents : List ℕ → Bool → List ℕ → Type 0) (
       → AreRead (represents (last_bytes size v)) wanted shift minus kept
   pub passes : (v : List ℕ) (negative : Bool) (digits : List ℕ) → IsVector v → represents (last_bytes size v) negative digits
       → (minus : Bool) × LanesPass r v minus
+
+-- The lanes that were taken of the item at the end of bytes, whether they represent a number or not: of a window that ends with the same bytes.
+pub record AreLanesTaken (r : LaneReader) (bytes digits : List ℕ) : Type 0 where
+  pub window : List ℕ
+  pub vector : IsVector window
+  pub same : (size : ℕ) → size ≤ 16 → size ≤ length bytes → last_bytes size window ≡ last_bytes size bytes
+  pub taken : AreTaken r window digits
 
 -- What was read of the item at the end of bytes: of a window that ends with the same bytes, whether it passes, and the lanes that were taken.
 pub record IsLanesRead (r : LaneReader) (bytes : List ℕ) (is_number minus : Bool) (digits : List ℕ) : Type 0 where

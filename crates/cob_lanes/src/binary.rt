@@ -1,4 +1,5 @@
-ghost use Rattle.std.specs.Prelude.{◌≤◌, ◌^◌};
+ghost use Rattle.std.specs.Prelude.{◌≡◌, ◌≤◌, ◌^◌};
+ghost use Rattle.cob_lanes.specs.Widths.{greatest_plain};
 
 use crate::lanes::Picks;
 use crate::width::Width;
@@ -13,7 +14,10 @@ pub struct BinaryReader {
     pub limit: u64,
     /// The digits that are kept, of sixteen.
     pub picks: Picks,
+    /// The greatest word that is not below zero.
+    pub plain: u64,
     pub ghost most: { limit ≤ 10 ^ 16 },
+    pub ghost signs: { plain ≡ greatest_plain signed width },
 }
 
 /// What writes binary items, from digits in lanes.

@@ -4,6 +4,7 @@ ghost use Rattle.std.specs.Prelude.{◌≡◌, ◌+◌, ◌^◌, ◌<◌, ◌≤
 ghost use Rattle.byteorder.specs.Endian.{big_number};
 ghost use Rattle.cob_codec.specs.Binary.{binary_number, signed_number};
 ghost use Rattle.cob_lanes.specs.Windows.{last_bytes};
+ghost use Rattle.cob_lanes.specs.Widths.{greatest_plain};
 ghost use Rattle.cob_lanes.specs.Words.{IsBinaryReaderOf, IsWordRead, width_bytes};
 
 use crate::binary::BinaryReader;
@@ -53,17 +54,30 @@ fn greatest(width: Width) -> u64
     }
 }
 
-/// The number of the last bytes: whether it is below zero, and its magnitude.
+/// The greatest word of an item that is not below zero.
+fn greatest_plain(signed: bool, width: Width) -> u64
+    ensures { result ≡ greatest_plain signed width }
+{
+    match (signed, width) {
+        (false, _) => u64::MAX,
+        (true, Width::Two) => 0x7FFF,
+        (true, Width::Four) => 0x7FFF_FFFF,
+        (true, Width::Eight) => 0x7FFF_FFFF_FFFF_FFFF,
+    }
+}
+
+/// The number of the last bytes: whether it is below zero, and its magnitude. Words up to a plain one are not below zero.
 #[inline(always)]
-fn signed_in(width: Width, signed: bool, bytes: &[u8]) -> (bool, u64)
+fn signed_in(width: Width, plain: u64, bytes: &[u8]) -> (bool, u64)
     requires { width_bytes width ≤ length bytes.now }
-    ensures value { signed_number result.0 result.1
+    ensures value { (signed : Bool) → plain ≡ greatest_plain signed width
+        → signed_number result.0 result.1
         ≡ binary_number signed (last_bytes (width_bytes width) bytes.now) }
     ensures nonzero { IsTrue result.0 → 0 < result.1 }
 {
     let number = word_in(width, bytes);
     let greatest = greatest(width);
-    if signed && number > greatest / 2 {
+    if number > plain {
         (true, greatest - number + 1)
     } else {
         (false, number)
@@ -82,11 +96,13 @@ impl BinaryReader {
             apart: 2,
             count: 16,
         };
+        let width = width_of(shape);
         BinaryReader {
-            width: width_of(shape),
+            width,
             signed: shape.signed,
             limit: power_of_ten(shape.digits),
             picks: power_picks(true, &spread, wanted),
+            plain: greatest_plain(shape.signed, width),
         }
     }
 
@@ -97,7 +113,7 @@ impl BinaryReader {
         ensures { IsWordRead
             self.now bytes.now result.is_number result.minus result.digits }
     {
-        let (minus, magnitude) = signed_in(self.width, self.signed, bytes);
+        let (minus, magnitude) = signed_in(self.width, self.plain, bytes);
         if magnitude >= self.limit {
             return LanesRead {
                 is_number: false,

@@ -10,9 +10,10 @@
 //! represent a number by the definitions of `cob_codec`, and what is taken then is that number's digits, aligned (`AreRead`).
 //! [`LaneWriter::write`] leaves the bytes that it makes of digits and a sign (`AreMade` of specs/Writers.antt), and of a writer that was
 //! made ready these are the stored form (`IsWriterOf`). A number of more digits stands in two vectors, its last sixteen digits and those in
-//! front of them: two readers take them of the same packed item, and a [`WideWriter`] writes them (`IsWideWriterOf`). [`LaneText::write`] leaves a text of digits (`AreShown` of specs/Texts.antt): what
-//! each byte shows of them, and what is added to it. [`keeps_minus`] and [`keeps_minus_of_both`] say whether a minus stays with digits, and [`zeros_before`] how many
-//! of them are zeros in front.
+//! front of them: of two readers of such items one reads, and the other takes the digits of what passed ([`LaneReader::take`], `AreLanesTaken`); a
+//! [`WideWriter`] writes them (`IsWideWriterOf`). [`LaneText::write`] leaves a text of digits (`AreShown` of specs/Texts.antt): what each byte
+//! shows of them, and what is added to it. [`keeps_minus`] and [`keeps_minus_of_both`] say whether a minus stays with digits, and
+//! [`zeros_before`] how many of them are zeros in front.
 //!
 //! It stands on cob_codec for what bytes represent and what is stored, on cob_decimal for digits and alignment, and on `std::simd`. It
 //! knows no record and no move, and nothing here takes memory.

@@ -1,7 +1,7 @@
 //! Numbers of items, read as digits in lanes.
 
 ghost use Rattle.std.specs.Prelude.{◌≡◌, ◌<◌, ◌≤◌, Bool, true, false, length};
-ghost use Rattle.cob_lanes.specs.Readers.{AreTaken, IsLanesRead, LanesPass};
+ghost use Rattle.cob_lanes.specs.Readers.{AreLanesTaken, AreTaken, IsLanesRead, LanesPass};
 ghost use Rattle.cob_lanes.specs.Windows.{last_bytes, padded_window};
 
 use crate::lanes::{are_bounded, take_halves};
@@ -54,6 +54,23 @@ impl LaneReader {
         self.read_window(window_of(bytes))
     }
 
+    /// The digits that are kept of the item at the end of bytes, and of as many before it as there are: those of its number, where another reader
+    /// of such items found one.
+    #[inline(always)]
+    pub fn take(&self, bytes: &[u8]) -> u8x16
+        ensures { AreLanesTaken self.now bytes.now result }
+    {
+        self.take_window(window_of(bytes))
+    }
+
+    /// The digits that are kept of sixteen bytes.
+    #[inline(always)]
+    fn take_window(&self, window: u8x16) -> u8x16
+        ensures { AreTaken self.now window result }
+    {
+        take_halves(window, &self.high, &self.low)
+    }
+
     /// The number of the item at the end of sixteen bytes.
     #[inline(always)]
     fn read_window(&self, window: u8x16) -> LanesRead
@@ -62,7 +79,7 @@ impl LaneReader {
             → ¬ LanesPass self.now window minus }
         ensures digits { AreTaken self.now window result.digits }
     {
-        let digits = take_halves(window, &self.high, &self.low);
+        let digits = self.take_window(window);
         let byte = window.to_array()[usize::from(self.place)];
         let meaning = meaning_by(self.table, byte);
         if !is_sign(meaning) {

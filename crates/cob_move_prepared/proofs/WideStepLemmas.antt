@@ -1,5 +1,5 @@
 -- Steps to packed items of more than sixteen digits, made ready and carried out.
-use Rattle.std.proofs.Common.{◌≡◌, ◌↔◌, ◌<◌, ◌≤◌, ℕ, ◌+◌, ◌-◌, ◌/◌, ◌&&◌, pos, ◌-ℤ◌, ℤ, Bool, true, false, not, IsTrue, List, ◌++◌, take, Some, None, refl, sym, ap, subst, ◌∙◌}
+use Rattle.std.proofs.Common.{◌≡◌, ◌↔◌, ◌<◌, ◌≤◌, ℕ, ◌+◌, ◌-◌, ◌/◌, ◌&&◌, pos, ◌-ℤ◌, ℤ, Bool, true, false, not, IsTrue, List, ◌++◌, length, take, Some, None, refl, sym, ap, subst, ◌∙◌}
 use Rattle.cob_decimal.specs.Decimal.{IsDigits, number_of, aligned}
 use Rattle.cob_picture.specs.Counts.{scale, signed}
 use Rattle.cob_picture.specs.Positions.{shows_number}
@@ -13,7 +13,9 @@ use Rattle.cob_copybook_tree.specs.Items.{IsSentBy, OneSentNumber, form_of, is_l
 use Rattle.cob_copybook_tree.specs.Lengths.{item_size}
 use Rattle.cob_edit.specs.Pictured.{IsEdited}
 use Rattle.cob_lanes.specs.Lanes.{AreTens, AreZero}
-use Rattle.cob_lanes.specs.Readers.{AreRead, AreWanted}
+use Rattle.cob_lanes.specs.Readers.{AreLanesTaken, AreRead, AreWanted}
+use Rattle.cob_lanes.specs.Windows.{last_bytes}
+use Rattle.cob_lanes.specs.declared.reader.LaneReader.{LaneReader}
 use Rattle.cob_lanes.specs.Words.{IsNumberRead}
 use Rattle.cob_lanes.specs.Writers.{AreMadeOfBoth, IsWideWriterOf}
 use Rattle.cob_lanes.specs.declared.wide_writer.WideWriter.{WideWriter}
@@ -23,7 +25,7 @@ use Rattle.cob_move_receive.specs.Sent.{Amount, Entry}
 use Rattle.cob_move_receive.specs.Numbers.{IsNumberIn, HoldsAligned, GivesUnder}
 use Rattle.cob_move_receive.specs.Received.{Received, GetsNumber, GetsCharacters, outcome}
 use Rattle.cob_move_prepared.specs.Ends.{item_digits}
-use Rattle.cob_move_prepared.specs.Steps.{received_form}
+use Rattle.cob_move_prepared.specs.Steps.{IsItemReader, received_form}
 use Rattle.cob_move_prepared.specs.Wide.{IsWideStep}
 use Rattle.cob_move_prepared.specs.declared.wide_step.WideStep.{WideStep}
 use Rattle.cob_move_prepared.proofs.KindLemmas.{packed_same}
@@ -49,28 +51,28 @@ packed_wide_writer i count sign w is size many has h =
 
 -- ---- carried out
 
-both_true : (a b : Bool) → (a && b) ≡ true → (a ≡ true) × (b ≡ true)
-both_true true true e = (refl, refl)
-both_true true false e = absurd (cc)
-both_true false b e = absurd (cc)
+-- the digits that were taken of the item at the end of bytes, where they represent a number
+pub item_taken : (from : Item) (reading : Reading) (wanted : ℕ) (shift : ℤ) (r : LaneReader) (bytes kept digits : List ℕ) (negative : Bool) → IsItemReader from wanted shift r → item_size from ≤ length bytes
+    → AreLanesTaken r bytes kept → IsSentBy reading from (last_bytes (item_size from) bytes) negative digits
+    → (minus : Bool) × AreRead (IsSentBy reading from (last_bytes (item_size from) bytes)) wanted shift minus kept
+item_taken from reading wanted shift r bytes kept digits negative is within took there =
+    let item : List ℕ = last_bytes (item_size from) bytes in
+    let same : last_bytes (item_size from) took.window ≡ item = took.same (item_size from) (is reading).fits within in
+    let passed = (is reading).passes took.window negative digits took.vector (subst (λ xs. IsSentBy reading from xs negative digits) (sym same) there) in
+    (passed.0, subst (λ xs. AreRead (IsSentBy reading from xs) wanted shift passed.0 kept) same ((is reading).reads took.window kept passed.0 took.vector passed.1 took.taken))
 
-one_false : (a b : Bool) (P : Type 0) → (a && b) ≡ false → (a ≡ false → P) → (b ≡ false → P) → P
-one_false true true P e f g = absurd (cc)
-one_false true false P e f g = g refl
-one_false false b P e f g = f refl
-
-pub moved_wide : (s r : Item) (step : WideStep) (reading : Reading) (item front back text new : List ℕ) (front_told told front_minus minus left zero_is : Bool) (n : ℕ) → OneSentNumber → IsWideStep s r step → n ≡ item_size r
-    → not (front_told && told) ≡ false
-    → IsNumberRead (IsSentBy reading s item) (item_digits r - 16) (scale r.picture.positions -ℤ scale s.picture.positions -ℤ pos 16) front_told front_minus front
-    → IsNumberRead (IsSentBy reading s item) 16 (scale r.picture.positions -ℤ scale s.picture.positions) told minus back
+pub moved_wide : (s r : Item) (step : WideStep) (reading : Reading) (bytes front back text new : List ℕ) (told minus left zero_is : Bool) (n : ℕ) → OneSentNumber → IsWideStep s r step → item_size s ≤ length bytes → n ≡ item_size r
+    → not told ≡ false → AreLanesTaken step.front bytes front
+    → IsNumberRead (IsSentBy reading s (last_bytes (item_size s) bytes)) 16 (scale r.picture.positions -ℤ scale s.picture.positions) told minus back
     → IsTrue zero_is ↔ (AreZero front × AreZero back) → left ≡ (minus && not zero_is) → AreMadeOfBoth step.writer left front back text → new ≡ take n text
-    → Received (Entry (ItemKind s) item reading) (ItemKind r) n (outcome true new)
-moved_wide s r step reading item front back text new front_told told front_minus minus left zero_is n one is size numbers front_read read zero left_is made written =
+    → Received (Entry (ItemKind s) (last_bytes (item_size s) bytes) reading) (ItemKind r) n (outcome true new)
+moved_wide s r step reading bytes front back text new told minus left zero_is n one is within size number took read zero left_is made written =
+    let item : List ℕ = last_bytes (item_size s) bytes in
     let count : ℕ = item_digits r in
     let shift : ℤ = scale r.picture.positions -ℤ scale s.picture.positions in
-    let both = both_true front_told told (not_false (front_told && told) numbers) in
-    let f : AreRead (IsSentBy reading s item) (count - 16) (shift -ℤ pos 16) front_minus front = front_read.number both.0 in
-    let b : AreRead (IsSentBy reading s item) 16 shift minus back = read.number both.1 in
+    let b : AreRead (IsSentBy reading s item) 16 shift minus back = read.number (not_false told number) in
+    let both = item_taken s reading (count - 16) (shift -ℤ pos 16) step.front bytes front b.digits b.negative is.front within took b.represented in
+    let f : AreRead (IsSentBy reading s item) (count - 16) (shift -ℤ pos 16) both.0 front = both.1 in
     let same = one reading s item f.negative b.negative f.digits b.digits f.represented b.represented in
     let leads : AreWanted (count - 16) (shift -ℤ pos 16) (number_of b.digits) front = subst (λ ds. AreWanted (count - 16) (shift -ℤ pos 16) (number_of ds) front) same.1 f.held in
     let v : Amount = record { negative = b.negative; digits = b.digits; scale = scale s.picture.positions } in
@@ -94,13 +96,11 @@ moved_wide s r step reading item front back text new front_told told front_minus
       match_true (is_number r) (HoldsAligned r v new) (IsEdited r.picture r.blank v.negative v.digits v.scale new) (number_item r is.receives) h,
     )
 
-pub not_moved_wide : (s r : Item) (step : WideStep) (reading : Reading) (item front back new : List ℕ) (front_told told front_minus minus : Bool) (n : ℕ) → IsWideStep s r step
-    → not (front_told && told) ≡ true
-    → IsNumberRead (IsSentBy reading s item) (item_digits r - 16) (scale r.picture.positions -ℤ scale s.picture.positions -ℤ pos 16) front_told front_minus front
+pub not_moved_wide : (s r : Item) (step : WideStep) (reading : Reading) (item back new : List ℕ) (told minus : Bool) (n : ℕ) → IsWideStep s r step → not told ≡ true
     → IsNumberRead (IsSentBy reading s item) 16 (scale r.picture.positions -ℤ scale s.picture.positions) told minus back
     → Received (Entry (ItemKind s) item reading) (ItemKind r) n (outcome false new)
-not_moved_wide s r step reading item front back new front_told told front_minus minus n is numbers front_read read =
+not_moved_wide s r step reading item back new told minus n is none read =
     match_true (shows_number r.picture.category) (GetsNumber (Entry (ItemKind s) item reading) r None) (GetsCharacters (Entry (ItemKind s) item reading) (ItemKind r) n None) (number_shows r (number_item r is.receives))
     (λ v gives.
     let number : IsNumberIn reading s item v = from_match (is_number s) (IsNumberIn reading s item v) (GivesUnder s.picture.category s item v) (number_item s is.sends) gives in
-    one_false front_told told ⊥ (not_true (front_told && told) numbers) (λ e. front_read.nothing e v.negative v.digits number.represents) (λ e. read.nothing e v.negative v.digits number.represents))
+    read.nothing (not_true told none) v.negative v.digits number.represents)

@@ -1,20 +1,12 @@
 //! Steps to packed items of more than sixteen digits, carried out.
 
-ghost use Rattle.std.specs.Prelude.{◌≡◌, ◌≤◌, ◌&&◌, false, length};
+ghost use Rattle.std.specs.Prelude.{◌≡◌, ◌≤◌, false, length};
 ghost use Rattle.cob_move_prepared.specs.Wide.{IsWideCarriedOut};
 ghost use Rattle.cob_move_receive.specs.Received.{outcome};
 
 use crate::wide_step::WideStep;
 use cob_copybook_tree::one_sent_number;
 use cob_lanes::keeps_minus_of_both;
-
-/// Whether both are.
-#[inline(always)]
-fn are_both(first: bool, second: bool) -> bool
-    ensures { result ≡ (first && second) }
-{
-    first && second
-}
 
 impl WideStep {
     /// Moves the number of the sender that ends bytes to a receiver's bytes, as a step of two shorter numbers does.
@@ -27,14 +19,14 @@ impl WideStep {
         ensures same { result ≡ false → to.new ≡ to.old }
     {
         one_sent_number();
-        let front = self.front.read(from);
         let back = self.back.read(from);
-        let are_numbers = are_both(front.is_number, back.is_number);
-        if !are_numbers {
+        if !back.is_number {
             return false;
         }
-        let minus = keeps_minus_of_both(back.minus, front.digits, back.digits);
-        self.writer.write(front.digits, back.digits, minus, to);
+        let front = self.front.take(from);
+        let digits = back.digits;
+        let minus = keeps_minus_of_both(back.minus, front, digits);
+        self.writer.write(front, digits, minus, to);
         true
     }
 }
