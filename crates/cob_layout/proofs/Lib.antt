@@ -14,6 +14,7 @@ pub mod SpotLaw
 pub mod SpotMoves
 pub mod KindLaw
 pub mod WayLaw
+pub mod WaySteps
 pub mod ReadLaw
 pub mod KeepLaw
 pub mod KeptLemmas

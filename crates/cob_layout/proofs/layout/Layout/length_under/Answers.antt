@@ -1,8 +1,5 @@
-use Rattle.std.proofs.Common.{◌≡◌, ◌∙◌, ap, sym, true, rules}
-use Rattle.cob_copybook_tree.specs.Forests.{Forest}
-use Rattle.cob_copybook_tree.specs.Lengths.{sum_of}
-use Rattle.cob_copybook_tree.specs.Nodes.{Resolved, tree_of}
-use Rattle.cob_layout_places.specs.Lengths.{times}
+use Rattle.std.proofs.Common.{◌∙◌, sym}
+use Rattle.cob_copybook_tree.specs.Nodes.{tree_of}
 use Rattle.cob_layout.proofs.MeasuringLemmas.{summed}
 use Rattle.cob_layout.proofs.ShiftLemmas.{unnested_in}
 use Rattle.cob_layout.proofs.layout.Layout.length_under.Goals as goal

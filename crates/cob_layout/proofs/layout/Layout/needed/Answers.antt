@@ -1,8 +1,8 @@
 use Rattle.std.proofs.Common.{rules, ◌≡◌, ap, ◌∙◌, length, arith, Err, None, replicate, ◌++◌, ℕ, List, drop, take, subst, sym, refl}
 use Rattle.std.specs.Prelude.{IfErr}
 use Rattle.std.proofs.lemmas.List.{length-replicate}
-use Rattle.cob_copybook_tree.specs.Forests.{entries_in, Forest}
-use Rattle.cob_copybook_tree.specs.Nodes.{node, tree_of, Resolved}
+use Rattle.cob_copybook_tree.specs.Forests.{entries_in}
+use Rattle.cob_copybook_tree.specs.Nodes.{node, tree_of}
 use Rattle.cob_layout_places.proofs.PlaceLemmas.{entry_fits}
 use Rattle.cob_layout.specs.Standing.{Standing, are_unkept, IsRoomFor}
 use Rattle.cob_layout.proofs.RefreshLemmas.{unkept, front_of}
