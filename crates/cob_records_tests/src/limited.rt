@@ -2,7 +2,7 @@
 
 ghost use Rattle.std.specs.Prelude.{◌<◌};
 
-use crate::calls::{put, read};
+use crate::calls::{ReadAnswer, expect_bytes, expect_number, expect_put, expect_read};
 use crate::frames::FRAME;
 use cob_records::{Form, Limited, MemSink, MemSource, RecordFault, Sink};
 use std::process::Abort;
@@ -16,16 +16,18 @@ const RECORD: &[u8] = b"\xF1\xC1\xC2\xE9";
 /// Two records of nine bytes each, as they are written.
 const NINE: &[u8] = b"\xF0\xF0\xF0\xF7\xC1\xC2\xC3\x40\x40";
 
+/// What a source that fails answers.
+const FAILED: ReadAnswer = Err(RecordFault::ReadFailed);
+
 /// A source that fails in the second record has given what stands before.
 fn reads_one_and_fails(rt: &impl Abort, piece: usize)
     requires { 0 < piece }
 {
     let mut slot = [0u8; 5];
     let mut source = Limited::new(MemSource::new(TWO), piece, 7);
-    assert_eq!(rt; read(&mut source, Form::Fixed, &mut slot), Ok(Some(5)));
-    let failed = read(&mut source, Form::Fixed, &mut slot);
-    assert_eq!(rt; failed, Err(RecordFault::ReadFailed));
-    assert_eq!(rt; source.inner().rest(), b"\xC6\xF0\xF8".as_slice());
+    expect_read(rt, &mut source, Form::Fixed, &mut slot, Ok(Some(5)));
+    expect_read(rt, &mut source, Form::Fixed, &mut slot, FAILED);
+    expect_bytes(rt, source.inner().rest(), b"\xC6\xF0\xF8");
 }
 
 /// A source that fails behind the second record has given both.
@@ -34,11 +36,10 @@ fn reads_two_and_fails(rt: &impl Abort, piece: usize)
 {
     let mut slot = [0u8; 5];
     let mut source = Limited::new(MemSource::new(TWO), piece, 10);
-    assert_eq!(rt; read(&mut source, Form::Fixed, &mut slot), Ok(Some(5)));
-    assert_eq!(rt; read(&mut source, Form::Fixed, &mut slot), Ok(Some(5)));
-    assert_eq!(rt; slot.as_slice(), b"\xC4\xC5\xC6\xF0\xF8".as_slice());
-    let failed = read(&mut source, Form::Fixed, &mut slot);
-    assert_eq!(rt; failed, Err(RecordFault::ReadFailed));
+    expect_read(rt, &mut source, Form::Fixed, &mut slot, Ok(Some(5)));
+    expect_read(rt, &mut source, Form::Fixed, &mut slot, Ok(Some(5)));
+    expect_bytes(rt, &slot, b"\xC4\xC5\xC6\xF0\xF8");
+    expect_read(rt, &mut source, Form::Fixed, &mut slot, FAILED);
 }
 
 #[test]
@@ -57,8 +58,7 @@ fn reads_no_cut_frame(rt: &impl Abort, piece: usize)
     for after in 0u64..8 {
         let mut inner = MemSource::new(FRAME);
         let mut source = Limited::new(&mut inner, piece, after);
-        let failed = read(&mut source, Form::Variable, &mut slot);
-        assert_eq!(rt; failed, Err(RecordFault::ReadFailed));
+        expect_read(rt, &mut source, Form::Variable, &mut slot, FAILED);
     }
 }
 
@@ -68,7 +68,7 @@ fn reads_a_frame(rt: &impl Abort, piece: usize)
 {
     let mut slot = [0u8; 8];
     let mut source = Limited::new(MemSource::new(FRAME), piece, 8);
-    assert_eq!(rt; read(&mut source, Form::Variable, &mut slot), Ok(Some(4)));
+    expect_read(rt, &mut source, Form::Variable, &mut slot, Ok(Some(4)));
 }
 
 #[test]
@@ -81,8 +81,8 @@ fn reads_a_variable_frame_from_a_source_that_fails(rt: HostRuntime) {
 
 /// Writes a record whole, and then another, of which the sink takes three bytes.
 fn writes_one_and_three_bytes<R: Abort, W: Sink>(rt: &R, sink: &mut W, fault: RecordFault) {
-    assert_eq!(rt; put(sink, Form::Fixed, NINE), Ok(()));
-    assert_eq!(rt; put(sink, Form::Fixed, NINE), Err(fault));
+    expect_put(rt, sink, Form::Fixed, NINE, Ok(()));
+    expect_put(rt, sink, Form::Fixed, NINE, Err(fault));
 }
 
 /// A sink fails in the second record.
@@ -92,7 +92,7 @@ fn writes_until_the_sink_fails(rt: &impl Abort, piece: usize)
     let mut room = [0u8; 20];
     let mut sink = Limited::new(MemSink::new(&mut room), piece, 12);
     writes_one_and_three_bytes(rt, &mut sink, RecordFault::WriteFailed { taken: 3 });
-    assert_eq!(rt; sink.inner().taken().len(), 12);
+    expect_number(rt, sink.inner().taken().len(), 12);
 }
 
 /// A sink has no more room in the second record.
@@ -102,7 +102,7 @@ fn writes_until_the_sink_is_full(rt: &impl Abort, piece: usize)
     let mut room = [0u8; 12];
     let mut sink = Limited::new(MemSink::new(&mut room), piece, 100);
     writes_one_and_three_bytes(rt, &mut sink, RecordFault::TookNothing { taken: 3 });
-    assert_eq!(rt; sink.inner().taken().len(), 12);
+    expect_number(rt, sink.inner().taken().len(), 12);
 }
 
 /// A sink that would fail behind the second record takes both.
@@ -111,8 +111,8 @@ fn writes_two(rt: &impl Abort, piece: usize)
 {
     let mut room = [0u8; 18];
     let mut sink = Limited::new(MemSink::new(&mut room), piece, 18);
-    assert_eq!(rt; put(&mut sink, Form::Fixed, NINE), Ok(()));
-    assert_eq!(rt; put(&mut sink, Form::Fixed, NINE), Ok(()));
+    expect_put(rt, &mut sink, Form::Fixed, NINE, Ok(()));
+    expect_put(rt, &mut sink, Form::Fixed, NINE, Ok(()));
 }
 
 #[test]
@@ -130,10 +130,10 @@ fn writes_a_variable_frame_and_fails(rt: &impl Abort, piece: usize)
 {
     let mut room = [0u8; 20];
     let mut sink = Limited::new(MemSink::new(&mut room), piece, 14);
-    assert_eq!(rt; put(&mut sink, Form::Variable, RECORD), Ok(()));
-    assert_eq!(rt; sink.inner().taken(), FRAME);
-    let failed = put(&mut sink, Form::Variable, RECORD);
-    assert_eq!(rt; failed, Err(RecordFault::WriteFailed { taken: 6 }));
+    expect_put(rt, &mut sink, Form::Variable, RECORD, Ok(()));
+    expect_bytes(rt, sink.inner().taken(), FRAME);
+    let failed = RecordFault::WriteFailed { taken: 6 };
+    expect_put(rt, &mut sink, Form::Variable, RECORD, Err(failed));
 }
 
 #[test]
@@ -143,7 +143,7 @@ fn writes_variable_frames(rt: HostRuntime) {
     }
     let mut room = [0u8; 3];
     let mut sink = MemSink::new(&mut room);
-    let full = put(&mut sink, Form::Variable, RECORD);
-    assert_eq!(rt; full, Err(RecordFault::TookNothing { taken: 3 }));
-    assert_eq!(rt; sink.taken(), b"\x00\x08\x00".as_slice());
+    let full = RecordFault::TookNothing { taken: 3 };
+    expect_put(&rt, &mut sink, Form::Variable, RECORD, Err(full));
+    expect_bytes(&rt, sink.taken(), b"\x00\x08\x00");
 }

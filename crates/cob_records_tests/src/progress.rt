@@ -1,6 +1,5 @@
 //! What a source tells of its progress, over a clock that jumps.
-use crate::calls::read;
-use cob_records::{Form, MemSource, Progress, Telling};
+use cob_records::{Form, MemSource, Progress, Source, Telling, next_record};
 use std::alloc::Global;
 use std::cell::Cell;
 use std::fmt::Display;
@@ -54,6 +53,14 @@ impl Eprint for Watch<'_> {
     }
 }
 
+/// Reads nine records of one byte, whatever the answers are.
+fn read_nine<S: Source>(source: &mut S) {
+    let mut slot = [0u8; 1];
+    for _ in 0..9 {
+        let _ = next_record(source, Form::Fixed, 1, &mut slot);
+    }
+}
+
 /// What is told of eight records of one byte.
 fn told_of(alloc: Global, seconds: &[u64], telling: Telling) -> Vec<u8> {
     let watch = Watch {
@@ -62,10 +69,7 @@ fn told_of(alloc: Global, seconds: &[u64], telling: Telling) -> Vec<u8> {
         alloc,
     };
     let mut source = Progress::new(MemSource::new(b"ABCDEFGH"), &watch, Form::Fixed, 1, telling);
-    let mut slot = [0u8; 1];
-    for _ in 0..9 {
-        let _ = read(&mut source, Form::Fixed, &mut slot);
-    }
+    read_nine(&mut source);
     source.finish();
     watch.told.into_inner()
 }
