@@ -231,12 +231,11 @@ fn make_step(
     }
 }
 
-/// Carries out the steps of the plan of moves, in order. It isn't inlined, so that the registers are those of the loop.
+/// Carries out the steps of the plan of moves, in order.
 ///
 /// # Errors
 ///
 /// The first thing missing. The storage is as the moves and receivers before left it then.
-#[inline(never)]
 pub(crate) fn apply_in(
     given: &[StatementMoves],
     plan: &Plan,
