@@ -59,16 +59,23 @@ pub(crate) fn layout_of(alloc: Global, row: &Row) -> Result<Layout, RowFault> {
     layout_at(alloc, Role::In, row, 1)
 }
 
+/// Whether an entry has this name.
+fn is_named(entry: &Node, name: &str) -> bool {
+    match &entry.name {
+        Some(own) => own.as_bytes() == name.as_bytes(),
+        None => false,
+    }
+}
+
 /// The first entry of this name, among this one and those beneath it.
 pub(crate) fn entry_named<'a>(entry: &'a Node, name: &str) -> Option<&'a Node> {
-    if let Some(own) = &entry.name {
-        if own.as_bytes() == name.as_bytes() {
-            return Some(entry);
-        }
+    if is_named(entry, name) {
+        return Some(entry);
     }
     for child in entry.children.iter() {
-        if let Some(found) = entry_named(child, name) {
-            return Some(found);
+        let found = entry_named(child, name);
+        if found.is_some() {
+            return found;
         }
     }
     None

@@ -13,7 +13,7 @@ use cob_copybook::Role;
 use cob_layout::Layout;
 use cob_move::{MoveFault, MoveRule, Paragraph};
 use cob_rows::{Row, RowFault};
-use std::alloc::Global;
+use std::alloc::{AllocError, Global};
 use std::fmt::Write;
 
 /// The paragraph of a row.
@@ -37,26 +37,33 @@ pub(crate) fn read_paragraph(
     Paragraph::read(alloc, input, output, text)
 }
 
-/// Writes how many moves a paragraph has, and how many steps where these are asked for; or why there is none.
+/// Writes how many moves a paragraph has, and how many steps where these are asked for.
+fn push_moves(out: &mut String, paragraph: &Paragraph, has_steps: bool) -> Result<(), AllocError> {
+    write!(out, "moves {}", paragraph.moves())?;
+    if has_steps {
+        write!(out, " steps {}", paragraph.steps())?;
+    }
+    Ok(())
+}
+
+/// Writes why there is no paragraph.
+fn push_fault(out: &mut String, fault: MoveFault) -> Result<(), RowFault> {
+    if fault.rule == MoveRule::Memory {
+        return Err(RowFault::Memory);
+    }
+    Ok(write!(out, "{fault}")?)
+}
+
+/// Writes what came of a paragraph.
 fn push_read(
     out: &mut String,
-    read: &Result<Paragraph, MoveFault>,
+    read: Result<Paragraph, MoveFault>,
     has_steps: bool,
 ) -> Result<(), RowFault> {
     match read {
-        Ok(paragraph) if has_steps => {
-            write!(
-                out,
-                "moves {} steps {}",
-                paragraph.moves(),
-                paragraph.steps()
-            )?;
-        }
-        Ok(paragraph) => write!(out, "moves {}", paragraph.moves())?,
-        Err(fault) if fault.rule == MoveRule::Memory => return Err(RowFault::Memory),
-        Err(fault) => write!(out, "{fault}")?,
+        Ok(paragraph) => Ok(push_moves(out, &paragraph, has_steps)?),
+        Err(fault) => push_fault(out, fault),
     }
-    Ok(())
 }
 
 /// Writes the answer to a row's question about a paragraph.
@@ -70,5 +77,5 @@ pub(crate) fn answer(
     let output = layout_at(alloc, Role::Out, row, 2)?;
     let text = text_of(alloc, row)?;
     let read = read_paragraph(alloc, &input, &output, text.as_slice());
-    push_read(out, &read, has_steps)
+    push_read(out, read, has_steps)
 }

@@ -19,15 +19,11 @@ use std::alloc::{AllocError, Global};
 use std::fmt::Write;
 
 /// Writes how many count items were read, behind the stop if there was one.
-fn push_reads(
-    out: &mut String,
-    answer: Result<(), Stop>,
-    scratch: &Scratch,
-) -> Result<(), AllocError> {
+fn push_reads(out: &mut String, answer: Result<(), Stop>, reads: u64) -> Result<(), AllocError> {
     if let Err(stop) = answer {
         write!(out, "stop at {}, ", stop.offset)?;
     }
-    write!(out, "reads {}", scratch.reads())
+    write!(out, "reads {reads}")
 }
 
 /// Carries out a paragraph, and writes how many count items of the output record were read.
@@ -46,7 +42,7 @@ fn push_applied(
     let (from, to) = records;
     let mut scratch = Scratch::new(alloc, from, to)?;
     let answer = apply(paragraph, from, to, input, output, &mut scratch);
-    push_reads(out, answer, &scratch)
+    push_reads(out, answer, scratch.reads())
 }
 
 /// Writes the answer to a row's question about the reads of a paragraph.
