@@ -4,9 +4,9 @@
 //! A [`Layout`] is made once of a copybook's `Book` and then answers every question about places. It holds a copy of the record's tree, its
 //! tables that vary, and their greatest counts, and by the numbers of the entries what each describes, the tables that hold it, and where it
 //! stands under the greatest counts and while these tables have no element. Where none of them stands beneath another table, the entries stand under
-//! other counts as many bytes further as the tables before them have, and are as much longer as those beneath them have (specs/Shifts.antt). A [`Counts`] says how often these tables occur in one record and where each entry stands then, and keeps the counts
-//! of a storage that were read, each a [`StoredCount`]; a [`Ref`] names one element of one entry: the entry by its number, and a subscript for each table
-//! that holds it or that it is.
+//! other counts as many bytes further as the tables before them have, and are as much longer as those beneath them have (specs/Shifts.antt). A
+//! [`Counts`] says how often these tables occur in one record and where each entry stands then, and keeps the counts of a storage that were read, each
+//! a [`StoredCount`]; a [`Ref`] names one element of one entry: the entry by its number, and a subscript for each table that holds it or that it is.
 //!
 //! What is promised:
 //!
@@ -54,12 +54,12 @@
 //!   is read once at most (`once`); and where the bytes of a place change that meets the item of no count up to a table's, that table's count
 //!   stays (`writes`).
 //!
-//! The definitions: `CountsOf`, `NeededOf` and `AreGreatest` of specs/Counting.antt, `placed` of specs/Placed.antt, `ArePlaces`, `StandsIn`,
-//! `KeepsOf` and `written` of specs/Standing.antt, `TakenAnew` and `AreKeptOf` of specs/Kept.antt, `IsFound` of specs/Finding.antt, those of the laws of specs/Laws.antt, and what they name of `cob_copybook`
-//! (`TakeBytes`) and of `cob_layout_places`, which has the arithmetic of lengths and places. What holds of every record description is the law
-//! [`records_are_sound`] (specs/Sound.antt). The bytes of a [`Place`] are read through [`field`] and written through [`field_mut`], which
-//! changes these bytes and no other (specs/Fields.antt).
-//! Only [`Layout::of`] and [`Layout::new_counts`] take memory.
+//! The definitions: `CountsOf`, `NeededOf` and `AreGreatest` of specs/Counting.antt, `placed` of specs/Placed.antt, `ArePlaces`, `StandsIn`, `KeepsOf`
+//! and `written` of specs/Standing.antt, `TakenAnew` and `AreKeptOf` of specs/Kept.antt, `IsFound` of specs/Finding.antt, those of the laws of
+//! specs/Laws.antt, and what they name of `cob_copybook` (`TakeBytes`) and of `cob_layout_places`, which has the arithmetic of lengths and places. What
+//! holds of every record description is the law [`records_are_sound`] (specs/Sound.antt). The bytes of a [`Place`] are read through [`field`] and
+//! written through [`field_mut`], which changes these bytes and no other (specs/Fields.antt). Only [`Layout::of`] and [`Layout::new_counts`] take
+//! memory.
 #![tactic(auto)]
 
 mod copy;

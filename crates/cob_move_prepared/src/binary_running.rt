@@ -12,6 +12,8 @@ impl BinaryStep {
     /// picture says.
     ///
     /// False where the sender's bytes represent no number: the receiver's bytes are as they were then.
+    ///
+    /// It isn't inlined: a loop over many steps of all kinds stays one short function so.
     #[inline(never)]
     pub fn run(&self, from: &[u8], to: &mut [u8]) -> bool
         requires { length to.old ≤ 16 }

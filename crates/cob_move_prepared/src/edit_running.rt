@@ -24,6 +24,8 @@ impl EditStep {
     /// Moves the number of the sender that ends bytes to a receiver's bytes, as a step of two numbers does.
     ///
     /// False where the sender's bytes represent no number: the receiver's bytes are as they were then.
+    ///
+    /// It isn't inlined: a loop over many steps of all kinds stays one short function so.
     #[inline(never)]
     pub fn run(&self, from: &[u8], to: &mut [u8]) -> bool
         requires { length to.old ≤ 16 }
