@@ -1,12 +1,12 @@
 -- The vector operations, lane by lane.
-use Rattle.std.proofs.Common.{◌≡◌, ℕ, zero, suc, ◌+◌, ◌-◌, ◌*◌, ◌/◌, ◌%◌, ◌^◌, ◌<◌, ◌↔◌, Bool, true, false, not, cond, eqb, ltb, leb, T, ◌||◌, List, [], ◌∷◌, map, length, get_or, replicate, bit_or, refl, sym, ap, ◌∙◌, inl, inr, arith, w8, Fits, eqb-true, ltb-true, ltb-false, eq-eqb, leb-true}
+use Rattle.std.proofs.Common.{◌≡◌, ℕ, zero, suc, ◌+◌, ◌*◌, ◌/◌, ◌%◌, ◌^◌, ◌<◌, ◌↔◌, Bool, true, false, not, cond, eqb, ltb, leb, T, ◌||◌, List, [], ◌∷◌, map, length, get_or, replicate, bit_or, refl, sym, ap, ◌∙◌, inl, inr, arith, w8, Fits, eqb-true, ltb-true, eq-eqb, leb-true}
 use Rattle.std.proofs.lemmas.Bool.{cases_lt, eqb-false}
 use Rattle.std.proofs.lemmas.List.{get_or_past, length-map}
 use Rattle.std.proofs.lemmas.Nat.{and_le_l, and_le_r}
 use Rattle.std.proofs.lemmas.Simd.{Each1-from_get_or, length-zip2, mask_l-mod, swz_l, SwzOk, SwzOk-from_Each1, get_or-swz_l, bitmask_splat, first_set_mask_l}
 use Rattle.std.specs.List.{prefix_len}
 use lib.Bits.{or_add_and}
-use lib.Lanes.{zip2, sel_l, mask_l, top, Each1}
+use lib.Lanes.{zip2, mask_l, top, Each1}
 use mir.Val.{zeroes}
 use Rattle.cob_lanes.specs.Lanes.{first_set, AreZero, is_pick, picked_at, halves_at}
 
@@ -41,33 +41,6 @@ picked_one v m j lt e = go (leb 128 j) refl (ltb j 16) refl
 
 pub picked_lane : (v js : List ℕ) (m : ℕ) → length js ≡ 16 → ((i : ℕ) → i < 16 → is_pick (get_or js i 0) ≡ true) → m < 16 → get_or (swz_l w8 16 v 0 js) m 0 ≡ picked_at v (get_or js m 0)
 picked_lane v js m long ok lt = get_or-swz_l w8 16 v 0 js m (omega arith) ∙ picked_one v m (get_or js m 0) lt (ok m lt)
-
--- ---- saturating subtraction: the larger of the two, less the second
-
-abbrev pub less : ℕ → ℕ → ℕ
-less a b = (a + (2 ^ 8 - b)) % 2 ^ 8
-
-abbrev pub below_mask : ℕ → ℕ → ℕ
-below_mask a b = cond (ltb a b) 255 0
-
-one_excess : (a b : ℕ) → a < 256 → b < 256 → less (cond (top 7 (below_mask a b)) b a) b ≡ a - b
-one_excess a b A B = go (ltb a b) refl
-  where
-    go : (t : Bool) → ltb a b ≡ t → less (cond (top 7 (cond t 255 0)) b a) b ≡ a - b
-    go true e = omega (arith, ltb-true _ _ e)
-    go false e = omega (arith, ltb-false _ _ e)
-
-pub excess_at : (xs ys : List ℕ) (i : ℕ) → i < length xs → i < length ys → Each1 (Fits w8) xs → Each1 (Fits w8) ys
-    → get_or (zip2 less (sel_l (map (top 7) (zip2 below_mask xs ys)) ys xs) ys) i 0 ≡ get_or xs i 0 - get_or ys i 0
-excess_at [] ys i p q f g = absurd (omega arith)
-excess_at (x ∷ xs) [] i p q f g = absurd (omega arith)
-excess_at (x ∷ xs) (y ∷ ys) zero p q f g = one_excess x y f.0.fits g.0.fits
-excess_at (x ∷ xs) (y ∷ ys) (suc i) p q f g = excess_at xs ys i (omega arith) (omega arith) f.1 g.1
-
-pub excess_len : (xs ys : List ℕ) → length xs ≡ length ys → length (zip2 less (sel_l (map (top 7) (zip2 below_mask xs ys)) ys xs) ys) ≡ length xs
-excess_len [] ys e = refl
-excess_len (x ∷ xs) [] e = absurd (omega arith)
-excess_len (x ∷ xs) (y ∷ ys) e = ap suc (excess_len xs ys (omega arith))
 
 -- ---- tests of all lanes
 

@@ -1,5 +1,5 @@
 -- Sixteen bytes as a list of lanes.
-use Rattle.std.specs.Prelude.{◌≡◌, ℕ, ◌+◌, ◌/◌, ◌%◌, ◌<◌, ◌≤◌, Bool, ◌||◌, nat_lt, nat_le, ◌==◌, if◌then◌else◌, List, length, slice_index}
+use Rattle.std.specs.Prelude.{◌≡◌, ℕ, ◌+◌, ◌/◌, ◌%◌, ◌<◌, ◌≤◌, ◌↔◌, Bool, ◌||◌, nat_lt, nat_le, ◌==◌, if◌then◌else◌, List, length, slice_index}
 use Rattle.std.specs.Int.{w64, trailing_zeros}
 
 -- The number of a lane, or none, which is 128 or more.
@@ -28,6 +28,11 @@ pub record AreBounded (least_high most_high most_low v : List ℕ) : Type 0 wher
   pub least : (i : ℕ) → i < 16 → slice_index least_high i ≤ slice_index v i / 16
   pub most : (i : ℕ) → i < 16 → slice_index v i / 16 ≤ slice_index most_high i
   pub low : (i : ℕ) → i < 16 → slice_index v i % 16 ≤ slice_index most_low i
+
+-- The sums of half bytes with these numbers have their highest bit just where the half bytes are out of their bounds.
+abbrev pub Tells : (ℕ → ℕ) → (ℕ → ℕ) → List ℕ → Type 0
+Tells least most added =
+    (i x : ℕ) → i < 16 → x < 16 → ((x + slice_index added i) % 256 / 128 ≡ 0) ↔ ((least i ≤ x) × (x ≤ most i))
 
 -- The number of the lowest bit of a mask that is set, and 16 where none is.
 abbrev pub first_set : ℕ → ℕ

@@ -2,7 +2,7 @@
 
 ghost use Rattle.std.specs.Prelude.{◌≡◌, ◌==◌, ℕ, ◌+◌, ◌-◌, ◌*◌, ◌/◌, ◌%◌, ◌<◌, ◌↔◌, Bool, ◌&&◌, not, true, length, slice_index, IsTrue};
 ghost use Rattle.std.specs.List.{prefix_len};
-ghost use Rattle.cob_lanes.specs.Lanes.{first_set, is_pick, picked_at, halves_at, AreZero, AreBounded};
+ghost use Rattle.cob_lanes.specs.Lanes.{first_set, is_pick, picked_at, halves_at, AreZero, AreBounded, Tells};
 
 use std::simd::prelude::*;
 
@@ -45,13 +45,13 @@ fn lows(v: u8x16) -> u8x16
     v & u8x16::splat(15)
 }
 
-/// How much each lane is more than the other's.
+/// The highest bit of each lane.
 #[inline(always)]
-fn excess(a: u8x16, b: u8x16) -> u8x16
+fn tops(v: u8x16) -> u8x16
     ensures long { length result ≡ 16 }
-    ensures lanes { (i : ℕ) → i < 16 → slice_index result i ≡ slice_index a i - slice_index b i }
+    ensures lanes { (i : ℕ) → i < 16 → slice_index result i ≡ slice_index v i / 128 }
 {
-    a.saturating_sub(b)
+    v >> u8x16::splat(7)
 }
 
 /// What is 0 where both are.
@@ -142,20 +142,26 @@ pub struct Bounds {
     pub least_high: [u8; 16],
     pub most_high: [u8; 16],
     pub most_low: [u8; 16],
+    /// What is added to the high halves: the sum has its highest bit where the half is out of its bounds.
+    pub high: [u8; 16],
+    /// What is added to the low halves likewise.
+    pub low: [u8; 16],
+    pub ghost highs: { Tells (slice_index least_high) (slice_index most_high) high },
+    pub ghost lows: { Tells (λ _. 0) (slice_index most_low) low },
 }
 
 /// Whether these high halves and low halves of sixteen bytes are within their bounds.
 #[inline(always)]
 fn are_within(v: u8x16, high: u8x16, low: u8x16, by: &Bounds) -> bool
+    requires small { (i : ℕ) → i < 16 → slice_index v i < 256 }
     requires high { (i : ℕ) → i < 16 → slice_index high i ≡ slice_index v i / 16 }
     requires low { (i : ℕ) → i < 16 → slice_index low i ≡ slice_index v i % 16 }
     ensures { IsTrue result
         ↔ AreBounded by.now.least_high by.now.most_high by.now.most_low v }
 {
-    let least = excess(u8x16::from_array(by.least_high), high);
-    let most = excess(high, u8x16::from_array(by.most_high));
-    let more = excess(low, u8x16::from_array(by.most_low));
-    are_zero(either(either(least, most), more))
+    let above = tops(sums(high, u8x16::from_array(by.high)));
+    let below = tops(sums(low, u8x16::from_array(by.low)));
+    are_zero(either(above, below))
 }
 
 /// Whether the half bytes of sixteen bytes are within their bounds.

@@ -22,6 +22,7 @@
 mod binary;
 mod binary_reading;
 mod binary_writing;
+mod bounds;
 mod filling;
 mod lanes;
 mod picks;

@@ -8,6 +8,7 @@ ghost use Rattle.cob_codec.specs.Zoned.{IsZoned};
 ghost use Rattle.cob_lanes.specs.Readers.{IsReaderOf};
 ghost use Rattle.cob_lanes.specs.Windows.{first_lane, pad_bound, sign_lane};
 
+use crate::bounds::ANY;
 use crate::filling::{lanes_between, with_lane};
 use crate::lanes::Bounds;
 use crate::picks::{Spread, power_picks};
@@ -15,9 +16,6 @@ use crate::reader::LaneReader;
 use crate::signs::{SignByte, table_start};
 use crate::wanted::Wanted;
 use cob_codec::Shape;
-
-/// The greatest half byte.
-const ANY: u8 = 0xF;
 
 /// The greatest half byte that is a digit.
 const NINE: u8 = 9;
@@ -68,11 +66,8 @@ impl LaneReader {
         let front = 16 - count;
         let place = front + sign_place(shape.signed, shape.leading, count);
         let zones = lanes_between(front, 16, ANY, 0);
-        let bounds = Bounds {
-            least_high: with_lane(zones, place, 0),
-            most_high: [ANY; 16],
-            most_low: lanes_between(front, 16, NINE, ANY),
-        };
+        let least_high = with_lane(zones, place, 0);
+        let bounds = Bounds::above(least_high, lanes_between(front, 16, NINE, ANY));
         let spread = Spread {
             start: 2 * front + 1,
             apart: 2,
@@ -98,11 +93,9 @@ impl LaneReader {
         let count = usize::from(shape.digits);
         let first = first_lane(shape.leading, count);
         let place = sign_lane(shape.leading, count);
-        let bounds = Bounds {
-            least_high: lanes_between(first, first + count, ANY, 0),
-            most_high: [ANY; 16],
-            most_low: lanes_between(first, first + count, NINE, ANY),
-        };
+        let least_high = lanes_between(first, first + count, ANY, 0);
+        let most_low = lanes_between(first, first + count, NINE, ANY);
+        let bounds = Bounds::above(least_high, most_low);
         let spread = Spread {
             start: 2 * first + 1,
             apart: 2,
@@ -127,11 +120,8 @@ impl LaneReader {
         let count = usize::from(shape.digits);
         let front = 15 - count / 2;
         let digits = lanes_between(front, 16, NINE, ANY);
-        let bounds = Bounds {
-            least_high: [0; 16],
-            most_high: with_lane(digits, front, pad_bound(count)),
-            most_low: lanes_between(front, 15, NINE, ANY),
-        };
+        let most_high = with_lane(digits, front, pad_bound(count));
+        let bounds = Bounds::below(most_high, lanes_between(front, 15, NINE, ANY));
         let spread = Spread {
             start: 31 - count,
             apart: 1,

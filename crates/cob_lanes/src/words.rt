@@ -75,6 +75,20 @@ fn fours_of(number: u64) -> u16x8
     ensures lanes { result ≡ number / 1000000000000 ∷ number / 100000000 % 10000
         ∷ number / 10000 % 10000 ∷ number % 10000 ∷ 0 ∷ 0 ∷ 0 ∷ 0 ∷ [] }
 {
+    // Few numbers are greater: so most of them cost no division of a long word.
+    if number < 100_000_000 {
+        let low = number as u32;
+        return u16x8::from_array([
+            0,
+            0,
+            (low / 10_000) as u16,
+            (low % 10_000) as u16,
+            0,
+            0,
+            0,
+            0,
+        ]);
+    }
     let high = (number / 100_000_000) as u32;
     let low = (number % 100_000_000) as u32;
     u16x8::from_array([

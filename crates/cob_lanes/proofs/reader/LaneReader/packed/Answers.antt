@@ -1,4 +1,4 @@
-use Rattle.std.proofs.Common.{◌≡◌, ℕ, refl, ◌∙◌, arith}
+use Rattle.std.proofs.Common.{◌≡◌, ℕ, refl, ap, get_or, ◌∙◌, arith}
 use Rattle.std.proofs.lemmas.List.{get_or-replicate}
 use Rattle.cob_lanes.proofs.HalfLemmas.{lane_from}
 use Rattle.cob_lanes.proofs.PackedReading.{packed_reader}
@@ -13,9 +13,9 @@ returns c =
       some = omega (arith, e, s.some);
       most = omega (arith, e, s.most);
       room = c.args.wanted.most;
-      least_high = λ i lt. get_or-replicate 16 i 0 0 lt;
-      most_high = λ i lt. c.with_lane.ensures i lt ∙ lane_from i _ _ _ _ _ _ refl c.pad_bound.ensures (c.lanes_between-digits.ensures i lt);
-      most_low = c.lanes_between.ensures;
+      least_high = λ i lt. ap (λ l. get_or l i 0) c.below-bounds.ensures.least_high ∙ get_or-replicate 16 i 0 0 lt;
+      most_high = λ i lt. ap (λ l. get_or l i 0) c.below-bounds.ensures.most_high ∙ c.with_lane-most_high.ensures i lt ∙ lane_from i _ _ _ _ _ _ refl c.pad_bound.ensures (c.lanes_between-digits.ensures i lt);
+      most_low = λ i lt. ap (λ l. get_or l i 0) c.below-bounds.ensures.most_low ∙ c.lanes_between.ensures i lt;
       high = c.power_picks.ensures;
       low = c.power_picks-2.ensures;
       sign_is = refl;

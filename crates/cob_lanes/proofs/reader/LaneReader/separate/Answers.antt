@@ -1,4 +1,4 @@
-use Rattle.std.proofs.Common.{◌≡◌, ◌+◌, ◌*◌, ℕ, true, false, subst, refl, ap, ◌∙◌, arith}
+use Rattle.std.proofs.Common.{◌≡◌, ◌+◌, ◌*◌, ℕ, true, false, subst, refl, ap, get_or, ◌∙◌, arith}
 use Rattle.std.proofs.lemmas.List.{get_or-replicate}
 use Rattle.cob_lanes.specs.Windows.{lane_between, first_lane, ArePowerPicks}
 use Rattle.cob_lanes.proofs.SeparateReading.{separate_reader}
@@ -14,9 +14,9 @@ returns c =
     separate_reader n s.digits s.leading c.args.wanted.digits c.args.wanted.shift _ e (record {
       most = omega (arith, e, c.requires);
       room = w.most;
-      least_high = λ i lt. c.lanes_between.ensures i lt ∙ ap (λ k. lane_between k (k + n) 15 0 i) f;
-      most_high = λ i lt. get_or-replicate 16 i 15 0 lt;
-      most_low = λ i lt. c.lanes_between-2.ensures i lt ∙ ap (λ k. lane_between k (k + n) 9 15 i) f;
+      least_high = λ i lt. ap (λ l. get_or l i 0) c.above-bounds.ensures.least_high ∙ c.lanes_between-least_high.ensures i lt ∙ ap (λ k. lane_between k (k + n) 15 0 i) f;
+      most_high = λ i lt. ap (λ l. get_or l i 0) c.above-bounds.ensures.most_high ∙ get_or-replicate 16 i 15 0 lt;
+      most_low = λ i lt. ap (λ l. get_or l i 0) c.above-bounds.ensures.most_low ∙ c.lanes_between-most_low.ensures i lt ∙ ap (λ k. lane_between k (k + n) 9 15 i) f;
       high = subst (λ k. ArePowerPicks true (2 * k + 1) 2 n w.digits w.shift c.power_picks.result.lanes) f c.power_picks.ensures;
       low = subst (λ k. ArePowerPicks false (2 * k + 1) 2 n w.digits w.shift c.power_picks-2.result.lanes) f c.power_picks-2.ensures;
       sign_is = refl;
