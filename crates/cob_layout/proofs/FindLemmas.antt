@@ -18,10 +18,10 @@ use Rattle.cob_layout_places.specs.References.{Refers}
 use Rattle.cob_layout_places.specs.Spots.{spots_of}
 use Rattle.cob_layout.specs.declared.counts.StoredCount.{StoredCount}
 use Rattle.cob_layout.specs.Counting.{greatest_counts, NeededOf}
-use Rattle.cob_layout.specs.Finding.{StandsFor, are_met, is_kept_as, is_met, stands_for}
+use Rattle.cob_layout.specs.Finding.{StandsFor, are_all_met, are_met, is_kept_as, is_met}
 use Rattle.cob_layout.specs.Kept.{AreKept, AreKeptOf, IsIn, IsKeptCount, IsStoredCount, TakenAnew, TakenBy, kept_after, kept_read, number_of, numbers_of, stored_at}
 use Rattle.cob_layout.specs.Sound.{IsSound}
-use Rattle.cob_layout.specs.Standing.{Standing, AreSomePlaces, IsRoomFor, KeepsOf, are_unkept}
+use Rattle.cob_layout.specs.Standing.{are_unkept}
 use Rattle.cob_layout.specs.Ways.{first_element}
 use Rattle.cob_layout.proofs.ByteLemmas.{in_back, in_front}
 use Rattle.cob_layout.proofs.GreatestLemmas.{AreSame, find_same}
@@ -223,51 +223,48 @@ greatest_stays t bytes read d y s taken i skips =
     taken
     ∙ greatest_own 0 last (tables_of t) (replicate (entries_in t) 0) y rise (omega (arith, length-replicate {A = ℕ} (entries_in t) 0)) i
 
--- What a reference has where a record stands as it needs: the counts that it needs, none of which is read anew, give it the place that it has.
-pub record Meets (t : Forest Resolved) (bytes : List ℕ) (r : ℕ) (receiving : Bool) (s : Standing) : Type 0 where
+-- What a reference has where all that it reads is kept and the counts are what it asks: the counts that it needs, none of which is read anew, give it
+-- the place that it has under these counts.
+pub record MeetsBy (t : Forest Resolved) (bytes : List ℕ) (r : ℕ) (receiving : Bool) (ks : List (Option StoredCount)) (e : List ℕ) : Type 0 where
   pub counts : List ℕ
-  pub taken : TakenAnew t bytes (is_read t r receiving) (tables_of t) (numbers_of s.kept) (greatest_counts t) (Ok counts) 0
+  pub taken : TakenAnew t bytes (is_read t r receiving) (tables_of t) (numbers_of ks) (greatest_counts t) (Ok counts) 0
   pub needed : NeededOf t r receiving bytes (Ok counts)
-  pub place : StandsFor t r s.counts counts
-  pub kept : numbers_of s.kept ≡ kept_after (is_read t r receiving) counts (tables_of t) (numbers_of s.kept)
-  pub stands : AreSomePlaces t s
+  pub place : StandsFor t r e counts
+  pub kept : numbers_of ks ≡ kept_after (is_read t r receiving) counts (tables_of t) (numbers_of ks)
 
-some_places : (t : Forest Resolved) (bytes : List ℕ) (s : Standing) → KeepsOf t bytes s → are_unkept s.kept ≡ false → AreSomePlaces t s
-some_places t bytes s (kept, inl none) some = absurd (not_both (are_unkept s.kept) none some)
-some_places t bytes s (kept, inr stands) some = stands
-
-not_true : (b : Bool) → not b ≡ true → b ≡ false
-not_true true e = cc
-not_true false e = refl
-
-pub meets : NeedsAreRead → OnePlace → (t : Forest Resolved) (bytes : List ℕ) (r : ℕ) (receiving : Bool) (subscripts : List ℕ) (s : Standing) → IsSound t → Refers r subscripts t
-    → IsRoomFor t s → KeepsOf t bytes s → stands_for t r receiving s ≡ true → Meets t bytes r receiving s
-meets read place t bytes r receiving subscripts s sound refers room keeps is =
+pub meets_by : NeedsAreRead → OnePlace → (t : Forest Resolved) (bytes : List ℕ) (r : ℕ) (receiving : Bool) (subscripts : List ℕ) (ks : List (Option StoredCount)) (e : List ℕ) → IsSound t → Refers r subscripts t
+    → length ks ≡ length (tables_of t) → AreKeptOf t bytes ks → are_met (number_behind true r t) (receiving && (number_behind false r t == entries_in t)) r e (tables_of t) ks ≡ true
+    → MeetsBy t bytes r receiving ks e
+meets_by read place t bytes r receiving subscripts ks e sound refers long keeps met =
     let behind : ℕ = number_behind true r t in
     let last : Bool = receiving && (number_behind false r t == entries_in t) in
     let xs : List Table = tables_of t in
-    let e : List ℕ = s.counts in
     let has : Has r t = refers_has r subscripts t refers in
-    let (some, met) = and_both (not (are_unkept s.kept)) (are_met behind last r e xs s.kept) is in
-    let long : length s.kept ≡ length xs = room_tables t s room in
-    let kept : AreKept t bytes xs (numbers_of s.kept) = numbers_kept t bytes s.kept long keeps.0 in
-    let (d, taken) = taken_met t bytes behind last r e xs s.kept (greatest_counts t) met in
-    let so : Sofar t bytes (is_read t r receiving) [] d = ends place t bytes (is_read t r receiving) sound (reads_closed t r receiving sound) xs (numbers_of s.kept) (greatest_counts t) d 0 (start t bytes (is_read t r receiving) sound) kept taken in
+    let kept : AreKept t bytes xs (numbers_of ks) = numbers_kept t bytes ks long keeps in
+    let (d, taken) = taken_met t bytes behind last r e xs ks (greatest_counts t) met in
+    let so : Sofar t bytes (is_read t r receiving) [] d = ends place t bytes (is_read t r receiving) sound (reads_closed t r receiving sound) xs (numbers_of ks) (greatest_counts t) d 0 (start t bytes (is_read t r receiving) sound) kept taken in
     let agree : (y : Table) → IsIn y xs → is_needed behind last r y ≡ true → slice_index d y.number ≡ slice_index e y.number =
-    λ y i reads. one place t bytes sound y (slice_index d y.number) (slice_index e y.number) i (so.before y i reads (λ j. j)) (stored_met t bytes behind last r e xs s.kept y kept met i reads) in
-    let own : Taken t bytes (keep (is_read t r receiving) xs) (greatest_counts t) (Ok d) = kept_give_needed place t bytes r receiving (numbers_of s.kept) (Ok d) 0 sound kept taken in
+    λ y i reads. one place t bytes sound y (slice_index d y.number) (slice_index e y.number) i (so.before y i reads (λ j. j)) (stored_met t bytes behind last r e xs ks y kept met i reads) in
+    let own : Taken t bytes (keep (is_read t r receiving) xs) (greatest_counts t) (Ok d) = kept_give_needed place t bytes r receiving (numbers_of ks) (Ok d) 0 sound kept taken in
     let below : (x : Table) → IsIn x xs → x.number < behind → slice_index e x.number ≡ slice_index d x.number = λ x i lt. elim (two_ways (is_needed behind last r x)) [
       | inl reads ↦ sym (agree x i reads)
-      | inr skips ↦ most_met behind last r e xs s.kept x met i lt skips ∙ sym (greatest_stays t bytes (is_read t r receiving) d x sound own i skips)
+      | inr skips ↦ most_met behind last r e xs ks x met i lt skips ∙ sym (greatest_stays t bytes (is_read t r receiving) d x sound own i skips)
     ] in
     record {
       counts = d;
       taken = taken;
-      needed = needed_anew read place t bytes r receiving subscripts s.kept (Ok d) 0 sound refers long keeps.0 taken;
+      needed = needed_anew read place t bytes r receiving subscripts ks (Ok d) 0 sound refers long keeps taken;
       place = place_below read place t r e d sound has so.long below;
-      kept = after_met behind last r d e xs s.kept long met agree;
-      stands = some_places t bytes s keeps (not_true (are_unkept s.kept) some);
+      kept = after_met behind last r d e xs ks long met agree;
     }
+
+-- what a reference asks of the tables of the tree that a layout is seen as
+pub met_in : (t u : Forest Resolved) (r : ℕ) (receiving : Bool) (behind : ℕ) (last : Bool) (number : ℕ) (tables : List Table) (e : List ℕ) (ks : List (Option StoredCount)) → t ≡ u → tables ≡ tables_of t
+    → behind ≡ number_behind true r u → last ≡ (receiving && (number_behind false r u == entries_in u)) → number ≡ r
+    → are_met behind last number e tables ks ≡ are_all_met u r receiving e ks
+met_in t u r receiving behind last number tables e ks same all b l m =
+    let xs : tables ≡ tables_of u = all ∙ ap (λ (v : Forest Resolved). tables_of v) same in
+    λ i. are_met (b i) (l i) (m i) e (xs i) ks
 
 -- ---- a record that is made to stand so
 
@@ -291,7 +288,7 @@ read_same read d e spots places (x ∷ xs) (k ∷ ks) same =
     ] in
     λ i. first i ∷ others i
 
-first_under : (t : Forest Resolved) (c : List ℕ) (spots : List Spot) (k : ℕ) → IsSound t → spots ≡ spots_of (times c) t 0 0 → Has k t → place_of (times c) k t 0 0 [] ≡ Some (first_element spots k)
+pub first_under : (t : Forest Resolved) (c : List ℕ) (spots : List Spot) (k : ℕ) → IsSound t → spots ≡ spots_of (times c) t 0 0 → Has k t → place_of (times c) k t 0 0 [] ≡ Some (first_element spots k)
 first_under t c spots k s are has =
     first_found (times c) spots t 0 0 0 k s.numbered (are_spots (times c) t 0 0 0 [] [] spots refl s.numbered (are ∙ sym (append-nil (spots_of (times c) t 0 0)))) has
 

@@ -26,6 +26,7 @@ pub mod FindLemmas
 pub mod TakingLemmas
 pub mod ShiftLaw
 pub mod ShiftLemmas
+pub mod SumLemmas
 pub mod MeasuringLemmas
 pub mod RoomLemmas
 pub mod Loans

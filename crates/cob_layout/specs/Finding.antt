@@ -61,8 +61,7 @@ are_met behind last r counts (x ∷ xs) [] = false
 are_met behind last r counts (x ∷ xs) (k ∷ ks) =
     is_met behind last r x k (slice_index counts x.number) && are_met behind last r counts xs ks
 
--- a count is kept, and the counts of a record are what a reference asks of its tables
-abbrev pub stands_for : Forest Resolved → ℕ → Bool → Standing → Bool
-stands_for tree r receiving s =
-    not (are_unkept s.kept)
-    && are_met (number_behind true r tree) (receiving && (number_behind false r tree == entries_in tree)) r s.counts (tables_of tree) s.kept
+-- these counts are what a reference asks of the tables of a record, where so much is kept of them
+abbrev pub are_all_met : Forest Resolved → ℕ → Bool → List ℕ → List (Option StoredCount) → Bool
+are_all_met tree r receiving counts ks =
+    are_met (number_behind true r tree) (receiving && (number_behind false r tree == entries_in tree)) r counts (tables_of tree) ks

@@ -62,9 +62,9 @@ KeepsNone s = are_unkept s.kept ≡ true
 abbrev pub forgotten : Standing → Standing
 forgotten s = record { counts = s.counts; spots = s.spots; kept = replicate (length s.kept) None }
 
--- the counts that are kept are those of this storage, and where one is, the entries stand as they do under the counts
+-- the counts that are kept are those of this storage
 abbrev pub KeepsOf : Forest Resolved → List ℕ → Standing → Type 0
-KeepsOf tree bytes s = AreKeptOf tree bytes s.kept × (KeepsNone s ⊎ AreSomePlaces tree s)
+KeepsOf tree bytes s = AreKeptOf tree bytes s.kept
 
 -- the first place has a byte that is one of the second's
 abbrev pub meets : Place → Place → Bool

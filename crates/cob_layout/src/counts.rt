@@ -32,7 +32,7 @@ pub struct Counts {
     pub(crate) kept: Vec<Option<StoredCount>>,
     /// Where counts are taken, so that those that hold stay until all are.
     pub(crate) next: Vec<u32>,
-    /// Room for the bytes of the tables, before each of them and of all, from which the spots are found.
+    /// Room for the sums of the tables that grow, from which the spots are found.
     pub(crate) sums: Vec<u32>,
 }
 
@@ -44,7 +44,7 @@ impl Model for Counts {
 
     ghost view = { λ c. record { counts = c.taken.items; spots = c.spots.items; kept = c.kept.items } };
 
-    ghost invariant = { λ c. (length c.spots.items ≡ length c.taken.items) × (length c.next.items ≡ length c.taken.items) × (length c.sums.items ≡ length c.kept.items + 1) };
+    ghost invariant = { λ c. (length c.spots.items ≡ length c.taken.items) × (length c.next.items ≡ length c.taken.items) × (length c.sums.items ≡ length c.taken.items + 1) };
 }
 
 impl Counts {
@@ -68,7 +68,7 @@ impl Counts {
     {
         let next = copied_counts(alloc, &taken)?;
         let kept = vec![in alloc; None; tables]?;
-        let mut sums = vec![in alloc; 0; tables]?;
+        let mut sums = copied_counts(alloc, &taken)?;
         sums.push(0)?;
         Ok(Counts {
             taken,

@@ -1,11 +1,12 @@
 //! Counts of a storage, some of which are kept.
 
 ghost use Rattle.std.specs.Prelude.{◌≡◌, ◌+◌, ◌<◌, ℕ, length, min, slice_index, Ok, Err};
+ghost use Rattle.cob_copybook_tree.specs.Forests.{entries_in};
 ghost use Rattle.cob_layout_places.specs.Counts.{tables_of};
 ghost use Rattle.cob_layout_places.specs.Needs.{is_needed};
 ghost use Rattle.cob_layout.specs.Counting.{greatest_counts};
 ghost use Rattle.cob_layout.specs.Kept.{IsIn, kept_read, most_reads, number_of, numbers_of, outcome_of, stored_at, IsReadOne, TakenAnew};
-ghost use Rattle.cob_layout.specs.Standing.{are_unkept, first_number, meets, meets_kept};
+ghost use Rattle.cob_layout.specs.Standing.{first_number, meets, meets_kept};
 
 use crate::counts::{StoredCount, count_at};
 use crate::fields::Place;
@@ -39,9 +40,11 @@ impl Layout {
         kept: Option<u32>,
         bytes: &[u8],
         counts: &[u32],
+        sums: &mut [u32],
         reads: &mut u64,
     ) -> Result<u32, CountFault>
         requires table { IsIn table (tables_of self.now) }
+        requires sums { length sums.old ≡ entries_in self.now + 1 }
         requires early { (k : ℕ) → k < first_number (tables_of self.now)
             → slice_index counts.now k ≡ slice_index (greatest_counts self.now) k }
         ensures read { (n : ℕ) × IsReadOne self.now bytes.now table kept counts.now result n
@@ -53,7 +56,7 @@ impl Layout {
             Some(count) => Ok(count),
             None => {
                 *reads = reads.saturating_add(1);
-                self.count_in(table, bytes, counts)
+                self.count_in(table, bytes, counts, sums)
             }
         }
     }
@@ -69,10 +72,12 @@ impl Layout {
         bytes: &[u8],
         kept: &[Option<StoredCount>],
         counts: &mut [u32],
+        sums: &mut [u32],
         reads: &mut u64,
     ) -> Result<(), CountFault>
         requires counts { counts.old ≡ greatest_counts self.now }
         requires as_many { length kept.now ≡ length (tables_of self.now) }
+        requires sums { length sums.old ≡ entries_in self.now + 1 }
         ensures taken { (n : ℕ) × TakenAnew self.now bytes.now
             (is_needed needed.behind needed.last needed.number) (tables_of self.now)
             (numbers_of kept.now) (greatest_counts self.now) (outcome_of result counts.new) n
@@ -85,7 +90,7 @@ impl Layout {
         for (index, table) in tables.iter().enumerate() {
             if is_needed(needed.behind, needed.last, needed.number, *table) {
                 let known = number_of(kept[index]);
-                let count = self.count_anew(*table, known, bytes, counts, reads)?;
+                let count = self.count_anew(*table, known, bytes, counts, sums, reads)?;
                 counts[table.number] = count;
             }
         }
@@ -124,18 +129,6 @@ pub(crate) fn keep_read(
             kept[index] = Some(stored_at(counts, spots, *table));
         }
     }
-}
-
-/// Whether none of these counts is kept.
-pub(crate) fn are_unkept(kept: &[Option<StoredCount>]) -> bool
-    ensures { result ≡ are_unkept kept.now }
-{
-    for one in kept {
-        if one.is_some() {
-            return false;
-        }
-    }
-    true
 }
 
 /// Whether the first place has a byte that is one of the second's.

@@ -20,7 +20,7 @@ use crate::counts::{Counts, copied_counts, greatest_in_order};
 use crate::fields::Place;
 use crate::kinds::kinds;
 use crate::laws::{fits_ref, places_end_in_length};
-use crate::shifts::{Shift, is_unnested, shifts};
+use crate::shifts::{Growth, Shift, put_shifts};
 use crate::sound::records_are_sound;
 use crate::spots::{copied_spots, new_spots};
 use crate::ways::{Way, ways};
@@ -55,14 +55,14 @@ pub struct Layout {
     pub(crate) kinds: Vec<Kind>,
     /// Where the entries stand while the tables that vary have no element.
     pub(crate) least: Vec<Spot>,
-    /// How the spots of the entries follow from these and the counts.
+    /// How the spots of the entries follow from these and the sums of the tables that grow.
     pub(crate) shifts: Vec<Shift>,
-    /// Whether they do: no table that varies stands beneath another table.
-    pub(crate) unnested: bool,
+    /// How these grow with the counts.
+    pub(crate) growths: Vec<Growth>,
 }
 
 impl Model for Layout {
-    ghost use Rattle.std.specs.Prelude.{◌≡◌, [], false, length, map, replicate, None};
+    ghost use Rattle.std.specs.Prelude.{◌≡◌, [], length, map, replicate, None};
     ghost use Rattle.cob_copybook_tree.specs.Forests.{Forest};
     ghost use Rattle.cob_copybook_tree.specs.Nodes.{Resolved, tree_of};
     ghost use Rattle.cob_copybook_tree.specs.Lengths.{greatest_number, sum_of};
@@ -72,7 +72,7 @@ impl Model for Layout {
     ghost use Rattle.cob_layout_places.specs.Spots.{spots_of};
     ghost use Rattle.cob_layout.specs.Ways.{held, held_in};
     ghost use Rattle.cob_layout.specs.Kinds.{kinds_of};
-    ghost use Rattle.cob_layout.specs.Shifts.{are_unnested, shifts_from};
+    ghost use Rattle.cob_layout.specs.Shifts.{growths_from, shifts_from};
     ghost use Rattle.cob_layout.specs.Sound.{IsSound};
     ghost use Rattle.cob_layout.specs.Counting.{greatest_counts};
     ghost use Rattle.cob_copybook.specs.Bytes.{TakeBytes};
@@ -85,7 +85,7 @@ impl Model for Layout {
 
     ghost view = { λ l. tree_of l.root };
 
-    ghost invariant = { λ l. IsRecordDescription (tree_of l.root) × IsSound (tree_of l.root) × (l.tables.items ≡ tables_of (tree_of l.root)) × (l.counts.counts ≡ greatest_counts (tree_of l.root)) × (l.greatest ≡ sum_of greatest_number (tree_of l.root)) × TakeBytes (tree_of l.root) × (map held l.ways.items ≡ held_in [] (tree_of l.root)) × (l.counts.spots ≡ spots_of (times (greatest_counts (tree_of l.root))) (tree_of l.root) 0 0) × (l.kinds.items ≡ kinds_of (tree_of l.root)) × (l.counts.kept ≡ replicate (length (tables_of (tree_of l.root))) None) × (l.least.items ≡ spots_of (times []) (tree_of l.root) 0 0) × (l.shifts.items ≡ shifts_from 0 (tree_of l.root)) × (l.unnested ≡ are_unnested false (tree_of l.root)) };
+    ghost invariant = { λ l. IsRecordDescription (tree_of l.root) × IsSound (tree_of l.root) × (l.tables.items ≡ tables_of (tree_of l.root)) × (l.counts.counts ≡ greatest_counts (tree_of l.root)) × (l.greatest ≡ sum_of greatest_number (tree_of l.root)) × TakeBytes (tree_of l.root) × (map held l.ways.items ≡ held_in [] (tree_of l.root)) × (l.counts.spots ≡ spots_of (times (greatest_counts (tree_of l.root))) (tree_of l.root) 0 0) × (l.kinds.items ≡ kinds_of (tree_of l.root)) × (l.counts.kept ≡ replicate (length (tables_of (tree_of l.root))) None) × (l.least.items ≡ spots_of (times []) (tree_of l.root) 0 0) × (l.shifts.items ≡ shifts_from 0 (tree_of l.root)) × (l.growths.items ≡ growths_from l.least.items 0 (tree_of l.root)) };
 }
 
 /// The place of an element, or the fault where it isn't one of those that there are.
@@ -121,8 +121,9 @@ impl Layout {
         let entries = in_order.len();
         let spots = new_spots(alloc, &root, &in_order, entries)?;
         let least = new_spots(alloc, &root, &[], entries)?;
-        let shifts = shifts(alloc, &root, entries)?;
-        let unnested = is_unnested(&root, false);
+        let mut shifts = Vec::with_capacity(alloc, entries)?;
+        let mut growths = Vec::new(alloc);
+        put_shifts(&root, &least, &mut shifts, &mut growths)?;
         let greatest = book.greatest();
         let ways = ways(alloc, &root, entries)?;
         let kinds = kinds(alloc, &root, entries)?;
@@ -136,7 +137,7 @@ impl Layout {
             kinds,
             least,
             shifts,
-            unnested,
+            growths,
         })
     }
 
@@ -273,19 +274,13 @@ impl Layout {
         ensures none { OnOk result (KeepsNone counts.new) }
         ensures room { IsRoomFor self.now counts.new }
     {
-        if self.tables.is_empty() {
-            self.counts.copy_to(&mut counts.taken, &mut counts.spots);
-            return Ok(());
-        }
-        counts.next.copy_from_slice(self.counts.as_slice());
-        self.take_all_counts(bytes, &mut counts.next)?;
-        self.stand_under(
-            &counts.next,
-            false,
-            &mut counts.taken,
+        self.counts_in(
+            bytes,
+            &mut counts.next,
             &mut counts.sums,
+            &mut counts.taken,
             &mut counts.spots,
-        );
+        )?;
         counts.kept.fill(None);
         Ok(())
     }
@@ -326,7 +321,6 @@ impl Layout {
         )?;
         self.stand_under(
             &counts.next,
-            false,
             &mut counts.taken,
             &mut counts.sums,
             &mut counts.spots,

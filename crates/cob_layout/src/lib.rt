@@ -3,8 +3,8 @@
 //!
 //! A [`Layout`] is made once of a copybook's `Book` and then answers every question about places. It holds a copy of the record's tree, its
 //! tables that vary, and their greatest counts, and by the numbers of the entries what each describes, the tables that hold it, and where it
-//! stands under the greatest counts and while these tables have no element. Where none of them stands beneath another table, the entries stand under
-//! other counts as many bytes further as the tables before them have, and are as much longer as those beneath them have (specs/Shifts.antt). A
+//! stands under the greatest counts and while these tables have no element. Under other counts an entry stands as many bytes further as the tables before
+//! it are longer than then, and is as much longer as those beneath it are (specs/Shifts.antt). A
 //! [`Counts`] says how often these tables occur in one record and where each entry stands then, and keeps the counts of a storage that were read, each
 //! a [`StoredCount`]; a [`Ref`] names one element of one entry: the entry by its number, and a subscript for each table that holds it or that it is.
 //!
@@ -41,8 +41,8 @@
 //!   the bytes (`keeps`). [`Layout::wrote`] says that a place was written: none is kept any more where it meets the item of a count that is kept
 //!   (`drops`), and else what is kept is so of the new bytes too (`keeps`). [`Counts::forget`] forgets what is kept (`forgotten`).
 //! - [`Layout::find`] answers as [`Layout::refresh`] and then [`Layout::place_in`] do (`found`, `current`, `fits`), and reads, keeps and counts as
-//!   [`Layout::refresh`] does (`reads`, `kept`, `keeps`, `same`). But the record stands under all counts that are kept then, whichever of them a reference
-//!   needs, so that it stays as it is while no other is read.
+//!   [`Layout::refresh`] does (`reads`, `kept`, `keeps`, `same`). But it places the entries that it is asked for alone, and leaves
+//!   where the others stand.
 //! - [`Layout::kind`] is what the entry with a number describes.
 //! - The bytes of a storage say one thing of all counts and of those that are needed ([`one_outcome_of_counts`]). Where all are valid, those
 //!   that are needed are, and the place is that under all counts, but for the tables that the reference is spared, which have their greatest
@@ -62,6 +62,7 @@
 //! memory.
 #![tactic(auto)]
 
+mod by_sums;
 mod copy;
 mod counts;
 mod fields;
@@ -77,6 +78,7 @@ mod refreshing;
 mod shifts;
 mod sound;
 mod spots;
+mod summing;
 mod taking;
 mod ways;
 

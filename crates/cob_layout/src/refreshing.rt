@@ -3,20 +3,22 @@
 ghost use Rattle.std.specs.Prelude.{◌≡◌, ◌==◌, ◌&&◌, ◌+◌, ◌≤◌, true, false, ℕ, List, length, min, Ok, Err, OnOk, OnErr, IfErr};
 ghost use Rattle.cob_copybook_tree.specs.Forests.{entries_in};
 ghost use Rattle.cob_layout_places.specs.Counts.{tables_of};
+ghost use Rattle.cob_layout_places.specs.Lengths.{times};
 ghost use Rattle.cob_layout_places.specs.Needs.{Has, is_read, number_behind};
 ghost use Rattle.cob_layout_places.specs.References.{Refers};
+ghost use Rattle.cob_layout_places.specs.Spots.{spots_of};
 ghost use Rattle.cob_layout.specs.Counting.{greatest_counts, NeededOf};
 ghost use Rattle.cob_layout.specs.Fields.{with_field};
-ghost use Rattle.cob_layout.specs.Kept.{kept_read, most_reads, numbers_of, outcome_of, TakenAnew};
+ghost use Rattle.cob_layout.specs.Kept.{kept_read, most_reads, numbers_of, outcome_of, AreKeptOf, TakenAnew};
 ghost use Rattle.cob_layout.specs.Standing.{AreSomePlaces, IsRoomFor, KeepsOf, written};
 
-use crate::counts::Counts;
+use crate::counts::{Counts, StoredCount};
 use crate::fields::Place;
-use crate::keeping::{Needed, are_unkept, keep_read, meets_kept};
+use crate::keeping::{Needed, keep_read, meets_kept};
 use crate::layout::Layout;
 use crate::sound::records_are_sound;
 use crate::ways::{end_of_table, is_last_receiver};
-use cob_layout_places::{CountFault, Ref, needs_are_read, one_place};
+use cob_layout_places::{CountFault, Ref, Spot, needs_are_read, one_place};
 
 impl Layout {
     /// Which counts a reference to an entry needs, which receives or not.
@@ -34,6 +36,60 @@ impl Layout {
             last,
             number,
         }
+    }
+
+    /// Takes the counts that the place of a reference needs, of which some may be kept, as [`Layout::refresh`] does; the next counts and the sums are room
+    /// that it needs.
+    ///
+    /// # Errors
+    ///
+    /// Those of [`Layout::refresh`].
+    fn refresh_in(
+        &self,
+        reference: &Ref,
+        receiving: bool,
+        bytes: &[u8],
+        kept: &mut [Option<StoredCount>],
+        next: &mut [u32],
+        sums: &mut [u32],
+        taken: &mut [u32],
+        spots: &mut [Spot],
+        reads: &mut u64,
+    ) -> Result<(), CountFault>
+        requires refers { Refers reference.now.node reference.now.subscripts.items self.now }
+        requires kept { AreKeptOf self.now bytes.now kept.old }
+        requires as_many { length kept.old ≡ length (tables_of self.now) }
+        requires next { length next.old ≡ entries_in self.now }
+        requires sums { length sums.old ≡ entries_in self.now + 1 }
+        requires counts { length taken.old ≡ entries_in self.now }
+        requires room { length spots.old ≡ entries_in self.now }
+        ensures ok { OnOk result
+            (NeededOf self.now reference.now.node receiving bytes.now (Ok taken.new)) }
+        ensures err { IfErr result
+            (λ e. NeededOf self.now reference.now.node receiving bytes.now (Err e)) }
+        ensures same_counts { OnErr result (taken.new ≡ taken.old) }
+        ensures same_spots { OnErr result (spots.new ≡ spots.old) }
+        ensures same_kept { OnErr result (kept.new ≡ kept.old) }
+        ensures stands { OnOk result (spots.new ≡ spots_of (times taken.new) self.now 0 0) }
+        ensures keeps { OnOk result (AreKeptOf self.now bytes.now kept.new) }
+        ensures kept { OnOk result (kept.new ≡ kept_read
+            (is_read self.now reference.now.node receiving) taken.new spots.new
+            (tables_of self.now) kept.old) }
+        ensures reads { (n : ℕ) × TakenAnew self.now bytes.now
+            (is_read self.now reference.now.node receiving) (tables_of self.now)
+            (numbers_of kept.old) (greatest_counts self.now)
+            (outcome_of result taken.new) n
+            × (reads.new ≡ min (reads.old + n) most_reads) }
+    {
+        // For `ok`, `err` and `keeps`: the counts that are read are those that the reference needs, and a count has one place.
+        needs_are_read();
+        one_place();
+        let needed = self.needed_by(reference.node, receiving);
+        next.copy_from_slice(self.counts.as_slice());
+        self.take_anew(needed, bytes, kept, next, sums, reads)?;
+        self.stand_under(next, taken, sums, spots);
+        keep_read(&self.tables, needed, taken, spots, kept);
+        Ok(())
     }
 
     /// Takes the counts that the place of a reference needs, as [`Layout::needed`] does, but reads only those of them that are not kept, and keeps
@@ -73,28 +129,17 @@ impl Layout {
             × (reads.new ≡ min (reads.old + n) most_reads) }
         ensures room { IsRoomFor self.now counts.new }
     {
-        // For `ok`, `err` and `keeps`: the counts that are read are those that the reference needs, and a count has one place.
-        needs_are_read();
-        one_place();
-        let needed = self.needed_by(reference.node, receiving);
-        counts.next.copy_from_slice(self.counts.as_slice());
-        self.take_anew(needed, bytes, &counts.kept, &mut counts.next, reads)?;
-        let stands = !are_unkept(&counts.kept);
-        self.stand_under(
-            &counts.next,
-            stands,
-            &mut counts.taken,
-            &mut counts.sums,
-            &mut counts.spots,
-        );
-        keep_read(
-            &self.tables,
-            needed,
-            &counts.taken,
-            &counts.spots,
+        self.refresh_in(
+            reference,
+            receiving,
+            bytes,
             &mut counts.kept,
-        );
-        Ok(())
+            &mut counts.next,
+            &mut counts.sums,
+            &mut counts.taken,
+            &mut counts.spots,
+            reads,
+        )
     }
 
     /// Says that the bytes of a place were written: where it meets the item of a count that is kept, none is kept any more.

@@ -13,7 +13,7 @@ use cob_layout_places::{Found, Spot, put_spots};
 use std::alloc::{AllocError, Global};
 
 /// The spot of an entry that there isn't.
-const NOWHERE: Spot = Spot {
+pub(crate) const NOWHERE: Spot = Spot {
     offset: 0,
     length: 0,
     times: 0,
@@ -73,7 +73,7 @@ pub(crate) fn copied_spots(alloc: Global, spots: &[Spot]) -> Result<Vec<Spot>, A
 }
 
 /// An element of an entry, moved by one subscript of a table that holds the entry or that it is.
-fn moved_by(found: Found, table: Spot, subscript: u32) -> Found
+pub(crate) fn moved_by(found: Found, table: Spot, subscript: u32) -> Found
     requires room { found.offset + (subscript - 1) * table.length ≤ longest_record }
     ensures { result ≡ record {
       offset = found.offset + (subscript - 1) * table.length;

@@ -1,31 +1,27 @@
-use Rattle.std.proofs.Common.{◌≡◌, arith, length}
-use Rattle.cob_layout_places.specs.declared.varying.Table.{Table}
-use Rattle.cob_layout.proofs.ShiftLemmas.{next_small, sums_end}
+use Rattle.std.proofs.Common.{◌≡◌, ◌+◌, ◌<◌, ◌∷◌, ◌∙◌, [], ap, arith, length, refl}
+use Rattle.std.proofs.lemmas.List.{length-set, take_more_set}
+use Rattle.cob_layout.specs.declared.shifts.Growth.{Growth}
+use Rattle.cob_layout.specs.Shifts.{sums_by}
+use Rattle.cob_layout.proofs.ShiftLemmas.{can_next, sums_more}
 use Rattle.cob_layout.proofs.shifts.put_sums.Goals as goal
 
-pub bytes_of-sum-requires : goal.bytes_of-sum-requires
-bytes_of-sum-requires c =
-    let d : Table = record { number = 0; least = 0; most = 0; count = 0 } in
+pub loop-index-init : goal.loop-index-init
+loop-index-init c = record {
+  same = ap (λ zs. sums_by c.args.counts.now c.args.growths.now zs 0) (take_more_set c.args.sums.now 0 0 (omega (arith, c.requires.room)));
+  room = length-set c.args.sums.now 0 0;
+}
+
+pub next_sum-sum-requires-clause-fit : goal.next_sum-sum-requires-clause-fit
+next_sum-sum-requires-clause-fit c =
+    can_next c.args.counts.now c.args.growths.now c.loop-index.sums c.loop-index.index (record { number = 0; before = 0; times = 0; most = 0; bytes = 0 }) _ c.loop-index-test.true
+    (omega (arith, c.loop-index-test.true, c.loop-index.invariant.room, c.requires.room)) c.loop-index.invariant.same c.requires.fit
+
+pub loop-index-preserved : goal.loop-index-preserved
+loop-index-preserved c =
+    let d : Growth = record { number = 0; before = 0; times = 0; most = 0; bytes = 0 } in
+    let here : c.loop-index.index + 1 < length c.loop-index.sums = omega (arith, c.loop-index-test.true, c.loop-index.invariant.room, c.requires.room) in
+    let can = can_next c.args.counts.now c.args.growths.now c.loop-index.sums c.loop-index.index d _ c.loop-index-test.true here c.loop-index.invariant.same c.requires.fit in
     record {
-      small = omega (
-        arith,
-        next_small c.args.least.now c.args.counts.now c.args.tables.now c.loop-index.sums c.loop-index.index c.loop-index.sum d _ c.loop-index-test.true
-            (omega (arith, c.loop-index-test.true, c.loop-index.invariant.room, c.requires.room)) c.loop-index.invariant.same c.requires.small,
-      );
+      same = sums_more c.args.counts.now c.args.growths.now c.loop-index.sums c.loop-index.index d c.next_sum-sum.result _ c.loop-index-test.true here can.order c.next_sum-sum.ensures c.loop-index.invariant.same;
+      room = length-set c.loop-index.sums (c.loop-index.index + 1) c.next_sum-sum.result ∙ c.loop-index.invariant.room;
     }
-
-pub overflow_add-sum : goal.overflow_add-sum
-overflow_add-sum c =
-    let d : Table = record { number = 0; least = 0; most = 0; count = 0 } in
-    omega (
-      arith,
-      c.bytes_of-sum.ensures,
-      next_small c.args.least.now c.args.counts.now c.args.tables.now c.loop-index.sums c.loop-index.index c.loop-index.sum d _ c.loop-index-test.true
-          (omega (arith, c.loop-index-test.true, c.loop-index.invariant.room, c.requires.room)) c.loop-index.invariant.same c.requires.small,
-    )
-
-pub returns : goal.returns
-returns c =
-    let last : length c.args.tables.now ≡ c.loop-index.index = omega (arith, c.loop-index-test.false, c.loop-index.auto.index-end) in
-    sums_end c.args.least.now c.args.counts.now c.args.tables.now c.loop-index.sums c.loop-index.index (length c.args.tables.now) c.loop-index.sum _ c.loop-index-test.false
-    (omega (arith, last, c.loop-index.invariant.room, c.requires.room)) last c.loop-index.invariant.same

@@ -15,33 +15,21 @@ returns-then-not-varies-clause-ok c =
       greatest_measures u c.greatest-greatest.result (c.records_are_sound.ensures u c.greatest-greatest.ensures.record) c.greatest-greatest.ensures.value,
     )
 
-pub copy_from_slice-requires : goal.copy_from_slice-requires
-copy_from_slice-requires c =
-    let m = as_many (tree_of c.self.inside.root) c.args.self.now c.self.inside.counts.counts (length c.args.counts.now.counts) c.self.invariant.1 c.self.view_is c.self.invariant.3 (room_entries c.args.self.now c.args.counts.now c.requires.room) in
-    omega (arith, m, ap length c.as_slice.ensures, ap (λ (s : Standing). length s.counts) c.counts.view_is, c.counts.invariant.1, c.counts.inside.next.ok.0)
-
 pub overflow_cast-result : goal.overflow_cast-result
 overflow_cast-result c =
     let u = c.args.self.now in
-    let m = measures u c.deref.result.now c.length_under.result (c.records_are_sound.ensures u c.greatest-greatest.ensures.record) c.length_under.ensures in
+    let (cs, counted, is) = c.in_ok-made.ensures.ok in
+    let m = measures u cs c.in_ok-made.made (c.records_are_sound.ensures u c.greatest-greatest.ensures.record) is in
     omega (arith, m.small)
 
 pub returns-clause-least : goal.returns-clause-least
 returns-clause-least c =
     let u = c.args.self.now in
-    measures_some u c.deref.result.now c.length_under.result (c.records_are_sound.ensures u c.greatest-greatest.ensures.record) c.greatest-greatest.ensures.bytes c.length_under.ensures
+    let (cs, counted, is) = c.in_ok-made.ensures.ok in
+    measures_some u cs c.in_ok-made.made (c.records_are_sound.ensures u c.greatest-greatest.ensures.record) c.greatest-greatest.ensures.bytes is
 
 pub returns-clause-most : goal.returns-clause-most
 returns-clause-most c =
     let u = c.args.self.now in
-    (measures u c.deref.result.now c.length_under.result (c.records_are_sound.ensures u c.greatest-greatest.ensures.record) c.length_under.ensures).most
-
-pub invariant_of-counts : goal.invariant_of-counts
-invariant_of-counts c =
-    let long = c.take_all_counts.auto.counts ∙ c.deref_mut.ensures.len in
-    (c.counts.invariant.0, omega (arith, ap length (front_of c.copy_from_slice.new.self.len c.take_all_counts.new.counts (drop (length c.take_all_counts.new.counts) c.copy_from_slice.new.self.items) long), long, c.copy_from_slice.ensures.len, c.counts.inside.next.ok.0, c.counts.invariant.1), c.counts.invariant.2)
-
-pub invariant_of-counts-2 : goal.invariant_of-counts-2
-invariant_of-counts-2 c =
-    let long = c.take_all_counts.auto.counts ∙ c.deref_mut.ensures.len in
-    (c.counts.invariant.0, omega (arith, ap length (front_of c.copy_from_slice.new.self.len c.take_all_counts.new.counts (drop (length c.take_all_counts.new.counts) c.copy_from_slice.new.self.items) long), long, c.copy_from_slice.ensures.len, c.counts.inside.next.ok.0, c.counts.invariant.1), c.counts.invariant.2)
+    let (cs, counted, is) = c.in_ok-made.ensures.ok in
+    (measures u cs c.in_ok-made.made (c.records_are_sound.ensures u c.greatest-greatest.ensures.record) is).most

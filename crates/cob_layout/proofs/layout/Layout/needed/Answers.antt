@@ -78,7 +78,7 @@ stand_under-requires-clause-next c =
 
 pub stand_under-requires-clause-sums : goal.stand_under-requires-clause-sums
 stand_under-requires-clause-sums c =
-    omega (arith, c.deref_mut-3.ensures.len, c.counts.inside.sums.ok.0, c.counts.invariant.2, ap (λ (s : Standing). length s.kept) c.counts.view_is, room_tables c.args.self.now c.args.counts.now c.requires.room)
+    omega (arith, c.deref_mut-3.ensures.len, c.counts.inside.sums.ok.0, c.counts.invariant.2, ap (λ (s : Standing). length s.counts) c.counts.view_is, room_entries c.args.self.now c.args.counts.now c.requires.room)
 
 pub stand_under-requires-clause-room : goal.stand_under-requires-clause-room
 stand_under-requires-clause-room c =

@@ -7,8 +7,11 @@ use Rattle.cob_layout_places.specs.Lengths.{times}
 use Rattle.cob_layout_places.specs.Counts.{tables_of}
 use Rattle.cob_layout_places.specs.Spots.{spots_of}
 use Rattle.cob_layout_places.proofs.SpotLemmas.{length_spots}
+use Rattle.cob_layout_places.specs.declared.spots.Spot.{Spot}
+use Rattle.cob_layout.specs.Shifts.{growths_from}
 use Rattle.cob_layout.specs.Standing.{Standing}
 use Rattle.cob_layout.proofs.GreatestLemmas.{greatest_is, length_in_order}
+use Rattle.cob_layout.proofs.ShiftLemmas.{grow_few}
 use Rattle.cob_layout.proofs.layout.Layout.of.Goals as goal
 
 pub invariant_of-result : goal.invariant_of-result
@@ -22,7 +25,7 @@ invariant_of-result c =
     let spots = ap (λ (x : Standing). x.spots) made ∙ c.in_ok-spots.ensures ∙ ap (λ (cs : List ℕ). spots_of (times cs) t 0 0) (c.deref.ensures.value ∙ c.in_ok-in_order.ensures ∙ sym (greatest_is t sound.numbered)) in
     let many : c.len.result ≡ length (tables_of t) = omega (arith, c.len.ensures, c.in_ok-tables.tables.ok.0, ap length c.in_ok-tables.ensures) in
     let kept = ap (λ (x : Standing). x.kept) made ∙ ap (λ (n : ℕ). replicate n None) many in
-    (is, sound, c.in_ok-tables.ensures, counts, c.greatest-greatest.ensures.value ∙ ap (sum_of greatest_number) (sym same), c.in_ok-root.ensures.bytes, c.in_ok-ways.ensures, spots, c.in_ok-kinds.ensures, kept, c.in_ok-least.ensures, c.in_ok-shifts.ensures, c.is_unnested-unnested.ensures)
+    (is, sound, c.in_ok-tables.ensures, counts, c.greatest-greatest.ensures.value ∙ ap (sum_of greatest_number) (sym same), c.in_ok-root.ensures.bytes, c.in_ok-ways.ensures, spots, c.in_ok-kinds.ensures, kept, c.in_ok-least.ensures, c.in_ok-put_shifts.ensures.shifts, c.in_ok-put_shifts.ensures.growths ∙ ap (λ (ls : List Spot). growths_from ls 0 t) c.deref-2.ensures.value)
 
 pub ways-requires-clause-end : goal.ways-requires-clause-end
 ways-requires-clause-end c =
@@ -43,3 +46,8 @@ pub new-requires : goal.new-requires
 new-requires c =
     let t = tree_of c.in_ok-root.root in
     record { spots = ap length c.in_ok-spots.ensures ∙ length_spots _ t 0 0 ∙ sym (ap length c.in_ok-in_order.ensures ∙ length_in_order t) }
+
+pub put_shifts-requires-clause-small : goal.put_shifts-requires-clause-small
+put_shifts-requires-clause-small c =
+    let t = tree_of c.in_ok-root.root in
+    omega (arith, grow_few t, ap length c.in_ok-in_order.ensures, length_in_order t, c.in_ok-in_order.in_order.small, c.in_ok-in_order.in_order.ok)

@@ -1,31 +1,37 @@
-use Rattle.std.proofs.Common.{◌≡◌, ◌∙◌, [], Some, ap, sym, subst, true, arith}
+use Rattle.std.proofs.Common.{◌≡◌, ◌∙◌, List, Some, ap, sym, subst, true, arith}
 use Rattle.cob_copybook_tree.specs.Forests.{Forest}
-use Rattle.cob_copybook_tree.specs.Nodes.{Resolved, node, tree_of}
+use Rattle.cob_copybook_tree.specs.Nodes.{Resolved, tree_of}
 use Rattle.cob_layout_places.specs.declared.spots.Spot.{Spot}
 use Rattle.cob_layout_places.specs.Counts.{tables_of}
 use Rattle.cob_layout_places.specs.Lengths.{times}
-use Rattle.cob_layout_places.specs.Places.{place_of}
 use Rattle.cob_layout_places.specs.Spots.{spots_of}
-use Rattle.cob_layout_places.proofs.PlaceLemmas.{entry_fits}
 use Rattle.cob_layout.specs.Counting.{greatest_counts}
+use Rattle.cob_layout.specs.Shifts.{all_shifted}
 use Rattle.cob_layout.specs.Sound.{IsSound}
 use Rattle.cob_layout.specs.Standing.{first_number}
-use Rattle.cob_layout.proofs.TakingLemmas.{count_item, early_place}
+use Rattle.cob_layout.proofs.FindLemmas.{first_under}
+use Rattle.cob_layout.proofs.NeedLemmas.{known}
+use Rattle.cob_layout.proofs.ShiftLemmas.{all_stand, can_shift, growing_as}
+use Rattle.cob_layout.proofs.TakingLemmas.{early_place}
 use Rattle.cob_layout.proofs.layout.Layout.place_of_count.Goals as goal
 
-pub seek-requires : goal.seek-requires
-seek-requires c = entry_fits 0 (node c.self.inside.root).top (node c.self.inside.root).beneath c.self.invariant.1.fit
+pub spot_by-spot-requires : goal.spot_by-spot-requires
+spot_by-spot-requires c =
+    let u = growing_as (tree_of c.self.inside.root) c.args.self.now c.deref-3.result.now c.self.inside.least.items c.deref-2.result.now c.self.inside.growths.items c.self.view_is c.self.invariant.1 c.deref-3.ensures.value c.self.invariant.10 (c.deref-2.ensures.value ∙ c.self.invariant.11) c.self.invariant.12 in
+    record { by = can_shift c.args.self.now c.deref-3.result.now c.deref-2.result.now c.self.inside.growths.items c.own_sums-sums.result.now c.args.counts.now u (c.own_sums-sums.ensures ∙ c.put_sums.ensures) }
 
-pub returns-in-None : goal.returns-in-None
-returns-in-None c =
-    let u = c.args.self.now in
-    let seen : place_of (times c.args.counts.now) c.args.table.count (tree_of c.self.inside.root) 0 0 [] ≡ place_of (times c.args.counts.now) c.args.table.count u 0 0 [] =
-    ap (λ (t : Forest Resolved). place_of (times c.args.counts.now) c.args.table.count t 0 0 []) c.self.view_is in
-    absurd ((count_item u c.args.table c.args.counts.now (subst IsSound c.self.view_is c.self.invariant.1) c.requires.table).there (sym seen ∙ sym c.seek.ensures ∙ c.in-None.is))
+pub returns : goal.returns
+returns c =
+    let w = c.args.self.now in
+    let sound : IsSound w = subst IsSound c.self.view_is c.self.invariant.1 in
+    let u = growing_as (tree_of c.self.inside.root) w c.deref-3.result.now c.self.inside.least.items c.deref-2.result.now c.self.inside.growths.items c.self.view_is c.self.invariant.1 c.deref-3.ensures.value c.self.invariant.10 (c.deref-2.ensures.value ∙ c.self.invariant.11) c.self.invariant.12 in
+    let spots : List Spot = all_shifted c.own_sums-sums.result.now c.args.counts.now 0 c.deref-2.result.now c.deref-3.result.now in
+    let are : spots ≡ spots_of (times c.args.counts.now) w 0 0 = all_stand w c.deref-3.result.now c.deref-2.result.now c.self.inside.growths.items c.own_sums-sums.result.now c.args.counts.now u (c.own_sums-sums.ensures ∙ c.put_sums.ensures) in
+    first_under w c.args.counts.now spots c.args.table.count sound are (known w c.args.table sound c.requires.table).has
+    ∙ ap (λ (s : Spot). Some (record { offset = s.offset; length = s.length; within = true })) (sym c.spot_by-spot.ensures)
 
 pub returns-then-table-first_number : goal.returns-then-table-first_number
 returns-then-table-first_number c =
-    let t = tree_of c.self.inside.root in
     let u = c.args.self.now in
     let tables : c.deref.result.now ≡ tables_of u = c.deref.ensures.value ∙ c.self.invariant.2 ∙ ap (λ (v : Forest Resolved). tables_of v) c.self.view_is in
     let first : c.first_number.result ≡ first_number (tables_of u) = c.first_number.ensures ∙ ap first_number tables in

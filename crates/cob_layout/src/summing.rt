@@ -1,0 +1,211 @@
+//! Where references stand by the counts of a storage that are kept, and by the sums of the tables under them.
+//!
+//! Only the entry of a reference and the tables that hold it are placed, and of a count that is read its item. The counts and their sums are seen anew
+//! each time, from those that are kept: both are as many as the tables that grow.
+
+ghost use Rattle.std.specs.Prelude.{◌≡◌, ◌==◌, ◌&&◌, ◌+◌, true, false, ℕ, List, Result, length, min, take, Ok, Err, Some, OnOk, OnErr, IfErr, IfOk};
+ghost use Rattle.cob_copybook_tree.specs.Forests.{entries_in};
+ghost use Rattle.cob_layout_places.specs.declared.counts.CountFault.{CountFault};
+ghost use Rattle.cob_layout_places.specs.Counts.{tables_of};
+ghost use Rattle.cob_layout_places.specs.Needs.{is_read, number_behind};
+ghost use Rattle.cob_layout_places.specs.References.{Refers};
+ghost use Rattle.cob_layout.specs.Counting.{greatest_counts, NeededOf};
+ghost use Rattle.cob_layout.specs.Finding.{StandsFor};
+ghost use Rattle.cob_layout.specs.Kept.{kept_after, most_reads, numbers_of, AreKeptOf, TakenAnew};
+ghost use Rattle.cob_layout.specs.Placed.{element_under};
+ghost use Rattle.cob_layout.specs.Shifts.{grow_in, sums_of};
+ghost use Rattle.cob_layout.specs.Standing.{IsRoomFor, KeepsOf};
+
+use crate::by_sums::{element_by, keep_by};
+use crate::counts::{Counts, StoredCount};
+use crate::finding::{are_met, put_later};
+use crate::keeping::Needed;
+use crate::layout::Layout;
+use crate::ways::tables_at;
+use cob_layout_places::{CountFault, Found, Ref, needs_are_read, one_place, places_end_in_record};
+
+impl Layout {
+    /// The element of a reference under these counts, whose sums these are.
+    #[inline(always)]
+    fn element_in(&self, reference: &Ref, sums: &[u32], counts: &[u32]) -> Found
+        requires refers { Refers reference.now.node reference.now.subscripts.items self.now }
+        requires room { length sums.now ≡ entries_in self.now + 1 }
+        requires sums { take (grow_in self.now + 1) sums.now ≡ sums_of self.now counts.now }
+        ensures { element_under counts.now self.now reference.now ≡ Some result }
+    {
+        // For what `element_by` asks: each element ends within the greatest record.
+        places_end_in_record();
+        let sums = self.own_sums(sums);
+        let tables = tables_at(&self.ways, reference.node);
+        element_by(
+            &self.shifts,
+            &self.least,
+            sums,
+            counts,
+            reference.node,
+            tables,
+            reference.subscripts.as_slice(),
+        )
+    }
+
+    /// Reads the counts that a reference needs and that aren't kept, and keeps them; the counts are those then below the reach of the reference, and the
+    /// sums theirs.
+    ///
+    /// # Errors
+    ///
+    /// The first count that is read and that gives no number within its table's bounds, or that ends past the bytes. What is kept is as it was then.
+    #[inline(never)]
+    fn read_anew(
+        &self,
+        reference: &Ref,
+        receiving: bool,
+        bytes: &[u8],
+        kept: &mut [Option<StoredCount>],
+        counts: &mut [u32],
+        sums: &mut [u32],
+        reads: &mut u64,
+        needed: Needed,
+    ) -> Result<(), CountFault>
+        requires refers { Refers reference.now.node reference.now.subscripts.items self.now }
+        requires kept { AreKeptOf self.now bytes.now kept.old }
+        requires as_many { length kept.old ≡ length (tables_of self.now) }
+        requires counts { length counts.old ≡ entries_in self.now }
+        requires sums { length sums.old ≡ entries_in self.now + 1 }
+        requires behind { needed.behind ≡ number_behind true reference.now.node self.now }
+        requires last { needed.last ≡ (receiving
+            && (number_behind false reference.now.node self.now == entries_in self.now)) }
+        requires number { needed.number ≡ reference.now.node }
+        ensures err { IfErr result
+            (λ e. NeededOf self.now reference.now.node receiving bytes.now (Err e)) }
+        ensures same { OnErr result (kept.new ≡ kept.old) }
+        ensures came { OnOk result ((c : List ℕ)
+            × NeededOf self.now reference.now.node receiving bytes.now (Ok c)
+            × StandsFor self.now reference.now.node counts.new c
+            × (numbers_of kept.new
+            ≡ kept_after (is_read self.now reference.now.node receiving) c (tables_of self.now)
+            (numbers_of kept.old))) }
+        ensures sums { OnOk result (take (grow_in self.now + 1) sums.new ≡ sums_of self.now counts.new) }
+        ensures keeps { OnOk result (AreKeptOf self.now bytes.now kept.new) }
+        ensures reads { (c : Result (List ℕ) CountFault) × (n : ℕ)
+            × TakenAnew self.now bytes.now (is_read self.now reference.now.node receiving)
+            (tables_of self.now) (numbers_of kept.old) (greatest_counts self.now) c n
+            × (reads.new ≡ min (reads.old + n) most_reads) }
+    {
+        // For `err`, `came` and `keeps`: the counts that are read are those that the reference needs, and a count has one place.
+        needs_are_read();
+        one_place();
+        counts.copy_from_slice(self.counts.as_slice());
+        self.take_anew(needed, bytes, kept, counts, sums, reads)?;
+        put_later(&self.tables, needed.behind, kept, counts);
+        self.put_sums(counts, sums);
+        keep_by(
+            &self.tables,
+            needed,
+            &self.shifts,
+            &self.least,
+            self.own_sums(sums),
+            counts,
+            kept,
+        );
+        Ok(())
+    }
+
+    /// Lets the counts be what a reference needs: as they are, where they are that and all that it reads are kept, and else those that are read. The sums
+    /// are those of the counts then.
+    ///
+    /// # Errors
+    ///
+    /// The first count that is read and that gives no number within its table's bounds, or that ends past the bytes. What is kept is as it was then.
+    #[inline(always)]
+    fn have_counts(
+        &self,
+        reference: &Ref,
+        receiving: bool,
+        bytes: &[u8],
+        kept: &mut [Option<StoredCount>],
+        counts: &mut [u32],
+        sums: &mut [u32],
+        reads: &mut u64,
+    ) -> Result<(), CountFault>
+        requires refers { Refers reference.now.node reference.now.subscripts.items self.now }
+        requires kept { AreKeptOf self.now bytes.now kept.old }
+        requires as_many { length kept.old ≡ length (tables_of self.now) }
+        requires counts { length counts.old ≡ entries_in self.now }
+        requires sums { length sums.old ≡ entries_in self.now + 1 }
+        ensures err { IfErr result
+            (λ e. NeededOf self.now reference.now.node receiving bytes.now (Err e)) }
+        ensures same { OnErr result (kept.new ≡ kept.old) }
+        ensures came { OnOk result ((c : List ℕ)
+            × NeededOf self.now reference.now.node receiving bytes.now (Ok c)
+            × StandsFor self.now reference.now.node counts.new c
+            × (numbers_of kept.new
+            ≡ kept_after (is_read self.now reference.now.node receiving) c (tables_of self.now)
+            (numbers_of kept.old))) }
+        ensures sums { OnOk result (take (grow_in self.now + 1) sums.new ≡ sums_of self.now counts.new) }
+        ensures keeps { OnOk result (AreKeptOf self.now bytes.now kept.new) }
+        ensures reads { (c : Result (List ℕ) CountFault) × (n : ℕ)
+            × TakenAnew self.now bytes.now (is_read self.now reference.now.node receiving)
+            (tables_of self.now) (numbers_of kept.old) (greatest_counts self.now) c n
+            × (reads.new ≡ min (reads.old + n) most_reads) }
+    {
+        // For `came`: the counts that are read are those that the reference needs, and counts that agree on them give it one place.
+        needs_are_read();
+        one_place();
+        // For `reads`: how many there were is a count of 64 bits.
+        let _before = *reads;
+        let needed = self.needed_by(reference.node, receiving);
+        if are_met(&self.tables, needed, kept, counts) {
+            self.put_sums(counts, sums);
+            Ok(())
+        } else {
+            self.read_anew(
+                reference, receiving, bytes, kept, counts, sums, reads, needed,
+            )
+        }
+    }
+
+    /// The element of a reference under the counts that it needs.
+    ///
+    /// # Errors
+    ///
+    /// The first count that is read and that gives no number within its table's bounds, or that ends past the bytes. The counts are as they were then.
+    #[inline(always)]
+    pub(crate) fn found(
+        &self,
+        reference: &Ref,
+        receiving: bool,
+        bytes: &[u8],
+        counts: &mut Counts,
+        reads: &mut u64,
+    ) -> Result<Found, CountFault>
+        requires refers { Refers reference.now.node reference.now.subscripts.items self.now }
+        requires room { IsRoomFor self.now counts.old }
+        requires kept { KeepsOf self.now bytes.now counts.old }
+        ensures err { IfErr result
+            (λ e. NeededOf self.now reference.now.node receiving bytes.now (Err e)) }
+        ensures same { OnErr result (counts.new ≡ counts.old) }
+        ensures came { IfOk result (λ f. (c : List ℕ)
+            × NeededOf self.now reference.now.node receiving bytes.now (Ok c)
+            × (element_under c self.now reference.now ≡ Some f)
+            × (numbers_of counts.new.kept
+            ≡ kept_after (is_read self.now reference.now.node receiving) c (tables_of self.now)
+            (numbers_of counts.old.kept))) }
+        ensures keeps { OnOk result (KeepsOf self.now bytes.now counts.new) }
+        ensures reads { (c : Result (List ℕ) CountFault) × (n : ℕ)
+            × TakenAnew self.now bytes.now (is_read self.now reference.now.node receiving)
+            (tables_of self.now) (numbers_of counts.old.kept) (greatest_counts self.now) c n
+            × (reads.new ≡ min (reads.old + n) most_reads) }
+        ensures room { IsRoomFor self.now counts.new }
+    {
+        self.have_counts(
+            reference,
+            receiving,
+            bytes,
+            &mut counts.kept,
+            &mut counts.next,
+            &mut counts.sums,
+            reads,
+        )?;
+        Ok(self.element_in(reference, &counts.sums, &counts.next))
+    }
+}
