@@ -100,7 +100,7 @@ leaves_both t p q both is one other ks before field fits long kept =
 pub survey_left : (t : Forest Resolved) (before field : List ℕ) (p : Place) (s : Survey) → LeavesCounts t p → p.offset + p.length ≤ length before → length field ≡ p.length
     → IsSurvey t before s → IsSurvey t (with_field before p field) s
 survey_left t before field p s leaves fits long is = record {
-  kept = (leaves s.counts.kept before field fits long is.kept.0, is.kept.1);
+  kept = leaves s.counts.kept before field fits long is.kept;
   room = is.room;
 }
 

@@ -51,7 +51,7 @@ outcome_is laws t bytes o receiving old a b n sound is survey taken needed =
     laws.one t o.entry.node receiving bytes a b (
       needed_tables t o.entry.node receiving (tables_of t),
       those_needed laws.read t o.entry.node receiving sound (refers_has o.entry.node o.entry.subscripts.items t is.refers),
-      laws.needed t bytes o.entry.node receiving (numbers_of old.counts.kept) a n sound (numbers_kept t bytes old.counts.kept (as_many t old survey.room) survey.kept.0) taken,
+      laws.needed t bytes o.entry.node receiving (numbers_of old.counts.kept) a n sound (numbers_kept t bytes old.counts.kept (as_many t old survey.room) survey.kept) taken,
     )
     needed
 

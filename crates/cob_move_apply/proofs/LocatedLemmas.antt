@@ -1,5 +1,5 @@
 -- Single moves that are made ready wherever their items stand.
-use Rattle.std.proofs.Common.{◌≡◌, ℕ, true, false, List, [], ◌∷◌, get_or, refl, sym, subst, inl, inr, Ok, Err, Option, Some, None}
+use Rattle.std.proofs.Common.{◌≡◌, ℕ, Bool, true, false, List, [], ◌∷◌, get_or, refl, sym, subst, inl, inr, Ok, Err, Option, Some, None}
 use Rattle.cob_codec.specs.declared.reading.Reading.{Reading}
 use Rattle.cob_codec.specs.declared.reading.Reading.TheVariants.{Pictured}
 use Rattle.cob_layout.specs.Fields.{field_of, with_field}
@@ -7,10 +7,11 @@ use Rattle.cob_layout.specs.declared.fields.Place.{Place}
 use Rattle.cob_layout_places.specs.declared.operands.Operand.{Operand}
 use Rattle.cob_layout_places.specs.declared.operands.Side.TheVariants.{In, Out}
 use Rattle.cob_layout_places.specs.Moves.{Entry, Move, Records, operand_in}
-use Rattle.cob_move_prepared.specs.Pool.{MoveKinds}
+use Rattle.cob_move_prepared.specs.Pool.{IsMoveStep, MoveKinds}
 use Rattle.cob_move_prepared.specs.declared.pictured.PicturedStep.{PicturedStep}
 use Rattle.cob_move_prepared.specs.declared.pictured.PicturedSteps.{PicturedSteps}
 use Rattle.cob_move_prepared.specs.declared.pool.MoveStep.{MoveStep}
+use Rattle.cob_move_prepared.specs.declared.pool.MoveStep.TheVariants.{Characters}
 use Rattle.cob_move_prepared.specs.declared.pool.MoveSteps.{MoveSteps}
 use Rattle.cob_move_prepared.proofs.PoolLemmas.{read_at}
 use Rattle.cob_move_receive.specs.Received.{Received}
@@ -19,7 +20,7 @@ use Rattle.cob_move_receive.specs.Sent.{Occupies}
 use Rattle.cob_move_apply.specs.Applied.{Applied, Ending, IsMoved, content_at, stopped}
 use Rattle.cob_move_apply.specs.Located.{Located, stop_at}
 use Rattle.cob_move_apply.specs.Made.{IsMadePictured, IsMadeReady, StandAt}
-use Rattle.cob_move_apply.specs.Steps.{CarriesAnywhere, CarriesLocated, CarriesPictured, IsLocatedMove, IsReadyAnywhere, copied_move}
+use Rattle.cob_move_apply.specs.Steps.{CarriesAnywhere, CarriesLocated, CarriesPictured, GivesText, IsLocatedMove, IsReadyAnywhere, copied_move}
 use Rattle.cob_move_apply.specs.Written.{received_at}
 use Rattle.cob_move_apply.specs.declared.step.LocatedMove.{LocatedMove}
 use Rattle.cob_move_apply.specs.declared.step.LocatedStep.{LocatedStep}
@@ -48,12 +49,36 @@ located_ends r x one p input before None stand received =
     let stop : Stop = stop_at In p.from.offset NoValue in
     inl (content_at In x (operand_in r.input one.sent) input p.from, (p.from, stand.sends, refl), inr (stop, inr (p.to, stand.receives, received, refl), refl))
 
+-- a step of the kinds of both where these stand
+made_there : (r : Records) (x : Reading) (steps : MoveSteps) (one : LocatedMove) (step : MoveStep) (p : MovePlaces) (input before : List ℕ) (end : Ending) → StandAt r one input before p
+    → IsMoveStep steps (kinds_of (operand_in r.input one.sent).kind (operand_in r.output one.receiver).kind p.from p.to) step
+    → IsMadeReady (record { places = p; step = step }) steps input before end → IsMoved r (copied_move x r one.sent one.receiver) input before end
+made_there r x steps one step p input before end stand is made =
+    let k : MoveKinds = kinds_of (operand_in r.input one.sent).kind (operand_in r.output one.receiver).kind p.from p.to in
+    let (outcome, received, same) = made k is (record { sent = refl; received = refl }) in
+    subst (λ (e : Ending). IsMoved r (copied_move x r one.sent one.receiver) input before e) (sym same) (located_ends r x one p input before outcome stand (received x))
+
 pub made_always : (r : Records) (x : Reading) (steps : MoveSteps) (one : LocatedMove) (step : MoveStep) (p : MovePlaces) (input before : List ℕ) (end : Ending) → StandAt r one input before p
     → CarriesAnywhere steps (operand_in r.input one.sent).kind (operand_in r.output one.receiver).kind step → IsMadeReady (record { places = p; step = step }) steps input before end → IsMoved r (copied_move x r one.sent one.receiver) input before end
-made_always r x steps one step p input before end stand carries made =
-    let k : MoveKinds = kinds_of (operand_in r.input one.sent).kind (operand_in r.output one.receiver).kind p.from p.to in
-    let (outcome, received, same) = made k (carries p.from.length p.to.length stand.sent stand.received) (record { sent = refl; received = refl }) in
-    subst (λ (e : Ending). IsMoved r (copied_move x r one.sent one.receiver) input before e) (sym same) (located_ends r x one p input before outcome stand (received x))
+made_always r x steps one step p input before end stand carries made = made_there r x steps one step p input before end stand (carries p.from.length p.to.length stand.sent stand.received) made
+
+-- the step of characters, of as many bytes as the sender has there
+abbrev pub characters_at : MovePlaces → Bool → MoveStep
+characters_at p right = Characters (record { sent = p.from.length; right = right })
+
+pub characters_there : (r : Records) (steps : MoveSteps) (one : LocatedMove) (right : Bool) (p : MovePlaces) (input before : List ℕ) → StandAt r one input before p
+    → GivesText (operand_in r.input one.sent).kind (operand_in r.output one.receiver).kind right
+    → IsMoveStep steps (kinds_of (operand_in r.input one.sent).kind (operand_in r.output one.receiver).kind p.from p.to) (characters_at p right)
+characters_there r steps one right p input before stand (gives, side) = record {
+  occupied = record { sender = stand.sent; receiver = stand.received };
+  between = record { gives = gives; count = refl; side = side };
+}
+
+pub made_characters : (r : Records) (x : Reading) (steps : MoveSteps) (one : LocatedMove) (right : Bool) (p : MovePlaces) (input before : List ℕ) (end : Ending) → StandAt r one input before p
+    → GivesText (operand_in r.input one.sent).kind (operand_in r.output one.receiver).kind right → IsMadeReady (record { places = p; step = characters_at p right }) steps input before end
+    → IsMoved r (copied_move x r one.sent one.receiver) input before end
+made_characters r x steps one right p input before end stand gives made =
+    made_there r x steps one (characters_at p right) p input before end stand (characters_there r steps one right p input before stand gives) made
 
 pub made_by_picture : (r : Records) (x : Reading) (steps : PicturedSteps) (one : LocatedMove) (step : PicturedStep) (p : MovePlaces) (input before : List ℕ) (end : Ending) → x ≡ Pictured → StandAt r one input before p
     → CarriesPictured steps (operand_in r.input one.sent).kind (operand_in r.output one.receiver).kind step → IsMadePictured (record { places = p; step = step }) steps input before end → IsMoved r (copied_move x r one.sent one.receiver) input before end

@@ -73,6 +73,7 @@ step_as T holds also steps n so is = record { step = is.step; below = is.below; 
 
 -- what carries moves out wherever their items stand, where the steps became more
 carries_still : (before now : MoveSteps) (old new : PicturedSteps) (s t : Kind) (step : LocatedStep) → KeepsSteps before now → KeepsPictured old new → CarriesLocated before old s t step → CarriesLocated now new s t step
+carries_still before now old new s t (located_step.Characters right) kept pictured gives = gives
 carries_still before now old new s t (located_step.Always step) kept pictured carries = λ sent received has gets.
     kept (record { sender = s; sent = sent; receiver = t; received = received }) step (carries sent received has gets)
 carries_still before now old new s t (located_step.Pictured step) kept pictured carries = λ sent received has gets.

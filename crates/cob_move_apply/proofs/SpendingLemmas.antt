@@ -1,5 +1,5 @@
 -- What the reads of moves are as these are carried out.
-use Rattle.std.proofs.Common.{◌≡◌, ℕ, ◌+◌, ◌*◌, ◌<◌, ◌≤◌, true, false, List, [], ◌∷◌, ◌++◌, ◌-◌, length, get_or, take, drop, map, refl, sym, ap, subst, ◌∙◌, arith, inr, Ok, Err, Result, Option, Some, None}
+use Rattle.std.proofs.Common.{◌≡◌, ℕ, ◌+◌, ◌*◌, ◌<◌, ◌≤◌, Bool, true, false, List, [], ◌∷◌, ◌++◌, ◌-◌, length, get_or, take, drop, map, refl, sym, ap, subst, ◌∙◌, arith, inr, Ok, Err, Result, Option, Some, None}
 use Rattle.std.proofs.lemmas.List.{drop_more, get_or_read}
 use Rattle.std.proofs.Math.Nat.{mul-add, mul_comm}
 use Rattle.cob_codec.specs.declared.reading.Reading.{Reading}
@@ -20,7 +20,7 @@ use Rattle.cob_layout_places.specs.declared.operands.StatementMoves.TheVariants.
 use Rattle.cob_layout_places.specs.declared.reference.Ref.{Ref}
 use Rattle.cob_layout_places.specs.Counts.{tables_of}
 use Rattle.cob_layout_places.specs.Moves.{Entry, Move, Records, Sender, entry_below, moves_by, numbered_move_by, operand_in, record_of, sender_by}
-use Rattle.cob_move_prepared.specs.Pool.{MoveKinds}
+use Rattle.cob_move_prepared.specs.Pool.{IsMoveStep, MoveKinds}
 use Rattle.cob_move_prepared.specs.declared.pictured.PicturedStep.{PicturedStep}
 use Rattle.cob_move_prepared.specs.declared.pictured.PicturedSteps.{PicturedSteps}
 use Rattle.cob_move_prepared.specs.declared.pool.MoveStep.{MoveStep}
@@ -32,7 +32,7 @@ use Rattle.cob_move_apply.specs.Located.{Located}
 use Rattle.cob_move_apply.specs.Made.{IsMadeConstant, IsMadePictured, IsMadeReady, StandAt}
 use Rattle.cob_move_apply.specs.Met.{HaveMet, ReceiverMet, ReceiversMet}
 use Rattle.cob_move_apply.specs.Spent.{HaveSpent, IsSpent, IsSpentAtStop, MovesSpend, PlaceMet, PlaceSpends, ReceiversSpend, WriteSpends, allowed, kept_of}
-use Rattle.cob_move_apply.specs.Steps.{AreSteps, CarriesAnywhere, CarriesPictured, HasPart, IsLocatedMove, IsMoveOfPart, IsPicturedPart, IsPreparedMove, IsStep, StandFor, Support, copied_move, pair_at}
+use Rattle.cob_move_apply.specs.Steps.{AreSteps, CarriesAnywhere, CarriesPictured, GivesText, HasPart, IsLocatedMove, IsMoveOfPart, IsPicturedPart, IsPreparedMove, IsStep, StandFor, Support, copied_move, pair_at}
 use Rattle.cob_move_apply.specs.Written.{received_at}
 use Rattle.cob_move_apply.specs.declared.basis.Basis.{Basis}
 use Rattle.cob_move_apply.specs.declared.step.ConstantMove.{ConstantMove}
@@ -46,7 +46,7 @@ use Rattle.cob_move_apply.specs.declared.step.Step.TheVariants as step
 use Rattle.cob_move_apply.specs.declared.stop.Stop.{Stop}
 use Rattle.cob_move_apply.specs.declared.survey.Survey.{Survey}
 use Rattle.cob_move_apply.specs.declared.workspace.Workspace.{Workspace}
-use Rattle.cob_move_apply.proofs.LocatedLemmas.{the_located}
+use Rattle.cob_move_apply.proofs.LocatedLemmas.{characters_at, characters_there, the_located}
 use Rattle.cob_move_apply.proofs.MetLemmas.{MetFrom, cut_met, met_all, met_more, met_one, met_stops, met_there, none_met, past_moves}
 use Rattle.cob_move_apply.proofs.OneLemmas.{stop_of}
 use Rattle.cob_move_apply.proofs.PartLemmas.{has_part, the_move}
@@ -144,16 +144,30 @@ located_met r x one p input before after (Some bytes) met stand received same me
     )
 located_met r x one p input before after None met stand received same meets ms rest h = absurd (stop_of after before _ same)
 
+there_spends : {A : Type 0} (r : Records) (x : Reading) (steps : MoveSteps) (one : LocatedMove) (step : MoveStep) (p : MovePlaces) (input before : List ℕ) (result : Result A Stop) (after : List ℕ) (old mid new : Survey)
+    → StandAt r one input before p → IsMoveStep steps (kinds_of (operand_in r.input one.sent).kind (operand_in r.output one.receiver).kind p.from p.to) step
+    → IsMadeReady (record { places = p; step = step }) steps input before (ending result after) → IsSpent r.output 0 old mid → WriteSpends r.output before p.to result mid new
+    → MovesSpend r (copied_move x r one.sent one.receiver ∷ []) input before result after old new
+there_spends r x steps one step p input before (Ok a) after old mid new stand is made first (met, meets, then) =
+    let k : MoveKinds = kinds_of (operand_in r.input one.sent).kind (operand_in r.output one.receiver).kind p.from p.to in
+    let (outcome, received, same) = made k is (record { sent = refl; received = refl }) in
+    (met, located_met r x one p input before after outcome met stand (received x) same meets, spent_behind r.output met old mid new first then)
+there_spends r x steps one step p input before (Err stop) after old mid new stand is made first then =
+    stopped_spends r (copied_move x r one.sent one.receiver ∷ []) input before old new (at_stop r.output 0 old new (spent_behind r.output 0 old mid new first then))
+
 pub always_spends : {A : Type 0} (r : Records) (x : Reading) (steps : MoveSteps) (one : LocatedMove) (step : MoveStep) (p : MovePlaces) (input before : List ℕ) (result : Result A Stop) (after : List ℕ) (old mid new : Survey)
     → StandAt r one input before p → CarriesAnywhere steps (operand_in r.input one.sent).kind (operand_in r.output one.receiver).kind step
     → IsMadeReady (record { places = p; step = step }) steps input before (ending result after) → IsSpent r.output 0 old mid → WriteSpends r.output before p.to result mid new
     → MovesSpend r (copied_move x r one.sent one.receiver ∷ []) input before result after old new
-always_spends r x steps one step p input before (Ok a) after old mid new stand carries made first (met, meets, then) =
-    let k : MoveKinds = kinds_of (operand_in r.input one.sent).kind (operand_in r.output one.receiver).kind p.from p.to in
-    let (outcome, received, same) = made k (carries p.from.length p.to.length stand.sent stand.received) (record { sent = refl; received = refl }) in
-    (met, located_met r x one p input before after outcome met stand (received x) same meets, spent_behind r.output met old mid new first then)
-always_spends r x steps one step p input before (Err stop) after old mid new stand carries made first then =
-    stopped_spends r (copied_move x r one.sent one.receiver ∷ []) input before old new (at_stop r.output 0 old new (spent_behind r.output 0 old mid new first then))
+always_spends r x steps one step p input before result after old mid new stand carries made first then =
+    there_spends r x steps one step p input before result after old mid new stand (carries p.from.length p.to.length stand.sent stand.received) made first then
+
+pub characters_spend : {A : Type 0} (r : Records) (x : Reading) (steps : MoveSteps) (one : LocatedMove) (right : Bool) (p : MovePlaces) (input before : List ℕ) (result : Result A Stop) (after : List ℕ) (old mid new : Survey)
+    → StandAt r one input before p → GivesText (operand_in r.input one.sent).kind (operand_in r.output one.receiver).kind right
+    → IsMadeReady (record { places = p; step = characters_at p right }) steps input before (ending result after) → IsSpent r.output 0 old mid → WriteSpends r.output before p.to result mid new
+    → MovesSpend r (copied_move x r one.sent one.receiver ∷ []) input before result after old new
+characters_spend r x steps one right p input before result after old mid new stand gives made first then =
+    there_spends r x steps one (characters_at p right) p input before result after old mid new stand (characters_there r steps one right p input before stand gives) made first then
 
 pub pictured_spends : {A : Type 0} (r : Records) (x : Reading) (steps : PicturedSteps) (one : LocatedMove) (step : PicturedStep) (p : MovePlaces) (input before : List ℕ) (result : Result A Stop) (after : List ℕ) (old mid new : Survey)
     → x ≡ Pictured → StandAt r one input before p → CarriesPictured steps (operand_in r.input one.sent).kind (operand_in r.output one.receiver).kind step

@@ -114,7 +114,7 @@ written_spends : (t : Forest Resolved) (before : List ℕ) (p : Place) (old new 
     → new.reads ≡ old.reads → new.counts ≡ (if met then forgotten old.counts else old.counts) → PlaceSpends t before p old new
 written_spends t before p old new true e long survey reads counts =
     let (x, k, is, kept, at) = met_kept p (tables_of t) old.counts.kept long e in
-    (1, inr (refl, (x, k.place, is, survey.kept.0.items x k kept, at)), record { most = omega (arith, reads, most_kept t old, allowed_one t) })
+    (1, inr (refl, (x, k.place, is, survey.kept.items x k kept, at)), record { most = omega (arith, reads, most_kept t old, allowed_one t) })
 written_spends t before p old new false e long survey reads counts =
     let same : kept_of t new ≡ kept_of t old = ap (λ (s : Standing). kept_in (tables_of t) (numbers_of s.kept)) counts in
     (0, inl refl, record { most = omega (arith, reads, same, allowed_none t) })

@@ -1,5 +1,5 @@
 -- Steps: what is carried out in the place of moves.
-use Rattle.std.specs.Prelude.{◌≡◌, ◌⊎◌, ℕ, ◌+◌, ◌<◌, ◌≤◌, false, true, List, [], ◌∷◌, ◌++◌, length, get_or, map, take, drop}
+use Rattle.std.specs.Prelude.{◌≡◌, ◌⊎◌, ℕ, ◌+◌, ◌<◌, ◌≤◌, Bool, false, true, List, [], ◌∷◌, ◌++◌, length, get_or, map, take, drop}
 use Rattle.cob_codec.specs.declared.reading.Reading.{Reading}
 use Rattle.cob_codec.specs.declared.reading.Reading.TheVariants.{Pictured}
 use Rattle.cob_copybook_tree.specs.declared.node.Kind.{Kind}
@@ -17,7 +17,7 @@ use Rattle.cob_move_apply.specs.Placed.{IsPlaced, IsPlacedMove}
 use Rattle.cob_move_apply.specs.Written.{AreCopied, IsFixedConstant, IsFixedMove}
 use Rattle.cob_move_receive.specs.Sent.{Occupies}
 use Rattle.cob_move_prepared.specs.Pictured.{IsPicturedStep}
-use Rattle.cob_move_prepared.specs.Copies.{IsConstantStep}
+use Rattle.cob_move_prepared.specs.Copies.{IsConstantStep, gives_bytes, stands_right}
 use Rattle.cob_move_prepared.specs.Pool.{IsMoveStep, IsStepAt, MoveKinds}
 use Rattle.cob_move_prepared.specs.declared.constant_step.ConstantStep.{ConstantStep}
 use Rattle.cob_move_prepared.specs.declared.pictured.PicturedStep.{PicturedStep}
@@ -122,8 +122,13 @@ abbrev pub CarriesPictured : PicturedSteps → (sender receiver : Kind) → Pict
 CarriesPictured steps sender receiver s = (sent received : ℕ) → Occupies sender sent → Occupies receiver received
     → IsPicturedStep steps (record { sender = sender; sent = sent; receiver = receiver; received = received }) s
 
--- so does this one, whatever the reading or as pictures say
+-- the sender gives its bytes as characters, which the receiver takes without insertions, from the right where this says so
+abbrev pub GivesText : (sender receiver : Kind) → Bool → Type 0
+GivesText sender receiver right = (gives_bytes sender receiver ≡ true) × (right ≡ stands_right sender receiver)
+
+-- so does this one, as characters, or whatever the reading or as pictures say
 abbrev pub CarriesLocated : MoveSteps → PicturedSteps → (sender receiver : Kind) → LocatedStep → Type 0
+CarriesLocated steps pictured sender receiver (located_step.Characters right) = GivesText sender receiver right
 CarriesLocated steps pictured sender receiver (located_step.Always s) = CarriesAnywhere steps sender receiver s
 CarriesLocated steps pictured sender receiver (located_step.Pictured s) = CarriesPictured pictured sender receiver s
 

@@ -19,7 +19,7 @@ use crate::pictured::run_pictured;
 use crate::prepared::make_prepared;
 use crate::running::run_step;
 use crate::senders::make_move;
-use crate::step::{MovePlaces, Part, PicturedMove, Plan, PreparedMove, Step, copy_across};
+use crate::step::{MovePlaces, Part, PicturedMove, Plan, Step, copy_across};
 use crate::stop::Stop;
 use crate::workspace::{Layouts, Workspace};
 use cob_codec::Reading;
@@ -88,7 +88,7 @@ fn make_part(
 /// # Errors
 ///
 /// The first thing missing. The storage is as it was then.
-#[inline(always)]
+#[inline(never)]
 fn make_pictured(
     given: &[StatementMoves],
     plan: &Plan,
@@ -132,7 +132,7 @@ fn make_pictured(
 #[inline(always)]
 pub(crate) fn make_single(
     plan: &Plan,
-    places: MovePlaces,
+    places: &MovePlaces,
     step: MoveStep,
     layouts: &Layouts<'_>,
     input: &[u8],
@@ -140,23 +140,55 @@ pub(crate) fn make_single(
     space: &mut Workspace,
 ) -> Result<(), Stop>
     requires step { (own : List Meant) × IsPreparedMove layouts.now.reading (records layouts.now)
-        plan.now.prepared (record { places = places; step = step }) own }
+        plan.now.prepared (record { places = places.now; step = step }) own }
     requires input { IsStorage layouts.now.input.now input.now }
     requires output { length output.old ≡ greatest_length layouts.now.output.now }
     requires space { IsWorkspace (records layouts.now) input.now output.old space.old }
     ensures applied { (own : List Meant)
         → IsPreparedMove layouts.now.reading (records layouts.now)
-        plan.now.prepared (record { places = places; step = step }) own
+        plan.now.prepared (record { places = places.now; step = step }) own
         → Applied (records layouts.now) own input.now output.old (ending result output.new) }
     ensures space { IsWorkspace (records layouts.now) input.now output.new space.new }
     ensures spends { (own : List Meant) → IsPreparedMove layouts.now.reading (records layouts.now)
-        plan.now.prepared (record { places = places; step = step }) own
+        plan.now.prepared (record { places = places.now; step = step }) own
         → MovesSpend (records layouts.now) own input.now output.old result output.new
         space.old.output space.new.output }
     ensures same { OnErr result ((output.new ≡ output.old) × (space.new ≡ space.old)) }
 {
-    let one = PreparedMove { places, step };
-    make_prepared(&plan.prepared, one, layouts, input, output, space)
+    make_prepared(&plan.prepared, places, step, layouts, input, output, space)
+}
+
+/// Carries out a single move that was made ready, as [`make_single`] does. It isn't inlined: the steps that come here stop.
+///
+/// # Errors
+///
+/// A value of the sender is missing. The storage is as it was then.
+#[inline(never)]
+fn make_one(
+    plan: &Plan,
+    places: &MovePlaces,
+    step: MoveStep,
+    layouts: &Layouts<'_>,
+    input: &[u8],
+    output: &mut [u8],
+    space: &mut Workspace,
+) -> Result<(), Stop>
+    requires step { (own : List Meant) × IsPreparedMove layouts.now.reading (records layouts.now)
+        plan.now.prepared (record { places = places.now; step = step }) own }
+    requires input { IsStorage layouts.now.input.now input.now }
+    requires output { length output.old ≡ greatest_length layouts.now.output.now }
+    requires space { IsWorkspace (records layouts.now) input.now output.old space.old }
+    ensures applied { (own : List Meant)
+        → IsPreparedMove layouts.now.reading (records layouts.now)
+        plan.now.prepared (record { places = places.now; step = step }) own
+        → Applied (records layouts.now) own input.now output.old (ending result output.new) }
+    ensures space { IsWorkspace (records layouts.now) input.now output.new space.new }
+    ensures spends { (own : List Meant) → IsPreparedMove layouts.now.reading (records layouts.now)
+        plan.now.prepared (record { places = places.now; step = step }) own
+        → MovesSpend (records layouts.now) own input.now output.old result output.new
+        space.old.output space.new.output }
+{
+    make_single(plan, places, step, layouts, input, output, space)
 }
 
 /// Carries out a step of the plan of moves, whatever it is. It isn't inlined, so that the loop over steps stays short: it carries out those whose places
@@ -198,23 +230,23 @@ fn make_step(
         }
         Step::Number(one) => {
             let step = MoveStep::Number(one.number);
-            make_single(plan, one.places, step, layouts, input, output, space)
+            make_one(plan, &one.places, step, layouts, input, output, space)
         }
         Step::Wide(one) => {
             let step = MoveStep::Wide(one.number);
-            make_single(plan, one.places, step, layouts, input, output, space)
+            make_one(plan, &one.places, step, layouts, input, output, space)
         }
         Step::Binary(one) => {
             let step = MoveStep::Binary(one.number);
-            make_single(plan, one.places, step, layouts, input, output, space)
+            make_one(plan, &one.places, step, layouts, input, output, space)
         }
         Step::Edited(one) => {
             let step = MoveStep::Edited(one.number);
-            make_single(plan, one.places, step, layouts, input, output, space)
+            make_one(plan, &one.places, step, layouts, input, output, space)
         }
         Step::Characters(one) => {
             let step = MoveStep::Characters(one.step);
-            make_single(plan, one.places, step, layouts, input, output, space)
+            make_one(plan, &one.places, step, layouts, input, output, space)
         }
         Step::Pictured(one, part) => {
             make_pictured(given, plan, *one, part, layouts, input, output, space)

@@ -16,9 +16,9 @@
 //! The moves are carried out by steps that stand for them (`StandFor` of specs/Steps.antt), each chosen when they are made ready. Single moves that are
 //! plain copies, each beginning on both sides where the one before ends, are one copy (`AreCopied` of specs/Written.antt); a single move between two
 //! places that no count decides is made ready, where cob_move_prepared has a step for it (`IsFixedMove`), whatever the reading of binary senders or where they
-//! are read as their pictures say; so is a single move of a constant to such a place (`IsFixedConstant`), and one of an item to another where a count
-//! decides a place: an item has as many bytes wherever it stands, so only the two places are found as the move is carried out (`IsLocatedMove`); a part of
-//! a statement's moves is looked at as it is carried out. Only moves whose sender no receiver changes are cut into their single moves (`IsMoveCut`), so that
+//! are read as their pictures say; so is a single move of a constant to such a place (`IsFixedConstant`), and one of an entry to another where a count
+//! decides a place: an item has as many bytes wherever it stands, and characters are as many as there are, so only the two places are found as the move is
+//! carried out (`IsLocatedMove`); a part of a statement's moves is looked at as it is carried out. Only moves whose sender no receiver changes are cut into their single moves (`IsMoveCut`), so that
 //! what the steps make of a storage is what the moves make.
 //!
 //! A place that depends on counts is found by those that the operand needs. A count that was read is kept from move to move, and is read again only

@@ -9,7 +9,7 @@ ghost use Rattle.cob_move_apply.specs.Applied.{Applied, IsMoved, ending, stopped
 ghost use Rattle.cob_move_apply.specs.Made.{StandAt};
 ghost use Rattle.cob_move_apply.specs.Placed.{IsPlaced};
 ghost use Rattle.cob_move_apply.specs.Spent.{MovesSpend, Spends};
-ghost use Rattle.cob_move_apply.specs.Steps.{CarriesAnywhere, CarriesPictured, IsLocatedMove, copied_move};
+ghost use Rattle.cob_move_apply.specs.Steps.{CarriesAnywhere, CarriesPictured, GivesText, IsLocatedMove, copied_move};
 ghost use Rattle.cob_move_apply.specs.Surveyed.{IsWorkspace, records};
 
 use crate::basis::{PlacedReceivers, SentEntry, placed_operand};
@@ -17,13 +17,13 @@ use crate::pictured::run_pictured;
 use crate::places::{Stored, locate};
 use crate::prepared::make_prepared;
 use crate::senders::move_entry;
-use crate::step::{LocatedMove, LocatedStep, MovePlaces, PicturedMove, Plan, PreparedMove};
+use crate::step::{LocatedMove, LocatedStep, MovePlaces, PicturedMove, Plan};
 use crate::stop::Stop;
 use crate::workspace::{Layouts, Workspace};
 use cob_codec::Reading;
 use cob_layout::places_lie_in_storage;
 use cob_layout_places::Side;
-use cob_move_prepared::{MoveStep, MoveSteps, PicturedStep, PicturedSteps};
+use cob_move_prepared::{CharactersStep, MoveStep, MoveSteps, PicturedStep, PicturedSteps};
 use std::slice;
 
 /// Where the sender and the receiver of a move stand: the sender's place is found first.
@@ -72,6 +72,45 @@ fn locate_both(
     Ok(MovePlaces { from, to })
 }
 
+/// Carries out a move of characters, of as many bytes as the sender has where it stands.
+///
+/// # Errors
+///
+/// The first thing missing: a place of the sender, or one of the receiver. The storage is as it was then.
+fn move_characters(
+    prepared: &MoveSteps,
+    one: &LocatedMove,
+    right: bool,
+    layouts: &Layouts<'_>,
+    input: &[u8],
+    output: &mut [u8],
+    space: &mut Workspace,
+) -> Result<(), Stop>
+    requires in_sound { IsSound layouts.now.input.now }
+    requires out_sound { IsSound layouts.now.output.now }
+    requires sends { IsPlaced layouts.now.input.now false
+        (operand_in layouts.now.input.now one.now.sent) one.now.from }
+    requires receives { IsPlaced layouts.now.output.now true
+        (operand_in layouts.now.output.now one.now.receiver) one.now.to }
+    requires carries { GivesText
+        (operand_in layouts.now.input.now one.now.sent).kind
+        (operand_in layouts.now.output.now one.now.receiver).kind right }
+    requires input { IsStorage layouts.now.input.now input.now }
+    requires output { length output.old ≡ greatest_length layouts.now.output.now }
+    requires space { IsWorkspace (records layouts.now) input.now output.old space.old }
+    ensures moved { IsMoved (records layouts.now)
+        (copied_move layouts.now.reading (records layouts.now) one.now.sent one.now.receiver)
+        input.now output.old (ending result output.new) }
+    ensures space { IsWorkspace (records layouts.now) input.now output.new space.new }
+    ensures spends { MovesSpend (records layouts.now)
+        (copied_move layouts.now.reading (records layouts.now) one.now.sent one.now.receiver ∷ []) input.now output.old result output.new space.old.output space.new.output }
+{
+    let places = locate_both(one, layouts, input, output, space)?;
+    let sent = places.from.length as usize;
+    let step = MoveStep::Characters(CharactersStep { sent, right });
+    make_prepared(prepared, &places, step, layouts, input, output, space)
+}
+
 /// Carries out a move by this step, whatever the reading of binary senders.
 ///
 /// # Errors
@@ -106,8 +145,7 @@ fn move_always(
         (copied_move layouts.now.reading (records layouts.now) one.now.sent one.now.receiver ∷ []) input.now output.old result output.new space.old.output space.new.output }
 {
     let places = locate_both(one, layouts, input, output, space)?;
-    let ready = PreparedMove { places, step };
-    make_prepared(prepared, ready, layouts, input, output, space)
+    make_prepared(prepared, &places, step, layouts, input, output, space)
 }
 
 /// Carries out a move by this step, where senders are read as their pictures say.
@@ -222,6 +260,9 @@ pub(crate) fn make_located(
 {
     let one = &plan.located[number];
     match one.step {
+        LocatedStep::Characters(right) => {
+            move_characters(&plan.prepared, one, right, layouts, input, output, space)
+        }
         LocatedStep::Always(step) => {
             move_always(&plan.prepared, one, step, layouts, input, output, space)
         }

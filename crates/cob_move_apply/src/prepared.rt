@@ -9,11 +9,11 @@ ghost use Rattle.cob_move_apply.specs.Made.{IsMadeReady};
 ghost use Rattle.cob_move_apply.specs.Written.{HasPlaces};
 ghost use Rattle.cob_move_prepared.specs.Pool.{IsMoveStep, MoveKinds};
 
-use crate::step::PreparedMove;
+use crate::step::MovePlaces;
 use crate::stop::{Stop, StopCause};
 use crate::workspace::{Layouts, Workspace};
 use cob_layout_places::Side;
-use cob_move_prepared::MoveSteps;
+use cob_move_prepared::{MoveStep, MoveSteps};
 
 /// Carries out a single move that was made ready. It is inlined, so that it costs no call.
 ///
@@ -23,36 +23,36 @@ use cob_move_prepared::MoveSteps;
 #[inline(always)]
 pub(crate) fn make_prepared(
     prepared: &MoveSteps,
-    one: PreparedMove,
+    places: &MovePlaces,
+    step: MoveStep,
     layouts: &Layouts<'_>,
     input: &[u8],
     output: &mut [u8],
     space: &mut Workspace,
 ) -> Result<(), Stop>
-    requires step { (k : MoveKinds) × IsMoveStep prepared.now k one.step × HasPlaces one.places k }
-    requires reads { one.places.from.offset + one.places.from.length ≤ length input.now }
-    requires writes { one.places.to.offset + one.places.to.length
+    requires step { (k : MoveKinds) × IsMoveStep prepared.now k step × HasPlaces places.now k }
+    requires reads { places.now.from.offset + places.now.from.length ≤ length input.now }
+    requires writes { places.now.to.offset + places.now.to.length
         ≤ greatest_length layouts.now.output.now }
     requires output { length output.old ≡ greatest_length layouts.now.output.now }
     requires space { IsWorkspace (records layouts.now) input.now output.old space.old }
-    ensures made { IsMadeReady one prepared.now input.now output.old (ending result output.new) }
+    ensures made { IsMadeReady (record { places = places.now; step = step }) prepared.now
+        input.now output.old (ending result output.new) }
     ensures space { IsWorkspace (records layouts.now) input.now output.new space.new }
-    ensures spends { WriteSpends layouts.now.output.now output.old one.places.to result
+    ensures spends { WriteSpends layouts.now.output.now output.old places.now.to result
         space.old.output space.new.output }
     ensures same { OnErr result ((output.new ≡ output.old) × (space.new ≡ space.old)) }
 {
-    let from = one.places.from;
-    let to = one.places.to;
-    let sent = from.offset as usize + from.length as usize;
-    let start = to.offset as usize;
-    let end = start + to.length as usize;
-    if prepared.run(one.step, &input[..sent], &mut output[start..end]) {
-        space.output.change(layouts.output, to);
+    let sent = places.from.offset as usize + places.from.length as usize;
+    let start = places.to.offset as usize;
+    let end = start + places.to.length as usize;
+    if prepared.run(step, &input[..sent], &mut output[start..end]) {
+        space.output.change(layouts.output, places.to);
         Ok(())
     } else {
         Err(Stop {
             side: Side::In,
-            offset: from.offset,
+            offset: places.from.offset,
             cause: StopCause::NoValue,
         })
     }

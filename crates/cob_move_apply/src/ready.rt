@@ -15,7 +15,7 @@ use crate::preparation::basis_of;
 use crate::step::{LocatedMove, LocatedStep, MovePlaces, PicturedMove, PreparedMove};
 use cob_layout::{Kind, Place, Ref, Value, places_lie_in_storage, records_are_sound};
 use cob_layout_places::{Sender, Side};
-use cob_move_prepared::{ConstantStep, MoveSteps, PicturedSteps};
+use cob_move_prepared::{CharactersStep, ConstantStep, MoveSteps, PicturedSteps};
 use std::alloc::AllocError;
 
 /// To how many bytes a constant is made ready at most: of longer ones a paragraph could name more than there is memory for.
@@ -169,8 +169,8 @@ pub(crate) fn prepared_of(
     }
 }
 
-/// The step that carries out the moves of an item to another wherever they stand, whatever the reading or where senders are read as their pictures
-/// say; None where one of them is a group, or nothing carries such moves out.
+/// The step that carries out the moves of an entry to another wherever they stand, as characters, whatever the reading or where senders are read as their
+/// pictures say; None where nothing carries such moves out.
 ///
 /// # Errors
 ///
@@ -188,6 +188,9 @@ fn located_step(
     ensures prepared { KeepsSteps prepared.old prepared.new }
     ensures pictured { KeepsPictured pictured.old pictured.new }
 {
+    if let Some(step) = CharactersStep::prepare(sends, 0, receives) {
+        return Ok(Some(LocatedStep::Characters(step.right)));
+    }
     let Kind::Item(from) = sends else {
         return Ok(None);
     };
@@ -205,8 +208,8 @@ fn located_step(
     }
 }
 
-/// The single move of an entry of the input record to one of the output record, made ready wherever they stand; None where one of them is a group, or
-/// nothing carries such moves out.
+/// The single move of an entry of the input record to one of the output record, made ready wherever they stand; None where nothing carries such moves
+/// out.
 ///
 /// # Errors
 ///

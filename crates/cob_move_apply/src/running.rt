@@ -24,7 +24,7 @@ use cob_move_prepared::MoveStep;
 #[inline(always)]
 fn run_single(
     plan: &Plan,
-    places: MovePlaces,
+    places: &MovePlaces,
     step: MoveStep,
     layouts: &Layouts<'_>,
     input: &[u8],
@@ -32,18 +32,18 @@ fn run_single(
     space: &mut Workspace,
 ) -> bool
     requires step { (own : List Meant) × IsPreparedMove layouts.now.reading (records layouts.now)
-        plan.now.prepared (record { places = places; step = step }) own }
+        plan.now.prepared (record { places = places.now; step = step }) own }
     requires input { IsStorage layouts.now.input.now input.now }
     requires output { length output.old ≡ greatest_length layouts.now.output.now }
     requires space { IsWorkspace (records layouts.now) input.now output.old space.old }
     ensures applied { IsTrue result → (own : List Meant)
         → IsPreparedMove layouts.now.reading (records layouts.now)
-        plan.now.prepared (record { places = places; step = step }) own
+        plan.now.prepared (record { places = places.now; step = step }) own
         → Applied (records layouts.now) own input.now output.old (done output.new) }
     ensures space { IsWorkspace (records layouts.now) input.now output.new space.new }
     ensures spends { IsTrue result → (own : List Meant)
         → IsPreparedMove layouts.now.reading (records layouts.now)
-        plan.now.prepared (record { places = places; step = step }) own
+        plan.now.prepared (record { places = places.now; step = step }) own
         → HaveSpent (records layouts.now) own input.now output.old output.new
         space.old.output space.new.output }
     ensures same { result ≡ false → (output.new ≡ output.old) × (space.new ≡ space.old) }
@@ -124,23 +124,23 @@ pub(crate) fn run_step(
     match step {
         Step::Number(one) => {
             let step = MoveStep::Number(one.number);
-            run_single(plan, one.places, step, layouts, input, output, space)
+            run_single(plan, &one.places, step, layouts, input, output, space)
         }
         Step::Wide(one) => {
             let step = MoveStep::Wide(one.number);
-            run_single(plan, one.places, step, layouts, input, output, space)
+            run_single(plan, &one.places, step, layouts, input, output, space)
         }
         Step::Binary(one) => {
             let step = MoveStep::Binary(one.number);
-            run_single(plan, one.places, step, layouts, input, output, space)
+            run_single(plan, &one.places, step, layouts, input, output, space)
         }
         Step::Edited(one) => {
             let step = MoveStep::Edited(one.number);
-            run_single(plan, one.places, step, layouts, input, output, space)
+            run_single(plan, &one.places, step, layouts, input, output, space)
         }
         Step::Characters(one) => {
             let step = MoveStep::Characters(one.step);
-            run_single(plan, one.places, step, layouts, input, output, space)
+            run_single(plan, &one.places, step, layouts, input, output, space)
         }
         Step::Pictured(one, _) => run_part(plan, *one, layouts, input, output, space),
         Step::Constant(one) => {

@@ -86,13 +86,16 @@ pub(crate) struct ConstantMove {
 /// What carries out the moves of one item to another, wherever they stand.
 #[derive(Clone, Copy, Debug)]
 pub(crate) enum LocatedStep {
+    /// Characters, of as many bytes as the sender has where it stands; whether they stand from the right.
+    Characters(bool),
     /// Whatever the reading of binary senders.
     Always(MoveStep),
     /// Where senders are read as their pictures say.
     Pictured(PicturedStep),
 }
 
-/// A single move of an item of the input record to one of the output record, made ready wherever these stand: an item has as many bytes everywhere.
+/// A single move of an entry of the input record to one of the output record, made ready wherever these stand. An item has as many bytes everywhere; a
+/// group, which has those of its tables that vary, gives and takes characters.
 #[derive(Debug, Drop)]
 pub(crate) struct LocatedMove {
     pub(crate) sent: Ref,

@@ -7,27 +7,27 @@ use Rattle.cob_move_apply.proofs.application.make_single.Goals as goal
 
 pub make_prepared-requires-clause-step : goal.make_prepared-requires-clause-step
 make_prepared-requires-clause-step c =
-    let p : PreparedMove = record { places = c.args.places; step = c.args.step } in
+    let p : PreparedMove = record { places = c.args.places.now; step = c.args.step } in
     the_prepared c.args.layouts.now.reading (records c.args.layouts.now) c.args.plan.now.prepared p c.requires.step.0 c.requires.step.1
 
 pub make_prepared-requires-clause-reads : goal.make_prepared-requires-clause-reads
 make_prepared-requires-clause-reads c =
-    let p : PreparedMove = record { places = c.args.places; step = c.args.step } in
+    let p : PreparedMove = record { places = c.args.places.now; step = c.args.step } in
     prepared_reads c.args.layouts.now.reading (records c.args.layouts.now) c.args.plan.now.prepared p c.requires.step.0 c.args.input.now c.requires.step.1 c.requires.input
 
 pub make_prepared-requires-clause-writes : goal.make_prepared-requires-clause-writes
 make_prepared-requires-clause-writes c =
-    let p : PreparedMove = record { places = c.args.places; step = c.args.step } in
+    let p : PreparedMove = record { places = c.args.places.now; step = c.args.step } in
     prepared_within c.args.layouts.now.reading (records c.args.layouts.now) c.args.plan.now.prepared p c.requires.step.0 c.requires.step.1
 
 pub returns-clause-applied : goal.returns-clause-applied
 returns-clause-applied c = λ own is.
-    let p : PreparedMove = record { places = c.args.places; step = c.args.step } in
+    let p : PreparedMove = record { places = c.args.places.now; step = c.args.step } in
     made_prepared c.args.layouts.now.reading (records c.args.layouts.now) c.args.plan.now.prepared p own c.args.input.now c.args.output.now (ending c.make_prepared.result c.make_prepared.new.output)
     c.requires.input c.requires.output c.make_prepared.ensures.made is
 
 pub returns-clause-spends : goal.returns-clause-spends
 returns-clause-spends c = λ own is.
-    let p : PreparedMove = record { places = c.args.places; step = c.args.step } in
+    let p : PreparedMove = record { places = c.args.places.now; step = c.args.step } in
     prepared_spends c.args.layouts.now.reading (records c.args.layouts.now) c.args.plan.now.prepared p own c.args.input.now c.args.output.now c.make_prepared.result c.make_prepared.new.output _ _
     c.make_prepared.ensures.made c.make_prepared.ensures.spends is

@@ -36,8 +36,8 @@ returns-in-Part-clause-applied c = λ own is.
     made_part x r c.args.given.now on c.in-Part.part own c.args.input.now c.args.output.now (ending c.make_part.result c.make_part.new.output)
     (λ m part. c.make_part.ensures.moved m (subst (λ (bs : List Basis). IsMoveOfPart x r c.args.given.now bs c.in-Part.part m) (sym c.as_slice-bases.ensures.value) part)) this
 
-pub make_single-requires-clause-step : goal.make_single-requires-clause-step
-make_single-requires-clause-step c =
+pub make_one-requires-clause-step : goal.make_one-requires-clause-step
+make_one-requires-clause-step c =
     let x = c.args.layouts.now.reading in
     let r = records c.args.layouts.now in
     let on : Support = support_of c.args.plan.now in
@@ -49,10 +49,10 @@ returns-in-Number-clause-applied c = λ own is.
     let r = records c.args.layouts.now in
     let on : Support = support_of c.args.plan.now in
     let this = subst (λ (s : Step). IsStep x r c.args.given.now on s own) c.in-Number.is is in
-    c.make_single.ensures.applied own this
+    c.make_one.ensures.applied own this
 
-pub make_single-requires-in-Wide-clause-step : goal.make_single-requires-in-Wide-clause-step
-make_single-requires-in-Wide-clause-step c =
+pub make_one-requires-in-Wide-clause-step : goal.make_one-requires-in-Wide-clause-step
+make_one-requires-in-Wide-clause-step c =
     let x = c.args.layouts.now.reading in
     let r = records c.args.layouts.now in
     let on : Support = support_of c.args.plan.now in
@@ -64,10 +64,10 @@ returns-in-Wide-clause-applied c = λ own is.
     let r = records c.args.layouts.now in
     let on : Support = support_of c.args.plan.now in
     let this = subst (λ (s : Step). IsStep x r c.args.given.now on s own) c.in-Wide.is is in
-    c.make_single-in-Wide.ensures.applied own this
+    c.make_one-in-Wide.ensures.applied own this
 
-pub make_single-requires-in-Binary-clause-step : goal.make_single-requires-in-Binary-clause-step
-make_single-requires-in-Binary-clause-step c =
+pub make_one-requires-in-Binary-clause-step : goal.make_one-requires-in-Binary-clause-step
+make_one-requires-in-Binary-clause-step c =
     let x = c.args.layouts.now.reading in
     let r = records c.args.layouts.now in
     let on : Support = support_of c.args.plan.now in
@@ -79,10 +79,10 @@ returns-in-Binary-clause-applied c = λ own is.
     let r = records c.args.layouts.now in
     let on : Support = support_of c.args.plan.now in
     let this = subst (λ (s : Step). IsStep x r c.args.given.now on s own) c.in-Binary.is is in
-    c.make_single-in-Binary.ensures.applied own this
+    c.make_one-in-Binary.ensures.applied own this
 
-pub make_single-requires-in-Edited-clause-step : goal.make_single-requires-in-Edited-clause-step
-make_single-requires-in-Edited-clause-step c =
+pub make_one-requires-in-Edited-clause-step : goal.make_one-requires-in-Edited-clause-step
+make_one-requires-in-Edited-clause-step c =
     let x = c.args.layouts.now.reading in
     let r = records c.args.layouts.now in
     let on : Support = support_of c.args.plan.now in
@@ -94,10 +94,10 @@ returns-in-Edited-clause-applied c = λ own is.
     let r = records c.args.layouts.now in
     let on : Support = support_of c.args.plan.now in
     let this = subst (λ (s : Step). IsStep x r c.args.given.now on s own) c.in-Edited.is is in
-    c.make_single-in-Edited.ensures.applied own this
+    c.make_one-in-Edited.ensures.applied own this
 
-pub make_single-requires-in-Characters-clause-step : goal.make_single-requires-in-Characters-clause-step
-make_single-requires-in-Characters-clause-step c =
+pub make_one-requires-in-Characters-clause-step : goal.make_one-requires-in-Characters-clause-step
+make_one-requires-in-Characters-clause-step c =
     let x = c.args.layouts.now.reading in
     let r = records c.args.layouts.now in
     let on : Support = support_of c.args.plan.now in
@@ -109,7 +109,7 @@ returns-in-Characters-clause-applied c = λ own is.
     let r = records c.args.layouts.now in
     let on : Support = support_of c.args.plan.now in
     let this = subst (λ (s : Step). IsStep x r c.args.given.now on s own) c.in-Characters.is is in
-    c.make_single-in-Characters.ensures.applied own this
+    c.make_one-in-Characters.ensures.applied own this
 
 pub make_pictured-requires-clause-part : goal.make_pictured-requires-clause-part
 make_pictured-requires-clause-part c =
@@ -205,7 +205,7 @@ returns-in-Number-clause-spends c = λ own is.
     let r = records c.args.layouts.now in
     let on : Support = support_of c.args.plan.now in
     let this = subst (λ (s : Step). IsStep x r c.args.given.now on s own) c.in-Number.is is in
-    c.make_single.ensures.spends own this
+    c.make_one.ensures.spends own this
 
 pub returns-in-Wide-clause-spends : goal.returns-in-Wide-clause-spends
 returns-in-Wide-clause-spends c = λ own is.
@@ -213,7 +213,7 @@ returns-in-Wide-clause-spends c = λ own is.
     let r = records c.args.layouts.now in
     let on : Support = support_of c.args.plan.now in
     let this = subst (λ (s : Step). IsStep x r c.args.given.now on s own) c.in-Wide.is is in
-    c.make_single-in-Wide.ensures.spends own this
+    c.make_one-in-Wide.ensures.spends own this
 
 pub returns-in-Binary-clause-spends : goal.returns-in-Binary-clause-spends
 returns-in-Binary-clause-spends c = λ own is.
@@ -221,7 +221,7 @@ returns-in-Binary-clause-spends c = λ own is.
     let r = records c.args.layouts.now in
     let on : Support = support_of c.args.plan.now in
     let this = subst (λ (s : Step). IsStep x r c.args.given.now on s own) c.in-Binary.is is in
-    c.make_single-in-Binary.ensures.spends own this
+    c.make_one-in-Binary.ensures.spends own this
 
 pub returns-in-Edited-clause-spends : goal.returns-in-Edited-clause-spends
 returns-in-Edited-clause-spends c = λ own is.
@@ -229,7 +229,7 @@ returns-in-Edited-clause-spends c = λ own is.
     let r = records c.args.layouts.now in
     let on : Support = support_of c.args.plan.now in
     let this = subst (λ (s : Step). IsStep x r c.args.given.now on s own) c.in-Edited.is is in
-    c.make_single-in-Edited.ensures.spends own this
+    c.make_one-in-Edited.ensures.spends own this
 
 pub returns-in-Characters-clause-spends : goal.returns-in-Characters-clause-spends
 returns-in-Characters-clause-spends c = λ own is.
@@ -237,7 +237,7 @@ returns-in-Characters-clause-spends c = λ own is.
     let r = records c.args.layouts.now in
     let on : Support = support_of c.args.plan.now in
     let this = subst (λ (s : Step). IsStep x r c.args.given.now on s own) c.in-Characters.is is in
-    c.make_single-in-Characters.ensures.spends own this
+    c.make_one-in-Characters.ensures.spends own this
 
 pub returns-in-Located-clause-spends : goal.returns-in-Located-clause-spends
 returns-in-Located-clause-spends c = λ own is.
