@@ -1,13 +1,12 @@
 //! The command itself.
 
-ghost use Rattle.std.specs.Prelude.{◌≡◌, Bool, IfErr, true};
+ghost use Rattle.std.specs.Prelude.{◌≡◌, Bool, IfErr};
 ghost use Rattle.cob_command_faults.specs.Ends.{EndsAmong, EndsAs, status_of_outcome};
 ghost use Rattle.cob_records.specs.Forms.{HasBlockSize};
 ghost use Rattle.cob_run_aside.specs.Ends.{LacksOutputs};
 ghost use Rattle.cob_command_aside.specs.Ends.{EndsRun, MayEndAside};
 ghost use Rattle.cob_command_aside.specs.Told.{aside_counted_from, aside_told_from, most_of, told_run};
 
-use crate::places::put_both_in_place;
 use cob_command_ends::{
     AsideEnds, Parts, counted_from, first_of, is_standard_output, open_aside_ends, telling_piece,
 };
@@ -15,10 +14,9 @@ use cob_command_faults::{CommandFault, Texts, printed, tell_fault};
 use cob_convert::{Converter, Tally};
 use cob_convert_files::part_name;
 use cob_convert_line::ConvertLine;
-use cob_records::FileSink;
-use cob_run_aside::{AsideEnding, How, Rejections, counted_on, placed, run_aside_to_end};
+use cob_run_aside::{How, Names, Rejections, counted_on, placed_run, run_aside_to_end};
 use cob_status::Status;
-use std::io::{Eprint, Input, Print, Printer};
+use std::io::{Eprint, Input, Print};
 use std::rt::{Clock, Files};
 
 /// What a run comes to, where the fault lines of the rejected records were all printed, or were not.
@@ -87,8 +85,51 @@ fn rejections_of<'a, R>(rt: &'a R, line: &ConvertLine<'_>, how: How) -> Rejectio
     Rejections::new(rt, first_of(line), is_cleared)
 }
 
-/// Converts into the output itself and the file for rejected records itself, which are made, or emptied where they are there.
+/// The parts that stand in for both outputs, where some do.
+fn parts_of<'a>(line: &ConvertLine<'_>, parts: Names<'a>) -> Option<Parts<'a>> {
+    let Names { output, rejects } = parts;
+    if line.atomic {
+        Some(Parts { output, rejects })
+    } else {
+        None
+    }
+}
+
+/// Converts into the output itself and the file for rejected records itself, which are made, or emptied where they are there; or into the parts of both,
+/// and puts them in their places when all is done. Where it is not, both files are as they were, and the parts have what became of the records before.
 fn convert_into<R: AllocGlobal + Files + Input + Print + Eprint + Clock>(
+    rt: &R,
+    line: &ConvertLine<'_>,
+    names: Names<'_>,
+    parts: Names<'_>,
+    converter: &mut Converter,
+) -> Result<u64, CommandFault>
+    requires { HasBlockSize line.now.in_form }
+    ensures { IfErr result (MayEndAside line.now.atomic) }
+{
+    let greatest = converter.in_length();
+    match open_aside_ends(rt, line, greatest, names.rejects, parts_of(line, parts)) {
+        Ok(
+            AsideEnds {
+                incoming,
+                mut sink,
+                mut aside,
+            },
+        ) => {
+            let how = how_of(rt, line);
+            let mut notes = rejections_of(rt, line, how);
+            let ending = run_aside_to_end(
+                rt, how, converter, incoming, &mut sink, &mut aside, &mut notes,
+            );
+            let outcome = placed_run(rt, line.atomic, ending, sink, aside, parts, names);
+            aside_told_from(first_of(line), told_run(outcome, notes.are_printed))
+        }
+        Err(fault) => Err(fault),
+    }
+}
+
+/// Converts as the command line says: into both outputs themselves, or into their parts, whose names are those of the outputs with `.part` behind them.
+fn convert_by<R: AllocGlobal + Files + Input + Print + Eprint + Clock>(
     rt: &R,
     line: &ConvertLine<'_>,
     rejects: &str,
@@ -97,95 +138,20 @@ fn convert_into<R: AllocGlobal + Files + Input + Print + Eprint + Clock>(
     requires { HasBlockSize line.now.in_form }
     ensures { IfErr result (MayEndAside line.now.atomic) }
 {
-    let AsideEnds {
-        incoming,
-        mut sink,
-        mut aside,
-    } = open_aside_ends(rt, line, converter.in_length(), rejects, None)?;
-    let how = how_of(rt, line);
-    let mut notes = rejections_of(rt, line, how);
-    let ending = run_aside_to_end(
-        rt, how, converter, incoming, &mut sink, &mut aside, &mut notes,
-    );
-    aside_told_from(
-        first_of(line),
-        told_run(ending.finished(), notes.are_printed),
-    )
-}
-
-/// Puts both outputs in their places where the run is done.
-///
-/// # Errors
-///
-/// Why the run is not done, or an output is not in its place.
-fn into_places<'a, R: AllocGlobal + Files + Print>(
-    rt: &'a R,
-    ending: AsideEnding,
-    sink: FileSink<R::File, Printer<'a, R>>,
-    aside: FileSink<R::File, Printer<'a, R>>,
-    parts: Parts<'_>,
-    names: Parts<'_>,
-) -> Result<Tally, CommandFault>
-    ensures { IfErr result (LacksOutputs Bool.true) }
-{
-    match ending.finished() {
-        Ok(tally) => {
-            let place = put_both_in_place(rt, sink, aside, parts, names);
-            placed(tally, ending.marks, place)
-        }
-        Err(fault) => Err(fault),
-    }
-}
-
-/// Converts into the parts of both outputs, and puts them in their places when all is done. Where it is not, both files are as they were, and the parts
-/// have what became of the records before.
-fn convert_parts<R: AllocGlobal + Files + Input + Print + Eprint + Clock>(
-    rt: &R,
-    line: &ConvertLine<'_>,
-    rejects: &str,
-    parts: Parts<'_>,
-    converter: &mut Converter,
-) -> Result<u64, CommandFault>
-    requires atomic { line.now.atomic ≡ true }
-    requires block { HasBlockSize line.now.in_form }
-    ensures { IfErr result (MayEndAside line.now.atomic) }
-{
-    let AsideEnds {
-        incoming,
-        mut sink,
-        mut aside,
-    } = open_aside_ends(rt, line, converter.in_length(), rejects, Some(parts))?;
-    let how = how_of(rt, line);
-    let mut notes = rejections_of(rt, line, how);
-    let ending = run_aside_to_end(
-        rt, how, converter, incoming, &mut sink, &mut aside, &mut notes,
-    );
-    let names = Parts {
+    let names = Names {
         output: line.output,
         rejects,
     };
-    let outcome = into_places(rt, ending, sink, aside, parts, names);
-    aside_told_from(first_of(line), told_run(outcome, notes.are_printed))
-}
-
-/// Converts into parts of both outputs, whose names are those of the outputs with `.part` behind them.
-fn convert_beside<R: AllocGlobal + Files + Input + Print + Eprint + Clock>(
-    rt: &R,
-    line: &ConvertLine<'_>,
-    rejects: &str,
-    converter: &mut Converter,
-) -> Result<u64, CommandFault>
-    requires atomic { line.now.atomic ≡ true }
-    requires block { HasBlockSize line.now.in_form }
-    ensures { IfErr result (MayEndAside line.now.atomic) }
-{
+    if !line.atomic {
+        return convert_into(rt, line, names, names, converter);
+    }
     let output_part = part_name(rt.alloc(), line.output)?;
     let rejects_part = part_name(rt.alloc(), rejects)?;
-    let parts = Parts {
+    let parts = Names {
         output: &output_part,
         rejects: &rejects_part,
     };
-    convert_parts(rt, line, rejects, parts, converter)
+    convert_into(rt, line, names, parts, converter)
 }
 
 /// Converts the records of the file that `--in` names, sets those that are rejected aside in the file `rejects` and prints their fault lines, and answers
@@ -211,30 +177,28 @@ pub fn convert_aside<R: AllocGlobal + Files + Input + Print + Eprint + Clock>(
         out_book: line.out_book,
         moves: line.moves,
     };
-    let mut converter = texts.prepared(rt, line.in_form, line.out_form, line.reading)?;
-    if line.atomic {
-        convert_beside(rt, line, rejects, &mut converter)
-    } else {
-        convert_into(rt, line, rejects, &mut converter)
+    match texts.prepared(rt, line.in_form, line.out_form, line.reading) {
+        Ok(mut converter) => convert_by(rt, line, rejects, &mut converter),
+        Err(fault) => Err(fault),
     }
 }
 
 /// Prints how many records were converted and how many rejected, on standard error where records go to standard output, and answers how the command ends.
-fn tell_tally<R: Print + Eprint>(rt: &R, beside: bool, tally: Tally, status: Status) -> Status
+fn tell_tally<R: Print + Eprint>(
+    rt: &R,
+    beside: bool,
+    converted: u64,
+    rejected: u64,
+    status: Status,
+) -> Status
     ensures { EndsAs status result }
 {
-    let Tally {
-        converted,
-        rejected,
-    } = tally;
-    if beside {
-        printed(
-            eprintln!(rt; "done {converted} rejected {rejected}"),
-            status,
-        )
+    let line = if beside {
+        eprintln!(rt; "done {converted} rejected {rejected}")
     } else {
-        printed(println!(rt; "done {converted} rejected {rejected}"), status)
-    }
+        println!(rt; "done {converted} rejected {rejected}")
+    };
+    printed(line, status)
 }
 
 /// Prints what a conversion comes to, and answers how it ends: how many records were converted and how many rejected; or its fault.
@@ -246,25 +210,13 @@ pub fn tell_converted_aside<R: Print + Eprint>(
     ensures { EndsAs (status_of_outcome outcome) result }
 {
     match outcome {
-        Ok(converted) => {
-            let tally = Tally {
-                converted,
-                rejected: 0,
-            };
-            tell_tally(rt, beside, tally, Status::Done)
-        }
+        Ok(converted) => tell_tally(rt, beside, converted, 0, Status::Done),
         Err(
             CommandFault::SetAside {
                 converted,
                 rejected,
             },
-        ) => {
-            let tally = Tally {
-                converted,
-                rejected,
-            };
-            tell_tally(rt, beside, tally, Status::Stopped)
-        }
+        ) => tell_tally(rt, beside, converted, rejected, Status::Stopped),
         Err(fault) => tell_fault(rt, fault),
     }
 }

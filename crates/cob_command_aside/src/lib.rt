@@ -14,12 +14,11 @@
 //!
 //! What files hold and what is printed is shown by the stored command lines of `cob_jobs`.
 //!
-//! It stands on `cob_command_ends` for the ends of a conversion, on `cob_run_aside` for the run, on `cob_convert` for what is done, on `cob_convert_line` for
-//! the command line, on `cob_command_faults` for faults and texts, on `cob_convert_files` for outputs that replace a file, on `cob_records` for the ends
-//! over files, and on `cob_status` for statuses.
+//! It stands on `cob_command_ends` for the ends of a conversion, on `cob_run_aside` for the run and for outputs put in their places, on `cob_convert` for
+//! what is done, on `cob_convert_line` for the command line, on `cob_command_faults` for faults and texts, on `cob_convert_files` for the names of parts,
+//! on `cob_records` for forms of records, and on `cob_status` for statuses.
 #![tactic(auto)]
 
 mod converting;
-mod places;
 
 pub use converting::{convert_aside, do_convert_aside, tell_converted_aside};

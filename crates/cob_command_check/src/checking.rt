@@ -2,10 +2,9 @@ ghost use Rattle.std.specs.Prelude.{IfErr};
 ghost use Rattle.cob_command_faults.specs.Ends.{EndsAmong, EndsAs, status_of_outcome};
 ghost use Rattle.cob_command_check.specs.Ends.{MayEndCheck};
 
-use cob_codec::Reading;
-use cob_command_faults::{CommandFault, Texts, printed, tell_fault};
+use crate::reading::read_texts;
+use cob_command_faults::{CommandFault, printed, tell_fault};
 use cob_convert_line::CheckLine;
-use cob_records::Form;
 use cob_status::Status;
 use std::fmt;
 use std::io::{Eprint, Print};
@@ -41,17 +40,10 @@ impl fmt::Display for Checked {
 pub fn check<R: AllocGlobal + Files>(rt: &R, line: &CheckLine<'_>) -> Result<Checked, CommandFault>
     ensures { IfErr result MayEndCheck }
 {
-    let texts = Texts {
-        in_book: line.in_book,
-        out_book: line.out_book,
-        moves: line.moves,
-    };
-    let converter = texts.prepared(rt, Form::Fixed, Form::Fixed, Reading::Pictured)?;
-    Ok(Checked {
-        input: converter.in_length(),
-        output: converter.out_length(),
-        moves: converter.moves(),
-    })
+    match read_texts(rt, line, false) {
+        Ok(told) => Ok(told.0),
+        Err(fault) => Err(fault),
+    }
 }
 
 /// Prints what the texts of a conversion come to, and answers how the check ends.

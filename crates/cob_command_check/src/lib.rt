@@ -7,12 +7,13 @@
 //! `cob_command_faults`). What the lists hold is promised by `cob_cover`, and how they read is shown by the stored command lines of `cob_jobs`.
 //!
 //! It stands on `cob_convert_line` for the command line, on `cob_command_faults` for faults and texts, on `cob_convert` for the conversion, on
-//! `cob_lossless` for its moves, on `cob_lossless_words` for the lines of statements, on `cob_cover` for the lists, on `cob_codec` for the reading of
-//! binary items, on `cob_records` for its forms, and on `cob_status` for statuses.
+//! `cob_lossless` for its moves, on `cob_lossless_words` for the lines of statements, on `cob_cover` for the lists, on `cob_records` for its forms, and on
+//! `cob_status` for statuses.
 #![tactic(auto)]
 
 mod checking;
 mod covering;
+mod reading;
 
 pub use checking::{Checked, check, do_check};
 pub use covering::{cover, do_cover};

@@ -6,6 +6,10 @@ use Rattle.cob_command_faults.specs.Texts.{LacksConverter}
 use Rattle.cob_command_ends.specs.Ends.{LacksEnds}
 use Rattle.cob_run_to_end.specs.Ends.{StopsRun}
 
+-- what is told of a run: that it is not done; or, where an output that is there is kept until all is done, that the new one was not renamed
+abbrev pub EndsRun : Bool → CommandFault → Type 0
+EndsRun atomic told = StopsRun told ⊎ ((atomic ≡ true) × (told ≡ fault.NotRenamed))
+
 -- The faults that `convert` can have: of its texts, of its ends, of its run; and, where an output that is there is kept until all is done, that the
 -- new one was not renamed.
 abbrev pub MayEndConvert : Bool → CommandFault → Type 0

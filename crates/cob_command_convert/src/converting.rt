@@ -1,8 +1,8 @@
-ghost use Rattle.std.specs.Prelude.{◌≡◌, IfErr, true};
+ghost use Rattle.std.specs.Prelude.{◌≡◌, Bool, IfErr};
 ghost use Rattle.cob_command_faults.specs.Ends.{EndsAmong, EndsAs, status_of_outcome};
 ghost use Rattle.cob_records.specs.Forms.{HasBlockSize};
-ghost use Rattle.cob_run_to_end.specs.Ends.{LacksPlace, StopsRun};
-ghost use Rattle.cob_command_convert.specs.Ends.{MayEndConvert};
+ghost use Rattle.cob_run_to_end.specs.Ends.{StopsRun};
+ghost use Rattle.cob_command_convert.specs.Ends.{EndsRun, MayEndConvert};
 ghost use Rattle.cob_command_convert.specs.Told.{told_counted_from};
 
 use cob_command_ends::{
@@ -12,16 +12,17 @@ use cob_command_faults::{CommandFault, Texts, printed, tell_fault};
 use cob_convert::Converter;
 use cob_convert_files::{part_name, put_in_place};
 use cob_convert_line::ConvertLine;
+use cob_records::FileSink;
 use cob_run_to_end::{placed, run_to_end};
 use cob_status::Status;
-use std::io::{Eprint, Input, Print};
+use std::io::{Eprint, Input, Print, Printer};
 use std::rt::{Clock, Files};
 
 /// What a command came to, its records counted from this one.
 fn told_counted_from(first: u64, outcome: Result<u64, CommandFault>) -> Result<u64, CommandFault>
     ensures told { result ≡ told_counted_from first outcome }
-    ensures stops { IfErr outcome StopsRun → IfErr result StopsRun }
-    ensures lacks { IfErr outcome LacksPlace → IfErr result LacksPlace }
+    ensures ends { (atomic : Bool) → IfErr outcome (EndsRun atomic)
+        → IfErr result (MayEndConvert atomic) }
 {
     match outcome {
         Ok(done) => Ok(done),
@@ -29,8 +30,55 @@ fn told_counted_from(first: u64, outcome: Result<u64, CommandFault>) -> Result<u
     }
 }
 
-/// Converts into the output itself, which is made, or emptied where it is there.
+/// What a run comes to whose output is this; or is its part, which is put in its place where the run is done.
+fn placed_run<'a, R: AllocGlobal + Files + Print>(
+    rt: &'a R,
+    atomic: bool,
+    outcome: Result<u64, CommandFault>,
+    sink: FileSink<R::File, Printer<'a, R>>,
+    part: &str,
+    output: &str,
+) -> Result<u64, CommandFault>
+    requires { IfErr outcome StopsRun }
+    ensures { IfErr result (EndsRun atomic) }
+{
+    match outcome {
+        Ok(done) if atomic => placed(done, put_in_place(rt, sink, part, output)),
+        Ok(done) => Ok(done),
+        Err(fault) => Err(fault),
+    }
+}
+
+/// The part that stands in for the output, where one does.
+fn part_of<'a>(line: &ConvertLine<'_>, part: &'a str) -> Option<&'a str> {
+    if line.atomic { Some(part) } else { None }
+}
+
+/// Converts into the output itself, which is made, or emptied where it is there; or into its part, and puts it in its place when all is done. Where it is
+/// not, the output is as it was, and the part has the records before.
 fn convert_into<R: AllocGlobal + Files + Input + Print + Eprint + Clock>(
+    rt: &R,
+    line: &ConvertLine<'_>,
+    part: &str,
+    converter: &mut Converter,
+) -> Result<u64, CommandFault>
+    requires { HasBlockSize line.now.in_form }
+    ensures { IfErr result (MayEndConvert line.now.atomic) }
+{
+    match open_ends(rt, line, converter.in_length(), part_of(line, part)) {
+        Ok(Ends { source, mut sink }) => {
+            let telling = telling_piece(rt, line);
+            let ending = run_to_end(rt, line.in_form, telling, converter, source, &mut sink);
+            let run = ending.finished();
+            let outcome = placed_run(rt, line.atomic, run, sink, part, line.output);
+            told_counted_from(first_of(line), outcome)
+        }
+        Err(fault) => Err(fault),
+    }
+}
+
+/// Converts as the command line says: into the output itself, or into its part, whose name is that of the output with `.part` behind it.
+fn convert_by<R: AllocGlobal + Files + Input + Print + Eprint + Clock>(
     rt: &R,
     line: &ConvertLine<'_>,
     converter: &mut Converter,
@@ -38,30 +86,13 @@ fn convert_into<R: AllocGlobal + Files + Input + Print + Eprint + Clock>(
     requires { HasBlockSize line.now.in_form }
     ensures { IfErr result (MayEndConvert line.now.atomic) }
 {
-    let Ends { source, mut sink } = open_ends(rt, line, converter.in_length(), None)?;
-    let telling = telling_piece(rt, line);
-    let ending = run_to_end(rt, line.in_form, telling, converter, source, &mut sink);
-    told_counted_from(first_of(line), ending.finished())
-}
-
-/// Converts into the part of the output, and puts it in its place when all is done. Where it is not, the output is as it was, and the part has
-/// the records before.
-fn convert_beside<R: AllocGlobal + Files + Input + Print + Eprint + Clock>(
-    rt: &R,
-    line: &ConvertLine<'_>,
-    converter: &mut Converter,
-) -> Result<u64, CommandFault>
-    requires atomic { line.now.atomic ≡ true }
-    requires block { HasBlockSize line.now.in_form }
-    ensures { IfErr result (MayEndConvert line.now.atomic) }
-{
-    let part = part_name(rt.alloc(), line.output)?;
-    let Ends { source, mut sink } = open_ends(rt, line, converter.in_length(), Some(&part))?;
-    let telling = telling_piece(rt, line);
-    let ending = run_to_end(rt, line.in_form, telling, converter, source, &mut sink);
-    let done = told_counted_from(first_of(line), ending.finished())?;
-    let place = put_in_place(rt, sink, &part, line.output);
-    told_counted_from(first_of(line), placed(done, place))
+    if !line.atomic {
+        return convert_into(rt, line, line.output, converter);
+    }
+    match part_name(rt.alloc(), line.output) {
+        Ok(part) => convert_into(rt, line, &part, converter),
+        Err(_) => Err(CommandFault::Memory),
+    }
 }
 
 /// Converts the records of the file that `--in` names, and answers how many there were. The texts are read and prepared before the input is
@@ -85,11 +116,9 @@ pub fn convert<R: AllocGlobal + Files + Input + Print + Eprint + Clock>(
         out_book: line.out_book,
         moves: line.moves,
     };
-    let mut converter = texts.prepared(rt, line.in_form, line.out_form, line.reading)?;
-    if line.atomic {
-        convert_beside(rt, line, &mut converter)
-    } else {
-        convert_into(rt, line, &mut converter)
+    match texts.prepared(rt, line.in_form, line.out_form, line.reading) {
+        Ok(mut converter) => convert_by(rt, line, &mut converter),
+        Err(fault) => Err(fault),
     }
 }
 

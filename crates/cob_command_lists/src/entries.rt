@@ -30,7 +30,8 @@ fn list_to_end<W: Write + Drop>(
 
 /// What a list of entries comes to that was handed to the device, or was not.
 fn listed(handed: Result<(), DeviceFault>) -> Result<(), CommandFault>
-    ensures { result ≡ listed_entries handed }
+    ensures told { result ≡ listed_entries handed }
+    ensures fault { IfErr result MayEndLayout }
 {
     match handed {
         Ok(()) => Ok(()),

@@ -1,6 +1,5 @@
-use crate::parts::{Values, is_told, values_of};
+use crate::parts::{Values, is_told, push_all, values_of};
 use clap::{Arg, Command};
-use cob_convert_program::program;
 use std::alloc::{AllocError, Global};
 
 // What stands before the names of the commands.
@@ -31,6 +30,20 @@ const TAIL: &str = "        esac
 complete -F _cobconv cobconv
 ";
 
+/// The case of an option of a command, in which this is done with these words.
+fn push_line(
+    text: &mut String,
+    command: &str,
+    option: &str,
+    done: &str,
+    words: &str,
+    behind: &str,
+) -> Result<(), AllocError> {
+    push_all(text, "        '", command, " --")?;
+    push_all(text, option, "') ", done)?;
+    push_all(text, words, behind, " ;;\n")
+}
+
 /// The case of an option whose value is completed.
 fn push_case(
     alloc: Global,
@@ -41,13 +54,17 @@ fn push_case(
     let name = option.get_id();
     match values_of(alloc, option)? {
         Values::Nothing => Ok(()),
-        Values::Files => text.push_str(format!(in alloc;
-            "        '{command} --{name}') compopt -o default; return ;;\n"
-        )?.as_str()),
-        Values::Words(words) => text.push_str(format!(in alloc;
-            "        '{command} --{name}') words='{words}' ;;\n"
-        )?.as_str()),
+        Values::Files => push_line(text, command, name, "compopt -o default; return", "", ""),
+        Values::Words(words) => push_line(text, command, name, "words='", words, "'"),
     }
+}
+
+/// The names of all options of a command.
+fn push_labels(text: &mut String, command: &Command<'_>) -> Result<(), AllocError> {
+    for option in command.get_arguments() {
+        push_all(text, "--", option.get_id(), " ")?;
+    }
+    Ok(())
 }
 
 /// The cases of a command: of its options with a value, and then of the names of all its options.
@@ -56,11 +73,8 @@ fn push_cases(alloc: Global, text: &mut String, command: &Command<'_>) -> Result
     for option in command.get_arguments() {
         push_case(alloc, text, name, option)?;
     }
-    text.push_str(format!(in alloc; "        '{name} '*) words='")?.as_str())?;
-    for option in command.get_arguments() {
-        let label = option.get_id();
-        text.push_str(format!(in alloc; "--{label} ")?.as_str())?;
-    }
+    push_all(text, "        '", name, " '*) words='")?;
+    push_labels(text, command)?;
     text.push_str("--help' ;;\n")
 }
 
@@ -68,33 +82,25 @@ fn push_cases(alloc: Global, text: &mut String, command: &Command<'_>) -> Result
 fn push_names(text: &mut String, program: &Command<'_>) -> Result<(), AllocError> {
     for command in program.get_subcommands() {
         if is_told(command) {
-            text.push_str(command.get_name())?;
-            text.push_str(" ")?;
+            push_all(text, command.get_name(), " ", "")?;
         }
     }
     Ok(())
 }
 
-/// What bash needs to complete the command lines of a program with these commands.
-fn completion_for(alloc: Global, program: &Command<'_>) -> Result<String, AllocError> {
-    let mut text = String::from_str(alloc, HEAD)?;
-    push_names(&mut text, program)?;
+/// Adds what bash needs to complete the command lines of a program with these commands.
+pub(crate) fn push_completion(
+    alloc: Global,
+    text: &mut String,
+    program: &Command<'_>,
+) -> Result<(), AllocError> {
+    text.push_str(HEAD)?;
+    push_names(text, program)?;
     text.push_str(MIDDLE)?;
     for command in program.get_subcommands() {
         if is_told(command) {
-            push_cases(alloc, &mut text, command)?;
+            push_cases(alloc, text, command)?;
         }
     }
-    text.push_str(TAIL)?;
-    Ok(text)
-}
-
-/// What bash needs to complete the program's command lines.
-///
-/// # Errors
-///
-/// Want of memory.
-pub fn completion_of(alloc: Global) -> Result<String, AllocError> {
-    let program = program(alloc)?;
-    completion_for(alloc, &program)
+    text.push_str(TAIL)
 }

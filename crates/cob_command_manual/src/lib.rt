@@ -15,7 +15,7 @@ mod command;
 mod completion;
 mod page;
 mod parts;
+mod texts;
 
 pub use command::{do_completion, do_manual};
-pub use completion::completion_of;
-pub use page::page_of;
+pub use texts::{completion_of, page_of};

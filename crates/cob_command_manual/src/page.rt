@@ -1,6 +1,5 @@
-use crate::parts::{default_of, is_told, label_of};
+use crate::parts::{default_of, is_told, label_of, push_all};
 use clap::{Arg, Command};
-use cob_convert_program::program;
 use std::alloc::{AllocError, Global};
 
 // What stands before what the program does.
@@ -10,7 +9,7 @@ cobconv \\- convert files of COBOL records by two copybooks and a paragraph of M
 .SH SYNOPSIS
 \\fBcobconv\\fR [\\fICOMMAND\\fR [\\fIOPTION\\fR]...]
 .SH DESCRIPTION
-";
+\\&";
 
 // What stands between this and the commands.
 const MIDDLE: &str = "
@@ -45,71 +44,73 @@ const FILLED: &str = " ";
 
 const BROKEN: &str = "\n.br\n\\&";
 
-/// Adds words to a manual page; between their lines stands this.
-fn push_words(text: &mut String, words: &str, between: &str) -> Result<(), AllocError> {
-    text.push_str("\\&")?;
+/// Adds words to a manual page, what stands before them and what behind; between their lines stands this.
+fn push_words(
+    text: &mut String,
+    before: &str,
+    words: &str,
+    between: &str,
+    behind: &str,
+) -> Result<(), AllocError> {
+    text.push_str(before)?;
     for letter in words.chars() {
-        match letter {
-            '-' => text.push_str("\\-")?,
-            '\\' => text.push_str("\\e")?,
-            '\n' => text.push_str(between)?,
-            _ => text.push(letter)?,
-        }
+        let pushed = match letter {
+            '-' => text.push_str("\\-"),
+            '\\' => text.push_str("\\e"),
+            '\n' => text.push_str(between),
+            _ => text.push(letter),
+        };
+        pushed?;
     }
-    Ok(())
+    text.push_str(behind)
+}
+
+/// Adds the name and value of an option.
+fn push_label(alloc: Global, text: &mut String, option: &Arg<'_>) -> Result<(), AllocError> {
+    let label = label_of(alloc, option)?;
+    push_words(text, ".TP\n\\fB\\&", &label, FILLED, "\\fR\n\\&")
 }
 
 /// Adds an option: its name and value, its help, and its default or that it has to be there.
 fn push_option(alloc: Global, text: &mut String, option: &Arg<'_>) -> Result<(), AllocError> {
-    text.push_str(".TP\n\\fB")?;
-    push_words(text, label_of(alloc, option)?.as_str(), FILLED)?;
-    text.push_str("\\fR\n")?;
-    push_words(text, option.get_help().unwrap_or(""), BROKEN)?;
+    push_label(alloc, text, option)?;
+    push_words(text, "", option.get_help().unwrap_or(""), BROKEN, "")?;
     if option.is_required_set() {
-        text.push_str(" (required)")?;
-    } else if let Some(default) = default_of(option) {
-        push_words(
-            text,
-            format!(in alloc; " (default: {default})")?.as_str(),
-            FILLED,
-        )?;
+        return text.push_str(" (required)\n");
     }
-    text.push_str("\n")
+    match default_of(option) {
+        Some(default) => push_words(text, "\\& (default: ", default, FILLED, ")\n"),
+        None => text.push_str("\n"),
+    }
 }
 
 /// Adds a command: its name, what it does, and its options.
 fn push_command(alloc: Global, text: &mut String, command: &Command<'_>) -> Result<(), AllocError> {
-    text.push_str(".SS ")?;
-    text.push_str(command.get_name())?;
-    text.push_str("\n")?;
-    push_words(text, command.get_about().unwrap_or(""), FILLED)?;
-    text.push_str("\n")?;
+    push_all(text, ".SS ", command.get_name(), "\n")?;
+    push_words(text, "\\&", command.get_about().unwrap_or(""), FILLED, "\n")?;
     for option in command.get_arguments() {
         push_option(alloc, text, option)?;
     }
     Ok(())
 }
 
-/// The manual page of a program with these commands.
-fn page_for(alloc: Global, program: &Command<'_>) -> Result<String, AllocError> {
-    let mut text = String::from_str(alloc, HEAD)?;
-    push_words(&mut text, program.get_about().unwrap_or(""), FILLED)?;
-    text.push_str(MIDDLE)?;
+/// Adds the manual page of a program with these commands.
+pub(crate) fn push_page(
+    alloc: Global,
+    text: &mut String,
+    program: &Command<'_>,
+) -> Result<(), AllocError> {
+    push_words(
+        text,
+        HEAD,
+        program.get_about().unwrap_or(""),
+        FILLED,
+        MIDDLE,
+    )?;
     for command in program.get_subcommands() {
         if is_told(command) {
-            push_command(alloc, &mut text, command)?;
+            push_command(alloc, text, command)?;
         }
     }
-    text.push_str(TAIL)?;
-    Ok(text)
-}
-
-/// The program's manual page.
-///
-/// # Errors
-///
-/// Want of memory.
-pub fn page_of(alloc: Global) -> Result<String, AllocError> {
-    let program = program(alloc)?;
-    page_for(alloc, &program)
+    text.push_str(TAIL)
 }

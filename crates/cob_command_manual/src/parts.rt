@@ -19,24 +19,14 @@ pub(crate) enum Values<'a> {
     Words(&'a str),
 }
 
-/// The words that stand for a value of this name.
-fn words_for(value: &str) -> Option<&'static str> {
-    match value {
-        "<FORM>" => Some("f v b"),
-        "<READING>" => Some("pictured whole"),
-        "<LISTING>" => Some("text json csv"),
-        _ => None,
-    }
-}
-
 /// What completes the value of this name, beside its default.
 fn values_for<'a>(value: &str, default: Option<&'a str>) -> Values<'a> {
-    if value == "<FILE>" {
-        return Values::Files;
-    }
-    match words_for(value) {
-        Some(words) => Values::Words(words),
-        None => Values::Words(default.unwrap_or("")),
+    match value {
+        "<FILE>" => Values::Files,
+        "<FORM>" => Values::Words("f v b"),
+        "<READING>" => Values::Words("pictured whole"),
+        "<LISTING>" => Values::Words("text json csv"),
+        _ => Values::Words(default.unwrap_or("")),
     }
 }
 
@@ -63,4 +53,16 @@ pub(crate) fn values_of<'a>(alloc: Global, option: &Arg<'a>) -> Result<Values<'a
         Some((_, value)) => Ok(values_for(value, default_of(option))),
         None => Ok(Values::Nothing),
     }
+}
+
+/// Adds texts that stand one behind another.
+pub(crate) fn push_all(
+    text: &mut String,
+    first: &str,
+    second: &str,
+    third: &str,
+) -> Result<(), AllocError> {
+    text.push_str(first)?;
+    text.push_str(second)?;
+    text.push_str(third)
 }

@@ -1,12 +1,11 @@
 -- What a conversion that sets rejected records aside comes to behind its run: whether its outputs were handed to their devices, and put in their places.
-use Rattle.std.specs.Prelude.{◌==◌, ◌||◌, ◌+◌, ◌-◌, ℕ, Bool, true, Option, Result, Ok, Err, ⊤, if◌then◌else◌}
+use Rattle.std.specs.Prelude.{◌==◌, ◌||◌, ◌+◌, ◌-◌, ℕ, Bool, true, false, Option, Result, Ok, Err, ⊤, if◌then◌else◌}
 use Rattle.cob_chosen.specs.declared.choice.Stopped.{Stopped}
 use Rattle.cob_command_input.specs.Stops.{cause_told}
 use Rattle.cob_stream.specs.Reasons.{is_write_cause}
 use Rattle.cob_convert.specs.declared.aside.AsideFault.{AsideFault}
 use Rattle.cob_convert.specs.declared.aside.AsideFault.TheVariants as aside
 use Rattle.cob_convert.specs.declared.aside.Tally.{Tally}
-use Rattle.cob_convert_files.specs.declared.outputs.PlaceFault.{PlaceFault}
 use Rattle.cob_convert_files.specs.declared.outputs.PlaceFault.TheVariants as place
 use Rattle.cob_records.specs.Progress.{kept_count}
 use Rattle.cob_records.specs.declared.device.DeviceFault.{DeviceFault}
@@ -64,6 +63,13 @@ placed_aside tally marks (Err (places.Output place.NotSynced)) = Err (lacking_ou
 placed_aside tally marks (Err (places.Output place.NotRenamed)) = Err fault.NotRenamed
 placed_aside tally marks (Err (places.Rejects place.NotSynced)) = Err (lacking_aside (Ok tally) marks)
 placed_aside tally marks (Err (places.Rejects place.NotRenamed)) = Err fault.NotRenamedAside
+
+-- What a run comes to whose outputs are the files themselves; or parts, of which this is what was done to put them in their places, where the run was
+-- done.
+abbrev pub placed_run : (atomic : Bool) → Result Tally CommandFault → Marks → Result ⊤ PlacesFault → Result Tally CommandFault
+placed_run true (Ok tally) marks place = placed_aside tally marks place
+placed_run true (Err fault) marks place = Err fault
+placed_run false outcome marks place = outcome
 
 -- a record's number, where the first that was read has this one
 abbrev pub number_from : (first number : ℕ) → ℕ

@@ -1,5 +1,5 @@
 -- Which of the records that came is the last that was rejected, and which the last that was converted.
-use Rattle.std.specs.Prelude.{◌≡◌, ℕ, ◌+◌, ◌-◌, ◌<◌, ◌≤◌, ◌==◌, ◌||◌, Bool, true, false, if◌then◌else◌}
+use Rattle.std.specs.Prelude.{◌≡◌, ℕ, ◌-◌, ◌<◌, ◌≤◌, ◌==◌, ◌||◌, Bool, true, false, if◌then◌else◌}
 use Rattle.cob_run_aside.specs.declared.marks.Marks.{Marks}
 
 -- Of so many records that came, those that were rejected apart, the one of this number is the last; 0: all were rejected, or none came.

@@ -1,8 +1,8 @@
 //! A run that sets rejected records aside, to its end and behind it.
 //!
 //! [`run_aside_to_end`] runs a converter over the records that come, and hands what its two outputs still hold to their devices. [`Rejections`] prints the
-//! fault line of each rejected record and keeps their [`Marks`]. What the run comes to is [`AsideEnding::finished`], and [`placed`] behind what was done
-//! to put both outputs in their places.
+//! fault line of each rejected record and keeps their [`Marks`]. What the run comes to is [`AsideEnding::finished`]; [`placed_run`] puts parts of both
+//! outputs in their places, and what the run comes to behind that is [`placed`].
 //!
 //! What is promised:
 //!
@@ -17,9 +17,11 @@
 #![tactic(auto)]
 
 mod marks;
+mod places;
 mod rejections;
 mod running;
 
 pub use marks::Marks;
+pub use places::Names;
 pub use rejections::{Rejections, counted_on};
-pub use running::{AsideEnding, How, PlacesFault, placed, run_aside_to_end};
+pub use running::{AsideEnding, How, PlacesFault, placed, placed_run, run_aside_to_end};

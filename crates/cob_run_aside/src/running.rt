@@ -1,25 +1,28 @@
 //! A run that sets rejected records aside, to its end and behind it.
 
-ghost use Rattle.std.specs.Prelude.{◌≡◌, ◌<◌, Bool, [], IfErr, OnOk};
+ghost use Rattle.std.specs.Prelude.{◌≡◌, ◌<◌, Bool, [], Result, ⊤, IfErr, OnOk};
 ghost use Rattle.std.specs.Io.Buffered.{writer_buffer};
 ghost use Rattle.cob_records.specs.Device.{counted};
 ghost use Rattle.cob_records.specs.Forms.{HasBlockSize};
 ghost use Rattle.cob_records.specs.Streams.{sink_writer};
 ghost use Rattle.cob_convert.specs.Aside.{CountsUnlessSink, is_aside_fault, is_sink_fault};
 ghost use Rattle.cob_run_aside.specs.Ends.{LacksOutputs, StopsRunAside};
-ghost use Rattle.cob_run_aside.specs.Finished.{aside_cause, fails_output, finished_aside, lacking, lacking_aside, lacking_output, placed_aside, records_before};
+ghost use Rattle.cob_run_aside.specs.Finished.{aside_cause, fails_output, finished_aside, lacking, lacking_aside, lacking_output, placed_aside, placed_run, records_before};
 ghost use Rattle.cob_run_aside.specs.Ran.{RanAsideFrom, RanAsideOver};
 
 use crate::marks::Marks;
+use crate::places::{Names, put_both_in_place};
 use crate::rejections::Rejections;
 use cob_chosen::{Incoming, Stopped};
 use cob_command_faults::CommandFault;
 use cob_command_input::with_cause;
 use cob_convert::{AsideFault, Cause, Converter, Notes, RunFault, Tally};
 use cob_convert_files::PlaceFault;
-use cob_records::{DeviceFault, Form, Progress, RecordFault, Sink, Source, Telling, WriteSink};
-use std::io::{BufWriter, Eprint, Write};
-use std::rt::Clock;
+use cob_records::{
+    DeviceFault, FileSink, Form, Progress, RecordFault, Sink, Source, Telling, WriteSink,
+};
+use std::io::{BufWriter, Eprint, Print, Printer, Write};
+use std::rt::{Clock, Files};
 
 /// Whether an output failed.
 fn is_failed_output(fault: AsideFault) -> bool
@@ -140,6 +143,35 @@ pub fn placed(
         Err(PlacesFault::Output(PlaceFault::NotRenamed)) => Err(CommandFault::NotRenamed),
         Err(PlacesFault::Rejects(PlaceFault::NotSynced)) => Err(ending.lacks_rejects()),
         Err(PlacesFault::Rejects(PlaceFault::NotRenamed)) => Err(CommandFault::NotRenamedAside),
+    }
+}
+
+/// What a run comes to whose outputs are these; or are their parts, which are put in their places where the run is done.
+///
+/// # Errors
+///
+/// Why the run is not done, or an output is not in its place.
+pub fn placed_run<'a, R: AllocGlobal + Files + Print>(
+    rt: &'a R,
+    atomic: bool,
+    ending: AsideEnding,
+    sink: FileSink<R::File, Printer<'a, R>>,
+    aside: FileSink<R::File, Printer<'a, R>>,
+    parts: Names<'_>,
+    names: Names<'_>,
+) -> Result<Tally, CommandFault>
+    ensures told { (place : Result ⊤ PlacesFault) × (result ≡ placed_run atomic
+        (finished_aside ending.answer ending.marks ending.flushed ending.aside_flushed)
+        ending.marks place) }
+    ensures lacks { IfErr result (LacksOutputs atomic) }
+{
+    match ending.finished() {
+        Ok(tally) if atomic => {
+            let place = put_both_in_place(rt, sink, aside, parts, names);
+            placed(tally, ending.marks, place)
+        }
+        Ok(tally) => Ok(tally),
+        Err(fault) => Err(fault),
     }
 }
 

@@ -1,12 +1,18 @@
 //! Two outputs that come into their places together.
 
-use cob_command_ends::Parts;
+use crate::running::PlacesFault;
 use cob_convert_files::{PlaceFault, put_in_place};
 use cob_records::{FileSink, Opened, WriteSink};
-use cob_run_aside::PlacesFault;
 use std::fs::OpenFile;
 use std::io::{Print, Printer, Write};
 use std::rt::Files;
+
+/// The names of both outputs, or of the parts that stand in for them until all is done.
+#[derive(Clone, Copy)]
+pub struct Names<'a> {
+    pub output: &'a str,
+    pub rejects: &'a str,
+}
 
 /// Whether a part that was handed over whole was brought to its device.
 fn is_synced<F: OpenFile, S>(opened: &Opened<F, S>) -> bool {
@@ -37,8 +43,8 @@ fn put_rejects_first<'a, R: AllocGlobal + Files + Print>(
     rt: &'a R,
     sink: FileSink<R::File, Printer<'a, R>>,
     aside: FileSink<R::File, Printer<'a, R>>,
-    parts: Parts<'_>,
-    names: Parts<'_>,
+    parts: Names<'_>,
+    names: Names<'_>,
 ) -> Result<(), PlacesFault> {
     if let Err(fault) = put_in_place(rt, aside, parts.rejects, names.rejects) {
         return Err(PlacesFault::Rejects(fault));
@@ -55,12 +61,12 @@ fn put_rejects_first<'a, R: AllocGlobal + Files + Print>(
 /// # Errors
 ///
 /// The first of these that fails. The output is as it was before.
-pub fn put_both_in_place<'a, R: AllocGlobal + Files + Print>(
+pub(crate) fn put_both_in_place<'a, R: AllocGlobal + Files + Print>(
     rt: &'a R,
     sink: FileSink<R::File, Printer<'a, R>>,
     aside: FileSink<R::File, Printer<'a, R>>,
-    parts: Parts<'_>,
-    names: Parts<'_>,
+    parts: Names<'_>,
+    names: Names<'_>,
 ) -> Result<(), PlacesFault> {
     match synced(sink) {
         Ok(sink) => put_rejects_first(rt, sink, aside, parts, names),

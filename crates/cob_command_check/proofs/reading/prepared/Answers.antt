@@ -3,12 +3,12 @@ use Rattle.std.specs.Prelude.{IfErr}
 use Rattle.cob_command_check.specs.Ends.{MayEndCheck}
 use Rattle.cob_command_faults.specs.declared.fault.CommandFault.{CommandFault}
 use Rattle.cob_command_faults.specs.declared.fault.CommandFault.TheVariants.{Memory}
-use Rattle.cob_command_check.proofs.covering.covered.Goals as goal
+use Rattle.cob_command_check.proofs.reading.prepared.Goals as goal
 
 -- want of memory is a fault that a check can have
 of_memory : {T : Type 0} (r : Result T CommandFault) → IfErr r (λ fault. fault ≡ Memory) → IfErr r MayEndCheck
 of_memory (Ok x) h = tt
 of_memory (Err e) h = inl (inr (inr h))
 
-pub returns : goal.returns
-returns c = of_memory c.lists_on.result c.lists_on.ensures
+pub returns-in-Ok : goal.returns-in-Ok
+returns-in-Ok c = of_memory c.told_of.result c.told_of.ensures
