@@ -15,3 +15,5 @@ mod memory;
 mod paragraphs;
 #[cfg(test)]
 mod runs;
+#[cfg(test)]
+mod trials;

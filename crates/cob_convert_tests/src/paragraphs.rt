@@ -1,11 +1,12 @@
 //! What is read of paragraphs: the longest text, and memory that is refused.
 
+use crate::trials::padded;
 use cob_copybook::{Book, Role};
 use cob_layout::Layout;
 use cob_move::{MoveFault, MoveRule, Paragraph};
 use cob_rows::lines_of;
 use cob_source::SourceRule;
-use std::alloc::Global;
+use std::alloc::{AllocError, Global};
 use std::test::Fail;
 
 /// The layout of entries that are parted by bars.
@@ -14,52 +15,87 @@ fn layout_of(alloc: Global, role: Role, entries: &str) -> Result<Layout, Fail> {
     Ok(Layout::of(alloc, &Book::read(alloc, role, text.as_slice())?)?)
 }
 
-/// The fault of a paragraph that moves A to B, both of one character.
-fn fault_of(alloc: Global, moves: &[u8]) -> Result<Option<MoveFault>, Fail> {
-    let input = layout_of(alloc, Role::In, "05 A PIC X.")?;
+/// Why a paragraph is refused between two records, if it is.
+fn fault_between(
+    alloc: Global,
+    input: &Layout,
+    output: &Layout,
+    moves: &[u8],
+) -> Option<MoveFault> {
+    match Paragraph::read(alloc, input, output, moves) {
+        Ok(_) => None,
+        Err(fault) => Some(fault),
+    }
+}
+
+/// Why a paragraph is refused that is read twice: the first time and the second.
+#[derive(Clone, Copy)]
+struct Faults {
+    first: Option<MoveFault>,
+    second: Option<MoveFault>,
+}
+
+/// The faults of a paragraph that is read twice between this input and an output of one character, B.
+fn faults_from(alloc: Global, input: &Layout, moves: &[u8]) -> Result<Faults, Fail> {
     let output = layout_of(alloc, Role::Out, "05 B PIC X.")?;
-    Ok(Paragraph::read(alloc, &input, &output, moves).err())
+    let first = fault_between(alloc, input, &output, moves);
+    let second = fault_between(alloc, input, &output, moves);
+    Ok(Faults { first, second })
+}
+
+/// The faults of a paragraph that moves A to B, both of one character, and is read twice.
+fn faults_of(alloc: Global, moves: &[u8]) -> Result<Faults, Fail> {
+    let input = layout_of(alloc, Role::In, "05 A PIC X.")?;
+    faults_from(alloc, &input, moves)
 }
 
 /// A move of one line, 20 bytes.
 const MOVE: &[u8] = b"       MOVE A TO B.\n";
 
-/// A paragraph of one line, 20 bytes, and then line feeds up to a number of bytes.
-fn padded(alloc: Global, bytes: usize) -> Result<Vec<u8>, Fail> {
-    let mut text = Vec::from_slice(alloc, MOVE)?;
-    text.resize(bytes, b'\n')?;
-    Ok(text)
+/// Why a paragraph of one line and then line feeds, so many bytes in all, is refused, if it is.
+fn fault_at(alloc: Global, bytes: usize) -> Result<Option<MoveFault>, Fail> {
+    let text = padded(alloc, MOVE, bytes, b'\n')?;
+    Ok(faults_of(alloc, text.as_slice())?.first)
 }
 
 /// The longest text is read, and one of a byte more is refused as a whole.
 #[test]
 fn reads_a_million_bytes(rt: HostRuntime) -> Result<(), Fail> {
-    let alloc = rt.alloc();
-    let most = padded(alloc, 1_000_000)?;
-    assert_eq!(rt; fault_of(alloc, most.as_slice())?, None);
-    let more = padded(alloc, 1_000_001)?;
+    assert!(rt; fault_at(rt.alloc(), 1_000_000)?.is_none());
     let too_long = MoveFault {
         rule: MoveRule::Source(SourceRule::TooLong),
         line: 1,
     };
-    assert_eq!(rt; fault_of(alloc, more.as_slice())?, Some(too_long));
+    assert!(rt; fault_at(rt.alloc(), 1_000_001)? == Some(too_long));
     Ok(())
+}
+
+/// The fault of a paragraph for which memory was refused.
+const REFUSED: MoveFault = MoveFault {
+    rule: MoveRule::Memory,
+    line: 0,
+};
+
+/// Whether a paragraph was read, or memory for it was refused.
+fn is_read_or_refused(fault: Option<MoveFault>) -> bool {
+    match fault {
+        None => true,
+        Some(fault) => fault == REFUSED,
+    }
+}
+
+/// Whether a fault prints this.
+fn prints(alloc: Global, fault: MoveFault, text: &str) -> Result<bool, AllocError> {
+    let printed = format!(in alloc; "{fault}")?;
+    Ok(printed.as_str() == text)
 }
 
 /// Where memory is refused once, the call says so on line 0, and the next one reads the paragraph.
 #[test]
 fn reads_again_after_memory(rt: HostRuntime) -> Result<(), Fail> {
-    let refused = MoveFault {
-        rule: MoveRule::Memory,
-        line: 0,
-    };
-    let input = layout_of(rt.alloc(), Role::In, "05 A PIC X.")?;
-    let output = layout_of(rt.alloc(), Role::Out, "05 B PIC X.")?;
-    let first = Paragraph::read(rt.alloc(), &input, &output, MOVE).err();
-    assert!(rt; first.is_none_or(|fault| fault == refused));
-    let second = Paragraph::read(rt.alloc(), &input, &output, MOVE).err();
-    assert!(rt; second.is_none_or(|fault| first.is_none() && fault == refused));
-    let printed = format!(in rt.alloc(); "{refused}")?;
-    assert_eq!(rt; printed.as_str(), "M19 line 0");
+    let Faults { first, second } = faults_of(rt.alloc(), MOVE)?;
+    assert!(rt; is_read_or_refused(first) && is_read_or_refused(second));
+    assert!(rt; first.is_none() || second.is_none());
+    assert!(rt; prints(rt.alloc(), REFUSED, "M19 line 0")?);
     Ok(())
 }
