@@ -15,7 +15,7 @@ ghost use Rattle.cob_move_apply.specs.Surveyed.{IsWorkspace, records};
 use crate::basis::{PlacedReceivers, SentEntry, placed_operand};
 use crate::pictured::run_pictured;
 use crate::places::{Stored, locate};
-use crate::prepared::make_prepared;
+use crate::prepared::{make_characters, make_prepared};
 use crate::senders::move_entry;
 use crate::step::{LocatedMove, LocatedStep, MovePlaces, PicturedMove, Plan};
 use crate::stop::Stop;
@@ -107,8 +107,9 @@ fn move_characters(
 {
     let places = locate_both(one, layouts, input, output, space)?;
     let sent = places.from.length as usize;
-    let step = MoveStep::Characters(CharactersStep { sent, right });
-    make_prepared(prepared, &places, step, layouts, input, output, space)
+    let step = CharactersStep { sent, right };
+    make_characters(prepared, &places, step, layouts, input, output, space);
+    Ok(())
 }
 
 /// Carries out a move by this step, whatever the reading of binary senders.

@@ -2,18 +2,19 @@
 
 ghost use Rattle.std.specs.Prelude.{◌≡◌, ◌+◌, ◌≤◌, length, OnErr};
 ghost use Rattle.cob_layout.specs.Storage.{greatest_length};
-ghost use Rattle.cob_move_apply.specs.Applied.{ending};
-ghost use Rattle.cob_move_apply.specs.Spent.{WriteSpends};
+ghost use Rattle.cob_move_apply.specs.Applied.{done, ending};
+ghost use Rattle.cob_move_apply.specs.Spent.{PlaceSpends, WriteSpends};
 ghost use Rattle.cob_move_apply.specs.Surveyed.{IsWorkspace, records};
 ghost use Rattle.cob_move_apply.specs.Made.{IsMadeReady};
 ghost use Rattle.cob_move_apply.specs.Written.{HasPlaces};
 ghost use Rattle.cob_move_prepared.specs.Pool.{IsMoveStep, MoveKinds};
+ghost use Rattle.cob_move_prepared.specs.declared.pool.MoveStep.TheVariants.{Characters};
 
 use crate::step::MovePlaces;
 use crate::stop::{Stop, StopCause};
 use crate::workspace::{Layouts, Workspace};
 use cob_layout_places::Side;
-use cob_move_prepared::{MoveStep, MoveSteps};
+use cob_move_prepared::{CharactersStep, MoveStep, MoveSteps};
 
 /// Carries out a single move that was made ready. It is inlined, so that it costs no call.
 ///
@@ -56,4 +57,35 @@ pub(crate) fn make_prepared(
             cause: StopCause::NoValue,
         })
     }
+}
+
+/// Carries out a single move of characters that was made ready, which has no other outcome. It is inlined, so that it costs no call.
+#[inline(always)]
+pub(crate) fn make_characters(
+    prepared: &MoveSteps,
+    places: &MovePlaces,
+    step: CharactersStep,
+    layouts: &Layouts<'_>,
+    input: &[u8],
+    output: &mut [u8],
+    space: &mut Workspace,
+)
+    requires step { (k : MoveKinds) × IsMoveStep prepared.now k (Characters step)
+        × HasPlaces places.now k }
+    requires reads { places.now.from.offset + places.now.from.length ≤ length input.now }
+    requires writes { places.now.to.offset + places.now.to.length
+        ≤ greatest_length layouts.now.output.now }
+    requires output { length output.old ≡ greatest_length layouts.now.output.now }
+    requires space { IsWorkspace (records layouts.now) input.now output.old space.old }
+    ensures made { IsMadeReady (record { places = places.now; step = Characters step })
+        prepared.now input.now output.old (done output.new) }
+    ensures space { IsWorkspace (records layouts.now) input.now output.new space.new }
+    ensures spends { PlaceSpends layouts.now.output.now output.old places.now.to
+        space.old.output space.new.output }
+{
+    let sent = places.from.offset as usize + places.from.length as usize;
+    let start = places.to.offset as usize;
+    let end = start + places.to.length as usize;
+    prepared.run_characters(step, &input[..sent], &mut output[start..end]);
+    space.output.change(layouts.output, places.to);
 }

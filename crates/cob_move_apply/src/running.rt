@@ -15,6 +15,7 @@ ghost use Rattle.cob_move_apply.specs.declared.step.Part.{Part as PartOf};
 use crate::application::make_single;
 use crate::constant::make_constant;
 use crate::pictured::run_pictured;
+use crate::prepared::make_characters;
 use crate::step::{MovePlaces, PicturedMove, Plan, Step, copy_across};
 use crate::workspace::{Layouts, Workspace};
 use cob_codec::Reading;
@@ -139,8 +140,11 @@ pub(crate) fn run_step(
             run_single(plan, &one.places, step, layouts, input, output, space)
         }
         Step::Characters(one) => {
-            let step = MoveStep::Characters(one.step);
-            run_single(plan, &one.places, step, layouts, input, output, space)
+            let prepared = &plan.prepared;
+            make_characters(
+                prepared, &one.places, one.step, layouts, input, output, space,
+            );
+            true
         }
         Step::Pictured(one, _) => run_part(plan, *one, layouts, input, output, space),
         Step::Constant(one) => {

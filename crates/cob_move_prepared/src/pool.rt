@@ -1,8 +1,9 @@
 //! Steps of single moves, one for each move that has one.
 
-ghost use Rattle.std.specs.Prelude.{◌≡◌, ◌≤◌, false, length, IfOk, IfSome, IsSome};
+ghost use Rattle.std.specs.Prelude.{◌≡◌, ◌≤◌, false, length, Some, IfOk, IfSome, IsSome};
 ghost use Rattle.cob_move_prepared.specs.Pool.{AreOccupied, BetweenItems, HasNoSteps, HaveShortNumbers, HaveStep, IsMoveStep, IsReceived, KeepsSteps, MoveKinds, MovesNumber, MovesToBinary, MovesToEdited, MovesWide};
 ghost use Rattle.cob_copybook_tree.specs.declared.node.Kind.TheVariants.{Item as ItemKind};
+ghost use Rattle.cob_move_prepared.specs.declared.pool.MoveStep.TheVariants.{Characters};
 ghost use Rattle.cob_move_receive.specs.Received.{outcome};
 
 use crate::binary_step::BinaryStep;
@@ -217,9 +218,33 @@ impl MoveSteps {
             MoveStep::Binary(number) => self.binaries[number].run(from, to),
             MoveStep::Edited(number) => self.edits[number].run(from, to),
             MoveStep::Characters(step) => {
-                step.run(from, to);
+                self.put_characters(step, from, to);
                 true
             }
         }
+    }
+
+    /// Moves the characters of the sender that ends bytes to a receiver's bytes, as [`MoveSteps::run`] does.
+    #[inline(always)]
+    pub fn run_characters(&self, step: CharactersStep, from: &[u8], to: &mut [u8])
+        requires { (k : MoveKinds) × IsMoveStep self.now k (Characters step)
+            × (k.sent ≤ length from.now) × (length to.old ≡ k.received) }
+        ensures { (k : MoveKinds) → IsMoveStep self.now k (Characters step)
+            → k.sent ≤ length from.now → length to.old ≡ k.received
+            → IsReceived k from.now (Some to.new) }
+    {
+        step.run(from, to);
+    }
+
+    /// Does what [`MoveSteps::run_characters`] does. It isn't inlined, so that what carries out any step stays short.
+    #[inline(never)]
+    fn put_characters(&self, step: CharactersStep, from: &[u8], to: &mut [u8])
+        requires { (k : MoveKinds) × IsMoveStep self.now k (Characters step)
+            × (k.sent ≤ length from.now) × (length to.old ≡ k.received) }
+        ensures { (k : MoveKinds) → IsMoveStep self.now k (Characters step)
+            → k.sent ≤ length from.now → length to.old ≡ k.received
+            → IsReceived k from.now (Some to.new) }
+    {
+        self.run_characters(step, from, to);
     }
 }

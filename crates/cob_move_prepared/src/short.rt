@@ -5,11 +5,8 @@ ghost use Rattle.cob_cp037.specs.Named.{space_byte};
 
 use cob_cp037::SPACE;
 
-/// The longest fill that costs no call.
+/// The longest copy that costs no call.
 const SHORT: usize = 32;
-
-/// Spaces to be copied.
-const SPACES: [u8; SHORT] = [SPACE; SHORT];
 
 /// Copies so many bytes in front, and so many at the end again, since a copy of a known length costs no call. Both are read before one is written, so
 /// that the compiler need not ask whether they share bytes.
@@ -64,16 +61,45 @@ pub fn copy_all(from: &[u8], to: &mut [u8])
     }
 }
 
-/// Writes spaces into all bytes.
+/// Writes so many spaces in front, and so many at the end again.
+#[inline(always)]
+fn fill_ends<const N: usize>(to: &mut [u8])
+    requires least { N ≤ length to.old }
+    requires most { length to.old ≤ 2 * N }
+    ensures { to.new ≡ replicate (length to.old) space_byte }
+{
+    let count = to.len();
+    let spaces = [SPACE; N];
+    to[..N].copy_from_slice(&spaces);
+    to[count - N..].copy_from_slice(&spaces);
+}
+
+/// Writes fewer than eight spaces.
+#[inline(always)]
+fn fill_few(to: &mut [u8])
+    requires few { length to.old < 8 }
+    ensures { to.new ≡ replicate (length to.old) space_byte }
+{
+    let count = to.len();
+    if count >= 4 {
+        fill_ends::<4>(to);
+    } else if count >= 2 {
+        fill_ends::<2>(to);
+    } else if count >= 1 {
+        fill_ends::<1>(to);
+    }
+}
+
+/// Writes spaces into all bytes, a few of them without a call.
 #[inline(always)]
 pub(crate) fn fill_spaces(to: &mut [u8])
     ensures { to.new ≡ replicate (length to.old) space_byte }
 {
     let count = to.len();
     if count < 8 {
-        copy_few(&SPACES[..count], to);
-    } else if count <= SHORT {
-        copy_all(&SPACES[..count], to);
+        fill_few(to);
+    } else if count <= 16 {
+        fill_ends::<8>(to);
     } else {
         to.fill(SPACE);
     }

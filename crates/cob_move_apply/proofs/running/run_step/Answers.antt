@@ -1,10 +1,12 @@
-use Rattle.std.proofs.Common.{subst}
+use Rattle.std.proofs.Common.{ℕ, Ok, subst}
+use Rattle.cob_move_prepared.specs.declared.pool.MoveStep.TheVariants.{Characters}
 use Rattle.cob_move_apply.specs.Applied.{done}
 use Rattle.cob_move_apply.specs.Steps.{IsStep, Support, support_of}
 use Rattle.cob_move_apply.specs.Surveyed.{records}
+use Rattle.cob_move_apply.specs.declared.step.PreparedMove.{PreparedMove}
 use Rattle.cob_move_apply.specs.declared.step.Step.{Step}
-use Rattle.cob_move_apply.proofs.StepLemmas.{constant_within, copy_reads, made_constant, made_copy, made_pictured, space_copy, the_constant, the_pictured}
-use Rattle.cob_move_apply.proofs.SpendingLemmas.{constant_spends, copy_spends, pictured_step_has_spent}
+use Rattle.cob_move_apply.proofs.StepLemmas.{constant_within, copy_reads, made_constant, made_copy, made_pictured, made_prepared, prepared_reads, prepared_within, space_copy, the_constant, the_pictured, the_prepared}
+use Rattle.cob_move_apply.proofs.SpendingLemmas.{constant_spends, copy_spends, pictured_step_has_spent, prepared_spends}
 use Rattle.cob_move_apply.proofs.running.run_step.Goals as goal
 
 pub run_single-requires-clause-step : goal.run_single-requires-clause-step
@@ -107,14 +109,35 @@ returns-in-Edited-clause-spends c = λ yes given own is.
     let this = subst (λ (s : Step). IsStep x r given on s own) c.in-Edited.is is in
     c.run_single-in-Edited.ensures.spends yes own this
 
-pub run_single-requires-in-Characters-clause-step : goal.run_single-requires-in-Characters-clause-step
-run_single-requires-in-Characters-clause-step c =
+pub make_characters-requires-clause-step : goal.make_characters-requires-clause-step
+make_characters-requires-clause-step c =
     let x = c.args.layouts.now.reading in
     let r = records c.args.layouts.now in
     let on : Support = support_of c.args.plan.now in
     let (given, own, at) = c.requires.step in
     let is = subst (λ (s : Step). IsStep x r given on s own) c.in-Characters.is at in
-    (own, is)
+    let p : PreparedMove = record { places = c.in-Characters.one.places; step = Characters c.in-Characters.one.step } in
+    the_prepared x r on.prepared p own is
+
+pub make_characters-requires-clause-reads : goal.make_characters-requires-clause-reads
+make_characters-requires-clause-reads c =
+    let x = c.args.layouts.now.reading in
+    let r = records c.args.layouts.now in
+    let on : Support = support_of c.args.plan.now in
+    let (given, own, at) = c.requires.step in
+    let is = subst (λ (s : Step). IsStep x r given on s own) c.in-Characters.is at in
+    let p : PreparedMove = record { places = c.in-Characters.one.places; step = Characters c.in-Characters.one.step } in
+    prepared_reads x r on.prepared p own c.args.input.now is c.requires.input
+
+pub make_characters-requires-clause-writes : goal.make_characters-requires-clause-writes
+make_characters-requires-clause-writes c =
+    let x = c.args.layouts.now.reading in
+    let r = records c.args.layouts.now in
+    let on : Support = support_of c.args.plan.now in
+    let (given, own, at) = c.requires.step in
+    let is = subst (λ (s : Step). IsStep x r given on s own) c.in-Characters.is at in
+    let p : PreparedMove = record { places = c.in-Characters.one.places; step = Characters c.in-Characters.one.step } in
+    prepared_within x r on.prepared p own is
 
 pub returns-in-Characters-clause-applied : goal.returns-in-Characters-clause-applied
 returns-in-Characters-clause-applied c = λ yes given own is.
@@ -122,7 +145,8 @@ returns-in-Characters-clause-applied c = λ yes given own is.
     let r = records c.args.layouts.now in
     let on : Support = support_of c.args.plan.now in
     let this = subst (λ (s : Step). IsStep x r given on s own) c.in-Characters.is is in
-    c.run_single-in-Characters.ensures.applied yes own this
+    let p : PreparedMove = record { places = c.in-Characters.one.places; step = Characters c.in-Characters.one.step } in
+    made_prepared x r on.prepared p own c.args.input.now c.args.output.now (done c.make_characters.new.output) c.requires.input c.requires.output c.make_characters.ensures.made this
 
 pub returns-in-Characters-clause-spends : goal.returns-in-Characters-clause-spends
 returns-in-Characters-clause-spends c = λ yes given own is.
@@ -130,7 +154,8 @@ returns-in-Characters-clause-spends c = λ yes given own is.
     let r = records c.args.layouts.now in
     let on : Support = support_of c.args.plan.now in
     let this = subst (λ (s : Step). IsStep x r given on s own) c.in-Characters.is is in
-    c.run_single-in-Characters.ensures.spends yes own this
+    let p : PreparedMove = record { places = c.in-Characters.one.places; step = Characters c.in-Characters.one.step } in
+    prepared_spends {A = ℕ} x r on.prepared p own c.args.input.now c.args.output.now (Ok 0) c.make_characters.new.output _ _ c.make_characters.ensures.made c.make_characters.ensures.spends this
 
 pub run_part-requires-clause-part : goal.run_part-requires-clause-part
 run_part-requires-clause-part c =
