@@ -31,6 +31,7 @@ use std::slice;
 /// # Errors
 ///
 /// The first thing missing.
+#[inline(always)]
 fn locate_both(
     one: &LocatedMove,
     layouts: &Layouts<'_>,

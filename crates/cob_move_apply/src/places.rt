@@ -48,7 +48,7 @@ fn stop_of(side: Side, fault: FindFault) -> Stop
 /// # Errors
 ///
 /// The first count that is read and that isn't valid; a subscript past its table's count.
-#[inline(never)]
+#[inline(always)]
 fn place_by_counts(
     stored: &Stored<'_>,
     operand: &PlacedOperand<'_>,

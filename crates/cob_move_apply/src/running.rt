@@ -142,7 +142,13 @@ pub(crate) fn run_step(
         Step::Characters(one) => {
             let prepared = &plan.prepared;
             make_characters(
-                prepared, &one.places, one.step, layouts, input, output, space,
+                prepared,
+                &one.places,
+                one.step,
+                layouts,
+                input,
+                output,
+                space,
             );
             true
         }
