@@ -35,7 +35,7 @@ use Rattle.cob_layout.proofs.RefreshLemmas.{if_false, if_true, kept_behind, need
 use Rattle.cob_layout.proofs.SpotLaw.{are_spots}
 use Rattle.cob_layout.proofs.ThoseLemmas.{kept_those, one_number, rise_all, rise_high, those_in}
 
-two_ways : (b : Bool) → (b ≡ true) ⊎ (b ≡ false)
+pub two_ways : (b : Bool) → (b ≡ true) ⊎ (b ≡ false)
 two_ways true = inl refl
 two_ways false = inr refl
 
@@ -102,7 +102,7 @@ place_below read place t r c d s has long agree subscripts =
 
 -- ---- a record that stands as a reference needs it
 
-and_both : (a b : Bool) → (a && b) ≡ true → (a ≡ true) × (b ≡ true)
+pub and_both : (a b : Bool) → (a && b) ≡ true → (a ≡ true) × (b ≡ true)
 and_both true true e = (refl, refl)
 and_both true false e = cc
 and_both false b e = cc
@@ -131,7 +131,7 @@ kept_as None n h = absurd (cc)
 kept_as (Some j) n h = (j, refl, is_yes j.number n h)
 
 -- of a table that is read, the count is kept
-met_read : (behind : ℕ) (last : Bool) (r : ℕ) (x : Table) (k : Option StoredCount) (n : ℕ) → is_met behind last r x k n ≡ true → is_needed behind last r x ≡ true → (j : StoredCount) × (k ≡ Some j) × (j.number ≡ n)
+pub met_read : (behind : ℕ) (last : Bool) (r : ℕ) (x : Table) (k : Option StoredCount) (n : ℕ) → is_met behind last r x k n ≡ true → is_needed behind last r x ≡ true → (j : StoredCount) × (k ≡ Some j) × (j.number ≡ n)
 met_read behind last r x k n met reads =
     kept_as k n (asked (nat_le behind x.number) (is_needed behind last r x) (is_kept_as k n) (n == x.most) (not_past behind x.number (below_reach behind last r x reads)) reads met)
 
