@@ -1,6 +1,6 @@
 -- Places by counts that are kept.
 use Rattle.std.proofs.Common.{◌≡◌, ◌⊎◌, ℕ, ◌+◌, ◌<◌, ◌==◌, ◌&&◌, nat_le, min, Bool, true, false, List, [], ◌∷◌, ◌++◌, length, replicate, Option, Some, None, refl, sym, ap, subst, ◌∙◌, arith, inl, inr, Ok, append-nil}
-use Rattle.std.specs.Prelude.{if◌then◌else◌, not, slice_index, slice_set}
+use Rattle.std.specs.Prelude.{if◌then◌else◌, slice_index, slice_set}
 use Rattle.std.proofs.lemmas.Bool.Decides.{nat_tests}
 use Rattle.std.proofs.lemmas.List.{length-replicate, length-set}
 use Rattle.cob_copybook_tree.specs.declared.node.ResolvedOccurs.{ResolvedOccurs}
@@ -21,7 +21,6 @@ use Rattle.cob_layout.specs.Counting.{greatest_counts, NeededOf}
 use Rattle.cob_layout.specs.Finding.{StandsFor, are_all_met, are_met, is_kept_as, is_met}
 use Rattle.cob_layout.specs.Kept.{AreKept, AreKeptOf, IsIn, IsKeptCount, IsStoredCount, TakenAnew, TakenBy, kept_after, kept_read, number_of, numbers_of, stored_at}
 use Rattle.cob_layout.specs.Sound.{IsSound}
-use Rattle.cob_layout.specs.Standing.{are_unkept}
 use Rattle.cob_layout.specs.Ways.{first_element}
 use Rattle.cob_layout.proofs.ByteLemmas.{in_back, in_front}
 use Rattle.cob_layout.proofs.GreatestLemmas.{AreSame, find_same}
@@ -29,7 +28,6 @@ use Rattle.cob_layout.proofs.KeepLaw.{first_found, some_is}
 use Rattle.cob_layout.proofs.KeepingLemmas.{no_of, yes_of}
 use Rattle.cob_layout.proofs.KeptLemmas.{Sofar, ends, kept_give_needed, of_table, one, reads_closed, start}
 use Rattle.cob_layout.proofs.NeedLemmas.{greatest_own, known, needs_below, other_index, own_index, same_or_not, untouched}
-use Rattle.cob_layout.proofs.RecordLemmas.{room_tables}
 use Rattle.cob_layout.proofs.ReferenceLemmas.{refers_has}
 use Rattle.cob_layout.proofs.RefreshLemmas.{if_false, if_true, kept_behind, needed_anew, numbers_kept, numbers_read}
 use Rattle.cob_layout.proofs.SpotLaw.{are_spots}

@@ -1,16 +1,18 @@
 //! Where references stand by the counts of a storage that are kept, and by the sums of the tables under them.
 //!
-//! Only the entry of a reference and the tables that hold it are placed, and of a count that is read its item. The counts and their sums are seen anew
-//! each time, from those that are kept: both are as many as the tables that grow.
+//! Only the entry of a reference and the tables that hold it are placed, and of a count that is read its item. The counts and their sums, as many as the
+//! tables that grow, stay from call to call, and it is known up to which number they serve references: their reach (`ReachTo` of specs/Finding.antt). Past
+//! it the counts are seen anew, from those that are kept. The reach ends where a kept count goes, or where the counts or the sums are written for another
+//! question.
 
-ghost use Rattle.std.specs.Prelude.{◌≡◌, ◌==◌, ◌&&◌, ◌+◌, ◌<◌, ◌≤◌, if◌then◌else◌, true, false, ℕ, List, Result, length, min, take, Ok, Err, Some, OnOk, OnErr, IfErr, IfOk, IsTrue};
+ghost use Rattle.std.specs.Prelude.{◌≡◌, ◌==◌, ◌&&◌, ◌+◌, ◌<◌, ◌≤◌, ◌⊎◌, true, false, ℕ, List, Result, length, min, take, Ok, Err, Some, OnOk, OnErr, IfErr, IfOk, IsFalse, IsTrue};
 ghost use Rattle.cob_copybook_tree.specs.Forests.{entries_in};
 ghost use Rattle.cob_layout_places.specs.declared.counts.CountFault.{CountFault};
 ghost use Rattle.cob_layout_places.specs.Counts.{tables_of};
 ghost use Rattle.cob_layout_places.specs.Needs.{is_read, number_behind};
 ghost use Rattle.cob_layout_places.specs.References.{Refers};
 ghost use Rattle.cob_layout.specs.Counting.{greatest_counts, NeededOf};
-ghost use Rattle.cob_layout.specs.Finding.{are_met, ReachIn, StandsFor};
+ghost use Rattle.cob_layout.specs.Finding.{are_met, ReachIn, SparesNone, StandsFor};
 ghost use Rattle.cob_layout.specs.Kept.{kept_after, most_reads, numbers_of, AreKeptOf, TakenAnew};
 ghost use Rattle.cob_layout.specs.Placed.{element_under};
 ghost use Rattle.cob_layout.specs.Shifts.{grow_in, sums_of};
@@ -24,19 +26,31 @@ use crate::layout::Layout;
 use crate::ways::tables_at;
 use cob_layout_places::{CountFault, Found, Ref, needs_are_read, one_place, places_end_in_record};
 
-/// Whether a reference needs just tables within this reach, and is spared none.
-fn is_within(needed: Needed, reach: usize) -> bool
-    ensures behind { IsTrue result → needed.behind ≤ reach }
-    ensures last { IsTrue result → needed.last ≡ false }
+/// Whether a reference may be spared a table: it is the last one and receives, and entries stand beneath it.
+fn may_spare(needed: Needed) -> bool
+    ensures { IsFalse result → SparesNone needed.behind needed.last needed.number }
 {
-    needed.behind <= reach && !needed.last
+    needed.last && needed.behind.saturating_sub(needed.number) > 1
 }
 
-/// The reach of counts that are what a reference needs and that had this reach before: what one that is spared some needs doesn't serve the others.
-fn reach_with(needed: Needed, reach: usize) -> usize
-    ensures { result ≡ (if needed.last then reach else needed.behind) }
+/// Whether a reference needs just the tables below a number that isn't above this reach.
+fn is_within(needed: Needed, reach: usize) -> bool
+    ensures behind { IsTrue result → needed.behind ≤ reach }
+    ensures spares { IsTrue result → SparesNone needed.behind needed.last needed.number }
 {
-    if needed.last { reach } else { needed.behind }
+    needed.behind <= reach && !may_spare(needed)
+}
+
+/// The reach of counts that are what a reference needs and that had this reach before: what one needs that is spared some doesn't serve the others.
+fn reach_with(needed: Needed, reach: usize) -> usize
+    ensures { (result ≡ reach)
+        ⊎ ((result ≡ needed.behind) × SparesNone needed.behind needed.last needed.number) }
+{
+    if may_spare(needed) {
+        reach
+    } else {
+        needed.behind
+    }
 }
 
 impl Layout {
@@ -100,7 +114,7 @@ impl Layout {
             ≡ kept_after (is_read self.now reference.now.node receiving) c (tables_of self.now)
             (numbers_of kept.old))) }
         ensures sums { OnOk result (take (grow_in self.now + 1) sums.new ≡ sums_of self.now counts.new) }
-        ensures met { OnOk result (needed.last ≡ false
+        ensures met { OnOk result (SparesNone needed.behind needed.last needed.number
             → are_met needed.behind false 0 counts.new (tables_of self.now) kept.new ≡ true) }
         ensures keeps { OnOk result (AreKeptOf self.now bytes.now kept.new) }
         ensures reads { (c : Result (List ℕ) CountFault) × (n : ℕ)
@@ -140,8 +154,8 @@ impl Layout {
         }
     }
 
-    /// Lets the counts be what a reference needs: as they are, where they are that and all that it reads are kept, and else those that are read. The sums
-    /// are those of the counts then.
+    /// Lets the counts be what a reference needs: as they are, where their reach says that or where they are that and all that it reads are kept, and else
+    /// those that are read. The sums are those of the counts then, and the reach goes as far as the reference where it is spared none.
     ///
     /// # Errors
     ///

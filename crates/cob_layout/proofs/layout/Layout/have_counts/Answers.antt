@@ -1,8 +1,5 @@
-use Rattle.std.proofs.Common.{◌≡◌, ◌∙◌, ap, Ok, true, refl, sym, subst, arith, rules}
-use Rattle.cob_copybook_tree.specs.Forests.{Forest}
-use Rattle.cob_copybook_tree.specs.Nodes.{Resolved, tree_of}
-use Rattle.cob_layout_places.specs.Counts.{tables_of}
-use Rattle.cob_layout.specs.Finding.{are_all_met}
+use Rattle.std.proofs.Common.{◌∙◌, Ok, refl, sym, subst, arith, rules}
+use Rattle.cob_copybook_tree.specs.Nodes.{tree_of}
 use Rattle.cob_layout.specs.Sound.{IsSound}
 use Rattle.cob_layout.proofs.FindLemmas.{MeetsBy, meets_by, met_in}
 use Rattle.cob_layout.proofs.ReachLemmas.{Serves, reach_anew, reach_still, reach_sums, serves}
@@ -17,8 +14,8 @@ returns-then-is_within-clause-came c =
     let u = c.args.self.now in
     let sound : IsSound u = subst IsSound c.self.view_is c.self.invariant.1 in
     let so : Serves u c.args.reference.now.node c.args.receiving c.args.counts.now c.args.sums.now c.args.kept.now =
-    serves c.needs_are_read.ensures u c.args.reference.now.node c.args.receiving c.args.reference.now.subscripts.items c.needed_by-needed.result.behind c.args.reach.now c.needed_by-needed.result.last c.args.counts.now c.args.sums.now c.args.kept.now
-    sound c.requires.refers c.needed_by-needed.ensures.behind c.needed_by-needed.ensures.last (c.if-is_within.ensures.behind refl) (c.if-is_within.ensures.last refl) c.requires.reach in
+    serves c.needs_are_read.ensures u c.args.reference.now.node c.needed_by-needed.result.number c.args.receiving c.args.reference.now.subscripts.items c.needed_by-needed.result.behind c.args.reach.now c.needed_by-needed.result.last c.args.counts.now c.args.sums.now c.args.kept.now
+    sound c.requires.refers c.needed_by-needed.ensures.behind c.needed_by-needed.ensures.last c.needed_by-needed.ensures.number (c.if-is_within.ensures.behind refl) (c.if-is_within.ensures.spares refl) c.requires.reach in
     let m : MeetsBy u c.args.bytes.now c.args.reference.now.node c.args.receiving c.args.kept.now c.args.counts.now =
     meets_by c.needs_are_read.ensures c.one_place.ensures u c.args.bytes.now c.args.reference.now.node c.args.receiving c.args.reference.now.subscripts.items c.args.kept.now c.args.counts.now
     sound c.requires.refers c.requires.as_many c.requires.kept so.met in
@@ -28,8 +25,8 @@ pub returns-then-is_within-clause-sums : goal.returns-then-is_within-clause-sums
 returns-then-is_within-clause-sums c =
     let u = c.args.self.now in
     let so : Serves u c.args.reference.now.node c.args.receiving c.args.counts.now c.args.sums.now c.args.kept.now =
-    serves c.needs_are_read.ensures u c.args.reference.now.node c.args.receiving c.args.reference.now.subscripts.items c.needed_by-needed.result.behind c.args.reach.now c.needed_by-needed.result.last c.args.counts.now c.args.sums.now c.args.kept.now
-    (subst IsSound c.self.view_is c.self.invariant.1) c.requires.refers c.needed_by-needed.ensures.behind c.needed_by-needed.ensures.last (c.if-is_within.ensures.behind refl) (c.if-is_within.ensures.last refl) c.requires.reach in
+    serves c.needs_are_read.ensures u c.args.reference.now.node c.needed_by-needed.result.number c.args.receiving c.args.reference.now.subscripts.items c.needed_by-needed.result.behind c.args.reach.now c.needed_by-needed.result.last c.args.counts.now c.args.sums.now c.args.kept.now
+    (subst IsSound c.self.view_is c.self.invariant.1) c.requires.refers c.needed_by-needed.ensures.behind c.needed_by-needed.ensures.last c.needed_by-needed.ensures.number (c.if-is_within.ensures.behind refl) (c.if-is_within.ensures.spares refl) c.requires.reach in
     so.sums_are
 
 pub returns-then-is_within-clause-reads : goal.returns-then-is_within-clause-reads
@@ -37,8 +34,8 @@ returns-then-is_within-clause-reads c =
     let u = c.args.self.now in
     let sound : IsSound u = subst IsSound c.self.view_is c.self.invariant.1 in
     let so : Serves u c.args.reference.now.node c.args.receiving c.args.counts.now c.args.sums.now c.args.kept.now =
-    serves c.needs_are_read.ensures u c.args.reference.now.node c.args.receiving c.args.reference.now.subscripts.items c.needed_by-needed.result.behind c.args.reach.now c.needed_by-needed.result.last c.args.counts.now c.args.sums.now c.args.kept.now
-    sound c.requires.refers c.needed_by-needed.ensures.behind c.needed_by-needed.ensures.last (c.if-is_within.ensures.behind refl) (c.if-is_within.ensures.last refl) c.requires.reach in
+    serves c.needs_are_read.ensures u c.args.reference.now.node c.needed_by-needed.result.number c.args.receiving c.args.reference.now.subscripts.items c.needed_by-needed.result.behind c.args.reach.now c.needed_by-needed.result.last c.args.counts.now c.args.sums.now c.args.kept.now
+    sound c.requires.refers c.needed_by-needed.ensures.behind c.needed_by-needed.ensures.last c.needed_by-needed.ensures.number (c.if-is_within.ensures.behind refl) (c.if-is_within.ensures.spares refl) c.requires.reach in
     let m : MeetsBy u c.args.bytes.now c.args.reference.now.node c.args.receiving c.args.kept.now c.args.counts.now =
     meets_by c.needs_are_read.ensures c.one_place.ensures u c.args.bytes.now c.args.reference.now.node c.args.receiving c.args.reference.now.subscripts.items c.args.kept.now c.args.counts.now
     sound c.requires.refers c.requires.as_many c.requires.kept so.met in
@@ -74,4 +71,4 @@ returns-then-are_met-clause-reach c =
 
 pub returns-clause-reach : goal.returns-clause-reach
 returns-clause-reach c =
-    reach_anew c.args.self.now c.needed_by-needed.result.behind c.reach_with-2.result c.needed_by-needed.result.last c.read_anew.new.counts c.read_anew.new.sums c.read_anew.new.kept c.reach_with-2.ensures c.in_ok-read_anew.ensures.met c.in_ok-read_anew.ensures.sums
+    reach_anew c.args.self.now c.needed_by-needed.result.behind c.needed_by-needed.result.number c.reach_with-2.result c.needed_by-needed.result.last c.read_anew.new.counts c.read_anew.new.sums c.read_anew.new.kept c.reach_with-2.ensures c.in_ok-read_anew.ensures.met c.in_ok-read_anew.ensures.sums

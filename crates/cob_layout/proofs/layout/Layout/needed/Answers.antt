@@ -6,7 +6,7 @@ use Rattle.cob_copybook_tree.specs.Nodes.{node, tree_of}
 use Rattle.cob_layout_places.proofs.PlaceLemmas.{entry_fits}
 use Rattle.cob_layout.specs.Standing.{Standing, are_unkept, IsRoomFor}
 use Rattle.cob_layout.proofs.RefreshLemmas.{unkept, front_of}
-use Rattle.cob_layout.proofs.RecordLemmas.{number_below, room_entries, slots_for, room_tables}
+use Rattle.cob_layout.proofs.RecordLemmas.{number_below, room_entries, slots_for}
 use Rattle.cob_layout_places.specs.Counts.{tables_of, Taken}
 use Rattle.cob_layout_places.specs.Needs.{needed_tables}
 use Rattle.cob_layout.specs.Counting.{greatest_counts}
