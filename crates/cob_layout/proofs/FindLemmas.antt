@@ -1,6 +1,6 @@
 -- Places by counts that are kept.
 use Rattle.std.proofs.Common.{◌≡◌, ◌⊎◌, ℕ, ◌+◌, ◌<◌, ◌==◌, ◌&&◌, nat_le, min, Bool, true, false, List, [], ◌∷◌, ◌++◌, length, replicate, Option, Some, None, refl, sym, ap, subst, ◌∙◌, arith, inl, inr, Ok, append-nil}
-use Rattle.std.specs.Prelude.{if◌then◌else◌, not, slice_index, slice_set}
+use Rattle.std.specs.Prelude.{if◌then◌else◌, slice_index, slice_set}
 use Rattle.std.proofs.lemmas.Bool.Decides.{nat_tests}
 use Rattle.std.proofs.lemmas.List.{length-replicate, length-set}
 use Rattle.cob_copybook_tree.specs.declared.node.ResolvedOccurs.{ResolvedOccurs}
@@ -21,7 +21,6 @@ use Rattle.cob_layout.specs.Counting.{greatest_counts, NeededOf}
 use Rattle.cob_layout.specs.Finding.{StandsFor, are_all_met, are_met, is_kept_as, is_met}
 use Rattle.cob_layout.specs.Kept.{AreKept, AreKeptOf, IsIn, IsKeptCount, IsStoredCount, TakenAnew, TakenBy, kept_after, kept_read, number_of, numbers_of, stored_at}
 use Rattle.cob_layout.specs.Sound.{IsSound}
-use Rattle.cob_layout.specs.Standing.{are_unkept}
 use Rattle.cob_layout.specs.Ways.{first_element}
 use Rattle.cob_layout.proofs.ByteLemmas.{in_back, in_front}
 use Rattle.cob_layout.proofs.GreatestLemmas.{AreSame, find_same}
@@ -29,13 +28,12 @@ use Rattle.cob_layout.proofs.KeepLaw.{first_found, some_is}
 use Rattle.cob_layout.proofs.KeepingLemmas.{no_of, yes_of}
 use Rattle.cob_layout.proofs.KeptLemmas.{Sofar, ends, kept_give_needed, of_table, one, reads_closed, start}
 use Rattle.cob_layout.proofs.NeedLemmas.{greatest_own, known, needs_below, other_index, own_index, same_or_not, untouched}
-use Rattle.cob_layout.proofs.RecordLemmas.{room_tables}
 use Rattle.cob_layout.proofs.ReferenceLemmas.{refers_has}
 use Rattle.cob_layout.proofs.RefreshLemmas.{if_false, if_true, kept_behind, needed_anew, numbers_kept, numbers_read}
 use Rattle.cob_layout.proofs.SpotLaw.{are_spots}
 use Rattle.cob_layout.proofs.ThoseLemmas.{kept_those, one_number, rise_all, rise_high, those_in}
 
-two_ways : (b : Bool) → (b ≡ true) ⊎ (b ≡ false)
+pub two_ways : (b : Bool) → (b ≡ true) ⊎ (b ≡ false)
 two_ways true = inl refl
 two_ways false = inr refl
 
@@ -102,7 +100,7 @@ place_below read place t r c d s has long agree subscripts =
 
 -- ---- a record that stands as a reference needs it
 
-and_both : (a b : Bool) → (a && b) ≡ true → (a ≡ true) × (b ≡ true)
+pub and_both : (a b : Bool) → (a && b) ≡ true → (a ≡ true) × (b ≡ true)
 and_both true true e = (refl, refl)
 and_both true false e = cc
 and_both false b e = cc
@@ -131,7 +129,7 @@ kept_as None n h = absurd (cc)
 kept_as (Some j) n h = (j, refl, is_yes j.number n h)
 
 -- of a table that is read, the count is kept
-met_read : (behind : ℕ) (last : Bool) (r : ℕ) (x : Table) (k : Option StoredCount) (n : ℕ) → is_met behind last r x k n ≡ true → is_needed behind last r x ≡ true → (j : StoredCount) × (k ≡ Some j) × (j.number ≡ n)
+pub met_read : (behind : ℕ) (last : Bool) (r : ℕ) (x : Table) (k : Option StoredCount) (n : ℕ) → is_met behind last r x k n ≡ true → is_needed behind last r x ≡ true → (j : StoredCount) × (k ≡ Some j) × (j.number ≡ n)
 met_read behind last r x k n met reads =
     kept_as k n (asked (nat_le behind x.number) (is_needed behind last r x) (is_kept_as k n) (n == x.most) (not_past behind x.number (below_reach behind last r x reads)) reads met)
 

@@ -23,6 +23,7 @@ pub mod WritingLemmas
 pub mod RefreshLemmas
 pub mod StandingLemmas
 pub mod FindLemmas
+pub mod ReachLemmas
 pub mod TakingLemmas
 pub mod ShiftLaw
 pub mod ShiftLemmas

@@ -1,5 +1,5 @@
 -- What holds of a record as a whole.
-use Rattle.std.proofs.Common.{◌≡◌, ℕ, ◌*◌, ◌<◌, ◌≤◌, List, length, sym, ap, subst, ◌∙◌, arith, Option, None, replicate, Ok, Err, Result}
+use Rattle.std.proofs.Common.{◌≡◌, ℕ, ◌*◌, ◌<◌, ◌≤◌, List, [], length, sym, ap, subst, ◌∙◌, arith, Option, None, replicate, Ok, Err, Result}
 use Rattle.std.specs.Prelude.{IfOk}
 use Rattle.std.proofs.lemmas.List.{length-replicate}
 use Rattle.cob_copybook_tree.specs.Forests.{Forest, NoEntries, AnEntry, entries_in}
@@ -13,6 +13,7 @@ use Rattle.cob_layout_places.proofs.ForestLemmas.{sum_le, within_always}
 use Rattle.cob_layout_places.specs.References.{Refers}
 use Rattle.cob_layout_places.specs.Spots.{spots_of}
 use Rattle.cob_layout.specs.Counting.{greatest_counts}
+use Rattle.cob_layout.specs.Shifts.{growths_from}
 use Rattle.cob_layout.specs.Standing.{Standing, ArePlaces, IsRoomFor, RoomForCounts, room_for}
 use Rattle.cob_layout.proofs.GreatestLemmas.{greatest_length, slots}
 use Rattle.cob_layout.proofs.ReferenceLemmas.{has_below, refers_has}
@@ -42,11 +43,12 @@ pub new_places : (t u : Forest Resolved) (s : Standing) → t ≡ u → s.counts
 new_places t u s same counts spots =
     (counts ∙ ap (λ (v : Forest Resolved). greatest_counts v) same, spots ∙ ap (λ (v : Forest Resolved). spots_of (times (greatest_counts v)) v 0 0) same)
 
-pub new_room : (t u : Forest Resolved) (s : Standing) → IsSound t → t ≡ u → s.counts ≡ greatest_counts t → s.kept ≡ replicate (length (tables_of t)) None → IsRoomFor u s
-new_room t u s sound same counts kept =
+pub new_room : (t u : Forest Resolved) (s : Standing) → IsSound t → t ≡ u → s.counts ≡ greatest_counts t → s.kept ≡ replicate (length (tables_of t)) None → s.tables ≡ tables_of t
+    → s.growths ≡ growths_from (spots_of (times []) t 0 0) 0 t → IsRoomFor u s
+new_room t u s sound same counts kept all grow =
     let entries : length s.counts ≡ entries_in t = ap length counts ∙ greatest_length t sound.numbered in
     let tables : length s.kept ≡ length (tables_of t) = ap length kept ∙ length-replicate (length (tables_of t)) None in
-    (λ i. record { entries = entries i; tables = tables i }) ∙ ap (λ (v : Forest Resolved). room_for v) same
+    (λ i. record { entries = entries i; tables = tables i; varying = all i; growths = grow i }) ∙ ap (λ (v : Forest Resolved). room_for v) same
 
 -- what is so of counts is so of those that were made
 pub made : {E : Type 0} (P : Standing → Type 0) (r : Result Standing E) (s : Standing) → IfOk r (λ c. c ≡ s) → P s → IfOk r P

@@ -28,8 +28,9 @@ written u many room places counts next taken behind rest spots others long_count
     }
 
 -- there is room where there was as much
-pub room_still : (u : Forest Resolved) (before after : Standing) → IsRoomFor u before → length after.counts ≡ length before.counts → length after.kept ≡ length before.kept → IsRoomFor u after
-room_still u before after room counts kept = (λ i. record { entries = counts i; tables = kept i }) ∙ room
+pub room_still : (u : Forest Resolved) (before after : Standing) → IsRoomFor u before → length after.counts ≡ length before.counts → length after.kept ≡ length before.kept → after.tables ≡ before.tables
+    → after.growths ≡ before.growths → IsRoomFor u after
+room_still u before after room counts kept tables growths = (λ i. record { entries = counts i; tables = kept i; varying = tables i; growths = growths i }) ∙ room
 
 -- where no table varies, all bytes give the greatest counts
 pub none_taken : (u : Forest Resolved) (bytes : List ℕ) (xs : List Table) (counts : List ℕ) → xs ≡ tables_of u → length xs ≡ 0 → counts ≡ greatest_counts u → CountsOf u bytes (Ok counts)

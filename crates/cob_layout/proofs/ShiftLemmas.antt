@@ -1,10 +1,10 @@
 -- The sums of a record's tables, and the spots that they shift.
-use Rattle.std.proofs.Common.{◌≡◌, ℕ, zero, suc, ◌+◌, ◌-◌, ◌*◌, ◌<◌, ◌≤◌, ◌==◌, ◌&&◌, min, max, true, false, List, [], ◌∷◌, ◌++◌, length, replicate, get_or, take, drop, Option, Some, None, refl, sym, ap, subst, ◌∙◌, arith, inl, inr, append-nil, append_assoc}
+use Rattle.std.proofs.Common.{◌≡◌, ℕ, zero, suc, ◌+◌, ◌-◌, ◌*◌, ◌<◌, ◌≤◌, ◌==◌, ◌&&◌, min, max, true, List, [], ◌∷◌, ◌++◌, length, replicate, get_or, take, drop, Option, Some, None, refl, sym, ap, subst, ◌∙◌, arith, inl, inr, append-nil, append_assoc}
 use Rattle.std.specs.Prelude.{slice_index, slice_set}
 use Rattle.std.specs.List.{AllByRecursion}
 use Rattle.std.proofs.Math.Seq.{set-append_seam}
 use Rattle.std.proofs.lemmas.Bool.{cases_lt}
-use Rattle.std.proofs.lemmas.List.{length-append, length-replicate, drop_more, drop_all, take_more_set, take_all, get_or_past, get_or_append_left, get_or-take, length-set, length-take-le}
+use Rattle.std.proofs.lemmas.List.{length-append, length-replicate, drop_more, drop_all, take_more_set, get_or_past, get_or_append_left, get_or-take, length-take-le}
 use Rattle.cob_copybook_tree.specs.declared.node.Kind.{Kind}
 use Rattle.cob_copybook_tree.specs.declared.node.Kind.TheVariants.{Group, Item as ItemKind}
 use Rattle.cob_copybook_tree.specs.declared.node.Node.{Node}
@@ -15,10 +15,10 @@ use Rattle.cob_copybook_tree.specs.Nodes.{Resolved, MayHold, node, tree_of}
 use Rattle.cob_copybook_tree.specs.Lengths.{greatest_number, element_length, whole_length, own_length, length_by_kind, sum_of}
 use Rattle.cob_copybook_lengths.specs.Areas.{AreAreas, MayFollow, area_with}
 use Rattle.cob_layout_places.specs.declared.spots.Spot.{Spot}
-use Rattle.cob_layout_places.specs.Lengths.{times, times_by, AreLeaves, MayOccur}
+use Rattle.cob_layout_places.specs.Lengths.{times, AreLeaves, MayOccur}
 use Rattle.cob_layout_places.specs.Places.{begins}
 use Rattle.cob_layout_places.specs.Spots.{spots_of}
-use Rattle.cob_layout_places.proofs.ForestLemmas.{below, below_is, left, left_is, sum_le, within_always, element_le, element_small}
+use Rattle.cob_layout_places.proofs.ForestLemmas.{below, below_is, left, left_is, within_always, element_le, element_small}
 use Rattle.cob_layout_places.proofs.SpotLemmas.{length_spots}
 use Rattle.cob_layout_places.proofs.PlaceLemmas.{Left, first_of, rest_of, beneath_fits}
 use Rattle.cob_layout.specs.Counting.{varying}
@@ -29,7 +29,7 @@ use Rattle.cob_layout.specs.declared.shifts.Shift.{Shift}
 use Rattle.cob_layout.specs.Shifts.{all_shifted, grow_in, growth_of, growths_from, next_sum, own_bytes, own_growth, shift_of, shifted, shifts_from, sums_by, sums_of, CanAllGrow, CanGrow, CanShift, IsWithin}
 use Rattle.cob_layout.proofs.EndLemmas.{same}
 use Rattle.cob_layout.proofs.SpotLaw.{are_spots, at_seam, nowhere, one_longer, AreSpots}
-use Rattle.cob_layout.proofs.ShiftLaw.{adds, both, element_least, length_shifts, none_one, none_redefining, often, product_le, rises, stand_shifted, sum_grows, Adds, Grow, GrowsBy}
+use Rattle.cob_layout.proofs.ShiftLaw.{adds, both, length_shifts, none_redefining, often, product_le, rises, stand_shifted, sum_grows, Adds, Grow}
 
 -- ---- the sums
 

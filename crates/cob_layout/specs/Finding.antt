@@ -1,5 +1,5 @@
 -- Where references stand in a storage, by those of its counts that they need.
-use Rattle.std.specs.Prelude.{◌≡◌, ℕ, Bool, true, false, ◌==◌, ◌&&◌, not, nat_le, List, [], ◌∷◌, Option, Some, None, Ok, Err, Result, if◌then◌else◌, slice_index}
+use Rattle.std.specs.Prelude.{◌≡◌, ◌⊎◌, ℕ, ◌+◌, ◌<◌, ◌≤◌, Bool, true, false, ◌==◌, ◌&&◌, nat_le, List, [], ◌∷◌, Option, Some, None, Ok, Err, Result, if◌then◌else◌, length, slice_index, take}
 use Rattle.cob_copybook_tree.specs.Forests.{Forest, entries_in}
 use Rattle.cob_copybook_tree.specs.Nodes.{Resolved}
 use Rattle.cob_layout_places.specs.declared.reference.Ref.{Ref}
@@ -8,13 +8,15 @@ use Rattle.cob_layout_places.specs.Counts.{tables_of}
 use Rattle.cob_layout_places.specs.Lengths.{times}
 use Rattle.cob_layout_places.specs.Needs.{is_needed, number_behind}
 use Rattle.cob_layout_places.specs.Places.{place_of}
+use Rattle.cob_layout_places.specs.Spots.{spots_of}
 use Rattle.cob_layout.specs.declared.counts.StoredCount.{StoredCount}
 use Rattle.cob_layout.specs.declared.fields.Place.{Place}
 use Rattle.cob_layout.specs.declared.finding.FindFault.{FindFault}
 use Rattle.cob_layout.specs.declared.finding.FindFault.TheVariants.{Count, Subscript}
+use Rattle.cob_layout.specs.declared.shifts.Growth.{Growth}
 use Rattle.cob_layout.specs.Counting.{NeededOf}
 use Rattle.cob_layout.specs.Placed.{placed_under}
-use Rattle.cob_layout.specs.Standing.{Standing, are_unkept}
+use Rattle.cob_layout.specs.Shifts.{growths_from, sums_by}
 
 -- A reference stands there in a storage, receiving or not: where its element stands under the counts that it needs there, or would begin where it isn't
 -- one of those that there are; and nowhere where the first of these counts that isn't valid has this fault.
@@ -65,3 +67,19 @@ are_met behind last r counts (x ∷ xs) (k ∷ ks) =
 abbrev pub are_all_met : Forest Resolved → ℕ → Bool → List ℕ → List (Option StoredCount) → Bool
 are_all_met tree r receiving counts ks =
     are_met (number_behind true r tree) (receiving && (number_behind false r tree == entries_in tree)) r counts (tables_of tree) ks
+
+-- A reference needs all tables below its reach: it isn't the last one that receives, or no entry stands beneath it.
+abbrev pub SparesNone : (behind : ℕ) → (last : Bool) → (r : ℕ) → Type 0
+SparesNone behind last r = (last ≡ false) ⊎ (behind ≤ r + 1)
+
+-- Counts and sums reach up to this number, where it isn't 0: the counts are what every reference asks that needs just the tables below it, where so much is
+-- kept of these tables, and the sums are those behind the tables that grow so.
+abbrev pub ReachTo : (behind : ℕ) → (counts sums : List ℕ) → List Table → List Growth → List (Option StoredCount) → Type 0
+ReachTo behind counts sums tables growths ks =
+    0 < behind
+    → (are_met behind false 0 counts tables ks ≡ true) × (take (length growths + 1) sums ≡ sums_by counts growths (0 ∷ []) 0)
+
+-- so they do in a record
+abbrev pub ReachIn : Forest Resolved → (behind : ℕ) → (counts sums : List ℕ) → List (Option StoredCount) → Type 0
+ReachIn tree behind counts sums ks =
+    ReachTo behind counts sums (tables_of tree) (growths_from (spots_of (times []) tree 0 0) 0 tree) ks

@@ -1,9 +1,10 @@
 -- The counts of a record's tables, and where its entries stand under them.
-use Rattle.std.specs.Prelude.{◌≡◌, ◌⊎◌, ◌&&◌, ◌||◌, nat_lt, ℕ, ◌+◌, Bool, true, false, List, [], ◌∷◌, length, replicate, Option, Some, None, Ok, if◌then◌else◌}
+use Rattle.std.specs.Prelude.{◌≡◌, ◌&&◌, ◌||◌, nat_lt, ℕ, ◌+◌, Bool, true, false, List, [], ◌∷◌, length, replicate, Option, Some, None, Ok, if◌then◌else◌}
 use Rattle.cob_copybook_tree.specs.Forests.{Forest, entries_in}
 use Rattle.cob_copybook_tree.specs.Nodes.{Resolved}
 use Rattle.cob_layout.specs.declared.counts.StoredCount.{StoredCount}
 use Rattle.cob_layout.specs.declared.fields.Place.{Place}
+use Rattle.cob_layout.specs.declared.shifts.Growth.{Growth}
 use Rattle.cob_layout_places.specs.declared.spots.Spot.{Spot}
 use Rattle.cob_layout_places.specs.declared.varying.Table.{Table}
 use Rattle.cob_layout_places.specs.Lengths.{times}
@@ -11,26 +12,37 @@ use Rattle.cob_layout_places.specs.Spots.{spots_of}
 use Rattle.cob_layout_places.specs.Counts.{tables_of}
 use Rattle.cob_layout.specs.Counting.{CountsOf}
 use Rattle.cob_layout.specs.Kept.{AreKeptOf}
+use Rattle.cob_layout.specs.Shifts.{growths_from}
 
--- How a record stands: the counts of its tables and the spots of its entries, by the numbers of the entries; and the counts of a storage that are
--- kept, in the order of the tables.
+-- How a record stands: the counts of its tables and the spots of its entries, by the numbers of the entries; the counts of a storage that are kept, in
+-- the order of the tables; and the record's own: its tables that vary, and how those grow that grow.
 pub record Standing : Type 0 where
   pub counts : List ℕ
   pub spots : List Spot
   pub kept : List (Option StoredCount)
+  pub tables : List Table
+  pub growths : List Growth
 
--- how much room there is, and how much a record needs: a count for each entry, and one that is kept for each table that varies
+-- How much room there is, and how much a record needs: a count for each entry, and one that is kept for each table that varies; and for which tables, and
+-- which of them that grow, it is.
 pub record RoomForCounts : Type 0 where
   pub entries : ℕ
   pub tables : ℕ
+  pub varying : List Table
+  pub growths : List Growth
 
 -- how much room there is
 abbrev pub room_in : Standing → RoomForCounts
-room_in s = record { entries = length s.counts; tables = length s.kept }
+room_in s = record { entries = length s.counts; tables = length s.kept; varying = s.tables; growths = s.growths }
 
 -- how much this record needs
 abbrev pub room_for : Forest Resolved → RoomForCounts
-room_for tree = record { entries = entries_in tree; tables = length (tables_of tree) }
+room_for tree = record {
+  entries = entries_in tree;
+  tables = length (tables_of tree);
+  varying = tables_of tree;
+  growths = growths_from (spots_of (times []) tree 0 0) 0 tree;
+}
 
 -- there is room for this record
 abbrev pub IsRoomFor : Forest Resolved → Standing → Type 0
@@ -60,7 +72,13 @@ KeepsNone s = are_unkept s.kept ≡ true
 
 -- the same, and none is kept
 abbrev pub forgotten : Standing → Standing
-forgotten s = record { counts = s.counts; spots = s.spots; kept = replicate (length s.kept) None }
+forgotten s = record {
+  counts = s.counts;
+  spots = s.spots;
+  kept = replicate (length s.kept) None;
+  tables = s.tables;
+  growths = s.growths;
+}
 
 -- the counts that are kept are those of this storage
 abbrev pub KeepsOf : Forest Resolved → List ℕ → Standing → Type 0

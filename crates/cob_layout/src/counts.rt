@@ -7,8 +7,9 @@ ghost use Rattle.cob_layout.specs.Counting.{in_order, varying};
 ghost use Rattle.cob_layout.specs.Standing.{KeepsOf, forgotten};
 
 use crate::fields::Place;
+use crate::shifts::Growth;
 use cob_copybook::{Node, ResolvedOccurs};
-use cob_layout_places::Spot;
+use cob_layout_places::{Spot, Table};
 use std::alloc::{AllocError, Global};
 use std::marker::Model;
 
@@ -22,7 +23,7 @@ pub struct StoredCount {
 /// How often the tables of a record that vary occur, and where its entries stand then; and the counts of a storage that are kept, so that they
 /// are not read again.
 ///
-/// Contracts see the counts and the spots by the numbers of the entries, and what is kept in the order of the tables.
+/// Contracts see the counts and the spots by the numbers of the entries, what is kept in the order of the tables, and the record's tables.
 #[derive(Debug, Drop)]
 pub struct Counts {
     pub(crate) taken: Vec<u32>,
@@ -34,21 +35,28 @@ pub struct Counts {
     pub(crate) next: Vec<u32>,
     /// Room for the sums of the tables that grow, from which the spots are found.
     pub(crate) sums: Vec<u32>,
+    /// Up to which number the next counts and the sums are those that are kept: they serve every reference that needs just the tables below it. 0 where
+    /// nothing is known of them.
+    pub(crate) reach: usize,
+    /// The record's tables that vary, and how those grow that grow: what the reach is told by.
+    tables: Vec<Table>,
+    growths: Vec<Growth>,
 }
 
 impl Model for Counts {
     ghost use Rattle.std.specs.Prelude.{◌≡◌, ◌+◌, length};
+    ghost use Rattle.cob_layout.specs.Finding.{ReachTo};
     ghost use Rattle.cob_layout.specs.Standing.{Standing};
 
     ghost Value = { Standing };
 
-    ghost view = { λ c. record { counts = c.taken.items; spots = c.spots.items; kept = c.kept.items } };
+    ghost view = { λ c. record { counts = c.taken.items; spots = c.spots.items; kept = c.kept.items; tables = c.tables.items; growths = c.growths.items } };
 
-    ghost invariant = { λ c. (length c.spots.items ≡ length c.taken.items) × (length c.next.items ≡ length c.taken.items) × (length c.sums.items ≡ length c.taken.items + 1) };
+    ghost invariant = { λ c. (length c.spots.items ≡ length c.taken.items) × (length c.next.items ≡ length c.taken.items) × (length c.sums.items ≡ length c.taken.items + 1) × ReachTo c.reach c.next.items c.sums.items c.tables.items c.growths.items c.kept.items };
 }
 
 impl Counts {
-    /// These counts and spots, with room to take others, and for the counts that are kept of so many tables.
+    /// These counts and spots, with room to take others, and for the counts that are kept of these tables, of which those grow so that grow.
     ///
     /// # Errors
     ///
@@ -57,25 +65,33 @@ impl Counts {
         alloc: Global,
         taken: Vec<u32>,
         spots: Vec<Spot>,
-        tables: usize,
+        tables: &[Table],
+        growths: &[Growth],
     ) -> Result<Counts, AllocError>
         requires spots { length spots.items ≡ length taken.items }
         ensures { IfOk result (λ c. c ≡ record {
           counts = taken.items;
           spots = spots.items;
-          kept = replicate tables None;
+          kept = replicate (length tables.now) None;
+          tables = tables.now;
+          growths = growths.now;
         }) }
     {
         let next = copied_counts(alloc, &taken)?;
-        let kept = vec![in alloc; None; tables]?;
+        let kept = vec![in alloc; None; tables.len()]?;
         let mut sums = copied_counts(alloc, &taken)?;
         sums.push(0)?;
+        let tables = copied_tables(alloc, tables)?;
+        let growths = copied_growths(alloc, growths)?;
         Ok(Counts {
             taken,
             spots,
             kept,
             next,
             sums,
+            reach: 0,
+            tables,
+            growths,
         })
     }
 
@@ -109,6 +125,7 @@ impl Counts {
         ensures forgotten { self.new ≡ forgotten self.old }
         ensures keeps { (tree : Forest Resolved) (bytes : List ℕ) → KeepsOf tree bytes self.new }
     {
+        self.reach = 0;
         self.kept.fill(None);
     }
 }
@@ -123,6 +140,32 @@ pub(crate) fn copied_counts(alloc: Global, counts: &[u32]) -> Result<Vec<u32>, A
 {
     let mut same = Vec::new(alloc);
     same.extend_from_slice(counts)?;
+    Ok(same)
+}
+
+/// These tables once more.
+///
+/// # Errors
+///
+/// Where no memory is left.
+fn copied_tables(alloc: Global, tables: &[Table]) -> Result<Vec<Table>, AllocError>
+    ensures { IfOk result (λ same. same.items ≡ tables.now) }
+{
+    let mut same = Vec::new(alloc);
+    same.extend_from_slice(tables)?;
+    Ok(same)
+}
+
+/// These growths once more.
+///
+/// # Errors
+///
+/// Where no memory is left.
+fn copied_growths(alloc: Global, growths: &[Growth]) -> Result<Vec<Growth>, AllocError>
+    ensures { IfOk result (λ same. same.items ≡ growths.now) }
+{
+    let mut same = Vec::new(alloc);
+    same.extend_from_slice(growths)?;
     Ok(same)
 }
 

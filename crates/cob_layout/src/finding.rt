@@ -1,7 +1,8 @@
 //! Where references stand by the counts of a storage that are kept.
 //!
 //! Counts that agree on what a reference needs give it one place. So a reference may be placed under all counts of a storage that are kept, whichever of
-//! them it needs, and only a count that isn't kept is read. Whether the counts of before serve it is seen from the counts themselves.
+//! them it needs, and only a count that isn't kept is read. Whether the counts of before serve it is known up to a number, and past it seen from the counts
+//! themselves.
 
 ghost use Rattle.std.specs.Prelude.{◌≡◌, ◌+◌, ◌<◌, ◌≤◌, ℕ, List, Result, length, min, slice_index, Ok, Err, IfOk};
 ghost use Rattle.cob_copybook_tree.specs.Lengths.{greatest_number, sum_of};
@@ -92,7 +93,8 @@ pub(crate) fn put_later(
 impl Layout {
     /// Where a reference stands by the counts of these bytes that it needs. It reads only those of them that are not kept, and keeps those that it reads.
     /// Each count that is read adds one to `reads`, one that is refused too; `reads` stays at the greatest `u64`. The counts that are kept are those of
-    /// these bytes. Its time doesn't grow with the number of the record's entries while all that it needs are kept. It takes no memory.
+    /// these bytes. Its time doesn't grow with the number of the record's entries while all that it needs are kept, nor with that of the tables that vary
+    /// where an earlier call needed as many of them and what is kept and taken stayed since. It takes no memory.
     ///
     /// # Errors
     ///

@@ -74,6 +74,7 @@ impl Model for Layout {
     ghost use Rattle.cob_layout.specs.Kinds.{kinds_of};
     ghost use Rattle.cob_layout.specs.Shifts.{growths_from, shifts_from};
     ghost use Rattle.cob_layout.specs.Sound.{IsSound};
+    ghost use Rattle.cob_layout.specs.Standing.{IsRoomFor};
     ghost use Rattle.cob_layout.specs.Counting.{greatest_counts};
     ghost use Rattle.cob_copybook.specs.Bytes.{TakeBytes};
     ghost use Rattle.std.specs.Coded.{codes};
@@ -85,7 +86,7 @@ impl Model for Layout {
 
     ghost view = { λ l. tree_of l.root };
 
-    ghost invariant = { λ l. IsRecordDescription (tree_of l.root) × IsSound (tree_of l.root) × (l.tables.items ≡ tables_of (tree_of l.root)) × (l.counts.counts ≡ greatest_counts (tree_of l.root)) × (l.greatest ≡ sum_of greatest_number (tree_of l.root)) × TakeBytes (tree_of l.root) × (map held l.ways.items ≡ held_in [] (tree_of l.root)) × (l.counts.spots ≡ spots_of (times (greatest_counts (tree_of l.root))) (tree_of l.root) 0 0) × (l.kinds.items ≡ kinds_of (tree_of l.root)) × (l.counts.kept ≡ replicate (length (tables_of (tree_of l.root))) None) × (l.least.items ≡ spots_of (times []) (tree_of l.root) 0 0) × (l.shifts.items ≡ shifts_from 0 (tree_of l.root)) × (l.growths.items ≡ growths_from l.least.items 0 (tree_of l.root)) };
+    ghost invariant = { λ l. IsRecordDescription (tree_of l.root) × IsSound (tree_of l.root) × (l.tables.items ≡ tables_of (tree_of l.root)) × (l.counts.counts ≡ greatest_counts (tree_of l.root)) × (l.greatest ≡ sum_of greatest_number (tree_of l.root)) × TakeBytes (tree_of l.root) × (map held l.ways.items ≡ held_in [] (tree_of l.root)) × (l.counts.spots ≡ spots_of (times (greatest_counts (tree_of l.root))) (tree_of l.root) 0 0) × (l.kinds.items ≡ kinds_of (tree_of l.root)) × (l.counts.kept ≡ replicate (length (tables_of (tree_of l.root))) None) × (l.least.items ≡ spots_of (times []) (tree_of l.root) 0 0) × (l.shifts.items ≡ shifts_from 0 (tree_of l.root)) × (l.growths.items ≡ growths_from l.least.items 0 (tree_of l.root)) × IsRoomFor (tree_of l.root) l.counts };
 }
 
 /// The place of an element, or the fault where it isn't one of those that there are.
@@ -127,7 +128,7 @@ impl Layout {
         let greatest = book.greatest();
         let ways = ways(alloc, &root, entries)?;
         let kinds = kinds(alloc, &root, entries)?;
-        let counts = Counts::new(alloc, in_order, spots, tables.len())?;
+        let counts = Counts::new(alloc, in_order, spots, &tables, &growths)?;
         Ok(Layout {
             root,
             tables,
@@ -195,7 +196,7 @@ impl Layout {
     {
         let taken = copied_counts(alloc, self.counts.as_slice())?;
         let spots = copied_spots(alloc, self.counts.spots())?;
-        Counts::new(alloc, taken, spots, self.tables.len())
+        Counts::new(alloc, taken, spots, &self.tables, &self.growths)
     }
 
     /// The record's length in bytes under these counts: at least 1, since an item comes before the first table that varies.
@@ -274,6 +275,7 @@ impl Layout {
         ensures none { OnOk result (KeepsNone counts.new) }
         ensures room { IsRoomFor self.now counts.new }
     {
+        counts.reach = 0;
         self.counts_in(
             bytes,
             &mut counts.next,
@@ -310,6 +312,7 @@ impl Layout {
     {
         // For `ok` and `err`: the counts that are read are those that the reference needs.
         needs_are_read();
+        counts.reach = 0;
         counts.next.fill(0);
         take_needed(
             &self.root,

@@ -67,6 +67,7 @@ impl Layout {
         if !self.varies() {
             return Ok(greatest);
         }
+        counts.reach = 0;
         let made = self.length_of(bytes, &mut counts.next, &mut counts.sums)?;
         Ok(made as u16)
     }

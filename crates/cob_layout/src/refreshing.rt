@@ -129,6 +129,7 @@ impl Layout {
             × (reads.new ≡ min (reads.old + n) most_reads) }
         ensures room { IsRoomFor self.now counts.new }
     {
+        counts.reach = 0;
         self.refresh_in(
             reference,
             receiving,

@@ -1,16 +1,18 @@
 //! Where references stand by the counts of a storage that are kept, and by the sums of the tables under them.
 //!
-//! Only the entry of a reference and the tables that hold it are placed, and of a count that is read its item. The counts and their sums are seen anew
-//! each time, from those that are kept: both are as many as the tables that grow.
+//! Only the entry of a reference and the tables that hold it are placed, and of a count that is read its item. The counts and their sums, as many as the
+//! tables that grow, stay from call to call, and it is known up to which number they serve references: their reach (`ReachTo` of specs/Finding.antt). Past
+//! it the counts are seen anew, from those that are kept. The reach ends where a kept count goes, or where the counts or the sums are written for another
+//! question.
 
-ghost use Rattle.std.specs.Prelude.{◌≡◌, ◌==◌, ◌&&◌, ◌+◌, true, false, ℕ, List, Result, length, min, take, Ok, Err, Some, OnOk, OnErr, IfErr, IfOk};
+ghost use Rattle.std.specs.Prelude.{◌≡◌, ◌==◌, ◌&&◌, ◌+◌, ◌<◌, ◌≤◌, ◌⊎◌, true, false, ℕ, List, Result, length, min, take, Ok, Err, Some, OnOk, OnErr, IfErr, IfOk, IsFalse, IsTrue};
 ghost use Rattle.cob_copybook_tree.specs.Forests.{entries_in};
 ghost use Rattle.cob_layout_places.specs.declared.counts.CountFault.{CountFault};
 ghost use Rattle.cob_layout_places.specs.Counts.{tables_of};
 ghost use Rattle.cob_layout_places.specs.Needs.{is_read, number_behind};
 ghost use Rattle.cob_layout_places.specs.References.{Refers};
 ghost use Rattle.cob_layout.specs.Counting.{greatest_counts, NeededOf};
-ghost use Rattle.cob_layout.specs.Finding.{StandsFor};
+ghost use Rattle.cob_layout.specs.Finding.{are_met, ReachIn, SparesNone, StandsFor};
 ghost use Rattle.cob_layout.specs.Kept.{kept_after, most_reads, numbers_of, AreKeptOf, TakenAnew};
 ghost use Rattle.cob_layout.specs.Placed.{element_under};
 ghost use Rattle.cob_layout.specs.Shifts.{grow_in, sums_of};
@@ -23,6 +25,33 @@ use crate::keeping::Needed;
 use crate::layout::Layout;
 use crate::ways::tables_at;
 use cob_layout_places::{CountFault, Found, Ref, needs_are_read, one_place, places_end_in_record};
+
+/// Whether a reference may be spared a table: it is the last one and receives, and entries stand beneath it.
+fn may_spare(needed: Needed) -> bool
+    ensures { IsFalse result → SparesNone needed.behind needed.last needed.number }
+{
+    needed.last && needed.behind.saturating_sub(needed.number) > 1
+}
+
+/// Whether a reference needs just the tables below a number that isn't above this reach.
+fn is_within(needed: Needed, reach: usize) -> bool
+    ensures behind { IsTrue result → needed.behind ≤ reach }
+    ensures spares { IsTrue result → SparesNone needed.behind needed.last needed.number }
+{
+    needed.behind <= reach && !may_spare(needed)
+}
+
+/// The reach of counts that are what a reference needs and that had this reach before: what one needs that is spared some doesn't serve the others.
+fn reach_with(needed: Needed, reach: usize) -> usize
+    ensures { (result ≡ reach)
+        ⊎ ((result ≡ needed.behind) × SparesNone needed.behind needed.last needed.number) }
+{
+    if may_spare(needed) {
+        reach
+    } else {
+        needed.behind
+    }
+}
 
 impl Layout {
     /// The element of a reference under these counts, whose sums these are.
@@ -85,6 +114,8 @@ impl Layout {
             ≡ kept_after (is_read self.now reference.now.node receiving) c (tables_of self.now)
             (numbers_of kept.old))) }
         ensures sums { OnOk result (take (grow_in self.now + 1) sums.new ≡ sums_of self.now counts.new) }
+        ensures met { OnOk result (SparesNone needed.behind needed.last needed.number
+            → are_met needed.behind false 0 counts.new (tables_of self.now) kept.new ≡ true) }
         ensures keeps { OnOk result (AreKeptOf self.now bytes.now kept.new) }
         ensures reads { (c : Result (List ℕ) CountFault) × (n : ℕ)
             × TakenAnew self.now bytes.now (is_read self.now reference.now.node receiving)
@@ -110,8 +141,21 @@ impl Layout {
         Ok(())
     }
 
-    /// Lets the counts be what a reference needs: as they are, where they are that and all that it reads are kept, and else those that are read. The sums
-    /// are those of the counts then.
+    /// Lets the sums be those of the counts: as they are, where the counts and they have a reach, and else written anew.
+    #[inline(always)]
+    fn have_sums(&self, reach: usize, counts: &[u32], sums: &mut [u32])
+        requires room { length sums.old ≡ entries_in self.now + 1 }
+        requires sums { 0 < reach
+            → take (grow_in self.now + 1) sums.old ≡ sums_of self.now counts.now }
+        ensures { take (grow_in self.now + 1) sums.new ≡ sums_of self.now counts.now }
+    {
+        if reach == 0 {
+            self.put_sums(counts, sums);
+        }
+    }
+
+    /// Lets the counts be what a reference needs: as they are, where their reach says that or where they are that and all that it reads are kept, and else
+    /// those that are read. The sums are those of the counts then, and the reach goes as far as the reference where it is spared none.
     ///
     /// # Errors
     ///
@@ -125,6 +169,7 @@ impl Layout {
         kept: &mut [Option<StoredCount>],
         counts: &mut [u32],
         sums: &mut [u32],
+        reach: &mut usize,
         reads: &mut u64,
     ) -> Result<(), CountFault>
         requires refers { Refers reference.now.node reference.now.subscripts.items self.now }
@@ -132,6 +177,7 @@ impl Layout {
         requires as_many { length kept.old ≡ length (tables_of self.now) }
         requires counts { length counts.old ≡ entries_in self.now }
         requires sums { length sums.old ≡ entries_in self.now + 1 }
+        requires reach { ReachIn self.now reach.old counts.old sums.old kept.old }
         ensures err { IfErr result
             (λ e. NeededOf self.now reference.now.node receiving bytes.now (Err e)) }
         ensures same { OnErr result (kept.new ≡ kept.old) }
@@ -142,6 +188,7 @@ impl Layout {
             ≡ kept_after (is_read self.now reference.now.node receiving) c (tables_of self.now)
             (numbers_of kept.old))) }
         ensures sums { OnOk result (take (grow_in self.now + 1) sums.new ≡ sums_of self.now counts.new) }
+        ensures reach { ReachIn self.now reach.new counts.new sums.new kept.new }
         ensures keeps { OnOk result (AreKeptOf self.now bytes.now kept.new) }
         ensures reads { (c : Result (List ℕ) CountFault) × (n : ℕ)
             × TakenAnew self.now bytes.now (is_read self.now reference.now.node receiving)
@@ -153,15 +200,22 @@ impl Layout {
         one_place();
         // For `reads`: how many there were is a count of 64 bits.
         let _before = *reads;
+        let tables = self.tables.as_slice();
         let needed = self.needed_by(reference.node, receiving);
-        if are_met(&self.tables, needed, kept, counts) {
-            self.put_sums(counts, sums);
-            Ok(())
-        } else {
-            self.read_anew(
-                reference, receiving, bytes, kept, counts, sums, reads, needed,
-            )
+        if is_within(needed, *reach) {
+            return Ok(());
         }
+        if are_met(tables, needed, kept, counts) {
+            self.have_sums(*reach, counts, sums);
+            *reach = reach_with(needed, *reach);
+            return Ok(());
+        }
+        *reach = 0;
+        self.read_anew(
+            reference, receiving, bytes, kept, counts, sums, reads, needed,
+        )?;
+        *reach = reach_with(needed, 0);
+        Ok(())
     }
 
     /// The element of a reference under the counts that it needs.
@@ -204,6 +258,7 @@ impl Layout {
             &mut counts.kept,
             &mut counts.next,
             &mut counts.sums,
+            &mut counts.reach,
             reads,
         )?;
         Ok(self.element_in(reference, &counts.sums, &counts.next))

@@ -1,10 +1,6 @@
-use Rattle.std.proofs.Common.{ap, refl, arith, length, ◌∙◌, drop}
-use Rattle.cob_copybook_tree.specs.Nodes.{tree_of}
+use Rattle.std.proofs.Common.{refl, arith}
 use Rattle.cob_layout.specs.Counting.{greatest_counts}
-use Rattle.cob_layout.specs.Standing.{Standing}
 use Rattle.cob_layout.proofs.MeasuringLemmas.{greatest_measures, measures, measures_some}
-use Rattle.cob_layout.proofs.RecordLemmas.{as_many, room_entries}
-use Rattle.cob_layout.proofs.RefreshLemmas.{front_of}
 use Rattle.cob_layout.proofs.layout.Layout.current_length.Goals as goal
 
 pub returns-then-not-varies-clause-ok : goal.returns-then-not-varies-clause-ok

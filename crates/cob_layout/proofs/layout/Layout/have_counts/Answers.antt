@@ -1,19 +1,54 @@
-use Rattle.std.proofs.Common.{◌≡◌, ◌∙◌, Ok, true, sym, subst, arith, rules}
+use Rattle.std.proofs.Common.{◌∙◌, Ok, refl, sym, subst, arith, rules}
 use Rattle.cob_copybook_tree.specs.Nodes.{tree_of}
-use Rattle.cob_layout.specs.Finding.{are_all_met}
 use Rattle.cob_layout.specs.Sound.{IsSound}
 use Rattle.cob_layout.proofs.FindLemmas.{MeetsBy, meets_by, met_in}
+use Rattle.cob_layout.proofs.ReachLemmas.{Serves, reach_anew, reach_still, reach_sums, serves}
 use Rattle.cob_layout.proofs.ReferenceLemmas.{refers_has}
 use Rattle.cob_layout.proofs.layout.Layout.have_counts.Goals as goal
 
 pub needed_by-needed-requires : goal.needed_by-needed-requires
 needed_by-needed-requires c = record { there = refers_has c.args.reference.now.node c.args.reference.now.subscripts.items c.args.self.now c.requires.refers }
 
+pub returns-then-is_within-clause-came : goal.returns-then-is_within-clause-came
+returns-then-is_within-clause-came c =
+    let u = c.args.self.now in
+    let sound : IsSound u = subst IsSound c.self.view_is c.self.invariant.1 in
+    let so : Serves u c.args.reference.now.node c.args.receiving c.args.counts.now c.args.sums.now c.args.kept.now =
+    serves c.needs_are_read.ensures u c.args.reference.now.node c.needed_by-needed.result.number c.args.receiving c.args.reference.now.subscripts.items c.needed_by-needed.result.behind c.args.reach.now c.needed_by-needed.result.last c.args.counts.now c.args.sums.now c.args.kept.now
+    sound c.requires.refers c.needed_by-needed.ensures.behind c.needed_by-needed.ensures.last c.needed_by-needed.ensures.number (c.if-is_within.ensures.behind refl) (c.if-is_within.ensures.spares refl) c.requires.reach in
+    let m : MeetsBy u c.args.bytes.now c.args.reference.now.node c.args.receiving c.args.kept.now c.args.counts.now =
+    meets_by c.needs_are_read.ensures c.one_place.ensures u c.args.bytes.now c.args.reference.now.node c.args.receiving c.args.reference.now.subscripts.items c.args.kept.now c.args.counts.now
+    sound c.requires.refers c.requires.as_many c.requires.kept so.met in
+    (m.counts, m.needed, m.place, m.kept)
+
+pub returns-then-is_within-clause-sums : goal.returns-then-is_within-clause-sums
+returns-then-is_within-clause-sums c =
+    let u = c.args.self.now in
+    let so : Serves u c.args.reference.now.node c.args.receiving c.args.counts.now c.args.sums.now c.args.kept.now =
+    serves c.needs_are_read.ensures u c.args.reference.now.node c.needed_by-needed.result.number c.args.receiving c.args.reference.now.subscripts.items c.needed_by-needed.result.behind c.args.reach.now c.needed_by-needed.result.last c.args.counts.now c.args.sums.now c.args.kept.now
+    (subst IsSound c.self.view_is c.self.invariant.1) c.requires.refers c.needed_by-needed.ensures.behind c.needed_by-needed.ensures.last c.needed_by-needed.ensures.number (c.if-is_within.ensures.behind refl) (c.if-is_within.ensures.spares refl) c.requires.reach in
+    so.sums_are
+
+pub returns-then-is_within-clause-reads : goal.returns-then-is_within-clause-reads
+returns-then-is_within-clause-reads c =
+    let u = c.args.self.now in
+    let sound : IsSound u = subst IsSound c.self.view_is c.self.invariant.1 in
+    let so : Serves u c.args.reference.now.node c.args.receiving c.args.counts.now c.args.sums.now c.args.kept.now =
+    serves c.needs_are_read.ensures u c.args.reference.now.node c.needed_by-needed.result.number c.args.receiving c.args.reference.now.subscripts.items c.needed_by-needed.result.behind c.args.reach.now c.needed_by-needed.result.last c.args.counts.now c.args.sums.now c.args.kept.now
+    sound c.requires.refers c.needed_by-needed.ensures.behind c.needed_by-needed.ensures.last c.needed_by-needed.ensures.number (c.if-is_within.ensures.behind refl) (c.if-is_within.ensures.spares refl) c.requires.reach in
+    let m : MeetsBy u c.args.bytes.now c.args.reference.now.node c.args.receiving c.args.kept.now c.args.counts.now =
+    meets_by c.needs_are_read.ensures c.one_place.ensures u c.args.bytes.now c.args.reference.now.node c.args.receiving c.args.reference.now.subscripts.items c.args.kept.now c.args.counts.now
+    sound c.requires.refers c.requires.as_many c.requires.kept so.met in
+    (Ok m.counts, 0, m.taken, search (arith, rules))
+
+pub have_sums-requires-clause-sums : goal.have_sums-requires-clause-sums
+have_sums-requires-clause-sums c = reach_sums c.args.self.now c.args.reach.now c.args.counts.now c.args.sums.now c.args.kept.now c.requires.reach
+
 pub returns-then-are_met-clause-came : goal.returns-then-are_met-clause-came
 returns-then-are_met-clause-came c =
     let u = c.args.self.now in
-    let met = met_in (tree_of c.self.inside.root) u c.args.reference.now.node c.args.receiving c.needed_by-needed.result.behind c.needed_by-needed.result.last c.needed_by-needed.result.number c.deref.result.now c.args.counts.now c.args.kept.now
-    c.self.view_is (c.deref.ensures.value ∙ c.self.invariant.2) c.needed_by-needed.ensures.behind c.needed_by-needed.ensures.last c.needed_by-needed.ensures.number in
+    let met = met_in (tree_of c.self.inside.root) u c.args.reference.now.node c.args.receiving c.needed_by-needed.result.behind c.needed_by-needed.result.last c.needed_by-needed.result.number c.as_slice-tables.result.now c.args.counts.now c.args.kept.now
+    c.self.view_is (c.as_slice-tables.ensures.value ∙ c.self.invariant.2) c.needed_by-needed.ensures.behind c.needed_by-needed.ensures.last c.needed_by-needed.ensures.number in
     let m : MeetsBy u c.args.bytes.now c.args.reference.now.node c.args.receiving c.args.kept.now c.args.counts.now =
     meets_by c.needs_are_read.ensures c.one_place.ensures u c.args.bytes.now c.args.reference.now.node c.args.receiving c.args.reference.now.subscripts.items c.args.kept.now c.args.counts.now
     (subst IsSound c.self.view_is c.self.invariant.1) c.requires.refers c.requires.as_many c.requires.kept (sym met ∙ sym c.are_met.ensures ∙ c.if-are_met.true) in
@@ -22,9 +57,18 @@ returns-then-are_met-clause-came c =
 pub returns-then-are_met-clause-reads : goal.returns-then-are_met-clause-reads
 returns-then-are_met-clause-reads c =
     let u = c.args.self.now in
-    let met = met_in (tree_of c.self.inside.root) u c.args.reference.now.node c.args.receiving c.needed_by-needed.result.behind c.needed_by-needed.result.last c.needed_by-needed.result.number c.deref.result.now c.args.counts.now c.args.kept.now
-    c.self.view_is (c.deref.ensures.value ∙ c.self.invariant.2) c.needed_by-needed.ensures.behind c.needed_by-needed.ensures.last c.needed_by-needed.ensures.number in
+    let met = met_in (tree_of c.self.inside.root) u c.args.reference.now.node c.args.receiving c.needed_by-needed.result.behind c.needed_by-needed.result.last c.needed_by-needed.result.number c.as_slice-tables.result.now c.args.counts.now c.args.kept.now
+    c.self.view_is (c.as_slice-tables.ensures.value ∙ c.self.invariant.2) c.needed_by-needed.ensures.behind c.needed_by-needed.ensures.last c.needed_by-needed.ensures.number in
     let m : MeetsBy u c.args.bytes.now c.args.reference.now.node c.args.receiving c.args.kept.now c.args.counts.now =
     meets_by c.needs_are_read.ensures c.one_place.ensures u c.args.bytes.now c.args.reference.now.node c.args.receiving c.args.reference.now.subscripts.items c.args.kept.now c.args.counts.now
     (subst IsSound c.self.view_is c.self.invariant.1) c.requires.refers c.requires.as_many c.requires.kept (sym met ∙ sym c.are_met.ensures ∙ c.if-are_met.true) in
     (Ok m.counts, 0, m.taken, search (arith, rules))
+
+pub returns-then-are_met-clause-reach : goal.returns-then-are_met-clause-reach
+returns-then-are_met-clause-reach c =
+    reach_still (tree_of c.self.inside.root) c.args.self.now c.needed_by-needed.result.behind c.needed_by-needed.result.number c.args.reach.now c.reach_with.result c.needed_by-needed.result.last c.as_slice-tables.result.now c.args.counts.now c.args.sums.now c.have_sums.new.sums c.args.kept.now
+    c.self.view_is (c.as_slice-tables.ensures.value ∙ c.self.invariant.2) (sym c.are_met.ensures ∙ c.if-are_met.true) c.reach_with.ensures c.requires.reach c.have_sums.ensures
+
+pub returns-clause-reach : goal.returns-clause-reach
+returns-clause-reach c =
+    reach_anew c.args.self.now c.needed_by-needed.result.behind c.needed_by-needed.result.number c.reach_with-2.result c.needed_by-needed.result.last c.read_anew.new.counts c.read_anew.new.sums c.read_anew.new.kept c.reach_with-2.ensures c.in_ok-read_anew.ensures.met c.in_ok-read_anew.ensures.sums

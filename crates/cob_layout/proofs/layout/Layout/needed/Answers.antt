@@ -6,7 +6,7 @@ use Rattle.cob_copybook_tree.specs.Nodes.{node, tree_of}
 use Rattle.cob_layout_places.proofs.PlaceLemmas.{entry_fits}
 use Rattle.cob_layout.specs.Standing.{Standing, are_unkept, IsRoomFor}
 use Rattle.cob_layout.proofs.RefreshLemmas.{unkept, front_of}
-use Rattle.cob_layout.proofs.RecordLemmas.{number_below, room_entries, slots_for, room_tables}
+use Rattle.cob_layout.proofs.RecordLemmas.{number_below, room_entries, slots_for}
 use Rattle.cob_layout_places.specs.Counts.{tables_of, Taken}
 use Rattle.cob_layout_places.specs.Needs.{needed_tables}
 use Rattle.cob_layout.specs.Counting.{greatest_counts}
@@ -92,6 +92,7 @@ invariant_of-counts-2 c =
       omega (arith, taken, c.stand_under.auto.taken, c.deref_mut-2.ensures.len, spots, c.stand_under.auto.spots, c.deref_mut-4.ensures.len, c.counts.inside.taken.ok.0, c.counts.inside.spots.ok.0, c.counts.invariant.0),
       omega (arith, taken, c.stand_under.auto.taken, c.deref_mut-2.ensures.len, c.counts.inside.taken.ok.0, c.counts.invariant.1, ap length (front_of c.fill.new.self.len c.take_needed.new.counts (drop (length c.take_needed.new.counts) c.fill.new.self.items) (c.take_needed.auto.counts ∙ c.deref_mut.ensures.len)), c.take_needed.auto.counts, c.deref_mut.ensures.len, c.fill.ensures.len, c.counts.inside.next.ok.0),
       omega (arith, sums, c.stand_under.auto.sums, c.deref_mut-3.ensures.len, c.counts.inside.sums.ok.0, c.counts.invariant.2, c.fill-2.ensures.len, c.fill-2.new.self.ok.0, c.counts.inside.kept.ok.0),
+      λ some. absurd (omega (arith, some)),
     )
 
 pub returns-clause-room : goal.returns-clause-room
@@ -101,13 +102,16 @@ returns-clause-room c =
       counts = take c.counts.inside.taken.len (c.stand_under.new.taken ++ drop (length c.stand_under.new.taken) c.counts.inside.taken.items);
       spots = take c.counts.inside.spots.len (c.stand_under.new.spots ++ drop (length c.stand_under.new.spots) c.counts.inside.spots.items);
       kept = c.fill-2.new.self.items;
+      tables = c.counts.inside.tables.items;
+      growths = c.counts.inside.growths.items;
     } in
     room_still c.args.self.now c.args.counts.now after c.requires.room (omega (arith, taken, c.stand_under.auto.taken, c.deref_mut-2.ensures.len, c.counts.inside.taken.ok.0, ap (λ (s : Standing). length s.counts) c.counts.view_is)) (omega (arith, c.fill-2.ensures.len, c.fill-2.new.self.ok.0, c.counts.inside.kept.ok.0, ap (λ (s : Standing). length s.kept) c.counts.view_is))
+    (ap (λ (s : Standing). s.tables) c.counts.view_is) (ap (λ (s : Standing). s.growths) c.counts.view_is)
 
 pub invariant_of-counts : goal.invariant_of-counts
 invariant_of-counts c =
     let long = c.take_needed.auto.counts ∙ c.deref_mut.ensures.len in
-    (c.counts.invariant.0, omega (arith, ap length (front_of c.fill.new.self.len c.take_needed.new.counts (drop (length c.take_needed.new.counts) c.fill.new.self.items) long), long, c.fill.ensures.len, c.counts.inside.next.ok.0, c.counts.invariant.1), c.counts.invariant.2)
+    (c.counts.invariant.0, omega (arith, ap length (front_of c.fill.new.self.len c.take_needed.new.counts (drop (length c.take_needed.new.counts) c.fill.new.self.items) long), long, c.fill.ensures.len, c.counts.inside.next.ok.0, c.counts.invariant.1), c.counts.invariant.2, λ some. absurd (omega (arith, some)))
 
 pub returns-clause-stands : goal.returns-clause-stands
 returns-clause-stands c =

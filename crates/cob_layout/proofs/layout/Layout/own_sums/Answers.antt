@@ -1,4 +1,4 @@
-use Rattle.std.proofs.Common.{◌≡◌, ◌∙◌, ◌+◌, ap, arith, length, refl, sym, take}
+use Rattle.std.proofs.Common.{◌≡◌, ◌+◌, ap, arith, refl, sym, take}
 use Rattle.std.proofs.lemmas.List.{length-take-le}
 use Rattle.cob_copybook_tree.specs.Nodes.{tree_of}
 use Rattle.cob_layout.specs.Shifts.{grow_in}

@@ -1,6 +1,5 @@
-use Rattle.std.proofs.Common.{◌≡◌, ◌∙◌, ◌+◌, ap, arith, length, refl, sym, take}
+use Rattle.std.proofs.Common.{◌∙◌, ◌+◌, ap, arith, refl, sym, take}
 use Rattle.cob_copybook_tree.specs.Nodes.{tree_of}
-use Rattle.cob_layout.specs.Shifts.{grow_in}
 use Rattle.cob_layout.proofs.ShiftLemmas.{as_many_growths, can_sum, grow_few, growing_as, own_sums}
 use Rattle.cob_layout.proofs.layout.Layout.put_sums.Goals as goal
 

@@ -8,7 +8,12 @@ use Rattle.cob_move_apply.proofs.survey.Survey.forget.Goals as goal
 pub returns-clause-survey : goal.returns-clause-survey
 returns-clause-survey c = λ tree bytes room.
     (let s = c.args.self.now.counts in
-    let same : room_in (forgotten s) ≡ room_in s = λ i. record { entries = length s.counts; tables = length-replicate {A = Option StoredCount} (length s.kept) None i } in
+    let same : room_in (forgotten s) ≡ room_in s = λ i. record {
+      entries = length s.counts;
+      tables = length-replicate {A = Option StoredCount} (length s.kept) None i;
+      varying = s.tables;
+      growths = s.growths;
+    } in
     record {
       kept = c.forget.ensures.keeps tree bytes;
       room = subst (IsRoomFor tree) (sym c.forget.ensures.forgotten) (same ∙ room);
