@@ -13,8 +13,8 @@ use Rattle.cob_copybook_tree.specs.declared.node.Item.{Item}
 use Rattle.cob_copybook_tree.specs.Forests.{Forest, NoEntries, AnEntry, entries_in}
 use Rattle.cob_copybook_tree.specs.Lengths.{stored_size}
 use Rattle.cob_copybook_tree.specs.Resolving.{inherited, is_numeric, is_display, keeps_sign, acting, kind_by_picture, resolved}
-use Rattle.cob_copybook_rules.specs.Usages.{AreUsages, MayHave, Takes}
-use Rattle.cob_copybook_rules.specs.Placements.{ArePlaced, MayBeBlank, CanBeBlank}
+use Rattle.cob_copybook.specs.cob_copybook_rules.Usages.{AreUsages, MayHave, Takes}
+use Rattle.cob_copybook.specs.cob_copybook_rules.Placements.{ArePlaced, MayBeBlank, CanBeBlank}
 use Rattle.cob_copybook_tree.specs.Items.{TakesPicture, IsNumberItem, display_form, form_by, is_separate}
 use Rattle.cob_layout.specs.Sound.{IsStorableKind, AreStorable}
 

@@ -10,3 +10,5 @@ pub mod Sound
 pub mod Kept
 pub mod Finding
 pub mod Shifts
+pub use Rattle.cob_copybook.specs as cob_copybook
+pub use Rattle.cob_copybook.specs.cob_copybook_lengths

@@ -38,6 +38,7 @@ pub(crate) fn spot_by(
 
 /// An element of an entry under these counts, whose sums these are: the first one, moved by the subscripts of these tables, which hold the entry or are
 /// it, the outermost first.
+#[inline(always)]
 pub(crate) fn element_by(
     shifts: &[Shift],
     least: &[Spot],

@@ -50,6 +50,7 @@ fn is_met(table: Table, needed: Needed, kept: Option<StoredCount>, count: u32) -
 }
 
 /// Whether these counts are what a reference asks of all tables.
+#[inline(never)]
 pub(crate) fn are_met(
     tables: &[Table],
     needed: Needed,
@@ -100,6 +101,7 @@ impl Layout {
     ///
     /// The first count that is read and that gives no number within its table's bounds, or that ends past the bytes: the counts are as they were then. And
     /// a subscript that is past the number of elements that its table has under the counts.
+    #[inline(always)]
     pub fn find(
         &self,
         reference: &Ref,

@@ -142,7 +142,7 @@ impl Layout {
     }
 
     /// Lets the sums be those of the counts: as they are, where the counts and they have a reach, and else written anew.
-    #[inline(always)]
+    #[inline(never)]
     fn have_sums(&self, reach: usize, counts: &[u32], sums: &mut [u32])
         requires room { length sums.old ≡ entries_in self.now + 1 }
         requires sums { 0 < reach
