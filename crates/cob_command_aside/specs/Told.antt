@@ -1,6 +1,6 @@
 -- What the command tells of a run that sets rejected records aside.
 use Rattle.std.specs.Prelude.{◌==◌, ℕ, Bool, true, false, Option, None, Some, Result, Ok, Err, if◌then◌else◌}
-use Rattle.cob_convert.specs.declared.aside.Tally.{Tally}
+use Rattle.cob_run_aside.specs.cob_convert.declared.aside.Tally.{Tally}
 use Rattle.cob_records.specs.Device.{greatest_count}
 use Rattle.cob_command_faults.specs.declared.fault.CommandFault.{CommandFault}
 use Rattle.cob_command_faults.specs.declared.fault.CommandFault.TheVariants as fault

@@ -10,12 +10,12 @@ ghost use Rattle.cob_command_aside.specs.Told.{aside_counted_from, aside_told_fr
 use cob_command_ends::{
     AsideEnds, Parts, counted_from, first_of, is_standard_output, open_aside_ends, telling_piece,
 };
+use cob_command_faults::cob_status::Status;
 use cob_command_faults::{CommandFault, Texts, printed, tell_fault};
-use cob_convert::{Converter, Tally};
 use cob_convert_files::part_name;
 use cob_convert_line::ConvertLine;
+use cob_run_aside::cob_convert::{Converter, Tally};
 use cob_run_aside::{How, Names, Rejections, counted_on, placed_run, run_aside_to_end};
-use cob_status::Status;
 use std::io::{Eprint, Input, Print};
 use std::rt::{Clock, Files};
 

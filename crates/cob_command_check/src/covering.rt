@@ -3,9 +3,9 @@ ghost use Rattle.cob_command_faults.specs.Ends.{EndsAmong, EndsAs, status_of_out
 ghost use Rattle.cob_command_check.specs.Ends.{MayEndCheck};
 
 use crate::reading::read_texts;
+use cob_command_faults::cob_status::Status;
 use cob_command_faults::{CommandFault, printed, tell_fault};
 use cob_convert_line::CheckLine;
-use cob_status::Status;
 use std::io::{Eprint, Print};
 use std::rt::Files;
 

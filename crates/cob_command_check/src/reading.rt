@@ -6,11 +6,11 @@ ghost use Rattle.cob_command_check.specs.Ends.{MayEndCheck};
 
 use crate::checking::Checked;
 use cob_command_faults::{CommandFault, FileName, text_of};
-use cob_convert::Converter;
 use cob_convert_line::CheckLine;
+use cob_cover::cob_lossless_words::{LinedMoves, lines_of};
 use cob_cover::cover_text;
 use cob_lossless::carried;
-use cob_lossless_words::{LinedMoves, lines_of};
+use cob_lossless::cob_convert::Converter;
 use cob_records::Form;
 use std::alloc::Global;
 use std::rt::Files;

@@ -8,13 +8,13 @@ ghost use Rattle.cob_command_convert.specs.Told.{told_counted_from};
 use cob_command_ends::{
     Ends, counted_from, first_of, is_standard_output, open_ends, telling_piece,
 };
+use cob_command_faults::cob_convert::Converter;
+use cob_command_faults::cob_status::Status;
 use cob_command_faults::{CommandFault, Texts, printed, tell_fault};
-use cob_convert::Converter;
 use cob_convert_files::{part_name, put_in_place};
 use cob_convert_line::ConvertLine;
 use cob_records::FileSink;
 use cob_run_to_end::{placed, run_to_end};
-use cob_status::Status;
 use std::io::{Eprint, Input, Print, Printer};
 use std::rt::{Clock, Files};
 

@@ -21,4 +21,5 @@
 
 mod converting;
 
+pub use cob_command_ends;
 pub use converting::{convert, do_convert, tell_converted};

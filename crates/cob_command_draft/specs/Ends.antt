@@ -1,6 +1,6 @@
 -- Which faults the command `draft` can have.
 use Rattle.std.specs.Prelude.{◌⊎◌}
-use Rattle.cob_convert.specs.declared.fault.PrepareFault.TheVariants as prepare
+use Rattle.cob_command_faults.specs.cob_convert.declared.fault.PrepareFault.TheVariants as prepare
 use Rattle.cob_command_faults.specs.declared.fault.FileName.TheVariants as name
 use Rattle.cob_command_faults.specs.declared.fault.CommandFault.{CommandFault}
 use Rattle.cob_command_faults.specs.declared.fault.CommandFault.TheVariants as fault

@@ -1,10 +1,10 @@
 -- Which faults the ends of a conversion can have that sets rejected records aside.
 use Rattle.std.specs.Prelude.{◌≡◌, ◌⊎◌}
-use Rattle.cob_command_faults.specs.declared.fault.FileName.{FileName}
-use Rattle.cob_command_faults.specs.declared.fault.FileName.TheVariants as name
-use Rattle.cob_command_faults.specs.declared.fault.CommandFault.{CommandFault}
-use Rattle.cob_command_faults.specs.declared.fault.CommandFault.TheVariants as fault
-use Rattle.cob_command_faults.specs.Texts.{LacksFile}
+use Rattle.cob_command_input.specs.cob_command_faults.declared.fault.FileName.{FileName}
+use Rattle.cob_command_input.specs.cob_command_faults.declared.fault.FileName.TheVariants as name
+use Rattle.cob_command_input.specs.cob_command_faults.declared.fault.CommandFault.{CommandFault}
+use Rattle.cob_command_input.specs.cob_command_faults.declared.fault.CommandFault.TheVariants as fault
+use Rattle.cob_command_input.specs.cob_command_faults.Texts.{LacksFile}
 use Rattle.cob_command_ends.specs.Ends.{LacksEnds, NamesInput}
 
 -- the option names a file that a conversion reads, or its output

@@ -1,8 +1,8 @@
 -- Faults whose records are counted from a number.
 use Rattle.std.specs.Prelude.{◌+◌, ◌-◌, ℕ}
 use Rattle.cob_records.specs.Progress.{kept_count}
-use Rattle.cob_command_faults.specs.declared.fault.CommandFault.{CommandFault}
-use Rattle.cob_command_faults.specs.declared.fault.CommandFault.TheVariants as fault
+use Rattle.cob_command_input.specs.cob_command_faults.declared.fault.CommandFault.{CommandFault}
+use Rattle.cob_command_input.specs.cob_command_faults.declared.fault.CommandFault.TheVariants as fault
 
 -- A fault with its records counted from this one: the first that was read has this number.
 abbrev pub counted_from : ℕ → CommandFault → CommandFault

@@ -1,10 +1,10 @@
 -- Which faults the ends of a conversion can have.
 use Rattle.std.specs.Prelude.{◌⊎◌, ⊤}
-use Rattle.cob_command_faults.specs.declared.fault.FileName.{FileName}
-use Rattle.cob_command_faults.specs.declared.fault.FileName.TheVariants as name
-use Rattle.cob_command_faults.specs.declared.fault.CommandFault.{CommandFault}
-use Rattle.cob_command_faults.specs.declared.fault.CommandFault.TheVariants as fault
-use Rattle.cob_command_faults.specs.Texts.{LacksFile}
+use Rattle.cob_command_input.specs.cob_command_faults.declared.fault.FileName.{FileName}
+use Rattle.cob_command_input.specs.cob_command_faults.declared.fault.FileName.TheVariants as name
+use Rattle.cob_command_input.specs.cob_command_faults.declared.fault.CommandFault.{CommandFault}
+use Rattle.cob_command_input.specs.cob_command_faults.declared.fault.CommandFault.TheVariants as fault
+use Rattle.cob_command_input.specs.cob_command_faults.Texts.{LacksFile}
 use Rattle.cob_command_input.specs.Stops.{LacksRecords}
 
 -- the option names a file that a conversion reads

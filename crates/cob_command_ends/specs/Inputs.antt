@@ -2,8 +2,8 @@
 use Rattle.std.specs.Prelude.{None, Option}
 use Rattle.cob_convert_files.specs.declared.identity.FileIdentity.{FileIdentity}
 use Rattle.cob_convert_files.specs.Identity.{Loses}
-use Rattle.cob_command_faults.specs.declared.fault.FileName.{FileName}
-use Rattle.cob_command_faults.specs.declared.fault.FileName.TheVariants as name
+use Rattle.cob_command_input.specs.cob_command_faults.declared.fault.FileName.{FileName}
+use Rattle.cob_command_input.specs.cob_command_faults.declared.fault.FileName.TheVariants as name
 use Rattle.cob_command_ends.specs.declared.inputs.Inputs.{Inputs}
 
 -- the file that an option of a conversion names for reading

@@ -1,13 +1,13 @@
 ghost use Rattle.std.specs.Prelude.{◌≡◌, ◌<◌, ◌≤◌, IfErr};
 ghost use Rattle.cob_limits.specs.Limits.{longest_record};
 ghost use Rattle.cob_records.specs.Forms.{HasBlockSize};
-ghost use Rattle.cob_command_faults.specs.Texts.{LacksFile};
-ghost use Rattle.cob_command_faults.specs.declared.fault.FileName.TheVariants.{Out};
+ghost use Rattle.cob_command_input.specs.cob_command_faults.Texts.{LacksFile};
+ghost use Rattle.cob_command_input.specs.cob_command_faults.declared.fault.FileName.TheVariants.{Out};
 ghost use Rattle.cob_command_ends.specs.Ends.{LacksEnds};
 
 use crate::inputs::judge_output;
 use cob_chosen::{Choice, Incoming};
-use cob_command_faults::{CommandFault, FileName, opened, telling};
+use cob_command_input::cob_command_faults::{CommandFault, FileName, opened, telling};
 use cob_command_input::{Wanted, open_records};
 use cob_convert_files::create_part;
 use cob_convert_line::ConvertLine;

@@ -1,6 +1,6 @@
 -- How the command ends by what it tells.
 use Rattle.std.proofs.Common.{inl, inr}
-use Rattle.cob_status.specs.declared.status.Status.{Status}
+use Rattle.cob_command_faults.specs.cob_status.declared.status.Status.{Status}
 use Rattle.cob_convert_explain.specs.declared.explainer.Explanation.{Explanation}
 use Rattle.cob_convert_explain.specs.declared.explainer.Explanation.TheVariants as told
 use Rattle.cob_convert_explain.specs.Explained.{IsExplanation}

@@ -1,6 +1,6 @@
 -- How the command `explain` can end.
-use Rattle.cob_status.specs.declared.status.Status.{Status}
-use Rattle.cob_status.specs.declared.status.Status.TheVariants as status
+use Rattle.cob_command_faults.specs.cob_status.declared.status.Status.{Status}
+use Rattle.cob_command_faults.specs.cob_status.declared.status.Status.TheVariants as status
 use Rattle.cob_convert_explain.specs.declared.explainer.Explanation.{Explanation}
 use Rattle.cob_convert_explain.specs.declared.explainer.Explanation.TheVariants as told
 use Rattle.cob_command_faults.specs.declared.fault.CommandFault.TheVariants as fault

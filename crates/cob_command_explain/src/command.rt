@@ -9,12 +9,12 @@ ghost use Rattle.cob_command_faults.specs.declared.fault.CommandFault.TheVariant
 ghost use Rattle.cob_convert_explain.specs.Explained.{IsExplanation};
 ghost use Rattle.cob_command_explain.specs.Ends.{EndsTold};
 
+use cob_command_faults::cob_convert::Converter;
+use cob_command_faults::cob_status::Status;
 use cob_command_faults::{CommandFault, FileName, opened, printed, tell_fault, text_of};
-use cob_convert::Converter;
 use cob_convert_explain::{Explanation, ReadAgain, Stopped, explain};
 use cob_convert_line::ExplainLine;
 use cob_pieces::open_part;
-use cob_status::Status;
 use std::io::{Eprint, Input, Print};
 use std::rt::Files;
 

@@ -17,4 +17,5 @@
 
 mod command;
 
+pub use cob_convert_explain;
 pub use command::{Stretch, do_explain, explain_record, explain_record_of};

@@ -1,6 +1,6 @@
 -- How a command ends that prints one line more.
 use Rattle.std.proofs.Common.{inl, inr, ◌∙◌}
-use Rattle.cob_status.specs.declared.status.Status.{Status}
+use Rattle.cob_command_faults.specs.cob_status.declared.status.Status.{Status}
 use Rattle.cob_command_faults.specs.Ends.{EndsAs}
 
 -- what ends as a command that ends so does ends so

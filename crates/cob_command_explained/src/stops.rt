@@ -3,10 +3,10 @@
 ghost use Rattle.std.specs.Prelude.{◌≡◌, ◌-◌};
 ghost use Rattle.cob_records.specs.Forms.{HasBlockSize};
 
+use cob_command_explain::cob_convert_explain::{Explanation, Stopped};
 use cob_command_explain::{Stretch, explain_record_of};
-use cob_convert_explain::{Explanation, Stopped};
+use cob_command_faults::cob_status::Status;
 use cob_convert_line::{ConvertLine, ExplainLine};
-use cob_status::Status;
 use cob_stream::RunFault;
 use std::io::Input;
 use std::os::unix::fs::FileTypeExt;

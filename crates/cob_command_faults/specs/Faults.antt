@@ -1,14 +1,14 @@
 -- What a command is told to come to that is not done, and the status of that.
-use Rattle.cob_convert.specs.declared.aside.AsideFault.{AsideFault}
-use Rattle.cob_convert.specs.declared.aside.AsideFault.TheVariants as aside
-use Rattle.cob_convert.specs.declared.fault.PrepareFault.{PrepareFault}
-use Rattle.cob_convert.specs.declared.fault.PrepareFault.TheVariants as prepare
+use Rattle.cob_status.specs.cob_convert.declared.aside.AsideFault.{AsideFault}
+use Rattle.cob_status.specs.cob_convert.declared.aside.AsideFault.TheVariants as aside
+use Rattle.cob_status.specs.cob_convert.declared.fault.PrepareFault.{PrepareFault}
+use Rattle.cob_status.specs.cob_convert.declared.fault.PrepareFault.TheVariants as prepare
 use Rattle.cob_status.specs.Statuses.{status_of_prepare_fault, status_of_stop}
 use Rattle.cob_status.specs.declared.status.Status.{Status}
 use Rattle.cob_status.specs.declared.status.Status.TheVariants as status
-use Rattle.cob_stream.specs.declared.fault.Cause.{Cause}
-use Rattle.cob_stream.specs.declared.fault.Cause.TheVariants as cause
-use Rattle.cob_stream.specs.declared.fault.RunFault.{RunFault}
+use Rattle.cob_convert_show.specs.cob_stream.declared.fault.Cause.{Cause}
+use Rattle.cob_convert_show.specs.cob_stream.declared.fault.Cause.TheVariants as cause
+use Rattle.cob_convert_show.specs.cob_stream.declared.fault.RunFault.{RunFault}
 use Rattle.cob_convert_show.specs.declared.records.ShowFault.{ShowFault}
 use Rattle.cob_convert_show.specs.declared.records.ShowFault.TheVariants as listing
 use Rattle.cob_entry.specs.declared.fault.BookFault.{BookFault}

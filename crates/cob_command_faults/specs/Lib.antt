@@ -1,3 +1,6 @@
 pub mod Faults
 pub mod Ends
 pub mod Texts
+pub use Rattle.cob_status.specs as cob_status
+pub use Rattle.cob_status.specs.cob_convert
+pub use Rattle.cob_status.specs.cob_convert_record

@@ -1,9 +1,9 @@
 -- What may go wrong with the files that a command reads.
 use Rattle.std.specs.Prelude.{◌≡◌, ◌⊎◌, false, ⊤}
-use Rattle.cob_convert.specs.declared.fault.PrepareFault.TheVariants as prepare
+use Rattle.cob_status.specs.cob_convert.declared.fault.PrepareFault.TheVariants as prepare
 use Rattle.cob_entry.specs.declared.fault.BookRule.{BookRule}
 use Rattle.cob_entry.specs.declared.fault.BookRule.TheVariants as rule
-use Rattle.cob_stream.specs.Reasons.{is_write_cause}
+use Rattle.cob_convert_show.specs.cob_stream.Reasons.{is_write_cause}
 use Rattle.cob_command_faults.specs.declared.fault.FileName.{FileName}
 use Rattle.cob_command_faults.specs.declared.fault.FileName.TheVariants as name
 use Rattle.cob_command_faults.specs.declared.fault.CommandFault.{CommandFault}

@@ -3,11 +3,13 @@ ghost use Rattle.cob_command_faults.specs.Faults.{aside_fault, refused_book, sho
 ghost use Rattle.cob_command_faults.specs.Texts.{LacksConverter, LacksFile, LacksLayout, LacksText, StopsListing};
 ghost use Rattle.cob_command_faults.specs.declared.fault.CommandFault.TheVariants.{Memory, Stopped};
 
-use cob_convert::{AsideFault, BookFault, BookRule, Cause, MoveFault, PrepareFault, RunFault};
 use cob_convert_files::TextFault;
 use cob_convert_show::ShowFault;
 use cob_records::{OpenFault, RecordFault};
 use cob_status::Status;
+use cob_status::cob_convert::{
+    AsideFault, BookFault, BookRule, Cause, MoveFault, PrepareFault, RunFault,
+};
 use std::alloc::AllocError;
 use std::fmt;
 use thiserror::Error;

@@ -22,6 +22,8 @@ mod opening;
 mod terminals;
 mod texts;
 
+pub use cob_status;
+pub use cob_status::cob_convert;
 pub use ends::{printed, tell_fault};
 pub use fault::{CommandFault, FileName};
 pub use opening::opened;

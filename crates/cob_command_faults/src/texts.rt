@@ -4,9 +4,9 @@ ghost use Rattle.cob_command_faults.specs.Texts.{LacksConverter, LacksText};
 
 use crate::fault::{CommandFault, FileName};
 use cob_codec::Reading;
-use cob_convert::Converter;
 use cob_convert_files::read_text;
 use cob_records::Form;
+use cob_status::cob_convert::Converter;
 use std::rt::Files;
 
 /// The text in the file that an option names.

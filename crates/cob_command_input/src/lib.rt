@@ -16,5 +16,7 @@
 mod records;
 mod stops;
 
+pub use cob_command_faults;
+pub use cob_command_faults::cob_convert;
 pub use records::{Wanted, open_records};
 pub use stops::{not_chosen, with_cause};

@@ -10,11 +10,11 @@ ghost use Rattle.cob_command_lists.specs.Listed.{uncut_at, uncut_fault};
 
 use crate::copybook::read_book;
 use crate::ends::tell_listed;
+use cob_command_faults::cob_status::Status;
 use cob_command_faults::{CommandFault, FileName, opened};
 use cob_convert_line::PiecesLine;
 use cob_pieces::{MOST_RECORDS_CUT, Piece, PiecesFault, pieces_in, pieces_of_size};
 use cob_records::{Form, open_source, size_of};
-use cob_status::Status;
 use cob_stream::{Cause, RunFault, Side};
 use std::io::{Eprint, Input, Print};
 use std::rt::Files;

@@ -10,13 +10,13 @@ ghost use Rattle.cob_command_lists.specs.Listed.{ListsFrom, ListsOver, Lists, li
 
 use crate::copybook::{Listed, read_book};
 use cob_chosen::{Choice, Incoming, Stopped};
+use cob_command_faults::cob_status::Status;
 use cob_command_faults::{CommandFault, printed, tell_fault, telling};
 use cob_command_input::{Wanted, open_records, with_cause};
 use cob_convert_line::{Listing, ShowLine};
 use cob_convert_show::{ShowFault, show};
 use cob_convert_values::{show_csv, show_json};
 use cob_records::{DeviceFault, Form, Progress, Sink, Source, Telling, WriteSink, create_sink};
-use cob_status::Status;
 use cob_stream::RunFault;
 use std::alloc::Global;
 use std::io::{BufWriter, Eprint, Input, Print, Write};

@@ -8,11 +8,11 @@ ghost use Rattle.cob_command_map.specs.Ends.{MayNotMap};
 use crate::ends::{Unmapped, tell_mapped};
 use crate::mapping::print_conversion;
 use cob_command_faults::{CommandFault, FileName, text_of};
-use cob_convert::Converter;
 use cob_convert_line::MapLine;
 use cob_convert_record::Conversion;
-use cob_lossless_words::lines_of;
+use cob_cover::cob_lossless_words::lines_of;
 use cob_status::Status;
+use cob_status::cob_convert::Converter;
 use std::io::{Eprint, Input, Print};
 use std::rt::Files;
 

@@ -1,7 +1,7 @@
 //! The record that is shown, and what it becomes.
 
 ghost use Rattle.std.specs.Prelude.{◌<◌, IfErr, IfOk, IfSome};
-ghost use Rattle.cob_convert.specs.Run.{IsConverted};
+ghost use Rattle.cob_status.specs.cob_convert.Run.{IsConverted};
 ghost use Rattle.cob_map_record.specs.Showing.{IsNotShown};
 ghost use Rattle.cob_command_map.specs.Ends.{MayNotMap};
 

@@ -12,7 +12,7 @@ use Rattle.cob_records.specs.declared.records.RecordFault.TheVariants.{WriteFail
 use Rattle.cob_records.specs.declared.outlet.Outlet.{Outlet}
 use Rattle.cob_convert_record.specs.Becoming.{Becomes, StopsAt}
 use Rattle.cob_convert_record.specs.Conversion.{Conversion, out_length}
-use Rattle.cob_move_apply.specs.declared.stop.Stop.{Stop}
+use Rattle.cob_convert_record.specs.cob_move_apply.declared.stop.Stop.{Stop}
 use Rattle.cob_stream.specs.declared.fault.Reason.{Reason}
 use Rattle.cob_stream.specs.declared.fault.RunFault.{RunFault}
 use Rattle.cob_stream.specs.Input.{IsJudged, ReadsRecord, Remains, records_in}

@@ -9,7 +9,7 @@ use Rattle.cob_records.specs.declared.records.RecordFault.{RecordFault}
 use Rattle.cob_records.specs.Forms.{Come, ComesFirst, HasBlockSize, NextIsOne, ReadsInForm, written_of}
 use Rattle.cob_records.specs.Frame.{IsRecord, is_read_failure}
 use Rattle.cob_convert_record.specs.Laws.{ConversionsAreDecided}
-use Rattle.cob_move_apply.specs.declared.stop.Stop.{Stop}
+use Rattle.cob_convert_record.specs.cob_move_apply.declared.stop.Stop.{Stop}
 use Rattle.cob_convert_record.specs.Conversion.{Conversion, in_length}
 use Rattle.cob_stream.specs.declared.misfit.MeasureFault.{MeasureFault}
 use Rattle.cob_stream.specs.declared.fault.Reason.{Reason}

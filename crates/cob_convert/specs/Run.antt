@@ -11,12 +11,12 @@ use Rattle.cob_records.specs.Forms.{Come, ComesFirst, ReadsInForm, records_held,
 use Rattle.cob_records.specs.Forms.{pending_in, outlet_with_all, written_by, written_by_all, written_of}
 use Rattle.cob_records.specs.Frame.{IsRecord, Puts, is_unblocked}
 use Rattle.cob_convert_record.specs.Conversion.{Conversion, in_length}
-use Rattle.cob_move_apply.specs.declared.stop.Stop.{Stop}
+use Rattle.cob_convert_record.specs.cob_move_apply.declared.stop.Stop.{Stop}
 use Rattle.cob_layout_places.specs.declared.operands.Side.TheVariants.{In}
-use Rattle.cob_move_apply.specs.declared.stop.StopCause.{StopCause}
+use Rattle.cob_convert_record.specs.cob_move_apply.declared.stop.StopCause.{StopCause}
 use Rattle.cob_stream.specs.declared.fault.Cause.{Cause}
 use Rattle.cob_stream.specs.declared.fault.Cause.TheVariants.{NoValue, Count, Subscript, Limit}
-use Rattle.cob_move_apply.specs.declared.stop.StopCause.TheVariants.{NoValue as StopNoValue, Count as StopCount, Subscript as StopSubscript}
+use Rattle.cob_convert_record.specs.cob_move_apply.declared.stop.StopCause.TheVariants.{NoValue as StopNoValue, Count as StopCount, Subscript as StopSubscript}
 use Rattle.cob_stream.specs.declared.fault.Reason.{Reason}
 use Rattle.cob_stream.specs.declared.fault.RunFault.{RunFault}
 use Rattle.cob_stream.specs.Reasons.{frame_reason, is_error_cause, is_read_cause, is_write_cause, misfit_reason, reason_of, write_reason}

@@ -3,7 +3,7 @@ use Rattle.std.specs.Prelude.{◌≡◌, ℕ, ◌<◌, ◌≤◌, List, Result}
 use Rattle.cob_limits.specs.Limits.{longest_record}
 use Rattle.cob_copybook_tree.specs.Forests.{Forest}
 use Rattle.cob_copybook_tree.specs.Nodes.{Resolved}
-use Rattle.cob_layout.specs.Storage.{greatest_length}
+use Rattle.cob_stream.specs.cob_layout.Storage.{greatest_length}
 use Rattle.cob_records.specs.Forms.{HasBlockSize}
 use Rattle.cob_convert_record.specs.Conversion.{Conversion}
 use Rattle.cob_stream.specs.declared.fault.RunFault.{RunFault}

@@ -11,9 +11,9 @@ use Rattle.cob_status.specs.Statuses.{code_of}
 use Rattle.cob_status.specs.declared.status.Status.{Status}
 use Rattle.cob_status.specs.declared.status.Status.TheVariants as status
 use Rattle.cob_command_faults.specs.Ends.{EndsAmong, EndsAs, EndsAtRecord}
-use Rattle.cob_command_aside.specs.Ends.{MayEndAside}
+use Rattle.cob_command_explained.specs.cob_command_aside.Ends.{MayEndAside}
 use Rattle.cob_command_check.specs.Ends.{MayEndCheck}
-use Rattle.cob_command_convert.specs.Ends.{MayEndConvert}
+use Rattle.cob_command_explained.specs.cob_command_convert.Ends.{MayEndConvert}
 use Rattle.cob_command_draft.specs.Ends.{MayEndDraft}
 use Rattle.cob_command_lists.specs.Ends.{MayEndLayout, MayEndListing}
 use Rattle.cob_command_lossless.specs.Ends.{MayEndLossless}

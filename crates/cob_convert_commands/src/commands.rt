@@ -5,11 +5,11 @@ ghost use Rattle.cob_command_faults.specs.Ends.{EndsAmong};
 ghost use Rattle.cob_command_check.specs.Ends.{MayEndCheck};
 ghost use Rattle.cob_convert_commands.specs.Commands.{EndsConvert, IsEndOfLine, IsEndOfRefusal, IsEndOfWords, status_of_refusal};
 
-use cob_command_aside::do_convert_aside;
 use cob_command_check::{do_check, do_cover};
-use cob_command_convert::do_convert;
 use cob_command_draft::do_draft;
-use cob_command_explain::do_explain;
+use cob_command_explained::cob_command_aside::do_convert_aside;
+use cob_command_explained::cob_command_convert::do_convert;
+use cob_command_explained::cob_command_explain::do_explain;
 use cob_command_explained::{
     do_convert_aside_explained, do_convert_explained, files_of, tell_file_error,
 };

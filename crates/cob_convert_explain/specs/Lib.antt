@@ -1,2 +1,3 @@
 pub mod Walked
 pub mod Explained
+pub use Rattle.cob_convert_record.specs as cob_convert_record

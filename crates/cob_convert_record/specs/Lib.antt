@@ -2,3 +2,4 @@ pub mod Conversion
 pub mod Becoming
 pub mod Rooms
 pub mod Laws
+pub use Rattle.cob_move_apply.specs as cob_move_apply

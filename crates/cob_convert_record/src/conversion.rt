@@ -2,8 +2,8 @@
 
 ghost use Rattle.std.specs.Prelude.{◌≡◌, ◌<◌, ◌≤◌, false, length, min, take, IfOk, IfErr, IfSome, OnOk};
 ghost use Rattle.cob_limits.specs.Limits.{longest_record};
-ghost use Rattle.cob_layout.specs.Storage.{greatest_length};
-ghost use Rattle.cob_layout.specs.Standing.{IsRoomFor};
+ghost use Rattle.cob_move_apply.specs.cob_layout.Storage.{greatest_length};
+ghost use Rattle.cob_move_apply.specs.cob_layout.Standing.{IsRoomFor};
 ghost use Rattle.cob_stream.specs.Output.{IsOutputOf};
 ghost use Rattle.cob_convert_record.specs.Becoming.{IsCountStop};
 
@@ -30,13 +30,13 @@ pub struct Conversion {
 
 impl Model for Conversion {
     ghost use Rattle.std.specs.Prelude.{◌≡◌, length};
-    ghost use Rattle.cob_layout.specs.Storage.{greatest_length};
+    ghost use Rattle.cob_move_apply.specs.cob_layout.Storage.{greatest_length};
     ghost use Rattle.cob_move_initial.specs.Initial.{IsInitial};
     ghost use Rattle.cob_records.specs.Forms.{HasBlockSize};
     ghost use Rattle.cob_convert_record.specs.Conversion.{Conversion};
     ghost use Rattle.cob_move_apply.specs.Prepared.{ArePrepared, moves_of};
     ghost use Rattle.std.specs.Coded.{codes};
-    ghost use Rattle.cob_copybook.specs.Codes.{coded_forest};
+    ghost use Rattle.cob_move_apply.specs.cob_copybook.Codes.{coded_forest};
 
     ghost Value = { Conversion };
 
@@ -92,7 +92,7 @@ impl Conversion {
     ghost use Rattle.cob_records.specs.Forms.{HasBlockSize};
     ghost use Rattle.cob_records.specs.Frame.{IsRecord};
     ghost use Rattle.cob_move_apply.specs.Prepared.{ArePrepared, most_moves_told, moves_of, single_moves};
-    ghost use Rattle.cob_layout.specs.Storage.{IsStorage};
+    ghost use Rattle.cob_move_apply.specs.cob_layout.Storage.{IsStorage};
     ghost use Rattle.cob_move_initial.specs.Initial.{IsInitial};
     ghost use Rattle.cob_convert_record.specs.Conversion.{HasImage, conversion_by, conversion_for, in_length, out_length};
     ghost use Rattle.cob_layout_places.specs.Moves.{AreMoves};

@@ -10,7 +10,7 @@ use Rattle.cob_copybook_tree.specs.declared.node.ResolvedOccurs.TheVariants.{Onc
 use Rattle.cob_copybook_tree.specs.Forests.{Forest, NoEntries, AnEntry}
 use Rattle.cob_copybook_tree.specs.Lengths.{greatest_number, item_size, length_by_kind, whole_length, own_length, sum_of}
 use Rattle.cob_copybook_tree.specs.Nodes.{Resolved}
-use Rattle.cob_copybook.specs.Books.{IsRecordDescription}
+use Rattle.cob_layout.specs.cob_copybook.Books.{IsRecordDescription}
 use Rattle.cob_layout_places.specs.declared.places.Found.{Found}
 use Rattle.cob_layout_places.specs.declared.spots.Spot.{Spot}
 use Rattle.cob_layout_places.specs.Lengths.{times, AreWithin}

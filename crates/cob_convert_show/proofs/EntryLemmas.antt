@@ -11,9 +11,9 @@ use Rattle.cob_copybook_tree.specs.declared.node.Node.{Node}
 use Rattle.cob_copybook_tree.specs.Forests.{Forest, NoEntries, AnEntry, Tree, entries_in, flat}
 use Rattle.cob_copybook_tree.specs.Nodes.{Resolved, forest, node, tree_of}
 use Rattle.cob_entry.specs.Described.{PlainEntry}
-use Rattle.cob_copybook.specs.declared.role.Role.{Role}
-use Rattle.cob_copybook.specs.Books.{IsRecordDescription, implied, with_record}
-use Rattle.cob_copybook.proofs.Books.{few_entries}
+use Rattle.cob_layout.specs.cob_copybook.declared.role.Role.{Role}
+use Rattle.cob_layout.specs.cob_copybook.Books.{IsRecordDescription, implied, with_record}
+use Rattle.cob_layout.proofs.cob_copybook.Books.{few_entries}
 use Rattle.cob_layout.proofs.Numbers.{same_entries}
 use Rattle.cob_layout_places.specs.Cover.{AreNumbered}
 use Rattle.cob_copybook_tree.specs.declared.node.Node.TheViews.{out-Node}

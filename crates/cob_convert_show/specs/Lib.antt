@@ -5,3 +5,4 @@ pub mod Sent
 pub mod Lines
 pub mod Runs
 pub mod Entries
+pub use Rattle.cob_stream.specs as cob_stream

@@ -1,6 +1,6 @@
 -- What an entry with those beneath it has, where each table has its greatest number of elements.
 use Rattle.std.specs.Prelude.{ℕ}
-use Rattle.cob_entry.specs.Described.{PlainValue}
+use Rattle.cob_copybook_tree.specs.cob_entry.Described.{PlainValue}
 use Rattle.cob_copybook_tree.specs.Forests.{Tree}
 use Rattle.cob_copybook_tree.specs.Nodes.{Resolved}
 use Rattle.cob_copybook_tree.specs.Lengths.{greatest_number, element_length, whole_length}

@@ -1,7 +1,7 @@
 -- Which rules on lengths a tree keeps, and which it breaks.
 use Rattle.std.specs.Prelude.{◌≤◌, [], false}
-use Rattle.cob_entry.specs.declared.fault.BookRule.{BookRule}
-use Rattle.cob_entry.specs.declared.fault.BookRule.TheVariants as rule
+use Rattle.cob_copybook_tree.specs.cob_entry.declared.fault.BookRule.{BookRule}
+use Rattle.cob_copybook_tree.specs.cob_entry.declared.fault.BookRule.TheVariants as rule
 use Rattle.cob_copybook_tree.specs.Forests.{Forest}
 use Rattle.cob_copybook_tree.specs.Nodes.{Resolved}
 use Rattle.cob_copybook_tree.specs.Lengths.{greatest_number, sum_of}

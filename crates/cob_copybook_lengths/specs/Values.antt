@@ -3,8 +3,8 @@ use Rattle.std.specs.Prelude.{◌≡◌, ℕ, ◌+◌, ◌*◌, ◌^◌, ◌<◌
 use Rattle.cob_decimal.specs.Decimal.{number_of}
 use Rattle.cob_picture.specs.Positions.{PlainPicture}
 use Rattle.cob_picture.specs.Counts as counts
-use Rattle.cob_entry.specs.declared.kinds.Figurative.TheVariants.{Zero}
-use Rattle.cob_entry.specs.Described.{PlainValue, Numeric, Quoted, Figure, Repeated}
+use Rattle.cob_copybook_tree.specs.cob_entry.declared.kinds.Figurative.TheVariants.{Zero}
+use Rattle.cob_copybook_tree.specs.cob_entry.Described.{PlainValue, Numeric, Quoted, Figure, Repeated}
 use Rattle.cob_copybook_tree.specs.declared.node.Kind.{Kind}
 use Rattle.cob_copybook_tree.specs.declared.node.Kind.TheVariants.{Group, Item as ItemKind}
 use Rattle.cob_copybook_tree.specs.declared.node.Item.{Item}

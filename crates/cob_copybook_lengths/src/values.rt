@@ -2,7 +2,7 @@
 
 ghost use Rattle.std.specs.Prelude.{◌≡◌, ℕ, ◌||◌, IsTrue};
 ghost use Rattle.std.specs.Option.{IsNone, is_some};
-ghost use Rattle.cob_entry.specs.Described.{plain_value};
+ghost use Rattle.cob_copybook_tree.specs.cob_entry.Described.{plain_value};
 ghost use Rattle.cob_copybook_tree.specs.Nodes.{node, forest};
 ghost use Rattle.cob_copybook_tree.specs.Lengths.{greatest_number, element_length};
 ghost use Rattle.cob_copybook_lengths.specs.Values.{IsNumericValue, IsCharacterValue, MayHaveValue, AreValues};

@@ -1,7 +1,7 @@
 -- Bytes of an item represent one number, whatever its kind of storage.
 use Rattle.std.proofs.Common.{◌≡◌, ℕ, ◌+◌, ◌<◌, List, refl, sym, subst, arith, Bool, true, false, Option, Some, None}
-use Rattle.cob_picture.specs.Positions.{PlainPicture}
-use Rattle.cob_picture.specs.Counts.{digits, signed, size}
+use Rattle.cob_entry.specs.cob_picture.Positions.{PlainPicture}
+use Rattle.cob_entry.specs.cob_picture.Counts.{digits, signed, size}
 use Rattle.cob_entry.specs.declared.kinds.Usage.{Usage}
 use Rattle.cob_entry.specs.declared.kinds.Usage.TheVariants as usage
 use Rattle.cob_entry.specs.declared.kinds.Sign.{Sign}

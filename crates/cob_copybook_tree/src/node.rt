@@ -2,8 +2,8 @@
 
 ghost use Rattle.std.specs.Prelude.{◌≡◌};
 
+use cob_entry::cob_picture::Picture;
 use cob_entry::{Name, Sign, Usage, Value};
-use cob_picture::Picture;
 
 /// How often an entry occurs.
 #[derive(Clone, Copy, Debug, PartialEq, Eq)]

@@ -19,7 +19,7 @@ use Rattle.cob_layout_places.specs.declared.operands.StatementMoves.{StatementMo
 use Rattle.cob_layout_places.specs.declared.operands.StatementMoves.TheVariants.{Pairs, Single}
 use Rattle.cob_layout_places.specs.declared.reference.Ref.{Ref}
 use Rattle.cob_move_lossless.specs.Received.{occurrence_by}
-use Rattle.cob_move_returns.specs.Singles.{occurrence_of}
+use Rattle.cob_move_lossless.specs.cob_move_returns.Singles.{occurrence_of}
 use Rattle.cob_cover.specs.Gathered.{input_of, received_in, receivers_of, sent_in}
 use Rattle.cob_cover.specs.Statements.{if_input, pair_receiver, pair_sender, receivers_by, sender_occurrence, senders_by}
 

@@ -26,5 +26,6 @@ mod moves;
 mod occurrences;
 mod text;
 
+pub use cob_lossless_words;
 pub use marks::{bytes_covered, bytes_taken};
 pub use text::cover_text;

@@ -13,7 +13,7 @@ use Rattle.cob_records.specs.Hex.{hex_text}
 use Rattle.cob_records.specs.declared.records.RecordFault.{RecordFault}
 use Rattle.cob_records.specs.declared.records.RecordFault.TheVariants.{WriteFailed, TookNothing}
 use Rattle.cob_convert_files.specs.Texts.{IsReadOf, IsWhole}
-use Rattle.cob_convert_record.specs.Conversion.{Conversion}
+use Rattle.cob_convert.specs.cob_convert_record.Conversion.{Conversion}
 use Rattle.cob_stream.specs.declared.fault.RunFault.{RunFault}
 use Rattle.cob_convert.specs.declared.fault.PrepareFault.{PrepareFault}
 use Rattle.cob_convert.specs.Means.{Means, IsPrepareRefusal}

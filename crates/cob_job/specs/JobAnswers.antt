@@ -7,7 +7,7 @@ use Rattle.cob_records.specs.declared.records.RecordFault.{RecordFault}
 use Rattle.cob_records.specs.Device.{Took, counted}
 use Rattle.std.specs.Io.KnownBytes.{append_known}
 use Rattle.cob_convert_files.specs.Texts.{IsReadOf, IsWhole}
-use Rattle.cob_convert_record.specs.Conversion.{Conversion}
+use Rattle.cob_convert.specs.cob_convert_record.Conversion.{Conversion}
 use Rattle.cob_stream.specs.declared.fault.RunFault.{RunFault}
 use Rattle.cob_convert.specs.declared.fault.PrepareFault.{PrepareFault}
 use Rattle.cob_convert.specs.Means.{Means, IsPrepareRefusal}

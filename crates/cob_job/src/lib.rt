@@ -28,4 +28,5 @@ mod job_data;
 mod job_text;
 mod jobs;
 
+pub use cob_convert;
 pub use jobs::{job, job_into};

@@ -6,7 +6,7 @@ use Rattle.cob_picture.specs.declared.category.Category.TheVariants.{Alphanumeri
 use Rattle.cob_copybook_tree.specs.declared.node.Item.{Item}
 use Rattle.cob_copybook_tree.specs.Lengths.{item_size}
 use Rattle.cob_move_receive.specs.Copying.{is_of_characters}
-use Rattle.cob_move_returns.specs.Wider.{digits_before}
+use Rattle.cob_move_lossless.specs.cob_move_returns.Wider.{digits_before}
 use Rattle.cob_lossless_words.specs.declared.lacks.Lack.{Lack}
 use Rattle.cob_lossless_words.specs.declared.lacks.Lack.TheVariants as lack
 

@@ -4,7 +4,7 @@ ghost use Rattle.std.specs.Prelude.{◌≡◌, IfNone, IfSome, IsTrue, true};
 ghost use Rattle.cob_picture.specs.Positions.{shows_number};
 ghost use Rattle.cob_picture.specs.declared.category.Category.TheVariants.{AlphanumericEdited};
 ghost use Rattle.cob_move_receive.specs.Copying.{is_of_characters};
-ghost use Rattle.cob_move_returns.specs.Wider.{IsLongerText, IsWiderNumber, LosesNothing, digits_before};
+ghost use Rattle.cob_move_lossless.specs.cob_move_returns.Wider.{IsLongerText, IsWiderNumber, LosesNothing, digits_before};
 ghost use Rattle.cob_lossless_words.specs.Lacks.{ArePaired, Lacks};
 
 use cob_copybook_tree::Item;

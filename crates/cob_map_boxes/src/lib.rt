@@ -15,5 +15,6 @@ mod records;
 mod values;
 
 pub use boxes::write_boxes;
+pub use cob_map_words;
 pub use occurrences::spot_of;
 pub use records::{Contents, Drawn, draw, told_length};

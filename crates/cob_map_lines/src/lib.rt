@@ -12,5 +12,7 @@
 mod lines;
 mod lists;
 
+pub use cob_lossless_words;
+pub use cob_map_boxes;
 pub use lines::{Sides, write_line};
 pub use lists::{write_move, write_runs};

@@ -5,7 +5,7 @@ use cob_item_words::Named;
 use cob_layout_places::Side;
 use cob_lossless_words::{Element, Sent, Single};
 use cob_map_boxes::Drawn;
-use cob_map_words::EscapedConstant;
+use cob_map_boxes::cob_map_words::EscapedConstant;
 use cob_move_losses::Losses;
 use std::fmt;
 

@@ -1,9 +1,9 @@
 -- Operands of a record, known by their entries.
 use Rattle.std.proofs.Common.{◌≡◌, ◌<◌, ◌++◌, List, [], ◌∷◌, map, sym, ap, subst, ◌∙◌, Option, Some, None}
 use Rattle.std.proofs.lemmas.List.{map-append}
-use Rattle.cob_copybook.specs.Books.{IsRecordDescription}
+use Rattle.cob_move_apply.specs.cob_copybook.Books.{IsRecordDescription}
 use Rattle.cob_copybook_tree.specs.Forests.{Forest, entries_in}
-use Rattle.cob_layout.specs.Sound.{IsSound}
+use Rattle.cob_move_apply.specs.cob_layout.Sound.{IsSound}
 use Rattle.cob_move_apply.proofs.SeenLemmas.{there}
 use Rattle.cob_copybook_tree.specs.Nodes.{Resolved}
 use Rattle.cob_copybook_tree.specs.declared.node.Kind.{Kind}

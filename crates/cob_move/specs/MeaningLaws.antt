@@ -1,6 +1,6 @@
 -- What follows from the definitions, said as laws.
 use Rattle.std.specs.Prelude.{◌≡◌, List}
-use Rattle.cob_copybook.specs.Books.{IsRecordDescription}
+use Rattle.cob_move_apply.specs.cob_copybook.Books.{IsRecordDescription}
 use Rattle.cob_copybook_tree.specs.Forests.{Forest}
 use Rattle.cob_copybook_tree.specs.Nodes.{Resolved}
 use Rattle.cob_layout_places.specs.Moves.{Move, Records, AreMoves}

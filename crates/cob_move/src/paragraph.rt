@@ -1,8 +1,8 @@
 //! Paragraphs.
 
 ghost use Rattle.std.specs.Prelude.{◌≡◌, ◌+◌, ◌*◌, ◌≤◌, ℕ, length, map, min, IfErr, IfOk, List};
-ghost use Rattle.cob_copybook.specs.Books.{IsRecordDescription};
-ghost use Rattle.cob_layout.specs.Storage.{IsStorage, greatest_length};
+ghost use Rattle.cob_move_apply.specs.cob_copybook.Books.{IsRecordDescription};
+ghost use Rattle.cob_move_apply.specs.cob_layout.Storage.{IsStorage, greatest_length};
 ghost use Rattle.cob_move_apply.specs.Applied.{Applied, ending};
 ghost use Rattle.cob_move_apply.specs.Joined.{steps_in};
 ghost use Rattle.cob_move_apply.specs.Met.{HaveMet};
@@ -18,8 +18,8 @@ use crate::laws::{one_paragraph, paragraph_breaks_no_rule};
 use crate::meaning::all_meant;
 use crate::meaning_laws::meant_are_moves;
 use cob_codec::Reading;
-use cob_layout::Layout;
 use cob_layout_places::StatementMoves;
+use cob_move_apply::cob_layout::Layout;
 use cob_move_apply::{Moves, Scratch, Stop};
 use cob_move_statements::{MoveFault, statements};
 use cob_source::paragraph_tokens;

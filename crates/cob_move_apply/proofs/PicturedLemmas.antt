@@ -2,7 +2,7 @@
 use Rattle.std.proofs.Common.{◌≡◌, ℕ, ◌+◌, ◌-◌, ◌≤◌, Bool, true, false, List, [], ◌∷◌, length, take, drop, sym, ap, subst, ◌∙◌, arith, inl, inr, Option, Some, None, length-take-le}
 use Rattle.cob_codec.specs.declared.reading.Reading.{Reading}
 use Rattle.cob_codec.specs.declared.reading.Reading.TheVariants.{Pictured}
-use Rattle.cob_copybook.specs.Books.{IsRecordDescription}
+use Rattle.cob_layout.specs.cob_copybook.Books.{IsRecordDescription}
 use Rattle.cob_copybook_tree.specs.declared.node.Kind.{Kind}
 use Rattle.cob_layout.specs.Fields.{field_of}
 use Rattle.cob_layout.specs.Laws.{LieInStorage}

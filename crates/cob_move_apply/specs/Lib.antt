@@ -14,3 +14,5 @@ pub mod Prepared
 pub mod Surveyed
 pub mod Met
 pub mod Spent
+pub use Rattle.cob_layout.specs.cob_copybook
+pub use Rattle.cob_layout.specs as cob_layout

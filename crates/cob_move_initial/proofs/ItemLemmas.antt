@@ -8,7 +8,7 @@ use Rattle.cob_entry.specs.Described.{PlainValue, Numeric, Quoted, Figure, Repea
 use Rattle.cob_copybook_tree.specs.declared.node.Kind.TheVariants.{Group, Item as ItemKind}
 use Rattle.cob_copybook_tree.specs.declared.node.Item.{Item}
 use Rattle.cob_copybook_tree.specs.Lengths.{item_size}
-use Rattle.cob_copybook_lengths.specs.Values.{IsNumericValue}
+use Rattle.cob_layout.specs.cob_copybook_lengths.Values.{IsNumericValue}
 use Rattle.cob_copybook_tree.specs.Resolving.{is_number}
 use Rattle.cob_move_receive.specs.Sent.{Amount, Literal}
 use Rattle.cob_move_receive.specs.Numbers.{ConstantGives}

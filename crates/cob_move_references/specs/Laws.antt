@@ -1,6 +1,6 @@
 -- What follows from the definitions, said as laws.
 use Rattle.std.specs.Prelude.{◌≡◌, List}
-use Rattle.cob_copybook.specs.Books.{IsRecordDescription}
+use Rattle.cob_layout.specs.cob_copybook.Books.{IsRecordDescription}
 use Rattle.cob_layout_places.specs.declared.operands.Side.{Side}
 use Rattle.cob_layout_places.specs.declared.operands.Operand.{Operand}
 use Rattle.cob_layout_places.specs.Moves.{IsOperand, Records, record_of}

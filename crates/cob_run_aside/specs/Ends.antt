@@ -1,7 +1,7 @@
 -- Which faults a run can have that sets rejected records aside.
 use Rattle.std.specs.Prelude.{◌≡◌, ◌⊎◌, ◌<◌, Bool, true, ⊤}
-use Rattle.cob_command_faults.specs.declared.fault.CommandFault.{CommandFault}
-use Rattle.cob_command_faults.specs.declared.fault.CommandFault.TheVariants as fault
+use Rattle.cob_command_input.specs.cob_command_faults.declared.fault.CommandFault.{CommandFault}
+use Rattle.cob_command_input.specs.cob_command_faults.declared.fault.CommandFault.TheVariants as fault
 
 -- A run is not done: a record or a device stopped it, a rejected record was not set aside, or the last bytes of an output were not handed to the
 -- device, and then a record is not there whole, or there was none.

@@ -9,9 +9,9 @@ use Rattle.cob_convert.specs.declared.aside.Tally.{Tally}
 use Rattle.cob_convert_files.specs.declared.outputs.PlaceFault.TheVariants as place
 use Rattle.cob_records.specs.Progress.{kept_count}
 use Rattle.cob_records.specs.declared.device.DeviceFault.{DeviceFault}
-use Rattle.cob_command_faults.specs.declared.fault.CommandFault.{CommandFault}
-use Rattle.cob_command_faults.specs.declared.fault.CommandFault.TheVariants as fault
-use Rattle.cob_command_faults.specs.Faults.{aside_fault}
+use Rattle.cob_command_input.specs.cob_command_faults.declared.fault.CommandFault.{CommandFault}
+use Rattle.cob_command_input.specs.cob_command_faults.declared.fault.CommandFault.TheVariants as fault
+use Rattle.cob_command_input.specs.cob_command_faults.Faults.{aside_fault}
 use Rattle.cob_run_aside.specs.declared.marks.Marks.{Marks}
 use Rattle.cob_run_aside.specs.declared.running.PlacesFault.{PlacesFault}
 use Rattle.cob_run_aside.specs.declared.running.PlacesFault.TheVariants as places

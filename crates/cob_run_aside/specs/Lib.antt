@@ -2,3 +2,4 @@ pub mod Marks
 pub mod Finished
 pub mod Ends
 pub mod Ran
+pub use Rattle.cob_convert.specs as cob_convert

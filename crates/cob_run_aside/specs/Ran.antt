@@ -3,7 +3,7 @@ use Rattle.std.specs.Prelude.{ℕ, ⊤, List, Option, Result}
 use Rattle.cob_records.specs.Device.{Told}
 use Rattle.cob_chosen.specs.declared.incoming.Incoming.{Incoming}
 use Rattle.cob_chosen.specs.declared.incoming.Incoming.TheVariants as incoming
-use Rattle.cob_convert_record.specs.Conversion.{Conversion}
+use Rattle.cob_convert.specs.cob_convert_record.Conversion.{Conversion}
 use Rattle.cob_convert.specs.declared.aside.AsideFault.{AsideFault}
 use Rattle.cob_convert.specs.declared.aside.Tally.{Tally}
 use Rattle.cob_convert.specs.Aside.{Outputs, RanAside}

@@ -21,6 +21,7 @@ mod places;
 mod rejections;
 mod running;
 
+pub use cob_convert;
 pub use marks::Marks;
 pub use places::Names;
 pub use rejections::{Rejections, counted_on};

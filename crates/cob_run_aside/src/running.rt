@@ -14,7 +14,7 @@ use crate::marks::Marks;
 use crate::places::{Names, put_both_in_place};
 use crate::rejections::Rejections;
 use cob_chosen::{Incoming, Stopped};
-use cob_command_faults::CommandFault;
+use cob_command_input::cob_command_faults::CommandFault;
 use cob_command_input::with_cause;
 use cob_convert::{AsideFault, Cause, Converter, Notes, RunFault, Tally};
 use cob_convert_files::PlaceFault;

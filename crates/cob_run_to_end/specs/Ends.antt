@@ -1,7 +1,7 @@
 -- Which faults a run can have.
 use Rattle.std.specs.Prelude.{◌≡◌, ◌⊎◌, ◌<◌, ⊤}
-use Rattle.cob_command_faults.specs.declared.fault.CommandFault.{CommandFault}
-use Rattle.cob_command_faults.specs.declared.fault.CommandFault.TheVariants as fault
+use Rattle.cob_command_input.specs.cob_command_faults.declared.fault.CommandFault.{CommandFault}
+use Rattle.cob_command_input.specs.cob_command_faults.declared.fault.CommandFault.TheVariants as fault
 
 -- A run is not done: a record or a device stopped it, or its last bytes were not handed to the device, and then a record is not written whole, or
 -- there was none.

@@ -5,8 +5,8 @@ use Rattle.cob_stream.specs.declared.fault.RunFault.{RunFault}
 use Rattle.cob_convert_files.specs.declared.outputs.PlaceFault.{PlaceFault}
 use Rattle.cob_convert_files.specs.declared.outputs.PlaceFault.TheVariants as place
 use Rattle.cob_records.specs.declared.device.DeviceFault.{DeviceFault}
-use Rattle.cob_command_faults.specs.declared.fault.CommandFault.{CommandFault}
-use Rattle.cob_command_faults.specs.declared.fault.CommandFault.TheVariants as fault
+use Rattle.cob_command_input.specs.cob_command_faults.declared.fault.CommandFault.{CommandFault}
+use Rattle.cob_command_input.specs.cob_command_faults.declared.fault.CommandFault.TheVariants as fault
 
 -- What is told of a run whose last bytes were not handed to the device: a write that failed before; else that the last record that was put is not
 -- written whole, also in the place of a stop; where none was put the output lacks none, and a stop is told.

@@ -4,8 +4,8 @@ use Rattle.cob_records.specs.Device.{Told}
 use Rattle.cob_stream.specs.declared.fault.RunFault.{RunFault}
 use Rattle.cob_chosen.specs.declared.incoming.Incoming.{Incoming}
 use Rattle.cob_chosen.specs.declared.incoming.Incoming.TheVariants as incoming
-use Rattle.cob_convert_record.specs.Conversion.{Conversion}
-use Rattle.cob_convert.specs.Run.{Ran}
+use Rattle.cob_command_input.specs.cob_convert_record.Conversion.{Conversion}
+use Rattle.cob_command_input.specs.cob_convert.Run.{Ran}
 
 -- A converter was run over a source that told these bytes to come, and that is let go behind the run.
 abbrev pub RanFrom : Conversion → Result ℕ RunFault → Option (List ℕ) → Option (List ℕ) → Option (List ℕ) → Type 0

@@ -6,15 +6,15 @@ ghost use Rattle.cob_records.specs.Device.{counted};
 ghost use Rattle.cob_records.specs.Forms.{HasBlockSize};
 ghost use Rattle.cob_records.specs.Streams.{sink_writer};
 ghost use Rattle.cob_stream.specs.Reasons.{is_write_cause};
-ghost use Rattle.cob_convert.specs.Run.{is_write_stop};
+ghost use Rattle.cob_command_input.specs.cob_convert.Run.{is_write_stop};
 ghost use Rattle.cob_run_to_end.specs.Ends.{LacksPlace, StopsRun};
 ghost use Rattle.cob_run_to_end.specs.Ran.{RanFrom, RanOver};
 ghost use Rattle.cob_run_to_end.specs.Finished.{finished_run, placed_run, unflushed_fault};
 
 use cob_chosen::Incoming;
-use cob_command_faults::CommandFault;
+use cob_command_input::cob_command_faults::CommandFault;
+use cob_command_input::cob_convert::{Cause, Converter, RunFault};
 use cob_command_input::with_cause;
-use cob_convert::{Cause, Converter, RunFault};
 use cob_convert_files::PlaceFault;
 use cob_records::{DeviceFault, Form, Progress, RecordFault, Sink, Source, Telling, WriteSink};
 use std::io::{BufWriter, Eprint, Write};

@@ -1,8 +1,8 @@
 -- How a program ends: the status by what stopped a run, by what refused a conversion, and by whether its last line was printed.
 use Rattle.std.specs.Prelude.{ℕ, Result, Ok, Err, ⊤}
 use Rattle.cob_records.specs.declared.records.RecordFault.TheVariants.{ReadFailed, WriteFailed, TookNothing}
-use Rattle.cob_stream.specs.declared.fault.Cause.{Cause}
-use Rattle.cob_stream.specs.declared.fault.Cause.TheVariants as cause
+use Rattle.cob_convert.specs.cob_stream.declared.fault.Cause.{Cause}
+use Rattle.cob_convert.specs.cob_stream.declared.fault.Cause.TheVariants as cause
 use Rattle.cob_convert.specs.declared.fault.PrepareFault.{PrepareFault}
 use Rattle.cob_convert.specs.declared.fault.PrepareFault.TheVariants as prepare
 use Rattle.cob_status.specs.declared.status.Status.{Status}

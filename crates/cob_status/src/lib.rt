@@ -8,4 +8,5 @@
 
 mod status;
 
+pub use cob_convert;
 pub use status::Status;

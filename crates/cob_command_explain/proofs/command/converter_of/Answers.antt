@@ -1,5 +1,5 @@
 use Rattle.std.proofs.Common.{subst, sym}
-use Rattle.cob_convert_record.specs.Conversion.{Conversion}
+use Rattle.cob_convert_explain.specs.cob_convert_record.Conversion.{Conversion}
 use Rattle.cob_copybook.specs.Books.{IsBookOf}
 use Rattle.cob_copybook.specs.declared.role.Role.TheVariants.{Out}
 use Rattle.cob_command_explain.proofs.command.converter_of.Goals as goal

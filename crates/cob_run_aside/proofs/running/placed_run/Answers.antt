@@ -1,7 +1,7 @@
 use Rattle.std.proofs.Common.{◌≡◌, ◌∙◌, ap, refl, sym, Bool, true, false, Result, Ok, Err}
 use Rattle.std.specs.Prelude.{⊤}
 use Rattle.cob_convert.specs.declared.aside.Tally.{Tally}
-use Rattle.cob_command_faults.specs.declared.fault.CommandFault.{CommandFault}
+use Rattle.cob_command_input.specs.cob_command_faults.declared.fault.CommandFault.{CommandFault}
 use Rattle.cob_run_aside.specs.declared.marks.Marks.{Marks}
 use Rattle.cob_run_aside.specs.declared.running.PlacesFault.{PlacesFault}
 use Rattle.cob_run_aside.specs.Finished.{finished_aside, placed_run}
