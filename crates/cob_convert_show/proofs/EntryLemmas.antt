@@ -13,7 +13,7 @@ use Rattle.cob_copybook_tree.specs.Nodes.{Resolved, forest, node, tree_of}
 use Rattle.cob_entry.specs.Described.{PlainEntry}
 use Rattle.cob_layout.specs.cob_copybook.declared.role.Role.{Role}
 use Rattle.cob_layout.specs.cob_copybook.Books.{IsRecordDescription, implied, with_record}
-use Rattle.cob_layout.proofs.cob_copybook.Books.{few_entries}
+use Rattle.cob_layout.proofs.copybook_lemmas.Books.{few_entries}
 use Rattle.cob_layout.proofs.Numbers.{same_entries}
 use Rattle.cob_layout_places.specs.Cover.{AreNumbered}
 use Rattle.cob_copybook_tree.specs.declared.node.Node.TheViews.{out-Node}

@@ -6,4 +6,4 @@ pub mod ResolvedLemmas
 pub mod LengthLemmas
 pub mod ItemLemmas
 pub mod PictureLemmas
-pub use Rattle.cob_codec.proofs as cob_codec
+pub use Rattle.cob_codec.proofs as codec_lemmas

@@ -12,7 +12,7 @@ use Rattle.cob_entry.specs.cob_picture.Counts.{digits, size, width, is_digit_pla
 use Rattle.cob_entry.specs.cob_picture.Numeric.{numeric_symbols}
 use Rattle.cob_entry.specs.cob_picture.Pictures.{IsPicture}
 use Rattle.cob_entry.specs.cob_picture.Measures.{symbols_size}
-use Rattle.cob_entry.proofs.cob_picture.Placed.{MayFloat, floating_may, digits-cons, size-placed}
+use Rattle.cob_entry.proofs.picture_lemmas.Placed.{MayFloat, floating_may, digits-cons, size-placed}
 use Rattle.cob_copybook_tree.specs.Resolving.{is_numeric}
 
 -- wherever this symbol stands in a numeric picture, it has as many bytes as digits

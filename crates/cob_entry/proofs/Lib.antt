@@ -1,1 +1,1 @@
-pub use Rattle.cob_picture.proofs as cob_picture
+pub use Rattle.cob_picture.proofs as picture_lemmas
