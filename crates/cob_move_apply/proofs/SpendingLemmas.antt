@@ -294,6 +294,11 @@ record NextSpent (x : Reading) (r : Records) (given : List StatementMoves) (step
   so : (n : ℕ) → HaveMet r (own ++ more) input now n → HaveMet r (moves_by x r given) input before (met + n)
   most : s.reads ≤ kept_of r.output s + allowed r.output met
 
+pub spent_same : (x : Reading) (r : Records) (given : List StatementMoves) (steps : List Step) (on : Support) (i : ℕ) (input before now same : List ℕ) (old new : Workspace) → same ≡ now → new ≡ old
+    → SpentSteps x r given steps on i input before now old.output → SpentSteps x r given steps on i input before same new.output
+spent_same x r given steps on i input before now same old new is kept so =
+    subst (λ (w : Workspace). SpentSteps x r given steps on i input before same w.output) (sym kept) (subst (λ (bytes : List ℕ). SpentSteps x r given steps on i input before bytes old.output) (sym is) so)
+
 next_spent : (x : Reading) (r : Records) (given : List StatementMoves) (steps : List Step) (on : Support) (i : ℕ) (t d : Step) (input before now : List ℕ) (s : Survey) → i < length steps → get_or steps i d ≡ t
     → SpentSteps x r given steps on i input before now s → NextSpent x r given steps on i t input before now s
 next_spent x r given steps on i t d input before now s lt is (rest, met, are, so, most) =

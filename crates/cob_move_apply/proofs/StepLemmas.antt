@@ -38,6 +38,10 @@ pub left_all : OneOfNeeded → (x : Reading) (r : Records) (given : List Stateme
     → StandFor x r given steps on (moves_by x r given) → Left x r given steps on 0 input before before
 left_all law x r given steps on input before (parts, are, cut) = (parts, are, λ end h. cut_moves law r (moves_by x r given) parts input before end cut h)
 
+pub left_same : (x : Reading) (r : Records) (given : List StatementMoves) (steps : List Step) (on : Support) (i : ℕ) (input before now same : List ℕ) → same ≡ now
+    → Left x r given steps on i input before now → Left x r given steps on i input before same
+left_same x r given steps on i input before now same is left = subst (λ (bytes : List ℕ). Left x r given steps on i input before bytes) (sym is) left
+
 -- the step at a place, with the moves that it stands for
 pub record Next (x : Reading) (r : Records) (given : List StatementMoves) (steps : List Step) (on : Support) (i : ℕ) (s : Step) (input before now : List ℕ) : Type 0 where
   pub own : List Move

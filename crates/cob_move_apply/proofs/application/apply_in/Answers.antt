@@ -1,11 +1,11 @@
-use Rattle.std.proofs.Common.{refl, ◌∙◌, List, subst, sym}
+use Rattle.std.proofs.Common.{refl, ◌∙◌, List, ap, length, subst, sym}
 use Rattle.std.proofs.lemmas.Result.{err_from_is_err_and}
 use Rattle.cob_layout_places.specs.Moves.{Records, moves_by}
 use Rattle.cob_move_apply.specs.Steps.{StandFor, Support, support_of}
 use Rattle.cob_move_apply.specs.declared.step.Step.{Step}
 use Rattle.cob_move_apply.specs.Surveyed.{records}
-use Rattle.cob_move_apply.proofs.SpendingLemmas.{spent_steps_all, spent_steps_first, spent_steps_next, spent_steps_stop}
-use Rattle.cob_move_apply.proofs.StepLemmas.{left_all, left_made, left_none, next_step, stopped_made}
+use Rattle.cob_move_apply.proofs.SpendingLemmas.{spent_same, spent_steps_all, spent_steps_first, spent_steps_next, spent_steps_stop}
+use Rattle.cob_move_apply.proofs.StepLemmas.{left_all, left_made, left_none, left_same, next_step, stopped_made}
 use Rattle.cob_move_apply.proofs.application.apply_in.Goals as goal
 
 pub loop-step-init : goal.loop-step-init
@@ -22,6 +22,27 @@ loop-step-init c =
           (subst (λ (ss : List Step). StandFor x r c.args.given.now ss on (moves_by x r c.args.given.now)) (sym c.as_slice-steps.ensures.value) c.requires.steps) c.forget.ensures.none;
     }
 
+pub run_step-requires-clause-step : goal.run_step-requires-clause-step
+run_step-requires-clause-step c =
+    let x = c.args.layouts.now.reading in
+    let r : Records = records c.args.layouts.now in
+    let next = next_step x r c.args.given.now c.as_slice-steps.result.now (support_of c.args.plan.now) c.loop-step.step-index _ _ c.args.input.now c.args.output.now c.loop-step.output c.loop-step-test.true refl c.loop-step.invariant.left in
+    (c.args.given.now, next.own, next.is)
+
+pub loop-step-preserved-then-run_step : goal.loop-step-preserved-then-run_step
+loop-step-preserved-then-run_step c =
+    let x = c.args.layouts.now.reading in
+    let r : Records = records c.args.layouts.now in
+    let next = next_step x r c.args.given.now c.as_slice-steps.result.now (support_of c.args.plan.now) c.loop-step.step-index _ _ c.args.input.now c.args.output.now c.loop-step.output c.loop-step-test.true refl c.loop-step.invariant.left in
+    record {
+      left = left_made x r c.args.given.now c.as_slice-steps.result.now (support_of c.args.plan.now) c.loop-step.step-index _ c.args.input.now c.args.output.now c.loop-step.output c.run_step.new.output next
+          (c.run_step.ensures.applied c.if-run_step.true c.args.given.now);
+      output = c.run_step.auto.output ∙ c.loop-step.invariant.output;
+      space = c.run_step.ensures.space;
+      spends = spent_steps_next x r c.args.given.now c.as_slice-steps.result.now (support_of c.args.plan.now) c.loop-step.step-index _ _ c.args.input.now c.args.output.now c.loop-step.output c.run_step.new.output
+          c.loop-step.space.output c.run_step.new.space.output c.loop-step-test.true refl c.loop-step.invariant.spends (c.run_step.ensures.spends c.if-run_step.true c.args.given.now);
+    }
+
 pub make_step-requires-clause-step : goal.make_step-requires-clause-step
 make_step-requires-clause-step c =
     let x = c.args.layouts.now.reading in
@@ -34,20 +55,24 @@ returns-in_err-make_step-clause-applied c =
     let x = c.args.layouts.now.reading in
     let r : Records = records c.args.layouts.now in
     let p = err_from_is_err_and c.from_residual.result c.from_residual.ensures.1 in
-    let next = next_step x r c.args.given.now c.as_slice-steps.result.now (support_of c.args.plan.now) c.loop-step.step-index _ _ c.args.input.now c.args.output.now c.loop-step.output c.loop-step-test.true refl c.loop-step.invariant.left in
-    rw (p.1, p.2) (stopped_made x r c.args.given.now c.as_slice-steps.result.now (support_of c.args.plan.now) c.loop-step.step-index _ c.args.input.now c.args.output.now c.loop-step.output c.make_step.new.output c.in_err-make_step.field-0.0 next c.in_err-make_step.ensures.applied)
+    let left = left_same x r c.args.given.now c.as_slice-steps.result.now (support_of c.args.plan.now) c.loop-step.step-index c.args.input.now c.args.output.now c.loop-step.output c.run_step.new.output (c.run_step.ensures.same c.if-run_step.false).0 c.loop-step.invariant.left in
+    let next = next_step x r c.args.given.now c.as_slice-steps.result.now (support_of c.args.plan.now) c.loop-step.step-index _ _ c.args.input.now c.args.output.now c.run_step.new.output c.loop-step-test.true refl left in
+    rw (p.1, p.2) (stopped_made x r c.args.given.now c.as_slice-steps.result.now (support_of c.args.plan.now) c.loop-step.step-index _ c.args.input.now c.args.output.now c.run_step.new.output c.make_step.new.output c.in_err-make_step.field-0.0 next c.in_err-make_step.ensures.applied)
 
 pub loop-step-preserved : goal.loop-step-preserved
 loop-step-preserved c =
     let x = c.args.layouts.now.reading in
     let r : Records = records c.args.layouts.now in
-    let next = next_step x r c.args.given.now c.as_slice-steps.result.now (support_of c.args.plan.now) c.loop-step.step-index _ _ c.args.input.now c.args.output.now c.loop-step.output c.loop-step-test.true refl c.loop-step.invariant.left in
+    let (same, kept) = c.run_step.ensures.same c.if-run_step.false in
+    let left = left_same x r c.args.given.now c.as_slice-steps.result.now (support_of c.args.plan.now) c.loop-step.step-index c.args.input.now c.args.output.now c.loop-step.output c.run_step.new.output same c.loop-step.invariant.left in
+    let spent = spent_same x r c.args.given.now c.as_slice-steps.result.now (support_of c.args.plan.now) c.loop-step.step-index c.args.input.now c.args.output.now c.loop-step.output c.run_step.new.output c.loop-step.space c.run_step.new.space same kept c.loop-step.invariant.spends in
+    let next = next_step x r c.args.given.now c.as_slice-steps.result.now (support_of c.args.plan.now) c.loop-step.step-index _ _ c.args.input.now c.args.output.now c.run_step.new.output c.loop-step-test.true refl left in
     record {
-      left = left_made x r c.args.given.now c.as_slice-steps.result.now (support_of c.args.plan.now) c.loop-step.step-index _ c.args.input.now c.args.output.now c.loop-step.output c.make_step.new.output next c.in_ok-make_step.ensures.applied;
-      output = c.make_step.auto.output ∙ c.loop-step.invariant.output;
+      left = left_made x r c.args.given.now c.as_slice-steps.result.now (support_of c.args.plan.now) c.loop-step.step-index _ c.args.input.now c.args.output.now c.run_step.new.output c.make_step.new.output next c.in_ok-make_step.ensures.applied;
+      output = c.make_step.auto.output ∙ (ap length same ∙ c.loop-step.invariant.output);
       space = c.in_ok-make_step.ensures.space;
-      spends = spent_steps_next x r c.args.given.now c.as_slice-steps.result.now (support_of c.args.plan.now) c.loop-step.step-index _ _ c.args.input.now c.args.output.now c.loop-step.output c.make_step.new.output
-          c.loop-step.space.output c.make_step.new.space.output c.loop-step-test.true refl c.loop-step.invariant.spends c.in_ok-make_step.ensures.spends;
+      spends = spent_steps_next x r c.args.given.now c.as_slice-steps.result.now (support_of c.args.plan.now) c.loop-step.step-index _ _ c.args.input.now c.args.output.now c.run_step.new.output c.make_step.new.output
+          c.run_step.new.space.output c.make_step.new.space.output c.loop-step-test.true refl spent c.in_ok-make_step.ensures.spends;
     }
 
 pub returns-clause-applied : goal.returns-clause-applied
@@ -58,8 +83,10 @@ pub returns-in_err-make_step-clause-reads : goal.returns-in_err-make_step-clause
 returns-in_err-make_step-clause-reads c =
     let x = c.args.layouts.now.reading in
     let r : Records = records c.args.layouts.now in
-    spent_steps_stop x r c.args.given.now c.as_slice-steps.result.now (support_of c.args.plan.now) c.loop-step.step-index _ _ c.args.input.now c.args.output.now c.loop-step.output
-    c.loop-step.space.output c.make_step.new.space.output c.loop-step-test.true refl c.loop-step.invariant.spends c.in_err-make_step.ensures.spends
+    let (same, kept) = c.run_step.ensures.same c.if-run_step.false in
+    let spent = spent_same x r c.args.given.now c.as_slice-steps.result.now (support_of c.args.plan.now) c.loop-step.step-index c.args.input.now c.args.output.now c.loop-step.output c.run_step.new.output c.loop-step.space c.run_step.new.space same kept c.loop-step.invariant.spends in
+    spent_steps_stop x r c.args.given.now c.as_slice-steps.result.now (support_of c.args.plan.now) c.loop-step.step-index _ _ c.args.input.now c.args.output.now c.run_step.new.output
+    c.run_step.new.space.output c.make_step.new.space.output c.loop-step-test.true refl spent c.in_err-make_step.ensures.spends
 
 pub returns-clause-reads : goal.returns-clause-reads
 returns-clause-reads c =
