@@ -198,6 +198,31 @@ fn telling_chosen<R: Files>(rt: &R, line: &ShowLine<'_>) -> Option<Telling> {
     }
 }
 
+/// Prints the values of the records of the file that `--in` names by this copybook on standard output, and answers how many records there were.
+///
+/// # Errors
+///
+/// A file that is not opened, a record that stops the listing, a line that is not printed, want of memory. The lines of the records before it are
+/// printed.
+fn list_by<R: AllocGlobal + Files + Input + Print + Eprint + Clock>(
+    rt: &R,
+    line: &ShowLine<'_>,
+    book: &Listed,
+) -> Result<u64, CommandFault>
+    requires listed { book.now.book ≡ book.now.layout }
+    requires block { HasBlockSize line.now.form }
+    ensures { IfErr result MayEndListing }
+{
+    let incoming = open_records(rt, wanted_by(line, book.layout.greatest()))?;
+    let Ok(mut sink) = create_sink(rt, "-") else {
+        return Err(CommandFault::Memory);
+    };
+    let telling = telling_chosen(rt, line);
+    let (form, listing) = (line.form, line.listing);
+    let handed = show_to_end(rt, book, form, listing, telling, incoming, &mut sink);
+    counted_behind(line.skip, listed(handed))
+}
+
 /// Prints the values of the records of the file that `--in` names on standard output, and answers how many records there were.
 ///
 /// # Errors
@@ -211,15 +236,10 @@ pub fn list_records<R: AllocGlobal + Files + Input + Print + Eprint + Clock>(
     requires { HasBlockSize line.now.form }
     ensures { IfErr result MayEndListing }
 {
-    let book = read_book(rt, line.book)?;
-    let incoming = open_records(rt, wanted_by(line, book.layout.greatest()))?;
-    let Ok(mut sink) = create_sink(rt, "-") else {
-        return Err(CommandFault::Memory);
-    };
-    let telling = telling_chosen(rt, line);
-    let (form, listing) = (line.form, line.listing);
-    let handed = show_to_end(rt, &book, form, listing, telling, incoming, &mut sink);
-    counted_behind(line.skip, listed(handed))
+    match read_book(rt, line.book) {
+        Ok(book) => list_by(rt, line, &book),
+        Err(fault) => Err(fault),
+    }
 }
 
 /// Whether a listing is for programs, which would read the number of records as one of them.

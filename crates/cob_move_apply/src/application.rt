@@ -191,13 +191,14 @@ fn make_one(
     make_single(plan, places, step, layouts, input, output, space)
 }
 
-/// Carries out a step of the plan of moves, whatever it is. It isn't inlined, so that the loop over steps stays short: few come here but those that stop.
+/// Carries out a step of the plan of moves, whatever it is. It isn't inlined, so that the loop over steps stays short: it carries out those whose places
+/// are found as they are carried out, and those that stop.
 ///
 /// # Errors
 ///
 /// The first thing missing. The storage is as the receivers before left it then.
 #[inline(never)]
-fn make_by_kind(
+fn make_step(
     given: &[StatementMoves],
     plan: &Plan,
     step: &Step,
@@ -262,43 +263,6 @@ fn make_by_kind(
     }
 }
 
-/// Carries out a step of the plan of moves, whatever it is. One whose places are found as it is carried out needs no second look at its kind.
-///
-/// # Errors
-///
-/// The first thing missing. The storage is as the receivers before left it then.
-#[inline(always)]
-fn make_step(
-    given: &[StatementMoves],
-    plan: &Plan,
-    step: &Step,
-    layouts: &Layouts<'_>,
-    input: &[u8],
-    output: &mut [u8],
-    space: &mut Workspace,
-) -> Result<(), Stop>
-    requires in_sound { IsSound layouts.now.input.now }
-    requires out_sound { IsSound layouts.now.output.now }
-    requires step { (own : List Meant) × IsStep layouts.now.reading (records layouts.now)
-        given.now (support_of plan.now) step.now own }
-    requires input { IsStorage layouts.now.input.now input.now }
-    requires output { length output.old ≡ greatest_length layouts.now.output.now }
-    requires space { IsWorkspace (records layouts.now) input.now output.old space.old }
-    ensures applied { (own : List Meant) → IsStep layouts.now.reading (records layouts.now)
-        given.now (support_of plan.now) step.now own
-        → Applied (records layouts.now) own input.now output.old (ending result output.new) }
-    ensures space { IsWorkspace (records layouts.now) input.now output.new space.new }
-    ensures spends { (own : List Meant) → IsStep layouts.now.reading (records layouts.now)
-        given.now (support_of plan.now) step.now own
-        → MovesSpend (records layouts.now) own input.now output.old result output.new
-        space.old.output space.new.output }
-{
-    match step {
-        Step::Located(number) => make_located(plan, *number, layouts, input, output, space),
-        _ => make_by_kind(given, plan, step, layouts, input, output, space),
-    }
-}
-
 /// Carries out the steps of the plan of moves, in order.
 ///
 /// # Errors
@@ -333,6 +297,11 @@ pub(crate) fn apply_in(
     space.forget();
     let steps = plan.steps.as_slice();
     for step in steps {
+        // Where the items of such a move stand is found as it is carried out.
+        if let Step::Located(number) = step {
+            make_located(plan, *number, layouts, input, output, space)?;
+            continue;
+        }
         // At once where the step was made ready for places that are the same in every storage, and nothing is missing.
         if run_step(plan, step, layouts, input, output, space) {
             continue;

@@ -1,7 +1,7 @@
 use Rattle.std.proofs.Common.{refl, ◌∙◌, List, ap, length, subst, sym}
 use Rattle.std.proofs.lemmas.Result.{err_from_is_err_and}
 use Rattle.cob_layout_places.specs.Moves.{Records, moves_by}
-use Rattle.cob_move_apply.specs.Steps.{StandFor, Support, support_of}
+use Rattle.cob_move_apply.specs.Steps.{IsStep, StandFor, Support, support_of}
 use Rattle.cob_move_apply.specs.declared.step.Step.{Step}
 use Rattle.cob_move_apply.specs.Surveyed.{records}
 use Rattle.cob_move_apply.proofs.SpendingLemmas.{spent_same, spent_steps_all, spent_steps_first, spent_steps_next, spent_steps_stop}
@@ -54,7 +54,7 @@ pub returns-in_err-make_step-clause-applied : goal.returns-in_err-make_step-clau
 returns-in_err-make_step-clause-applied c =
     let x = c.args.layouts.now.reading in
     let r : Records = records c.args.layouts.now in
-    let p = err_from_is_err_and c.from_residual.result c.from_residual.ensures.1 in
+    let p = err_from_is_err_and c.from_residual-in_err-make_step.result c.from_residual-in_err-make_step.ensures.1 in
     let left = left_same x r c.args.given.now c.as_slice-steps.result.now (support_of c.args.plan.now) c.loop-step.step-index c.args.input.now c.args.output.now c.loop-step.output c.run_step.new.output (c.run_step.ensures.same c.if-run_step.false).0 c.loop-step.invariant.left in
     let next = next_step x r c.args.given.now c.as_slice-steps.result.now (support_of c.args.plan.now) c.loop-step.step-index _ _ c.args.input.now c.args.output.now c.run_step.new.output c.loop-step-test.true refl left in
     rw (p.1, p.2) (stopped_made x r c.args.given.now c.as_slice-steps.result.now (support_of c.args.plan.now) c.loop-step.step-index _ c.args.input.now c.args.output.now c.run_step.new.output c.make_step.new.output c.in_err-make_step.field-0.0 next c.in_err-make_step.ensures.applied)
@@ -92,3 +92,46 @@ pub returns-clause-reads : goal.returns-clause-reads
 returns-clause-reads c =
     spent_steps_all c.args.layouts.now.reading (records c.args.layouts.now) c.args.given.now c.as_slice-steps.result.now (support_of c.args.plan.now) c.loop-step.step-index c.args.input.now c.args.output.now c.loop-step.output
     c.loop-step.space.output c.loop-step-test.false c.loop-step.invariant.spends
+
+pub make_located-requires-clause-step : goal.make_located-requires-clause-step
+make_located-requires-clause-step c =
+    let x = c.args.layouts.now.reading in
+    let r : Records = records c.args.layouts.now in
+    let on : Support = support_of c.args.plan.now in
+    let next = next_step x r c.args.given.now c.as_slice-steps.result.now on c.loop-step.step-index _ _ c.args.input.now c.args.output.now c.loop-step.output c.loop-step-test.true refl c.loop-step.invariant.left in
+    (next.own, subst (λ (s : Step). IsStep x r c.args.given.now on s next.own) c.in-Located.is next.is)
+
+pub returns-in_err-make_located-clause-applied : goal.returns-in_err-make_located-clause-applied
+returns-in_err-make_located-clause-applied c =
+    let x = c.args.layouts.now.reading in
+    let r : Records = records c.args.layouts.now in
+    let on : Support = support_of c.args.plan.now in
+    let p = err_from_is_err_and c.from_residual.result c.from_residual.ensures.1 in
+    let next = next_step x r c.args.given.now c.as_slice-steps.result.now on c.loop-step.step-index _ _ c.args.input.now c.args.output.now c.loop-step.output c.loop-step-test.true refl c.loop-step.invariant.left in
+    rw (p.1, p.2) (stopped_made x r c.args.given.now c.as_slice-steps.result.now on c.loop-step.step-index _ c.args.input.now c.args.output.now c.loop-step.output c.make_located.new.output c.in_err-make_located.field-0.0 next
+    (λ own is. c.in_err-make_located.ensures.applied own (subst (λ (s : Step). IsStep x r c.args.given.now on s own) c.in-Located.is is)))
+
+pub loop-step-preserved-in-Located : goal.loop-step-preserved-in-Located
+loop-step-preserved-in-Located c =
+    let x = c.args.layouts.now.reading in
+    let r : Records = records c.args.layouts.now in
+    let on : Support = support_of c.args.plan.now in
+    let next = next_step x r c.args.given.now c.as_slice-steps.result.now on c.loop-step.step-index _ _ c.args.input.now c.args.output.now c.loop-step.output c.loop-step-test.true refl c.loop-step.invariant.left in
+    record {
+      left = left_made x r c.args.given.now c.as_slice-steps.result.now on c.loop-step.step-index _ c.args.input.now c.args.output.now c.loop-step.output c.make_located.new.output next
+          (λ own is. c.in_ok-make_located.ensures.applied own (subst (λ (s : Step). IsStep x r c.args.given.now on s own) c.in-Located.is is));
+      output = c.make_located.auto.output ∙ c.loop-step.invariant.output;
+      space = c.in_ok-make_located.ensures.space;
+      spends = spent_steps_next x r c.args.given.now c.as_slice-steps.result.now on c.loop-step.step-index _ _ c.args.input.now c.args.output.now c.loop-step.output c.make_located.new.output
+          c.loop-step.space.output c.make_located.new.space.output c.loop-step-test.true refl c.loop-step.invariant.spends
+          (λ own is. c.in_ok-make_located.ensures.spends own (subst (λ (s : Step). IsStep x r c.args.given.now on s own) c.in-Located.is is));
+    }
+
+pub returns-in_err-make_located-clause-reads : goal.returns-in_err-make_located-clause-reads
+returns-in_err-make_located-clause-reads c =
+    let x = c.args.layouts.now.reading in
+    let r : Records = records c.args.layouts.now in
+    let on : Support = support_of c.args.plan.now in
+    spent_steps_stop x r c.args.given.now c.as_slice-steps.result.now on c.loop-step.step-index _ _ c.args.input.now c.args.output.now c.loop-step.output
+    c.loop-step.space.output c.make_located.new.space.output c.loop-step-test.true refl c.loop-step.invariant.spends
+    (λ own is. c.in_err-make_located.ensures.spends own (subst (λ (s : Step). IsStep x r c.args.given.now on s own) c.in-Located.is is))
