@@ -268,7 +268,6 @@ fn make_step(
 /// # Errors
 ///
 /// The first thing missing. The storage is as the moves and receivers before left it then.
-#[inline(always)]
 pub(crate) fn apply_in(
     given: &[StatementMoves],
     plan: &Plan,

@@ -130,7 +130,6 @@ impl Moves {
     /// # Errors
     ///
     /// The first thing missing. The storage is as the moves and receivers before left it then.
-    #[inline(always)]
     pub fn apply(
         &self,
         input_layout: &Layout,
