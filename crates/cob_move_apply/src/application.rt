@@ -294,8 +294,9 @@ pub(crate) fn apply_in(
 {
     one_outcome_of_counts();
     space.forget();
-    let steps = plan.steps.as_slice();
-    for step in steps {
+    let mut rest = plan.steps.as_slice();
+    while let Some((step, behind)) = rest.split_first() {
+        rest = behind;
         // Where the items of such a move stand is found as it is carried out.
         if let Step::Located(number) = step {
             make_located(plan, *number, layouts, input, output, space)?;
