@@ -5,7 +5,7 @@ ghost use Rattle.cob_copybook_tree.specs.Forests.{entries_in};
 ghost use Rattle.cob_copybook_tree.specs.Lengths.{greatest_number, sum_of};
 ghost use Rattle.cob_layout_places.specs.Lengths.{times};
 ghost use Rattle.cob_layout.specs.Counting.{CountsOf};
-ghost use Rattle.cob_layout.specs.Standing.{IsRoomFor};
+ghost use Rattle.cob_layout.specs.Standing.{IsRoomFor, KeepsOf};
 
 use crate::counts::Counts;
 use crate::layout::Layout;
@@ -70,5 +70,25 @@ impl Layout {
         counts.reach = 0;
         let made = self.length_of(bytes, &mut counts.next, &mut counts.sums)?;
         Ok(made as u16)
+    }
+
+    /// How many bytes a record has under the counts that its bytes give, as [`Layout::current_length`] says it. Counts that are kept are those of these
+    /// bytes; they are not read again, and those that are read are kept. It takes no memory.
+    ///
+    /// # Errors
+    ///
+    /// The first count that gives no number within its table's bounds, or that ends past the bytes.
+    pub fn kept_length(&self, bytes: &[u8], counts: &mut Counts) -> Result<u16, CountFault>
+        requires room { IsRoomFor self.now counts.old }
+        requires kept { KeepsOf self.now bytes.now counts.old }
+        ensures ok { IfOk result (λ made. (c : List ℕ) × CountsOf self.now bytes.now (Ok c)
+            × (made ≡ sum_of (times c) self.now)) }
+        ensures least { IfOk result (λ made. 0 < made) }
+        ensures most { IfOk result (λ made. made ≤ sum_of greatest_number self.now) }
+        ensures err { IfErr result (λ e. CountsOf self.now bytes.now (Err e)) }
+        ensures keeps { KeepsOf self.now bytes.now counts.new }
+        ensures room { IsRoomFor self.now counts.new }
+    {
+        self.current_length(bytes, counts)
     }
 }
