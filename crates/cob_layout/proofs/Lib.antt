@@ -29,6 +29,7 @@ pub mod ShiftLaw
 pub mod ShiftLemmas
 pub mod SumLemmas
 pub mod MeasuringLemmas
+pub mod WholeLemmas
 pub mod RoomLemmas
 pub mod Loans
 pub mod Lists

@@ -84,6 +84,10 @@ abbrev pub kept_after : (Table → Bool) → List ℕ → List Table → List (O
 kept_after read d [] ks = []
 kept_after read d (x ∷ xs) ks = (if read x then Some (slice_index d x.number) else first_kept ks) ∷ kept_after read d xs (others_kept ks)
 
+-- what is kept where the count of each of these tables is
+abbrev pub all_kept : List ℕ → List Table → List (Option ℕ)
+all_kept d xs = map (λ (x : Table). Some (slice_index d x.number)) xs
+
 -- Each table is read once at most while its count is kept: as many are kept more as were read, and where a count is refused no more were read than were
 -- not kept.
 abbrev pub ReadOnce : Type 0

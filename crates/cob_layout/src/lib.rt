@@ -43,6 +43,8 @@
 //! - [`Layout::find`] answers as [`Layout::refresh`] and then [`Layout::place_in`] do (`found`, `current`, `fits`), and reads, keeps and counts as
 //!   [`Layout::refresh`] does (`reads`, `kept`, `keeps`, `same`). But it places the entries that it is asked for alone, and leaves
 //!   where the others stand.
+//! - [`Layout::kept_length`] is [`Layout::current_length`] too (`ok`, `least`, `most`, `err`), but reads only the counts that are not kept, and keeps
+//!   them all (`kept`, `keeps`).
 //! - [`Layout::kind`] is what the entry with a number describes.
 //! - The bytes of a storage say one thing of all counts and of those that are needed ([`one_outcome_of_counts`]). Where all are valid, those
 //!   that are needed are, and the place is that under all counts, but for the tables that the reference is spared, which have their greatest

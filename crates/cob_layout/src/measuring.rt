@@ -3,15 +3,19 @@
 ghost use Rattle.std.specs.Prelude.{◌≡◌, ◌<◌, ◌≤◌, ◌+◌, ℕ, List, length, Ok, Err, IfOk, IfErr};
 ghost use Rattle.cob_copybook_tree.specs.Forests.{entries_in};
 ghost use Rattle.cob_copybook_tree.specs.Lengths.{greatest_number, sum_of};
+ghost use Rattle.cob_layout_places.specs.Counts.{tables_of};
 ghost use Rattle.cob_layout_places.specs.Lengths.{times};
 ghost use Rattle.cob_layout.specs.Counting.{CountsOf};
+ghost use Rattle.cob_layout.specs.Kept.{all_kept, numbers_of};
 ghost use Rattle.cob_layout.specs.Standing.{IsRoomFor, KeepsOf};
 
 use crate::counts::Counts;
+use crate::finding::FindFault;
 use crate::layout::Layout;
 use crate::sound::records_are_sound;
 use crate::spots::spot_at;
-use cob_layout_places::CountFault;
+use arrayvec::ArrayVec;
+use cob_layout_places::{CountFault, Ref, needs_are_read};
 
 impl Layout {
     /// The record's length in bytes under these counts; the sums are room that it needs.
@@ -87,8 +91,29 @@ impl Layout {
         ensures most { IfOk result (λ made. made ≤ sum_of greatest_number self.now) }
         ensures err { IfErr result (λ e. CountsOf self.now bytes.now (Err e)) }
         ensures keeps { KeepsOf self.now bytes.now counts.new }
+        // The count of each table is kept then.
+        ensures kept { IfOk result (λ _. (c : List ℕ) × CountsOf self.now bytes.now (Ok c)
+            × (numbers_of counts.new.kept ≡ all_kept c (tables_of self.now))) }
         ensures room { IsRoomFor self.now counts.new }
     {
-        self.current_length(bytes, counts)
+        // For `least` and `most`: a record description is sound, and the layout is that of one.
+        records_are_sound();
+        let greatest = self.greatest();
+        if !self.varies() {
+            return Ok(greatest);
+        }
+        // For `kept`: the counts that are read are those that the record needs as a reference, which are all.
+        needs_are_read();
+        let whole = Ref {
+            node: 0,
+            subscripts: ArrayVec::new(),
+        };
+        let mut reads = 0;
+        match self.find(&whole, false, bytes, counts, &mut reads) {
+            Ok(place) => Ok(place.length as u16),
+            Err(FindFault::Count(fault)) => Err(fault),
+            // The record is no table, so that it is there under all counts.
+            Err(FindFault::Subscript(_)) => Ok(greatest),
+        }
     }
 }
