@@ -1,10 +1,10 @@
 -- Counts and sums that reach up to a number.
-use Rattle.std.proofs.Common.{◌≡◌, ◌⊎◌, ℕ, ◌+◌, ◌<◌, ◌≤◌, ◌==◌, ◌&&◌, nat_le, Bool, true, false, List, [], ◌∷◌, length, take, Option, Some, refl, sym, ap, subst, ◌∙◌, arith, inl, inr}
+use Rattle.std.proofs.Common.{◌≡◌, ℕ, ◌+◌, ◌<◌, ◌≤◌, ◌==◌, ◌&&◌, nat_le, Bool, true, false, List, [], ◌∷◌, length, take, drop, get_or, Option, Some, None, refl, sym, ap, subst, ◌∙◌, arith, inl, inr}
 use Rattle.std.specs.Prelude.{if◌then◌else◌, slice_index}
 use Rattle.std.proofs.lemmas.Bool.Decides.{nat_tests}
+use Rattle.std.proofs.lemmas.List.{drop_more}
 use Rattle.cob_copybook_tree.specs.Forests.{Forest, entries_in}
 use Rattle.cob_copybook_tree.specs.Nodes.{Resolved}
-use Rattle.cob_layout_places.specs.declared.spots.Spot.{Spot}
 use Rattle.cob_layout_places.specs.declared.varying.Table.{Table}
 use Rattle.cob_layout_places.specs.Counts.{tables_of}
 use Rattle.cob_layout_places.specs.Lengths.{times}
@@ -13,14 +13,12 @@ use Rattle.cob_layout_places.specs.References.{Refers}
 use Rattle.cob_layout_places.specs.Spots.{spots_of}
 use Rattle.cob_layout.specs.declared.counts.StoredCount.{StoredCount}
 use Rattle.cob_layout.specs.Finding.{ReachIn, SparesNone, are_all_met, are_met, is_kept_as, is_met}
-use Rattle.cob_layout.specs.Kept.{kept_read, stored_at}
 use Rattle.cob_layout.specs.Shifts.{grow_in, sums_of}
 use Rattle.cob_layout.specs.Sound.{IsSound}
 use Rattle.cob_layout.proofs.FindLemmas.{and_both, met_read, two_ways}
 use Rattle.cob_layout.proofs.Lists.{same}
 use Rattle.cob_layout.proofs.NeedLemmas.{needs_below}
 use Rattle.cob_layout.proofs.ReferenceLemmas.{refers_has}
-use Rattle.cob_layout.proofs.RefreshLemmas.{if_true}
 use Rattle.cob_layout.proofs.ShiftLemmas.{length_growths}
 
 -- ---- counts that are what a reference asks serve those that need fewer tables
@@ -60,7 +58,7 @@ one_met behind reach r s last ends x k n le own other met = elim (two_ways (nat_
       asked_of (nat_le behind x.number) (is_needed behind last r x) (is_kept_as k n) (n == x.most) (needed_below behind r last x own lt) (kept_so k j n is number))
 ]
 
-met_below : (behind reach r s : ℕ) (last ends : Bool) (e : List ℕ) (xs : List Table) (ks : List (Option StoredCount)) → behind ≤ reach → SparesNone behind last r → SparesNone reach ends s → are_met reach ends s e xs ks ≡ true → are_met behind last r e xs ks ≡ true
+pub met_below : (behind reach r s : ℕ) (last ends : Bool) (e : List ℕ) (xs : List Table) (ks : List (Option StoredCount)) → behind ≤ reach → SparesNone behind last r → SparesNone reach ends s → are_met reach ends s e xs ks ≡ true → are_met behind last r e xs ks ≡ true
 met_below behind reach r s last ends e [] ks le own other met = refl
 met_below behind reach r s last ends e (x ∷ xs) [] le own other met = absurd (cc)
 met_below behind reach r s last ends e (x ∷ xs) (k ∷ ks) le own other met =
@@ -68,29 +66,17 @@ met_below behind reach r s last ends e (x ∷ xs) (k ∷ ks) le own other met =
     both_are (is_met behind last r x k (slice_index e x.number)) (are_met behind last r e xs ks) (one_met behind reach r s last ends x k (slice_index e x.number) le own other first)
     (met_below behind reach r s last ends e xs ks le own other rest)
 
--- ---- so do those that were read and kept
+-- ---- counts are what is asked of tables from one on where they are so of that one and of those behind it
 
-met_anew : (behind : ℕ) (reads : Table → Bool) (e : List ℕ) (spots : List Spot) (xs : List Table) (ks : List (Option StoredCount)) → length ks ≡ length xs → ((x : Table) → x.number < behind → reads x ≡ true)
-    → are_met behind false 0 e xs (kept_read reads e spots xs ks) ≡ true
-met_anew behind reads e spots [] ks long all = refl
-met_anew behind reads e spots (x ∷ xs) [] long all = absurd (omega (arith, long))
-met_anew behind reads e spots (x ∷ xs) (k ∷ ks) long all =
-    let n : ℕ = slice_index e x.number in
-    let now : Option StoredCount = if reads x then Some (stored_at e spots x) else k in
-    let own : is_met behind false 0 x now n ≡ true = elim (two_ways (nat_le behind x.number)) [
-      | inl high ↦ past (nat_le behind x.number) (if is_needed behind false 0 x then is_kept_as now n else n == x.most) high
-      | inr low ↦ (let lt : x.number < behind = is_below behind x.number low in
-          asked_of (nat_le behind x.number) (is_needed behind false 0 x) (is_kept_as now n) (n == x.most) (needed_below behind 0 false x (inl refl) lt)
-          (kept_so now (stored_at e spots x) n (if_true (reads x) (Some (stored_at e spots x)) k (all x lt)) refl))
-    ] in
-    both_are (is_met behind false 0 x now n) (are_met behind false 0 e xs (kept_read reads e spots xs ks)) own (met_anew behind reads e spots xs ks (omega (arith, long)) all)
-
--- what is kept of the tables that a reference needs which is spared none
-pub met_now : (behind r : ℕ) (last : Bool) (e : List ℕ) (spots : List Spot) (xs tables : List Table) (ks now : List (Option StoredCount)) → tables ≡ xs → length ks ≡ length xs
-    → now ≡ kept_read (is_needed behind last r) e spots tables ks → SparesNone behind last r → are_met behind false 0 e xs now ≡ true
-met_now behind r last e spots xs tables ks now all long is own =
-    let kept : now ≡ kept_read (is_needed behind last r) e spots xs ks = is ∙ ap (λ (ys : List Table). kept_read (is_needed behind last r) e spots ys ks) all in
-    subst (λ (js : List (Option StoredCount)). are_met behind false 0 e xs js ≡ true) (sym kept) (met_anew behind (is_needed behind last r) e spots xs ks long (λ x lt. needed_below behind r last x own lt))
+pub met_from : (behind : ℕ) (e : List ℕ) (xs : List Table) (ks : List (Option StoredCount)) (i n : ℕ) (x : Table) → i < length xs → length ks ≡ length xs → n ≡ slice_index e (get_or xs i x).number
+    → is_met behind false 0 (get_or xs i x) (get_or ks i None) n ≡ true → are_met behind false 0 e (drop (i + 1) xs) (drop (i + 1) ks) ≡ true → are_met behind false 0 e (drop i xs) (drop i ks) ≡ true
+met_from behind e xs ks i n x lt long is own rest =
+    let here : i < length ks = omega (arith, lt, long) in
+    let first : Table = get_or xs i x in
+    let kept : Option StoredCount = get_or ks i None in
+    ap (λ (ys : List Table). are_met behind false 0 e ys (drop i ks)) (drop_more xs i x lt)
+    ∙ ap (λ (js : List (Option StoredCount)). are_met behind false 0 e (first ∷ drop (i + 1) xs) js) (drop_more ks i None here)
+    ∙ both_are (is_met behind false 0 first kept (slice_index e first.number)) (are_met behind false 0 e (drop (i + 1) xs) (drop (i + 1) ks)) (ap (λ (m : ℕ). is_met behind false 0 first kept m) (sym is) ∙ own) rest
 
 -- ---- what is known within a reach
 
@@ -116,20 +102,10 @@ serves read t r number receiving subscripts behind reach last e sums ks sound re
       sums_are = reach_sums t reach e sums ks known some;
     }
 
--- ---- how far counts reach that are what a reference asks
+-- ---- counts reach so far that are kept up to there
 
--- where they were that
-pub reach_still : (t u : Forest Resolved) (behind number reach now : ℕ) (last : Bool) (tables : List Table) (e sums others : List ℕ) (ks : List (Option StoredCount)) → t ≡ u → tables ≡ tables_of t
-    → are_met behind last number e tables ks ≡ true → (now ≡ reach) ⊎ ((now ≡ behind) × SparesNone behind last number) → ReachIn u reach e sums ks → take (grow_in u + 1) others ≡ sums_of u e → ReachIn u now e others ks
-reach_still t u behind number reach now last tables e sums others ks seen all met (inl is) known are =
-    reaches u now e others ks (λ some. subst (λ (n : ℕ). are_met n false 0 e (tables_of u) ks ≡ true) (sym is) (known (omega (arith, some, is))).0) are
-reach_still t u behind number reach now last tables e sums others ks seen all met (inr h) known are =
+pub reach_kept : (t u : Forest Resolved) (reach : ℕ) (tables : List Table) (e sums : List ℕ) (ks : List (Option StoredCount)) → t ≡ u → tables ≡ tables_of t
+    → are_met reach false 0 e tables ks ≡ true → take (grow_in u + 1) sums ≡ sums_of u e → ReachIn u reach e sums ks
+reach_kept t u reach tables e sums ks seen all met are =
     let xs : tables ≡ tables_of u = all ∙ ap (λ (v : Forest Resolved). tables_of v) seen in
-    reaches u now e others ks (λ some. met_below now behind 0 number false last e (tables_of u) ks (omega (arith, h.0)) (inl refl) h.1 (ap (λ (ys : List Table). are_met behind last number e ys ks) (sym xs) ∙ met)) are
-
--- where they were made that
-pub reach_anew : (t : Forest Resolved) (behind number now : ℕ) (last : Bool) (e sums : List ℕ) (ks : List (Option StoredCount)) → (now ≡ 0) ⊎ ((now ≡ behind) × SparesNone behind last number)
-    → (SparesNone behind last number → are_met behind false 0 e (tables_of t) ks ≡ true) → take (grow_in t + 1) sums ≡ sums_of t e → ReachIn t now e sums ks
-reach_anew t behind number now last e sums ks (inl is) met are = reaches t now e sums ks (λ some. absurd (omega (arith, some, is))) are
-reach_anew t behind number now last e sums ks (inr h) met are =
-    reaches t now e sums ks (λ some. subst (λ (n : ℕ). are_met n false 0 e (tables_of t) ks ≡ true) (sym h.0) (met h.1)) are
+    reaches u reach e sums ks (λ some. ap (λ (ys : List Table). are_met reach false 0 e ys ks) (sym xs) ∙ met) are

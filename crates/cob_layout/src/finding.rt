@@ -4,7 +4,7 @@
 //! them it needs, and only a count that isn't kept is read. Whether the counts of before serve it is known up to a number, and past it seen from the counts
 //! themselves.
 
-ghost use Rattle.std.specs.Prelude.{◌≡◌, ◌+◌, ◌<◌, ◌≤◌, ℕ, List, Result, length, min, slice_index, Ok, Err, IfOk};
+ghost use Rattle.std.specs.Prelude.{◌≡◌, ◌+◌, ◌<◌, ◌≤◌, true, false, ℕ, List, Result, length, min, slice_index, Ok, Err, IfOk};
 ghost use Rattle.cob_copybook_tree.specs.Lengths.{greatest_number, sum_of};
 ghost use Rattle.cob_layout_places.specs.declared.counts.CountFault.{CountFault};
 ghost use Rattle.cob_layout_places.specs.Counts.{tables_of, AreNumberedBelow};
@@ -68,6 +68,32 @@ pub(crate) fn are_met(
         }
     }
     true
+}
+
+/// How far counts reach that reached so far before a table of which so much is kept: no further than its number where this count isn't the one that is
+/// kept.
+fn reach_past(table: Table, kept: Option<StoredCount>, count: u32, reach: usize) -> usize
+    ensures { (behind : ℕ) → behind ≤ result
+        → (behind ≤ reach) × (is_met behind false 0 table kept count ≡ true) }
+{
+    match kept {
+        Some(stored) if stored.number == count => reach,
+        _ => reach.min(table.number),
+    }
+}
+
+/// How far counts reach: up to the first table whose count isn't kept as it stands in them, and past all where there is none.
+#[inline(never)]
+pub(crate) fn reach_of(tables: &[Table], kept: &[Option<StoredCount>], counts: &[u32]) -> usize
+    requires as_many { length kept.now ≡ length tables.now }
+    ensures { are_met result false 0 counts.now tables.now kept.now ≡ true }
+{
+    let mut reach = usize::MAX;
+    for (index, table) in tables.iter().enumerate() {
+        let count = count_at(counts, table.number);
+        reach = reach_past(*table, kept[index], count, reach);
+    }
+    reach
 }
 
 /// Puts the counts that are kept of the tables from this number on into their places.

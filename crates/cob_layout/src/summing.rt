@@ -5,7 +5,7 @@
 //! it the counts are seen anew, from those that are kept. The reach ends where a kept count goes, or where the counts or the sums are written for another
 //! question.
 
-ghost use Rattle.std.specs.Prelude.{◌≡◌, ◌==◌, ◌&&◌, ◌+◌, ◌<◌, ◌≤◌, ◌⊎◌, true, false, ℕ, List, Result, length, min, take, Ok, Err, Some, OnOk, OnErr, IfErr, IfOk, IsFalse, IsTrue};
+ghost use Rattle.std.specs.Prelude.{◌≡◌, ◌==◌, ◌&&◌, ◌+◌, ◌<◌, ◌≤◌, true, false, ℕ, List, Result, length, min, take, Ok, Err, Some, OnOk, OnErr, IfErr, IfOk, IsFalse, IsTrue};
 ghost use Rattle.cob_copybook_tree.specs.Forests.{entries_in};
 ghost use Rattle.cob_layout_places.specs.declared.counts.CountFault.{CountFault};
 ghost use Rattle.cob_layout_places.specs.Counts.{tables_of};
@@ -20,11 +20,13 @@ ghost use Rattle.cob_layout.specs.Standing.{IsRoomFor, KeepsOf};
 
 use crate::by_sums::{element_by, keep_by};
 use crate::counts::{Counts, StoredCount};
-use crate::finding::{are_met, put_later};
+use crate::finding::{are_met, put_later, reach_of};
 use crate::keeping::Needed;
 use crate::layout::Layout;
 use crate::ways::tables_at;
-use cob_layout_places::{CountFault, Found, Ref, needs_are_read, one_place, places_end_in_record};
+use cob_layout_places::{
+    CountFault, Found, Ref, Table, needs_are_read, one_place, places_end_in_record,
+};
 
 /// Whether a reference may be spared a table: it is the last one and receives, and entries stand beneath it.
 fn may_spare(needed: Needed) -> bool
@@ -41,15 +43,24 @@ fn is_within(needed: Needed, reach: usize) -> bool
     needed.behind <= reach && !may_spare(needed)
 }
 
-/// The reach of counts that are what a reference needs and that had this reach before: what one needs that is spared some doesn't serve the others.
-fn reach_with(needed: Needed, reach: usize) -> usize
-    ensures { (result ≡ reach)
-        ⊎ ((result ≡ needed.behind) × SparesNone needed.behind needed.last needed.number) }
+/// Whether these counts, which reach so far, are what a reference asks of all tables.
+fn serve(
+    tables: &[Table],
+    needed: Needed,
+    kept: &[Option<StoredCount>],
+    counts: &[u32],
+    reach: usize,
+) -> bool
+    requires as_many { length kept.now ≡ length tables.now }
+    requires reach { are_met reach false 0 counts.now tables.now kept.now ≡ true }
+    ensures { IsTrue result → are_met needed.behind needed.last needed.number counts.now tables.now
+        kept.now
+        ≡ true }
 {
     if may_spare(needed) {
-        reach
+        are_met(tables, needed, kept, counts)
     } else {
-        needed.behind
+        needed.behind <= reach
     }
 }
 
@@ -114,8 +125,6 @@ impl Layout {
             ≡ kept_after (is_read self.now reference.now.node receiving) c (tables_of self.now)
             (numbers_of kept.old))) }
         ensures sums { OnOk result (take (grow_in self.now + 1) sums.new ≡ sums_of self.now counts.new) }
-        ensures met { OnOk result (SparesNone needed.behind needed.last needed.number
-            → are_met needed.behind false 0 counts.new (tables_of self.now) kept.new ≡ true) }
         ensures keeps { OnOk result (AreKeptOf self.now bytes.now kept.new) }
         ensures reads { (c : Result (List ℕ) CountFault) × (n : ℕ)
             × TakenAnew self.now bytes.now (is_read self.now reference.now.node receiving)
@@ -155,7 +164,7 @@ impl Layout {
     }
 
     /// Lets the counts be what a reference needs: as they are, where their reach says that or where they are that and all that it reads are kept, and else
-    /// those that are read. The sums are those of the counts then, and the reach goes as far as the reference where it is spared none.
+    /// those that are read. The sums are those of the counts then, and the reach goes up to the first table whose count isn't kept as it stands in them.
     ///
     /// # Errors
     ///
@@ -205,16 +214,17 @@ impl Layout {
         if is_within(needed, *reach) {
             return Ok(());
         }
-        if are_met(tables, needed, kept, counts) {
+        let own_reach = reach_of(tables, kept, counts);
+        if serve(tables, needed, kept, counts, own_reach) {
             self.have_sums(*reach, counts, sums);
-            *reach = reach_with(needed, *reach);
+            *reach = own_reach;
             return Ok(());
         }
         *reach = 0;
         self.read_anew(
             reference, receiving, bytes, kept, counts, sums, reads, needed,
         )?;
-        *reach = reach_with(needed, 0);
+        *reach = reach_of(tables, kept, counts);
         Ok(())
     }
 

@@ -14,7 +14,6 @@ use Rattle.cob_layout.specs.Shifts.{all_shifted}
 use Rattle.cob_layout.specs.Sound.{IsSound}
 use Rattle.cob_layout.proofs.FindLemmas.{Comes, comes}
 use Rattle.cob_layout.proofs.GreatestLemmas.{greatest_length}
-use Rattle.cob_layout.proofs.ReachLemmas.{met_now}
 use Rattle.cob_layout.proofs.RecordLemmas.{slots_for}
 use Rattle.cob_layout.proofs.RefreshLemmas.{anew_is, kept_is, needed_anew}
 use Rattle.cob_layout.proofs.ShiftLemmas.{all_stand, can_shift, growing_as}
@@ -121,11 +120,3 @@ returns-clause-keeps c =
     comes c.needs_are_read.ensures c.one_place.ensures u c.args.bytes.now r c.args.receiving c.args.reference.now.subscripts.items ks now d e spots h.0 (subst IsSound c.self.view_is c.self.invariant.1)
     c.requires.refers c.requires.as_many c.requires.kept anew agree stands is in
     m.keeps
-
-pub returns-clause-met : goal.returns-clause-met
-returns-clause-met c = λ plain.
-    (let u = c.args.self.now in
-    let e = c.put_later.new.counts in
-    let spots : List Spot = all_shifted c.own_sums.result.now e 0 c.deref-3.result.now c.deref-4.result.now in
-    met_now c.args.needed.behind c.args.needed.number c.args.needed.last e spots (tables_of u) c.deref-2.result.now c.args.kept.now c.keep_by.new.kept
-    (c.deref-2.ensures.value ∙ c.self.invariant.2 ∙ ap (λ (v : Forest Resolved). tables_of v) c.self.view_is) c.requires.as_many c.keep_by.ensures plain)
