@@ -7,12 +7,13 @@ ghost use Rattle.cob_move_apply.specs.cob_layout.Standing.{IsRoomFor};
 ghost use Rattle.cob_stream.specs.Output.{IsOutputOf};
 ghost use Rattle.cob_convert_record.specs.Becoming.{IsCountStop};
 
+use crate::rejection::Rejection;
 use crate::room::Room;
 use cob_codec::Reading;
 use cob_move_apply::{Book, Counts, Layout, Moves, Side, Stop, StopCause};
 use cob_move_initial::initial;
 use cob_records::{Form, Source};
-use cob_stream::{Reason, judge, next_whole, read_record, written_length};
+use cob_stream::{Reason, judge, next_whole, read_record, sized_are_storages, written_length};
 use std::alloc::{AllocError, Global};
 use std::marker::Model;
 
@@ -102,6 +103,7 @@ impl Conversion {
     ghost use Rattle.cob_stream.specs.Sizes.{IsSized, IsMeasureFault};
     ghost use Rattle.cob_stream.specs.Whole.{IsMisfitReason, IsWholeRecord, ReadsWhole};
     ghost use Rattle.cob_convert_record.specs.Becoming.{Becomes, StopsAt};
+    ghost use Rattle.cob_convert_record.specs.Rejecting.{BecomesWhole, IsRejectedFor};
     ghost use Rattle.cob_convert_record.specs.Rooms.{capacity_for};
 
     /// The conversion of records of these forms and layouts by these moves. The book is that of the output record.
@@ -316,5 +318,39 @@ impl Conversion {
         self.begin(output);
         self.moves.apply(&self.input, &self.output, input, output, &mut room.scratch)?;
         output_length(&self.output, self.out_form, output, &mut room.out_counts)
+    }
+
+    /// Judges an input record that came whole, and makes the output record of one that is of the input layout: what [`Conversion::judge`] and then
+    /// [`Conversion::convert`] answer. It asks for no memory.
+    ///
+    /// # Errors
+    ///
+    /// Why the record is rejected: it isn't one of the input layout, or its conversion stops.
+    #[inline(always)]
+    pub fn convert_whole(
+        &self,
+        input: &[u8],
+        output: &mut [u8],
+        room: &mut Room,
+    ) -> Result<usize, Rejection>
+        requires record { IsRecord self.now.in_form (in_length self.now) input.now }
+        requires output { length output.old ≡ out_length self.now }
+        requires room { room.old ≡ capacity_for self.now.records }
+        ensures size { IfOk result
+            (λ made. (0 < made) × (made ≤ length output.new) × (made ≤ longest_record)) }
+        ensures converts { IfOk result
+            (λ made. BecomesWhole self.now input.now (take made output.new)) }
+        ensures rejects { IfErr result (IsRejectedFor self.now input.now) }
+        ensures room { room.new ≡ room.old }
+    {
+        // For `convert`: what is one of the layout's records holds a record of it.
+        sized_are_storages();
+        if let Err(why) = self.judge(input, room) {
+            return Err(Rejection::Misfit(why));
+        }
+        match self.convert(input, output, room) {
+            Ok(made) => Ok(made),
+            Err(stop) => Err(Rejection::Stopped(stop)),
+        }
     }
 }

@@ -14,6 +14,9 @@
 //!   output is valid; what is written is the whole storage in form f, and its current part in forms v and b (`converts`, by `Becomes` of
 //!   specs/Becoming.antt). Nothing of an earlier record is left in it. It stops at the first move that stops, or behind all moves at the first
 //!   count of the output that isn't valid, in both forms (`stops`, by `StopsAt`).
+//! - [`Conversion::convert_whole`] makes the output record of one that came whole, where it is one of the layout (`converts`, by `BecomesWhole` of
+//!   specs/Rejecting.antt), and else tells by a [`Rejection`] why it has none, as [`Conversion::judge`] and [`Conversion::convert`] do (`rejects`, by
+//!   `IsRejectedFor`).
 //! - What becomes of a record is determined ([`conversions_are_decided`]): a record is one of its layout or a misfit, for one reason; and it has
 //!   one output or one stop, and never both.
 //! - They ask for no memory, which tests show: all that they need is a [`Room`], made once, which each call leaves as large as it was (`room`).
@@ -24,10 +27,12 @@
 
 mod conversion;
 mod laws;
+mod rejection;
 mod room;
 
 pub use cob_move_apply::{Book, Layout, Moves, Side, Stop, StopCause};
 pub use cob_stream::{Cause, MeasureFault, Reason};
 pub use conversion::Conversion;
 pub use laws::conversions_are_decided;
+pub use rejection::Rejection;
 pub use room::Room;

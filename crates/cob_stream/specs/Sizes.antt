@@ -1,5 +1,5 @@
 -- Whether a record that came is one of its layout.
-use Rattle.std.specs.Prelude.{◌≡◌, ◌≢◌, ◌⊎◌, ℕ, true, false, List, length, Ok, Err}
+use Rattle.std.specs.Prelude.{◌≡◌, ◌≢◌, ◌⊎◌, ℕ, true, false, List, length, Ok, Err, Result}
 use Rattle.cob_records.specs.declared.records.Form.{Form}
 use Rattle.cob_records.specs.declared.records.Form.TheVariants.{Fixed, Variable, Blocked}
 use Rattle.cob_copybook_tree.specs.Forests.{Forest}
@@ -9,6 +9,11 @@ use Rattle.cob_layout.specs.Counting.{CountsOf}
 use Rattle.cob_layout.specs.Storage.{IsCurrent, current_length, greatest_length}
 use Rattle.cob_stream.specs.declared.misfit.MeasureFault.{MeasureFault}
 use Rattle.cob_stream.specs.declared.misfit.MeasureFault.TheVariants.{Count, Length}
+
+-- what the counts of a storage's bytes give: a length where all are valid, or the fault of the first that isn't
+abbrev pub GivesLength : Forest Resolved → List ℕ → Result ℕ CountFault → Type 0
+GivesLength tree bytes (Ok current) = (counts : List ℕ) × CountsOf tree bytes (Ok counts) × (current ≡ current_length counts tree)
+GivesLength tree bytes (Err fault) = CountsOf tree bytes (Err fault)
 
 -- A record that came is one of its layout: in form f it has the greatest length, and no count is looked at; in forms v and b its own counts are
 -- valid, and it has the length that they give.

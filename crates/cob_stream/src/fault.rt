@@ -68,7 +68,7 @@ impl Reason {
     }
 
     /// The reason of a record that isn't one of its layout.
-    pub(crate) fn of_misfit(why: MeasureFault) -> Reason
+    pub fn of_misfit(why: MeasureFault) -> Reason
         ensures reason { result ≡ misfit_reason why }
         ensures kind { is_write_cause result.cause ≡ false }
     {

@@ -7,7 +7,8 @@
 //! - [`measure`] says whether a record that came whole is one of its layout. In form f every record of the greatest length is, and no count is
 //!   looked at. In forms v and b the record's own counts have to be valid, and it has the length that they give (`sized`, by `IsSized` of
 //!   specs/Sizes.antt). A misfit is told as the first count that isn't valid, where that stands within the record, and else as a length
-//!   (`misfit`). [`is_fitting`] says it of a record whose length under its counts is known already (`must`, `only`, by `IsFitting`).
+//!   (`misfit`). [`is_fitting`] says it of a record whose length under its counts is known already (`must`, `only`, by `IsFitting`), and [`measure_by`],
+//!   in forms v and b, of one whose counts somebody else took (`sized`, `misfit`, by `GivesLength`).
 //! - [`read_record`] reads the next frame and measures the record in it. Where the source tells its bytes, the clause `reads` has the whole answer
 //!   (`ReadsRecord` of specs/Input.antt): no byte was left; a record of the layout came, and just its frame was read; its frame can't be read, of
 //!   which as much was read as `Reads` of cob_records says; or a whole frame came whose record isn't one of the layout. At any source what is
@@ -17,6 +18,7 @@
 //!   one that was read so (`sized`, `misfit`): who sets a record aside that isn't one of its layout has it whole.
 //! - [`written_length`] says how many bytes of an output storage are written: all of them in form f, its current part in forms v and b, where in
 //!   every form every count is valid (`written`, by `IsOutputOf` of specs/Output.antt); else it names the first that isn't (`faulty`).
+//!   [`written_by`] says it of a storage whose counts somebody else took, and [`is_always_whole`] where none has to be taken.
 //! - [`write_record`] writes a record in its frame, or in form b gathers it, and first writes the open block where the frame does not fit into it;
 //!   [`write_pending`] writes the open block. Both count the bytes that the sink took (`puts`, by `PutsCounted`); a write failed or took nothing
 //!   exactly where that is the answer (`cause`, `errors`).
@@ -41,7 +43,7 @@ pub use cob_layout::{Counts, Layout};
 pub use cob_layout_places::{CountFault, Side};
 pub use fault::{Cause, Reason, RunFault};
 pub use laws::{records_are_judged_once, sized_are_storages};
-pub use misfit::{MeasureFault, is_fitting, measure};
+pub use misfit::{MeasureFault, is_fitting, measure, measure_by};
 pub use reading::read_record;
 pub use whole::{judge, next_whole};
-pub use writing::{write_pending, write_record, written_length};
+pub use writing::{is_always_whole, write_pending, write_record, written_by, written_length};

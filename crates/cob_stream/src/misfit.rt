@@ -8,7 +8,7 @@ ghost use Rattle.cob_layout.specs.Storage.{greatest_length};
 ghost use Rattle.cob_layout.specs.Standing.{IsRoomFor};
 ghost use Rattle.cob_records.specs.Frame.{IsRecord};
 ghost use Rattle.cob_records.specs.declared.records.Form.TheVariants.{Variable};
-ghost use Rattle.cob_stream.specs.Sizes.{IsFitting, IsMeasureFault, IsSized};
+ghost use Rattle.cob_stream.specs.Sizes.{GivesLength, IsFitting, IsMeasureFault, IsSized};
 
 use cob_layout::{Counts, Layout};
 use cob_layout_places::CountFault;
@@ -37,6 +37,26 @@ fn measure_fault_of(fault: CountFault) -> MeasureFault
     }
 }
 
+/// Whether a record of form v or b that came in a frame is one of its layout, where this is the length that its own counts give, or the fault of the
+/// first that isn't valid: it has that length.
+///
+/// # Errors
+///
+/// The count that isn't valid, or a length other than that which the counts give.
+#[inline(always)]
+pub fn measure_by(input: &[u8], current: Result<u16, CountFault>) -> Result<(), MeasureFault>
+    ensures sized { OnOk result ((tree : Forest Resolved)
+        → GivesLength tree input.now current → IsSized Variable tree input.now) }
+    ensures misfit { IfErr result (λ why. (tree : Forest Resolved)
+        → GivesLength tree input.now current → IsMeasureFault Variable tree input.now why) }
+{
+    match current {
+        Ok(current) if input.len() == usize::from(current) => Ok(()),
+        Ok(_) => Err(MeasureFault::Length),
+        Err(fault) => Err(measure_fault_of(fault)),
+    }
+}
+
 /// Whether a record has the length that its own counts give.
 fn measure_current(layout: &Layout, input: &[u8], counts: &mut Counts) -> Result<(), MeasureFault>
     requires room { IsRoomFor layout.now counts.old }
@@ -44,15 +64,7 @@ fn measure_current(layout: &Layout, input: &[u8], counts: &mut Counts) -> Result
     ensures misfit { IfErr result (λ why. IsMeasureFault Variable layout.now input.now why) }
     ensures room { IsRoomFor layout.now counts.new }
 {
-    let current = match layout.current_length(input, counts) {
-        Ok(current) => current,
-        Err(fault) => return Err(measure_fault_of(fault)),
-    };
-    if input.len() == usize::from(current) {
-        Ok(())
-    } else {
-        Err(MeasureFault::Length)
-    }
+    measure_by(input, layout.current_length(input, counts))
 }
 
 /// Whether a record that came whole has the length that its counts give: in form f it is as long as at most, whatever they say.

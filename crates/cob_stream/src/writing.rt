@@ -1,6 +1,8 @@
 //! Writing records and counting what the sink took.
 
-ghost use Rattle.std.specs.Prelude.{◌≡◌, ◌<◌, ◌≤◌, true, ℕ, List, length, take, Err, IfErr, IfOk, IsTrue, OnErr, OnOk, is_err};
+ghost use Rattle.std.specs.Prelude.{◌≡◌, ◌<◌, ◌≤◌, true, ℕ, List, length, take, Err, Ok, IfErr, IfOk, IsTrue, OnErr, OnOk, is_err};
+ghost use Rattle.cob_copybook_tree.specs.Forests.{Forest};
+ghost use Rattle.cob_copybook_tree.specs.Nodes.{Resolved};
 ghost use Rattle.cob_limits.specs.Limits.{longest_record};
 ghost use Rattle.cob_layout.specs.Counting.{CountsOf};
 ghost use Rattle.cob_layout.specs.Storage.{greatest_length};
@@ -9,6 +11,7 @@ ghost use Rattle.cob_records.specs.Device.{Took, counted};
 ghost use Rattle.cob_records.specs.Frame.{is_write_error, is_write_fault};
 ghost use Rattle.cob_records.specs.Forms.{FitsIn, emptied, pending_in, outlet_with, written_by};
 ghost use Rattle.cob_stream.specs.Output.{IsOutputOf, PutsCounted, taken_in};
+ghost use Rattle.cob_stream.specs.Sizes.{GivesLength};
 
 use cob_layout::{Counts, Layout};
 use cob_layout_places::CountFault;
@@ -16,13 +19,29 @@ use cob_records::{Form, Outlet, RecordFault, Sink};
 
 /// Whether all of a storage is written, whatever its bytes: in form f, where no table varies.
 #[inline(always)]
-fn is_always_whole(layout: &Layout, form: Form) -> bool
+pub fn is_always_whole(layout: &Layout, form: Form) -> bool
     ensures { IsTrue result → (storage : List ℕ) → IsOutputOf form layout.now storage storage }
 {
     if layout.varies() {
         return false;
     }
     matches!(form, Form::Fixed)
+}
+
+/// How many bytes of an output storage are written, where its counts are all valid and give this length: all in form f, and in forms v and b its
+/// current part.
+#[inline(always)]
+pub fn written_by(form: Form, storage: &[u8], current: u16) -> usize
+    ensures size { 0 < current → current ≤ length storage.now
+        → (0 < result) × (result ≤ length storage.now) }
+    ensures written { (tree : Forest Resolved) → GivesLength tree storage.now (Ok current)
+        → IsOutputOf form tree storage.now (take result storage.now) }
+{
+    match form {
+        Form::Fixed => storage.len(),
+        Form::Variable => usize::from(current),
+        Form::Blocked(_) => usize::from(current),
+    }
 }
 
 /// How many bytes of an output storage are written: all in form f, and in forms v and b its current part. The counts are room that it needs.
@@ -51,12 +70,7 @@ pub fn written_length(
         return Ok(usize::from(greatest));
     }
     let current = layout.current_length(storage, counts)?;
-    let made = match form {
-        Form::Fixed => greatest,
-        Form::Variable => current,
-        Form::Blocked(_) => current,
-    };
-    Ok(usize::from(made))
+    Ok(written_by(form, storage, current))
 }
 
 /// How many bytes the sink took, where so many were to be written and this was the answer.

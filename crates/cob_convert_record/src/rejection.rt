@@ -1,0 +1,13 @@
+//! Why a record that came whole becomes nothing.
+
+use cob_move_apply::Stop;
+use cob_stream::Reason;
+
+/// Why an input record that came whole has no output record.
+#[derive(Clone, Copy, Debug, PartialEq, Eq)]
+pub enum Rejection {
+    /// It isn't one of the input layout.
+    Misfit(Reason),
+    /// It is one, and its conversion stops.
+    Stopped(Stop),
+}
