@@ -7,7 +7,7 @@ use Rattle.cob_layout.specs.Storage.{greatest_length}
 use Rattle.cob_layout_places.specs.Moves.{Records}
 use Rattle.cob_move_apply.specs.Room.{RoomForMoves}
 use Rattle.cob_move_apply.specs.declared.survey.Survey.{Survey}
-use Rattle.cob_move_apply.specs.declared.workspace.Layouts.{Layouts}
+use Rattle.cob_move_apply.specs.declared.layouts.Layouts.{Layouts}
 use Rattle.cob_move_apply.specs.declared.workspace.Workspace.{Workspace}
 
 -- the records of these layouts

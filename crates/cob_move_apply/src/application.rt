@@ -16,6 +16,7 @@ ghost use Rattle.cob_move_apply.specs.Surveyed.{HasSpace, IsWorkspace, records};
 
 use crate::basis::{Basis, PlacedReceivers};
 use crate::constant::make_constant;
+use crate::layouts::Layouts;
 use crate::located::make_located;
 use crate::pairs::make_pair_move;
 use crate::pictured::run_pictured;
@@ -24,7 +25,7 @@ use crate::running::run_step;
 use crate::senders::make_move;
 use crate::step::{MovePlaces, Part, PicturedMove, Plan, Step, copy_across};
 use crate::stop::Stop;
-use crate::workspace::{Layouts, Workspace};
+use crate::workspace::Workspace;
 use cob_codec::Reading;
 use cob_layout::one_outcome_of_counts;
 use cob_layout_places::StatementMoves;

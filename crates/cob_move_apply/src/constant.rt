@@ -9,8 +9,9 @@ ghost use Rattle.cob_move_apply.specs.Spent.{PlaceSpends};
 ghost use Rattle.cob_move_apply.specs.Steps.{IsConstantAt};
 ghost use Rattle.cob_move_apply.specs.Surveyed.{IsWorkspace, records};
 
+use crate::layouts::Layouts;
 use crate::step::{ConstantMove, Plan};
-use crate::workspace::{Layouts, Workspace};
+use crate::workspace::Workspace;
 
 /// Carries out the single move of a constant that was made ready. It is inlined, so that it costs no call.
 #[inline(always)]
@@ -35,5 +36,5 @@ pub(crate) fn make_constant(
     let start = one.to.offset as usize;
     let end = start + one.to.length as usize;
     plan.constants[one.number].run(&mut output[start..end]);
-    space.output.change(layouts.output, one.to);
+    space.output.change_output(layouts, one.to);
 }

@@ -35,6 +35,7 @@ mod application;
 mod basis;
 mod constant;
 mod laws;
+mod layouts;
 mod located;
 mod moves;
 mod pairs;

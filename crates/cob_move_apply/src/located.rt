@@ -13,13 +13,14 @@ ghost use Rattle.cob_move_apply.specs.Steps.{CarriesAnywhere, CarriesPictured, G
 ghost use Rattle.cob_move_apply.specs.Surveyed.{IsWorkspace, records};
 
 use crate::basis::{PlacedReceivers, SentEntry, placed_operand};
+use crate::layouts::Layouts;
 use crate::pictured::run_pictured;
 use crate::places::{Stored, locate};
 use crate::prepared::{make_characters, make_prepared};
 use crate::senders::move_entry;
 use crate::step::{LocatedMove, LocatedStep, MovePlaces, PicturedMove, Plan};
 use crate::stop::Stop;
-use crate::workspace::{Layouts, Workspace};
+use crate::workspace::Workspace;
 use cob_codec::Reading;
 use cob_layout::places_lie_in_storage;
 use cob_layout_places::Side;

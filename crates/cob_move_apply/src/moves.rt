@@ -13,11 +13,11 @@ ghost use Rattle.cob_move_apply.specs.Told.{most_moves_told, single_moves};
 ghost use Rattle.cob_move_apply.specs.Room.{room_of};
 
 use crate::application::apply_in;
+use crate::layouts::Layouts;
 use crate::planning::plan_of;
 use crate::scratch::Scratch;
 use crate::step::{Plan, at_most_u32, counted};
 use crate::stop::Stop;
-use crate::workspace::Layouts;
 use cob_codec::Reading;
 use cob_layout::{Layout, records_are_sound};
 use cob_layout_places::StatementMoves;
@@ -169,6 +169,7 @@ impl Moves {
     /// # Errors
     ///
     /// The first thing missing. The storage is as the moves and receivers before left it then.
+    #[inline(always)]
     pub fn apply_kept(
         &self,
         input_layout: &Layout,
@@ -203,6 +204,7 @@ impl Moves {
             input: input_layout,
             output: output_layout,
             reading: self.reading,
+            varies: output_layout.varies(),
         };
         let statements = self.statements.as_slice();
         apply_in(

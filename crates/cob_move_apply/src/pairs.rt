@@ -11,9 +11,10 @@ ghost use Rattle.cob_move_apply.specs.Spent.{MovesSpend};
 ghost use Rattle.cob_move_apply.specs.Surveyed.{IsWorkspace, records};
 
 use crate::basis::{Basis, PlacedReceivers, SentEntry};
+use crate::layouts::Layouts;
 use crate::senders::move_entry;
 use crate::stop::Stop;
-use crate::workspace::{Layouts, Workspace};
+use crate::workspace::Workspace;
 use arrayvec::ArrayVec;
 use cob_layout::Ref;
 use cob_layout_places::{NumberedPair, PairMoves};

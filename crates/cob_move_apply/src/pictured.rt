@@ -10,9 +10,10 @@ ghost use Rattle.cob_move_apply.specs.Written.{HasPlaces};
 ghost use Rattle.cob_move_prepared.specs.Pictured.{IsPicturedStep};
 ghost use Rattle.cob_move_prepared.specs.Pool.{MoveKinds};
 
+use crate::layouts::Layouts;
 use crate::step::PicturedMove;
 use crate::stop::{Stop, StopCause};
-use crate::workspace::{Layouts, Workspace};
+use crate::workspace::Workspace;
 use cob_layout_places::Side;
 use cob_move_prepared::PicturedSteps;
 
@@ -50,7 +51,7 @@ pub(crate) fn run_pictured(
     let start = to.offset as usize;
     let end = start + to.length as usize;
     if pictured.run(one.step, &input[..sent], &mut output[start..end]) {
-        space.output.change(layouts.output, to);
+        space.output.change_output(layouts, to);
         Ok(())
     } else {
         Err(Stop {

@@ -10,9 +10,10 @@ ghost use Rattle.cob_move_apply.specs.Written.{HasPlaces};
 ghost use Rattle.cob_move_prepared.specs.Pool.{IsMoveStep, MoveKinds};
 ghost use Rattle.cob_move_prepared.specs.declared.pool.MoveStep.TheVariants.{Characters};
 
+use crate::layouts::Layouts;
 use crate::step::MovePlaces;
 use crate::stop::{Stop, StopCause};
-use crate::workspace::{Layouts, Workspace};
+use crate::workspace::Workspace;
 use cob_layout_places::Side;
 use cob_move_prepared::{CharactersStep, MoveStep, MoveSteps};
 
@@ -48,7 +49,7 @@ pub(crate) fn make_prepared(
     let start = places.to.offset as usize;
     let end = start + places.to.length as usize;
     if prepared.run(step, &input[..sent], &mut output[start..end]) {
-        space.output.change(layouts.output, places.to);
+        space.output.change_output(layouts, places.to);
         Ok(())
     } else {
         Err(Stop {
@@ -87,5 +88,5 @@ pub(crate) fn make_characters(
     let start = places.to.offset as usize;
     let end = start + places.to.length as usize;
     prepared.run_characters(step, &input[..sent], &mut output[start..end]);
-    space.output.change(layouts.output, places.to);
+    space.output.change_output(layouts, places.to);
 }

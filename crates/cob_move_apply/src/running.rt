@@ -14,10 +14,11 @@ ghost use Rattle.cob_move_apply.specs.declared.step.Part.{Part as PartOf};
 
 use crate::application::make_single;
 use crate::constant::make_constant;
+use crate::layouts::Layouts;
 use crate::pictured::run_pictured;
 use crate::prepared::make_characters;
 use crate::step::{MovePlaces, PicturedMove, Plan, Step, copy_across};
-use crate::workspace::{Layouts, Workspace};
+use crate::workspace::Workspace;
 use cob_codec::Reading;
 use cob_move_prepared::MoveStep;
 

@@ -13,10 +13,11 @@ ghost use Rattle.cob_move_apply.specs.Spent.{MovesSpend};
 ghost use Rattle.cob_move_apply.specs.Surveyed.{IsWorkspace, records};
 
 use crate::basis::{Basis, PlacedOperand, PlacedReceivers, SentEntry, placed_operand};
+use crate::layouts::Layouts;
 use crate::places::{Stored, locate};
 use crate::receivers::{Given, receive_all};
 use crate::stop::Stop;
-use crate::workspace::{Layouts, Workspace};
+use crate::workspace::Workspace;
 use cob_layout::{Place, field, places_lie_in_storage};
 use cob_layout_places::{Sender, Side};
 use cob_move_receive::Sent;

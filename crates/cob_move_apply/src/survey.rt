@@ -8,6 +8,7 @@ ghost use Rattle.cob_layout.specs.Standing.{KeepsOf, room_in};
 ghost use Rattle.cob_move_apply.specs.Spent.{kept_of, PlaceSpends};
 ghost use Rattle.cob_move_apply.specs.Surveyed.{HasRoom, IsSurvey};
 
+use crate::layouts::Layouts;
 use cob_layout::{Counts, Layout, Place};
 use std::alloc::{AllocError, Global};
 
@@ -56,5 +57,19 @@ impl Survey {
             → PlaceSpends layout.now before place self.old self.new }
     {
         layout.wrote(place, &mut self.counts);
+    }
+
+    /// Says of the output record what [`Survey::change`] says. Where no table of it varies, none of its counts is kept: then this is a test alone.
+    #[inline(always)]
+    pub(crate) fn change_output(&mut self, layouts: &Layouts<'_>, place: Place)
+        ensures survey { (before field : List ℕ) → place.offset + place.length ≤ length before
+            → length field ≡ place.length → IsSurvey layouts.now.output.now before self.old
+            → IsSurvey layouts.now.output.now (with_field before place field) self.new }
+        ensures spends { (before : List ℕ) → IsSurvey layouts.now.output.now before self.old
+            → PlaceSpends layouts.now.output.now before place self.old self.new }
+    {
+        if layouts.varies {
+            self.change(layouts.output, place);
+        }
     }
 }

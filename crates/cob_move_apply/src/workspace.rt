@@ -9,17 +9,8 @@ ghost use Rattle.cob_move_apply.specs.Spent.{kept_of};
 ghost use Rattle.cob_move_apply.specs.Surveyed.{HasSpace, IsWorkspace};
 
 use crate::survey::Survey;
-use cob_codec::Reading;
 use cob_layout::Layout;
 use std::alloc::{AllocError, Global};
-
-/// The layouts of both records, and how their binary items are read that are sent.
-#[derive(Clone, Copy)]
-pub(crate) struct Layouts<'a> {
-    pub(crate) input: &'a Layout,
-    pub(crate) output: &'a Layout,
-    pub(crate) reading: Reading,
-}
 
 /// What is kept of both records' storages, and room for the bytes of a sender that lies in the output record.
 #[derive(Debug, Drop)]

@@ -22,10 +22,10 @@ returns-clause-space c =
     let size : length c.run_characters.new.to ≡ c.args.places.now.to.length = c.run_characters.auto.to ∙ (mid_len start end c.args.output.now (omega (arith, c.requires.writes, c.requires.output)) ∙ back) in
     record {
       surveyed_input = c.requires.space.surveyed_input;
-      surveyed_output = subst (λ (bytes : List ℕ). IsSurvey c.args.layouts.now.output.now bytes c.change.new.self) (sym (put_is c.args.places.now.to c.run_characters.new.to c.args.output.now))
-          (c.change.ensures.survey c.args.output.now c.run_characters.new.to (omega (arith, c.requires.writes, c.requires.output)) size c.requires.space.surveyed_output);
+      surveyed_output = subst (λ (bytes : List ℕ). IsSurvey c.args.layouts.now.output.now bytes c.change_output.new.self) (sym (put_is c.args.places.now.to c.run_characters.new.to c.args.output.now))
+          (c.change_output.ensures.survey c.args.output.now c.run_characters.new.to (omega (arith, c.requires.writes, c.requires.output)) size c.requires.space.surveyed_output);
       content = c.requires.space.content;
     }
 
 pub returns-clause-spends : goal.returns-clause-spends
-returns-clause-spends c = c.change.ensures.spends c.args.output.now c.requires.space.surveyed_output
+returns-clause-spends c = c.change_output.ensures.spends c.args.output.now c.requires.space.surveyed_output

@@ -22,8 +22,8 @@ returns-then-run-clause-space c =
     let size : length c.run.new.to ≡ c.args.places.now.to.length = c.run.auto.to ∙ (mid_len start end c.args.output.now (omega (arith, c.requires.writes, c.requires.output)) ∙ back) in
     record {
       surveyed_input = c.requires.space.surveyed_input;
-      surveyed_output = subst (λ (bytes : List ℕ). IsSurvey c.args.layouts.now.output.now bytes c.change.new.self) (sym (put_is c.args.places.now.to c.run.new.to c.args.output.now))
-          (c.change.ensures.survey c.args.output.now c.run.new.to (omega (arith, c.requires.writes, c.requires.output)) size c.requires.space.surveyed_output);
+      surveyed_output = subst (λ (bytes : List ℕ). IsSurvey c.args.layouts.now.output.now bytes c.change_output.new.self) (sym (put_is c.args.places.now.to c.run.new.to c.args.output.now))
+          (c.change_output.ensures.survey c.args.output.now c.run.new.to (omega (arith, c.requires.writes, c.requires.output)) size c.requires.space.surveyed_output);
       content = c.requires.space.content;
     }
 
@@ -36,7 +36,7 @@ returns-else-run-clause-made c =
     (mid_len start end c.args.output.now (omega (arith, c.requires.writes, c.requires.output)) ∙ back) c.if-run.false c.run.ensures.gets c.run.ensures.same
 
 pub returns-then-run-clause-spends : goal.returns-then-run-clause-spends
-returns-then-run-clause-spends c = c.change.ensures.spends c.args.output.now c.requires.space.surveyed_output
+returns-then-run-clause-spends c = c.change_output.ensures.spends c.args.output.now c.requires.space.surveyed_output
 
 pub returns-else-run-clause-spends : goal.returns-else-run-clause-spends
 returns-else-run-clause-spends c = spent_none c.args.layouts.now.output.now c.args.space.now.output
