@@ -1,11 +1,11 @@
 -- How many counts of the output record are read.
-use Rattle.std.proofs.Common.{◌≡◌, ◌==◌, not, absurd, ⊥, ℕ, zero, suc, ◌+◌, ◌≤◌, Bool, true, false, ◌||◌, List, [], ◌∷◌, length, replicate, min, refl, ap, subst, ◌∙◌, arith, inl, inr, Ok, Err, Option, Some, None, ◌⊎◌, if◌then◌else◌}
+use Rattle.std.proofs.Common.{◌≡◌, ℕ, zero, suc, ◌+◌, ◌≤◌, Bool, true, false, ◌||◌, List, [], ◌∷◌, length, replicate, min, refl, ap, subst, ◌∙◌, arith, inl, inr, Ok, Err, Option, Some, None, ◌⊎◌, if◌then◌else◌}
 use Rattle.std.proofs.Math.Nat.{add-mul}
 use Rattle.cob_copybook_tree.specs.Forests.{Forest}
 use Rattle.cob_copybook_tree.specs.Nodes.{Resolved}
 use Rattle.cob_layout.specs.declared.counts.StoredCount.{StoredCount}
 use Rattle.cob_layout.specs.declared.fields.Place.{Place}
-use Rattle.cob_layout.specs.Kept.{AreKeptOf, IsIn, IsKeptAs, ReadOnce, TakenAnew, kept_after, kept_in, most_reads, numbers_of, one_if, first_kept, others_kept}
+use Rattle.cob_layout.specs.Kept.{IsIn, IsKeptAs, ReadOnce, TakenAnew, kept_after, kept_in, most_reads, numbers_of, one_if, first_kept, others_kept}
 use Rattle.cob_layout.specs.Standing.{RoomForCounts, Standing, forgotten, meets, meets_kept, written}
 use Rattle.cob_layout_places.specs.declared.counts.CountFault.{CountFault}
 use Rattle.cob_layout_places.specs.declared.varying.Table.{Table}
@@ -127,26 +127,3 @@ wrote_spends t before p old new survey reads counts =
 
 pub forgotten_none : (t : Forest Resolved) (old new : Standing) → new ≡ forgotten old → kept_in (tables_of t) (numbers_of new.kept) ≡ 0
 forgotten_none t old new same = ap (λ (s : Standing). kept_in (tables_of t) (numbers_of s.kept)) same ∙ none_kept (tables_of t) (length old.kept)
-
--- ---- no table varies
-
--- nothing is kept, so that it is so of every storage
-pub kept_of_none : (t : Forest Resolved) (bytes : List ℕ) (ks : List (Option StoredCount)) → tables_of t ≡ [] → AreKeptOf t bytes ks
-kept_of_none t bytes ks none = record {
-  numbers = λ x k is. absurd (subst (λ (xs : List Table). IsKeptAs x k xs ks) none is);
-  items = λ x k is. absurd (subst (λ (xs : List Table). IsKeptAs x k xs ks) none is);
-  closed = λ x y k is there before. absurd (subst (λ (xs : List Table). IsKeptAs x k xs ks) none is);
-}
-
-no_tables : (xs : List Table) → false ≡ not (length xs == 0) → xs ≡ []
-no_tables [] is = refl
-no_tables (x ∷ xs) is = absurd (false_true is)
-  where
-    false_true : false ≡ true → ⊥
-    false_true e = grind (arith, e)
-
-pub survey_of_none : (t : Forest Resolved) (bytes : List ℕ) (s : Survey) → false ≡ not (length (tables_of t) == 0) → HasRoom t s → IsSurvey t bytes s
-survey_of_none t bytes s none room = record { kept = kept_of_none t bytes s.counts.kept (no_tables (tables_of t) none); room = room }
-
-pub place_spends_none : (t : Forest Resolved) (before : List ℕ) (p : Place) (s : Survey) → PlaceSpends t before p s s
-place_spends_none t before p s = (0, inl refl, record { most = omega arith })
