@@ -20,6 +20,7 @@ pub mod KeepLaw
 pub mod KeptLemmas
 pub mod KeepingLemmas
 pub mod WritingLemmas
+pub mod RangeLemmas
 pub mod RefreshLemmas
 pub mod StandingLemmas
 pub mod FindLemmas

@@ -1,7 +1,9 @@
 -- The counts of a record's tables, and where its entries stand under them.
-use Rattle.std.specs.Prelude.{◌≡◌, ◌&&◌, ◌||◌, nat_lt, ℕ, ◌+◌, Bool, true, false, List, [], ◌∷◌, length, replicate, Option, Some, None, Ok, if◌then◌else◌}
+use Rattle.std.specs.Prelude.{◌≡◌, ◌&&◌, ◌||◌, nat_lt, ℕ, ◌+◌, ◌≤◌, Bool, true, false, List, [], ◌∷◌, length, replicate, Option, Some, None, Ok, if◌then◌else◌}
+use Rattle.std.specs.List.{AllByRecursion}
 use Rattle.cob_copybook_tree.specs.Forests.{Forest, entries_in}
 use Rattle.cob_copybook_tree.specs.Nodes.{Resolved}
+use Rattle.cob_layout.specs.declared.counts.KeptRange.{KeptRange}
 use Rattle.cob_layout.specs.declared.counts.StoredCount.{StoredCount}
 use Rattle.cob_layout.specs.declared.fields.Place.{Place}
 use Rattle.cob_layout.specs.declared.shifts.Growth.{Growth}
@@ -101,6 +103,15 @@ meets_kept p (k ∷ ks) = meets_item p k || meets_kept p ks
 -- what a write to a place leaves: no count is kept where it meets the item of one that was
 abbrev pub written : Place → Standing → Standing
 written p s = if meets_kept p s.kept then forgotten s else s
+
+-- the item of a count lies within the range, where the count is kept
+abbrev pub LiesWithin : KeptRange → Option StoredCount → Type 0
+LiesWithin r None = Unit {0}
+LiesWithin r (Some k) = (r.from ≤ k.place.offset) × (k.place.offset + k.place.length ≤ r.end)
+
+-- so do those of all counts that are kept
+abbrev pub LieWithin : KeptRange → List (Option StoredCount) → Type 0
+LieWithin r ks = AllByRecursion (LiesWithin r) ks
 
 -- none of these tables
 abbrev pub are_none : List Table → Bool

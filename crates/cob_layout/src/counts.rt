@@ -20,6 +20,19 @@ pub struct StoredCount {
     pub place: Place,
 }
 
+/// The bytes of a record, from one up to another, among which the items of all counts that are kept stand.
+#[derive(Clone, Copy, Debug)]
+pub(crate) struct KeptRange {
+    pub(crate) from: u64,
+    pub(crate) end: u64,
+}
+
+/// The range where no count is kept: it has no byte.
+pub(crate) const NO_RANGE: KeptRange = KeptRange {
+    from: u64::MAX,
+    end: 0,
+};
+
 /// How often the tables of a record that vary occur, and where its entries stand then; and the counts of a storage that are kept, so that they
 /// are not read again.
 ///
@@ -31,6 +44,8 @@ pub struct Counts {
     pub(crate) spots: Vec<Spot>,
     /// The count of each table, where it is kept.
     pub(crate) kept: Vec<Option<StoredCount>>,
+    /// Among which bytes the items of those that are kept stand.
+    pub(crate) range: KeptRange,
     /// Where counts are taken, so that those that hold stay until all are.
     pub(crate) next: Vec<u32>,
     /// Room for the sums of the tables that grow, from which the spots are found.
@@ -46,13 +61,13 @@ pub struct Counts {
 impl Model for Counts {
     ghost use Rattle.std.specs.Prelude.{◌≡◌, ◌+◌, length};
     ghost use Rattle.cob_layout.specs.Finding.{ReachTo};
-    ghost use Rattle.cob_layout.specs.Standing.{Standing};
+    ghost use Rattle.cob_layout.specs.Standing.{LieWithin, Standing};
 
     ghost Value = { Standing };
 
     ghost view = { λ c. record { counts = c.taken.items; spots = c.spots.items; kept = c.kept.items; tables = c.tables.items; growths = c.growths.items } };
 
-    ghost invariant = { λ c. (length c.spots.items ≡ length c.taken.items) × (length c.next.items ≡ length c.taken.items) × (length c.sums.items ≡ length c.taken.items + 1) × ReachTo c.reach c.next.items c.sums.items c.tables.items c.growths.items c.kept.items };
+    ghost invariant = { λ c. (length c.spots.items ≡ length c.taken.items) × (length c.next.items ≡ length c.taken.items) × (length c.sums.items ≡ length c.taken.items + 1) × ReachTo c.reach c.next.items c.sums.items c.tables.items c.growths.items c.kept.items × LieWithin c.range c.kept.items };
 }
 
 impl Counts {
@@ -87,6 +102,7 @@ impl Counts {
             taken,
             spots,
             kept,
+            range: NO_RANGE,
             next,
             sums,
             reach: 0,
@@ -126,6 +142,7 @@ impl Counts {
         ensures keeps { (tree : Forest Resolved) (bytes : List ℕ) → KeepsOf tree bytes self.new }
     {
         self.reach = 0;
+        self.range = NO_RANGE;
         self.kept.fill(None);
     }
 }

@@ -1,14 +1,14 @@
 //! Counts of a storage, some of which are kept.
 
-ghost use Rattle.std.specs.Prelude.{◌≡◌, ◌+◌, ◌<◌, ℕ, length, min, slice_index, Ok, Err};
+ghost use Rattle.std.specs.Prelude.{◌≡◌, ◌&&◌, ◌+◌, ◌<◌, ◌≤◌, nat_lt, ℕ, length, min, slice_index, Ok, Err};
 ghost use Rattle.cob_copybook_tree.specs.Forests.{entries_in};
 ghost use Rattle.cob_layout_places.specs.Counts.{tables_of};
 ghost use Rattle.cob_layout_places.specs.Needs.{is_needed};
 ghost use Rattle.cob_layout.specs.Counting.{greatest_counts};
 ghost use Rattle.cob_layout.specs.Kept.{IsIn, kept_read, most_reads, number_of, numbers_of, outcome_of, stored_at, IsReadOne, TakenAnew};
-ghost use Rattle.cob_layout.specs.Standing.{first_number, meets, meets_kept};
+ghost use Rattle.cob_layout.specs.Standing.{first_number, meets, meets_kept, LieWithin};
 
-use crate::counts::{StoredCount, count_at};
+use crate::counts::{KeptRange, NO_RANGE, StoredCount, count_at};
 use crate::fields::Place;
 use crate::layout::Layout;
 use crate::spots::spot_at;
@@ -155,13 +155,51 @@ fn meets_one_of(kept: &[Option<StoredCount>], place: Place) -> bool
     false
 }
 
-/// Whether a place meets the item of one of the counts that are kept. It is inlined, so that it costs no call where no table varies.
+/// Whether a place has a byte in a range, or would if it had one.
 #[inline(always)]
-pub(crate) fn meets_kept(kept: &[Option<StoredCount>], place: Place) -> bool
+fn meets_range(range: KeptRange, place: Place) -> bool
+    ensures { result
+        ≡ (nat_lt place.offset range.end && nat_lt range.from (place.offset + place.length)) }
+{
+    let place_end = u64::from(place.offset) + u64::from(place.length);
+    u64::from(place.offset) < range.end && range.from < place_end
+}
+
+/// Whether a place meets the item of one of the counts that are kept, which lie within this range. It is inlined, so that a place outside it costs no
+/// call.
+#[inline(always)]
+pub(crate) fn meets_kept(kept: &[Option<StoredCount>], range: KeptRange, place: Place) -> bool
+    requires within { LieWithin range kept.now }
     ensures { result ≡ meets_kept place kept.now }
 {
-    match kept {
-        [] => false,
-        _ => meets_one_of(kept, place),
+    if !meets_range(range, place) {
+        return false;
     }
+    meets_one_of(kept, place)
+}
+
+/// A range that holds another one and a place.
+fn range_with(range: KeptRange, place: Place) -> KeptRange
+    ensures from { (result.from ≤ range.from) × (result.from ≤ place.offset) }
+    ensures end { (range.end ≤ result.end) × (place.offset + place.length ≤ result.end) }
+{
+    let place_end = u64::from(place.offset) + u64::from(place.length);
+    KeptRange {
+        from: range.from.min(u64::from(place.offset)),
+        end: range.end.max(place_end),
+    }
+}
+
+/// The range of the counts that are kept.
+#[inline(never)]
+pub(crate) fn range_of(kept: &[Option<StoredCount>]) -> KeptRange
+    ensures { LieWithin result kept.now }
+{
+    let mut range = NO_RANGE;
+    for one in kept {
+        if let Some(stored) = one {
+            range = range_with(range, stored.place);
+        }
+    }
+    range
 }

@@ -16,7 +16,7 @@ ghost use Rattle.cob_layout.specs.Counting.{greatest_counts, AreGreatest, Counts
 ghost use Rattle.cob_layout.specs.Standing.{ArePlaces, AreSomePlaces, IsRoomFor, KeepsNone, StandsIn};
 
 use crate::copy::copied;
-use crate::counts::{Counts, copied_counts, greatest_in_order};
+use crate::counts::{Counts, NO_RANGE, copied_counts, greatest_in_order};
 use crate::fields::Place;
 use crate::kinds::kinds;
 use crate::laws::{fits_ref, places_end_in_length};
@@ -284,6 +284,7 @@ impl Layout {
             &mut counts.spots,
         )?;
         counts.kept.fill(None);
+        counts.range = NO_RANGE;
         Ok(())
     }
 
@@ -329,6 +330,7 @@ impl Layout {
             &mut counts.spots,
         );
         counts.kept.fill(None);
+        counts.range = NO_RANGE;
         Ok(())
     }
 }

@@ -14,7 +14,7 @@ ghost use Rattle.cob_layout.specs.Standing.{AreSomePlaces, IsRoomFor, KeepsOf, w
 
 use crate::counts::{Counts, StoredCount};
 use crate::fields::Place;
-use crate::keeping::{Needed, keep_read, meets_kept};
+use crate::keeping::{Needed, keep_read, meets_kept, range_of};
 use crate::layout::Layout;
 use crate::sound::records_are_sound;
 use crate::ways::{end_of_table, is_last_receiver};
@@ -130,7 +130,7 @@ impl Layout {
         ensures room { IsRoomFor self.now counts.new }
     {
         counts.reach = 0;
-        self.refresh_in(
+        let answer = self.refresh_in(
             reference,
             receiving,
             bytes,
@@ -140,7 +140,9 @@ impl Layout {
             &mut counts.taken,
             &mut counts.spots,
             reads,
-        )
+        );
+        counts.range = range_of(&counts.kept);
+        answer
     }
 
     /// Says that the bytes of a place were written: where it meets the item of a count that is kept, none is kept any more.
@@ -156,7 +158,7 @@ impl Layout {
         records_are_sound();
         one_place();
         let _ = self.greatest();
-        if meets_kept(&counts.kept, place) {
+        if meets_kept(&counts.kept, counts.range, place) {
             counts.forget();
         }
     }

@@ -16,12 +16,12 @@ ghost use Rattle.cob_layout.specs.Finding.{are_met, ReachIn, SparesNone, StandsF
 ghost use Rattle.cob_layout.specs.Kept.{kept_after, most_reads, numbers_of, AreKeptOf, TakenAnew};
 ghost use Rattle.cob_layout.specs.Placed.{element_under};
 ghost use Rattle.cob_layout.specs.Shifts.{grow_in, sums_of};
-ghost use Rattle.cob_layout.specs.Standing.{IsRoomFor, KeepsOf};
+ghost use Rattle.cob_layout.specs.Standing.{IsRoomFor, KeepsOf, LieWithin};
 
 use crate::by_sums::{element_by, keep_by};
-use crate::counts::{Counts, StoredCount};
+use crate::counts::{Counts, KeptRange, StoredCount};
 use crate::finding::{are_met, put_later, reach_of};
-use crate::keeping::Needed;
+use crate::keeping::{Needed, range_of};
 use crate::layout::Layout;
 use crate::ways::tables_at;
 use cob_layout_places::{
@@ -176,6 +176,7 @@ impl Layout {
         receiving: bool,
         bytes: &[u8],
         kept: &mut [Option<StoredCount>],
+        range: &mut KeptRange,
         counts: &mut [u32],
         sums: &mut [u32],
         reach: &mut usize,
@@ -187,6 +188,7 @@ impl Layout {
         requires counts { length counts.old ≡ entries_in self.now }
         requires sums { length sums.old ≡ entries_in self.now + 1 }
         requires reach { ReachIn self.now reach.old counts.old sums.old kept.old }
+        requires within { LieWithin range.old kept.old }
         ensures err { IfErr result
             (λ e. NeededOf self.now reference.now.node receiving bytes.now (Err e)) }
         ensures same { OnErr result (kept.new ≡ kept.old) }
@@ -198,6 +200,7 @@ impl Layout {
             (numbers_of kept.old))) }
         ensures sums { OnOk result (take (grow_in self.now + 1) sums.new ≡ sums_of self.now counts.new) }
         ensures reach { ReachIn self.now reach.new counts.new sums.new kept.new }
+        ensures within { LieWithin range.new kept.new }
         ensures keeps { OnOk result (AreKeptOf self.now bytes.now kept.new) }
         ensures reads { (c : Result (List ℕ) CountFault) × (n : ℕ)
             × TakenAnew self.now bytes.now (is_read self.now reference.now.node receiving)
@@ -224,6 +227,7 @@ impl Layout {
         self.read_anew(
             reference, receiving, bytes, kept, counts, sums, reads, needed,
         )?;
+        *range = range_of(kept);
         *reach = reach_of(tables, kept, counts);
         Ok(())
     }
@@ -266,6 +270,7 @@ impl Layout {
             receiving,
             bytes,
             &mut counts.kept,
+            &mut counts.range,
             &mut counts.next,
             &mut counts.sums,
             &mut counts.reach,

@@ -13,6 +13,7 @@ use Rattle.cob_layout.specs.Counting.{greatest_counts}
 use Rattle.cob_layout.proofs.NeedLemmas.{front_is, zeros_are, needed_at, needed_err}
 use Rattle.std.proofs.lemmas.Result.{err_from_is_err_and}
 use Rattle.cob_layout_places.specs.declared.spots.Spot.{Spot}
+use Rattle.cob_layout.proofs.RangeLemmas.{none_within}
 use Rattle.cob_layout.proofs.RoomLemmas.{room_still, Written, written}
 use Rattle.cob_layout.proofs.layout.Layout.needed.Goals as goal
 
@@ -86,6 +87,7 @@ stand_under-requires-clause-room c =
 
 pub invariant_of-counts-2 : goal.invariant_of-counts-2
 invariant_of-counts-2 c =
+    let none : c.fill-2.new.self.items ≡ replicate (length c.counts.inside.kept.items) None = search rules in
     let taken = ap length (front_of c.counts.inside.taken.len c.stand_under.new.taken (drop (length c.stand_under.new.taken) c.counts.inside.taken.items) (c.stand_under.auto.taken ∙ c.deref_mut-2.ensures.len)) in
     let spots = ap length (front_of c.counts.inside.spots.len c.stand_under.new.spots (drop (length c.stand_under.new.spots) c.counts.inside.spots.items) (c.stand_under.auto.spots ∙ c.deref_mut-4.ensures.len)) in
     let sums = ap length (front_of c.counts.inside.sums.len c.stand_under.new.sums (drop (length c.stand_under.new.sums) c.counts.inside.sums.items) (c.stand_under.auto.sums ∙ c.deref_mut-3.ensures.len)) in (
@@ -93,6 +95,7 @@ invariant_of-counts-2 c =
       omega (arith, taken, c.stand_under.auto.taken, c.deref_mut-2.ensures.len, c.counts.inside.taken.ok.0, c.counts.invariant.1, ap length (front_of c.fill.new.self.len c.take_needed.new.counts (drop (length c.take_needed.new.counts) c.fill.new.self.items) (c.take_needed.auto.counts ∙ c.deref_mut.ensures.len)), c.take_needed.auto.counts, c.deref_mut.ensures.len, c.fill.ensures.len, c.counts.inside.next.ok.0),
       omega (arith, sums, c.stand_under.auto.sums, c.deref_mut-3.ensures.len, c.counts.inside.sums.ok.0, c.counts.invariant.2, c.fill-2.ensures.len, c.fill-2.new.self.ok.0, c.counts.inside.kept.ok.0),
       λ some. absurd (omega (arith, some)),
+      none_within _ (length c.counts.inside.kept.items) c.fill-2.new.self.items none,
     )
 
 pub returns-clause-room : goal.returns-clause-room
@@ -111,7 +114,7 @@ returns-clause-room c =
 pub invariant_of-counts : goal.invariant_of-counts
 invariant_of-counts c =
     let long = c.take_needed.auto.counts ∙ c.deref_mut.ensures.len in
-    (c.counts.invariant.0, omega (arith, ap length (front_of c.fill.new.self.len c.take_needed.new.counts (drop (length c.take_needed.new.counts) c.fill.new.self.items) long), long, c.fill.ensures.len, c.counts.inside.next.ok.0, c.counts.invariant.1), c.counts.invariant.2, λ some. absurd (omega (arith, some)))
+    (c.counts.invariant.0, omega (arith, ap length (front_of c.fill.new.self.len c.take_needed.new.counts (drop (length c.take_needed.new.counts) c.fill.new.self.items) long), long, c.fill.ensures.len, c.counts.inside.next.ok.0, c.counts.invariant.1), c.counts.invariant.2, λ some. absurd (omega (arith, some)), c.counts.invariant.4)
 
 pub returns-clause-stands : goal.returns-clause-stands
 returns-clause-stands c =
