@@ -25,6 +25,7 @@ pub mod RefreshLemmas
 pub mod StandingLemmas
 pub mod FindLemmas
 pub mod ReachLemmas
+pub mod FootingLemmas
 pub mod TakingLemmas
 pub mod ShiftLaw
 pub mod ShiftLemmas

@@ -12,9 +12,10 @@ use Rattle.cob_layout_places.specs.Needs.{NeedsAreRead, is_needed, number_behind
 use Rattle.cob_layout_places.specs.References.{Refers}
 use Rattle.cob_layout_places.specs.Spots.{spots_of}
 use Rattle.cob_layout.specs.declared.counts.StoredCount.{StoredCount}
-use Rattle.cob_layout.specs.Finding.{ReachIn, SparesNone, are_all_met, are_met, is_kept_as, is_met}
+use Rattle.cob_layout.specs.Finding.{ReachIn, ReachTo, SparesNone, are_all_met, are_met, is_kept_as, is_met}
 use Rattle.cob_layout.specs.Shifts.{grow_in, sums_of}
 use Rattle.cob_layout.specs.Sound.{IsSound}
+use Rattle.cob_layout.specs.Standing.{IsRoomFor, RoomForCounts, Standing}
 use Rattle.cob_layout.proofs.FindLemmas.{and_both, met_read, two_ways}
 use Rattle.cob_layout.proofs.Lists.{same}
 use Rattle.cob_layout.proofs.NeedLemmas.{needs_below}
@@ -109,3 +110,10 @@ pub reach_kept : (t u : Forest Resolved) (reach : ℕ) (tables : List Table) (e 
 reach_kept t u reach tables e sums ks seen all met are =
     let xs : tables ≡ tables_of u = all ∙ ap (λ (v : Forest Resolved). tables_of v) seen in
     reaches u reach e sums ks (λ some. ap (λ (ys : List Table). are_met reach false 0 e ys ks) (sym xs) ∙ met) are
+
+-- so it is known of counts that are room for a record
+pub reach_in : (t : Forest Resolved) (s u : Standing) (reach : ℕ) (next sums counts own : List ℕ) → s ≡ u → IsRoomFor t u → counts ≡ next → own ≡ sums → ReachTo reach next sums s.tables s.growths s.kept → ReachIn t reach counts own u.kept
+reach_in t s u reach next sums counts own seen room is same known =
+    let here : ReachTo reach counts own s.tables s.growths s.kept = subst (λ (cs : List ℕ). ReachTo reach cs own s.tables s.growths s.kept) (sym is) (subst (λ (ns : List ℕ). ReachTo reach next ns s.tables s.growths s.kept) (sym same) known) in
+    let there : ReachTo reach counts own u.tables u.growths u.kept = subst (λ (v : Standing). ReachTo reach counts own v.tables v.growths v.kept) seen here in
+    subst (λ (x : RoomForCounts). ReachTo reach counts own x.varying x.growths u.kept) room there

@@ -2,11 +2,12 @@
 use Rattle.std.specs.Prelude.{◌≡◌, ◌⊎◌, ℕ, ◌+◌, ◌<◌, ◌≤◌, Bool, true, false, ◌==◌, ◌&&◌, nat_le, List, [], ◌∷◌, Option, Some, None, Ok, Err, Result, if◌then◌else◌, length, slice_index, take}
 use Rattle.cob_copybook_tree.specs.Forests.{Forest, entries_in}
 use Rattle.cob_copybook_tree.specs.Nodes.{Resolved}
+use Rattle.cob_layout_places.specs.declared.places.Found.{Found}
 use Rattle.cob_layout_places.specs.declared.reference.Ref.{Ref}
 use Rattle.cob_layout_places.specs.declared.varying.Table.{Table}
 use Rattle.cob_layout_places.specs.Counts.{tables_of}
 use Rattle.cob_layout_places.specs.Lengths.{times}
-use Rattle.cob_layout_places.specs.Needs.{is_needed, number_behind}
+use Rattle.cob_layout_places.specs.Needs.{is_needed, is_read, number_behind}
 use Rattle.cob_layout_places.specs.Places.{place_of}
 use Rattle.cob_layout_places.specs.Spots.{spots_of}
 use Rattle.cob_layout.specs.declared.counts.StoredCount.{StoredCount}
@@ -14,8 +15,9 @@ use Rattle.cob_layout.specs.declared.fields.Place.{Place}
 use Rattle.cob_layout.specs.declared.finding.FindFault.{FindFault}
 use Rattle.cob_layout.specs.declared.finding.FindFault.TheVariants.{Count, Subscript}
 use Rattle.cob_layout.specs.declared.shifts.Growth.{Growth}
-use Rattle.cob_layout.specs.Counting.{NeededOf}
-use Rattle.cob_layout.specs.Placed.{placed_under}
+use Rattle.cob_layout.specs.Counting.{greatest_counts, NeededOf}
+use Rattle.cob_layout.specs.Kept.{kept_after, numbers_of, TakenAnew}
+use Rattle.cob_layout.specs.Placed.{element_under, placed_under}
 use Rattle.cob_layout.specs.Shifts.{growths_from, sums_by}
 
 -- A reference stands there in a storage, receiving or not: where its element stands under the counts that it needs there, or would begin where it isn't
@@ -43,6 +45,13 @@ OnCountFault (Err (Count f)) A = A
 abbrev pub StandsFor : Forest Resolved → ℕ → List ℕ → List ℕ → Type 0
 StandsFor tree r counts those =
     (subscripts : List ℕ) → place_of (times counts) r tree 0 0 subscripts ≡ place_of (times those) r tree 0 0 subscripts
+
+-- A reference has this element where all counts that it needs are kept: it stands so under them, none of them is read anew, and what is kept stays.
+abbrev pub IsFoundKept : Forest Resolved → Ref → Bool → (bytes : List ℕ) → List (Option StoredCount) → Found → Type 0
+IsFoundKept tree r receiving bytes ks found =
+    (counts : List ℕ) × NeededOf tree r.node receiving bytes (Ok counts) × (element_under counts tree r ≡ Some found)
+    × (numbers_of ks ≡ kept_after (is_read tree r.node receiving) counts (tables_of tree) (numbers_of ks))
+    × TakenAnew tree bytes (is_read tree r.node receiving) (tables_of tree) (numbers_of ks) (greatest_counts tree) (Ok counts) 0
 
 -- the count that is kept is this one
 abbrev pub is_kept_as : Option StoredCount → ℕ → Bool

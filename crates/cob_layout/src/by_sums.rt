@@ -3,15 +3,17 @@
 //! The spot of an entry is its least one, shifted by the sums of src/shifts.rt. So a reference is found by its own spot and those of the tables that hold
 //! it, in a time that grows with the tables that vary and not with the entries.
 
-ghost use Rattle.std.specs.Prelude.{◌≡◌, ◌≤◌, length};
+ghost use Rattle.std.specs.Prelude.{◌≡◌, ◌+◌, ◌≤◌, ℕ, length, slice_index};
 ghost use Rattle.cob_limits.specs.Limits.{longest_record};
 ghost use Rattle.cob_layout_places.specs.Needs.{is_needed};
 ghost use Rattle.cob_layout.specs.Kept.{kept_read, stored_at};
-ghost use Rattle.cob_layout.specs.Shifts.{all_shifted, CanShift};
-ghost use Rattle.cob_layout.specs.Ways.{first_element, moved, spot_at};
+ghost use Rattle.cob_layout.specs.Footings.{first_by};
+ghost use Rattle.cob_layout.specs.Shifts.{all_shifted, CanShift, IsWithin};
+ghost use Rattle.cob_layout.specs.Ways.{moved, spot_at};
 
 use crate::counts::{StoredCount, count_at};
 use crate::fields::Place;
+use crate::footings::Footing;
 use crate::keeping::Needed;
 use crate::shifts::{Shift, shifted};
 use crate::spots::{NOWHERE, moved_by, spot_at};
@@ -36,6 +38,22 @@ pub(crate) fn spot_by(
     shifted(shifts[number], least[number], sums, count)
 }
 
+/// The first element of an entry under counts whose sums these are, from what its place rests on.
+#[inline(always)]
+pub(crate) fn first_by(footing: Footing, sums: &[u32]) -> Found
+    requires within { IsWithin sums.now footing.shift }
+    requires small { footing.least.offset + footing.least.length ≤ longest_record }
+    requires low { (k : ℕ) → slice_index sums.now k ≤ longest_record }
+    ensures { result ≡ first_by sums.now footing }
+{
+    let spot = shifted(footing.shift, footing.least, sums, 0);
+    Found {
+        offset: spot.offset,
+        length: spot.length,
+        within: true,
+    }
+}
+
 /// An element of an entry under these counts, whose sums these are: the first one, moved by the subscripts of these tables, which hold the entry or are
 /// it, the outermost first.
 #[inline(always)]
@@ -44,25 +62,18 @@ pub(crate) fn element_by(
     least: &[Spot],
     sums: &[u32],
     counts: &[u32],
-    number: usize,
+    first: Found,
     tables: &[usize],
     subscripts: &[u32],
 ) -> Found
     requires by { CanShift sums.now shifts.now least.now }
     requires room { (moved (all_shifted sums.now counts.now 0 shifts.now least.now) tables.now
-        subscripts.now
-        (first_element (all_shifted sums.now counts.now 0 shifts.now least.now) number)).offset
+        subscripts.now first).offset
         ≤ longest_record }
     ensures { result ≡ moved (all_shifted sums.now counts.now 0 shifts.now least.now) tables.now
-        subscripts.now
-        (first_element (all_shifted sums.now counts.now 0 shifts.now least.now) number) }
+        subscripts.now first }
 {
-    let first = spot_by(shifts, least, sums, counts, number);
-    let mut found = Found {
-        offset: first.offset,
-        length: first.length,
-        within: true,
-    };
+    let mut found = first;
     let mut rest = subscripts;
     for table in tables {
         let Some((subscript, later)) = rest.split_first() else {

@@ -18,6 +18,7 @@ ghost use Rattle.cob_layout.specs.Standing.{ArePlaces, AreSomePlaces, IsRoomFor,
 use crate::copy::copied;
 use crate::counts::{Counts, NO_RANGE, copied_counts, greatest_in_order};
 use crate::fields::Place;
+use crate::footings::{Footing, footings};
 use crate::kinds::kinds;
 use crate::laws::{fits_ref, places_end_in_length};
 use crate::shifts::{Growth, Shift, put_shifts};
@@ -59,6 +60,8 @@ pub struct Layout {
     pub(crate) shifts: Vec<Shift>,
     /// How these grow with the counts.
     pub(crate) growths: Vec<Growth>,
+    /// What the places of the entries rest on.
+    pub(crate) footings: Vec<Footing>,
 }
 
 impl Model for Layout {
@@ -70,6 +73,7 @@ impl Model for Layout {
     ghost use Rattle.cob_layout_places.specs.Lengths.{times};
     ghost use Rattle.cob_layout_places.specs.Counts.{tables_of};
     ghost use Rattle.cob_layout_places.specs.Spots.{spots_of};
+    ghost use Rattle.cob_layout.specs.Footings.{AreFootings};
     ghost use Rattle.cob_layout.specs.Ways.{held, held_in};
     ghost use Rattle.cob_layout.specs.Kinds.{kinds_of};
     ghost use Rattle.cob_layout.specs.Shifts.{growths_from, shifts_from};
@@ -86,7 +90,7 @@ impl Model for Layout {
 
     ghost view = { λ l. tree_of l.root };
 
-    ghost invariant = { λ l. IsRecordDescription (tree_of l.root) × IsSound (tree_of l.root) × (l.tables.items ≡ tables_of (tree_of l.root)) × (l.counts.counts ≡ greatest_counts (tree_of l.root)) × (l.greatest ≡ sum_of greatest_number (tree_of l.root)) × TakeBytes (tree_of l.root) × (map held l.ways.items ≡ held_in [] (tree_of l.root)) × (l.counts.spots ≡ spots_of (times (greatest_counts (tree_of l.root))) (tree_of l.root) 0 0) × (l.kinds.items ≡ kinds_of (tree_of l.root)) × (l.counts.kept ≡ replicate (length (tables_of (tree_of l.root))) None) × (l.least.items ≡ spots_of (times []) (tree_of l.root) 0 0) × (l.shifts.items ≡ shifts_from 0 (tree_of l.root)) × (l.growths.items ≡ growths_from l.least.items 0 (tree_of l.root)) × IsRoomFor (tree_of l.root) l.counts };
+    ghost invariant = { λ l. IsRecordDescription (tree_of l.root) × IsSound (tree_of l.root) × (l.tables.items ≡ tables_of (tree_of l.root)) × (l.counts.counts ≡ greatest_counts (tree_of l.root)) × (l.greatest ≡ sum_of greatest_number (tree_of l.root)) × TakeBytes (tree_of l.root) × (map held l.ways.items ≡ held_in [] (tree_of l.root)) × (l.counts.spots ≡ spots_of (times (greatest_counts (tree_of l.root))) (tree_of l.root) 0 0) × (l.kinds.items ≡ kinds_of (tree_of l.root)) × (l.counts.kept ≡ replicate (length (tables_of (tree_of l.root))) None) × (l.least.items ≡ spots_of (times []) (tree_of l.root) 0 0) × (l.shifts.items ≡ shifts_from 0 (tree_of l.root)) × (l.growths.items ≡ growths_from l.least.items 0 (tree_of l.root)) × IsRoomFor (tree_of l.root) l.counts × AreFootings l.ways.items l.shifts.items l.least.items l.footings.items };
 }
 
 /// The place of an element, or the fault where it isn't one of those that there are.
@@ -129,6 +133,7 @@ impl Layout {
         let ways = ways(alloc, &root, entries)?;
         let kinds = kinds(alloc, &root, entries)?;
         let counts = Counts::new(alloc, in_order, spots, &tables, &growths)?;
+        let footings = footings(alloc, &ways, &shifts, &least)?;
         Ok(Layout {
             root,
             tables,
@@ -139,6 +144,7 @@ impl Layout {
             least,
             shifts,
             growths,
+            footings,
         })
     }
 

@@ -69,6 +69,7 @@ mod copy;
 mod counts;
 mod fields;
 mod finding;
+mod footings;
 mod keeping;
 mod kinds;
 mod laws;

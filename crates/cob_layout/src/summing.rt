@@ -5,22 +5,24 @@
 //! it the counts are seen anew, from those that are kept. The reach ends where a kept count goes, or where the counts or the sums are written for another
 //! question.
 
-ghost use Rattle.std.specs.Prelude.{◌≡◌, ◌==◌, ◌&&◌, ◌+◌, ◌<◌, ◌≤◌, true, false, ℕ, List, Result, length, min, take, Ok, Err, Some, OnOk, OnErr, IfErr, IfOk, IsFalse, IsTrue};
+ghost use Rattle.std.specs.Prelude.{◌≡◌, ◌==◌, ◌&&◌, ◌+◌, ◌<◌, ◌≤◌, true, false, ℕ, List, Option, Result, length, min, take, Ok, Err, Some, OnOk, OnErr, IfErr, IfOk, IfSome, IsFalse, IsTrue};
 ghost use Rattle.cob_copybook_tree.specs.Forests.{entries_in};
 ghost use Rattle.cob_layout_places.specs.declared.counts.CountFault.{CountFault};
 ghost use Rattle.cob_layout_places.specs.Counts.{tables_of};
 ghost use Rattle.cob_layout_places.specs.Needs.{is_read, number_behind};
 ghost use Rattle.cob_layout_places.specs.References.{Refers};
+ghost use Rattle.cob_layout.specs.declared.counts.StoredCount.{StoredCount};
 ghost use Rattle.cob_layout.specs.Counting.{greatest_counts, NeededOf};
-ghost use Rattle.cob_layout.specs.Finding.{are_met, ReachIn, SparesNone, StandsFor};
+ghost use Rattle.cob_layout.specs.Finding.{are_met, IsFoundKept, ReachIn, SparesNone, StandsFor};
 ghost use Rattle.cob_layout.specs.Kept.{kept_after, most_reads, numbers_of, AreKeptOf, TakenAnew};
 ghost use Rattle.cob_layout.specs.Placed.{element_under};
 ghost use Rattle.cob_layout.specs.Shifts.{grow_in, sums_of};
 ghost use Rattle.cob_layout.specs.Standing.{IsRoomFor, KeepsOf, LieWithin};
 
-use crate::by_sums::{element_by, keep_by};
+use crate::by_sums::{element_by, first_by, keep_by};
 use crate::counts::{Counts, KeptRange, StoredCount};
 use crate::finding::{are_met, put_later, reach_of};
+use crate::footings::{footing_at, is_within};
 use crate::keeping::{Needed, range_of};
 use crate::layout::Layout;
 use crate::ways::tables_at;
@@ -33,14 +35,6 @@ fn may_spare(needed: Needed) -> bool
     ensures { IsFalse result → SparesNone needed.behind needed.last needed.number }
 {
     needed.last && needed.behind.saturating_sub(needed.number) > 1
-}
-
-/// Whether a reference needs just the tables below a number that isn't above this reach.
-fn is_within(needed: Needed, reach: usize) -> bool
-    ensures behind { IsTrue result → needed.behind ≤ reach }
-    ensures spares { IsTrue result → SparesNone needed.behind needed.last needed.number }
-{
-    needed.behind <= reach && !may_spare(needed)
 }
 
 /// Whether these counts, which reach so far, are what a reference asks of all tables.
@@ -76,16 +70,53 @@ impl Layout {
         // For what `element_by` asks: each element ends within the greatest record.
         places_end_in_record();
         let sums = self.own_sums(sums);
+        let footing = footing_at(&self.footings, reference.node);
+        let first = first_by(footing, sums);
+        let subscripts = reference.subscripts.as_slice();
+        if subscripts.is_empty() {
+            return first;
+        }
         let tables = tables_at(&self.ways, reference.node);
         element_by(
             &self.shifts,
             &self.least,
             sums,
             counts,
-            reference.node,
+            first,
             tables,
-            reference.subscripts.as_slice(),
+            subscripts,
         )
+    }
+
+    /// The element of a reference under these counts, where those that it needs are among those that they reach; None where they may be others.
+    #[inline(always)]
+    fn element_within(
+        &self,
+        reference: &Ref,
+        receiving: bool,
+        reach: usize,
+        sums: &[u32],
+        counts: &[u32],
+    ) -> Option<Found>
+        requires refers { Refers reference.now.node reference.now.subscripts.items self.now }
+        requires room { length sums.now ≡ entries_in self.now + 1 }
+        requires sums { 0 < reach
+            → take (grow_in self.now + 1) sums.now ≡ sums_of self.now counts.now }
+        ensures { IfSome result (λ found. (bytes : List ℕ) (kept : List (Option StoredCount))
+            → length kept ≡ length (tables_of self.now) → AreKeptOf self.now bytes kept
+            → ReachIn self.now reach counts.now sums.now kept
+            → IsFoundKept self.now reference.now receiving bytes kept found) }
+    {
+        // For what `element_in` asks and what is found: the counts that are read are those that the reference needs, and counts that agree on them give
+        // it one place.
+        needs_are_read();
+        one_place();
+        let footing = footing_at(&self.footings, reference.node);
+        if is_within(footing, receiving, reach) {
+            Some(self.element_in(reference, sums, counts))
+        } else {
+            None
+        }
     }
 
     /// Reads the counts that a reference needs and that aren't kept, and keeps them; the counts are those then below the reach of the reference, and the
@@ -163,8 +194,8 @@ impl Layout {
         }
     }
 
-    /// Lets the counts be what a reference needs: as they are, where their reach says that or where they are that and all that it reads are kept, and else
-    /// those that are read. The sums are those of the counts then, and the reach goes up to the first table whose count isn't kept as it stands in them.
+    /// Lets the counts be what a reference needs: as they are, where they are that and all that it reads are kept, and else those that are read. The sums
+    /// are those of the counts then, and the reach goes up to the first table whose count isn't kept as it stands in them.
     ///
     /// # Errors
     ///
@@ -214,9 +245,6 @@ impl Layout {
         let _before = *reads;
         let tables = self.tables.as_slice();
         let needed = self.needed_by(reference.node, receiving);
-        if is_within(needed, *reach) {
-            return Ok(());
-        }
         let own_reach = reach_of(tables, kept, counts);
         if serve(tables, needed, kept, counts, own_reach) {
             self.have_sums(*reach, counts, sums);
@@ -232,13 +260,13 @@ impl Layout {
         Ok(())
     }
 
-    /// The element of a reference under the counts that it needs.
+    /// The element of a reference under the counts that it needs, wherever these may be past the reach.
     ///
     /// # Errors
     ///
     /// The first count that is read and that gives no number within its table's bounds, or that ends past the bytes. The counts are as they were then.
-    #[inline(always)]
-    pub(crate) fn found(
+    #[inline(never)]
+    fn found_past(
         &self,
         reference: &Ref,
         receiving: bool,
@@ -277,5 +305,52 @@ impl Layout {
             reads,
         )?;
         Ok(self.element_in(reference, &counts.sums, &counts.next))
+    }
+
+    /// The element of a reference under the counts that it needs.
+    ///
+    /// # Errors
+    ///
+    /// The first count that is read and that gives no number within its table's bounds, or that ends past the bytes. The counts are as they were then.
+    #[inline(always)]
+    pub(crate) fn found(
+        &self,
+        reference: &Ref,
+        receiving: bool,
+        bytes: &[u8],
+        counts: &mut Counts,
+        reads: &mut u64,
+    ) -> Result<Found, CountFault>
+        requires refers { Refers reference.now.node reference.now.subscripts.items self.now }
+        requires room { IsRoomFor self.now counts.old }
+        requires kept { KeepsOf self.now bytes.now counts.old }
+        ensures err { IfErr result
+            (λ e. NeededOf self.now reference.now.node receiving bytes.now (Err e)) }
+        ensures same { OnErr result (counts.new ≡ counts.old) }
+        ensures came { IfOk result (λ f. (c : List ℕ)
+            × NeededOf self.now reference.now.node receiving bytes.now (Ok c)
+            × (element_under c self.now reference.now ≡ Some f)
+            × (numbers_of counts.new.kept
+            ≡ kept_after (is_read self.now reference.now.node receiving) c (tables_of self.now)
+            (numbers_of counts.old.kept))) }
+        ensures keeps { OnOk result (KeepsOf self.now bytes.now counts.new) }
+        ensures reads { (c : Result (List ℕ) CountFault) × (n : ℕ)
+            × TakenAnew self.now bytes.now (is_read self.now reference.now.node receiving)
+            (tables_of self.now) (numbers_of counts.old.kept) (greatest_counts self.now) c n
+            × (reads.new ≡ min (reads.old + n) most_reads) }
+        ensures room { IsRoomFor self.now counts.new }
+    {
+        // For `reads`: how many there were is a count of 64 bits.
+        let _before = *reads;
+        match self.element_within(
+            reference,
+            receiving,
+            counts.reach,
+            &counts.sums,
+            &counts.next,
+        ) {
+            Some(found) => Ok(found),
+            None => self.found_past(reference, receiving, bytes, counts, reads),
+        }
     }
 }

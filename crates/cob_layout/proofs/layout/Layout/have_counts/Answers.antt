@@ -2,44 +2,12 @@ use Rattle.std.proofs.Common.{◌∙◌, Ok, refl, sym, subst, arith, rules}
 use Rattle.cob_copybook_tree.specs.Nodes.{tree_of}
 use Rattle.cob_layout.specs.Sound.{IsSound}
 use Rattle.cob_layout.proofs.FindLemmas.{MeetsBy, meets_by, met_in}
-use Rattle.cob_layout.proofs.ReachLemmas.{Serves, reach_kept, reach_sums, serves}
+use Rattle.cob_layout.proofs.ReachLemmas.{reach_kept, reach_sums}
 use Rattle.cob_layout.proofs.ReferenceLemmas.{refers_has}
 use Rattle.cob_layout.proofs.layout.Layout.have_counts.Goals as goal
 
 pub needed_by-needed-requires : goal.needed_by-needed-requires
 needed_by-needed-requires c = record { there = refers_has c.args.reference.now.node c.args.reference.now.subscripts.items c.args.self.now c.requires.refers }
-
-pub returns-then-is_within-clause-came : goal.returns-then-is_within-clause-came
-returns-then-is_within-clause-came c =
-    let u = c.args.self.now in
-    let sound : IsSound u = subst IsSound c.self.view_is c.self.invariant.1 in
-    let so : Serves u c.args.reference.now.node c.args.receiving c.args.counts.now c.args.sums.now c.args.kept.now =
-    serves c.needs_are_read.ensures u c.args.reference.now.node c.needed_by-needed.result.number c.args.receiving c.args.reference.now.subscripts.items c.needed_by-needed.result.behind c.args.reach.now c.needed_by-needed.result.last c.args.counts.now c.args.sums.now c.args.kept.now
-    sound c.requires.refers c.needed_by-needed.ensures.behind c.needed_by-needed.ensures.last c.needed_by-needed.ensures.number (c.if-is_within.ensures.behind refl) (c.if-is_within.ensures.spares refl) c.requires.reach in
-    let m : MeetsBy u c.args.bytes.now c.args.reference.now.node c.args.receiving c.args.kept.now c.args.counts.now =
-    meets_by c.needs_are_read.ensures c.one_place.ensures u c.args.bytes.now c.args.reference.now.node c.args.receiving c.args.reference.now.subscripts.items c.args.kept.now c.args.counts.now
-    sound c.requires.refers c.requires.as_many c.requires.kept so.met in
-    (m.counts, m.needed, m.place, m.kept)
-
-pub returns-then-is_within-clause-sums : goal.returns-then-is_within-clause-sums
-returns-then-is_within-clause-sums c =
-    let u = c.args.self.now in
-    let so : Serves u c.args.reference.now.node c.args.receiving c.args.counts.now c.args.sums.now c.args.kept.now =
-    serves c.needs_are_read.ensures u c.args.reference.now.node c.needed_by-needed.result.number c.args.receiving c.args.reference.now.subscripts.items c.needed_by-needed.result.behind c.args.reach.now c.needed_by-needed.result.last c.args.counts.now c.args.sums.now c.args.kept.now
-    (subst IsSound c.self.view_is c.self.invariant.1) c.requires.refers c.needed_by-needed.ensures.behind c.needed_by-needed.ensures.last c.needed_by-needed.ensures.number (c.if-is_within.ensures.behind refl) (c.if-is_within.ensures.spares refl) c.requires.reach in
-    so.sums_are
-
-pub returns-then-is_within-clause-reads : goal.returns-then-is_within-clause-reads
-returns-then-is_within-clause-reads c =
-    let u = c.args.self.now in
-    let sound : IsSound u = subst IsSound c.self.view_is c.self.invariant.1 in
-    let so : Serves u c.args.reference.now.node c.args.receiving c.args.counts.now c.args.sums.now c.args.kept.now =
-    serves c.needs_are_read.ensures u c.args.reference.now.node c.needed_by-needed.result.number c.args.receiving c.args.reference.now.subscripts.items c.needed_by-needed.result.behind c.args.reach.now c.needed_by-needed.result.last c.args.counts.now c.args.sums.now c.args.kept.now
-    sound c.requires.refers c.needed_by-needed.ensures.behind c.needed_by-needed.ensures.last c.needed_by-needed.ensures.number (c.if-is_within.ensures.behind refl) (c.if-is_within.ensures.spares refl) c.requires.reach in
-    let m : MeetsBy u c.args.bytes.now c.args.reference.now.node c.args.receiving c.args.kept.now c.args.counts.now =
-    meets_by c.needs_are_read.ensures c.one_place.ensures u c.args.bytes.now c.args.reference.now.node c.args.receiving c.args.reference.now.subscripts.items c.args.kept.now c.args.counts.now
-    sound c.requires.refers c.requires.as_many c.requires.kept so.met in
-    (Ok m.counts, 0, m.taken, search (arith, rules))
 
 pub have_sums-requires-clause-sums : goal.have_sums-requires-clause-sums
 have_sums-requires-clause-sums c = reach_sums c.args.self.now c.args.reach.now c.args.counts.now c.args.sums.now c.args.kept.now c.requires.reach
