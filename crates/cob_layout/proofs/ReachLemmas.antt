@@ -59,7 +59,7 @@ one_met behind reach r s last ends x k n le own other met = elim (two_ways (nat_
       asked_of (nat_le behind x.number) (is_needed behind last r x) (is_kept_as k n) (n == x.most) (needed_below behind r last x own lt) (kept_so k j n is number))
 ]
 
-pub met_below : (behind reach r s : ℕ) (last ends : Bool) (e : List ℕ) (xs : List Table) (ks : List (Option StoredCount)) → behind ≤ reach → SparesNone behind last r → SparesNone reach ends s → are_met reach ends s e xs ks ≡ true → are_met behind last r e xs ks ≡ true
+met_below : (behind reach r s : ℕ) (last ends : Bool) (e : List ℕ) (xs : List Table) (ks : List (Option StoredCount)) → behind ≤ reach → SparesNone behind last r → SparesNone reach ends s → are_met reach ends s e xs ks ≡ true → are_met behind last r e xs ks ≡ true
 met_below behind reach r s last ends e [] ks le own other met = refl
 met_below behind reach r s last ends e (x ∷ xs) [] le own other met = absurd (cc)
 met_below behind reach r s last ends e (x ∷ xs) (k ∷ ks) le own other met =
@@ -103,8 +103,13 @@ serves read t r number receiving subscripts behind reach last e sums ks sound re
       sums_are = reach_sums t reach e sums ks known some;
     }
 
--- ---- counts reach so far that are kept up to there
+-- ---- how far counts reach
 
+-- as far as before where they and what is kept are the same, and the sums theirs
+pub reach_still : (t : Forest Resolved) (reach : ℕ) (e sums others : List ℕ) (ks : List (Option StoredCount)) → ReachIn t reach e sums ks → take (grow_in t + 1) others ≡ sums_of t e → ReachIn t reach e others ks
+reach_still t reach e sums others ks known are = reaches t reach e others ks (λ some. (known some).0) are
+
+-- and so far as they are kept
 pub reach_kept : (t u : Forest Resolved) (reach : ℕ) (tables : List Table) (e sums : List ℕ) (ks : List (Option StoredCount)) → t ≡ u → tables ≡ tables_of t
     → are_met reach false 0 e tables ks ≡ true → take (grow_in u + 1) sums ≡ sums_of u e → ReachIn u reach e sums ks
 reach_kept t u reach tables e sums ks seen all met are =

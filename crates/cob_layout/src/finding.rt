@@ -83,7 +83,7 @@ fn reach_past(table: Table, kept: Option<StoredCount>, count: u32, reach: usize)
 }
 
 /// How far counts reach: up to the first table whose count isn't kept as it stands in them, and past all where there is none.
-#[inline(never)]
+#[inline(always)]
 pub(crate) fn reach_of(tables: &[Table], kept: &[Option<StoredCount>], counts: &[u32]) -> usize
     requires as_many { length kept.now ≡ length tables.now }
     ensures { are_met result false 0 counts.now tables.now kept.now ≡ true }

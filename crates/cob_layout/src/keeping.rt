@@ -34,6 +34,7 @@ fn number_of(kept: Option<StoredCount>) -> Option<u32>
 
 impl Layout {
     /// The count of a table: the one that is kept, or else what the bytes say, which is one read more.
+    #[inline(always)]
     fn count_anew(
         &self,
         table: Table,
@@ -66,6 +67,7 @@ impl Layout {
     /// # Errors
     ///
     /// The first count that is read and that gives no number from its table's least to its greatest one, or that ends past the bytes.
+    #[inline(always)]
     pub(crate) fn take_anew(
         &self,
         needed: Needed,

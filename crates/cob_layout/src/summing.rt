@@ -2,8 +2,7 @@
 //!
 //! Only the entry of a reference and the tables that hold it are placed, and of a count that is read its item. The counts and their sums, as many as the
 //! tables that grow, stay from call to call, and it is known up to which number they serve references: their reach (`ReachTo` of specs/Finding.antt). Past
-//! it the counts are seen anew, from those that are kept. The reach ends where a kept count goes, or where the counts or the sums are written for another
-//! question.
+//! it counts are read. The reach ends where a kept count goes, or where the counts or the sums are written for another question.
 
 ghost use Rattle.std.specs.Prelude.{◌≡◌, ◌==◌, ◌&&◌, ◌+◌, ◌<◌, ◌≤◌, true, false, ℕ, List, Option, Result, length, min, take, Ok, Err, Some, OnOk, OnErr, IfErr, IfOk, IfSome, IsFalse, IsTrue};
 ghost use Rattle.cob_copybook_tree.specs.Forests.{entries_in};
@@ -37,25 +36,19 @@ fn may_spare(needed: Needed) -> bool
     needed.last && needed.behind.saturating_sub(needed.number) > 1
 }
 
-/// Whether these counts, which reach so far, are what a reference asks of all tables.
-fn serve(
+/// Whether a reference may be spared a table, and these counts are what it asks of all. Of one that is spared none the reach says that.
+fn serve_spared(
     tables: &[Table],
     needed: Needed,
     kept: &[Option<StoredCount>],
     counts: &[u32],
-    reach: usize,
 ) -> bool
     requires as_many { length kept.now ≡ length tables.now }
-    requires reach { are_met reach false 0 counts.now tables.now kept.now ≡ true }
     ensures { IsTrue result → are_met needed.behind needed.last needed.number counts.now tables.now
         kept.now
         ≡ true }
 {
-    if may_spare(needed) {
-        are_met(tables, needed, kept, counts)
-    } else {
-        needed.behind <= reach
-    }
+    may_spare(needed) && are_met(tables, needed, kept, counts)
 }
 
 impl Layout {
@@ -125,7 +118,7 @@ impl Layout {
     /// # Errors
     ///
     /// The first count that is read and that gives no number within its table's bounds, or that ends past the bytes. What is kept is as it was then.
-    #[inline(never)]
+    #[inline(always)]
     fn read_anew(
         &self,
         reference: &Ref,
@@ -245,10 +238,8 @@ impl Layout {
         let _before = *reads;
         let tables = self.tables.as_slice();
         let needed = self.needed_by(reference.node, receiving);
-        let own_reach = reach_of(tables, kept, counts);
-        if serve(tables, needed, kept, counts, own_reach) {
+        if serve_spared(tables, needed, kept, counts) {
             self.have_sums(*reach, counts, sums);
-            *reach = own_reach;
             return Ok(());
         }
         *reach = 0;
@@ -350,7 +341,10 @@ impl Layout {
             &counts.next,
         ) {
             Some(found) => Ok(found),
-            None => self.found_past(reference, receiving, bytes, counts, reads),
+            None => match self.found_past(reference, receiving, bytes, counts, reads) {
+                Ok(found) => Ok(found),
+                Err(fault) => Err(fault),
+            },
         }
     }
 }

@@ -36,6 +36,7 @@ fn first_number(tables: &[Table]) -> usize
 impl Layout {
     /// Where the item of a table's count stands under the counts so far. One before the first table that varies stands where it does under the
     /// greatest counts, which these are up to there.
+    #[inline(always)]
     fn place_of_count(&self, table: Table, counts: &[u32], sums: &mut [u32]) -> Found
         requires table { IsIn table (tables_of self.now) }
         requires sums { length sums.old ≡ entries_in self.now + 1 }
@@ -68,6 +69,7 @@ impl Layout {
     /// # Errors
     ///
     /// The count gives no number from its table's least to its greatest one, or ends past the bytes.
+    #[inline(always)]
     pub(crate) fn count_in(
         &self,
         table: Table,
