@@ -7,3 +7,4 @@ pub mod NoRuleLemmas
 pub mod MoveLemmas
 pub mod CorrespondingLemmas
 pub mod MeaningLemmas
+pub mod PieceLemmas

@@ -6,3 +6,4 @@ pub mod Meaning
 pub mod Refusals
 pub mod MeaningLaws
 pub mod Among
+pub mod Pieces

@@ -42,6 +42,7 @@ mod laws;
 mod meaning;
 mod meaning_laws;
 mod paragraph;
+mod pieces;
 mod senders;
 mod single;
 

@@ -93,7 +93,7 @@ fn statement_meaning(
 }
 
 /// The moves of statements, one statement's behind another's.
-fn meanings_of(
+pub(crate) fn meanings_of(
     alloc: Global,
     entries: &Entries<'_, '_>,
     pairs: &mut Correspondences<'_>,
@@ -105,6 +105,7 @@ fn meanings_of(
         (written_statements statements.now) v.items) }
     ensures fault { IfErr result (λ f. SomeBrokenAmong f entries.now
         (written_statements statements.now)) }
+    ensures pairs { ArePairsOf (records_of entries.now) pairs.new }
 {
     let mut list = Vec::with_capacity(alloc, statements.len())?;
     for statement in statements {

@@ -17,6 +17,7 @@ ghost use Rattle.cob_move.specs.Paragraphs.{IsParagraphOf, IsReadyFor, IsRefusal
 use crate::laws::{one_paragraph, paragraph_breaks_no_rule};
 use crate::meaning::all_meant;
 use crate::meaning_laws::meant_are_moves;
+use crate::pieces::meant_in_pieces;
 use cob_codec::Reading;
 use cob_layout_places::StatementMoves;
 use cob_move_apply::cob_layout::Layout;
@@ -31,7 +32,29 @@ pub struct Paragraph {
     moves: Moves,
 }
 
-/// The moves that a text says between two records.
+/// The moves that a text says between two records, all its words read at once.
+///
+/// # Errors
+///
+/// A rule that the text breaks, with its line.
+fn moves_of_whole(
+    alloc: Global,
+    input: &Layout,
+    output: &Layout,
+    text: &[u8],
+) -> Result<Vec<StatementMoves>, MoveFault>
+    ensures found { IfOk result (λ v. IsParagraphOf text.now input.now output.now
+        (moves (both input.now output.now) v.items)) }
+    ensures fault { IfErr result (λ f. IsRefusalOf f text.now input.now output.now) }
+{
+    let words = paragraph_tokens(alloc, text)?;
+    let statements = statements(alloc, words.as_slice())?;
+    let meant = all_meant(alloc, input, output, statements.as_slice())?;
+    Ok(meant)
+}
+
+/// The moves that a text says between two records. It is read piece by piece, and where a piece isn't read alone, at once: so what is wrong is told of
+/// the whole.
 ///
 /// # Errors
 ///
@@ -46,10 +69,10 @@ fn meant_moves(
         (moves (both input.now output.now) v.items)) }
     ensures fault { IfErr result (λ f. IsRefusalOf f text.now input.now output.now) }
 {
-    let words = paragraph_tokens(alloc, text)?;
-    let statements = statements(alloc, words.as_slice())?;
-    let meant = all_meant(alloc, input, output, statements.as_slice())?;
-    Ok(meant)
+    match meant_in_pieces(alloc, input, output, text)? {
+        Some(meant) => Ok(meant),
+        None => moves_of_whole(alloc, input, output, text),
+    }
 }
 
 impl Paragraph {

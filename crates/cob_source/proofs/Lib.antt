@@ -10,3 +10,4 @@ pub mod Columns
 pub mod ReadingLemmas
 pub mod FitLemmas
 pub mod PieceLemmas
+pub mod AheadLemmas

@@ -4,3 +4,4 @@ pub mod Cuts
 pub mod Lines
 pub mod Words
 pub mod Reading
+pub mod Ahead

@@ -54,14 +54,14 @@ pub record HasRead (m : Cutting) (before : List (List ℕ)) (cells : List Cell) 
   pub last_is : last ≡ last_joined before
   pub fit : AreFit before
 
--- These lines are read to these words and stops, and to the last joined line.
-abbrev pub HasReadLines : Cutting → List (List ℕ) → Joined → List Token → Type 0
-HasReadLines m before joined tokens = HasRead m before joined.cells.items joined.quote joined.last (lexemes tokens)
+-- These lines are read to these words, these tokens behind them, and to the last joined line.
+abbrev pub HasReadLines : Cutting → List (List ℕ) → Joined → List Lexeme → List Token → Type 0
+HasReadLines m before joined front tokens = HasRead m before joined.cells.items joined.quote joined.last (front ++ lexemes tokens)
 
--- Whatever the lines before the one with this number are, where they are read so, this is true of them.
-abbrev pub AfterLines : Cutting → ℕ → Joined → List Token → (List (List ℕ) → Type 0) → Type 0
+-- Whatever the lines before the one with this number are, and the words in front, where they are read so, this is true of them.
+abbrev pub AfterLines : Cutting → ℕ → Joined → List Token → (List Lexeme → List (List ℕ) → Type 0) → Type 0
 AfterLines m number joined tokens P =
-    (before : List (List ℕ)) → number ≡ length before + 1 → HasReadLines m before joined tokens → P before
+    (front : List Lexeme) (before : List (List ℕ)) → number ≡ length before + 1 → HasReadLines m before joined front tokens → P front before
 
 -- a literal is left open, or memory is refused
 abbrev pub EndRefused : SourceRule → ℕ → Option ℕ → ℕ → Type 0

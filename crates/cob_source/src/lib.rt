@@ -36,5 +36,5 @@ pub use laws::{
     words_break_no_rule,
 };
 pub use lines::without_return;
-pub use reader::{paragraph_tokens, tokens};
+pub use reader::{WordsAhead, paragraph_tokens, tokens};
 pub use token::{Kind, Token};

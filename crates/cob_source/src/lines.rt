@@ -249,3 +249,12 @@ pub fn character_fault(line: &[u8]) -> Option<SourceRule>
         None
     }
 }
+
+/// Whether it is a plain line, and begins with MOVE.
+pub fn begins_statement(line: &[u8]) -> bool {
+    let word = front(without_spaces(written_in(line)), 5);
+    match line_kind(line) {
+        LineKind::Plain => is_spelled(word, b"MOVE "),
+        _ => false,
+    }
+}

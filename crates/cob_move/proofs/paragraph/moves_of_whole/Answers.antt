@@ -2,7 +2,7 @@ use Rattle.std.proofs.lemmas.Result.{err_from_is_err_and}
 use Rattle.cob_source.specs.Tokens.{lexemes}
 use Rattle.cob_source.specs.Words.{AreParagraphWordsOf}
 use Rattle.cob_move.proofs.ParagraphLemmas.{source_refused, words_refused}
-use Rattle.cob_move.proofs.paragraph.meant_moves.Goals as goal
+use Rattle.cob_move.proofs.paragraph.moves_of_whole.Goals as goal
 
 pub returns-in_err-words-clause-fault : goal.returns-in_err-words-clause-fault
 returns-in_err-words-clause-fault c =

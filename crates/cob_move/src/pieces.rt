@@ -1,0 +1,295 @@
+//! Paragraphs that are read piece by piece, so that the words and the statements of one piece alone are held.
+
+ghost use Rattle.std.specs.Prelude.{◌≡◌, ℕ, [], ◌++◌, List, true, IfErr, IfOk, IfSome, IsTrue};
+ghost use Rattle.cob_layout_places.specs.Moves.{moves};
+ghost use Rattle.cob_move.specs.Among.{AreMeaningsAmong, both};
+ghost use Rattle.cob_move.specs.Between.{ArePairsOf};
+ghost use Rattle.cob_move.specs.Entries.{AllMayBeNamed, records_of};
+ghost use Rattle.cob_move.specs.Paragraphs.{IsParagraphOf};
+ghost use Rattle.cob_move.specs.Pieces.{AddsMoves, IsRefusedMemory, SaysSoFar};
+ghost use Rattle.cob_move_statements.specs.Statements.{FollowsStatements, IsParagraph};
+ghost use Rattle.cob_move_statements.specs.Written.{written_statements};
+ghost use Rattle.cob_source.specs.Ahead.{AreNumbered, AreReadOf, IsNoted, IsReadTo};
+ghost use Rattle.cob_source.specs.Tokens.{Lexeme, lexemes};
+
+use crate::entries::Entries;
+use crate::meaning::meanings_of;
+use cob_copybook_clauses::{WordClass, is_term};
+use cob_layout_places::StatementMoves;
+use cob_move_apply::cob_layout::Layout;
+use cob_move_pairs::Correspondences;
+use cob_move_references::Names;
+use cob_move_statements::{MoveFault, MoveRule, Statement, statements};
+use cob_source::{SourceRule, Token, WordsAhead};
+use std::alloc::Global;
+
+/// How many bytes a statement takes at least that stands on a line of its own, from column 12 on.
+const STATEMENT_BYTES: usize = 24;
+
+/// The fault of refused memory.
+fn refused_memory() -> MoveFault
+    ensures { IsRefusedMemory result }
+{
+    MoveFault {
+        rule: MoveRule::Memory,
+        line: 0,
+    }
+}
+
+/// Whether nothing comes first, or MOVE.
+fn statements_follow(words: &[Token]) -> bool
+    ensures { IsTrue result → FollowsStatements (lexemes words.now) }
+{
+    match words.split_first() {
+        Some((first, _)) => is_term(first, WordClass::Move),
+        None => true,
+    }
+}
+
+/// Reads the words of the next piece, and answers whether more are left; None where the text breaks a rule.
+///
+/// # Errors
+///
+/// `Memory`.
+fn read_piece(
+    alloc: Global,
+    ahead: &mut WordsAhead<'_>,
+    words: &mut Vec<Token>,
+) -> Result<Option<bool>, MoveFault>
+    requires numbered { AreNumbered ahead.old }
+    requires noted { IsNoted ahead.old }
+    requires none { words.old.items ≡ [] }
+    ensures read { IfOk result (λ o. IfSome o (λ more. (text : List ℕ) (front : List Lexeme)
+        → IsReadTo text front ahead.old
+        → AreReadOf text (front ++ lexemes words.new.items) ahead.new more)) }
+    ensures numbered { IfOk result (λ o. IfSome o (λ more. AreNumbered ahead.new)) }
+    ensures noted { IfOk result (λ o. IfSome o (λ more. IsNoted ahead.new)) }
+    ensures fault { IfErr result IsRefusedMemory }
+{
+    match ahead.read(alloc, words) {
+        Ok(more) => Ok(Some(more)),
+        Err(fault) => match fault.rule {
+            SourceRule::Memory => Err(refused_memory()),
+            _ => Ok(None),
+        },
+    }
+}
+
+/// The statements that words are; None where they are none.
+///
+/// # Errors
+///
+/// `Memory`.
+fn statements_alone<'a>(
+    alloc: Global,
+    words: &'a [Token],
+) -> Result<Option<Vec<Statement<'a>>>, MoveFault>
+    ensures found { IfOk result (λ o. IfSome o
+        (λ v. IsParagraph (lexemes words.now) (written_statements v.items))) }
+    ensures fault { IfErr result IsRefusedMemory }
+{
+    match statements(alloc, words) {
+        Ok(read) => Ok(Some(read)),
+        Err(fault) => match fault.rule {
+            MoveRule::Memory => Err(refused_memory()),
+            _ => Ok(None),
+        },
+    }
+}
+
+/// The moves that statements mean; None where one of them breaks a rule.
+///
+/// # Errors
+///
+/// `Memory`.
+fn meanings_alone(
+    alloc: Global,
+    entries: &Entries<'_, '_>,
+    pairs: &mut Correspondences<'_>,
+    read: &[Statement<'_>],
+) -> Result<Option<Vec<StatementMoves>>, MoveFault>
+    requires named { AllMayBeNamed entries.now }
+    requires pairs { ArePairsOf (records_of entries.now) pairs.old }
+    ensures found { IfOk result (λ o. IfSome o
+        (λ v. AreMeaningsAmong entries.now (written_statements read.now) v.items)) }
+    ensures pairs { ArePairsOf (records_of entries.now) pairs.new }
+    ensures fault { IfErr result IsRefusedMemory }
+{
+    match meanings_of(alloc, entries, pairs, read) {
+        Ok(own) => Ok(Some(own)),
+        Err(fault) => match fault.rule {
+            MoveRule::Memory => Err(refused_memory()),
+            _ => Ok(None),
+        },
+    }
+}
+
+/// Puts the moves of the statements that words are behind those so far, and answers whether the words are statements that break no rule.
+///
+/// # Errors
+///
+/// `Memory`.
+fn add_moves(
+    alloc: Global,
+    entries: &Entries<'_, '_>,
+    pairs: &mut Correspondences<'_>,
+    words: &[Token],
+    list: &mut Vec<StatementMoves>,
+) -> Result<bool, MoveFault>
+    requires named { AllMayBeNamed entries.now }
+    requires pairs { ArePairsOf (records_of entries.now) pairs.old }
+    ensures added { IfOk result (λ done. IsTrue done
+        → AddsMoves entries.now (lexemes words.now) list.old.items list.new.items) }
+    ensures pairs { ArePairsOf (records_of entries.now) pairs.new }
+    ensures fault { IfErr result IsRefusedMemory }
+{
+    let Some(read) = statements_alone(alloc, words)? else {
+        return Ok(false);
+    };
+    let Some(own) = meanings_alone(alloc, entries, pairs, read.as_slice())? else {
+        return Ok(false);
+    };
+    let mut added = own;
+    list.append(&mut added)?;
+    Ok(true)
+}
+
+/// Puts the moves of a text's first piece into an empty list, and answers whether more pieces are left; None where it isn't read alone.
+///
+/// # Errors
+///
+/// `Memory`.
+fn add_first(
+    alloc: Global,
+    entries: &Entries<'_, '_>,
+    pairs: &mut Correspondences<'_>,
+    ahead: &mut WordsAhead<'_>,
+    list: &mut Vec<StatementMoves>,
+) -> Result<Option<bool>, MoveFault>
+    requires named { AllMayBeNamed entries.now }
+    requires pairs { ArePairsOf (records_of entries.now) pairs.old }
+    requires numbered { AreNumbered ahead.old }
+    requires noted { IsNoted ahead.old }
+    requires none { list.old.items ≡ [] }
+    ensures says { IfOk result (λ o. IfSome o (λ more. (text : List ℕ)
+        → IsReadTo text [] ahead.old → SaysSoFar text entries.now list.new.items ahead.new more)) }
+    ensures pairs { ArePairsOf (records_of entries.now) pairs.new }
+    ensures numbered { IfOk result (λ o. IfSome o (λ more. AreNumbered ahead.new)) }
+    ensures noted { IfOk result (λ o. IfSome o (λ more. IsNoted ahead.new)) }
+    ensures fault { IfErr result IsRefusedMemory }
+{
+    let mut words = Vec::new(alloc);
+    let Some(more) = read_piece(alloc, ahead, &mut words)? else {
+        return Ok(None);
+    };
+    let piece = words.as_slice();
+    let done = add_moves(alloc, entries, pairs, piece, list)?;
+    if !done {
+        return Ok(None);
+    }
+    Ok(Some(more))
+}
+
+/// Puts the moves of a text's next piece behind those so far, and answers whether more pieces are left; None where it isn't read alone.
+///
+/// # Errors
+///
+/// `Memory`.
+fn add_next(
+    alloc: Global,
+    entries: &Entries<'_, '_>,
+    pairs: &mut Correspondences<'_>,
+    ahead: &mut WordsAhead<'_>,
+    list: &mut Vec<StatementMoves>,
+) -> Result<Option<bool>, MoveFault>
+    requires named { AllMayBeNamed entries.now }
+    requires pairs { ArePairsOf (records_of entries.now) pairs.old }
+    requires numbered { AreNumbered ahead.old }
+    requires noted { IsNoted ahead.old }
+    ensures says { IfOk result (λ o. IfSome o (λ more. (text : List ℕ)
+        → SaysSoFar text entries.now list.old.items ahead.old true
+        → SaysSoFar text entries.now list.new.items ahead.new more)) }
+    ensures pairs { ArePairsOf (records_of entries.now) pairs.new }
+    ensures numbered { IfOk result (λ o. IfSome o (λ more. AreNumbered ahead.new)) }
+    ensures noted { IfOk result (λ o. IfSome o (λ more. IsNoted ahead.new)) }
+    ensures fault { IfErr result IsRefusedMemory }
+{
+    let mut words = Vec::new(alloc);
+    let Some(more) = read_piece(alloc, ahead, &mut words)? else {
+        return Ok(None);
+    };
+    let piece = words.as_slice();
+    if !statements_follow(piece) {
+        return Ok(None);
+    }
+    let done = add_moves(alloc, entries, pairs, piece, list)?;
+    if !done {
+        return Ok(None);
+    }
+    Ok(Some(more))
+}
+
+/// The moves that a text says, where its pieces are all read alone.
+///
+/// # Errors
+///
+/// `Memory`.
+fn all_pieces(
+    alloc: Global,
+    entries: &Entries<'_, '_>,
+    pairs: &mut Correspondences<'_>,
+    text: &[u8],
+) -> Result<Option<Vec<StatementMoves>>, MoveFault>
+    requires named { AllMayBeNamed entries.now }
+    requires pairs { ArePairsOf (records_of entries.now) pairs.old }
+    ensures found { IfOk result (λ o. IfSome o
+        (λ v. IsParagraphOf text.now entries.now.input.now entries.now.output.now
+        (moves (records_of entries.now) v.items))) }
+    ensures fault { IfErr result IsRefusedMemory }
+{
+    let Some(start) = WordsAhead::new(alloc, text) else {
+        return Ok(None);
+    };
+    let mut ahead = start;
+    let mut list = Vec::with_capacity(alloc, text.len() / STATEMENT_BYTES)?;
+    let Some(first) = add_first(alloc, entries, pairs, &mut ahead, &mut list)? else {
+        return Ok(None);
+    };
+    let mut more = first;
+    // A piece takes bytes, so that there are no more of them than these.
+    for _piece in 0..text.len() {
+        if !more {
+            return Ok(Some(list));
+        }
+        let Some(next) = add_next(alloc, entries, pairs, &mut ahead, &mut list)? else {
+            return Ok(None);
+        };
+        more = next;
+    }
+    Ok(None)
+}
+
+/// The moves that a text says between two records, read piece by piece; None where it says none, or where a piece of it isn't read alone.
+///
+/// # Errors
+///
+/// `Memory`.
+pub(crate) fn meant_in_pieces(
+    alloc: Global,
+    input: &Layout,
+    output: &Layout,
+    text: &[u8],
+) -> Result<Option<Vec<StatementMoves>>, MoveFault>
+    ensures found { IfOk result (λ o. IfSome o (λ v. IsParagraphOf text.now input.now output.now
+        (moves (both input.now output.now) v.items))) }
+    ensures fault { IfErr result IsRefusedMemory }
+{
+    let names = Names::of(alloc, input, output)?;
+    let mut pairs = Correspondences::new(alloc, input.root(), output.root());
+    let entries = Entries {
+        names: &names,
+        input,
+        output,
+    };
+    all_pieces(alloc, &entries, &mut pairs, text)
+}

@@ -1,0 +1,13 @@
+use Rattle.std.proofs.Common.{◌++◌, arith}
+use Rattle.std.proofs.lemmas.Grind.{common_steps}
+use Rattle.cob_source.specs.Tokens.{lexemes}
+use Rattle.cob_source.proofs.AheadLemmas.{all_read, behind_front, nothing_left}
+use Rattle.cob_source.proofs.ReadingLemmas.{finishes}
+use Rattle.cob_source.proofs.reader.WordsAhead.read.Goals as goal
+
+pub returns-clause-read : goal.returns-clause-read
+returns-clause-read c = λ text front is.
+    let r = c.loop-self.invariant.read text front is in
+    let f = c.in_ok-cut_joined.ensures.found in
+    finishes text f.0 (front ++ lexemes c.cut_joined.new.out.items) r.read (all_read text c.loop-self.self.rest.now r.before r.lines_are (nothing_left c.loop-self.self.rest.now (grind (arith, common_steps)))) r.short
+    c.in_ok-cut_joined.ensures.closed f.1 (behind_front front (lexemes c.loop-self.out.items) f.0 (lexemes c.cut_joined.new.out.items) f.2)

@@ -1,0 +1,13 @@
+use Rattle.std.proofs.Common.{length}
+use Rattle.cob_source.specs.Ahead.{AreNumbered, IsNoted, ReadsOn}
+use Rattle.cob_source.proofs.reader.WordsAhead.read.Given as goal
+
+abbrev pub invariant-loop-self : goal.invariant-loop-self
+invariant-loop-self l = record {
+  numbered : AreNumbered l.self;
+  noted : IsNoted l.self;
+  read : ReadsOn l.fn.out.items l.out.items l.fn.self l.self;
+}
+
+abbrev pub decreases-loop-self : goal.decreases-loop-self
+decreases-loop-self l = length l.self.rest.now
