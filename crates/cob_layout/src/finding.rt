@@ -7,7 +7,7 @@
 ghost use Rattle.std.specs.Prelude.{◌≡◌, ◌+◌, ◌<◌, ◌≤◌, true, false, ℕ, List, Result, length, min, slice_index, Ok, Err, IfOk};
 ghost use Rattle.cob_copybook_tree.specs.Lengths.{greatest_number, sum_of};
 ghost use Rattle.cob_layout_places.specs.declared.counts.CountFault.{CountFault};
-ghost use Rattle.cob_layout_places.specs.Counts.{tables_of, AreNumberedBelow};
+ghost use Rattle.cob_layout_places.specs.Counts.{tables_of};
 ghost use Rattle.cob_layout_places.specs.Lengths.{times};
 ghost use Rattle.cob_layout_places.specs.Needs.{is_read};
 ghost use Rattle.cob_layout_places.specs.References.{Refers};
@@ -94,27 +94,6 @@ pub(crate) fn reach_of(tables: &[Table], kept: &[Option<StoredCount>], counts: &
         reach = reach_past(*table, kept[index], count, reach);
     }
     reach
-}
-
-/// Puts the counts that are kept of the tables from this number on into their places.
-pub(crate) fn put_later(
-    tables: &[Table],
-    from: usize,
-    kept: &[Option<StoredCount>],
-    counts: &mut [u32],
-)
-    requires as_many { length kept.now ≡ length tables.now }
-    requires slots { AreNumberedBelow (length counts.old) tables.now }
-    ensures early { (k : ℕ) → k < from → slice_index counts.new k ≡ slice_index counts.old k }
-    ensures room { length counts.new ≡ length counts.old }
-{
-    for (index, table) in tables.iter().enumerate() {
-        if let Some(stored) = kept[index] {
-            if from <= table.number {
-                counts[table.number] = stored.number;
-            }
-        }
-    }
 }
 
 impl Layout {

@@ -20,7 +20,7 @@ ghost use Rattle.cob_layout.specs.Standing.{IsRoomFor, KeepsOf, LieWithin};
 
 use crate::by_sums::{element_by, first_by, keep_by};
 use crate::counts::{Counts, KeptRange, StoredCount};
-use crate::finding::{are_met, put_later, reach_of};
+use crate::finding::{are_met, reach_of};
 use crate::footings::{footing_at, is_within};
 use crate::keeping::{Needed, range_of};
 use crate::layout::Layout;
@@ -112,8 +112,7 @@ impl Layout {
         }
     }
 
-    /// Reads the counts that a reference needs and that aren't kept, and keeps them; the counts are those then below the reach of the reference, and the
-    /// sums theirs.
+    /// Reads the counts that a reference needs and that aren't kept, and keeps them; the counts are those that it needs then, and the sums theirs.
     ///
     /// # Errors
     ///
@@ -160,7 +159,6 @@ impl Layout {
         one_place();
         counts.copy_from_slice(self.counts.as_slice());
         self.take_anew(needed, bytes, kept, counts, sums, reads)?;
-        put_later(&self.tables, needed.behind, kept, counts);
         self.put_sums(counts, sums);
         keep_by(
             &self.tables,
