@@ -3,24 +3,18 @@
 ghost use Rattle.std.specs.Prelude.{◌≡◌, ◌<◌, ◌≤◌, false, length, min, take, IfOk, IfErr, IfSome, OnOk};
 ghost use Rattle.cob_limits.specs.Limits.{longest_record};
 ghost use Rattle.cob_move_apply.specs.cob_layout.Storage.{greatest_length};
-ghost use Rattle.cob_move_apply.specs.Room.{room_of};
-ghost use Rattle.cob_move_apply.specs.cob_layout.Kept.{AreKeptOf};
-ghost use Rattle.cob_move_apply.specs.cob_layout.Standing.{room_for};
-ghost use Rattle.cob_records.specs.declared.records.Form.TheVariants.{Variable};
-ghost use Rattle.cob_stream.specs.Sizes.{IsSized};
-ghost use Rattle.cob_stream.specs.Whole.{IsMisfitReason};
+ghost use Rattle.cob_move_apply.specs.cob_layout.Standing.{IsRoomFor};
 ghost use Rattle.cob_stream.specs.Output.{IsOutputOf};
 ghost use Rattle.cob_convert_record.specs.Becoming.{IsCountStop};
 
+use crate::lengths::{judge_kept, kept_output_length, output_length};
 use crate::rejection::Rejection;
 use crate::room::Room;
 use cob_codec::Reading;
-use cob_move_apply::{Book, Layout, Moves, Scratch, Side, Stop, StopCause};
+use cob_move_apply::{Book, Layout, Moves, Scratch, Stop};
 use cob_move_initial::initial;
 use cob_records::{Form, Source};
-use cob_stream::{
-    Reason, judge, measure_by, next_whole, read_record, sized_are_storages, written_by,
-};
+use cob_stream::{Reason, judge, next_whole, read_record, sized_are_storages};
 use std::alloc::{AllocError, Global};
 use std::marker::Model;
 
@@ -65,64 +59,12 @@ impl Model for Conversion {
         × HasBlockSize c.out_form };
 }
 
-/// How many bytes of the output record's storage are written, where the scratch keeps counts of it.
-///
-/// # Errors
-///
-/// The first count of the storage that isn't valid.
-#[inline(always)]
-fn output_length(
-    layout: &Layout,
-    form: Form,
-    storage: &[u8],
-    scratch: &mut Scratch,
-) -> Result<usize, Stop>
-    requires storage { length storage.now ≡ greatest_length layout.now }
-    requires room { scratch.old.room.outputs ≡ room_for layout.now }
-    requires kept { AreKeptOf layout.now storage.now scratch.old.kept_output }
-    ensures size { IfOk result
-        (λ made. (0 < made) × (made ≤ length storage.now) × (made ≤ longest_record)) }
-    ensures written { IfOk result
-        (λ made. IsOutputOf form layout.now storage.now (take made storage.now)) }
-    ensures stops { IfErr result (λ stop. IsCountStop layout.now storage.now stop) }
-    ensures room { scratch.new.room ≡ scratch.old.room }
-{
-    // For `size`: no record is longer than the longest.
-    let _ = layout.greatest();
-    match scratch.output_length(layout, storage) {
-        Ok(current) => Ok(written_by(form, storage, current)),
-        Err(fault) => Err(Stop {
-            side: Side::Out,
-            offset: fault.offset,
-            cause: StopCause::Count,
-        }),
-    }
-}
-
-/// Judges an input record by its own counts, which the scratch keeps then.
-///
-/// # Errors
-///
-/// A count of the record that isn't valid, or a length other than that which its counts give.
-#[inline(always)]
-fn judge_kept(layout: &Layout, input: &[u8], scratch: &mut Scratch) -> Result<(), Reason>
-    requires room { scratch.old.room.inputs ≡ room_for layout.now }
-    ensures sized { OnOk result (IsSized Variable layout.now input.now) }
-    ensures misfit { IfErr result (IsMisfitReason Variable layout.now input.now) }
-    ensures kept { AreKeptOf layout.now input.now scratch.new.kept_input }
-    ensures room { scratch.new.room ≡ scratch.old.room }
-{
-    let current = scratch.input_length(layout, input);
-    match measure_by(input, current) {
-        Ok(()) => Ok(()),
-        Err(why) => Err(Reason::of_misfit(why)),
-    }
-}
-
 impl Conversion {
     ghost use Rattle.cob_records.specs.Forms.{HasBlockSize};
     ghost use Rattle.cob_records.specs.Frame.{IsRecord};
     ghost use Rattle.cob_move_apply.specs.Prepared.{ArePrepared, most_moves_told, moves_of, single_moves};
+    ghost use Rattle.cob_move_apply.specs.Room.{room_of};
+    ghost use Rattle.cob_move_apply.specs.cob_layout.Kept.{AreKeptOf};
     ghost use Rattle.cob_move_apply.specs.cob_layout.Storage.{IsStorage};
     ghost use Rattle.cob_move_initial.specs.Initial.{IsInitial};
     ghost use Rattle.cob_convert_record.specs.Conversion.{HasImage, conversion_by, conversion_for, in_length, out_length};
@@ -130,8 +72,8 @@ impl Conversion {
     ghost use Rattle.cob_records.specs.Device.{Told, counted};
     ghost use Rattle.cob_stream.specs.Input.{IsInputReason, IsJudged, ReadsRecord};
     ghost use Rattle.cob_stream.specs.Reasons.{is_read_cause, is_refused_for, is_write_cause};
-    ghost use Rattle.cob_stream.specs.Sizes.{IsMeasureFault};
-    ghost use Rattle.cob_stream.specs.Whole.{IsWholeRecord, ReadsWhole};
+    ghost use Rattle.cob_stream.specs.Sizes.{IsSized, IsMeasureFault};
+    ghost use Rattle.cob_stream.specs.Whole.{IsMisfitReason, IsWholeRecord, ReadsWhole};
     ghost use Rattle.cob_convert_record.specs.Becoming.{Becomes, StopsAt};
     ghost use Rattle.cob_convert_record.specs.Rejecting.{BecomesWhole, IsRejectedFor};
     ghost use Rattle.cob_convert_record.specs.Rooms.{capacity_for};
@@ -345,37 +287,13 @@ impl Conversion {
         ensures stops { IfErr result (λ stop. StopsAt self.now input.now stop) }
         ensures room { room.new ≡ room.old }
     {
-        let scratch = &mut room.scratch;
-        scratch.forget_input();
-        self.convert_kept(input, output, scratch)
+        self.begin(output);
+        self.moves.apply(&self.input, &self.output, input, output, &mut room.scratch)?;
+        output_length(&self.output, self.out_form, output, &mut room.out_counts)
     }
 
-    /// Judges an input record that came whole by the input layout, as [`Conversion::judge`] does; the scratch keeps counts of it then.
-    ///
-    /// # Errors
-    ///
-    /// Those of [`Conversion::judge`].
-    #[inline(always)]
-    fn judge_for(&self, input: &[u8], scratch: &mut Scratch) -> Result<(), Reason>
-        requires record { IsRecord self.now.in_form (in_length self.now) input.now }
-        requires room { scratch.old.room ≡ room_of self.now.records }
-        ensures sized { OnOk result (IsSized self.now.in_form self.now.records.input input.now) }
-        ensures misfit { IfErr result
-            (IsMisfitReason self.now.in_form self.now.records.input input.now) }
-        ensures kept { AreKeptOf self.now.records.input input.now scratch.new.kept_input }
-        ensures room { scratch.new.room ≡ scratch.old.room }
-    {
-        match self.in_form {
-            Form::Fixed => {
-                scratch.forget_input();
-                Ok(())
-            }
-            Form::Variable => judge_kept(&self.input, input, scratch),
-            Form::Blocked(_) => judge_kept(&self.input, input, scratch),
-        }
-    }
-
-    /// Makes the output record of an input record, as [`Conversion::convert`] does, by the counts that the scratch keeps of the input.
+    /// Makes the output record of an input record, as [`Conversion::convert`] does. What the room keeps of the input's counts is that of this input, and
+    /// is not read again, nor is what it keeps of the output's.
     ///
     /// # Errors
     ///
@@ -400,7 +318,7 @@ impl Conversion {
         self.begin(output);
         self.moves
             .apply_kept(&self.input, &self.output, input, output, scratch)?;
-        output_length(&self.output, self.out_form, output, scratch)
+        kept_output_length(&self.output, self.out_form, output, scratch)
     }
 
     /// Judges an input record that came whole, and makes the output record of one that is of the input layout: what [`Conversion::judge`] and then
@@ -426,13 +344,12 @@ impl Conversion {
         ensures rejects { IfErr result (IsRejectedFor self.now input.now) }
         ensures room { room.new ≡ room.old }
     {
-        // For what is asked of the moves: what is one of the layout's records holds a record of it.
+        // For the moves: what is one of the layout's records holds a record of it.
         sized_are_storages();
-        let scratch = &mut room.scratch;
-        if let Err(why) = self.judge_for(input, scratch) {
+        if let Err(why) = judge_kept(&self.input, self.in_form, input, &mut room.scratch) {
             return Err(Rejection::Misfit(why));
         }
-        match self.convert_kept(input, output, scratch) {
+        match self.convert_kept(input, output, &mut room.scratch) {
             Ok(made) => Ok(made),
             Err(stop) => Err(Rejection::Stopped(stop)),
         }

@@ -24,8 +24,8 @@ returns-clause-stops c =
     let own : Conversion = record { in_form = c.self.inside.in_form; out_form = c.self.inside.out_form; records = record { input = c.self.inside.input; output = c.self.inside.output }; moves = moves_of (record { input = c.self.inside.input; output = c.self.inside.output }) c.self.inside.moves } in
     let begins : IsInitial c.self.inside.output c.begin.new.output
     = subst (λ (x : Conversion). IsInitial x.records.output c.begin.new.output) (sym c.self.view_is) c.begin.ensures in
-    if_error c.output_length.result (λ (stop : Stop). IsCountStop c.self.inside.output c.apply_kept.new.output stop)
-    (λ (stop : Stop). StopsAt c.args.self.now c.args.input.now stop) c.output_length.ensures.stops
+    if_error c.kept_output_length.result (λ (stop : Stop). IsCountStop c.self.inside.output c.apply_kept.new.output stop)
+    (λ (stop : Stop). StopsAt c.args.self.now c.args.input.now stop) c.kept_output_length.ensures.stops
     (λ stop faulty. subst (λ (x : Conversion). StopsAt x c.args.input.now stop) c.self.view_is
     (at_count own c.args.input.now c.begin.new.output c.apply_kept.new.output stop begins c.in_ok-apply_kept.ensures.applied faulty))
 
@@ -34,7 +34,7 @@ returns-clause-converts c =
     let own : Conversion = record { in_form = c.self.inside.in_form; out_form = c.self.inside.out_form; records = record { input = c.self.inside.input; output = c.self.inside.output }; moves = moves_of (record { input = c.self.inside.input; output = c.self.inside.output }) c.self.inside.moves } in
     let begins : IsInitial c.self.inside.output c.begin.new.output
     = subst (λ (x : Conversion). IsInitial x.records.output c.begin.new.output) (sym c.self.view_is) c.begin.ensures in
-    if_value c.output_length.result (λ (made : ℕ). IsOutputOf c.self.inside.out_form c.self.inside.output c.apply_kept.new.output (take made c.apply_kept.new.output))
-    (λ (made : ℕ). Becomes c.args.self.now c.args.input.now (take made c.apply_kept.new.output)) c.output_length.ensures.written
+    if_value c.kept_output_length.result (λ (made : ℕ). IsOutputOf c.self.inside.out_form c.self.inside.output c.apply_kept.new.output (take made c.apply_kept.new.output))
+    (λ (made : ℕ). Becomes c.args.self.now c.args.input.now (take made c.apply_kept.new.output)) c.kept_output_length.ensures.written
     (λ made writes. subst (λ (x : Conversion). Becomes x c.args.input.now (take made c.apply_kept.new.output)) c.self.view_is
     (becomes own c.args.input.now c.begin.new.output c.apply_kept.new.output (take made c.apply_kept.new.output) begins c.in_ok-apply_kept.ensures.applied writes))
