@@ -1,5 +1,6 @@
 -- The room that moves are carried out in.
-use Rattle.std.specs.Prelude.{ℕ}
+use Rattle.std.specs.Prelude.{ℕ, List, Option}
+use Rattle.cob_layout.specs.declared.counts.StoredCount.{StoredCount}
 use Rattle.cob_layout.specs.Standing.{RoomForCounts, room_for}
 use Rattle.cob_layout.specs.Storage.{greatest_length}
 use Rattle.cob_layout_places.specs.Moves.{Records}
@@ -18,7 +19,9 @@ room_of records = record {
   content = greatest_length records.output;
 }
 
--- the room that there is, and how many count items of the output record were read
+-- the room that there is, how many count items of the output record were read, and what is kept of the counts of either record's storage
 pub record Scratching : Type 0 where
   pub room : RoomForMoves
   pub reads : ℕ
+  pub kept_input : List (Option StoredCount)
+  pub kept_output : List (Option StoredCount)

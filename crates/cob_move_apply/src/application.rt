@@ -2,6 +2,7 @@
 
 ghost use Rattle.std.specs.Prelude.{◌≡◌, ◌+◌, ◌*◌, ◌≤◌, [], ◌∷◌, ℕ, List, length, OnErr};
 ghost use Rattle.cob_layout.specs.Sound.{IsSound};
+ghost use Rattle.cob_layout.specs.Standing.{KeepsOf};
 ghost use Rattle.cob_layout.specs.Storage.{greatest_length, IsStorage};
 ghost use Rattle.cob_layout_places.specs.Counts.{tables_of};
 ghost use Rattle.cob_layout_places.specs.Moves.{Move as Meant, moves_by};
@@ -263,7 +264,7 @@ fn make_step(
     }
 }
 
-/// Carries out the steps of the plan of moves, in order.
+/// Carries out the steps of the plan of moves, in order. What is kept of the input's counts is that of this input.
 ///
 /// # Errors
 ///
@@ -284,16 +285,17 @@ pub(crate) fn apply_in(
     requires input { IsStorage layouts.now.input.now input.now }
     requires output { length output.old ≡ greatest_length layouts.now.output.now }
     requires space { HasSpace (records layouts.now) space.old }
+    requires kept { KeepsOf layouts.now.input.now input.now space.old.input.counts }
     ensures applied { Applied (records layouts.now)
         (moves_by layouts.now.reading (records layouts.now) given.now) input.now output.old
         (ending result output.new) }
-    ensures space { HasSpace (records layouts.now) space.new }
+    ensures space { IsWorkspace (records layouts.now) input.now output.new space.new }
     ensures reads { (met : ℕ) × HaveMet (records layouts.now)
         (moves_by layouts.now.reading (records layouts.now) given.now) input.now output.old met
         × (space.new.output.reads ≤ length (tables_of layouts.now.output.now) * (1 + met)) }
 {
     one_outcome_of_counts();
-    space.forget();
+    space.forget_output();
     let mut rest = plan.steps.as_slice();
     while let Some((step, behind)) = rest.split_first() {
         rest = behind;

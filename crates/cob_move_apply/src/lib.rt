@@ -24,7 +24,8 @@
 //! A place that depends on counts is found by those that the operand needs. A count that was read is kept from move to move, and is read again only
 //! behind a receiver whose place meets the item of a kept one; [`Scratch::reads`] tells how many count items of the output record were read: at most one
 //! for each of its tables that vary, and as many again for each receiver that got what is sent and whose place met the item of a count (`reads` of
-//! [`Moves::apply`]; `HaveMet` of specs/Met.antt).
+//! [`Moves::apply`]; `HaveMet` of specs/Met.antt). [`Scratch::input_length`] keeps the counts that an input's length rests on, [`Moves::apply_kept`] carries
+//! the moves out by them, and [`Scratch::output_length`] tells the output's length by what the moves kept of it; so each count is read once.
 //!
 //! It stands on cob_layout_places for moves as data, on cob_layout for places, counts and what holds of every record, on cob_move_receive
 //! for what one receiver gets, and on cob_move_prepared for single moves that are made ready. [`Moves::apply`] takes no memory: its room is a [`Scratch`].

@@ -1,7 +1,8 @@
 //! Moves that are ready to be carried out.
 
-ghost use Rattle.std.specs.Prelude.{◌≡◌, ◌+◌, ◌*◌, ◌≤◌, ℕ, length, map, min, IfOk};
+ghost use Rattle.std.specs.Prelude.{◌≡◌, ◌+◌, ◌*◌, ◌≤◌, ℕ, length, map, min, IfOk, OnOk};
 ghost use Rattle.cob_codec.specs.declared.reading.Reading.{Reading as Read};
+ghost use Rattle.cob_layout.specs.Kept.{AreKeptOf};
 ghost use Rattle.cob_layout.specs.Storage.{greatest_length, IsStorage};
 ghost use Rattle.cob_layout_places.specs.Counts.{tables_of};
 ghost use Rattle.cob_layout_places.specs.Moves.{AreMoves, Records, moves, moves_by, read_by, statement_moves_by};
@@ -148,6 +149,46 @@ impl Moves {
             (moves_of (record { input = input_layout.now; output = output_layout.now }) self.now)
             input.now output.old (ending result output.new) }
         ensures room { scratch.new.room ≡ scratch.old.room }
+        // Counts of the output record are read again only where a receiver met the item of one.
+        ensures reads { (met : ℕ)
+            × HaveMet (record { input = input_layout.now; output = output_layout.now })
+            (moves_of (record { input = input_layout.now; output = output_layout.now }) self.now)
+            input.now output.old met
+            × (scratch.new.reads ≤ length (tables_of output_layout.now) * (1 + met)) }
+    {
+        scratch.forget_input();
+        self.apply_kept(input_layout, output_layout, input, output, scratch)
+    }
+
+    /// Carries out the moves in order on the storage of an output record, as [`Moves::apply`] does. What the room keeps of the input's counts is that of
+    /// this input, and is not read again; of the output's it then keeps what the moves left. It takes no memory.
+    ///
+    /// The input is all of a record's storage, or its current part; the output is all of a record's storage. The room is that of
+    /// `Scratch::new` for these layouts.
+    ///
+    /// # Errors
+    ///
+    /// The first thing missing. The storage is as the moves and receivers before left it then.
+    pub fn apply_kept(
+        &self,
+        input_layout: &Layout,
+        output_layout: &Layout,
+        input: &[u8],
+        output: &mut [u8],
+        scratch: &mut Scratch,
+    ) -> Result<(), Stop>
+        requires prepared { ArePrepared
+            (record { input = input_layout.now; output = output_layout.now }) self.now }
+        requires input { IsStorage input_layout.now input.now }
+        requires output { length output.old ≡ greatest_length output_layout.now }
+        requires room { scratch.old.room ≡ room_of
+            (record { input = input_layout.now; output = output_layout.now }) }
+        requires kept { AreKeptOf input_layout.now input.now scratch.old.kept_input }
+        ensures applied { Applied (record { input = input_layout.now; output = output_layout.now })
+            (moves_of (record { input = input_layout.now; output = output_layout.now }) self.now)
+            input.now output.old (ending result output.new) }
+        ensures room { scratch.new.room ≡ scratch.old.room }
+        ensures keeps { OnOk result (AreKeptOf output_layout.now output.new scratch.new.kept_output) }
         // Counts of the output record are read again only where a receiver met the item of one.
         ensures reads { (met : ℕ)
             × HaveMet (record { input = input_layout.now; output = output_layout.now })

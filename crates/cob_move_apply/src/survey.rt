@@ -4,6 +4,7 @@ ghost use Rattle.std.specs.Prelude.{◌≡◌, ◌+◌, ◌≤◌, ℕ, List, le
 ghost use Rattle.cob_copybook_tree.specs.Forests.{Forest};
 ghost use Rattle.cob_copybook_tree.specs.Nodes.{Resolved};
 ghost use Rattle.cob_layout.specs.Fields.{with_field};
+ghost use Rattle.cob_layout.specs.Standing.{KeepsOf, room_in};
 ghost use Rattle.cob_move_apply.specs.Spent.{kept_of, PlaceSpends};
 ghost use Rattle.cob_move_apply.specs.Surveyed.{HasRoom, IsSurvey};
 
@@ -33,8 +34,9 @@ impl Survey {
 
     /// Forgets what is kept of a storage, since another one comes.
     pub(crate) fn forget(&mut self)
-        ensures survey { (tree : Forest Resolved) (bytes : List ℕ)
-            → HasRoom tree self.old → IsSurvey tree bytes self.new }
+        ensures keeps { (tree : Forest Resolved) (bytes : List ℕ)
+            → KeepsOf tree bytes self.new.counts }
+        ensures room { room_in self.new.counts ≡ room_in self.old.counts }
         ensures none { self.new.reads ≡ 0 }
         ensures unkept { (tree : Forest Resolved) → kept_of tree self.new ≡ 0 }
     {

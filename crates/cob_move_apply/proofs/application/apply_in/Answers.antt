@@ -17,8 +17,8 @@ loop-step-init c =
     record {
       left = left_all c.one_outcome_of_counts.ensures.needed x r c.args.given.now c.as_slice-rest.result.now on c.args.input.now c.args.output.now all;
       output = refl;
-      space = c.forget.ensures.space r c.args.input.now c.args.output.now c.requires.space;
-      spends = spent_steps_first c.one_outcome_of_counts.ensures.needed x r c.args.given.now c.as_slice-rest.result.now on c.args.input.now c.args.output.now c.forget.new.self.output all c.forget.ensures.none;
+      space = c.forget_output.ensures.space r c.args.input.now c.args.output.now c.requires.space c.requires.kept;
+      spends = spent_steps_first c.one_outcome_of_counts.ensures.needed x r c.args.given.now c.as_slice-rest.result.now on c.args.input.now c.args.output.now c.forget_output.new.self.output all c.forget_output.ensures.none;
     }
 
 pub make_located-requires-clause-step : goal.make_located-requires-clause-step

@@ -4,7 +4,7 @@ use Rattle.cob_layout_places.specs.Moves.{Records, moves_by}
 use Rattle.cob_move_apply.specs.Steps.{StandFor, support_of}
 use Rattle.cob_layout_places.specs.Counts.{tables_of}
 use Rattle.cob_move_apply.specs.Met.{HaveMet}
-use Rattle.cob_move_apply.proofs.moves.Moves.apply.Goals as goal
+use Rattle.cob_move_apply.proofs.moves.Moves.apply_kept.Goals as goal
 
 pub apply_in-requires-clause-steps : goal.apply_in-requires-clause-steps
 apply_in-requires-clause-steps c =
