@@ -12,13 +12,13 @@ use Rattle.cob_convert.specs.declared.aside.AsideFault.{AsideFault}
 use Rattle.cob_convert.specs.declared.aside.Ending.{Ending}
 use Rattle.cob_convert.specs.declared.aside.Ending.TheVariants as ending
 use Rattle.cob_convert.specs.declared.aside.Tally.{Tally}
-use Rattle.cob_convert.specs.Run.{Came, InConversion, InLayout, InRead, IsConverted, RecordStops, StopsFor, records_out}
-use Rattle.cob_convert.specs.Outcomes.{Became, ByConversion, ByLayout, HasItsOutcome, IsRejected, Outcome, WasRejected, converted_of, fault_at, inputs_of, rejected_of}
+use Rattle.cob_convert.specs.Run.{InRead, IsConverted, StopsFor, records_out}
+use Rattle.cob_convert.specs.Outcomes.{Became, HasItsOutcome, Outcome, WasRejected, converted_of, fault_at, inputs_of, rejected_of}
 use Rattle.cob_convert.specs.Aside.{IsOverAside, Outputs, RanAside, StopsAside, answer_over, count_of, tally_of}
 use Rattle.cob_convert.specs.AsideLaws.{AsideIsRun, IsConversion, RejectedAgain, RejectsNone, is_device_fault, IsPlainAnswer}
 use Rattle.cob_convert.proofs.AsideOne.{IsWorking, not_unwritten, working}
 use Rattle.cob_convert.proofs.Carried.{remains}
-use Rattle.cob_convert.proofs.Rejections.{rejected_unread, rejected_unwritten}
+use Rattle.cob_convert.proofs.Rejections.{rejected_unread, rejected_unwritten, stops_record}
 
 -- ---- records of which none was rejected
 
@@ -45,13 +45,6 @@ are_pairs conversion ((input, Became written) ∷ records) (one, each) none =
 are_pairs conversion ((input, WasRejected why) ∷ records) (one, each) none = absurd (omega (arith, none))
 
 -- ---- why it stops
-
--- a rejected record stops a run
-stops_record : (conversion : Conversion) (at : Remains) (input : List ℕ) (why : Reason) → Came conversion input at → IsRejected conversion input why → RecordStops conversion at why
-stops_record conversion at input why came (ByLayout (misfit, misfits, is)) =
-    InLayout (record { input = input; misfit = misfit; came = came; misfits = misfits; reason = is })
-stops_record conversion at input why came (ByConversion stop sized stops is) =
-    InConversion (record { input = input; stop = stop; came = came; sized = sized; stops = stops; reason = is })
 
 stops_plain : (conversion : Conversion) (most : ℕ) (records : List (List ℕ × Outcome)) (n : ℕ) (at : Remains) (why : Reason) → length records ≡ n → StopsAside conversion most records at why
     → StopsFor conversion n at why

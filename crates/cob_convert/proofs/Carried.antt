@@ -4,22 +4,23 @@ use Rattle.std.proofs.Math.ListN.{length-append}
 use Rattle.std.specs.List.{AllByRecursion}
 use Rattle.std.specs.Io.KnownBytes.{append_known}
 use Rattle.cob_records.specs.Device.{Told, Took, counted, greatest_count}
-use Rattle.cob_records.specs.Forms.{Come, FitsForm, FitsIn, emptied, records_held, outlet_of, pending_in, outlet_with, outlet_with_all, written_by, written_by_all}
+use Rattle.cob_records.specs.Forms.{Come, ComesFirst, FitsForm, FitsIn, emptied, records_held, outlet_of, pending_in, outlet_with, outlet_with_all, written_by, written_by_all}
 use Rattle.cob_records.specs.Frame.{Puts, is_unblocked, is_write_fault}
 use Rattle.cob_records.specs.declared.records.Form.{Form}
 use Rattle.cob_records.specs.declared.records.RecordFault.{RecordFault}
 use Rattle.cob_records.specs.declared.records.RecordFault.TheVariants.{WriteFailed, TookNothing}
 use Rattle.cob_records.specs.declared.outlet.Outlet.{Outlet}
-use Rattle.cob_convert_record.specs.Becoming.{Becomes, StopsAt}
-use Rattle.cob_convert_record.specs.Conversion.{Conversion, out_length}
-use Rattle.cob_convert_record.specs.cob_move_apply.declared.stop.Stop.{Stop}
+use Rattle.cob_convert_record.specs.Conversion.{Conversion, in_length, out_length}
 use Rattle.cob_stream.specs.declared.fault.Reason.{Reason}
 use Rattle.cob_stream.specs.declared.fault.RunFault.{RunFault}
-use Rattle.cob_stream.specs.Input.{IsJudged, ReadsRecord, Remains, records_in}
+use Rattle.cob_stream.specs.Input.{Remains, records_in}
 use Rattle.cob_stream.specs.Output.{PutsCounted}
 use Rattle.cob_stream.specs.Reasons.{is_write_cause, reason_of, write_reason}
-use Rattle.cob_convert.specs.Run.{ByEnd, ByRecord, Closes, CountsReads, InConversion, InLayout, InRead, IsConverted, IsOver, Ran, is_read_end, is_write_stop, limit_reason, most_records, outlet_behind, records_out, stop_reason}
-use Rattle.cob_convert.proofs.Outlets.{at_end, come_one, emptied_behind, fits_behind, held_more, holds_none, none_pending, records_in_more, records_out_more, with_one_more, written_more}
+use Rattle.cob_stream.specs.Whole.{IsWholeRecord, ReadsWhole}
+use Rattle.cob_convert.specs.Outcomes.{IsRejected}
+use Rattle.cob_convert.specs.Run.{ByEnd, ByRecord, Closes, CountsReads, InRead, IsConverted, IsOver, Ran, is_read_end, is_write_stop, limit_reason, most_records, outlet_behind, records_out}
+use Rattle.cob_convert.proofs.Outlets.{at_end, come_one, comes_of, emptied_behind, fits_behind, held_more, holds_none, none_pending, records_in_more, records_out_more, with_one_more, written_more}
+use Rattle.cob_convert.proofs.Rejections.{stops_record}
 
 -- ---- a run so far
 
@@ -78,11 +79,11 @@ each_more conversion (p ∷ pairs) pair each one = (each.0, each_more conversion
 -- one more record
 pub step : (conversion : Conversion) (n written total count made opened after : ℕ) (outlet next : Outlet) (slot out : List ℕ) (r0 r1 r2 w0 w1 w2 : Option (List ℕ))
     → Carried conversion n written opened outlet r0 r1 w0 w1
-    → Told r1 r2 (ReadsRecord conversion.in_form conversion.records.input opened slot (Ok (Some count)) after) → IsJudged conversion.in_form conversion.records.input slot count
-    → Becomes conversion (take count slot) (take made out)
+    → Told r1 r2 (ReadsWhole conversion.in_form conversion.records.input opened slot (Ok (Some count)) after)
+    → IsConverted conversion (take count slot, take made out)
     → Took w1 w2 (PutsCounted (written_by outlet (take made out)) (Ok tt) written total) → next ≡ outlet_with outlet (take made out)
     → Carried conversion (n + 1) total after next r0 r2 w0 w2
-step conversion n written total count made opened after outlet next slot out r0 r1 r2 w0 w1 w2 so_far read judged converts (part, puts, put) added =
+step conversion n written total count made opened after outlet next slot out r0 r1 r2 w0 w1 w2 so_far read is_converted (part, puts, put) added =
     let pair : List ℕ × List ℕ = (take count slot, take made out) in
     let pairs = so_far.pairs in
     let wrote : written_by outlet (take made out) ≡ written_by (outlet_behind conversion pairs) (take made out) = ap (λ (o : Outlet). written_by o (take made out)) so_far.is in
@@ -92,7 +93,7 @@ step conversion n written total count made opened after outlet next slot out r0 
     let size : length part ≡ length (written_by outlet (take made out)) = ap length puts.puts in
     record {
       pairs = pairs ++ pair ∷ [];
-      each = each_more conversion pairs pair so_far.each (record { whole = judged.whole; sized = judged.sized; converts = converts });
+      each = each_more conversion pairs pair so_far.each is_converted;
       count = omega (arith, length-append pairs (pair ∷ []), so_far.count);
       is = added ∙ ap (λ (o : Outlet). outlet_with o (take made out)) so_far.is ∙ sym (with_one_more (outlet_of conversion.out_form) (records_out pairs) (take made out))
           ∙ ap (outlet_with_all (outlet_of conversion.out_form)) (sym (records_out_more pairs pair));
@@ -100,7 +101,8 @@ step conversion n written total count made opened after outlet next slot out r0 
       sum = rw sent (omega (arith, length-append (sent_for conversion pairs) (written_by outlet (take made out)), so_far.sum, puts.counts, size));
       came = told_both r0 r1 r2 _ _ _ so_far.came read (λ bytes mid rest before next_one.
           subst (λ (bodies : List (List ℕ)). Come conversion.in_form 0 bodies bytes after rest) (sym (records_in_more pairs pair))
-          (come_one conversion.in_form 0 (records_in pairs) (take count slot) bytes opened mid after rest before next_one.1));
+          (come_one conversion.in_form 0 (records_in pairs) (take count slot) bytes opened mid after rest before
+          (comes_of conversion.in_form (in_length conversion) opened slot count after mid rest next_one)));
       appended = append_twice (sent_for conversion pairs) part w0 w1 w2 so_far.appended put
           ∙ ap (append_known w0) (ap (λ (xs : List ℕ). sent_for conversion pairs ++ xs) puts.puts ∙ sym sent);
     }
@@ -182,53 +184,33 @@ close_exit conversion n written opened outlet why (Err fault) r0 r1 r2 w0 w1 w2 
 
 -- at the end of the input
 pub clean_exit : (conversion : Conversion) (n written opened after : ℕ) (outlet : Outlet) (slot : List ℕ) (answer : Result ℕ RunFault) (r0 r1 r2 w0 w1 w2 : Option (List ℕ))
-    → Carried conversion n written opened outlet r0 r1 w0 w1 → Told r1 r2 (ReadsRecord conversion.in_form conversion.records.input opened slot (Ok None) after) → n < most_records
+    → Carried conversion n written opened outlet r0 r1 w0 w1 → Told r1 r2 (ReadsWhole conversion.in_form conversion.records.input opened slot (Ok None) after) → n < most_records
     → Took w1 w2 (Closes outlet n written None answer) → Told r0 r2 (λ bytes rest. Ran conversion answer bytes rest w0 w2)
 clean_exit conversion n written opened after outlet slot answer r0 r1 r2 w0 w1 w2 so_far read low closes =
-    close_exit conversion n written opened outlet None answer r0 r1 r2 w0 w1 w2 (ReadsRecord conversion.in_form conversion.records.input opened slot (Ok None) after) so_far read closes
+    close_exit conversion n written opened outlet None answer r0 r1 r2 w0 w1 w2 (ReadsWhole conversion.in_form conversion.records.input opened slot (Ok None) after) so_far read closes
     (λ bodies bytes left rest come p.
     let (closed, none, end) = at_end conversion.in_form bodies bytes opened left slot rest after _ 0 refl come p in
     record { below = low; closed = closed; none = none; rest = end })
 
--- where the next record can't be read, or isn't one of the layout
+-- where the next frame can't be read
 pub input_exit : (conversion : Conversion) (n written opened after : ℕ) (outlet : Outlet) (why : Reason) (slot : List ℕ) (answer : Result ℕ RunFault) (r0 r1 r2 w0 w1 w2 : Option (List ℕ))
-    → Carried conversion n written opened outlet r0 r1 w0 w1 → Told r1 r2 (ReadsRecord conversion.in_form conversion.records.input opened slot (Err why) after) → n < most_records
+    → Carried conversion n written opened outlet r0 r1 w0 w1 → Told r1 r2 (ReadsWhole conversion.in_form conversion.records.input opened slot (Err why) after) → n < most_records
     → Took w1 w2 (Closes outlet n written (Some why) answer) → Told r0 r2 (λ bytes rest. Ran conversion answer bytes rest w0 w2)
 input_exit conversion n written opened after outlet why slot answer r0 r1 r2 w0 w1 w2 so_far read low closes =
-    close_exit conversion n written opened outlet (Some why) answer r0 r1 r2 w0 w1 w2 (ReadsRecord conversion.in_form conversion.records.input opened slot (Err why) after) so_far read closes
-    (λ bodies bytes left rest come p. inr (
-      low,
-      elim p [
-        | inl unread ↦ InRead (record { fault = unread.fault; after = after; reads = unread.reads; reason = unread.reason })
-        | inr unfit ↦ InLayout (record {
-          input = unfit.input;
-          misfit = unfit.misfit;
-          came = record { whole = unfit.whole; after = after; frame = unfit.frame };
-          misfits = unfit.misfits;
-          reason = unfit.reason;
-        })
-      ],
-    ))
+    close_exit conversion n written opened outlet (Some why) answer r0 r1 r2 w0 w1 w2 (ReadsWhole conversion.in_form conversion.records.input opened slot (Err why) after) so_far read closes
+    (λ bodies bytes left rest come p. inr (low, InRead (record { fault = p.fault; after = after; reads = p.reads; reason = p.reason })))
 
--- where a record's conversion stops
-pub stop_exit : (conversion : Conversion) (n written opened after count : ℕ) (outlet : Outlet) (why : Reason) (stop : Stop) (slot : List ℕ) (answer : Result ℕ RunFault) (r0 r1 r2 w0 w1 w2 : Option (List ℕ))
+-- where a record is rejected
+pub reject_exit : (conversion : Conversion) (n written opened after count : ℕ) (outlet : Outlet) (why : Reason) (slot : List ℕ) (answer : Result ℕ RunFault) (r0 r1 r2 w0 w1 w2 : Option (List ℕ))
     → Carried conversion n written opened outlet r0 r1 w0 w1
-    → Told r1 r2 (ReadsRecord conversion.in_form conversion.records.input opened slot (Ok (Some count)) after) → IsJudged conversion.in_form conversion.records.input slot count
-    → StopsAt conversion (take count slot) stop → why ≡ stop_reason stop → n < most_records
+    → Told r1 r2 (ReadsWhole conversion.in_form conversion.records.input opened slot (Ok (Some count)) after)
+    → IsWholeRecord conversion.in_form conversion.records.input slot count → IsRejected conversion (take count slot) why → n < most_records
     → Took w1 w2 (Closes outlet n written (Some why) answer) → Told r0 r2 (λ bytes rest. Ran conversion answer bytes rest w0 w2)
-stop_exit conversion n written opened after count outlet why stop slot answer r0 r1 r2 w0 w1 w2 so_far read judged stops is low closes =
-    close_exit conversion n written opened outlet (Some why) answer r0 r1 r2 w0 w1 w2 (ReadsRecord conversion.in_form conversion.records.input opened slot (Ok (Some count)) after) so_far read closes
-    (λ bodies bytes left rest come p. inr (
-      low,
-      InConversion (record {
-        input = take count slot;
-        stop = stop;
-        came = record { whole = judged.whole; after = after; frame = p.1 };
-        sized = judged.sized;
-        stops = stops;
-        reason = is;
-      }),
-    ))
+reject_exit conversion n written opened after count outlet why slot answer r0 r1 r2 w0 w1 w2 so_far read whole is_rejected low closes =
+    close_exit conversion n written opened outlet (Some why) answer r0 r1 r2 w0 w1 w2 (ReadsWhole conversion.in_form conversion.records.input opened slot (Ok (Some count)) after) so_far read closes
+    (λ bodies bytes left rest come p.
+    let frame : ComesFirst conversion.in_form opened (take count slot) left after rest = comes_of conversion.in_form (in_length conversion) opened slot count after left rest p in
+    inr (low, stops_record conversion (remains opened left rest) (take count slot) why (record { whole = whole.1; after = after; frame = frame }) is_rejected))
 
 pub told_here : (r : Option (List ℕ)) → Told r r (λ left rest. rest ≡ left)
 told_here None = tt
@@ -246,11 +228,11 @@ limit_exit conversion n written opened outlet answer r0 r1 w0 w1 w2 so_far all c
 -- where what one more record writes can't be written
 pub write_exit : (conversion : Conversion) (n written total opened after count made : ℕ) (outlet : Outlet) (cause : RecordFault) (fault : RunFault) (slot out : List ℕ) (r0 r1 r2 w0 w1 w2 : Option (List ℕ))
     → Carried conversion n written opened outlet r0 r1 w0 w1
-    → Told r1 r2 (ReadsRecord conversion.in_form conversion.records.input opened slot (Ok (Some count)) after) → IsJudged conversion.in_form conversion.records.input slot count
-    → Becomes conversion (take count slot) (take made out) → n < most_records
+    → Told r1 r2 (ReadsWhole conversion.in_form conversion.records.input opened slot (Ok (Some count)) after)
+    → IsConverted conversion (take count slot, take made out) → n < most_records
     → Took w1 w2 (PutsCounted (written_by outlet (take made out)) (Err cause) written total) → reason_of fault ≡ write_reason cause
     → fault.number + records_held outlet ≡ n + 1 → fault.written ≡ total → Told r0 r2 (λ bytes rest. Ran conversion (Err fault) bytes rest w0 w2)
-write_exit conversion n written total opened after count made outlet cause fault slot out r0 r1 r2 w0 w1 w2 so_far read judged converts low (part, puts, put) is number sum =
+write_exit conversion n written total opened after count made outlet cause fault slot out r0 r1 r2 w0 w1 w2 so_far read is_converted low (part, puts, put) is number sum =
     told_both r0 r1 r2 _ _ _ so_far.came read (λ bytes left rest come p. record {
       pairs = so_far.pairs;
       opened = opened;
@@ -266,7 +248,7 @@ write_exit conversion n written total opened after count made outlet cause fault
           fault = cause;
           bytes = written_by outlet (take made out);
           to_write = ByRecord (take count slot) (take made out) (subst (λ (k : ℕ). k < most_records) (sym so_far.count) low)
-              (record { whole = judged.whole; after = after; frame = p.1 }) (record { whole = judged.whole; sized = judged.sized; converts = converts })
+              (record { whole = is_converted.whole; after = after; frame = comes_of conversion.in_form (in_length conversion) opened slot count after left rest p }) is_converted
               (ap (λ (o : Outlet). written_by o (take made out)) so_far.is);
           puts = puts.puts;
           before = refl;

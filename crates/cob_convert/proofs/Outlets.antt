@@ -1,5 +1,5 @@
 -- Records that come one after another, and an outlet to which records go one after another.
-use Rattle.std.proofs.Common.{◌≡◌, ℕ, ◌+◌, ◌≤◌, List, [], ◌∷◌, ◌++◌, length, Bool, true, false, refl, sym, subst, ◌∙◌, ap, append_assoc, append-nil, arith, None, Ok}
+use Rattle.std.proofs.Common.{◌≡◌, ℕ, ◌+◌, ◌≤◌, List, [], ◌∷◌, ◌++◌, length, take, Bool, true, false, refl, sym, subst, ◌∙◌, ap, append_assoc, append-nil, arith, None, Some, Ok}
 use Rattle.cob_records.specs.Frame.{framed, is_unblocked}
 use Rattle.cob_records.specs.Blocks.{OpenBlock, empty, fits, with_frame}
 use Rattle.cob_records.specs.Forms.{Come, ComesFirst, FitsForm, FitsIn, ReadsInForm, emptied, records_held, outlet_of, pending_in, outlet_with, outlet_with_all, written_by, written_by_all}
@@ -40,6 +40,13 @@ come_one form left [] body bytes mid more after rest (same, is) first =
     (after, rest, subst (λ (xs : List ℕ). ComesFirst form left body xs after rest) (sym same) (subst (λ (k : ℕ). ComesFirst form k body more after rest) is first), (refl, refl))
 come_one form left (b ∷ bodies) body bytes mid more after rest (k, behind, one, come) first =
     (k, behind, one, come_one form k bodies body behind mid more after rest come first)
+
+-- a record that was read came first
+pub comes_of : (form : Form) (greatest left : ℕ) (slot : List ℕ) (count after : ℕ) (bytes rest : List ℕ) → ReadsInForm form greatest left slot (Ok (Some count)) after bytes rest
+    → ComesFirst form left (take count slot) bytes after rest
+comes_of Fixed greatest left slot count after bytes rest ((size, whole, frame), same) = (frame, same)
+comes_of Variable greatest left slot count after bytes rest ((size, whole, frame), same) = (frame, same)
+comes_of (Blocked most) greatest left slot count after bytes rest (size, whole, comes) = comes
 
 -- without blocks none is open
 pub at_end : (form : Form) (bodies : List (List ℕ)) (bytes : List ℕ) (opened : ℕ) (left slot rest : List ℕ) (after greatest start : ℕ) → start ≡ 0

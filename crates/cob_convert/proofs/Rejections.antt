@@ -1,4 +1,4 @@
--- Why records are rejected: none is a fault of a device.
+-- Why records are rejected: none is a fault of a device, and each stops a run that sets none aside.
 use Rattle.std.proofs.Common.{◌≡◌, ℕ, List, false, refl, ap, ◌∙◌}
 use Rattle.cob_convert_record.specs.Conversion.{Conversion}
 use Rattle.cob_convert_record.specs.cob_move_apply.declared.stop.StopCause.{StopCause}
@@ -6,8 +6,9 @@ use Rattle.cob_convert_record.specs.cob_move_apply.declared.stop.StopCause.TheVa
 use Rattle.cob_stream.specs.declared.fault.Reason.{Reason}
 use Rattle.cob_stream.specs.declared.misfit.MeasureFault.{MeasureFault}
 use Rattle.cob_stream.specs.declared.misfit.MeasureFault.TheVariants.{Count as Uncounted, Length as Unfitting}
+use Rattle.cob_stream.specs.Input.{Remains}
 use Rattle.cob_stream.specs.Reasons.{is_read_cause, is_write_cause, refusal_from}
-use Rattle.cob_convert.specs.Run.{cause_from}
+use Rattle.cob_convert.specs.Run.{Came, InConversion, InLayout, RecordStops, cause_from}
 use Rattle.cob_convert.specs.Outcomes.{ByConversion, ByLayout, IsRejected}
 
 misfit_unread : (misfit : MeasureFault) → is_read_cause (refusal_from misfit) ≡ false
@@ -37,3 +38,10 @@ rejected_unread conversion input why (ByConversion stop sized stops is) = ap (λ
 pub rejected_unwritten : (conversion : Conversion) (input : List ℕ) (why : Reason) → IsRejected conversion input why → is_write_cause why.cause ≡ false
 rejected_unwritten conversion input why (ByLayout (misfit, misfits, is)) = ap (λ (r : Reason). is_write_cause r.cause) is ∙ misfit_unwritten misfit
 rejected_unwritten conversion input why (ByConversion stop sized stops is) = ap (λ (r : Reason). is_write_cause r.cause) is ∙ stop_unwritten stop.cause
+
+-- a rejected record stops a run
+pub stops_record : (conversion : Conversion) (at : Remains) (input : List ℕ) (why : Reason) → Came conversion input at → IsRejected conversion input why → RecordStops conversion at why
+stops_record conversion at input why came (ByLayout (misfit, misfits, is)) =
+    InLayout (record { input = input; misfit = misfit; came = came; misfits = misfits; reason = is })
+stops_record conversion at input why came (ByConversion stop sized stops is) =
+    InConversion (record { input = input; stop = stop; came = came; sized = sized; stops = stops; reason = is })

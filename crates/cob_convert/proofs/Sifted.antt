@@ -7,7 +7,7 @@ use Rattle.std.specs.Io.KnownBytes.{append_known}
 use Rattle.cob_records.specs.Alone.{framed_alone}
 use Rattle.cob_records.specs.Blocks.{OpenBlock, fits, with_frame}
 use Rattle.cob_records.specs.Device.{Told, Took, counted, greatest_count}
-use Rattle.cob_records.specs.Forms.{Come, ComesFirst, FitsForm, FitsIn, ReadsInForm, emptied, records_held, outlet_of, pending_in, outlet_with, outlet_with_all, written_by, written_by_all}
+use Rattle.cob_records.specs.Forms.{Come, ComesFirst, FitsForm, FitsIn, emptied, records_held, outlet_of, pending_in, outlet_with, outlet_with_all, written_by, written_by_all}
 use Rattle.cob_limits.specs.Limits.{longest_record}
 use Rattle.cob_records.specs.Frame.{IsRecord, Puts, framed, is_unblocked}
 use Rattle.cob_records.specs.declared.records.Form.{Form}
@@ -30,7 +30,7 @@ use Rattle.cob_convert.specs.Run.{IsConverted, limit_reason, most_records}
 use Rattle.cob_convert.specs.Outcomes.{Became, IsRejected, HasItsOutcome, Outcome, WasRejected, append_notes, converted_of, fault_at, inputs_of, note_of, notes_behind, notes_of, outlet_for, output_of, rejected_of, rejected_part, set_aside_of, written_behind}
 use Rattle.cob_convert.specs.Aside.{AllOut, BeginsConverted, ByEnd, ByRecord, ClosesAside, CountsUnlessSink, IsFirstUnwritten, IsOverAside, Outputs, PartOut, RanAside, answer_over, count_of, is_aside_ending, is_aside_error, is_aside_error_ending, is_aside_fault, is_read_ending, is_read_fault, is_sink_fault, tally_for, tally_of}
 use Rattle.cob_convert.proofs.Carried.{append_none, append_twice, put_kind, remains, told_both, told_here, told_same}
-use Rattle.cob_convert.proofs.Outlets.{at_end, come_one, emptied_behind, fits_behind, holds_none, none_pending, with_one_more, written_more}
+use Rattle.cob_convert.proofs.Outlets.{at_end, come_one, comes_of, emptied_behind, fits_behind, holds_none, none_pending, with_one_more, written_more}
 
 -- ---- one more record in the lists
 
@@ -224,13 +224,6 @@ start conversion most outlet r ends e = record {
   aside = append_none ends.aside;
   told = notes_none ends.notes;
 }
-
--- a record that was read came first
-comes_of : (form : Form) (greatest left : ℕ) (slot : List ℕ) (count after : ℕ) (bytes rest : List ℕ) → ReadsInForm form greatest left slot (Ok (Some count)) after bytes rest
-    → ComesFirst form left (take count slot) bytes after rest
-comes_of Fixed greatest left slot count after bytes rest ((size, whole, frame), same) = (frame, same)
-comes_of Variable greatest left slot count after bytes rest ((size, whole, frame), same) = (frame, same)
-comes_of (Blocked most) greatest left slot count after bytes rest (size, whole, comes) = comes
 
 -- a record has a byte, and no more than the longest
 pub record_size : (form : Form) (greatest : ℕ) (body : List ℕ) → IsRecord form greatest body → 0 < greatest → greatest ≤ longest_record

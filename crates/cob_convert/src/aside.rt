@@ -1,25 +1,25 @@
 //! Runs that set rejected records aside and go on.
 
-ghost use Rattle.std.specs.Prelude.{◌≡◌, ◌<◌, ◌≤◌, ◌+◌, ◌-◌, [], ◌∷◌, Err, false, length, take, IfErr, IfOk, OnErr, OnOk, is_err};
+ghost use Rattle.std.specs.Prelude.{◌≡◌, ◌<◌, ◌≤◌, ◌+◌, ◌-◌, [], ◌∷◌, Err, false, length, OnErr, OnOk, is_err};
 ghost use Rattle.cob_limits.specs.Limits.{longest_record};
 ghost use Rattle.cob_records.specs.Alone.{framed_alone};
 ghost use Rattle.cob_records.specs.Device.{counted, Took, Told};
 ghost use Rattle.cob_records.specs.Forms.{FitsForm, emptied, outlet_of};
-ghost use Rattle.cob_records.specs.Frame.{IsRecord, Puts, is_write_error};
+ghost use Rattle.cob_records.specs.Frame.{Puts, is_write_error};
 ghost use Rattle.cob_convert_record.specs.Rooms.{capacity_for};
 ghost use Rattle.cob_convert_record.specs.Conversion.{in_length, out_length};
 ghost use Rattle.cob_stream.specs.Reasons.{is_read_cause, is_write_cause};
-ghost use Rattle.cob_convert.specs.Run.{IsConverted};
-ghost use Rattle.cob_convert.specs.Outcomes.{IsRejected, append_notes, fault_at};
+ghost use Rattle.cob_convert.specs.Outcomes.{append_notes, fault_at};
 ghost use Rattle.cob_convert.specs.Aside.{ClosesAside, ClosesAtLimit, CountsUnlessSink, RanAside, is_aside_error};
 ghost use Rattle.cob_convert.specs.Aside.{is_aside_fault, is_read_fault, is_sink_ending, is_sink_error, is_sink_fault, tally_for};
 ghost use Rattle.cob_convert.specs.declared.run.TheConstants.{LIMIT};
 
 use crate::notes::Notes;
-use crate::run::{LIMIT, reason_of_stop};
+use crate::outcome::converted;
+use crate::run::LIMIT;
 use cob_convert_record::{Conversion, Room};
 use cob_records::{Form, Outlet, RecordFault, Sink, Source, put_alone};
-use cob_stream::{Cause, Reason, RunFault, Side, sized_are_storages, write_pending, write_record};
+use cob_stream::{Cause, Reason, RunFault, Side, write_pending, write_record};
 use std::fmt;
 
 /// How many records a run converted, and how many it rejected and set aside.
@@ -80,36 +80,6 @@ fn fault_of(number: u64, why: Reason, written: u64) -> RunFault
         offset,
         cause,
         written,
-    }
-}
-
-/// Makes the output record of an input record that came whole, and answers how many bytes of its storage are written.
-///
-/// # Errors
-///
-/// Why the record is rejected: it isn't one of its layout, or its conversion stops.
-fn converted(
-    conversion: &Conversion,
-    input: &[u8],
-    output: &mut [u8],
-    room: &mut Room,
-) -> Result<usize, Reason>
-    requires record { IsRecord conversion.now.in_form (in_length conversion.now) input.now }
-    requires output { length output.old ≡ out_length conversion.now }
-    requires room { room.old ≡ capacity_for conversion.now.records }
-    ensures size { IfOk result
-        (λ made. (0 < made) × (made ≤ length output.new) × (made ≤ longest_record)) }
-    ensures converts { IfOk result
-        (λ made. IsConverted conversion.now (input.now, take made output.new)) }
-    ensures rejects { IfErr result (IsRejected conversion.now input.now) }
-    ensures room { room.new ≡ room.old }
-{
-    // For `convert`: what is one of the layout's records holds a record of it.
-    sized_are_storages();
-    conversion.judge(input, room)?;
-    match conversion.convert(input, output, room) {
-        Ok(made) => Ok(made),
-        Err(stop) => Err(reason_of_stop(stop)),
     }
 }
 

@@ -23,8 +23,8 @@
 //!   is rejected ([`aside_is_run`]); and what was set aside is rejected again ([`rejected_again`]).
 //!
 //! It stands on `cob_stream` for a record that comes in, one that goes out and what stops a run, on `cob_records` for the frames, on
-//! `cob_copybook` and `cob_layout` for the records, on `cob_move` for the paragraph, on `cob_convert_record` for what becomes of one record, and
-//! on `thiserror` for what faults print.
+//! `cob_copybook` and `cob_layout` for the records, on `cob_move` for the paragraph, on `cob_convert_record` for what becomes of one record, by one
+//! call for one that came whole, and on `thiserror` for what faults print.
 #![tactic(auto)]
 
 mod aside;
@@ -34,6 +34,7 @@ mod converter;
 mod fault;
 mod laws;
 mod notes;
+mod outcome;
 mod run;
 
 pub use aside::{AsideFault, Tally};

@@ -1,41 +1,21 @@
+//! Runs that stop at the first record that can't be converted.
+
 ghost use Rattle.std.specs.Prelude.{◌≡◌, ◌+◌, ◌≤◌, false, length, IfSome};
 ghost use Rattle.cob_records.specs.Device.{counted, Took, Told};
 ghost use Rattle.cob_records.specs.Forms.{FitsForm, emptied, records_held, outlet_of};
 ghost use Rattle.cob_convert_record.specs.Rooms.{capacity_for};
 ghost use Rattle.cob_convert_record.specs.Conversion.{in_length, out_length};
 ghost use Rattle.cob_stream.specs.Reasons.{is_error_cause, is_write_cause};
-ghost use Rattle.cob_convert.specs.Run.{Closes, CountsReads, Ran, cause_from, is_write_stop, is_write_error_stop, limit_reason, stop_reason};
+ghost use Rattle.cob_convert.specs.Run.{Closes, CountsReads, Ran, is_write_stop, is_write_error_stop, limit_reason};
 ghost use Rattle.cob_convert.specs.declared.run.TheConstants.{LIMIT};
 
-use cob_convert_record::{Conversion, Room, Stop, StopCause};
+use crate::outcome::converted;
+use cob_convert_record::{Conversion, Room};
 use cob_records::{Outlet, Sink, Source};
-use cob_stream::{Cause, Reason, RunFault, Side, sized_are_storages, write_pending, write_record};
+use cob_stream::{Cause, Reason, RunFault, Side, write_pending, write_record};
 
 /// How many records a run converts at most.
 pub(crate) const LIMIT: u64 = u64::MAX - 1;
-
-/// A conversion's cause as a run's.
-fn cause_of(cause: StopCause) -> Cause
-    ensures { result ≡ cause_from cause }
-{
-    match cause {
-        StopCause::NoValue => Cause::NoValue,
-        StopCause::Count => Cause::Count,
-        StopCause::Subscript => Cause::Subscript,
-    }
-}
-
-/// The reason of a conversion that stopped.
-pub(crate) fn reason_of_stop(stop: Stop) -> Reason
-    ensures reason { result ≡ stop_reason stop }
-    ensures kind { is_write_cause result.cause ≡ false }
-{
-    Reason {
-        side: stop.side,
-        offset: stop.offset,
-        cause: cause_of(stop.cause),
-    }
-}
 
 /// The stop of a run at the record behind so many others.
 fn stop_behind(done: u64, why: Reason, written: u64) -> RunFault
@@ -116,19 +96,17 @@ pub fn run_over<R: Source, W: Sink>(
     ensures outlet { outlet.new ≡ outlet.old }
     ensures room { room.new ≡ room.old }
 {
-    // For `ran`: what is read as one of the layout's records holds a record of it.
-    sized_are_storages();
     let mut written: u64 = 0;
     let mut left: u16 = 0;
     for done in 0..LIMIT {
-        let count = match conversion.next_input(source, input, &mut left, room) {
+        let count = match conversion.next_whole(source, input, &mut left) {
             Ok(None) => return close(outlet, sink, done, written, None),
             Ok(Some(count)) => count,
             Err(why) => return close(outlet, sink, done, written, Some(why)),
         };
-        let made = match conversion.convert(&input[..count], output, room) {
+        let made = match converted(conversion, &input[..count], output, room) {
             Ok(made) => made,
-            Err(stop) => return close(outlet, sink, done, written, Some(reason_of_stop(stop))),
+            Err(rejected) => return close(outlet, sink, done, written, Some(rejected)),
         };
         let held = u64::from(outlet.held());
         if let Err(fault) = write_record(sink, outlet, &output[..made], &mut written) {
