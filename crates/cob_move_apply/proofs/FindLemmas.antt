@@ -11,6 +11,7 @@ use Rattle.cob_layout.specs.declared.finding.FindFault.TheVariants.{Count, Subsc
 use Rattle.cob_layout.specs.Counting.{NeededOf, greatest_counts}
 use Rattle.cob_layout.specs.Finding.{IsFound, OnCounts}
 use Rattle.cob_layout.specs.Kept.{KeptGiveNeeded, ReadOnce, TakenAnew, kept_after, most_reads, numbers_of}
+use Rattle.cob_layout.specs.declared.layout.PlaceFault.{PlaceFault}
 use Rattle.cob_layout.specs.Laws.{OneOfNeeded}
 use Rattle.cob_layout.specs.Sound.{IsSound}
 use Rattle.cob_layout_places.specs.declared.counts.CountFault.{CountFault}
@@ -89,3 +90,10 @@ nowhere_spends laws t bytes o receiving old new r f e sound is survey found kept
     stopped laws t bytes o receiving old new f sound is survey
     (subst (λ (s : Result Place FindFault). IsFound t o.entry receiving bytes s) e found)
     (subst (λ (s : Result Place FindFault). OnCounts s (KeptFor t bytes o receiving old new)) e kept) reads
+
+-- where an element is past its table's count, and its counts are valid
+pub past_spends : Laws → (t : Forest Resolved) (bytes : List ℕ) (o : Operand) (receiving : Bool) (old new : Survey) (r : Result Place FindFault) (g : FindFault) (f : PlaceFault) → r ≡ Err g → g ≡ Subscript f → IsSound t → IsOperand t o
+    → IsSurvey t bytes old → OnCounts r (KeptFor t bytes o receiving old new) → ReadsFor t bytes o receiving old new → IsSpent t 0 old new
+past_spends laws t bytes o receiving old new r g f e same sound is survey kept reads =
+    let fault : OnCounts (Err g) (KeptFor t bytes o receiving old new) = subst (λ (s : Result Place FindFault). OnCounts s (KeptFor t bytes o receiving old new)) e kept in
+    kept_spends laws t bytes o receiving old new sound is survey (subst (λ (h : FindFault). OnCounts (Err h) (KeptFor t bytes o receiving old new)) same fault) reads

@@ -1,12 +1,11 @@
 -- Single moves that are made ready wherever their items stand.
-use Rattle.std.proofs.Common.{◌≡◌, ℕ, Bool, true, false, List, [], ◌∷◌, get_or, refl, sym, subst, inl, inr, Ok, Err, Option, Some, None}
+use Rattle.std.proofs.Common.{◌≡◌, ℕ, Bool, true, List, [], ◌∷◌, get_or, refl, sym, subst, inl, inr, Option, Some, None}
 use Rattle.cob_codec.specs.declared.reading.Reading.{Reading}
-use Rattle.cob_codec.specs.declared.reading.Reading.TheVariants.{Pictured}
+use Rattle.cob_codec.specs.declared.reading.Reading.TheVariants.{Pictured, Whole}
+use Rattle.cob_copybook_tree.specs.declared.node.Kind.{Kind}
 use Rattle.cob_layout.specs.Fields.{field_of, with_field}
-use Rattle.cob_layout.specs.declared.fields.Place.{Place}
-use Rattle.cob_layout_places.specs.declared.operands.Operand.{Operand}
-use Rattle.cob_layout_places.specs.declared.operands.Side.TheVariants.{In, Out}
-use Rattle.cob_layout_places.specs.Moves.{Entry, Move, Records, operand_in}
+use Rattle.cob_layout_places.specs.declared.operands.Side.TheVariants.{In}
+use Rattle.cob_layout_places.specs.Moves.{Move, Records, operand_in}
 use Rattle.cob_move_prepared.specs.Pool.{IsMoveStep, MoveKinds}
 use Rattle.cob_move_prepared.specs.declared.pictured.PicturedStep.{PicturedStep}
 use Rattle.cob_move_prepared.specs.declared.pictured.PicturedSteps.{PicturedSteps}
@@ -16,26 +15,19 @@ use Rattle.cob_move_prepared.specs.declared.pool.MoveSteps.{MoveSteps}
 use Rattle.cob_move_prepared.proofs.PoolLemmas.{read_at}
 use Rattle.cob_move_receive.specs.Received.{Received}
 use Rattle.cob_move_receive.specs.Sent as sent
-use Rattle.cob_move_receive.specs.Sent.{Occupies}
-use Rattle.cob_move_apply.specs.Applied.{Applied, Ending, IsMoved, content_at, stopped}
-use Rattle.cob_move_apply.specs.Located.{Located, stop_at}
+use Rattle.cob_move_apply.specs.Applied.{Applied, Ending, IsMoved, content_at}
+use Rattle.cob_move_apply.specs.Located.{stop_at}
 use Rattle.cob_move_apply.specs.Made.{IsMadePictured, IsMadeReady, StandAt}
-use Rattle.cob_move_apply.specs.Steps.{CarriesAnywhere, CarriesLocated, CarriesPictured, GivesText, IsLocatedMove, IsReadyAnywhere, copied_move}
+use Rattle.cob_move_apply.specs.Steps.{CarriesAnywhere, CarriesLocated, CarriesPictured, GivesText, IsLocatedMove, IsReadyAnywhere, copied_move, serves}
 use Rattle.cob_move_apply.specs.Written.{received_at}
 use Rattle.cob_move_apply.specs.declared.step.LocatedMove.{LocatedMove}
 use Rattle.cob_move_apply.specs.declared.step.LocatedStep.{LocatedStep}
+use Rattle.cob_move_apply.specs.declared.step.LocatedStep.TheVariants as located_step
 use Rattle.cob_move_apply.specs.declared.step.MovePlaces.{MovePlaces}
 use Rattle.cob_move_apply.specs.declared.stop.Stop.{Stop}
 use Rattle.cob_move_apply.specs.declared.stop.StopCause.TheVariants.{NoValue}
 use Rattle.cob_move_apply.proofs.PreparedLemmas.{kinds_of}
 use Rattle.cob_move_apply.proofs.StepLemmas.{made_one}
-
--- ---- a place that is missing
-
--- that of the receiver, where the sender stands
-pub stops_second : (r : Records) (x : Reading) (o q : Operand) (input before : List ℕ) (p : Place) (stop : Stop) → Located In r.input false o input (Ok p) → Located Out r.output true q before (Err stop)
-    → IsMoved r (record { sender = Entry In x o; receivers = q ∷ [] }) input before (stopped stop before)
-stops_second r x o q input before p stop stands missing = inl (content_at In x o input p, (p, stands, refl), inr (stop, inl missing, refl))
 
 -- ---- what was carried out
 
@@ -96,9 +88,16 @@ pub the_located : (x : Reading) (r : Records) (steps : MoveSteps) (pictured : Pi
 the_located x r steps pictured located number own one is at = read_at LocatedMove (λ p. IsReadyAnywhere r steps pictured p × (own ≡ copied_move x r p.sent p.receiver ∷ [])) located number one is at
 
 -- by the step that it has
-pub carries_by : (r : Records) (steps : MoveSteps) (pictured : PicturedSteps) (one : LocatedMove) (step : LocatedStep) → one.step ≡ step → IsReadyAnywhere r steps pictured one
-    → CarriesLocated steps pictured (operand_in r.input one.sent).kind (operand_in r.output one.receiver).kind step
-carries_by r steps pictured one step same ready = subst (λ (s : LocatedStep). CarriesLocated steps pictured (operand_in r.input one.sent).kind (operand_in r.output one.receiver).kind s) same ready.carries
+pub carries_as : (steps : MoveSteps) (pictured : PicturedSteps) (sender receiver : Kind) (s t : LocatedStep) → s ≡ t → CarriesLocated steps pictured sender receiver s → CarriesLocated steps pictured sender receiver t
+carries_as steps pictured sender receiver s t same carries = subst (λ (u : LocatedStep). CarriesLocated steps pictured sender receiver u) same carries
+
+-- which serves where senders are read as their pictures say
+serves_pictured : (t : PicturedStep) (x : Reading) → serves (located_step.Pictured t) x ≡ true → x ≡ Pictured
+serves_pictured t Pictured so = refl
+serves_pictured t Whole so = cc
+
+pub read_by_picture : (s : LocatedStep) (t : PicturedStep) (x : Reading) → s ≡ located_step.Pictured t → serves s x ≡ true → x ≡ Pictured
+read_by_picture s t x same so = serves_pictured t x (subst (λ (u : LocatedStep). serves u x ≡ true) same so)
 
 pub applied_located : (x : Reading) (r : Records) (steps : MoveSteps) (pictured : PicturedSteps) (located : List LocatedMove) (number : ℕ) (own : List Move) (one : LocatedMove) (input before : List ℕ) (end : Ending)
     → IsLocatedMove x r steps pictured located number own → one ≡ get_or located number one → IsMoved r (copied_move x r one.sent one.receiver) input before end → Applied r own input before end

@@ -1,7 +1,7 @@
 -- Steps: what is carried out in the place of moves.
 use Rattle.std.specs.Prelude.{◌≡◌, ◌⊎◌, ℕ, ◌+◌, ◌<◌, ◌≤◌, Bool, false, true, List, [], ◌∷◌, ◌++◌, length, get_or, map, take, drop}
 use Rattle.cob_codec.specs.declared.reading.Reading.{Reading}
-use Rattle.cob_codec.specs.declared.reading.Reading.TheVariants.{Pictured}
+use Rattle.cob_codec.specs.declared.reading.Reading.TheVariants.{Pictured, Whole}
 use Rattle.cob_copybook_tree.specs.declared.node.Kind.{Kind}
 use Rattle.cob_entry.specs.Described.{PlainValue}
 use Rattle.cob_layout_places.specs.declared.operands.Side.TheVariants.{In, Out}
@@ -131,6 +131,13 @@ abbrev pub CarriesLocated : MoveSteps → PicturedSteps → (sender receiver : K
 CarriesLocated steps pictured sender receiver (located_step.Characters right) = GivesText sender receiver right
 CarriesLocated steps pictured sender receiver (located_step.Always s) = CarriesAnywhere steps sender receiver s
 CarriesLocated steps pictured sender receiver (located_step.Pictured s) = CarriesPictured pictured sender receiver s
+
+-- the step carries its moves out where senders are read so
+abbrev pub serves : LocatedStep → Reading → Bool
+serves (located_step.Characters right) reading = true
+serves (located_step.Always s) reading = true
+serves (located_step.Pictured s) Pictured = true
+serves (located_step.Pictured s) Whole = false
 
 -- a move was made ready so: what is noted of either place is what this may rest on, and the step, one of these, carries the move out wherever they stand
 pub record IsReadyAnywhere (r : Records) (steps : MoveSteps) (pictured : PicturedSteps) (p : LocatedMove) : Type 0 where

@@ -1,20 +1,20 @@
 //! Single moves that were made ready wherever their items stand, carried out.
 
-ghost use Rattle.std.specs.Prelude.{◌≡◌, [], ◌∷◌, false, length, true, IfErr, IfOk, List};
-ghost use Rattle.cob_codec.specs.declared.reading.Reading.TheVariants.{Pictured};
+ghost use Rattle.std.specs.Prelude.{◌≡◌, [], ◌∷◌, false, length, true, IfSome, IsTrue, List};
 ghost use Rattle.cob_layout.specs.Sound.{IsSound};
 ghost use Rattle.cob_layout.specs.Storage.{greatest_length, IsStorage};
 ghost use Rattle.cob_layout_places.specs.Moves.{Move as Meant, operand_in};
-ghost use Rattle.cob_move_apply.specs.Applied.{Applied, IsMoved, ending, stopped};
+ghost use Rattle.cob_move_apply.specs.Applied.{Applied, IsMoved, done, ending};
 ghost use Rattle.cob_move_apply.specs.Made.{StandAt};
 ghost use Rattle.cob_move_apply.specs.Placed.{IsPlaced};
-ghost use Rattle.cob_move_apply.specs.Spent.{MovesSpend, Spends};
-ghost use Rattle.cob_move_apply.specs.Steps.{CarriesAnywhere, CarriesPictured, GivesText, IsLocatedMove, copied_move};
+ghost use Rattle.cob_move_apply.specs.Spent.{HaveSpent, IsSpent, MovesSpend};
+ghost use Rattle.cob_move_apply.specs.Steps.{CarriesLocated, IsLocatedMove, copied_move, serves};
 ghost use Rattle.cob_move_apply.specs.Surveyed.{IsWorkspace, records};
+ghost use Rattle.cob_move_apply.specs.declared.survey.Survey.{Survey as Kept};
 
 use crate::basis::{PlacedReceivers, SentEntry, placed_operand};
 use crate::pictured::run_pictured;
-use crate::places::{Stored, locate};
+use crate::places::{Stored, locate_if_there};
 use crate::prepared::{make_characters, make_prepared};
 use crate::senders::move_entry;
 use crate::step::{LocatedMove, LocatedStep, MovePlaces, PicturedMove, Plan};
@@ -23,22 +23,33 @@ use crate::workspace::{Layouts, Workspace};
 use cob_codec::Reading;
 use cob_layout::places_lie_in_storage;
 use cob_layout_places::Side;
-use cob_move_prepared::{CharactersStep, MoveStep, MoveSteps, PicturedStep, PicturedSteps};
+use cob_move_prepared::CharactersStep;
 use std::slice;
 
-/// Where the sender and the receiver of a move stand: the sender's place is found first.
-///
-/// # Errors
-///
-/// The first thing missing.
+/// Whether a step carries its moves out where senders are read so.
 #[inline(always)]
-fn locate_both(
+fn serves(step: LocatedStep, reading: Reading) -> bool
+    ensures { result ≡ serves step reading }
+{
+    match step {
+        LocatedStep::Characters(_) => true,
+        LocatedStep::Always(_) => true,
+        LocatedStep::Pictured(_) => match reading {
+            Reading::Pictured => true,
+            Reading::Whole => false,
+        },
+    }
+}
+
+/// Where the sender and the receiver of a move stand, if both are there: the sender's place is found first.
+#[inline(always)]
+fn both_places(
     one: &LocatedMove,
     layouts: &Layouts<'_>,
     input: &[u8],
     output: &[u8],
     space: &mut Workspace,
-) -> Result<MovePlaces, Stop>
+) -> Option<MovePlaces>
     requires in_sound { IsSound layouts.now.input.now }
     requires out_sound { IsSound layouts.now.output.now }
     requires sends { IsPlaced layouts.now.input.now false
@@ -47,12 +58,9 @@ fn locate_both(
         (operand_in layouts.now.output.now one.now.receiver) one.now.to }
     requires input { IsStorage layouts.now.input.now input.now }
     requires space { IsWorkspace (records layouts.now) input.now output.now space.old }
-    ensures stand { IfOk result (StandAt (records layouts.now) one.now input.now output.now) }
-    ensures stops { IfErr result (λ stop. IsMoved (records layouts.now)
-        (copied_move layouts.now.reading (records layouts.now) one.now.sent one.now.receiver)
-        input.now output.now (stopped stop output.now)) }
+    ensures stand { IfSome result (StandAt (records layouts.now) one.now input.now output.now) }
     ensures space { IsWorkspace (records layouts.now) input.now output.now space.new }
-    ensures spends { Spends layouts.now.output.now 0 result space.old.output space.new.output }
+    ensures spends { IsSpent layouts.now.output.now 0 space.old.output space.new.output }
 {
     let _ = layouts.input.greatest();
     places_lie_in_storage();
@@ -62,131 +70,117 @@ fn locate_both(
         bytes: input,
     };
     let sender = placed_operand(layouts.input, &one.sent, one.from);
-    let from = locate(&sending, &sender, false, &mut space.input)?;
+    let Some(from) = locate_if_there(&sending, &sender, false, &mut space.input) else {
+        return None;
+    };
     let receiving = Stored {
         side: Side::Out,
         layout: layouts.output,
         bytes: output,
     };
     let receiver = placed_operand(layouts.output, &one.receiver, one.to);
-    let to = locate(&receiving, &receiver, true, &mut space.output)?;
-    Ok(MovePlaces { from, to })
+    let Some(to) = locate_if_there(&receiving, &receiver, true, &mut space.output) else {
+        return None;
+    };
+    Some(MovePlaces { from, to })
 }
 
-/// Carries out a move of characters, of as many bytes as the sender has where it stands.
-///
-/// # Errors
-///
-/// The first thing missing: a place of the sender, or one of the receiver. The storage is as it was then.
-fn move_characters(
-    prepared: &MoveSteps,
+/// Carries out a move between the places where its sender and its receiver stand. False where a value of the sender is missing: all is as it was then.
+#[inline(always)]
+fn run_between(
+    plan: &Plan,
     one: &LocatedMove,
-    right: bool,
+    places: &MovePlaces,
     layouts: &Layouts<'_>,
     input: &[u8],
     output: &mut [u8],
     space: &mut Workspace,
-) -> Result<(), Stop>
-    requires in_sound { IsSound layouts.now.input.now }
-    requires out_sound { IsSound layouts.now.output.now }
-    requires sends { IsPlaced layouts.now.input.now false
-        (operand_in layouts.now.input.now one.now.sent) one.now.from }
-    requires receives { IsPlaced layouts.now.output.now true
-        (operand_in layouts.now.output.now one.now.receiver) one.now.to }
-    requires carries { GivesText
+) -> bool
+    requires carries { CarriesLocated plan.now.prepared plan.now.pictured
         (operand_in layouts.now.input.now one.now.sent).kind
-        (operand_in layouts.now.output.now one.now.receiver).kind right }
-    requires input { IsStorage layouts.now.input.now input.now }
+        (operand_in layouts.now.output.now one.now.receiver).kind one.now.step }
+    requires serves { serves one.now.step layouts.now.reading ≡ true }
+    requires stand { StandAt (records layouts.now) one.now input.now output.old places.now }
     requires output { length output.old ≡ greatest_length layouts.now.output.now }
     requires space { IsWorkspace (records layouts.now) input.now output.old space.old }
-    ensures moved { IsMoved (records layouts.now)
+    ensures moved { IsTrue result → IsMoved (records layouts.now)
         (copied_move layouts.now.reading (records layouts.now) one.now.sent one.now.receiver)
-        input.now output.old (ending result output.new) }
+        input.now output.old (done output.new) }
     ensures space { IsWorkspace (records layouts.now) input.now output.new space.new }
-    ensures spends { MovesSpend (records layouts.now)
-        (copied_move layouts.now.reading (records layouts.now) one.now.sent one.now.receiver ∷ []) input.now output.old result output.new space.old.output space.new.output }
+    ensures spends { IsTrue result → (before : Kept)
+        → IsSpent layouts.now.output.now 0 before space.old.output
+        → HaveSpent (records layouts.now)
+        (copied_move layouts.now.reading (records layouts.now) one.now.sent one.now.receiver ∷ [])
+        input.now output.old output.new before space.new.output }
+    ensures same { result ≡ false → (output.new ≡ output.old) × (space.new ≡ space.old) }
 {
-    let places = locate_both(one, layouts, input, output, space)?;
-    let sent = places.from.length as usize;
-    let step = CharactersStep { sent, right };
-    make_characters(prepared, &places, step, layouts, input, output, space);
-    Ok(())
+    let prepared = &plan.prepared;
+    match one.step {
+        LocatedStep::Characters(right) => {
+            let sent = places.from.length as usize;
+            let step = CharactersStep { sent, right };
+            make_characters(prepared, places, step, layouts, input, output, space);
+            true
+        }
+        LocatedStep::Always(step) => {
+            match make_prepared(prepared, places, step, layouts, input, output, space) {
+                Ok(()) => true,
+                Err(_) => false,
+            }
+        }
+        LocatedStep::Pictured(step) => {
+            let ready = PicturedMove {
+                places: *places,
+                step,
+            };
+            match run_pictured(&plan.pictured, ready, layouts, input, output, space) {
+                Ok(()) => true,
+                Err(_) => false,
+            }
+        }
+    }
 }
 
-/// Carries out a move by this step, whatever the reading of binary senders.
-///
-/// # Errors
-///
-/// The first thing missing: a place of the sender, one of the receiver, a value of the sender. The storage is as it was then.
-fn move_always(
-    prepared: &MoveSteps,
-    one: &LocatedMove,
-    step: MoveStep,
+/// Carries out the single move with this number at once. False where senders are read otherwise than it was made ready for, where its sender or its
+/// receiver stands nowhere, or where a value of the sender is missing: the storage is as it was then. It isn't inlined, so that steps whose places are known
+/// stay short.
+#[inline(never)]
+fn run_located(
+    plan: &Plan,
+    number: usize,
     layouts: &Layouts<'_>,
     input: &[u8],
     output: &mut [u8],
     space: &mut Workspace,
-) -> Result<(), Stop>
+) -> bool
     requires in_sound { IsSound layouts.now.input.now }
     requires out_sound { IsSound layouts.now.output.now }
-    requires sends { IsPlaced layouts.now.input.now false
-        (operand_in layouts.now.input.now one.now.sent) one.now.from }
-    requires receives { IsPlaced layouts.now.output.now true
-        (operand_in layouts.now.output.now one.now.receiver) one.now.to }
-    requires carries { CarriesAnywhere prepared.now
-        (operand_in layouts.now.input.now one.now.sent).kind
-        (operand_in layouts.now.output.now one.now.receiver).kind step }
+    requires step { (own : List Meant) × IsLocatedMove layouts.now.reading (records layouts.now)
+        plan.now.prepared plan.now.pictured plan.now.located.items number own }
     requires input { IsStorage layouts.now.input.now input.now }
     requires output { length output.old ≡ greatest_length layouts.now.output.now }
     requires space { IsWorkspace (records layouts.now) input.now output.old space.old }
-    ensures moved { IsMoved (records layouts.now)
-        (copied_move layouts.now.reading (records layouts.now) one.now.sent one.now.receiver)
-        input.now output.old (ending result output.new) }
+    ensures applied { IsTrue result → (own : List Meant)
+        → IsLocatedMove layouts.now.reading (records layouts.now)
+        plan.now.prepared plan.now.pictured plan.now.located.items number own
+        → Applied (records layouts.now) own input.now output.old (done output.new) }
     ensures space { IsWorkspace (records layouts.now) input.now output.new space.new }
-    ensures spends { MovesSpend (records layouts.now)
-        (copied_move layouts.now.reading (records layouts.now) one.now.sent one.now.receiver ∷ []) input.now output.old result output.new space.old.output space.new.output }
+    ensures spends { IsTrue result → (own : List Meant)
+        → IsLocatedMove layouts.now.reading (records layouts.now)
+        plan.now.prepared plan.now.pictured plan.now.located.items number own
+        → HaveSpent (records layouts.now) own input.now output.old output.new
+        space.old.output space.new.output }
+    ensures same { result ≡ false → (output.new ≡ output.old)
+        × IsSpent layouts.now.output.now 0 space.old.output space.new.output }
 {
-    let places = locate_both(one, layouts, input, output, space)?;
-    make_prepared(prepared, &places, step, layouts, input, output, space)
-}
-
-/// Carries out a move by this step, where senders are read as their pictures say.
-///
-/// # Errors
-///
-/// The first thing missing: a place of the sender, one of the receiver, a value of the sender. The storage is as it was then.
-fn move_pictured(
-    pictured: &PicturedSteps,
-    one: &LocatedMove,
-    step: PicturedStep,
-    layouts: &Layouts<'_>,
-    input: &[u8],
-    output: &mut [u8],
-    space: &mut Workspace,
-) -> Result<(), Stop>
-    requires in_sound { IsSound layouts.now.input.now }
-    requires out_sound { IsSound layouts.now.output.now }
-    requires reading { layouts.now.reading ≡ Pictured }
-    requires sends { IsPlaced layouts.now.input.now false
-        (operand_in layouts.now.input.now one.now.sent) one.now.from }
-    requires receives { IsPlaced layouts.now.output.now true
-        (operand_in layouts.now.output.now one.now.receiver) one.now.to }
-    requires carries { CarriesPictured pictured.now
-        (operand_in layouts.now.input.now one.now.sent).kind
-        (operand_in layouts.now.output.now one.now.receiver).kind step }
-    requires input { IsStorage layouts.now.input.now input.now }
-    requires output { length output.old ≡ greatest_length layouts.now.output.now }
-    requires space { IsWorkspace (records layouts.now) input.now output.old space.old }
-    ensures moved { IsMoved (records layouts.now)
-        (copied_move layouts.now.reading (records layouts.now) one.now.sent one.now.receiver)
-        input.now output.old (ending result output.new) }
-    ensures space { IsWorkspace (records layouts.now) input.now output.new space.new }
-    ensures spends { MovesSpend (records layouts.now)
-        (copied_move layouts.now.reading (records layouts.now) one.now.sent one.now.receiver ∷ []) input.now output.old result output.new space.old.output space.new.output }
-{
-    let places = locate_both(one, layouts, input, output, space)?;
-    let ready = PicturedMove { places, step };
-    run_pictured(pictured, ready, layouts, input, output, space)
+    let one = &plan.located[number];
+    if !serves(one.step, layouts.reading) {
+        return false;
+    }
+    let Some(places) = both_places(one, layouts, input, output, space) else {
+        return false;
+    };
+    run_between(plan, one, &places, layouts, input, output, space)
 }
 
 /// Carries out a move as one that was not made ready is.
@@ -194,6 +188,7 @@ fn move_pictured(
 /// # Errors
 ///
 /// The first thing missing: a place of the sender, one of the receiver, a value of the sender. The storage is as it was then.
+#[inline(never)]
 fn move_unready(
     one: &LocatedMove,
     layouts: &Layouts<'_>,
@@ -229,13 +224,13 @@ fn move_unready(
     move_entry(&sent, &receivers, layouts, input, output, space)
 }
 
-/// Carries out the single move with this number among those that were made ready wherever their items stand. It isn't inlined, so that steps whose
-/// places are known stay short.
+/// Carries out the single move with this number among those that were made ready wherever their items stand: at once, or else as one that was not made
+/// ready, which says why it stops. It is inlined, so that an answer of yes or no is all that a move which doesn't stop gives.
 ///
 /// # Errors
 ///
 /// The first thing missing: a place of the sender, one of the receiver, a value of the sender. The storage is as it was then.
-#[inline(never)]
+#[inline(always)]
 pub(crate) fn make_located(
     plan: &Plan,
     number: usize,
@@ -260,19 +255,9 @@ pub(crate) fn make_located(
         → MovesSpend (records layouts.now) own input.now output.old result output.new
         space.old.output space.new.output }
 {
-    let one = &plan.located[number];
-    match one.step {
-        LocatedStep::Characters(right) => {
-            move_characters(&plan.prepared, one, right, layouts, input, output, space)
-        }
-        LocatedStep::Always(step) => {
-            move_always(&plan.prepared, one, step, layouts, input, output, space)
-        }
-        LocatedStep::Pictured(step) => match layouts.reading {
-            Reading::Pictured => {
-                move_pictured(&plan.pictured, one, step, layouts, input, output, space)
-            }
-            Reading::Whole => move_unready(one, layouts, input, output, space),
-        },
+    if run_located(plan, number, layouts, input, output, space) {
+        return Ok(());
     }
+    let one = &plan.located[number];
+    move_unready(one, layouts, input, output, space)
 }

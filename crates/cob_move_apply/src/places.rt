@@ -1,6 +1,6 @@
 //! Where operands stand.
 
-ghost use Rattle.std.specs.Prelude.{◌≡◌, ◌+◌, ◌≤◌, IfOk, IfErr, OnOk, Ok, Err};
+ghost use Rattle.std.specs.Prelude.{◌≡◌, ◌+◌, ◌≤◌, IfOk, IfErr, IfSome, OnOk, Ok, Err};
 ghost use Rattle.cob_layout.specs.Sound.{IsSound};
 ghost use Rattle.cob_layout.specs.Storage.{greatest_length};
 ghost use Rattle.cob_layout_places.specs.Moves.{IsOperand};
@@ -8,7 +8,7 @@ ghost use Rattle.cob_move_receive.specs.Sent.{Occupies};
 ghost use Rattle.cob_move_apply.specs.Located.{Located, stop_of};
 ghost use Rattle.cob_move_apply.specs.Placed.{IsPlaced};
 ghost use Rattle.cob_move_apply.specs.Seen.{operand_of};
-ghost use Rattle.cob_move_apply.specs.Spent.{Spends};
+ghost use Rattle.cob_move_apply.specs.Spent.{IsSpent, Spends};
 ghost use Rattle.cob_move_apply.specs.Surveyed.{IsSurvey};
 
 use crate::basis::{Basis, PlacedOperand};
@@ -106,5 +106,72 @@ pub(crate) fn locate(
     match placed.basis {
         Basis::Fixed(place) => Ok(place),
         Basis::Counted => place_by_counts(stored, placed, receiving, survey),
+    }
+}
+
+/// Where an operand stands in a storage, as [`place_by_counts`] finds it. None where it stands nowhere: counts that were read for nothing aren't told.
+#[inline(always)]
+fn place_if_there(
+    stored: &Stored<'_>,
+    operand: &PlacedOperand<'_>,
+    receiving: bool,
+    survey: &mut Survey,
+) -> Option<Place>
+    requires sound { IsSound stored.now.layout.now }
+    requires operand { IsOperand stored.now.layout.now (operand_of operand.now) }
+    requires survey { IsSurvey stored.now.layout.now stored.now.bytes.now survey.old }
+    ensures located { IfSome result (λ p. Located stored.now.side stored.now.layout.now receiving
+        (operand_of operand.now) stored.now.bytes.now (Ok p)) }
+    ensures fits { IfSome result
+        (λ p. p.offset + p.length ≤ greatest_length stored.now.layout.now) }
+    ensures filled { IfSome result (λ p. Occupies operand.now.kind.now p.length) }
+    ensures survey { IsSurvey stored.now.layout.now stored.now.bytes.now survey.new }
+    ensures spends { IsSpent stored.now.layout.now 0 survey.old survey.new }
+{
+    // For `spends`, as in `place_by_counts`.
+    kept_give_needed();
+    needs_are_read();
+    one_outcome_of_counts();
+    let told = survey.reads;
+    let entry = operand.entry;
+    let kept = &mut survey.counts;
+    let read = &mut survey.reads;
+    match stored
+        .layout
+        .find(entry, receiving, stored.bytes, kept, read)
+    {
+        Ok(place) => Some(place),
+        Err(FindFault::Subscript(_)) => None,
+        Err(FindFault::Count(_)) => {
+            survey.reads = told;
+            None
+        }
+    }
+}
+
+/// Where an operand stands in a storage, as [`locate`] finds it. None where it stands nowhere: counts that were read for nothing aren't told. It is
+/// inlined so that a place that rests on no count costs no call.
+#[inline(always)]
+pub(crate) fn locate_if_there(
+    stored: &Stored<'_>,
+    placed: &PlacedOperand<'_>,
+    receiving: bool,
+    survey: &mut Survey,
+) -> Option<Place>
+    requires sound { IsSound stored.now.layout.now }
+    requires placed { IsPlaced stored.now.layout.now receiving
+        (operand_of placed.now) placed.now.basis }
+    requires survey { IsSurvey stored.now.layout.now stored.now.bytes.now survey.old }
+    ensures located { IfSome result (λ p. Located stored.now.side stored.now.layout.now receiving
+        (operand_of placed.now) stored.now.bytes.now (Ok p)) }
+    ensures fits { IfSome result
+        (λ p. p.offset + p.length ≤ greatest_length stored.now.layout.now) }
+    ensures filled { IfSome result (λ p. Occupies placed.now.kind.now p.length) }
+    ensures survey { IsSurvey stored.now.layout.now stored.now.bytes.now survey.new }
+    ensures spends { IsSpent stored.now.layout.now 0 survey.old survey.new }
+{
+    match placed.basis {
+        Basis::Fixed(place) => Some(place),
+        Basis::Counted => place_if_there(stored, placed, receiving, survey),
     }
 }
