@@ -7,13 +7,14 @@ ghost use Rattle.cob_move_apply.specs.cob_layout.Standing.{IsRoomFor};
 ghost use Rattle.cob_stream.specs.Output.{IsOutputOf};
 ghost use Rattle.cob_convert_record.specs.Becoming.{IsCountStop};
 
+use crate::lengths::{judge_kept, kept_output_length, output_length};
 use crate::rejection::Rejection;
 use crate::room::Room;
 use cob_codec::Reading;
-use cob_move_apply::{Book, Counts, Layout, Moves, Side, Stop, StopCause};
+use cob_move_apply::{Book, Layout, Moves, Scratch, Stop};
 use cob_move_initial::initial;
 use cob_records::{Form, Source};
-use cob_stream::{Reason, judge, next_whole, read_record, sized_are_storages, written_length};
+use cob_stream::{Reason, judge, next_whole, read_record, sized_are_storages};
 use std::alloc::{AllocError, Global};
 use std::marker::Model;
 
@@ -58,41 +59,12 @@ impl Model for Conversion {
         × HasBlockSize c.out_form };
 }
 
-/// How many bytes of the output record's storage are written.
-///
-/// # Errors
-///
-/// The first count of the storage that isn't valid.
-#[inline(always)]
-fn output_length(
-    layout: &Layout,
-    form: Form,
-    storage: &[u8],
-    counts: &mut Counts,
-) -> Result<usize, Stop>
-    requires storage { length storage.now ≡ greatest_length layout.now }
-    requires room { IsRoomFor layout.now counts.old }
-    ensures size { IfOk result
-        (λ made. (0 < made) × (made ≤ length storage.now) × (made ≤ longest_record)) }
-    ensures written { IfOk result
-        (λ made. IsOutputOf form layout.now storage.now (take made storage.now)) }
-    ensures stops { IfErr result (λ stop. IsCountStop layout.now storage.now stop) }
-    ensures room { IsRoomFor layout.now counts.new }
-{
-    match written_length(layout, form, storage, counts) {
-        Ok(made) => Ok(made),
-        Err(fault) => Err(Stop {
-            side: Side::Out,
-            offset: fault.offset,
-            cause: StopCause::Count,
-        }),
-    }
-}
-
 impl Conversion {
     ghost use Rattle.cob_records.specs.Forms.{HasBlockSize};
     ghost use Rattle.cob_records.specs.Frame.{IsRecord};
     ghost use Rattle.cob_move_apply.specs.Prepared.{ArePrepared, most_moves_told, moves_of, single_moves};
+    ghost use Rattle.cob_move_apply.specs.Room.{room_of};
+    ghost use Rattle.cob_move_apply.specs.cob_layout.Kept.{AreKeptOf};
     ghost use Rattle.cob_move_apply.specs.cob_layout.Storage.{IsStorage};
     ghost use Rattle.cob_move_initial.specs.Initial.{IsInitial};
     ghost use Rattle.cob_convert_record.specs.Conversion.{HasImage, conversion_by, conversion_for, in_length, out_length};
@@ -320,6 +292,35 @@ impl Conversion {
         output_length(&self.output, self.out_form, output, &mut room.out_counts)
     }
 
+    /// Makes the output record of an input record, as [`Conversion::convert`] does. What the room keeps of the input's counts is that of this input, and
+    /// is not read again, nor is what it keeps of the output's.
+    ///
+    /// # Errors
+    ///
+    /// Those of [`Conversion::convert`].
+    #[inline(always)]
+    fn convert_kept(
+        &self,
+        input: &[u8],
+        output: &mut [u8],
+        scratch: &mut Scratch,
+    ) -> Result<usize, Stop>
+        requires input { IsStorage self.now.records.input input.now }
+        requires output { length output.old ≡ out_length self.now }
+        requires room { scratch.old.room ≡ room_of self.now.records }
+        requires kept { AreKeptOf self.now.records.input input.now scratch.old.kept_input }
+        ensures size { IfOk result
+            (λ made. (0 < made) × (made ≤ length output.new) × (made ≤ longest_record)) }
+        ensures converts { IfOk result (λ made. Becomes self.now input.now (take made output.new)) }
+        ensures stops { IfErr result (λ stop. StopsAt self.now input.now stop) }
+        ensures room { scratch.new.room ≡ scratch.old.room }
+    {
+        self.begin(output);
+        self.moves
+            .apply_kept(&self.input, &self.output, input, output, scratch)?;
+        kept_output_length(&self.output, self.out_form, output, scratch)
+    }
+
     /// Judges an input record that came whole, and makes the output record of one that is of the input layout: what [`Conversion::judge`] and then
     /// [`Conversion::convert`] answer. It asks for no memory.
     ///
@@ -343,12 +344,12 @@ impl Conversion {
         ensures rejects { IfErr result (IsRejectedFor self.now input.now) }
         ensures room { room.new ≡ room.old }
     {
-        // For `convert`: what is one of the layout's records holds a record of it.
+        // For the moves: what is one of the layout's records holds a record of it.
         sized_are_storages();
-        if let Err(why) = self.judge(input, room) {
+        if let Err(why) = judge_kept(&self.input, self.in_form, input, &mut room.scratch) {
             return Err(Rejection::Misfit(why));
         }
-        match self.convert(input, output, room) {
+        match self.convert_kept(input, output, &mut room.scratch) {
             Ok(made) => Ok(made),
             Err(stop) => Err(Rejection::Stopped(stop)),
         }

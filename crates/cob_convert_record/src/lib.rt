@@ -16,7 +16,7 @@
 //!   count of the output that isn't valid, in both forms (`stops`, by `StopsAt`).
 //! - [`Conversion::convert_whole`] makes the output record of one that came whole, where it is one of the layout (`converts`, by `BecomesWhole` of
 //!   specs/Rejecting.antt), and else tells by a [`Rejection`] why it has none, as [`Conversion::judge`] and [`Conversion::convert`] do (`rejects`, by
-//!   `IsRejectedFor`).
+//!   `IsRejectedFor`). Counts that judging read are kept for the moves, and those that the moves read of the output for its length.
 //! - What becomes of a record is determined ([`conversions_are_decided`]): a record is one of its layout or a misfit, for one reason; and it has
 //!   one output or one stop, and never both.
 //! - They ask for no memory, which tests show: all that they need is a [`Room`], made once, which each call leaves as large as it was (`room`).
@@ -27,6 +27,7 @@
 
 mod conversion;
 mod laws;
+mod lengths;
 mod rejection;
 mod room;
 
