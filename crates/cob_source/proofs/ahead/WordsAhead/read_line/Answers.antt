@@ -1,6 +1,6 @@
 use Rattle.std.proofs.Common.{[], ◌∷◌, ◌++◌}
 use Rattle.cob_source.proofs.AheadLemmas.{line_read, number_more}
-use Rattle.cob_source.proofs.reader.WordsAhead.read_line.Goals as goal
+use Rattle.cob_source.proofs.ahead.WordsAhead.read_line.Goals as goal
 
 pub returns-clause-read : goal.returns-clause-read
 returns-clause-read c = λ text front is. record {
