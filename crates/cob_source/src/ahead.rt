@@ -48,7 +48,8 @@ impl<'a> WordsAhead<'a> {
         })
     }
 
-    /// Reads the next line, and answers whether a statement begins with it. What it is joined to goes behind the words so far where it is done.
+    /// Reads the next line, and answers whether enough words are read and a statement begins with it. What the lines before are joined to goes behind the
+    /// words so far where it is done.
     ///
     /// # Errors
     ///
@@ -67,7 +68,7 @@ impl<'a> WordsAhead<'a> {
         take_line(alloc, Cutting::Apart, number, line, &mut self.joined, out)?;
         self.number = number + 1;
         self.rest = more;
-        Ok(begins_statement(line))
+        Ok(out.len() >= LEAST_WORDS && begins_statement(line))
     }
 
     /// Puts the next words behind those so far: so many that a thousand stand there at least, up to a line with which a statement begins, and else all
@@ -86,8 +87,8 @@ impl<'a> WordsAhead<'a> {
         ensures noted { OnOk result (IsNoted self.new) }
     {
         while !self.rest.is_empty() {
-            let begins = self.read_line(alloc, out)?;
-            if begins && out.len() >= LEAST_WORDS {
+            let is_enough = self.read_line(alloc, out)?;
+            if is_enough {
                 return Ok(true);
             }
         }
