@@ -57,6 +57,17 @@ impl Model for Converter {
         × FitsForm c.conversion.out_form (out_length c.conversion) };
 }
 
+/// The layout of a record, whose book is let go.
+///
+/// # Errors
+///
+/// Where no memory is left.
+fn layout_of(alloc: Global, book: Book) -> Result<Layout, AllocError>
+    ensures { IfOk result (λ l. l ≡ book) }
+{
+    Layout::of(alloc, &book)
+}
+
 /// The conversion that a paragraph says between the records of two books.
 ///
 /// # Errors
@@ -67,23 +78,23 @@ fn conversion_of(
     alloc: Global,
     in_form: Form,
     out_form: Form,
-    input: &Book,
+    input: Book,
     output: &Book,
     moves: &[u8],
 ) -> Result<Conversion, PrepareFault>
     requires in_block { HasBlockSize in_form }
     requires out_block { HasBlockSize out_form }
     ensures forms { IfOk result (λ made. (made.in_form ≡ in_form) × (made.out_form ≡ out_form)) }
-    ensures input { IfOk result (λ made. made.records.input ≡ input.now) }
+    ensures input { IfOk result (λ made. made.records.input ≡ input) }
     ensures output { IfOk result (λ made. made.records.output ≡ output.now) }
     ensures paragraph { IfOk result
-        (λ made. IsParagraphOf moves.now input.now output.now made.moves) }
-    ensures only { (ms : List Move) → IsParagraphOf moves.now input.now output.now ms
+        (λ made. IsParagraphOf moves.now input output.now made.moves) }
+    ensures only { (ms : List Move) → IsParagraphOf moves.now input output.now ms
         → IfErr result (λ fault. fault ≡ Memory) }
     ensures refused { IfErr result
-        (λ fault. IsMovesRefusal fault moves.now input.now output.now) }
+        (λ fault. IsMovesRefusal fault moves.now input output.now) }
 {
-    let in_layout = Layout::of(alloc, input)?;
+    let in_layout = layout_of(alloc, input)?;
     let out_layout = Layout::of(alloc, output)?;
     let paragraph = Paragraph::read(alloc, &in_layout, &out_layout, moves)?;
     Ok(Conversion::new(
@@ -177,7 +188,7 @@ impl Converter {
     {
         let input = books::in_book(alloc, in_book)?;
         let output = books::out_book(alloc, out_book)?;
-        let conversion = conversion_of(alloc, in_form, out_form, &input, &output, moves)?;
+        let conversion = conversion_of(alloc, in_form, out_form, input, &output, moves)?;
         check_block(out_form, conversion.out_length())?;
         Ok(Converter::of(alloc, conversion)?)
     }

@@ -4,7 +4,7 @@ use Rattle.std.proofs.lemmas.List.{length-append}
 use Rattle.std.proofs.lemmas.Grind.{flat_map-append}
 use Rattle.cob_source.specs.Ahead.{AreReadOf}
 use Rattle.cob_source.specs.Tokens.{Lexeme}
-use Rattle.cob_source.specs.declared.reader.WordsAhead.{WordsAhead}
+use Rattle.cob_source.specs.declared.ahead.WordsAhead.{WordsAhead}
 use Rattle.cob_copybook_clauses.proofs.TableLemmas.{name_plain}
 use Rattle.cob_copybook_clauses.specs.declared.term.WordClass.TheVariants as term
 use Rattle.cob_copybook_tree.specs.Forests.{Forest}

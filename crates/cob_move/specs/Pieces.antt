@@ -1,6 +1,6 @@
 -- What a paragraph says as far as it is read, piece by piece.
 use Rattle.std.specs.Prelude.{◌≡◌, ℕ, Bool, List, ◌++◌}
-use Rattle.cob_source.specs.declared.reader.WordsAhead.{WordsAhead}
+use Rattle.cob_source.specs.declared.ahead.WordsAhead.{WordsAhead}
 use Rattle.cob_source.specs.Ahead.{AreReadOf}
 use Rattle.cob_source.specs.Tokens.{Lexeme}
 use Rattle.cob_layout_places.specs.declared.operands.StatementMoves.{StatementMoves}

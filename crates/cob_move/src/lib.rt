@@ -31,6 +31,9 @@
 //! Laws: statements mean one list of moves at most ([`one_meaning`], [`one_meant`]); where they have a meaning, none breaks a rule
 //! ([`meanings_break_no_rule`], [`meant_break_no_rule`]); and what they mean are moves between the two records ([`meant_are_moves`]).
 //!
+//! A text is read piece by piece, some thousand words at once, and as a whole where a piece of it isn't read alone (src/pieces.rt); contracts say
+//! nothing of it.
+//!
 //! It puts the reading of a paragraph together: it stands on `cob_source` for words, on `cob_move_statements` for statements, on
 //! `cob_move_references`, `cob_move_pairs` and, through `cob_move_initial`, `cob_move_receive` for the moves that they mean, and on
 //! `cob_move_apply` for what these do.

@@ -46,7 +46,7 @@ fn statements_follow(words: &[Token]) -> bool
     }
 }
 
-/// Reads the words of the next piece, and answers whether more are left; None where the text breaks a rule.
+/// Reads the words of the next piece in the place of those before, and answers whether more are left; None where the text breaks a rule.
 ///
 /// # Errors
 ///
@@ -58,7 +58,6 @@ fn read_piece(
 ) -> Result<Option<bool>, MoveFault>
     requires numbered { AreNumbered ahead.old }
     requires noted { IsNoted ahead.old }
-    requires none { words.old.items ≡ [] }
     ensures read { IfOk result (λ o. IfSome o (λ more. (text : List ℕ) (front : List Lexeme)
         → IsReadTo text front ahead.old
         → AreReadOf text (front ++ lexemes words.new.items) ahead.new more)) }
@@ -66,6 +65,7 @@ fn read_piece(
     ensures noted { IfOk result (λ o. IfSome o (λ more. IsNoted ahead.new)) }
     ensures fault { IfErr result IsRefusedMemory }
 {
+    words.clear();
     match ahead.read(alloc, words) {
         Ok(more) => Ok(Some(more)),
         Err(fault) => match fault.rule {
@@ -164,6 +164,7 @@ fn add_first(
     entries: &Entries<'_, '_>,
     pairs: &mut Correspondences<'_>,
     ahead: &mut WordsAhead<'_>,
+    words: &mut Vec<Token>,
     list: &mut Vec<StatementMoves>,
 ) -> Result<Option<bool>, MoveFault>
     requires named { AllMayBeNamed entries.now }
@@ -178,8 +179,7 @@ fn add_first(
     ensures noted { IfOk result (λ o. IfSome o (λ more. IsNoted ahead.new)) }
     ensures fault { IfErr result IsRefusedMemory }
 {
-    let mut words = Vec::new(alloc);
-    let Some(more) = read_piece(alloc, ahead, &mut words)? else {
+    let Some(more) = read_piece(alloc, ahead, words)? else {
         return Ok(None);
     };
     let piece = words.as_slice();
@@ -200,6 +200,7 @@ fn add_next(
     entries: &Entries<'_, '_>,
     pairs: &mut Correspondences<'_>,
     ahead: &mut WordsAhead<'_>,
+    words: &mut Vec<Token>,
     list: &mut Vec<StatementMoves>,
 ) -> Result<Option<bool>, MoveFault>
     requires named { AllMayBeNamed entries.now }
@@ -214,8 +215,7 @@ fn add_next(
     ensures noted { IfOk result (λ o. IfSome o (λ more. IsNoted ahead.new)) }
     ensures fault { IfErr result IsRefusedMemory }
 {
-    let mut words = Vec::new(alloc);
-    let Some(more) = read_piece(alloc, ahead, &mut words)? else {
+    let Some(more) = read_piece(alloc, ahead, words)? else {
         return Ok(None);
     };
     let piece = words.as_slice();
@@ -251,8 +251,9 @@ fn all_pieces(
         return Ok(None);
     };
     let mut ahead = start;
+    let mut words = Vec::new(alloc);
     let mut list = Vec::with_capacity(alloc, text.len() / STATEMENT_BYTES)?;
-    let Some(first) = add_first(alloc, entries, pairs, &mut ahead, &mut list)? else {
+    let Some(first) = add_first(alloc, entries, pairs, &mut ahead, &mut words, &mut list)? else {
         return Ok(None);
     };
     let mut more = first;
@@ -261,7 +262,7 @@ fn all_pieces(
         if !more {
             return Ok(Some(list));
         }
-        let Some(next) = add_next(alloc, entries, pairs, &mut ahead, &mut list)? else {
+        let Some(next) = add_next(alloc, entries, pairs, &mut ahead, &mut words, &mut list)? else {
             return Ok(None);
         };
         more = next;

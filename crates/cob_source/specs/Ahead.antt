@@ -1,7 +1,7 @@
 -- How far a paragraph is read that is read piece by piece.
 use Rattle.std.specs.Prelude.{◌≡◌, ℕ, ◌+◌, ◌≤◌, Bool, true, false, List, ◌++◌, length}
 use Rattle.cob_limits.specs.Limits.{longest_text}
-use Rattle.cob_source.specs.declared.reader.WordsAhead.{WordsAhead}
+use Rattle.cob_source.specs.declared.ahead.WordsAhead.{WordsAhead}
 use Rattle.cob_source.specs.declared.token.Cutting.TheVariants.{Apart}
 use Rattle.cob_source.specs.declared.token.Token.{Token}
 use Rattle.cob_source.specs.Cuts.{open_quote}

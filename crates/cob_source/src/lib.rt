@@ -5,6 +5,7 @@
 //! text, and what is behind is ignored. `tokens` gives a text's words, literals and stops, each with the line and the
 //! column of its first character, or the rule of the format that the text breaks and the line that breaks it.
 //! `paragraph_tokens` cuts the words again at brackets and commas, as the statements of a paragraph need it.
+//! [`WordsAhead`] gives the same words piece by piece, some lines at once.
 //!
 //! What is promised, of `tokens` and of `paragraph_tokens` alike: the answer `Ok` has exactly the words of the text, and
 //! then the text breaks no rule (clause `words`); every text that has words is read, but for want of memory (`reads`); a
@@ -17,10 +18,11 @@
 //! The definitions stand in `specs/`: `Lines` joins columns 8 to 72 of the plain and continuation lines to one text, `Pieces`
 //! is the cut at brackets and commas, `Cuts` cuts a joined text into words, literals and stops, `Words` says which rules a
 //! text breaks and which words it has, and `Tokens` is what a reader of tokens sees of them. `Reading` holds what the
-//! reader keeps from line to line; no public clause names it. The crate stands on `cob_limits` for the length of a text, and on `thiserror` for the
+//! reader keeps from line to line; no public clause names it but through `Ahead`, how far a paragraph is read. The crate stands on `cob_limits` for the length of a text, and on `thiserror` for the
 //! fault's message.
 #![tactic(auto)]
 
+mod ahead;
 mod cut;
 mod fault;
 mod joined;
@@ -30,11 +32,12 @@ mod reader;
 mod token;
 mod word;
 
+pub use ahead::WordsAhead;
 pub use fault::{SourceFault, SourceRule};
 pub use laws::{
     lines_of_words_fit, open_literal_has_no_words, paragraph_words_are_one, words_are_one,
     words_break_no_rule,
 };
 pub use lines::without_return;
-pub use reader::{WordsAhead, paragraph_tokens, tokens};
+pub use reader::{paragraph_tokens, tokens};
 pub use token::{Kind, Token};

@@ -15,7 +15,7 @@ returns-in_err-paragraph-clause-only c = λ ms is.
 pub returns-in_err-paragraph-clause-refused : goal.returns-in_err-paragraph-clause-refused
 returns-in_err-paragraph-clause-refused c =
     let p = err_from_is_err_and c.from_residual-in_err-paragraph.result c.from_residual-in_err-paragraph.ensures.1 in
-    rw (p.1, p.2) (paragraph_refused c.in_err-paragraph.field-0.0 c.args.moves.now c.args.input.now c.args.output.now
+    rw (p.1, p.2) (paragraph_refused c.in_err-paragraph.field-0.0 c.args.moves.now c.args.input c.args.output.now
     (refusal_too c.in_err-paragraph.field-0.0 c.args.moves.now _ _ _ _ c.in_ok-in_layout.ensures c.in_ok-out_layout.ensures c.in_err-paragraph.ensures.fault))
 
 pub new-requires-clause-moves : goal.new-requires-clause-moves
@@ -24,6 +24,6 @@ new-requires-clause-moves c =
 
 pub returns-clause-paragraph : goal.returns-clause-paragraph
 returns-clause-paragraph c =
-    subst (λ (made : Conversion). IsParagraphOf c.args.moves.now c.args.input.now c.args.output.now made.moves) (sym c.in_ok-new.ensures)
-    (subst (λ m. IsParagraphOf c.args.moves.now c.args.input.now c.args.output.now (moves_of (record { input = c.in_ok-in_layout.in_layout; output = c.in_ok-out_layout.out_layout }) m)) (sym c.into_moves.ensures)
+    subst (λ (made : Conversion). IsParagraphOf c.args.moves.now c.args.input c.args.output.now made.moves) (sym c.in_ok-new.ensures)
+    (subst (λ m. IsParagraphOf c.args.moves.now c.args.input c.args.output.now (moves_of (record { input = c.in_ok-in_layout.in_layout; output = c.in_ok-out_layout.out_layout }) m)) (sym c.into_moves.ensures)
     (paragraph_too c.args.moves.now _ _ _ _ _ (sym c.in_ok-in_layout.ensures) (sym c.in_ok-out_layout.ensures) c.in_ok-paragraph.ensures.found))

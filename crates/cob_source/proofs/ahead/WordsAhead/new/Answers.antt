@@ -1,6 +1,6 @@
 use Rattle.std.proofs.Common.{[], refl}
 use Rattle.cob_source.proofs.ReadingLemmas.{nothing_read}
-use Rattle.cob_source.proofs.reader.WordsAhead.new.Goals as goal
+use Rattle.cob_source.proofs.ahead.WordsAhead.new.Goals as goal
 
 pub returns-clause-begins : goal.returns-clause-begins
 returns-clause-begins c = record {

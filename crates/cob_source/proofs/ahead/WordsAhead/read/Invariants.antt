@@ -1,6 +1,6 @@
 use Rattle.std.proofs.Common.{length}
 use Rattle.cob_source.specs.Ahead.{AreNumbered, IsNoted, ReadsOn}
-use Rattle.cob_source.proofs.reader.WordsAhead.read.Given as goal
+use Rattle.cob_source.proofs.ahead.WordsAhead.read.Given as goal
 
 abbrev pub invariant-loop-self : goal.invariant-loop-self
 invariant-loop-self l = record {

@@ -3,7 +3,7 @@ use Rattle.std.proofs.lemmas.Grind.{common_steps}
 use Rattle.cob_source.specs.Tokens.{lexemes}
 use Rattle.cob_source.proofs.AheadLemmas.{all_read, behind_front, nothing_left}
 use Rattle.cob_source.proofs.ReadingLemmas.{finishes}
-use Rattle.cob_source.proofs.reader.WordsAhead.read.Goals as goal
+use Rattle.cob_source.proofs.ahead.WordsAhead.read.Goals as goal
 
 pub returns-clause-read : goal.returns-clause-read
 returns-clause-read c = λ text front is.
