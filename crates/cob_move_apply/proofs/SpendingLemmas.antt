@@ -31,6 +31,7 @@ use Rattle.cob_move_apply.specs.Applied.{Applied, Content, Ending, Gets, Gives, 
 use Rattle.cob_move_apply.specs.Located.{Located}
 use Rattle.cob_move_apply.specs.Made.{IsMadeConstant, IsMadePictured, IsMadeReady, StandAt}
 use Rattle.cob_move_apply.specs.Met.{HaveMet, ReceiverMet, ReceiversMet}
+use Rattle.cob_move_apply.specs.Going.{IsBounded, SpentSteps}
 use Rattle.cob_move_apply.specs.Spent.{HaveSpent, IsSpent, IsSpentAtStop, MovesSpend, PlaceMet, PlaceSpends, ReceiversSpend, WriteSpends, allowed, kept_of}
 use Rattle.cob_move_apply.specs.Steps.{AreSteps, CarriesAnywhere, CarriesPictured, GivesText, HasPart, IsLocatedMove, IsMoveOfPart, IsPicturedPart, IsPreparedMove, IsStep, StandFor, Support, copied_move, pair_at}
 use Rattle.cob_move_apply.specs.Written.{received_at}
@@ -267,13 +268,6 @@ located_step_spends x r steps pictured located number own one input before resul
 
 -- ---- steps in order
 
--- what the steps up to place i spent
-abbrev pub SpentSteps : Reading → Records → List StatementMoves → List Step → Support → ℕ → List ℕ → List ℕ → List ℕ → Survey → Type 0
-SpentSteps x r given steps on i input before now s =
-    (rest : List Move) × (met : ℕ) × AreSteps x r given on (drop i steps) rest
-    × ((n : ℕ) → HaveMet r rest input now n → HaveMet r (moves_by x r given) input before (met + n))
-    × (s.reads ≤ kept_of r.output s + allowed r.output met)
-
 pub spent_steps_first : OneOfNeeded → (x : Reading) (r : Records) (given : List StatementMoves) (steps : List Step) (on : Support) (input before : List ℕ) (s : Survey)
     → StandFor x r given steps on (moves_by x r given) → s.reads ≡ 0 → SpentSteps x r given steps on 0 input before before s
 spent_steps_first law x r given steps on input before s (parts, are, cut) none = (
@@ -335,23 +329,19 @@ spent_steps_next x r given steps on i t d input before now after old new lt is s
     let (met, behind, spent) = made n.own n.is in
     more_spent x r given steps on i t input before now after met old new n behind spent
 
--- what moves read of the output record's counts
-abbrev pub Bounded : Records → List Move → List ℕ → List ℕ → Survey → Type 0
-Bounded r ms input before s = (met : ℕ) × HaveMet r ms input before met × (s.reads ≤ length (tables_of r.output) * (1 + met))
-
 bounded : (t : ℕ) (met : ℕ) → t + met * t ≡ t * (1 + met)
 bounded t met = omega (arith, mul_comm t met, mul-add t 1 met)
 
 pub spent_steps_stop : (x : Reading) (r : Records) (given : List StatementMoves) (steps : List Step) (on : Support) (i : ℕ) (t d : Step) (input before now : List ℕ) (old new : Survey) → i < length steps
     → get_or steps i d ≡ t → SpentSteps x r given steps on i input before now old → ((own : List Move) → IsStep x r given on t own → (met : ℕ) × ((ms : List Move) → HaveMet r (own ++ ms) input now met) × IsSpentAtStop r.output met old new)
-    → Bounded r (moves_by x r given) input before new
+    → IsBounded r (moves_by x r given) input before new
 spent_steps_stop x r given steps on i t d input before now old new lt is so made =
     let n = next_spent x r given steps on i t d input before now old lt is so in
     let (met, behind, spent) = made n.own n.is in
     (n.met + met, n.so met (behind n.more), omega (arith, n.most, spent.most, allowed_both r.output n.met met, bounded (length (tables_of r.output)) (n.met + met)))
 
 pub spent_steps_all : (x : Reading) (r : Records) (given : List StatementMoves) (steps : List Step) (on : Support) (i : ℕ) (input before now : List ℕ) (s : Survey) → length steps ≤ i
-    → SpentSteps x r given steps on i input before now s → Bounded r (moves_by x r given) input before s
+    → SpentSteps x r given steps on i input before now s → IsBounded r (moves_by x r given) input before s
 spent_steps_all x r given steps on i input before now s past (rest, met, are, so, most) =
     let sum : met + 0 ≡ met = omega arith in
     (met, subst (λ (n : ℕ). HaveMet r (moves_by x r given) input before n) sum (so 0 (none_met r rest input now)), omega (arith, most, most_kept r.output s, bounded (length (tables_of r.output)) met))

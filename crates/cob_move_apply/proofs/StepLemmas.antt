@@ -12,6 +12,7 @@ use Rattle.cob_layout_places.specs.Moves.{Move, Records, moves_by}
 use Rattle.cob_move_apply.specs.Applied.{Applied, Ending, IsMoved, done, stopped}
 use Rattle.cob_move_apply.specs.Made.{IsMadeConstant, IsMadeReady}
 use Rattle.cob_move_apply.specs.Steps.{AreSteps, IsConstantAt, IsMoveOfPart, IsPicturedPart, IsPreparedMove, IsStep, StandFor, Support}
+use Rattle.cob_move_apply.specs.Going.{Left}
 use Rattle.cob_move_apply.specs.Surveyed.{IsWorkspace}
 use Rattle.cob_move_apply.specs.Written.{HasPlaces}
 use Rattle.cob_move_prepared.specs.Pool.{IsMoveStep, MoveKinds}
@@ -27,12 +28,6 @@ use Rattle.cob_move_apply.specs.declared.stop.Stop.{Stop}
 use Rattle.cob_move_apply.specs.declared.workspace.Workspace.{Workspace}
 use Rattle.cob_move_apply.proofs.CopyLemmas.{survey_left}
 use Rattle.cob_move_apply.proofs.CutLemmas.{applied_both, applied_stopped, cut_moves}
-
--- whatever the moves of the steps from place i on make of the storage now, all moves make of the storage before
-abbrev pub Left : Reading → Records → List StatementMoves → List Step → Support → ℕ → List ℕ → List ℕ → List ℕ → Type 0
-Left x r given steps on i input before now =
-    (rest : List Move) × AreSteps x r given on (drop i steps) rest
-    × ((end : Ending) → Applied r rest input now end → Applied r (moves_by x r given) input before end)
 
 pub left_all : OneOfNeeded → (x : Reading) (r : Records) (given : List StatementMoves) (steps : List Step) (on : Support) (input before : List ℕ)
     → StandFor x r given steps on (moves_by x r given) → Left x r given steps on 0 input before before

@@ -8,7 +8,9 @@ ghost use Rattle.cob_layout_places.specs.Counts.{tables_of};
 ghost use Rattle.cob_layout_places.specs.Moves.{Move as Meant, moves_by};
 ghost use Rattle.cob_move_apply.specs.Applied.{Applied, IsMoved, ending};
 ghost use Rattle.cob_move_apply.specs.Met.{HaveMet};
+ghost use Rattle.cob_move_apply.specs.Going.{Left, SpentSteps, IsBounded};
 ghost use Rattle.cob_move_apply.specs.Spent.{MovesSpend};
+ghost use Rattle.cob_layout_places.specs.declared.operands.StatementMoves.{StatementMoves as Said};
 ghost use Rattle.cob_move_apply.specs.Steps.{IsMoveOfPart, IsPicturedPart, IsPreparedMove, IsStep, StandFor, support_of};
 ghost use Rattle.cob_move_apply.specs.Surveyed.{HasSpace, IsWorkspace, records};
 
@@ -264,11 +266,104 @@ fn make_step(
     }
 }
 
+/// Carries out the steps that were made ready, one after another, as far as they go at once. The answer are the steps that are left: the first of them is
+/// another one, or a value of a sender is missing. It isn't inlined, so that it stands once in a program, whatever runs it.
+#[inline(never)]
+fn run_ready<'a>(
+    plan: &Plan,
+    steps: &'a [Step],
+    layouts: &Layouts<'_>,
+    input: &[u8],
+    output: &mut [u8],
+    space: &mut Workspace,
+) -> &'a [Step]
+    requires steps { (given : List Said) × (before : List ℕ)
+        × Left layouts.now.reading (records layouts.now) given
+        steps.now (support_of plan.now) 0 input.now before output.old }
+    requires input { IsStorage layouts.now.input.now input.now }
+    requires output { length output.old ≡ greatest_length layouts.now.output.now }
+    requires space { IsWorkspace (records layouts.now) input.now output.old space.old }
+    ensures left { (given : List Said) (before : List ℕ)
+        → Left layouts.now.reading (records layouts.now) given
+        steps.now (support_of plan.now) 0 input.now before output.old
+        → Left layouts.now.reading (records layouts.now) given
+        result.now (support_of plan.now) 0 input.now before output.new }
+    ensures space { IsWorkspace (records layouts.now) input.now output.new space.new }
+    ensures spends { (given : List Said) (before : List ℕ)
+        → SpentSteps layouts.now.reading (records layouts.now) given
+        steps.now (support_of plan.now) 0 input.now before output.old space.old.output
+        → SpentSteps layouts.now.reading (records layouts.now) given
+        result.now (support_of plan.now) 0 input.now before output.new space.new.output }
+    ensures fewer { length result.now ≤ length steps.now }
+{
+    let mut rest = steps;
+    while let Some((step, behind)) = rest.split_first() {
+        if !run_step(plan, step, layouts, input, output, space) {
+            return rest;
+        }
+        rest = behind;
+    }
+    rest
+}
+
+/// Carries out steps in order, whatever they are. It isn't inlined: where all steps were made ready and nothing is missing, none is left for it.
+///
+/// # Errors
+///
+/// The first thing missing. The storage is as the moves and receivers before left it then.
+#[inline(never)]
+fn apply_steps(
+    given: &[StatementMoves],
+    plan: &Plan,
+    steps: &[Step],
+    layouts: &Layouts<'_>,
+    input: &[u8],
+    output: &mut [u8],
+    space: &mut Workspace,
+) -> Result<(), Stop>
+    requires in_sound { IsSound layouts.now.input.now }
+    requires out_sound { IsSound layouts.now.output.now }
+    requires steps { (before : List ℕ) × Left layouts.now.reading (records layouts.now)
+        given.now steps.now (support_of plan.now) 0 input.now before output.old }
+    requires input { IsStorage layouts.now.input.now input.now }
+    requires output { length output.old ≡ greatest_length layouts.now.output.now }
+    requires space { IsWorkspace (records layouts.now) input.now output.old space.old }
+    ensures applied { (before : List ℕ) → Left layouts.now.reading (records layouts.now)
+        given.now steps.now (support_of plan.now) 0 input.now before output.old
+        → Applied (records layouts.now)
+        (moves_by layouts.now.reading (records layouts.now) given.now) input.now before
+        (ending result output.new) }
+    ensures space { IsWorkspace (records layouts.now) input.now output.new space.new }
+    ensures reads { (before : List ℕ) → SpentSteps layouts.now.reading (records layouts.now)
+        given.now steps.now (support_of plan.now) 0 input.now before output.old space.old.output
+        → IsBounded (records layouts.now)
+        (moves_by layouts.now.reading (records layouts.now) given.now) input.now before
+        space.new.output }
+{
+    let mut rest = steps;
+    while let Some((step, behind)) = rest.split_first() {
+        // Where the items of such a move stand is found as it is carried out.
+        if let Step::Located(number) = step {
+            make_located(plan, *number, layouts, input, output, space)?;
+            rest = behind;
+            continue;
+        }
+        let left = run_ready(plan, rest, layouts, input, output, space);
+        let Some((other, later)) = left.split_first() else {
+            return Ok(());
+        };
+        make_step(given, plan, other, layouts, input, output, space)?;
+        rest = later;
+    }
+    Ok(())
+}
+
 /// Carries out the steps of the plan of moves, in order. What is kept of the input's counts is that of this input.
 ///
 /// # Errors
 ///
 /// The first thing missing. The storage is as the moves and receivers before left it then.
+#[inline(always)]
 pub(crate) fn apply_in(
     given: &[StatementMoves],
     plan: &Plan,
@@ -294,21 +389,13 @@ pub(crate) fn apply_in(
         (moves_by layouts.now.reading (records layouts.now) given.now) input.now output.old met
         × (space.new.output.reads ≤ length (tables_of layouts.now.output.now) * (1 + met)) }
 {
+    // For `applied` and `reads`: a place has one outcome.
     one_outcome_of_counts();
     space.forget_output();
-    let mut rest = plan.steps.as_slice();
-    while let Some((step, behind)) = rest.split_first() {
-        rest = behind;
-        // Where the items of such a move stand is found as it is carried out.
-        if let Step::Located(number) = step {
-            make_located(plan, *number, layouts, input, output, space)?;
-            continue;
-        }
-        // At once where the step was made ready for places that are the same in every storage, and nothing is missing.
-        if run_step(plan, step, layouts, input, output, space) {
-            continue;
-        }
-        make_step(given, plan, step, layouts, input, output, space)?;
+    let steps = plan.steps.as_slice();
+    let rest = run_ready(plan, steps, layouts, input, output, space);
+    match rest {
+        [] => Ok(()),
+        _ => apply_steps(given, plan, rest, layouts, input, output, space),
     }
-    Ok(())
 }
