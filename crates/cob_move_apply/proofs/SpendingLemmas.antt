@@ -52,7 +52,7 @@ use Rattle.cob_move_apply.proofs.MetLemmas.{MetFrom, cut_met, met_all, met_more,
 use Rattle.cob_move_apply.proofs.OneLemmas.{stop_of}
 use Rattle.cob_move_apply.proofs.PartLemmas.{has_part, the_move}
 use Rattle.cob_move_apply.proofs.PreparedLemmas.{kinds_of}
-use Rattle.cob_move_apply.proofs.SpentLemmas.{allowed_both, at_stop, most_kept, spent_behind, spent_both, spent_none, spent_stop, stop_as, stop_behind}
+use Rattle.cob_move_apply.proofs.SpentLemmas.{allowed_both, allowed_none, at_stop, most_kept, spent_behind, spent_both, spent_none, spent_stop, stop_as, stop_behind}
 
 plain : (n : ℕ) → 0 + n ≡ n
 plain n = omega arith
@@ -288,10 +288,15 @@ record NextSpent (x : Reading) (r : Records) (given : List StatementMoves) (step
   so : (n : ℕ) → HaveMet r (own ++ more) input now n → HaveMet r (moves_by x r given) input before (met + n)
   most : s.reads ≤ kept_of r.output s + allowed r.output met
 
-pub spent_same : (x : Reading) (r : Records) (given : List StatementMoves) (steps : List Step) (on : Support) (i : ℕ) (input before now same : List ℕ) (old new : Workspace) → same ≡ now → new ≡ old
-    → SpentSteps x r given steps on i input before now old.output → SpentSteps x r given steps on i input before same new.output
-spent_same x r given steps on i input before now same old new is kept so =
-    subst (λ (w : Workspace). SpentSteps x r given steps on i input before same w.output) (sym kept) (subst (λ (bytes : List ℕ). SpentSteps x r given steps on i input before bytes old.output) (sym is) so)
+pub spent_still : (x : Reading) (r : Records) (given : List StatementMoves) (steps : List Step) (on : Support) (i : ℕ) (input before now same : List ℕ) (old new : Survey) → same ≡ now → IsSpent r.output 0 old new
+    → SpentSteps x r given steps on i input before now old → SpentSteps x r given steps on i input before same new
+spent_still x r given steps on i input before now same old new is spent (rest, met, are, so, most) = (
+  rest,
+  met,
+  are,
+  subst (λ (bytes : List ℕ). (n : ℕ) → HaveMet r rest input bytes n → HaveMet r (moves_by x r given) input before (met + n)) (sym is) so,
+  omega (arith, most, spent.most, allowed_none r.output),
+)
 
 next_spent : (x : Reading) (r : Records) (given : List StatementMoves) (steps : List Step) (on : Support) (i : ℕ) (t d : Step) (input before now : List ℕ) (s : Survey) → i < length steps → get_or steps i d ≡ t
     → SpentSteps x r given steps on i input before now s → NextSpent x r given steps on i t input before now s

@@ -1,15 +1,15 @@
 //! Steps, one after another.
 
-ghost use Rattle.std.specs.Prelude.{◌≡◌, ◌+◌, ◌*◌, ◌≤◌, [], ◌∷◌, ℕ, List, length, OnErr};
+ghost use Rattle.std.specs.Prelude.{◌≡◌, ◌+◌, ◌*◌, ◌≤◌, [], ◌∷◌, ℕ, List, false, length, IsTrue, OnErr};
 ghost use Rattle.cob_layout.specs.Sound.{IsSound};
 ghost use Rattle.cob_layout.specs.Standing.{KeepsOf};
 ghost use Rattle.cob_layout.specs.Storage.{greatest_length, IsStorage};
 ghost use Rattle.cob_layout_places.specs.Counts.{tables_of};
 ghost use Rattle.cob_layout_places.specs.Moves.{Move as Meant, moves_by};
-ghost use Rattle.cob_move_apply.specs.Applied.{Applied, IsMoved, ending};
+ghost use Rattle.cob_move_apply.specs.Applied.{Applied, IsMoved, done, ending};
 ghost use Rattle.cob_move_apply.specs.Met.{HaveMet};
 ghost use Rattle.cob_move_apply.specs.Going.{Left, SpentSteps, IsBounded};
-ghost use Rattle.cob_move_apply.specs.Spent.{MovesSpend};
+ghost use Rattle.cob_move_apply.specs.Spent.{HaveSpent, IsSpent, MovesSpend};
 ghost use Rattle.cob_layout_places.specs.declared.operands.StatementMoves.{StatementMoves as Said};
 ghost use Rattle.cob_move_apply.specs.Steps.{IsMoveOfPart, IsPicturedPart, IsPreparedMove, IsStep, StandFor, support_of};
 ghost use Rattle.cob_move_apply.specs.Surveyed.{HasSpace, IsWorkspace, records};
@@ -17,7 +17,7 @@ ghost use Rattle.cob_move_apply.specs.Surveyed.{HasSpace, IsWorkspace, records};
 use crate::basis::{Basis, PlacedReceivers};
 use crate::constant::make_constant;
 use crate::layouts::Layouts;
-use crate::located::make_located;
+use crate::located::{make_located, run_located};
 use crate::pairs::make_pair_move;
 use crate::pictured::run_pictured;
 use crate::prepared::make_prepared;
@@ -267,6 +267,42 @@ fn make_step(
     }
 }
 
+/// Carries out a step at once, whatever its places rest on. False where it is one that was not made ready, or where something is missing: the storage is
+/// as it was then.
+#[inline(always)]
+fn run_at_once(
+    plan: &Plan,
+    step: &Step,
+    layouts: &Layouts<'_>,
+    input: &[u8],
+    output: &mut [u8],
+    space: &mut Workspace,
+) -> bool
+    requires in_sound { IsSound layouts.now.input.now }
+    requires out_sound { IsSound layouts.now.output.now }
+    requires step { (given : List Said) × (own : List Meant)
+        × IsStep layouts.now.reading (records layouts.now)
+        given (support_of plan.now) step.now own }
+    requires input { IsStorage layouts.now.input.now input.now }
+    requires output { length output.old ≡ greatest_length layouts.now.output.now }
+    requires space { IsWorkspace (records layouts.now) input.now output.old space.old }
+    ensures applied { IsTrue result → (given : List Said) (own : List Meant)
+        → IsStep layouts.now.reading (records layouts.now) given (support_of plan.now) step.now own
+        → Applied (records layouts.now) own input.now output.old (done output.new) }
+    ensures space { IsWorkspace (records layouts.now) input.now output.new space.new }
+    ensures spends { IsTrue result → (given : List Said) (own : List Meant)
+        → IsStep layouts.now.reading (records layouts.now) given (support_of plan.now) step.now own
+        → HaveSpent (records layouts.now) own input.now output.old output.new
+        space.old.output space.new.output }
+    ensures same { result ≡ false → (output.new ≡ output.old)
+        × IsSpent layouts.now.output.now 0 space.old.output space.new.output }
+{
+    if let Step::Located(number) = step {
+        return run_located(plan, *number, layouts, input, output, space);
+    }
+    run_step(plan, step, layouts, input, output, space)
+}
+
 /// Carries out the steps that were made ready, one after another, as far as they go at once. The answer are the steps that are left: the first of them is
 /// another one, or a value of a sender is missing. It isn't inlined, so that it stands once in a program, whatever runs it.
 #[inline(never)]
@@ -278,6 +314,8 @@ fn run_ready<'a>(
     output: &mut [u8],
     space: &mut Workspace,
 ) -> &'a [Step]
+    requires in_sound { IsSound layouts.now.input.now }
+    requires out_sound { IsSound layouts.now.output.now }
     requires steps { (given : List Said) × (before : List ℕ)
         × Left layouts.now.reading (records layouts.now) given
         steps.now (support_of plan.now) 0 input.now before output.old }
@@ -299,7 +337,7 @@ fn run_ready<'a>(
 {
     let mut rest = steps;
     while let Some((step, behind)) = rest.split_first() {
-        if !run_step(plan, step, layouts, input, output, space) {
+        if !run_at_once(plan, step, layouts, input, output, space) {
             return rest;
         }
         rest = behind;
@@ -343,18 +381,8 @@ fn apply_steps(
 {
     let mut rest = steps;
     while let Some((step, behind)) = rest.split_first() {
-        // Where the items of such a move stand is found as it is carried out.
-        if let Step::Located(number) = step {
-            make_located(plan, *number, layouts, input, output, space)?;
-            rest = behind;
-            continue;
-        }
-        let left = run_ready(plan, rest, layouts, input, output, space);
-        let Some((other, later)) = left.split_first() else {
-            return Ok(());
-        };
-        make_step(given, plan, other, layouts, input, output, space)?;
-        rest = later;
+        make_step(given, plan, step, layouts, input, output, space)?;
+        rest = run_ready(plan, behind, layouts, input, output, space);
     }
     Ok(())
 }

@@ -146,7 +146,7 @@ fn run_between(
 /// receiver stands nowhere, or where a value of the sender is missing: the storage is as it was then. It isn't inlined, so that steps whose places are known
 /// stay short.
 #[inline(never)]
-fn run_located(
+pub(crate) fn run_located(
     plan: &Plan,
     number: usize,
     layouts: &Layouts<'_>,
@@ -189,7 +189,6 @@ fn run_located(
 /// # Errors
 ///
 /// The first thing missing: a place of the sender, one of the receiver, a value of the sender. The storage is as it was then.
-#[inline(never)]
 fn move_unready(
     one: &LocatedMove,
     layouts: &Layouts<'_>,
@@ -225,13 +224,13 @@ fn move_unready(
     move_entry(&sent, &receivers, layouts, input, output, space)
 }
 
-/// Carries out the single move with this number among those that were made ready wherever their items stand: at once, or else as one that was not made
-/// ready, which says why it stops. It is inlined, so that an answer of yes or no is all that a move which doesn't stop gives.
+/// Carries out the single move with this number among those that were made ready wherever their items stand, as one that was not made ready: it says why
+/// a move stops that [`run_located`] doesn't carry out.
 ///
 /// # Errors
 ///
 /// The first thing missing: a place of the sender, one of the receiver, a value of the sender. The storage is as it was then.
-#[inline(always)]
+#[inline(never)]
 pub(crate) fn make_located(
     plan: &Plan,
     number: usize,
@@ -256,9 +255,6 @@ pub(crate) fn make_located(
         → MovesSpend (records layouts.now) own input.now output.old result output.new
         space.old.output space.new.output }
 {
-    if run_located(plan, number, layouts, input, output, space) {
-        return Ok(());
-    }
     let one = &plan.located[number];
     move_unready(one, layouts, input, output, space)
 }

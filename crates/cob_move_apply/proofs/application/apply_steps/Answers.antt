@@ -9,8 +9,8 @@ use Rattle.cob_move_apply.proofs.SpendingLemmas.{spent_steps_all, spent_steps_ne
 use Rattle.cob_move_apply.proofs.StepLemmas.{left_made, left_none, next_step, stopped_made}
 use Rattle.cob_move_apply.proofs.application.apply_steps.Goals as goal
 
-pub make_located-requires-clause-step : goal.make_located-requires-clause-step
-make_located-requires-clause-step c =
+pub make_step-requires-clause-step : goal.make_step-requires-clause-step
+make_step-requires-clause-step c =
     let x = c.args.layouts.now.reading in
     let r : Records = records c.args.layouts.now in
     let on : Support = support_of c.args.plan.now in
@@ -19,10 +19,10 @@ make_located-requires-clause-step c =
     let (before, all) = c.requires.steps in
     let left = subst (λ (ss : List Step). Left x r c.args.given.now ss on 0 c.args.input.now before c.loop-step.output) c.in-Some.ensures.cases.0 (c.loop-step.invariant.left before all) in
     let next = next_step x r c.args.given.now steps on 0 step step c.args.input.now before c.loop-step.output (omega arith) refl left in
-    (next.own, subst (λ (s : Step). IsStep x r c.args.given.now on s next.own) c.in-Located.is next.is)
+    (next.own, next.is)
 
-pub returns-in_err-make_located-clause-applied : goal.returns-in_err-make_located-clause-applied
-returns-in_err-make_located-clause-applied c =
+pub returns-in_err-make_step-clause-applied : goal.returns-in_err-make_step-clause-applied
+returns-in_err-make_step-clause-applied c =
     let x = c.args.layouts.now.reading in
     let r : Records = records c.args.layouts.now in
     let on : Support = support_of c.args.plan.now in
@@ -32,10 +32,10 @@ returns-in_err-make_located-clause-applied c =
     λ before all.
     let left = subst (λ (ss : List Step). Left x r c.args.given.now ss on 0 c.args.input.now before c.loop-step.output) c.in-Some.ensures.cases.0 (c.loop-step.invariant.left before all) in
     let next = next_step x r c.args.given.now steps on 0 step step c.args.input.now before c.loop-step.output (omega arith) refl left in
-    rw (p.1, p.2) (stopped_made x r c.args.given.now steps on 0 step c.args.input.now before c.loop-step.output c.make_located.new.output c.in_err-make_located.field-0.0 next (λ own is. c.in_err-make_located.ensures.applied own (subst (λ (s : Step). IsStep x r c.args.given.now on s own) c.in-Located.is is)))
+    rw (p.1, p.2) (stopped_made x r c.args.given.now steps on 0 step c.args.input.now before c.loop-step.output c.make_step.new.output c.in_err-make_step.field-0.0 next c.in_err-make_step.ensures.applied)
 
-pub returns-in_err-make_located-clause-reads : goal.returns-in_err-make_located-clause-reads
-returns-in_err-make_located-clause-reads c =
+pub returns-in_err-make_step-clause-reads : goal.returns-in_err-make_step-clause-reads
+returns-in_err-make_step-clause-reads c =
     let x = c.args.layouts.now.reading in
     let r : Records = records c.args.layouts.now in
     let on : Support = support_of c.args.plan.now in
@@ -43,10 +43,22 @@ returns-in_err-make_located-clause-reads c =
     let steps : List Step = step ∷ c.in-Some.behind.now in
     λ before all.
     let spent = subst (λ (ss : List Step). SpentSteps x r c.args.given.now ss on 0 c.args.input.now before c.loop-step.output c.loop-step.space.output) c.in-Some.ensures.cases.0 (c.loop-step.invariant.spends before all) in
-    spent_steps_stop x r c.args.given.now steps on 0 step step c.args.input.now before c.loop-step.output c.loop-step.space.output c.make_located.new.space.output (omega arith) refl spent (λ own is. c.in_err-make_located.ensures.spends own (subst (λ (s : Step). IsStep x r c.args.given.now on s own) c.in-Located.is is))
+    spent_steps_stop x r c.args.given.now steps on 0 step step c.args.input.now before c.loop-step.output c.loop-step.space.output c.make_step.new.space.output (omega arith) refl spent c.in_err-make_step.ensures.spends
 
-pub loop-step-preserved-in-Located : goal.loop-step-preserved-in-Located
-loop-step-preserved-in-Located c =
+pub run_ready-rest-requires-clause-steps : goal.run_ready-rest-requires-clause-steps
+run_ready-rest-requires-clause-steps c =
+    let x = c.args.layouts.now.reading in
+    let r : Records = records c.args.layouts.now in
+    let on : Support = support_of c.args.plan.now in
+    let step : Step = c.in-Some.step.now in
+    let steps : List Step = step ∷ c.in-Some.behind.now in
+    let (before, all) = c.requires.steps in
+    let left = subst (λ (ss : List Step). Left x r c.args.given.now ss on 0 c.args.input.now before c.loop-step.output) c.in-Some.ensures.cases.0 (c.loop-step.invariant.left before all) in
+    let next = next_step x r c.args.given.now steps on 0 step step c.args.input.now before c.loop-step.output (omega arith) refl left in
+    (c.args.given.now, before, left_made x r c.args.given.now steps on 0 step c.args.input.now before c.loop-step.output c.make_step.new.output next c.in_ok-make_step.ensures.applied)
+
+pub loop-step-preserved : goal.loop-step-preserved
+loop-step-preserved c =
     let x = c.args.layouts.now.reading in
     let r : Records = records c.args.layouts.now in
     let on : Support = support_of c.args.plan.now in
@@ -56,90 +68,12 @@ loop-step-preserved-in-Located c =
       left = λ before all.
           let left = subst (λ (ss : List Step). Left x r c.args.given.now ss on 0 c.args.input.now before c.loop-step.output) c.in-Some.ensures.cases.0 (c.loop-step.invariant.left before all) in
           let next = next_step x r c.args.given.now steps on 0 step step c.args.input.now before c.loop-step.output (omega arith) refl left in
-          left_made x r c.args.given.now steps on 0 step c.args.input.now before c.loop-step.output c.make_located.new.output next (λ own is. c.in_ok-make_located.ensures.applied own (subst (λ (s : Step). IsStep x r c.args.given.now on s own) c.in-Located.is is));
-      output = c.make_located.auto.output ∙ c.loop-step.invariant.output;
-      space = c.in_ok-make_located.ensures.space;
+          c.run_ready-rest.ensures.left c.args.given.now before (left_made x r c.args.given.now steps on 0 step c.args.input.now before c.loop-step.output c.make_step.new.output next c.in_ok-make_step.ensures.applied);
+      output = c.run_ready-rest.auto.output ∙ (c.make_step.auto.output ∙ c.loop-step.invariant.output);
+      space = c.run_ready-rest.ensures.space;
       spends = λ before all.
           let spent = subst (λ (ss : List Step). SpentSteps x r c.args.given.now ss on 0 c.args.input.now before c.loop-step.output c.loop-step.space.output) c.in-Some.ensures.cases.0 (c.loop-step.invariant.spends before all) in
-          spent_steps_next x r c.args.given.now steps on 0 step step c.args.input.now before c.loop-step.output c.make_located.new.output c.loop-step.space.output c.make_located.new.space.output (omega arith) refl spent (λ own is. c.in_ok-make_located.ensures.spends own (subst (λ (s : Step). IsStep x r c.args.given.now on s own) c.in-Located.is is));
-    }
-
-pub run_ready-left-requires : goal.run_ready-left-requires
-run_ready-left-requires c =
-    let (before, all) = c.requires.steps in
-    record {
-      steps = (c.args.given.now, before, c.loop-step.invariant.left before all);
-      input = c.requires.input;
-      output = c.loop-step.invariant.output ∙ c.requires.output;
-      space = c.loop-step.invariant.space;
-    }
-
-pub returns-in_default-split_first : goal.returns-in_default-split_first
-returns-in_default-split_first c =
-    let x = c.args.layouts.now.reading in
-    let r : Records = records c.args.layouts.now in
-    let on : Support = support_of c.args.plan.now in
-    record {
-      applied = λ before all. left_none x r c.args.given.now c.run_ready-left.result.now on 0 c.args.input.now before c.run_ready-left.new.output (omega (arith, c.in_default-split_first.ensures.cases)) (c.run_ready-left.ensures.left c.args.given.now before (c.loop-step.invariant.left before all));
-      space = c.run_ready-left.ensures.space;
-      reads = λ before all. spent_steps_all x r c.args.given.now c.run_ready-left.result.now on 0 c.args.input.now before c.run_ready-left.new.output c.run_ready-left.new.space.output (omega (arith, c.in_default-split_first.ensures.cases)) (c.run_ready-left.ensures.spends c.args.given.now before (c.loop-step.invariant.spends before all));
-    }
-
-pub make_step-requires : goal.make_step-requires
-make_step-requires c =
-    let x = c.args.layouts.now.reading in
-    let r : Records = records c.args.layouts.now in
-    let on : Support = support_of c.args.plan.now in
-    let step : Step = c.in-Some-split_first.other.now in
-    let steps : List Step = step ∷ c.in-Some-split_first.later.now in
-    let (before, all) = c.requires.steps in
-    let left = subst (λ (ss : List Step). Left x r c.args.given.now ss on 0 c.args.input.now before c.run_ready-left.new.output) c.in-Some-split_first.ensures.cases.0 (c.run_ready-left.ensures.left c.args.given.now before (c.loop-step.invariant.left before all)) in
-    let next = next_step x r c.args.given.now steps on 0 step step c.args.input.now before c.run_ready-left.new.output (omega arith) refl left in
-    record {
-      in_sound = c.requires.in_sound;
-      out_sound = c.requires.out_sound;
-      step = (next.own, next.is);
-      input = c.requires.input;
-      output = c.run_ready-left.auto.output ∙ (c.loop-step.invariant.output ∙ c.requires.output);
-      space = c.run_ready-left.ensures.space;
-    }
-
-pub returns-in_err-make_step : goal.returns-in_err-make_step
-returns-in_err-make_step c =
-    let x = c.args.layouts.now.reading in
-    let r : Records = records c.args.layouts.now in
-    let on : Support = support_of c.args.plan.now in
-    let step : Step = c.in-Some-split_first.other.now in
-    let steps : List Step = step ∷ c.in-Some-split_first.later.now in
-    let p = err_from_is_err_and c.from_residual-in_err-make_step.result c.from_residual-in_err-make_step.ensures.1 in
-    record {
-      applied = λ before all.
-          let left = subst (λ (ss : List Step). Left x r c.args.given.now ss on 0 c.args.input.now before c.run_ready-left.new.output) c.in-Some-split_first.ensures.cases.0 (c.run_ready-left.ensures.left c.args.given.now before (c.loop-step.invariant.left before all)) in
-          let next = next_step x r c.args.given.now steps on 0 step step c.args.input.now before c.run_ready-left.new.output (omega arith) refl left in
-          rw (p.1, p.2) (stopped_made x r c.args.given.now steps on 0 step c.args.input.now before c.run_ready-left.new.output c.make_step.new.output c.in_err-make_step.field-0.0 next c.in_err-make_step.ensures.applied);
-      space = c.in_err-make_step.ensures.space;
-      reads = λ before all.
-          let spent = subst (λ (ss : List Step). SpentSteps x r c.args.given.now ss on 0 c.args.input.now before c.run_ready-left.new.output c.run_ready-left.new.space.output) c.in-Some-split_first.ensures.cases.0 (c.run_ready-left.ensures.spends c.args.given.now before (c.loop-step.invariant.spends before all)) in
-          spent_steps_stop x r c.args.given.now steps on 0 step step c.args.input.now before c.run_ready-left.new.output c.run_ready-left.new.space.output c.make_step.new.space.output (omega arith) refl spent c.in_err-make_step.ensures.spends;
-    }
-
-pub loop-step-preserved : goal.loop-step-preserved
-loop-step-preserved c =
-    let x = c.args.layouts.now.reading in
-    let r : Records = records c.args.layouts.now in
-    let on : Support = support_of c.args.plan.now in
-    let step : Step = c.in-Some-split_first.other.now in
-    let steps : List Step = step ∷ c.in-Some-split_first.later.now in
-    record {
-      left = λ before all.
-          let left = subst (λ (ss : List Step). Left x r c.args.given.now ss on 0 c.args.input.now before c.run_ready-left.new.output) c.in-Some-split_first.ensures.cases.0 (c.run_ready-left.ensures.left c.args.given.now before (c.loop-step.invariant.left before all)) in
-          let next = next_step x r c.args.given.now steps on 0 step step c.args.input.now before c.run_ready-left.new.output (omega arith) refl left in
-          left_made x r c.args.given.now steps on 0 step c.args.input.now before c.run_ready-left.new.output c.make_step.new.output next c.in_ok-make_step.ensures.applied;
-      output = c.make_step.auto.output ∙ (c.run_ready-left.auto.output ∙ c.loop-step.invariant.output);
-      space = c.in_ok-make_step.ensures.space;
-      spends = λ before all.
-          let spent = subst (λ (ss : List Step). SpentSteps x r c.args.given.now ss on 0 c.args.input.now before c.run_ready-left.new.output c.run_ready-left.new.space.output) c.in-Some-split_first.ensures.cases.0 (c.run_ready-left.ensures.spends c.args.given.now before (c.loop-step.invariant.spends before all)) in
-          spent_steps_next x r c.args.given.now steps on 0 step step c.args.input.now before c.run_ready-left.new.output c.make_step.new.output c.run_ready-left.new.space.output c.make_step.new.space.output (omega arith) refl spent c.in_ok-make_step.ensures.spends;
+          c.run_ready-rest.ensures.spends c.args.given.now before (spent_steps_next x r c.args.given.now steps on 0 step step c.args.input.now before c.loop-step.output c.make_step.new.output c.loop-step.space.output c.make_step.new.space.output (omega arith) refl spent c.in_ok-make_step.ensures.spends);
     }
 
 pub returns-clause-applied : goal.returns-clause-applied

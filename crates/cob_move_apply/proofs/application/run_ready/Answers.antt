@@ -5,12 +5,12 @@ use Rattle.cob_move_apply.specs.Going.{Left, SpentSteps}
 use Rattle.cob_move_apply.specs.Steps.{Support, support_of}
 use Rattle.cob_move_apply.specs.declared.step.Step.{Step}
 use Rattle.cob_move_apply.specs.Surveyed.{records}
-use Rattle.cob_move_apply.proofs.SpendingLemmas.{spent_same, spent_steps_next}
+use Rattle.cob_move_apply.proofs.SpendingLemmas.{spent_steps_next, spent_still}
 use Rattle.cob_move_apply.proofs.StepLemmas.{left_made, left_same, next_step}
 use Rattle.cob_move_apply.proofs.application.run_ready.Goals as goal
 
-pub run_step-requires-clause-step : goal.run_step-requires-clause-step
-run_step-requires-clause-step c =
+pub run_at_once-requires-clause-step : goal.run_at_once-requires-clause-step
+run_at_once-requires-clause-step c =
     let x = c.args.layouts.now.reading in
     let r : Records = records c.args.layouts.now in
     let on : Support = support_of c.args.plan.now in
@@ -21,15 +21,15 @@ run_step-requires-clause-step c =
     let next = next_step x r given steps on 0 step step c.args.input.now before c.loop-step.output (omega arith) refl left in
     (given, next.own, next.is)
 
-pub returns-then-not-run_step-clause-left : goal.returns-then-not-run_step-clause-left
-returns-then-not-run_step-clause-left c = λ given before all.
-    left_same c.args.layouts.now.reading (records c.args.layouts.now) given c.loop-step.rest.now (support_of c.args.plan.now) 0 c.args.input.now before c.loop-step.output c.run_step.new.output
-    (c.if-not-run_step.ensures.same refl).0 (c.loop-step.invariant.left given before all)
+pub returns-then-not-run_at_once-clause-left : goal.returns-then-not-run_at_once-clause-left
+returns-then-not-run_at_once-clause-left c = λ given before all.
+    left_same c.args.layouts.now.reading (records c.args.layouts.now) given c.loop-step.rest.now (support_of c.args.plan.now) 0 c.args.input.now before c.loop-step.output c.run_at_once.new.output
+    (c.if-not-run_at_once.ensures.same refl).0 (c.loop-step.invariant.left given before all)
 
-pub returns-then-not-run_step-clause-spends : goal.returns-then-not-run_step-clause-spends
-returns-then-not-run_step-clause-spends c = λ given before all.
-    spent_same c.args.layouts.now.reading (records c.args.layouts.now) given c.loop-step.rest.now (support_of c.args.plan.now) 0 c.args.input.now before c.loop-step.output c.run_step.new.output
-    c.loop-step.space c.run_step.new.space (c.if-not-run_step.ensures.same refl).0 (c.if-not-run_step.ensures.same refl).1 (c.loop-step.invariant.spends given before all)
+pub returns-then-not-run_at_once-clause-spends : goal.returns-then-not-run_at_once-clause-spends
+returns-then-not-run_at_once-clause-spends c = λ given before all.
+    spent_still c.args.layouts.now.reading (records c.args.layouts.now) given c.loop-step.rest.now (support_of c.args.plan.now) 0 c.args.input.now before c.loop-step.output c.run_at_once.new.output
+    c.loop-step.space.output c.run_at_once.new.space.output (c.if-not-run_at_once.ensures.same refl).0 (c.if-not-run_at_once.ensures.same refl).1 (c.loop-step.invariant.spends given before all)
 
 pub loop-step-preserved : goal.loop-step-preserved
 loop-step-preserved c =
@@ -42,12 +42,12 @@ loop-step-preserved c =
       left = λ given before all.
           let left = subst (λ (ss : List Step). Left x r given ss on 0 c.args.input.now before c.loop-step.output) c.in-Some.ensures.cases.0 (c.loop-step.invariant.left given before all) in
           let next = next_step x r given steps on 0 step step c.args.input.now before c.loop-step.output (omega arith) refl left in
-          left_made x r given steps on 0 step c.args.input.now before c.loop-step.output c.run_step.new.output next (c.if-not-run_step.ensures.applied refl given);
-      output = c.run_step.auto.output ∙ c.loop-step.invariant.output;
-      space = c.run_step.ensures.space;
+          left_made x r given steps on 0 step c.args.input.now before c.loop-step.output c.run_at_once.new.output next (c.if-not-run_at_once.ensures.applied refl given);
+      output = c.run_at_once.auto.output ∙ c.loop-step.invariant.output;
+      space = c.run_at_once.ensures.space;
       spends = λ given before all.
           let spent = subst (λ (ss : List Step). SpentSteps x r given ss on 0 c.args.input.now before c.loop-step.output c.loop-step.space.output) c.in-Some.ensures.cases.0 (c.loop-step.invariant.spends given before all) in
-          spent_steps_next x r given steps on 0 step step c.args.input.now before c.loop-step.output c.run_step.new.output
-          c.loop-step.space.output c.run_step.new.space.output (omega arith) refl spent (c.if-not-run_step.ensures.spends refl given);
+          spent_steps_next x r given steps on 0 step step c.args.input.now before c.loop-step.output c.run_at_once.new.output
+          c.loop-step.space.output c.run_at_once.new.space.output (omega arith) refl spent (c.if-not-run_at_once.ensures.spends refl given);
       fewer = omega (arith, c.loop-step.invariant.fewer, ap length c.in-Some.ensures.cases.0);
     }
