@@ -4,11 +4,12 @@ use Rattle.cob_limits.specs.Limits.{longest_text}
 use Rattle.cob_source.specs.declared.ahead.WordsAhead.{WordsAhead}
 use Rattle.cob_source.specs.declared.token.Cutting.TheVariants.{Apart}
 use Rattle.cob_source.specs.declared.token.Token.{Token}
+use Rattle.cob_source.specs.declared.fault.SourceRule.{SourceRule}
 use Rattle.cob_source.specs.Cuts.{open_quote}
 use Rattle.cob_source.specs.Tokens.{Lexeme, lexemes}
 use Rattle.cob_source.specs.Lines.{lines}
 use Rattle.cob_source.specs.Reading.{HasRead}
-use Rattle.cob_source.specs.Words.{AreParagraphWordsOf}
+use Rattle.cob_source.specs.Words.{IsSourceRefusal, AreParagraphWordsOf}
 
 -- the lines that are ahead are so few that there is a number for each
 abbrev pub AreNumbered : WordsAhead → Type 0
@@ -34,3 +35,7 @@ ReadsOn old new before after = (text : List ℕ) (front : List Lexeme) → IsRea
 abbrev pub AreReadOf : List ℕ → List Lexeme → WordsAhead → Bool → Type 0
 AreReadOf text words ahead true = IsReadTo text words ahead
 AreReadOf text words ahead false = AreParagraphWordsOf text words
+
+-- whatever words stand in front, a text that is read to these tokens behind them breaks this rule on this line, or memory is refused, and then the line is 0
+abbrev pub RefusesTextOf : List Token → WordsAhead → SourceRule → ℕ → Type 0
+RefusesTextOf tokens ahead rule line = (text : List ℕ) (front : List Lexeme) → IsReadTo text (front ++ lexemes tokens) ahead → IsSourceRefusal rule line text

@@ -1,7 +1,8 @@
 //! Paragraphs read piece by piece.
 
-ghost use Rattle.std.specs.Prelude.{ℕ, ◌<◌, List, [], ◌++◌, length, IfOk, IfSome, OnOk};
-ghost use Rattle.cob_source.specs.Ahead.{AreNumbered, AreReadOf, IsNoted, IsReadTo, ReadsOn};
+ghost use Rattle.std.specs.Prelude.{ℕ, ◌<◌, List, [], ◌++◌, length, IfOk, IfErr, IfSome, IfNone, OnOk};
+ghost use Rattle.cob_limits.specs.Limits.{longest_text};
+ghost use Rattle.cob_source.specs.Ahead.{AreNumbered, AreReadOf, IsNoted, IsReadTo, ReadsOn, RefusesTextOf};
 ghost use Rattle.cob_source.specs.Tokens.{Lexeme, lexemes};
 
 use crate::fault::SourceFault;
@@ -32,6 +33,8 @@ impl<'a> WordsAhead<'a> {
         ensures begins { IfSome result (IsReadTo text.now []) }
         ensures numbered { IfSome result AreNumbered }
         ensures noted { IfSome result IsNoted }
+        // None is the answer only to a text that is too long.
+        ensures none { IfNone result (longest_text < length text.now) }
     {
         if text.len() > MAX_TEXT_BYTES {
             return None;
@@ -53,7 +56,7 @@ impl<'a> WordsAhead<'a> {
     ///
     /// # Errors
     ///
-    /// As [`crate::tokens`].
+    /// The rule that the text breaks, on the line that breaks it. T9, with line 0, only where memory is refused.
     fn read_line(&mut self, alloc: Global, out: &mut Vec<Token>) -> Result<bool, SourceFault>
         requires some { 0 < length self.old.rest.now }
         requires numbered { AreNumbered self.old }
@@ -62,6 +65,7 @@ impl<'a> WordsAhead<'a> {
         ensures shorter { OnOk result (length self.new.rest.now < length self.old.rest.now) }
         ensures numbered { OnOk result (AreNumbered self.new) }
         ensures noted { OnOk result (IsNoted self.new) }
+        ensures refused { IfErr result (λ f. RefusesTextOf out.old.items self.old f.rule f.line) }
     {
         let (line, more) = next_line(self.rest);
         let number = self.number;
@@ -76,7 +80,7 @@ impl<'a> WordsAhead<'a> {
     ///
     /// # Errors
     ///
-    /// As [`crate::tokens`].
+    /// The rule that the text breaks, on the line that breaks it. T9, with line 0, only where memory is refused.
     pub fn read(&mut self, alloc: Global, out: &mut Vec<Token>) -> Result<bool, SourceFault>
         requires numbered { AreNumbered self.old }
         requires noted { IsNoted self.old }
@@ -85,6 +89,8 @@ impl<'a> WordsAhead<'a> {
             → AreReadOf text (front ++ lexemes out.new.items) self.new more) }
         ensures numbered { OnOk result (AreNumbered self.new) }
         ensures noted { OnOk result (IsNoted self.new) }
+        // A refused text breaks the rule that is named, on the line that is named.
+        ensures refused { IfErr result (λ f. RefusesTextOf out.old.items self.old f.rule f.line) }
     {
         while !self.rest.is_empty() {
             let is_enough = self.read_line(alloc, out)?;
