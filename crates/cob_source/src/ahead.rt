@@ -1,6 +1,6 @@
 //! Paragraphs read piece by piece.
 
-ghost use Rattle.std.specs.Prelude.{ℕ, ◌<◌, List, [], ◌++◌, length, IfOk, IfErr, IfSome, IfNone, OnOk};
+ghost use Rattle.std.specs.Prelude.{ℕ, ◌<◌, ◌≤◌, List, [], ◌++◌, length, IfOk, IfErr, IfSome, IfNone, OnOk, IsTrue};
 ghost use Rattle.cob_limits.specs.Limits.{longest_text};
 ghost use Rattle.cob_source.specs.Ahead.{AreNumbered, AreReadOf, IsNoted, IsReadTo, ReadsOn, RefusesTextOf};
 ghost use Rattle.cob_source.specs.Tokens.{Lexeme, lexemes};
@@ -66,6 +66,7 @@ impl<'a> WordsAhead<'a> {
         ensures numbered { OnOk result (AreNumbered self.new) }
         ensures noted { OnOk result (IsNoted self.new) }
         ensures refused { IfErr result (λ f. RefusesTextOf out.old.items self.old f.rule f.line) }
+        ensures enough { IfOk result (λ b. IsTrue b → 1000 ≤ length out.new.items) }
     {
         let (line, more) = next_line(self.rest);
         let number = self.number;
@@ -89,6 +90,10 @@ impl<'a> WordsAhead<'a> {
             → AreReadOf text (front ++ lexemes out.new.items) self.new more) }
         ensures numbered { OnOk result (AreNumbered self.new) }
         ensures noted { OnOk result (IsNoted self.new) }
+        // Where more are left, a thousand words stand there, and lines were read.
+        ensures enough { IfOk result (λ more. IsTrue more → 1000 ≤ length out.new.items) }
+        ensures shorter { IfOk result (λ more. IsTrue more
+            → length self.new.rest.now < length self.old.rest.now) }
         // A refused text breaks the rule that is named, on the line that is named.
         ensures refused { IfErr result (λ f. RefusesTextOf out.old.items self.old f.rule f.line) }
     {

@@ -1,4 +1,4 @@
-use Rattle.std.proofs.Common.{length}
+use Rattle.std.proofs.Common.{length, ◌≤◌}
 use Rattle.cob_source.specs.Ahead.{AreNumbered, IsNoted, ReadsOn}
 use Rattle.cob_source.proofs.ahead.WordsAhead.read.Given as goal
 
@@ -7,6 +7,7 @@ invariant-loop-self l = record {
   numbered : AreNumbered l.self;
   noted : IsNoted l.self;
   read : ReadsOn l.fn.out.items l.out.items l.fn.self l.self;
+  no_longer : length l.self.rest.now ≤ length l.fn.self.rest.now;
 }
 
 abbrev pub decreases-loop-self : goal.decreases-loop-self
