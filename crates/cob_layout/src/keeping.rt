@@ -35,7 +35,7 @@ fn number_of(kept: Option<StoredCount>) -> Option<u32>
 impl Layout {
     /// The count of a table: the one that is kept, or else what the bytes say, which is one read more.
     #[inline(always)]
-    pub(crate) fn count_anew(
+    fn count_anew(
         &self,
         table: Table,
         kept: Option<u32>,

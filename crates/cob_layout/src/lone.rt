@@ -25,7 +25,7 @@ use crate::fields::Place;
 use crate::footings::{Footing, footing_at};
 use crate::layout::Layout;
 use crate::spots::spot_at;
-use cob_layout_places::{CountFault, Ref, Table, needs_are_read, one_place};
+use cob_layout_places::{CountFault, Found, Ref, Table, needs_are_read, one_place};
 
 /// The only one of these tables, where its count stands before it.
 #[inline(always)]
@@ -77,16 +77,15 @@ impl Layout {
 
     /// Where the item of a table's count stands under the greatest counts.
     #[inline(always)]
-    fn greatest_place(&self, table: Table) -> Place
+    fn greatest_item(&self, table: Table) -> Found
         requires table { IsIn table (tables_of self.now) }
-        ensures { (f : Found)
-            × (place_of (times (greatest_counts self.now)) table.count self.now 0 0 [] ≡ Some f)
-            × (result.offset ≡ f.offset) × (result.length ≡ f.length) }
+        ensures { place_of (times (greatest_counts self.now)) table.count self.now 0 0 [] ≡ Some result }
     {
-        let item = spot_at(self.counts.spots(), table.count);
-        Place {
-            offset: item.offset,
-            length: item.length,
+        let spot = spot_at(self.counts.spots(), table.count);
+        Found {
+            offset: spot.offset,
+            length: spot.length,
+            within: true,
         }
     }
 
@@ -102,14 +101,12 @@ impl Layout {
         bytes: &[u8],
         kept: &mut [Option<StoredCount>],
         range: &mut KeptRange,
-        sums: &mut [u32],
         reads: &mut u64,
     ) -> Result<u32, CountFault>
         requires lone { tables_of self.now ≡ table ∷ [] }
         requires before { table.count < table.number }
         requires kept { AreKeptOf self.now bytes.now kept.old }
         requires as_many { length kept.old ≡ 1 }
-        requires sums { length sums.old ≡ entries_in self.now + 1 }
         requires within { LieWithin range.old kept.old }
         ensures read { (n : ℕ) × IsReadOne self.now bytes.now table (first_kept (numbers_of kept.old))
             (greatest_counts self.now) result n
@@ -124,18 +121,16 @@ impl Layout {
         if let Some(stored) = kept[0] {
             return Ok(stored.number);
         }
-        let number = match self.count_anew(
-            table,
-            None,
-            bytes,
-            self.counts.as_slice(),
-            sums,
-            reads,
-        ) {
+        *reads = reads.saturating_add(1);
+        let found = self.greatest_item(table);
+        let number = match self.count_found(table, found, bytes) {
             Ok(number) => number,
             Err(fault) => return Err(fault),
         };
-        let place = self.greatest_place(table);
+        let place = Place {
+            offset: found.offset,
+            length: found.length,
+        };
         kept[0] = Some(StoredCount { number, place });
         *range = range_at(place);
         Ok(number)
@@ -193,7 +188,7 @@ impl Layout {
         needs_are_read();
         one_place();
         *reach = 0;
-        let number = match self.keep_lone(table, bytes, kept, range, sums, reads) {
+        let number = match self.keep_lone(table, bytes, kept, range, reads) {
             Ok(number) => number,
             Err(fault) => return Err(fault),
         };

@@ -346,8 +346,15 @@ impl Layout {
         ) {
             Some(found) => Ok(found),
             None => match self.found_past(reference, receiving, bytes, counts, reads) {
-                Ok(found) => Ok(found),
-                Err(fault) => Err(fault),
+                Ok(found) => Ok(Found {
+                    offset: found.offset,
+                    length: found.length,
+                    within: found.within,
+                }),
+                Err(fault) => Err(CountFault {
+                    offset: fault.offset,
+                    short: fault.short,
+                }),
             },
         }
     }
