@@ -196,6 +196,13 @@ fn put_sums(growths: &[Growth], counts: &[u32], sums: &mut [u32])
         ≡ sums_by counts.now growths.now (0 ∷ []) 0 }
 {
     sums[0] = 0;
+    if let Some((growth, others)) = growths.split_first() {
+        if others.is_empty() {
+            let sum = next_sum(*growth, counts, sums, 0);
+            sums[1] = sum;
+            return;
+        }
+    }
     for (index, growth) in growths.iter().enumerate() {
         let sum = next_sum(*growth, counts, sums, index);
         sums[index + 1] = sum;
