@@ -34,6 +34,7 @@ pub mod MeasuringLemmas
 pub mod WholeLemmas
 pub mod RoomLemmas
 pub mod Loans
+pub mod LoneLemmas
 pub mod Lists
 pub mod Numbers
 pub mod Shapes

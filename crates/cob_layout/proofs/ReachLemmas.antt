@@ -24,31 +24,31 @@ use Rattle.cob_layout.proofs.ShiftLemmas.{length_growths}
 
 -- ---- counts that are what a reference asks serve those that need fewer tables
 
-both_are : (a b : Bool) → a ≡ true → b ≡ true → (a && b) ≡ true
+pub both_are : (a b : Bool) → a ≡ true → b ≡ true → (a && b) ≡ true
 both_are true b e f = f
 both_are false b e f = absurd (cc)
 
-past : (a b : Bool) → a ≡ true → (if a then true else b) ≡ true
+pub past : (a b : Bool) → a ≡ true → (if a then true else b) ≡ true
 past true b e = refl
 past false b e = absurd (cc)
 
-asked_of : (a b p q : Bool) → b ≡ true → p ≡ true → (if a then true else if b then p else q) ≡ true
+pub asked_of : (a b p q : Bool) → b ≡ true → p ≡ true → (if a then true else if b then p else q) ≡ true
 asked_of true b p q e f = refl
 asked_of false true p q e f = f
 asked_of false false p q e f = absurd (cc)
 
-is_below : (behind k : ℕ) → nat_le behind k ≡ false → k < behind
+pub is_below : (behind k : ℕ) → nat_le behind k ≡ false → k < behind
 is_below behind k e = grind (arith, nat_tests)
 
 needed_plain : (behind r : ℕ) (last : Bool) (x : Table) → behind ≤ r + 1 → x.number < behind → is_needed behind last r x ≡ true
 needed_plain behind r true x le lt = grind (arith, nat_tests)
 needed_plain behind r false x le lt = grind (arith, nat_tests)
 
-needed_below : (behind r : ℕ) (last : Bool) (x : Table) → SparesNone behind last r → x.number < behind → is_needed behind last r x ≡ true
+pub needed_below : (behind r : ℕ) (last : Bool) (x : Table) → SparesNone behind last r → x.number < behind → is_needed behind last r x ≡ true
 needed_below behind r last x (inl plain) lt = subst (λ (v : Bool). is_needed behind v r x ≡ true) (sym plain) (grind (arith, nat_tests))
 needed_below behind r last x (inr le) lt = needed_plain behind r last x le lt
 
-kept_so : (k : Option StoredCount) (j : StoredCount) (n : ℕ) → k ≡ Some j → j.number ≡ n → is_kept_as k n ≡ true
+pub kept_so : (k : Option StoredCount) (j : StoredCount) (n : ℕ) → k ≡ Some j → j.number ≡ n → is_kept_as k n ≡ true
 kept_so k j n is number = subst (λ (o : Option StoredCount). is_kept_as o n ≡ true) (sym is) (ap (λ (m : ℕ). m == n) number ∙ same n)
 
 one_met : (behind reach r s : ℕ) (last ends : Bool) (x : Table) (k : Option StoredCount) (n : ℕ) → behind ≤ reach → SparesNone behind last r → SparesNone reach ends s → is_met reach ends s x k n ≡ true → is_met behind last r x k n ≡ true

@@ -91,7 +91,7 @@ among x k (y ∷ ys) [] is = absurd is
 among x k (y ∷ ys) (j ∷ js) (inl (same, h)) = inl same
 among x k (y ∷ ys) (j ∷ js) (inr rest) = inr (among x k ys js rest)
 
-one_stored : (a b : StoredCount) → Some a ≡ Some b → a ≡ b
+pub one_stored : (a b : StoredCount) → Some a ≡ Some b → a ≡ b
 one_stored a b e = cc
 
 came_from : (read : Table → Bool) (d : List ℕ) (spots : List Spot) (x : Table) (k : StoredCount) (xs : List Table) (ks : List (Option StoredCount))

@@ -74,6 +74,7 @@ mod keeping;
 mod kinds;
 mod laws;
 mod layout;
+mod lone;
 mod measuring;
 mod places;
 mod reads;

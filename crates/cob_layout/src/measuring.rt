@@ -82,6 +82,7 @@ impl Layout {
     /// # Errors
     ///
     /// The first count that gives no number within its table's bounds, or that ends past the bytes.
+    #[inline(always)]
     pub fn kept_length(&self, bytes: &[u8], counts: &mut Counts) -> Result<u16, CountFault>
         requires room { IsRoomFor self.now counts.old }
         requires kept { KeepsOf self.now bytes.now counts.old }

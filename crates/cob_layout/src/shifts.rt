@@ -187,6 +187,7 @@ fn next_sum(growth: Growth, counts: &[u32], sums: &[u32], last: usize) -> u32
 }
 
 /// Writes the sums before and behind the tables that grow, under these counts.
+#[inline(always)]
 fn put_sums(growths: &[Growth], counts: &[u32], sums: &mut [u32])
     requires room { length growths.now < length sums.old }
     requires fit { CanAllGrow counts.now (sums_by counts.now growths.now (0 ∷ []) 0) 0
@@ -195,6 +196,13 @@ fn put_sums(growths: &[Growth], counts: &[u32], sums: &mut [u32])
         ≡ sums_by counts.now growths.now (0 ∷ []) 0 }
 {
     sums[0] = 0;
+    if let Some((growth, others)) = growths.split_first() {
+        if others.is_empty() {
+            let sum = next_sum(*growth, counts, sums, 0);
+            sums[1] = sum;
+            return;
+        }
+    }
     for (index, growth) in growths.iter().enumerate() {
         let sum = next_sum(*growth, counts, sums, index);
         sums[index + 1] = sum;
@@ -239,6 +247,7 @@ fn put_shifted(shifts: &[Shift], least: &[Spot], sums: &[u32], counts: &[u32], s
 
 impl Layout {
     /// Writes the sums of the tables that grow under these counts: before all of them, and behind each.
+    #[inline(always)]
     pub(crate) fn put_sums(&self, counts: &[u32], sums: &mut [u32])
         requires room { length sums.old ≡ entries_in self.now + 1 }
         ensures { take (grow_in self.now + 1) sums.new ≡ sums_of self.now counts.now }

@@ -234,6 +234,12 @@ impl Layout {
         one_place();
         // For `reads`: how many there were is a count of 64 bits.
         let _before = *reads;
+        // In most records with a table that varies no other count is needed.
+        if let Some(table) = self.lone_table(reference, receiving) {
+            return self.read_lone(
+                reference, receiving, table, bytes, kept, range, counts, sums, reach, reads,
+            );
+        }
         let tables = self.tables.as_slice();
         let needed = self.needed_by(reference.node, receiving);
         if serve_spared(tables, needed, kept, counts) {
@@ -340,8 +346,15 @@ impl Layout {
         ) {
             Some(found) => Ok(found),
             None => match self.found_past(reference, receiving, bytes, counts, reads) {
-                Ok(found) => Ok(found),
-                Err(fault) => Err(fault),
+                Ok(found) => Ok(Found {
+                    offset: found.offset,
+                    length: found.length,
+                    within: found.within,
+                }),
+                Err(fault) => Err(CountFault {
+                    offset: fault.offset,
+                    short: fault.short,
+                }),
             },
         }
     }

@@ -1,6 +1,6 @@
 //! The counts of a record, taken where they stand.
 
-ghost use Rattle.std.specs.Prelude.{◌≡◌, ◌+◌, ◌<◌, ℕ, [], length, slice_index, Ok, Err, Some, OnErr, OnOk, IfOk, IfErr};
+ghost use Rattle.std.specs.Prelude.{◌≡◌, ◌+◌, ◌<◌, ℕ, List, [], length, slice_index, Ok, Err, Some, OnErr, OnOk, IfOk, IfErr};
 ghost use Rattle.cob_copybook_tree.specs.Forests.{entries_in};
 ghost use Rattle.cob_layout_places.specs.Counts.{tables_of, IsCounted};
 ghost use Rattle.cob_layout_places.specs.Lengths.{times};
@@ -64,6 +64,34 @@ impl Layout {
         }
     }
 
+    /// What the bytes say of a table whose count's item stands there under some counts.
+    ///
+    /// # Errors
+    ///
+    /// The count gives no number from its table's least to its greatest one, or ends past the bytes.
+    #[inline(always)]
+    pub(crate) fn count_found(
+        &self,
+        table: Table,
+        found: Found,
+        bytes: &[u8],
+    ) -> Result<u32, CountFault>
+        requires table { IsIn table (tables_of self.now) }
+        requires stands { (c : List ℕ)
+            × (place_of (times c) table.count self.now 0 0 [] ≡ Some found) }
+        ensures ok { IfOk result (λ v. (c : List ℕ)
+            → place_of (times c) table.count self.now 0 0 [] ≡ Some found
+            → IsCounted self.now bytes.now table c (Ok v)) }
+        ensures err { IfErr result (λ e. (c : List ℕ)
+            → place_of (times c) table.count self.now 0 0 [] ≡ Some found
+            → IsCounted self.now bytes.now table c (Err e)) }
+    {
+        match kind_at(&self.kinds, table.count) {
+            Kind::Item(item) => count_at(item, table, found, bytes),
+            Kind::Group => Err(NOWHERE),
+        }
+    }
+
     /// What the bytes say of a table under the counts so far, which up to the first table that varies are the greatest ones.
     ///
     /// # Errors
@@ -85,9 +113,9 @@ impl Layout {
         ensures err { IfErr result (λ e. IsCounted self.now bytes.now table counts.now (Err e)) }
     {
         let found = self.place_of_count(table, counts, sums);
-        match kind_at(&self.kinds, table.count) {
-            Kind::Item(item) => count_at(item, table, found, bytes),
-            Kind::Group => Err(NOWHERE),
+        match self.count_found(table, found, bytes) {
+            Ok(count) => Ok(count),
+            Err(fault) => Err(fault),
         }
     }
 

@@ -48,6 +48,7 @@ fn count(item: &Item, table: Table, part: &[u8]) -> Option<u32>
 /// # Errors
 ///
 /// The count gives no number from its table's least to its greatest one, or ends past the bytes.
+#[inline(always)]
 pub fn count_at(item: &Item, table: Table, found: Found, bytes: &[u8]) -> Result<u32, CountFault>
     requires number { IsNumberItem item.now }
     requires long { found.length ≡ item_size item.now }

@@ -1,50 +1,10 @@
-use Rattle.std.proofs.Common.{◌≡◌, ◌∙◌, Some, subst}
-use Rattle.cob_copybook_tree.specs.declared.node.Kind.TheVariants.{Group, Item as ItemKind}
-use Rattle.cob_copybook_tree.specs.Nodes.{tree_of}
-use Rattle.cob_layout_places.specs.Counts.{kind_in}
-use Rattle.cob_layout_places.proofs.CountLemmas.{at_counts, counted_err, counted_ok, fault_at_counts}
-use Rattle.cob_layout.specs.Sound.{IsSound}
-use Rattle.cob_layout.proofs.KindLaw.{room_of_kinds}
-use Rattle.cob_layout.proofs.TakingLemmas.{count_item, described}
 use Rattle.cob_layout.proofs.layout.Layout.count_in.Goals as goal
 
-pub kind_at-requires : goal.kind_at-requires
-kind_at-requires c =
-    let item = count_item c.args.self.now c.args.table c.args.counts.now (subst IsSound c.self.view_is c.self.invariant.1) c.requires.table in
-    room_of_kinds (tree_of c.self.inside.root) c.args.self.now c.deref.result.now c.args.table.count c.self.view_is (c.deref.ensures.value ∙ c.self.invariant.8) item.below
+pub count_found-requires-clause-stands : goal.count_found-requires-clause-stands
+count_found-requires-clause-stands c = (c.args.counts.now, c.place_of_count-found.ensures)
 
-pub count_at-requires-clause-number : goal.count_at-requires-clause-number
-count_at-requires-clause-number c =
-    let item = count_item c.args.self.now c.args.table c.args.counts.now (subst IsSound c.self.view_is c.self.invariant.1) c.requires.table in
-    let is : kind_in c.args.table.count c.args.self.now ≡ Some (ItemKind c.in-Item.item) = described (tree_of c.self.inside.root) c.args.self.now c.deref.result.now c.args.table.count c.kind_at.result.now (ItemKind c.in-Item.item) c.self.invariant.1.numbered c.self.view_is
-    (c.deref.ensures.value ∙ c.self.invariant.8) item.below c.kind_at.ensures c.in-Item.is in
-    item.number c.in-Item.item is
+pub returns-in-Ok-clause-ok : goal.returns-in-Ok-clause-ok
+returns-in-Ok-clause-ok c = c.in-Ok.ensures.ok c.args.counts.now c.place_of_count-found.ensures
 
-pub count_at-requires-clause-long : goal.count_at-requires-clause-long
-count_at-requires-clause-long c =
-    let item = count_item c.args.self.now c.args.table c.args.counts.now (subst IsSound c.self.view_is c.self.invariant.1) c.requires.table in
-    let is : kind_in c.args.table.count c.args.self.now ≡ Some (ItemKind c.in-Item.item) = described (tree_of c.self.inside.root) c.args.self.now c.deref.result.now c.args.table.count c.kind_at.result.now (ItemKind c.in-Item.item) c.self.invariant.1.numbered c.self.view_is
-    (c.deref.ensures.value ∙ c.self.invariant.8) item.below c.kind_at.ensures c.in-Item.is in
-    item.long c.in-Item.item c.place_of_count-found.result is c.place_of_count-found.ensures
-
-pub returns-in-Item-clause-ok : goal.returns-in-Item-clause-ok
-returns-in-Item-clause-ok c =
-    let item = count_item c.args.self.now c.args.table c.args.counts.now (subst IsSound c.self.view_is c.self.invariant.1) c.requires.table in
-    let is : kind_in c.args.table.count c.args.self.now ≡ Some (ItemKind c.in-Item.item) = described (tree_of c.self.inside.root) c.args.self.now c.deref.result.now c.args.table.count c.kind_at.result.now (ItemKind c.in-Item.item) c.self.invariant.1.numbered c.self.view_is
-    (c.deref.ensures.value ∙ c.self.invariant.8) item.below c.kind_at.ensures c.in-Item.is in
-    at_counts c.args.self.now c.args.bytes.now c.args.table c.place_of_count-found.result c.args.counts.now c.count_at.result c.place_of_count-found.ensures
-    (counted_ok c.args.self.now c.args.bytes.now c.args.table c.in-Item.item c.place_of_count-found.result c.count_at.result is c.count_at.ensures.ok)
-
-pub returns-in-Item-clause-err : goal.returns-in-Item-clause-err
-returns-in-Item-clause-err c =
-    let item = count_item c.args.self.now c.args.table c.args.counts.now (subst IsSound c.self.view_is c.self.invariant.1) c.requires.table in
-    let is : kind_in c.args.table.count c.args.self.now ≡ Some (ItemKind c.in-Item.item) = described (tree_of c.self.inside.root) c.args.self.now c.deref.result.now c.args.table.count c.kind_at.result.now (ItemKind c.in-Item.item) c.self.invariant.1.numbered c.self.view_is
-    (c.deref.ensures.value ∙ c.self.invariant.8) item.below c.kind_at.ensures c.in-Item.is in
-    fault_at_counts c.args.self.now c.args.bytes.now c.args.table c.place_of_count-found.result c.args.counts.now c.count_at.result c.place_of_count-found.ensures
-    (counted_err c.args.self.now c.args.bytes.now c.args.table c.in-Item.item c.place_of_count-found.result c.count_at.result is c.count_at.ensures.err)
-
-pub returns-in-Group-clause-err : goal.returns-in-Group-clause-err
-returns-in-Group-clause-err c =
-    let item = count_item c.args.self.now c.args.table c.args.counts.now (subst IsSound c.self.view_is c.self.invariant.1) c.requires.table in
-    absurd (item.item (described (tree_of c.self.inside.root) c.args.self.now c.deref.result.now c.args.table.count c.kind_at.result.now Group c.self.invariant.1.numbered c.self.view_is
-    (c.deref.ensures.value ∙ c.self.invariant.8) item.below c.kind_at.ensures c.in-Group.is))
+pub returns-in-Err-clause-err : goal.returns-in-Err-clause-err
+returns-in-Err-clause-err c = c.in-Err.ensures.err c.args.counts.now c.place_of_count-found.ensures

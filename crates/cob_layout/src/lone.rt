@@ -1,0 +1,200 @@
+//! Counts of a record with just one table that varies, whose count stands before it: a lone table.
+//!
+//! Most records with a table that varies have one such table. The place of its count doesn't vary, so its count is read where it stands under the greatest
+//! counts, and a reference that needs it needs no other. What such a reference needs is had in a straight line then: no counts are copied, and no table is
+//! looked for.
+
+ghost use Rattle.std.specs.Prelude.{◌≡◌, ◌&&◌, ◌+◌, ◌<◌, [], ◌∷◌, true, false, ℕ, List, Result, length, min, take, Ok, Err, Some, OnOk, OnErr, IfErr, IfOk, IfSome, IsTrue};
+ghost use Rattle.cob_copybook_tree.specs.Forests.{entries_in};
+ghost use Rattle.cob_layout_places.specs.declared.counts.CountFault.{CountFault};
+ghost use Rattle.cob_layout_places.specs.declared.places.Found.{Found};
+ghost use Rattle.cob_layout_places.specs.Counts.{tables_of};
+ghost use Rattle.cob_layout_places.specs.Lengths.{times};
+ghost use Rattle.cob_layout_places.specs.Needs.{is_read};
+ghost use Rattle.cob_layout_places.specs.Places.{place_of};
+ghost use Rattle.cob_layout_places.specs.References.{Refers};
+ghost use Rattle.cob_layout.specs.Counting.{greatest_counts, NeededOf};
+ghost use Rattle.cob_layout.specs.Finding.{ReachIn, StandsFor};
+ghost use Rattle.cob_layout.specs.Kept.{first_kept, kept_after, most_reads, numbers_of, AreKeptOf, IsIn, IsReadOne, TakenAnew};
+ghost use Rattle.cob_layout.specs.Shifts.{grow_in, sums_of};
+ghost use Rattle.cob_layout.specs.Sound.{IsSound};
+ghost use Rattle.cob_layout.specs.Standing.{LieWithin};
+
+use crate::counts::{KeptRange, StoredCount};
+use crate::fields::Place;
+use crate::footings::{Footing, footing_at};
+use crate::layout::Layout;
+use crate::spots::spot_at;
+use cob_layout_places::{CountFault, Found, Ref, Table, needs_are_read, one_place};
+
+/// The only one of these tables, where its count stands before it.
+#[inline(always)]
+fn only_table(tables: &[Table]) -> Option<Table>
+    ensures { IfSome result (λ x. (tables.now ≡ x ∷ []) × (x.count < x.number)) }
+{
+    match tables.split_first() {
+        Some((table, others)) if others.is_empty() && table.count < table.number => Some(*table),
+        _ => None,
+    }
+}
+
+/// Whether a reference to an entry, which receives or not, needs the count of the table with this number, and may be spared none.
+#[inline(always)]
+fn asks_for(footing: Footing, receiving: bool, number: usize) -> bool
+    ensures behind { IsTrue result → number < footing.behind }
+    ensures spares { IsTrue result → (receiving && footing.spares) ≡ false }
+{
+    number < footing.behind && !(receiving && footing.spares)
+}
+
+/// The range of a place alone.
+#[inline(always)]
+fn range_at(place: Place) -> KeptRange
+    ensures from { result.from ≡ place.offset }
+    ensures end { result.end ≡ place.offset + place.length }
+{
+    KeptRange {
+        from: u64::from(place.offset),
+        end: u64::from(place.offset) + u64::from(place.length),
+    }
+}
+
+impl Layout {
+    /// The record's lone table, where it has one and the reference reads its count.
+    #[inline(always)]
+    pub(crate) fn lone_table(&self, reference: &Ref, receiving: bool) -> Option<Table>
+        requires refers { Refers reference.now.node reference.now.subscripts.items self.now }
+        ensures lone { IfSome result (λ x. (tables_of self.now ≡ x ∷ []) × (x.count < x.number)
+            × (is_read self.now reference.now.node receiving x ≡ true)) }
+        ensures sound { IsSound self.now }
+    {
+        let footing = footing_at(&self.footings, reference.node);
+        match only_table(&self.tables) {
+            Some(table) if asks_for(footing, receiving, table.number) => Some(table),
+            _ => None,
+        }
+    }
+
+    /// Where the item of a table's count stands under the greatest counts.
+    #[inline(always)]
+    fn greatest_item(&self, table: Table) -> Found
+        requires table { IsIn table (tables_of self.now) }
+        ensures { place_of (times (greatest_counts self.now)) table.count self.now 0 0 [] ≡ Some result }
+    {
+        let spot = spot_at(self.counts.spots(), table.count);
+        Found {
+            offset: spot.offset,
+            length: spot.length,
+            within: true,
+        }
+    }
+
+    /// The count of a lone table: the one that is kept, or else what the bytes say, which is one read more and is kept then.
+    ///
+    /// # Errors
+    ///
+    /// The count gives no number from its table's least to its greatest one, or ends past the bytes. What is kept is as it was then.
+    #[inline(always)]
+    fn keep_lone(
+        &self,
+        table: Table,
+        bytes: &[u8],
+        kept: &mut [Option<StoredCount>],
+        range: &mut KeptRange,
+        reads: &mut u64,
+    ) -> Result<u32, CountFault>
+        requires lone { tables_of self.now ≡ table ∷ [] }
+        requires before { table.count < table.number }
+        requires kept { AreKeptOf self.now bytes.now kept.old }
+        requires as_many { length kept.old ≡ 1 }
+        requires within { LieWithin range.old kept.old }
+        ensures read { (n : ℕ) × IsReadOne self.now bytes.now table (first_kept (numbers_of kept.old))
+            (greatest_counts self.now) result n
+            × (reads.new ≡ min (reads.old + n) most_reads) }
+        ensures same { OnErr result (kept.new ≡ kept.old) }
+        ensures kept { IfOk result (λ v. numbers_of kept.new ≡ Some v ∷ []) }
+        ensures within { LieWithin range.new kept.new }
+        ensures keeps { OnOk result (AreKeptOf self.now bytes.now kept.new) }
+    {
+        // For `read`: how many there were is a count of 64 bits.
+        let _before = *reads;
+        if let Some(stored) = kept[0] {
+            return Ok(stored.number);
+        }
+        *reads = reads.saturating_add(1);
+        let found = self.greatest_item(table);
+        let number = match self.count_found(table, found, bytes) {
+            Ok(number) => number,
+            Err(fault) => return Err(fault),
+        };
+        let place = Place {
+            offset: found.offset,
+            length: found.length,
+        };
+        kept[0] = Some(StoredCount { number, place });
+        *range = range_at(place);
+        Ok(number)
+    }
+
+    /// Lets the counts be what a reference needs that reads the count of a lone table: this count, which is kept or else is read and kept then. The
+    /// sums are those of the counts then, and the reach goes past all tables.
+    ///
+    /// # Errors
+    ///
+    /// The count is read and gives no number within its table's bounds, or ends past the bytes. What is kept is as it was then.
+    #[inline(always)]
+    pub(crate) fn read_lone(
+        &self,
+        reference: &Ref,
+        receiving: bool,
+        table: Table,
+        bytes: &[u8],
+        kept: &mut [Option<StoredCount>],
+        range: &mut KeptRange,
+        counts: &mut [u32],
+        sums: &mut [u32],
+        reach: &mut usize,
+        reads: &mut u64,
+    ) -> Result<(), CountFault>
+        requires refers { Refers reference.now.node reference.now.subscripts.items self.now }
+        requires lone { tables_of self.now ≡ table ∷ [] }
+        requires before { table.count < table.number }
+        requires read { is_read self.now reference.now.node receiving table ≡ true }
+        requires sound { IsSound self.now }
+        requires kept { AreKeptOf self.now bytes.now kept.old }
+        requires as_many { length kept.old ≡ length (tables_of self.now) }
+        requires counts { length counts.old ≡ entries_in self.now }
+        requires sums { length sums.old ≡ entries_in self.now + 1 }
+        requires within { LieWithin range.old kept.old }
+        ensures err { IfErr result
+            (λ e. NeededOf self.now reference.now.node receiving bytes.now (Err e)) }
+        ensures same { OnErr result (kept.new ≡ kept.old) }
+        ensures came { OnOk result ((c : List ℕ)
+            × NeededOf self.now reference.now.node receiving bytes.now (Ok c)
+            × StandsFor self.now reference.now.node counts.new c
+            × (numbers_of kept.new
+            ≡ kept_after (is_read self.now reference.now.node receiving) c (tables_of self.now)
+            (numbers_of kept.old))) }
+        ensures sums { OnOk result (take (grow_in self.now + 1) sums.new ≡ sums_of self.now counts.new) }
+        ensures reach { ReachIn self.now reach.new counts.new sums.new kept.new }
+        ensures within { LieWithin range.new kept.new }
+        ensures keeps { OnOk result (AreKeptOf self.now bytes.now kept.new) }
+        ensures reads { (c : Result (List ℕ) CountFault) × (n : ℕ)
+            × TakenAnew self.now bytes.now (is_read self.now reference.now.node receiving)
+            (tables_of self.now) (numbers_of kept.old) (greatest_counts self.now) c n
+            × (reads.new ≡ min (reads.old + n) most_reads) }
+    {
+        // For `err` and `came`: the counts that are read are those that the reference needs, and counts that agree on them give it one place.
+        needs_are_read();
+        one_place();
+        *reach = 0;
+        let number = match self.keep_lone(table, bytes, kept, range, reads) {
+            Ok(number) => number,
+            Err(fault) => return Err(fault),
+        };
+        counts[table.number] = number;
+        self.put_sums(counts, sums);
+        *reach = usize::MAX;
+        Ok(())
+    }
+}
