@@ -8,7 +8,7 @@ ghost use Rattle.cob_stream.specs.Output.{IsOutputOf};
 ghost use Rattle.cob_convert_record.specs.Becoming.{IsCountStop};
 ghost use Rattle.cob_convert_record.specs.Conversion.{IsImage};
 
-use crate::lengths::{judge_kept, kept_output_length, output_length};
+use crate::lengths::{judge_kept, kept_output_length};
 use crate::rejection::Rejection;
 use crate::room::Room;
 use cob_codec::Reading;
@@ -295,9 +295,8 @@ impl Conversion {
         ensures stops { IfErr result (λ stop. StopsAt self.now input.now stop) }
         ensures room { room.new ≡ room.old }
     {
-        self.begin(output);
-        self.moves.apply(&self.input, &self.output, input, output, &mut room.scratch)?;
-        output_length(&self.output, self.out_form, output, &mut room.out_counts)
+        room.scratch.forget_input();
+        self.convert_kept(input, output, &mut room.scratch)
     }
 
     /// Makes the output record of an input record, as [`Conversion::convert`] does. What the room keeps of the input's counts is that of this input, and
