@@ -34,6 +34,10 @@ in_length c = greatest_length c.records.input
 abbrev pub out_length : Conversion → ℕ
 out_length c = greatest_length c.records.output
 
+-- this is a storage of the record before the first move, of the greatest length
+abbrev pub IsImage : Forest Resolved → List ℕ → Type 0
+IsImage tree image = IsInitial tree image × (length image ≡ greatest_length tree)
+
 -- the record has a storage before the first move, of the greatest length
 abbrev pub HasImage : Forest Resolved → Type 0
 HasImage tree = (image : List ℕ) × IsInitial tree image × (length image ≡ greatest_length tree)

@@ -6,8 +6,9 @@ ghost use Rattle.cob_move_apply.specs.cob_layout.Storage.{greatest_length};
 ghost use Rattle.cob_move_apply.specs.cob_layout.Standing.{IsRoomFor};
 ghost use Rattle.cob_stream.specs.Output.{IsOutputOf};
 ghost use Rattle.cob_convert_record.specs.Becoming.{IsCountStop};
+ghost use Rattle.cob_convert_record.specs.Conversion.{IsImage};
 
-use crate::lengths::{judge_kept, kept_output_length, output_length};
+use crate::lengths::{judge_kept, kept_output_length};
 use crate::rejection::Rejection;
 use crate::room::Room;
 use cob_codec::Reading;
@@ -59,6 +60,20 @@ impl Model for Conversion {
         × HasBlockSize c.out_form };
 }
 
+/// The storage that each output record of this layout begins from. The book is the layout's.
+///
+/// # Errors
+///
+/// Where no memory is left.
+pub fn image_of(alloc: Global, layout: &Layout, book: &Book) -> Result<Vec<u8>, AllocError>
+    requires book { book.now ≡ layout.now }
+    ensures { IfOk result (λ image. IsImage layout.now image.items) }
+{
+    let mut image = vec![in alloc; 0u8; usize::from(layout.greatest())]?;
+    initial(layout, book, image.as_mut_slice());
+    Ok(image)
+}
+
 impl Conversion {
     ghost use Rattle.cob_records.specs.Forms.{HasBlockSize};
     ghost use Rattle.cob_records.specs.Frame.{IsRecord};
@@ -78,37 +93,30 @@ impl Conversion {
     ghost use Rattle.cob_convert_record.specs.Rejecting.{BecomesWhole, IsRejectedFor};
     ghost use Rattle.cob_convert_record.specs.Rooms.{capacity_for};
 
-    /// The conversion of records of these forms and layouts by these moves. The book is that of the output record.
-    ///
-    /// # Errors
-    ///
-    /// Where no memory is left.
+    /// The conversion of records of these forms and layouts by these moves, whose output records begin from this storage: [`image_of`] makes it.
     pub fn new(
-        alloc: Global,
         in_form: Form,
         out_form: Form,
         input: Layout,
         output: Layout,
-        out_book: &Book,
+        image: Vec<u8>,
         moves: Moves,
-    ) -> Result<Conversion, AllocError>
+    ) -> Conversion
         requires in_block { HasBlockSize in_form }
         requires out_block { HasBlockSize out_form }
         requires moves { ArePrepared (record { input = input; output = output }) moves }
-        requires book { out_book.now ≡ output }
-        ensures { IfOk result (λ made. made ≡ conversion_for in_form out_form
-            (record { input = input; output = output }) moves) }
+        requires image { IsImage output image.items }
+        ensures { result ≡ conversion_for in_form out_form
+            (record { input = input; output = output }) moves }
     {
-        let mut image = vec![in alloc; 0u8; usize::from(output.greatest())]?;
-        initial(&output, out_book, image.as_mut_slice());
-        Ok(Conversion {
+        Conversion {
             in_form,
             out_form,
             input,
             output,
             moves,
             image,
-        })
+        }
     }
 
     /// The same conversion, with the binary senders of its moves read so. It takes no memory.
@@ -287,9 +295,8 @@ impl Conversion {
         ensures stops { IfErr result (λ stop. StopsAt self.now input.now stop) }
         ensures room { room.new ≡ room.old }
     {
-        self.begin(output);
-        self.moves.apply(&self.input, &self.output, input, output, &mut room.scratch)?;
-        output_length(&self.output, self.out_form, output, &mut room.out_counts)
+        room.scratch.forget_input();
+        self.convert_kept(input, output, &mut room.scratch)
     }
 
     /// Makes the output record of an input record, as [`Conversion::convert`] does. What the room keeps of the input's counts is that of this input, and

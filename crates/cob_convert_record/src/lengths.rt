@@ -5,7 +5,7 @@ ghost use Rattle.cob_layout_places.specs.declared.operands.Side.TheVariants.{Out
 ghost use Rattle.cob_limits.specs.Limits.{longest_record};
 ghost use Rattle.cob_move_apply.specs.Located.{stop_at};
 ghost use Rattle.cob_move_apply.specs.cob_layout.Kept.{AreKeptOf};
-ghost use Rattle.cob_move_apply.specs.cob_layout.Standing.{IsRoomFor, room_for};
+ghost use Rattle.cob_move_apply.specs.cob_layout.Standing.{room_for};
 ghost use Rattle.cob_move_apply.specs.cob_layout.Storage.{greatest_length};
 ghost use Rattle.cob_move_apply.specs.declared.stop.StopCause.TheVariants.{Count};
 ghost use Rattle.cob_records.specs.Frame.{IsRecord};
@@ -15,9 +15,9 @@ ghost use Rattle.cob_stream.specs.Sizes.{IsSized};
 ghost use Rattle.cob_stream.specs.Whole.{IsMisfitReason};
 ghost use Rattle.cob_convert_record.specs.Becoming.{IsCountStop};
 
-use cob_move_apply::{CountFault, Counts, Layout, Scratch, Side, Stop, StopCause};
+use cob_move_apply::{CountFault, Layout, Scratch, Side, Stop, StopCause};
 use cob_records::Form;
-use cob_stream::{Reason, is_always_whole, measure_by, written_by, written_length};
+use cob_stream::{Reason, is_always_whole, measure_by, written_by};
 
 /// The stop of a conversion at a count of the output that isn't valid.
 fn count_stop(fault: CountFault) -> Stop
@@ -30,34 +30,7 @@ fn count_stop(fault: CountFault) -> Stop
     }
 }
 
-/// How many bytes of the output record's storage are written.
-///
-/// # Errors
-///
-/// The first count of the storage that isn't valid.
-#[inline(always)]
-pub(crate) fn output_length(
-    layout: &Layout,
-    form: Form,
-    storage: &[u8],
-    counts: &mut Counts,
-) -> Result<usize, Stop>
-    requires storage { length storage.now ≡ greatest_length layout.now }
-    requires room { IsRoomFor layout.now counts.old }
-    ensures size { IfOk result
-        (λ made. (0 < made) × (made ≤ length storage.now) × (made ≤ longest_record)) }
-    ensures written { IfOk result
-        (λ made. IsOutputOf form layout.now storage.now (take made storage.now)) }
-    ensures stops { IfErr result (λ stop. IsCountStop layout.now storage.now stop) }
-    ensures room { IsRoomFor layout.now counts.new }
-{
-    match written_length(layout, form, storage, counts) {
-        Ok(made) => Ok(made),
-        Err(fault) => Err(count_stop(fault)),
-    }
-}
-
-/// How many bytes of the output record's storage are written, as [`output_length`] says it. What the room keeps of its counts is not read again.
+/// How many bytes of the output record's storage are written. What the room keeps of its counts is not read again.
 ///
 /// # Errors
 ///

@@ -4,7 +4,8 @@
 //! A [`Conversion`] has the forms in which records come and go, the layouts of both records, the moves between them and the storage that each
 //! output record begins from. What is promised:
 //!
-//! - [`Conversion::new`] keeps what it is given (its clause), and [`Conversion::moves`] are moves between its records (`between`), of which the
+//! - [`image_of`] makes the storage that each output record begins from (its clause, by `IsImage` of specs/Conversion.antt), so that the book isn't needed
+//!   any more. [`Conversion::new`] keeps what it is given (its clause), and [`Conversion::moves`] are moves between its records (`between`), of which the
 //!   output record has a storage before the first move (`image`).
 //! - [`Conversion::next_input`] reads the next record that comes in and judges it by the input layout (`reads`, `judged`, `reason`, `cause`), as
 //!   `cob_stream` says it, in the form in which records come.
@@ -33,7 +34,7 @@ mod room;
 
 pub use cob_move_apply::{Book, Layout, Moves, Side, Stop, StopCause};
 pub use cob_stream::{Cause, MeasureFault, Reason};
-pub use conversion::Conversion;
+pub use conversion::{Conversion, image_of};
 pub use laws::conversions_are_decided;
 pub use rejection::Rejection;
 pub use room::Room;

@@ -13,7 +13,6 @@ use std::marker::Model;
 pub struct Room {
     pub(crate) scratch: Scratch,
     pub(crate) in_counts: Counts,
-    pub(crate) out_counts: Counts,
 }
 
 impl Model for Room {
@@ -22,7 +21,7 @@ impl Model for Room {
 
     ghost Value = { Capacity };
 
-    ghost view = { λ r. record { moves = r.scratch.room; inputs = room_in r.in_counts; outputs = room_in r.out_counts } };
+    ghost view = { λ r. record { moves = r.scratch.room; inputs = room_in r.in_counts } };
 }
 
 impl Room {
@@ -37,11 +36,6 @@ impl Room {
         let (input, output) = conversion.layouts();
         let scratch = Scratch::new(alloc, input, output)?;
         let in_counts = input.new_counts(alloc)?;
-        let out_counts = output.new_counts(alloc)?;
-        Ok(Room {
-            scratch,
-            in_counts,
-            out_counts,
-        })
+        Ok(Room { scratch, in_counts })
     }
 }

@@ -61,13 +61,14 @@ fn make_part(
         → MovesSpend (records layouts.now) (m ∷ []) input.now output.old result output.new
         space.old.output space.new.output }
 {
-    let own = &bases[part.base..];
-    match &given[part.statement] {
+    let own = &bases[part.base as usize..];
+    let first = part.first as usize;
+    let count = part.count as usize;
+    match &given[part.statement as usize] {
         StatementMoves::Single(single) => {
-            let end = part.first + part.count;
             let receivers = PlacedReceivers {
-                entries: &single.receivers.as_slice()[part.first..end],
-                bases: &own[1..1 + part.count],
+                entries: &single.receivers.as_slice()[first..first + count],
+                bases: &own[1..1 + count],
             };
             make_move(
                 &single.sender,
@@ -80,8 +81,8 @@ fn make_part(
             )
         }
         StatementMoves::Pairs(group) => {
-            let pair = &group.pairs[part.first];
-            let both = &own[..1 + part.count];
+            let pair = &group.pairs[first];
+            let both = &own[..1 + count];
             make_pair_move(group, pair, both, layouts, input, output, space)
         }
     }

@@ -36,7 +36,7 @@ use crate::pairs::entry_below;
 use crate::preparation::push_bases;
 use crate::ready::{ReadyConstant, constant_of, located_of, pictured_of, prepared_of};
 use crate::step::{
-    ConstantMove, LocatedMove, MovePlaces, Part, PicturedMove, Plan, Step, both_copies,
+    ConstantMove, LocatedMove, MovePlaces, PicturedMove, Plan, Step, both_copies, part_of,
     prepared_step,
 };
 use cob_layout::{Layout, Ref, places_lie_in_storage, records_are_sound, tables};
@@ -208,12 +208,8 @@ fn push_part(
         both.output,
         &mut plan.bases,
     )?;
-    plan.steps.push(Step::Part(Part {
-        statement: part.statement,
-        first: part.first,
-        count: part.receivers.len(),
-        base,
-    }))?;
+    let whole = part_of(part.statement, part.first, part.receivers.len(), base)?;
+    plan.steps.push(Step::Part(whole))?;
     Ok(())
 }
 
@@ -330,12 +326,7 @@ fn push_pictured(
         both.output,
         &mut plan.bases,
     )?;
-    let whole = Part {
-        statement: part.statement,
-        first: part.first,
-        count: part.receivers.len(),
-        base,
-    };
+    let whole = part_of(part.statement, part.first, part.receivers.len(), base)?;
     plan.steps.push(Step::Pictured(one, whole))?;
     Ok(())
 }

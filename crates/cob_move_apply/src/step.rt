@@ -1,6 +1,6 @@
 //! Steps: what is carried out in the place of moves.
 
-ghost use Rattle.std.specs.Prelude.{◌≡◌, ◌+◌, ◌≤◌, false, length, min, IfNone, IfSome, List, None};
+ghost use Rattle.std.specs.Prelude.{◌≡◌, ◌+◌, ◌≤◌, false, length, min, IfNone, IfSome, List, None, IfOk};
 ghost use Rattle.cob_codec.specs.declared.reading.Reading.{Reading};
 ghost use Rattle.cob_limits.specs.Limits.{longest_record};
 ghost use Rattle.cob_layout.specs.Fields.{field_of, with_field};
@@ -17,18 +17,19 @@ use cob_layout::{Place, Ref, field};
 use cob_move_prepared::{
     CharactersStep, ConstantStep, MoveStep, MoveSteps, PicturedStep, PicturedSteps, copy_all,
 };
+use std::alloc::AllocError;
 
 /// A part of the moves of a statement: its one move with so many of the receivers, or the move of one pair.
 #[derive(Clone, Copy, Debug)]
 pub(crate) struct Part {
     /// The number of the statement.
-    pub(crate) statement: usize,
+    pub(crate) statement: u32,
     /// The number of the first of these receivers, or of the pair.
-    pub(crate) first: usize,
+    pub(crate) first: u32,
     /// How many receivers these are.
-    pub(crate) count: usize,
+    pub(crate) count: u32,
     /// Where the bases of the sender and of these receivers begin.
-    pub(crate) base: usize,
+    pub(crate) base: u32,
 }
 
 /// Where a move takes bytes from in the input record, and where it puts bytes in the output record.
@@ -149,6 +150,42 @@ pub(crate) struct Plan {
     pub(crate) located: Vec<LocatedMove>,
 }
 
+/// A number of 32 bits.
+///
+/// # Errors
+///
+/// Where it doesn't fit: no memory has room for as many statements, receivers or bases.
+fn in_32_bits(number: usize) -> Result<u32, AllocError>
+    ensures { IfOk result (λ same. same ≡ number) }
+{
+    match u32::try_from(number) {
+        Ok(same) => Ok(same),
+        Err(_) => Err(AllocError),
+    }
+}
+
+/// The part of these numbers.
+///
+/// # Errors
+///
+/// Where one of them doesn't fit 32 bits: no memory has room for as many.
+pub(crate) fn part_of(
+    statement: usize,
+    first: usize,
+    count: usize,
+    base: usize,
+) -> Result<Part, AllocError>
+    ensures { IfOk result (λ part. part
+        ≡ record { statement = statement; first = first; count = count; base = base }) }
+{
+    Ok(Part {
+        statement: in_32_bits(statement)?,
+        first: in_32_bits(first)?,
+        count: in_32_bits(count)?,
+        base: in_32_bits(base)?,
+    })
+}
+
 /// The place of both, where the second begins where the first ends.
 fn both_places(front: Place, next: Place) -> Option<Place>
     requires short { next.offset + next.length ≤ longest_record }
@@ -213,7 +250,7 @@ fn step_count(step: Step) -> usize
     ensures { result ≡ step_count step }
 {
     match step {
-        Step::Part(part) => part.count,
+        Step::Part(part) => part.count as usize,
         Step::Number(_) | Step::Wide(_) | Step::Binary(_) | Step::Edited(_) => 1,
         Step::Characters(_) | Step::Pictured(_, _) | Step::Constant(_) => 1,
         Step::Located(_) | Step::Copy(_) => 1,
