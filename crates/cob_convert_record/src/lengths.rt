@@ -17,7 +17,7 @@ ghost use Rattle.cob_convert_record.specs.Becoming.{IsCountStop};
 
 use cob_move_apply::{CountFault, Layout, Scratch, Side, Stop, StopCause};
 use cob_records::Form;
-use cob_stream::{Reason, is_always_whole, measure_by, written_by};
+use cob_stream::{Reason, is_always_whole, length_in_form, measure_by};
 
 /// The stop of a conversion at a count of the output that isn't valid.
 fn count_stop(fault: CountFault) -> Stop
@@ -57,7 +57,7 @@ pub(crate) fn kept_output_length(
         return Ok(usize::from(greatest));
     }
     match scratch.output_length(layout, storage) {
-        Ok(current) => Ok(written_by(form, storage, current)),
+        Ok(current) => Ok(length_in_form(form, storage, current)),
         Err(fault) => Err(count_stop(fault)),
     }
 }
@@ -67,6 +67,7 @@ pub(crate) fn kept_output_length(
 /// # Errors
 ///
 /// A count of the record that isn't valid, or a length other than that which its counts give.
+#[inline(always)]
 fn judge_current(layout: &Layout, input: &[u8], scratch: &mut Scratch) -> Result<(), Reason>
     requires room { scratch.old.room.inputs ≡ room_for layout.now }
     ensures sized { OnOk result (IsSized Variable layout.now input.now) }

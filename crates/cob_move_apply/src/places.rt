@@ -140,7 +140,10 @@ fn place_if_there(
         .layout
         .find(entry, receiving, stored.bytes, kept, read)
     {
-        Ok(place) => Some(place),
+        Ok(place) => Some(Place {
+            offset: place.offset,
+            length: place.length,
+        }),
         Err(FindFault::Subscript(_)) => None,
         Err(FindFault::Count(_)) => {
             survey.reads = told;
@@ -171,7 +174,10 @@ pub(crate) fn locate_if_there(
     ensures spends { IsSpent stored.now.layout.now 0 survey.old survey.new }
 {
     match placed.basis {
-        Basis::Fixed(place) => Some(place),
+        Basis::Fixed(place) => Some(Place {
+            offset: place.offset,
+            length: place.length,
+        }),
         Basis::Counted => place_if_there(stored, placed, receiving, survey),
     }
 }

@@ -72,6 +72,7 @@ impl Scratch {
     /// # Errors
     ///
     /// The first count that gives no number within its table's bounds, or that ends past the bytes.
+    #[inline(always)]
     pub fn input_length(&mut self, layout: &Layout, bytes: &[u8]) -> Result<u16, CountFault>
         requires room { self.old.room.inputs ≡ room_for layout.now }
         ensures ok { IfOk result (λ made. (c : List ℕ) × CountsOf layout.now bytes.now (Ok c)
@@ -94,6 +95,7 @@ impl Scratch {
     /// # Errors
     ///
     /// The first count that gives no number within its table's bounds, or that ends past the bytes.
+    #[inline(always)]
     pub fn output_length(&mut self, layout: &Layout, bytes: &[u8]) -> Result<u16, CountFault>
         requires room { self.old.room.outputs ≡ room_for layout.now }
         requires kept { AreKeptOf layout.now bytes.now self.old.kept_output }

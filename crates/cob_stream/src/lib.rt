@@ -18,7 +18,7 @@
 //!   one that was read so (`sized`, `misfit`): who sets a record aside that isn't one of its layout has it whole.
 //! - [`written_length`] says how many bytes of an output storage are written: all of them in form f, its current part in forms v and b, where in
 //!   every form every count is valid (`written`, by `IsOutputOf` of specs/Output.antt); else it names the first that isn't (`faulty`).
-//!   [`written_by`] says it of a storage whose counts somebody else took, and [`is_always_whole`] where none has to be taken.
+//!   [`length_in_form`] says it of a storage whose counts somebody else took, and [`is_always_whole`] where none has to be taken.
 //! - [`write_record`] writes a record in its frame, or in form b gathers it, and first writes the open block where the frame does not fit into it;
 //!   [`write_pending`] writes the open block. Both count the bytes that the sink took (`puts`, by `PutsCounted`); a write failed or took nothing
 //!   exactly where that is the answer (`cause`, `errors`).
@@ -46,4 +46,4 @@ pub use laws::{records_are_judged_once, sized_are_storages};
 pub use misfit::{MeasureFault, is_fitting, measure, measure_by};
 pub use reading::read_record;
 pub use whole::{judge, next_whole};
-pub use writing::{is_always_whole, write_pending, write_record, written_by, written_length};
+pub use writing::{is_always_whole, length_in_form, write_pending, write_record, written_length};

@@ -31,7 +31,7 @@ pub fn is_always_whole(layout: &Layout, form: Form) -> bool
 /// How many bytes of an output storage are written, where its counts are all valid and give this length: all in form f, and in forms v and b its
 /// current part.
 #[inline(always)]
-pub fn written_by(form: Form, storage: &[u8], current: u16) -> usize
+pub fn length_in_form(form: Form, storage: &[u8], current: u16) -> usize
     ensures size { 0 < current → current ≤ length storage.now
         → (0 < result) × (result ≤ length storage.now) }
     ensures written { (tree : Forest Resolved) → GivesLength tree storage.now (Ok current)
@@ -70,7 +70,7 @@ pub fn written_length(
         return Ok(usize::from(greatest));
     }
     let current = layout.current_length(storage, counts)?;
-    Ok(written_by(form, storage, current))
+    Ok(length_in_form(form, storage, current))
 }
 
 /// How many bytes the sink took, where so many were to be written and this was the answer.
