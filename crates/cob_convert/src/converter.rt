@@ -3,7 +3,7 @@ ghost use Rattle.cob_convert_record.specs.cob_move_apply.Prepared.{most_moves_to
 ghost use Rattle.cob_records.specs.Device.{counted, Told};
 ghost use Rattle.cob_move.specs.Paragraphs.{IsParagraphOf};
 ghost use Rattle.cob_limits.specs.Limits.{longest_record};
-ghost use Rattle.cob_convert_record.specs.Conversion.{conversion_by, in_length, out_length, Conversion as Meant};
+ghost use Rattle.cob_convert_record.specs.Conversion.{conversion_by, in_length, out_length, Conversion as Meant, IsImage};
 ghost use Rattle.cob_layout_places.specs.Moves.{Move};
 ghost use Rattle.cob_convert.specs.declared.fault.PrepareFault.TheVariants.{Memory};
 ghost use Rattle.cob_convert.specs.Unique.{HasBytes};
@@ -16,7 +16,7 @@ use crate::fault::PrepareFault;
 use crate::notes::Notes;
 use crate::run::run_over;
 use cob_codec::Reading;
-use cob_convert_record::{Conversion, Room};
+use cob_convert_record::{Conversion, Room, image_of};
 use cob_copybook::Book;
 use cob_move::Paragraph;
 use cob_records::{Form, Outlet, Sink, Source};
@@ -68,7 +68,21 @@ fn layout_of(alloc: Global, book: Book) -> Result<Layout, AllocError>
     Layout::of(alloc, &book)
 }
 
-/// The conversion that a paragraph says between the records of two books.
+/// The layout of an output record and the storage that it begins from, whose book is let go.
+///
+/// # Errors
+///
+/// Where no memory is left.
+fn layout_and_image(alloc: Global, book: Book) -> Result<(Layout, Vec<u8>), AllocError>
+    ensures layout { IfOk result (λ made. made.0 ≡ book) }
+    ensures image { IfOk result (λ made. IsImage made.0 made.1.items) }
+{
+    let layout = Layout::of(alloc, &book)?;
+    let image = image_of(alloc, &layout, &book)?;
+    Ok((layout, image))
+}
+
+/// The conversion that a paragraph says between the records of two books. Both are let go before the paragraph is read.
 ///
 /// # Errors
 ///
@@ -79,33 +93,30 @@ fn conversion_of(
     in_form: Form,
     out_form: Form,
     input: Book,
-    output: &Book,
+    output: Book,
     moves: &[u8],
 ) -> Result<Conversion, PrepareFault>
     requires in_block { HasBlockSize in_form }
     requires out_block { HasBlockSize out_form }
     ensures forms { IfOk result (λ made. (made.in_form ≡ in_form) × (made.out_form ≡ out_form)) }
     ensures input { IfOk result (λ made. made.records.input ≡ input) }
-    ensures output { IfOk result (λ made. made.records.output ≡ output.now) }
-    ensures paragraph { IfOk result
-        (λ made. IsParagraphOf moves.now input output.now made.moves) }
-    ensures only { (ms : List Move) → IsParagraphOf moves.now input output.now ms
+    ensures output { IfOk result (λ made. made.records.output ≡ output) }
+    ensures paragraph { IfOk result (λ made. IsParagraphOf moves.now input output made.moves) }
+    ensures only { (ms : List Move) → IsParagraphOf moves.now input output ms
         → IfErr result (λ fault. fault ≡ Memory) }
-    ensures refused { IfErr result
-        (λ fault. IsMovesRefusal fault moves.now input output.now) }
+    ensures refused { IfErr result (λ fault. IsMovesRefusal fault moves.now input output) }
 {
     let in_layout = layout_of(alloc, input)?;
-    let out_layout = Layout::of(alloc, output)?;
+    let (out_layout, image) = layout_and_image(alloc, output)?;
     let paragraph = Paragraph::read(alloc, &in_layout, &out_layout, moves)?;
     Ok(Conversion::new(
-        alloc,
         in_form,
         out_form,
         in_layout,
         out_layout,
-        output,
+        image,
         paragraph.into_moves(),
-    )?)
+    ))
 }
 
 /// Whether the blocks of this form, if there are blocks, have room for the frame of a record of the greatest length.
@@ -188,7 +199,7 @@ impl Converter {
     {
         let input = books::in_book(alloc, in_book)?;
         let output = books::out_book(alloc, out_book)?;
-        let conversion = conversion_of(alloc, in_form, out_form, input, &output, moves)?;
+        let conversion = conversion_of(alloc, in_form, out_form, input, output, moves)?;
         check_block(out_form, conversion.out_length())?;
         Ok(Converter::of(alloc, conversion)?)
     }

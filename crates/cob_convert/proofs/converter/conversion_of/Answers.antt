@@ -9,14 +9,14 @@ use Rattle.cob_convert.proofs.converter.conversion_of.Goals as goal
 pub returns-in_err-paragraph-clause-only : goal.returns-in_err-paragraph-clause-only
 returns-in_err-paragraph-clause-only c = λ ms is.
     let p = err_from_is_err_and c.from_residual-in_err-paragraph.result c.from_residual-in_err-paragraph.ensures.1 in
-    let between = paragraph_too c.args.moves.now _ _ _ _ ms c.in_ok-in_layout.ensures c.in_ok-out_layout.ensures is in
+    let between = paragraph_too c.args.moves.now _ _ _ _ ms c.in_ok-in_layout.ensures c.in_ok-out_layout.ensures.layout is in
     rw (p.1, p.2) (refused_memory c.in_err-paragraph.field-0.0 (c.in_err-paragraph.ensures.only ms between).1)
 
 pub returns-in_err-paragraph-clause-refused : goal.returns-in_err-paragraph-clause-refused
 returns-in_err-paragraph-clause-refused c =
     let p = err_from_is_err_and c.from_residual-in_err-paragraph.result c.from_residual-in_err-paragraph.ensures.1 in
-    rw (p.1, p.2) (paragraph_refused c.in_err-paragraph.field-0.0 c.args.moves.now c.args.input c.args.output.now
-    (refusal_too c.in_err-paragraph.field-0.0 c.args.moves.now _ _ _ _ c.in_ok-in_layout.ensures c.in_ok-out_layout.ensures c.in_err-paragraph.ensures.fault))
+    rw (p.1, p.2) (paragraph_refused c.in_err-paragraph.field-0.0 c.args.moves.now c.args.input c.args.output
+    (refusal_too c.in_err-paragraph.field-0.0 c.args.moves.now _ _ _ _ c.in_ok-in_layout.ensures c.in_ok-out_layout.ensures.layout c.in_err-paragraph.ensures.fault))
 
 pub new-requires-clause-moves : goal.new-requires-clause-moves
 new-requires-clause-moves c =
@@ -24,6 +24,6 @@ new-requires-clause-moves c =
 
 pub returns-clause-paragraph : goal.returns-clause-paragraph
 returns-clause-paragraph c =
-    subst (λ (made : Conversion). IsParagraphOf c.args.moves.now c.args.input c.args.output.now made.moves) (sym c.in_ok-new.ensures)
-    (subst (λ m. IsParagraphOf c.args.moves.now c.args.input c.args.output.now (moves_of (record { input = c.in_ok-in_layout.in_layout; output = c.in_ok-out_layout.out_layout }) m)) (sym c.into_moves.ensures)
-    (paragraph_too c.args.moves.now _ _ _ _ _ (sym c.in_ok-in_layout.ensures) (sym c.in_ok-out_layout.ensures) c.in_ok-paragraph.ensures.found))
+    subst (λ (made : Conversion). IsParagraphOf c.args.moves.now c.args.input c.args.output made.moves) (sym c.new.ensures)
+    (subst (λ m. IsParagraphOf c.args.moves.now c.args.input c.args.output (moves_of (record { input = c.in_ok-in_layout.in_layout; output = c.in_ok-out_layout.out_layout }) m)) (sym c.into_moves.ensures)
+    (paragraph_too c.args.moves.now _ _ _ _ _ (sym c.in_ok-in_layout.ensures) (sym c.in_ok-out_layout.ensures.layout) c.in_ok-paragraph.ensures.found))
