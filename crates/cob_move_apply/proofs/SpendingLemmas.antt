@@ -46,7 +46,6 @@ use Rattle.cob_move_apply.specs.declared.step.Step.{Step}
 use Rattle.cob_move_apply.specs.declared.step.Step.TheVariants as step
 use Rattle.cob_move_apply.specs.declared.stop.Stop.{Stop}
 use Rattle.cob_move_apply.specs.declared.survey.Survey.{Survey}
-use Rattle.cob_move_apply.specs.declared.workspace.Workspace.{Workspace}
 use Rattle.cob_move_apply.proofs.LocatedLemmas.{characters_at, characters_there, the_located}
 use Rattle.cob_move_apply.proofs.MetLemmas.{MetFrom, cut_met, met_all, met_more, met_one, met_stops, met_there, none_met, past_moves}
 use Rattle.cob_move_apply.proofs.OneLemmas.{stop_of}

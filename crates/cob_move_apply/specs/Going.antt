@@ -1,5 +1,5 @@
 -- Steps carried out one after another: what those that are left come to.
-use Rattle.std.specs.Prelude.{◌≡◌, ℕ, ◌+◌, ◌*◌, ◌≤◌, List, drop, length}
+use Rattle.std.specs.Prelude.{ℕ, ◌+◌, ◌*◌, ◌≤◌, List, drop, length}
 use Rattle.cob_codec.specs.declared.reading.Reading.{Reading}
 use Rattle.cob_layout_places.specs.declared.operands.StatementMoves.{StatementMoves}
 use Rattle.cob_layout_places.specs.Counts.{tables_of}

@@ -1,8 +1,8 @@
-use Rattle.std.proofs.Common.{◌∙◌, ◌∷◌, ℕ, List, arith, length, refl, subst, sym}
+use Rattle.std.proofs.Common.{◌∙◌, ◌∷◌, List, arith, refl, subst}
 use Rattle.std.proofs.lemmas.Result.{err_from_is_err_and}
 use Rattle.cob_layout_places.specs.Moves.{Records}
 use Rattle.cob_move_apply.specs.Going.{Left, SpentSteps}
-use Rattle.cob_move_apply.specs.Steps.{IsStep, Support, support_of}
+use Rattle.cob_move_apply.specs.Steps.{Support, support_of}
 use Rattle.cob_move_apply.specs.declared.step.Step.{Step}
 use Rattle.cob_move_apply.specs.Surveyed.{records}
 use Rattle.cob_move_apply.proofs.SpendingLemmas.{spent_steps_all, spent_steps_next, spent_steps_stop}

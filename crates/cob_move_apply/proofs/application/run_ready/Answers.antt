@@ -1,5 +1,4 @@
-use Rattle.std.proofs.Common.{◌∙◌, ◌∷◌, ℕ, List, ap, arith, length, refl, subst, sym}
-use Rattle.cob_layout_places.specs.declared.operands.StatementMoves.{StatementMoves}
+use Rattle.std.proofs.Common.{◌∙◌, ◌∷◌, List, ap, arith, length, refl, subst}
 use Rattle.cob_layout_places.specs.Moves.{Records}
 use Rattle.cob_move_apply.specs.Going.{Left, SpentSteps}
 use Rattle.cob_move_apply.specs.Steps.{Support, support_of}
