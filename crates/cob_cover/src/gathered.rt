@@ -31,7 +31,7 @@ fn greatest_place(layout: &Layout, reference: &Ref) -> Option<Place>
     ensures none { IfNone result ((p : SeenPlace)
         → HasPlace layout.now (occurrence_by reference.now) p → ⊥) }
 {
-    answered(layout.place(reference, layout.greatest_counts()))
+    answered(layout.place_in(reference, layout.greatest_counts()))
 }
 
 /// Where an occurrence stands in a record in which each table has its greatest number of elements.

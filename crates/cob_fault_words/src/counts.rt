@@ -23,10 +23,12 @@ fn place_in(layout: &Layout, number: usize, bytes: &[u8], counts: &mut Counts) -
     ensures { IsRoomFor layout.now counts.new }
 {
     let reference = layout.reference(number, &[])?;
-    if layout.needed(&reference, false, bytes, counts).is_err() {
-        return None;
-    }
-    layout.place(&reference, counts).ok()
+    let mut reads = 0;
+    // What is kept may be of another storage.
+    counts.forget();
+    layout
+        .find(&reference, false, bytes, counts, &mut reads)
+        .ok()
 }
 
 /// The table whose count stands at this offset of a storage, and the first of several.

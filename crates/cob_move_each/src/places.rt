@@ -6,9 +6,9 @@ ghost use Rattle.cob_layout.specs.Storage.{greatest_length};
 ghost use Rattle.cob_layout.specs.Standing.{IsRoomFor};
 ghost use Rattle.cob_layout_places.specs.Moves.{IsOperand, operand_in};
 ghost use Rattle.cob_move_receive.specs.Sent.{Occupies};
-ghost use Rattle.cob_move_apply.specs.Located.{Located};
+ghost use Rattle.cob_move_apply.specs.Located.{Located, stop_of};
 
-use cob_layout::{Counts, Kind, Layout, Place, Ref};
+use cob_layout::{Counts, FindFault, Kind, Layout, Place, Ref};
 use cob_layout_places::Side;
 use cob_move_apply::{Stop, StopCause};
 
@@ -18,6 +18,24 @@ pub(crate) struct Stored<'a> {
     pub(crate) side: Side,
     pub(crate) layout: &'a Layout,
     pub(crate) bytes: &'a [u8],
+}
+
+/// The stop where an entry stands nowhere: at the item of a count that isn't valid, or at an element past its table's count.
+fn stop_of(side: Side, fault: FindFault) -> Stop
+    ensures { result ≡ stop_of side fault }
+{
+    match fault {
+        FindFault::Count(count) => Stop {
+            side,
+            offset: count.offset,
+            cause: StopCause::Count,
+        },
+        FindFault::Subscript(element) => Stop {
+            side,
+            offset: element.offset,
+            cause: StopCause::Subscript,
+        },
+    }
 }
 
 /// What an entry of the record of a layout describes.
@@ -53,19 +71,11 @@ pub(crate) fn locate(
     ensures room { IsRoomFor stored.now.layout.now counts.new }
 {
     let layout = stored.layout;
-    if let Err(fault) = layout.needed(entry, receiving, stored.bytes, counts) {
-        return Err(Stop {
-            side: stored.side,
-            offset: fault.offset,
-            cause: StopCause::Count,
-        });
-    }
-    match layout.place(entry, counts) {
+    let mut reads = 0;
+    // What is kept may be of another storage, or of other bytes of this one.
+    counts.forget();
+    match layout.find(entry, receiving, stored.bytes, counts, &mut reads) {
         Ok(place) => Ok(place),
-        Err(fault) => Err(Stop {
-            side: stored.side,
-            offset: fault.offset,
-            cause: StopCause::Subscript,
-        }),
+        Err(fault) => Err(stop_of(stored.side, fault)),
     }
 }
