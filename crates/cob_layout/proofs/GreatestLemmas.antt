@@ -156,10 +156,16 @@ find_same c d number (AnEntry e children more) at area subscripts h =
     (also (is_there table (k j) subscripts) (find_same c d number children (start + skip * length_by_kind e.kind (b j)) (start + skip * length_by_kind e.kind (b j)) (later table subscripts) h.1 j)))
     (find_same c d number more (at + own_length e.redefines (k j * length_by_kind e.kind (b j))) start subscripts h.2 j)
 
+-- under its greatest counts each entry of a record occurs as often as at most
+pub are_most : (t : Forest Resolved) (counts : List ℕ) → AreNumbered 0 t → counts ≡ greatest_counts t → AreSame (times counts) greatest_number t
+are_most t counts h e =
+    let is : in_order t ++ [] ≡ counts = append-nil (in_order t) ∙ sym (greatest_is t h) ∙ sym e in
+    subst (λ (c : List ℕ). AreSame (times c) greatest_number t) is (all_most t [] [] 0 refl h)
+
+-- and so its lengths and places are the greatest ones
 pub are_greatest : (t : Forest Resolved) (counts : List ℕ) → AreNumbered 0 t → counts ≡ greatest_counts t → AreGreatest t counts
 are_greatest t counts h e =
-    let is : in_order t ++ [] ≡ counts = append-nil (in_order t) ∙ sym (greatest_is t h) ∙ sym e in
-    let all = subst (λ (c : List ℕ). AreSame (times c) greatest_number t) is (all_most t [] [] 0 refl h) in
+    let all = are_most t counts h e in
     record {
       length = sum_same (times counts) greatest_number t all;
       places = λ number subscripts. find_same (times counts) greatest_number number t 0 0 subscripts all;

@@ -24,6 +24,7 @@ pub mod RangeLemmas
 pub mod RefreshLemmas
 pub mod StandingLemmas
 pub mod FindLemmas
+pub mod LegalLemmas
 pub mod ReachLemmas
 pub mod FootingLemmas
 pub mod TakingLemmas

@@ -4,6 +4,7 @@ pub mod Storage
 pub mod Kinds
 pub mod Laws
 pub mod Ways
+pub mod Legal
 pub mod Standing
 pub mod Fields
 pub mod Sound

@@ -28,8 +28,8 @@ use crate::ways::{Way, ways};
 use arrayvec::ArrayVec;
 use cob_copybook::{Book, Kind, Node};
 use cob_layout_places::{
-    CountFault, Found, Ref, Spot, Table, covering, element_of, needs_are_read, refers, seek,
-    tables, take_needed, times_of,
+    CountFault, Found, Ref, Spot, Table, covering, element_of, needs_are_read, seek, tables,
+    take_needed, times_of,
 };
 use std::alloc::{AllocError, Global};
 use std::marker::Model;
@@ -221,15 +221,18 @@ impl Layout {
 
     /// The reference to the entry with this number, with these subscripts. None where it isn't a legal one: the record has no such entry, or a
     /// table that holds the entry or that it is has no subscript, or one that isn't from 1 to its greatest number, or there is one too many.
+    /// Its time doesn't grow with the record.
     pub fn reference(&self, node: usize, subscripts: &[u32]) -> Option<Ref>
         ensures found { IfSome result
             (λ r. (r.node ≡ node) × (r.subscripts.items ≡ subscripts.now)) }
         ensures legal { IfSome result (λ r. Refers r.node r.subscripts.items self.now) }
         ensures none { IfNone result (Refers node subscripts.now self.now → ⊥) }
     {
-        // For `none`: a legal reference has no more subscripts than a `Ref` has room for.
+        // For `none`: a legal reference has no more subscripts than a `Ref` has room for,
         fits_ref();
-        if !refers(&self.root, node, subscripts) {
+        // and the layout is that of a record description.
+        let _ = self.greatest();
+        if !self.is_legal(node, subscripts) {
             return None;
         }
         let mut own = ArrayVec::new();

@@ -74,6 +74,7 @@ mod keeping;
 mod kinds;
 mod laws;
 mod layout;
+mod legal;
 mod lone;
 mod measuring;
 mod places;
