@@ -3,9 +3,6 @@
 ghost use Rattle.std.specs.Prelude.{◌≡◌, ◌<◌, ◌≤◌, false, length, min, take, IfOk, IfErr, IfSome, OnOk};
 ghost use Rattle.cob_limits.specs.Limits.{longest_record};
 ghost use Rattle.cob_move_apply.specs.cob_layout.Storage.{greatest_length};
-ghost use Rattle.cob_move_apply.specs.cob_layout.Standing.{IsRoomFor};
-ghost use Rattle.cob_stream.specs.Output.{IsOutputOf};
-ghost use Rattle.cob_convert_record.specs.Becoming.{IsCountStop};
 ghost use Rattle.cob_convert_record.specs.Conversion.{IsImage};
 
 use crate::lengths::{judge_kept, kept_output_length};
@@ -87,7 +84,7 @@ impl Conversion {
     ghost use Rattle.cob_records.specs.Device.{Told, counted};
     ghost use Rattle.cob_stream.specs.Input.{IsInputReason, IsJudged, ReadsRecord};
     ghost use Rattle.cob_stream.specs.Reasons.{is_read_cause, is_refused_for, is_write_cause};
-    ghost use Rattle.cob_stream.specs.Sizes.{IsSized, IsMeasureFault};
+    ghost use Rattle.cob_stream.specs.Sizes.{IsSized};
     ghost use Rattle.cob_stream.specs.Whole.{IsMisfitReason, IsWholeRecord, ReadsWhole};
     ghost use Rattle.cob_convert_record.specs.Becoming.{Becomes, StopsAt};
     ghost use Rattle.cob_convert_record.specs.Rejecting.{BecomesWhole, IsRejectedFor};

@@ -1,6 +1,6 @@
 //! Which table a count counts.
 
-ghost use Rattle.std.specs.Prelude.{◌≡◌, length};
+ghost use Rattle.std.specs.Prelude.{◌≡◌};
 ghost use Rattle.cob_layout.specs.Standing.{IsRoomFor};
 
 use cob_layout::{Counts, Layout, Place, tables};

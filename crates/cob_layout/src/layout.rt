@@ -1,7 +1,6 @@
 //! Layouts.
 
-ghost use Rattle.std.specs.Prelude.{◌≡◌, ◌==◌, ◌<◌, ◌≤◌, ◌+◌, not, IsFalse, ℕ, List, length, Ok, Err, Some, OnOk, IfNone, IfOk, IfErr, IfSome, OnErr, option_map};
-ghost use Rattle.cob_copybook_tree.specs.Forests.{entries_in};
+ghost use Rattle.std.specs.Prelude.{◌≡◌, ◌==◌, ◌<◌, ◌≤◌, ◌+◌, not, IsFalse, ℕ, List, length, Ok, Err, Some, OnOk, IfNone, IfOk, IfErr, IfSome, OnErr};
 ghost use Rattle.cob_copybook_tree.specs.Lengths.{greatest_number, sum_of};
 ghost use Rattle.cob_copybook_tree.specs.Nodes.{tree_of};
 ghost use Rattle.cob_limits.specs.Limits.{longest_record};

@@ -11,7 +11,7 @@
 //!   redefinition (specs/Cover.antt).
 //! - [`put_spots`] writes where the first element of each entry stands, how long it is, and how often the entry occurs, in one walk over the
 //!   record (`spots_of` of specs/Spots.antt).
-//! - [`refers`] says whether a number with subscripts is a legal reference to an entry: `Refers` of specs/References.antt. A [`Ref`] holds one.
+//! - A [`Ref`] is a reference to an element of an entry: which ones are legal `Refers` of specs/References.antt says.
 //! - [`tables`] lists the tables that vary. [`count_of`] and [`count_there`] take the count of one from a storage, or answer that it ends past the bytes
 //!   or gives no number within its table's bounds (`IsCounted` of specs/Counts.antt); [`count_at`] does so where the count's item is known
 //!   (`SaysOfTable`). All of them, taken one behind another, have one outcome (`Taken`,
@@ -54,6 +54,6 @@ pub use lengths::{element_of, times_of};
 pub use needs::{is_needed, is_table, take_needed};
 pub use operands::{Move, NumberedPair, Operand, PairMoves, Sender, Side, StatementMoves};
 pub use places::{Found, seek};
-pub use reference::{Ref, refers};
+pub use reference::Ref;
 pub use spots::{Spot, put_spots};
 pub use varying::{Table, tables};
