@@ -1,7 +1,8 @@
 -- What a reader of lanes takes of a window, and what it is to read a kind of item.
-use Rattle.std.specs.Prelude.{◌≡◌, ℕ, ◌-◌, ◌<◌, ◌≤◌, ℤ, pos, ◌-ℤ◌, Bool, true, false, List, length, slice_index, Some}
+use Rattle.std.specs.Prelude.{◌≡◌, ℕ, ◌-◌, ◌/◌, ◌<◌, ◌≤◌, ℤ, pos, ◌-ℤ◌, Bool, true, false, List, length, map, slice_index, Some}
 use Rattle.cob_decimal.specs.Decimal.{IsDigits, number_of, digit_at}
 use Rattle.cob_codec.specs.Sign.{IsSigned}
+use Rattle.cob_codec.specs.Zoned.{low_digit}
 use Rattle.cob_lanes.specs.Lanes.{AreBounded, IsVector, halves_at}
 use Rattle.cob_lanes.specs.Windows.{last_bytes}
 use Rattle.cob_lanes.specs.Signs.{byte_meaning}
@@ -41,6 +42,14 @@ pub record IsReaderOf (represents : List ℕ → Bool → List ℕ → Type 0) (
       → AreRead (represents (last_bytes size v)) wanted shift minus kept
   pub passes : (v : List ℕ) (negative : Bool) (digits : List ℕ) → IsVector v → represents (last_bytes size v) negative digits
       → (minus : Bool) × LanesPass r v minus
+
+-- The bytes are the characters of so many digits, and stand for the whole number of these digits, which isn't negative.
+pub record AreNumeralsOf (count : ℕ) (bytes : List ℕ) (negative : Bool) (digits : List ℕ) : Type 0 where
+  pub long : length bytes ≡ count
+  pub zones : (k : ℕ) → k < count → slice_index bytes k / 16 ≡ 0xF
+  pub low_halves : digits ≡ map low_digit bytes
+  pub valid : IsDigits digits
+  pub plus : negative ≡ false
 
 -- The lanes that were taken of the item at the end of bytes, whether they represent a number or not: of a window that ends with the same bytes.
 pub record AreLanesTaken (r : LaneReader) (bytes digits : List ℕ) : Type 0 where
