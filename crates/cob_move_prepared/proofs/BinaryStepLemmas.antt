@@ -23,12 +23,13 @@ use Rattle.cob_lanes.specs.Readers.{AreRead}
 use Rattle.cob_lanes.specs.Words.{IsNumberRead}
 use Rattle.cob_lanes.proofs.WantedLemmas.{wanted_tens, wanted_zero}
 use Rattle.cob_move_receive.specs.Sent.{Amount, Entry}
-use Rattle.cob_move_receive.specs.Numbers.{IsNumberIn, HoldsAligned, GivesUnder}
+use Rattle.cob_move_receive.specs.Numbers.{HoldsAligned}
 use Rattle.cob_move_receive.specs.Received.{Received, GetsNumber, GetsCharacters, outcome}
 use Rattle.cob_move_prepared.specs.Steps.{is_binary, received_form}
-use Rattle.cob_move_prepared.specs.Ends.{IsBinaryStep, item_digits}
+use Rattle.cob_move_prepared.specs.Ends.{Gives, IsBinaryStep, item_digits}
 use Rattle.cob_move_prepared.specs.declared.binary_step.BinaryStep.{BinaryStep}
-use Rattle.cob_move_prepared.proofs.StepLemmas.{from_match, holds, match_true, not_false, not_true, number_item, number_shows}
+use Rattle.cob_move_prepared.proofs.GivenLemmas.{gives_scaled}
+use Rattle.cob_move_prepared.proofs.StepLemmas.{holds, match_true, not_false, not_true, number_item, number_shows}
 
 -- ---- binary items
 
@@ -69,7 +70,7 @@ left_nonzero false zero_is n h e = absurd (cc)
 left_nonzero true false n h e = elim (cases_eq n 0) [ inl z ↦ (let no : IsTrue false = h z in absurd (cc)) | inr p ↦ omega arith ]
 
 pub moved_number : (s r : Item) (step : BinaryStep) (reading : Reading) (bytes : List ℕ) (told minus left zero_is : Bool) (kept new : List ℕ) (n : ℕ) → IsBinaryStep s r step → n ≡ item_size r → not told ≡ false
-    → IsNumberRead (IsSentBy reading s (last_bytes (item_size s) bytes)) (item_digits r) (scale r.picture.positions -ℤ scale s.picture.positions) told minus kept
+    → IsNumberRead (Gives reading s (last_bytes (item_size s) bytes)) (item_digits r) (scale r.picture.positions -ℤ scale s.picture.positions) told minus kept
     → IsTrue zero_is ↔ AreZero kept → left ≡ (minus && not zero_is)
     → (AreTens kept → (IsTrue left → 0 < number_of (take (item_digits r) kept)) → new ≡ received_form r left (take (item_digits r) kept))
     → Received (Entry (ItemKind s) (last_bytes (item_size s) bytes) reading) (ItemKind r) n (outcome true new)
@@ -77,27 +78,24 @@ moved_number s r step reading bytes told minus left zero_is kept new n is size n
     let item : List ℕ = last_bytes (item_size s) bytes in
     let count : ℕ = item_digits r in
     let shift : ℤ = scale r.picture.positions -ℤ scale s.picture.positions in
-    let a : AreRead (IsSentBy reading s item) count shift minus kept = read.number (not_false told number) in
+    let a : AreRead (Gives reading s item) count shift minus kept = read.number (not_false told number) in
     let v : Amount = record { negative = a.negative; digits = a.digits; scale = scale s.picture.positions } in
-    let gives : IsNumberIn reading s item v = record { represents = a.represented; point = refl } in
     let both = wanted_zero count shift (number_of a.digits) kept is.writer.few a.held in
     let some : IsTrue left → 0 < number_of (take count kept) =
     λ t. left_nonzero minus zero_is (number_of (take count kept)) (λ e. zero.1 (both.1 e)) (subst (λ b. IsTrue b) left_is t) in
     let stored : new ≡ received_form r (minus && not zero_is) (take count kept) =
     written (wanted_tens count shift (number_of a.digits) kept a.held) some ∙ ap (λ b. received_form r b (take count kept)) left_is in
-    let h : HoldsAligned r v new = holds s r reading item minus zero_is kept new is.writer.few a zero stored in
+    let h : HoldsAligned r v new = holds s r (Gives reading s item) minus zero_is kept new is.writer.few a zero stored in
     match_true (shows_number r.picture.category) (GetsNumber (Entry (ItemKind s) item reading) r (Some new)) (GetsCharacters (Entry (ItemKind s) item reading) (ItemKind r) n (Some new)) (number_shows r (number_item r is.writer.number)) (
       v,
-      match_true (is_number s) (IsNumberIn reading s item v) (GivesUnder s.picture.category s item v) (number_item s is.reader.number) gives,
+      a.represented,
       match_true (is_number r) (HoldsAligned r v new) (IsEdited r.picture r.blank v.negative v.digits v.scale new) (number_item r is.writer.number) h,
     )
 
 pub no_number_moved : (s r : Item) (step : BinaryStep) (reading : Reading) (bytes : List ℕ) (told minus : Bool) (kept new : List ℕ) (n : ℕ) → IsBinaryStep s r step → not told ≡ true
-    → IsNumberRead (IsSentBy reading s (last_bytes (item_size s) bytes)) (item_digits r) (scale r.picture.positions -ℤ scale s.picture.positions) told minus kept
+    → IsNumberRead (Gives reading s (last_bytes (item_size s) bytes)) (item_digits r) (scale r.picture.positions -ℤ scale s.picture.positions) told minus kept
     → Received (Entry (ItemKind s) (last_bytes (item_size s) bytes) reading) (ItemKind r) n (outcome false new)
 no_number_moved s r step reading bytes told minus kept new n is none read =
     let item : List ℕ = last_bytes (item_size s) bytes in
     match_true (shows_number r.picture.category) (GetsNumber (Entry (ItemKind s) item reading) r None) (GetsCharacters (Entry (ItemKind s) item reading) (ItemKind r) n None) (number_shows r (number_item r is.writer.number))
-    (λ v gives.
-    let number : IsNumberIn reading s item v = from_match (is_number s) (IsNumberIn reading s item v) (GivesUnder s.picture.category s item v) (number_item s is.reader.number) gives in
-    read.nothing (not_true told none) v.negative v.digits number.represents)
+    (λ v gives. read.nothing (not_true told none) v.negative v.digits (gives_scaled reading s item v is.reader.sends gives))

@@ -10,7 +10,6 @@ use Rattle.cob_codec.specs.declared.reading.Reading.{Reading}
 use Rattle.cob_copybook_tree.specs.declared.node.Item.{Item}
 use Rattle.cob_copybook_tree.specs.declared.node.Kind.TheVariants.{Item as ItemKind}
 use Rattle.cob_copybook_tree.specs.Resolving.{is_number}
-use Rattle.cob_copybook_tree.specs.Items.{IsSentBy}
 use Rattle.cob_copybook_tree.specs.Lengths.{item_size}
 use Rattle.cob_edit.specs.Editing.{shows_sign}
 use Rattle.cob_edit.specs.Pictured.{places, IsEdited}
@@ -18,18 +17,14 @@ use Rattle.cob_edit.proofs.PicturedLemmas.{kept_value}
 use Rattle.cob_lanes.specs.Windows.{last_bytes}
 use Rattle.cob_lanes.specs.Readers.{AreRead}
 use Rattle.cob_lanes.specs.Words.{IsNumberRead}
-use Rattle.cob_lanes.specs.Texts.{AreShown}
-use Rattle.cob_lanes.specs.declared.text.LaneText.{LaneText}
 use Rattle.cob_lanes.proofs.WantedLemmas.{wanted_aligned, wanted_valid, wanted_tens, none_aligned}
 use Rattle.cob_move_receive.specs.Sent.{Amount, Entry}
-use Rattle.cob_move_receive.specs.Numbers.{IsNumberIn, HoldsAligned, GivesUnder}
+use Rattle.cob_move_receive.specs.Numbers.{HoldsAligned}
 use Rattle.cob_move_receive.specs.Received.{Received, GetsNumber, GetsCharacters, outcome}
-use Rattle.cob_move_prepared.specs.Edits.{AreLed, IsEditStep, IsTextFor}
-use Rattle.cob_move_prepared.specs.declared.edit_step.EditStep.{EditStep}
-use Rattle.cob_move_prepared.proofs.StepLemmas.{from_match, match_true, not_false, not_true, number_item}
-
-match_false : (b : Bool) (P Q : Type 0) → b ≡ false → Q → MatchBool b P Q
-match_false b P Q e q = subst (λ x. MatchBool x P Q) (sym e) q
+use Rattle.cob_move_prepared.specs.Ends.{Gives, SendsNumber}
+use Rattle.cob_move_prepared.specs.Texts.{AreLed, IsPlainlyEdited, MakesTextsFor}
+use Rattle.cob_move_prepared.proofs.GivenLemmas.{gives_scaled, match_false}
+use Rattle.cob_move_prepared.proofs.StepLemmas.{match_true, not_false, not_true}
 
 -- the sign that shows of what is kept of a number is the number's
 same_signs : (shown minus negative tells : Bool) (a n : ℕ) → (a ≡ 0 → n ≡ 0) → IsTrue negative ↔ (IsTrue minus × (0 < a)) → IsTrue shown ↔ (IsTrue minus × IsTrue tells × (0 < n)) → IsTrue shown ↔ (IsTrue negative × IsTrue tells × (0 < n))
@@ -57,37 +52,37 @@ edited_of_sent p blank minus negative kept sent bytes from valid count value sig
       text = e.text;
     }
 
-pub edited : (s r : Item) (step : EditStep) (reading : Reading) (bytes : List ℕ) (told minus : Bool) (kept made new : List ℕ) (t : LaneText) (n front : ℕ) → IsEditStep s r step → n ≡ item_size r → not told ≡ false
-    → IsNumberRead (IsSentBy reading s (last_bytes (item_size s) bytes)) (digits r.picture.positions) (scale r.picture.positions -ℤ scale s.picture.positions) told minus kept
-    → IsTextFor r front t → front ≡ prefix_len (λ d. d == 0) (take (digits r.picture.positions) kept) → AreShown t minus kept made → new ≡ take n made
+-- what an edited receiver gets of a number that was read
+pub edited : (s r : Item) (reading : Reading) (bytes : List ℕ) (told minus : Bool) (kept made new : List ℕ) (is_made : Bool → List ℕ → List ℕ → Type 0) (n front : ℕ) → IsPlainlyEdited r → digits r.picture.positions ≤ 16
+    → n ≡ item_size r → not told ≡ false
+    → IsNumberRead (Gives reading s (last_bytes (item_size s) bytes)) (digits r.picture.positions) (scale r.picture.positions -ℤ scale s.picture.positions) told minus kept
+    → MakesTextsFor r front is_made → front ≡ prefix_len (λ d. d == 0) (take (digits r.picture.positions) kept) → is_made minus kept made → new ≡ take n made
     → Received (Entry (ItemKind s) (last_bytes (item_size s) bytes) reading) (ItemKind r) n (outcome true new)
-edited s r step reading bytes told minus kept made new t n front is size number read text zeros_are shown cut =
+edited s r reading bytes told minus kept made new is_made n front receives few size number read text zeros_are shown cut =
     let item : List ℕ = last_bytes (item_size s) bytes in
     let count : ℕ = digits r.picture.positions in
     let shift : ℤ = scale r.picture.positions -ℤ scale s.picture.positions in
-    let a : AreRead (IsSentBy reading s item) count shift minus kept = read.number (not_false told number) in
+    let a : AreRead (Gives reading s item) count shift minus kept = read.number (not_false told number) in
     let v : Amount = record { negative = a.negative; digits = a.digits; scale = scale s.picture.positions } in
-    let gives : IsNumberIn reading s item v = record { represents = a.represented; point = refl } in
     let led : AreLed count kept = record { long = a.held.long; tens = wanted_tens count shift (number_of a.digits) kept a.held; rest = a.held.rest } in
     let own : IsEdited r.picture r.blank minus (take count kept) (scale r.picture.positions) (take (item_size r) made) = text minus kept made led (sym zeros_are) shown in
     let there : IsEdited r.picture r.blank minus (take count kept) (scale r.picture.positions) new =
     subst (λ xs. IsEdited r.picture r.blank minus (take count kept) (scale r.picture.positions) xs) (ap (λ m. take m made) (sym size) ∙ sym cut) own in
     let h : IsEdited r.picture r.blank a.negative a.digits (scale s.picture.positions) new =
     edited_of_sent r.picture r.blank minus a.negative (take count kept) a.digits new (scale s.picture.positions)
-    (wanted_valid count shift (number_of a.digits) kept is.few a.held) (length-take-le count kept (omega (arith, a.held.long, is.few)))
-    (wanted_aligned count (scale s.picture.positions) (scale r.picture.positions) (number_of a.digits) kept is.few a.held) a.sign there in
-    match_true (shows_number r.picture.category) (GetsNumber (Entry (ItemKind s) item reading) r (Some new)) (GetsCharacters (Entry (ItemKind s) item reading) (ItemKind r) n (Some new)) is.receives.shows (
+    (wanted_valid count shift (number_of a.digits) kept few a.held) (length-take-le count kept (omega (arith, a.held.long, few)))
+    (wanted_aligned count (scale s.picture.positions) (scale r.picture.positions) (number_of a.digits) kept few a.held) a.sign there in
+    match_true (shows_number r.picture.category) (GetsNumber (Entry (ItemKind s) item reading) r (Some new)) (GetsCharacters (Entry (ItemKind s) item reading) (ItemKind r) n (Some new)) receives.shows (
       v,
-      match_true (is_number s) (IsNumberIn reading s item v) (GivesUnder s.picture.category s item v) (number_item s is.reader.number) gives,
-      match_false (is_number r) (HoldsAligned r v new) (IsEdited r.picture r.blank v.negative v.digits v.scale new) is.receives.edited h,
+      a.represented,
+      match_false (is_number r) (HoldsAligned r v new) (IsEdited r.picture r.blank v.negative v.digits v.scale new) receives.edited h,
     )
 
-pub not_edited : (s r : Item) (step : EditStep) (reading : Reading) (bytes : List ℕ) (told minus : Bool) (kept new : List ℕ) (n : ℕ) → IsEditStep s r step → not told ≡ true
-    → IsNumberRead (IsSentBy reading s (last_bytes (item_size s) bytes)) (digits r.picture.positions) (scale r.picture.positions -ℤ scale s.picture.positions) told minus kept
+-- what it gets where no number was read
+pub not_edited : (s r : Item) (reading : Reading) (bytes : List ℕ) (told minus : Bool) (kept new : List ℕ) (n : ℕ) → IsPlainlyEdited r → SendsNumber s → not told ≡ true
+    → IsNumberRead (Gives reading s (last_bytes (item_size s) bytes)) (digits r.picture.positions) (scale r.picture.positions -ℤ scale s.picture.positions) told minus kept
     → Received (Entry (ItemKind s) (last_bytes (item_size s) bytes) reading) (ItemKind r) n (outcome false new)
-not_edited s r step reading bytes told minus kept new n is none read =
+not_edited s r reading bytes told minus kept new n receives sends none read =
     let item : List ℕ = last_bytes (item_size s) bytes in
-    match_true (shows_number r.picture.category) (GetsNumber (Entry (ItemKind s) item reading) r None) (GetsCharacters (Entry (ItemKind s) item reading) (ItemKind r) n None) is.receives.shows
-    (λ v gives.
-    let number : IsNumberIn reading s item v = from_match (is_number s) (IsNumberIn reading s item v) (GivesUnder s.picture.category s item v) (number_item s is.reader.number) gives in
-    read.nothing (not_true told none) v.negative v.digits number.represents)
+    match_true (shows_number r.picture.category) (GetsNumber (Entry (ItemKind s) item reading) r None) (GetsCharacters (Entry (ItemKind s) item reading) (ItemKind r) n None) receives.shows
+    (λ v gives. read.nothing (not_true told none) v.negative v.digits (gives_scaled reading s item v sends gives))

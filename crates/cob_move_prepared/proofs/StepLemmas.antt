@@ -15,7 +15,7 @@ use Rattle.cob_copybook_tree.specs.Lengths.{item_size}
 use Rattle.cob_edit.specs.Pictured.{IsEdited}
 use Rattle.cob_lanes.specs.Lanes.{AreTens, AreZero}
 use Rattle.cob_lanes.specs.Windows.{last_bytes}
-use Rattle.cob_lanes.specs.Readers.{AreRead, IsLanesRead}
+use Rattle.cob_lanes.specs.Readers.{AreRead, IsLanesRead, IsReaderOf}
 use Rattle.cob_lanes.specs.Words.{IsNumberRead}
 use Rattle.cob_lanes.specs.Writers.{AreMade}
 use Rattle.cob_lanes.specs.declared.reader.LaneReader.{LaneReader}
@@ -74,11 +74,11 @@ holds_digits s r minus negative zero_is sent ds new sign valid many value nothin
     }
 
 -- what is written of a number is what the receiver holds of it
-pub holds : (s r : Item) (reading : Reading) (item : List ℕ) (minus zero_is : Bool) (kept new : List ℕ) → digits r.picture.positions ≤ 16
-    → (a : AreRead (IsSentBy reading s item) (digits r.picture.positions) (scale r.picture.positions -ℤ scale s.picture.positions) minus kept)
+pub holds : (s r : Item) (represents : Bool → List ℕ → Type 0) (minus zero_is : Bool) (kept new : List ℕ) → digits r.picture.positions ≤ 16
+    → (a : AreRead represents (digits r.picture.positions) (scale r.picture.positions -ℤ scale s.picture.positions) minus kept)
     → IsTrue zero_is ↔ AreZero kept → new ≡ received_form r (minus && not zero_is) (take (digits r.picture.positions) kept)
     → HoldsAligned r (record { negative = a.negative; digits = a.digits; scale = scale s.picture.positions }) new
-holds s r reading item minus zero_is kept new room a zero stored =
+holds s r represents minus zero_is kept new room a zero stored =
     let count : ℕ = digits r.picture.positions in
     let shift : ℤ = scale r.picture.positions -ℤ scale s.picture.positions in
     let ds : List ℕ = take count kept in
@@ -89,18 +89,23 @@ holds s r reading item minus zero_is kept new room a zero stored =
     let valid : IsDigits ds = wanted_valid count shift (number_of a.digits) kept room a.held in
     holds_digits s r minus a.negative zero_is a.digits ds new a.sign valid (length-take-le count kept (omega (arith, a.held.long))) value nothing stored
 
+-- what a reader of items of so many bytes read at the end of bytes
+pub lanes_read : (represents : List ℕ → Bool → List ℕ → Type 0) (size wanted : ℕ) (shift : ℤ) (r : LaneReader) (bytes kept : List ℕ) (told minus : Bool) → IsReaderOf represents size wanted shift r → size ≤ length bytes
+    → IsLanesRead r bytes told minus kept → IsNumberRead (represents (last_bytes size bytes)) wanted shift told minus kept
+lanes_read represents size wanted shift r bytes kept told minus is within read =
+    let item : List ℕ = last_bytes size bytes in
+    let same : last_bytes size read.window ≡ item = read.same size is.fits within in
+    record {
+      number = λ e. subst (λ xs. AreRead (represents xs) wanted shift minus kept) same (is.reads read.window kept minus read.vector (read.number e) read.taken);
+      nothing = λ e negative ds there.
+          let passed = is.passes read.window negative ds read.vector (subst (λ xs. represents xs negative ds) (sym same) there) in
+          read.nothing e passed.0 passed.1;
+    }
+
 -- what was read of the item at the end of bytes
 pub item_read : (from : Item) (reading : Reading) (wanted : ℕ) (shift : ℤ) (r : LaneReader) (bytes kept : List ℕ) (told minus : Bool) → IsItemReader from wanted shift r → item_size from ≤ length bytes → IsLanesRead r bytes told minus kept
     → IsNumberRead (IsSentBy reading from (last_bytes (item_size from) bytes)) wanted shift told minus kept
-item_read from reading wanted shift r bytes kept told minus is within read =
-    let item : List ℕ = last_bytes (item_size from) bytes in
-    let same : last_bytes (item_size from) read.window ≡ item = read.same (item_size from) (is reading).fits within in
-    record {
-      number = λ e. subst (λ xs. AreRead (IsSentBy reading from xs) wanted shift minus kept) same ((is reading).reads read.window kept minus read.vector (read.number e) read.taken);
-      nothing = λ e negative ds there.
-          let passed = (is reading).passes read.window negative ds read.vector (subst (λ xs. IsSentBy reading from xs negative ds) (sym same) there) in
-          read.nothing e passed.0 passed.1;
-    }
+item_read from reading wanted shift r bytes kept told minus is within read = lanes_read (IsSentBy reading from) (item_size from) wanted shift r bytes kept told minus (is reading) within read
 
 pub moved : (s r : Item) (step : NumberStep) (reading : Reading) (bytes : List ℕ) (told minus left zero_is : Bool) (kept made new : List ℕ) (n : ℕ) → IsNumberStep s r step → item_size s ≤ length bytes → n ≡ item_size r
     → not told ≡ false → IsLanesRead step.reader bytes told minus kept → IsTrue zero_is ↔ AreZero kept → left ≡ (minus && not zero_is) → AreMade step.writer left kept made → new ≡ take n made
@@ -117,7 +122,7 @@ moved s r step reading bytes told minus left zero_is kept made new n is within s
     let tens : AreTens kept = wanted_tens count (scale r.picture.positions -ℤ scale s.picture.positions) (number_of a.digits) kept a.held in
     let stored : new ≡ received_form r (minus && not zero_is) (take count kept) =
     front ∙ ap (λ m. take m made) size ∙ is.writer.writes (minus && not zero_is) kept made a.held.long tens (subst (λ b. AreMade step.writer b kept made) left_is text) in
-    let h : HoldsAligned r v new = holds s r reading item minus zero_is kept new is.writer.room a zero stored in
+    let h : HoldsAligned r v new = holds s r (IsSentBy reading s item) minus zero_is kept new is.writer.room a zero stored in
     match_true (shows_number r.picture.category) (GetsNumber (Entry (ItemKind s) item reading) r (Some new)) (GetsCharacters (Entry (ItemKind s) item reading) (ItemKind r) n (Some new)) (number_shows r (number_item r is.receives)) (
       v,
       match_true (is_number s) (IsNumberIn reading s item v) (GivesUnder s.picture.category s item v) (number_item s is.sends) gives,

@@ -16,7 +16,7 @@ use Rattle.cob_lanes.specs.Lanes.{picked_at}
 use Rattle.cob_lanes.specs.Texts.{AreShown}
 use Rattle.cob_lanes.specs.declared.text.LaneText.{LaneText}
 use Rattle.cob_lanes.proofs.HalfLemmas.{all_digits}
-use Rattle.cob_move_prepared.specs.Edits.{AreLed, AreTextsFor, IsTextFor, IsTextOf, added_to, cell_in, shown_lane}
+use Rattle.cob_move_prepared.specs.Texts.{AreLed, AreTextsFor, IsTextFor, IsTextOf, added_to, cell_in, shown_lane}
 
 -- ---- zeros in front of the first lanes
 

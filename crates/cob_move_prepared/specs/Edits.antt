@@ -1,81 +1,12 @@
 -- Single moves of numbers to edited items that are made ready.
-use Rattle.std.specs.Prelude.{◌≡◌, ℕ, ◌+◌, ◌<◌, ◌≤◌, ◌==◌, Bool, true, false, nat_lt, if◌then◌else◌, List, [], ◌∷◌, length, take, slice_index, slice_index_or}
-use Rattle.std.specs.List.{prefix_len}
-use Rattle.cob_cp037.specs.Named.{zero_byte}
-use Rattle.cob_picture.specs.Counts.{digits, scale, size}
-use Rattle.cob_picture.specs.Positions.{shows_number}
+use Rattle.std.specs.Prelude.{◌≡◌, ◌≤◌}
+use Rattle.cob_picture.specs.Counts.{digits}
 use Rattle.cob_copybook_tree.specs.declared.node.Item.{Item}
-use Rattle.cob_copybook_tree.specs.Resolving.{is_number}
 use Rattle.cob_copybook_tree.specs.Lengths.{item_size}
-use Rattle.cob_edit.specs.declared.cell.Cell.{Cell}
-use Rattle.cob_edit.specs.declared.cell.Cell.TheVariants.{Same, Signed, Taken}
-use Rattle.cob_edit.specs.Pictured.{IsEdited}
-use Rattle.cob_lanes.specs.Lanes.{AreTens}
-use Rattle.cob_lanes.specs.Texts.{AreShown}
-use Rattle.cob_lanes.specs.declared.text.LaneText.{LaneText}
 use Rattle.cob_move_prepared.specs.Ends.{IsNumberReaderFor}
+use Rattle.cob_move_prepared.specs.Texts.{AreTextsFor, AreWideTextsFor, IsPlainlyEdited}
 use Rattle.cob_move_prepared.specs.declared.edit_step.EditStep.{EditStep}
-
--- ---- items
-
--- The item is edited, and has a byte for each place of its picture that has one.
-pub record IsPlainlyEdited (i : Item) : Type 0 where
-  pub shows : shows_number i.picture.category ≡ true
-  pub edited : is_number i ≡ false
-  pub bytes : item_size i ≡ size i.picture.positions
-
--- The item edits numbers of at most sixteen digits in at most sixteen bytes.
-pub record IsEditedItem (i : Item) : Type 0 where
-  pub plainly : IsPlainlyEdited i
-  pub few : digits i.picture.positions ≤ 16
-  pub fits : item_size i ≤ 16
-
--- ---- texts
-
--- the cell with this number of a row
-abbrev pub cell_in : List Cell → ℕ → Cell
-cell_in row i = slice_index_or row i (Same 0)
-
--- The lane of the digit that a cell shows, or none: sixteen lanes hold no later digit.
-abbrev pub shown_lane : Cell → ℕ
-shown_lane (Same byte) = 128
-shown_lane (Signed plus minus) = 128
-shown_lane (Taken number) = if nat_lt number 16 then number else 128
-
--- What is added to that digit in the text of a number that is negative or not.
-abbrev pub added_to : Bool → Cell → ℕ
-added_to negative (Same byte) = byte
-added_to negative (Signed plus minus) = if negative then minus else plus
-added_to negative (Taken number) = zero_byte
-
--- The bytes of the text are made as the cells of the row say.
-pub record IsTextOf (row : List Cell) (t : LaneText) : Type 0 where
-  pub lanes : (i : ℕ) → i < length row → slice_index t.picks.lanes i ≡ shown_lane (cell_in row i)
-  pub plus : (i : ℕ) → i < length row → slice_index t.plus i ≡ added_to false (cell_in row i)
-  pub minus : (i : ℕ) → i < length row → slice_index t.minus i ≡ added_to true (cell_in row i)
-  pub small : (i : ℕ) (negative : Bool) → i < length row → added_to negative (cell_in row i) < 256
-
--- Sixteen lanes that hold so many digits, and 0 behind them.
-pub record AreLed (count : ℕ) (lanes : List ℕ) : Type 0 where
-  pub long : length lanes ≡ 16
-  pub tens : AreTens lanes
-  pub rest : (j : ℕ) → count ≤ j → j < 16 → slice_index lanes j ≡ 0
-
--- The text that is made is the item's of each number, of as many digits as it shows and at its scale, that has so many zeros in front.
-abbrev pub IsTextFor : Item → (zeros : ℕ) → LaneText → Type 0
-IsTextFor to zeros t =
-    (negative : Bool) (lanes bytes : List ℕ)
-    → AreLed (digits to.picture.positions) lanes
-    → prefix_len (λ d. d == 0) (take (digits to.picture.positions) lanes) ≡ zeros
-    → AreShown t negative lanes bytes
-    → IsEdited to.picture to.blank negative (take (digits to.picture.positions) lanes) (scale to.picture.positions) (take (item_size to) bytes)
-
--- These texts are those of numbers with so many zeros in front, with one more, and so on.
-abbrev pub AreTextsFor : Item → (front : ℕ) → List LaneText → Type 0
-AreTextsFor to front [] = Unit {0}
-AreTextsFor to front (t ∷ ts) = IsTextFor to front t × AreTextsFor to (front + 1) ts
-
--- ---- the step
+use Rattle.cob_move_prepared.specs.declared.wide_edit_step.WideEditStep.{WideEditStep}
 
 -- The step moves the number of the first item to the second, which is edited.
 pub record IsEditStep (from to : Item) (step : EditStep) : Type 0 where
@@ -85,3 +16,12 @@ pub record IsEditStep (from to : Item) (step : EditStep) : Type 0 where
   pub reader : IsNumberReaderFor from to step.reader
   pub count : step.digits ≡ digits to.picture.positions
   pub texts : AreTextsFor to 0 step.texts.items
+
+-- The same where the second has at most thirty-two bytes.
+pub record IsWideEditStep (from to : Item) (step : WideEditStep) : Type 0 where
+  pub receives : IsPlainlyEdited to
+  pub few : digits to.picture.positions ≤ 16
+  pub fits : item_size to ≤ 32
+  pub reader : IsNumberReaderFor from to step.reader
+  pub count : step.digits ≡ digits to.picture.positions
+  pub texts : AreWideTextsFor to 0 step.texts.items

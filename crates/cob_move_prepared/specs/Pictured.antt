@@ -6,7 +6,8 @@ use Rattle.cob_copybook_tree.specs.declared.node.Kind.{Kind}
 use Rattle.cob_lanes.specs.Windows.{last_bytes}
 use Rattle.cob_move_receive.specs.Received.{Received}
 use Rattle.cob_move_receive.specs.Sent.{Entry}
-use Rattle.cob_move_prepared.specs.Edits.{IsEditedItem, IsEditStep}
+use Rattle.cob_move_prepared.specs.Edits.{IsEditStep}
+use Rattle.cob_move_prepared.specs.Texts.{IsEditedItem}
 use Rattle.cob_move_prepared.specs.Ends.{IsBinaryStep, IsShortNumber}
 use Rattle.cob_move_prepared.specs.Pool.{AreOccupied, BetweenItems, IsStepAt, MoveKinds}
 use Rattle.cob_move_prepared.specs.declared.binary_step.BinaryStep.{BinaryStep}

@@ -8,7 +8,8 @@ use Rattle.cob_lanes.specs.Windows.{last_bytes}
 use Rattle.cob_move_receive.specs.Received.{Received}
 use Rattle.cob_move_receive.specs.Sent.{Entry, Occupies}
 use Rattle.cob_move_prepared.specs.Copies.{IsCharactersStep, gives_bytes}
-use Rattle.cob_move_prepared.specs.Edits.{IsEditedItem, IsEditStep}
+use Rattle.cob_move_prepared.specs.Edits.{IsEditStep}
+use Rattle.cob_move_prepared.specs.Texts.{IsEditedItem}
 use Rattle.cob_move_prepared.specs.Ends.{IsBinaryStep, IsShortNumber}
 use Rattle.cob_move_prepared.specs.Steps.{IsLaneItem, IsNumberStep, is_binary}
 use Rattle.cob_move_prepared.specs.Wide.{IsWideStep}

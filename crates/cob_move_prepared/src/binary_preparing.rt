@@ -1,21 +1,35 @@
 //! Steps from and to binary items, made ready.
 
-ghost use Rattle.std.specs.Prelude.{IfSome, IsSome};
-ghost use Rattle.cob_move_prepared.specs.Ends.{IsBinaryStep, IsShortNumber};
+ghost use Rattle.std.specs.Prelude.{IfOk, IfSome, IsSome};
+ghost use Rattle.cob_move_prepared.specs.Ends.{IsBinaryStep, IsShortNumber, IsShortSender};
 
 use crate::binary_step::BinaryStep;
 use crate::ends_preparing::{number_reader, number_writer};
 use cob_copybook_tree::Item;
+use std::alloc::{AllocError, Global};
 
 impl BinaryStep {
-    /// The step of the move of one item to another. There is one where both are numbers of at most sixteen digits, and those that aren't binary
-    /// of at most sixteen bytes.
-    pub fn prepare(sender: &Item, receiver: &Item) -> Option<BinaryStep>
-        ensures step { IfSome result (IsBinaryStep sender.now receiver.now) }
-        ensures must { IsShortNumber sender.now → IsShortNumber receiver.now → IsSome result }
+    /// The step of the move of one item to another. There is one where the receiver is a number of at most sixteen digits, and of at most sixteen
+    /// bytes if it isn't binary, and the sender is another, or holds at most sixteen characters, or is edited, of at most sixteen digits and
+    /// thirty-two bytes.
+    ///
+    /// # Errors
+    ///
+    /// There is not enough memory.
+    pub fn prepare(
+        alloc: Global,
+        sender: &Item,
+        receiver: &Item,
+    ) -> Result<Option<BinaryStep>, AllocError>
+        ensures step { IfOk result (λ step. IfSome step (IsBinaryStep sender.now receiver.now)) }
+        ensures must { IsShortSender sender.now → IsShortNumber receiver.now → IfOk result IsSome }
     {
-        let writer = number_writer(receiver)?;
-        let reader = number_reader(sender, receiver)?;
-        Some(BinaryStep { reader, writer })
+        let Some(writer) = number_writer(receiver) else {
+            return Ok(None);
+        };
+        let Some(reader) = number_reader(alloc, sender, receiver)? else {
+            return Ok(None);
+        };
+        Ok(Some(BinaryStep { reader, writer }))
     }
 }

@@ -1,7 +1,7 @@
 use crate::number_ends::{NumberReader, NumberWriter};
 
-/// The single move of a number from one item to another, of which one or both are binary, made ready.
-#[derive(Clone, Copy)]
+/// The single move of a number that an item gives, of whatever kind, to one of any kind of storage, made ready.
+#[derive(Drop)]
 pub struct BinaryStep {
     pub reader: NumberReader,
     pub writer: NumberWriter,

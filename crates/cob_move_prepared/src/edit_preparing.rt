@@ -2,8 +2,9 @@
 
 ghost use Rattle.std.specs.Prelude.{◌≡◌, ◌↔◌, IfOk, IfSome, IsSome, IsTrue};
 ghost use Rattle.cob_picture.specs.Positions.{shows_number};
-ghost use Rattle.cob_move_prepared.specs.Ends.{IsShortNumber};
-ghost use Rattle.cob_move_prepared.specs.Edits.{IsEditedItem, IsEditStep, IsPlainlyEdited};
+ghost use Rattle.cob_move_prepared.specs.Ends.{IsShortSender};
+ghost use Rattle.cob_move_prepared.specs.Edits.{IsEditStep};
+ghost use Rattle.cob_move_prepared.specs.Texts.{IsEditedItem, IsPlainlyEdited};
 
 use crate::edit_step::EditStep;
 use crate::ends_preparing::number_reader;
@@ -34,8 +35,9 @@ fn is_edited_item(item: &Item) -> bool
 }
 
 impl EditStep {
-    /// The step of the move of one item to another. There is one where the sender is a number of at most sixteen digits, and of at most sixteen
-    /// bytes if it isn't binary, and the receiver edits numbers in at most sixteen digits and bytes.
+    /// The step of the move of one item to another. There is one where the receiver edits numbers in at most sixteen digits and bytes, and the
+    /// sender is a number of at most sixteen digits, and of at most sixteen bytes if it isn't binary, or holds at most sixteen characters, or is
+    /// edited, of at most sixteen digits and thirty-two bytes.
     ///
     /// # Errors
     ///
@@ -46,12 +48,12 @@ impl EditStep {
         receiver: &Item,
     ) -> Result<Option<EditStep>, AllocError>
         ensures step { IfOk result (λ step. IfSome step (IsEditStep sender.now receiver.now)) }
-        ensures must { IsShortNumber sender.now → IsEditedItem receiver.now → IfOk result IsSome }
+        ensures must { IsShortSender sender.now → IsEditedItem receiver.now → IfOk result IsSome }
     {
         if !is_edited_item(receiver) {
             return Ok(None);
         }
-        let Some(reader) = number_reader(sender, receiver) else {
+        let Some(reader) = number_reader(alloc, sender, receiver)? else {
             return Ok(None);
         };
         let texts = texts_for(alloc, receiver)?;

@@ -1,18 +1,21 @@
 //! What reads and writes numbers of items, made ready.
 
-ghost use Rattle.std.specs.Prelude.{◌≡◌, ◌↔◌, ◌≤◌, IfSome, IsSome, IsTrue};
+ghost use Rattle.std.specs.Prelude.{◌≡◌, ◌↔◌, ◌≤◌, IfOk, IfSome, IsSome, IsTrue};
 ghost use Rattle.cob_picture.specs.Counts.{digits};
 ghost use Rattle.cob_move_prepared.specs.Steps.{is_binary};
-ghost use Rattle.cob_move_prepared.specs.Ends.{IsNumberReaderFor, IsNumberWriterFor, IsShortNumber, IsWordItem};
+ghost use Rattle.cob_move_prepared.specs.Ends.{IsNumberReaderFor, IsNumberWriterFor, IsNumeralItem, IsShortNumber, IsShortSender, IsWordItem};
 
 use crate::number_ends::{NumberReader, NumberWriter};
 use crate::preparing::{reader_for, wanted_of, writer_for};
 use crate::storage::{lane_storage, number_shape, window_storage};
+use crate::text_preparing::text_reader;
 use cob_copybook_tree::{Item, Usage, is_number_item};
-use cob_lanes::{BinaryReader, BinaryWriter};
+use cob_lanes::{BinaryReader, BinaryWriter, LaneReader};
+use cob_picture::Category;
+use std::alloc::{AllocError, Global};
 
 /// Whether a usage is binary.
-fn is_binary(usage: Usage) -> bool
+pub(crate) fn is_binary(usage: Usage) -> bool
     ensures { result ≡ is_binary usage }
 {
     matches!(usage, Usage::Binary)
@@ -25,8 +28,18 @@ fn is_word_item(item: &Item) -> bool
     is_number_item(item) && is_binary(item.usage) && item.picture.digits() <= 16
 }
 
-/// What reads the number of a sender, if lanes hold its bytes, or its number where it is binary.
-pub(crate) fn number_reader(sender: &Item, receiver: &Item) -> Option<NumberReader>
+/// Whether an item holds from 1 to 16 characters. Its picture has no point.
+fn is_numeral_item(item: &Item) -> bool
+    ensures { IsTrue result ↔ IsNumeralItem item.now }
+{
+    item.picture.category() == Category::Alphanumeric
+        && item.picture.scale() == 0
+        && item.size() > 0
+        && item.size() <= 16
+}
+
+/// What reads the number of a sender that is stored as one, if lanes hold its bytes, or its number where it is binary.
+fn stored_reader(sender: &Item, receiver: &Item) -> Option<NumberReader>
     requires { digits receiver.now.picture.positions ≤ 16 }
     ensures reader { IfSome result (IsNumberReaderFor sender.now receiver.now) }
     ensures must { IsShortNumber sender.now → IsSome result }
@@ -40,6 +53,45 @@ pub(crate) fn number_reader(sender: &Item, receiver: &Item) -> Option<NumberRead
         Some(NumberReader::Binary(BinaryReader::of(&shape, wanted)))
     } else {
         None
+    }
+}
+
+/// What reads the number that the characters of a sender are.
+fn numeral_reader(sender: &Item, receiver: &Item) -> Option<NumberReader>
+    requires { digits receiver.now.picture.positions ≤ 16 }
+    ensures reader { IfSome result (IsNumberReaderFor sender.now receiver.now) }
+    ensures must { IsNumeralItem sender.now → IsSome result }
+{
+    if !is_numeral_item(sender) {
+        return None;
+    }
+    let wanted = wanted_of(sender, receiver);
+    Some(NumberReader::Numerals(LaneReader::numerals(sender.size() as u8, wanted)))
+}
+
+/// What reads the number that a sender gives, if lanes hold it.
+///
+/// # Errors
+///
+/// There is not enough memory.
+pub(crate) fn number_reader(
+    alloc: Global,
+    sender: &Item,
+    receiver: &Item,
+) -> Result<Option<NumberReader>, AllocError>
+    requires { digits receiver.now.picture.positions ≤ 16 }
+    ensures reader { IfOk result (λ reader. IfSome reader (IsNumberReaderFor sender.now receiver.now)) }
+    ensures must { IsShortSender sender.now → IfOk result IsSome }
+{
+    if let Some(reader) = stored_reader(sender, receiver) {
+        return Ok(Some(reader));
+    }
+    if let Some(reader) = numeral_reader(sender, receiver) {
+        return Ok(Some(reader));
+    }
+    match text_reader(alloc, sender, receiver)? {
+        Some(reader) => Ok(Some(NumberReader::Text(reader))),
+        None => Ok(None),
     }
 }
 

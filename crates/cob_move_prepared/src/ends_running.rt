@@ -24,7 +24,7 @@ fn read_word(reader: &BinaryReader, bytes: &[u8]) -> LanesRead
 }
 
 impl NumberReader {
-    /// The number of the item at the end of bytes.
+    /// The number that the item at the end of bytes gives.
     #[inline(always)]
     pub(crate) fn read(&self, bytes: &[u8]) -> LanesRead
         ensures { IsItemRead self.now bytes.now result.is_number result.minus result.digits }
@@ -32,6 +32,8 @@ impl NumberReader {
         match self {
             NumberReader::Lanes(reader) => reader.read(bytes),
             NumberReader::Binary(reader) => read_word(reader, bytes),
+            NumberReader::Numerals(reader) => reader.read(bytes),
+            NumberReader::Text(reader) => reader.read(bytes),
         }
     }
 }

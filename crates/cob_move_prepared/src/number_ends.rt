@@ -1,12 +1,17 @@
+use crate::text_reader::TextReader;
 use cob_lanes::{BinaryReader, BinaryWriter, LaneReader, LaneWriter};
 
-/// What reads the number of items of one kind of storage.
-#[derive(Clone, Copy)]
+/// What reads the number that items of one kind give.
+#[derive(Drop)]
 pub enum NumberReader {
     /// Zoned, separate or packed ones.
     Lanes(LaneReader),
     /// Binary ones.
     Binary(BinaryReader),
+    /// Characters, each a digit.
+    Numerals(LaneReader),
+    /// Edited ones.
+    Text(TextReader),
 }
 
 /// What writes the number of items of one kind of storage.

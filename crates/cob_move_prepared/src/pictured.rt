@@ -93,7 +93,7 @@ impl PicturedSteps {
         ensures must { HaveAnyShortNumbers from.now to.now → IfOk result (λ found. IsSome found) }
         ensures kept { KeepsPictured self.old self.new }
     {
-        if let Some(step) = BinaryStep::prepare(from, to) {
+        if let Some(step) = BinaryStep::prepare(self.alloc, from, to)? {
             return Ok(Some(self.put_number(step)?));
         }
         match EditStep::prepare(self.alloc, from, to)? {

@@ -10,7 +10,7 @@ use crate::binary_step::BinaryStep;
 use crate::characters_step::CharactersStep;
 use crate::edit_step::EditStep;
 use crate::step::NumberStep;
-use crate::storage::window_storage;
+use crate::ends_preparing::is_binary;
 use crate::wide_step::WideStep;
 use cob_copybook_tree::{Item, Kind};
 use std::alloc::{AllocError, Global};
@@ -141,7 +141,7 @@ impl MoveSteps {
         ensures kept { KeepsSteps self.old self.new }
     {
         // A sender that isn't binary is read in one way.
-        if window_storage(from).is_none() {
+        if is_binary(from.usage) {
             return Ok(None);
         }
         if let Some(step) = NumberStep::prepare(from, to) {
@@ -150,7 +150,7 @@ impl MoveSteps {
         if let Some(step) = WideStep::prepare(from, to) {
             return Ok(Some(self.put_wide(step)?));
         }
-        if let Some(step) = BinaryStep::prepare(from, to) {
+        if let Some(step) = BinaryStep::prepare(self.alloc, from, to)? {
             return Ok(Some(self.put_binary(step)?));
         }
         match EditStep::prepare(self.alloc, from, to)? {

@@ -4,7 +4,7 @@ ghost use Rattle.std.specs.Prelude.{◌≡◌, ◌+◌, ◌<◌, ◌≤◌, ℕ,
 ghost use Rattle.cob_picture.specs.Counts.{digits};
 ghost use Rattle.cob_edit.specs.Rows.{ArePlacesOf};
 ghost use Rattle.cob_lanes.specs.Lanes.{is_pick};
-ghost use Rattle.cob_move_prepared.specs.Edits.{AreTextsFor, IsEditedItem, IsTextFor, IsTextOf, added_to, cell_in, shown_lane};
+ghost use Rattle.cob_move_prepared.specs.Texts.{AreTextsFor, IsEditedItem, IsTextFor, IsTextOf, added_to, cell_in, shown_lane};
 
 use cob_copybook_tree::Item;
 use cob_cp037::ZERO;

@@ -1,7 +1,7 @@
 use Rattle.std.proofs.Common.{◌≡◌, ◌≢◌, ℕ, ◌<◌, List, length, get_or, sym, ap, subst, ◌∙◌, inl, inr, arith, get_or-set_other, get_or-set_same}
 use Rattle.std.proofs.Math.ListN.{set, length-set}
 use Rattle.std.proofs.lemmas.Bool.{cases_lt}
-use Rattle.cob_move_prepared.specs.Edits.{added_to, cell_in}
+use Rattle.cob_move_prepared.specs.Texts.{added_to, cell_in}
 use Rattle.cob_move_prepared.proofs.texts.added_in.Goals as goal
 
 pub loop-at-preserved : goal.loop-at-preserved

@@ -1,5 +1,5 @@
 use Rattle.std.proofs.Common.{◌≡◌, ℕ, ◌<◌, length, get_or}
-use Rattle.cob_move_prepared.specs.Edits.{added_to, cell_in}
+use Rattle.cob_move_prepared.specs.Texts.{added_to, cell_in}
 use Rattle.cob_move_prepared.proofs.texts.added_in.Given as goal
 
 abbrev pub invariant-loop-at : goal.invariant-loop-at

@@ -2,7 +2,7 @@ use Rattle.std.proofs.Common.{◌≡◌, ◌≢◌, ℕ, ◌<◌, List, length, 
 use Rattle.std.proofs.Math.ListN.{set, length-set}
 use Rattle.std.proofs.lemmas.Bool.{cases_lt, cases_eq}
 use Rattle.cob_lanes.specs.Lanes.{is_pick}
-use Rattle.cob_move_prepared.specs.Edits.{cell_in, shown_lane}
+use Rattle.cob_move_prepared.specs.Texts.{cell_in, shown_lane}
 use Rattle.cob_move_prepared.proofs.texts.picks_of.Goals as goal
 
 pub loop-at-preserved : goal.loop-at-preserved

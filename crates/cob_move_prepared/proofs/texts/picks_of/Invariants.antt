@@ -1,6 +1,6 @@
 use Rattle.std.proofs.Common.{◌≡◌, ℕ, ◌<◌, true, length, get_or}
 use Rattle.cob_lanes.specs.Lanes.{is_pick}
-use Rattle.cob_move_prepared.specs.Edits.{cell_in, shown_lane}
+use Rattle.cob_move_prepared.specs.Texts.{cell_in, shown_lane}
 use Rattle.cob_move_prepared.proofs.texts.picks_of.Given as goal
 
 abbrev pub invariant-loop-at : goal.invariant-loop-at

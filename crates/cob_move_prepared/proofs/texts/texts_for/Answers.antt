@@ -1,7 +1,7 @@
 use Rattle.std.proofs.Common.{◌≡◌, ◌+◌, List, [], ◌∷◌, length, sym, ap, subst, arith}
 use Rattle.std.proofs.lemmas.List.{length-append}
 use Rattle.cob_lanes.specs.declared.text.LaneText.{LaneText}
-use Rattle.cob_move_prepared.specs.Edits.{AreTextsFor, IsTextFor}
+use Rattle.cob_move_prepared.specs.Texts.{AreTextsFor, IsTextFor}
 use Rattle.cob_move_prepared.proofs.TextLemmas.{texts_more}
 use Rattle.cob_move_prepared.proofs.texts.texts_for.Goals as goal
 

@@ -1,5 +1,5 @@
 use Rattle.std.proofs.Common.{◌≡◌, length}
-use Rattle.cob_move_prepared.specs.Edits.{AreTextsFor}
+use Rattle.cob_move_prepared.specs.Texts.{AreTextsFor}
 use Rattle.cob_move_prepared.proofs.texts.texts_for.Given as goal
 
 abbrev pub invariant-loop-zeros : goal.invariant-loop-zeros

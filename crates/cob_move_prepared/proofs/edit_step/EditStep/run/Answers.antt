@@ -1,8 +1,9 @@
 use Rattle.std.proofs.Common.{◌≡◌, ◌==◌, ◌<◌, ◌≤◌, ℕ, List, length, take, sym, ap, subst, ◌∙◌, arith}
 use Rattle.std.specs.List.{prefix_len}
 use Rattle.cob_picture.specs.Counts.{digits}
+use Rattle.cob_lanes.specs.Texts.{AreShown}
 use Rattle.cob_lanes.specs.declared.text.LaneText.{LaneText}
-use Rattle.cob_move_prepared.specs.Edits.{IsTextFor}
+use Rattle.cob_move_prepared.specs.Texts.{IsTextFor}
 use Rattle.cob_move_prepared.proofs.EditLemmas.{edited, not_edited}
 use Rattle.cob_move_prepared.proofs.StepLemmas.{not_false}
 use Rattle.cob_move_prepared.proofs.TextLemmas.{text_at}
@@ -10,8 +11,8 @@ use Rattle.cob_move_prepared.proofs.edit_step.EditStep.run.Goals as goal
 
 pub returns-then-not-read-clause-gets : goal.returns-then-not-read-clause-gets
 returns-then-not-read-clause-gets c = λ s r is within size reading suits.
-    not_edited s r c.args.self.now reading c.args.from.now c.read-read.result.is_number c.read-read.result.minus c.read-read.result.digits c.args.to.now (length c.args.to.now)
-    is c.if-not-read.true (c.read-read.ensures s r reading is.reader suits within)
+    not_edited s r reading c.args.from.now c.read-read.result.is_number c.read-read.result.minus c.read-read.result.digits c.args.to.now (length c.args.to.now)
+    is.receives is.reader.sends c.if-not-read.true (c.read-read.ensures s r reading is.reader suits within)
 
 pub returns-clause-gets : goal.returns-clause-gets
 returns-clause-gets c = λ s r is within size reading suits.
@@ -26,5 +27,5 @@ returns-clause-gets c = λ s r is within size reading suits.
     let front : zeros ≡ prefix_len (λ d. d == 0) (take (digits r.picture.positions) kept) =
     c.zeros_in_front-zeros.ensures.value few ∙ ap (λ n. prefix_len (λ d. d == 0) (take n kept)) is.count in
     let made = c.write.ensures.made in
-    edited s r step reading c.args.from.now c.read-read.result.is_number c.read-read.result.minus kept made.0 c.write.new.out text (length c.args.to.now) zeros
-    is size c.if-not-read.false read right front made.1 made.2
+    edited s r reading c.args.from.now c.read-read.result.is_number c.read-read.result.minus kept made.0 c.write.new.out (AreShown text) (length c.args.to.now) zeros
+    is.receives is.few size c.if-not-read.false read right front made.1 made.2
