@@ -1,5 +1,5 @@
 -- Single moves of numbers to characters that are made ready: the digits of a number are written as characters.
-use Rattle.std.specs.Prelude.{◌≡◌, ℕ, ◌+◌, ◌≤◌, Bool, true, false, min, List, length, take, Option}
+use Rattle.std.specs.Prelude.{◌≡◌, ℕ, ◌+◌, ◌≤◌, true, false, List, length, take, Option}
 use Rattle.cob_decimal.specs.Parts.{zeros_of}
 use Rattle.cob_picture.specs.Counts.{scale}
 use Rattle.cob_copybook_tree.specs.declared.node.Item.{Item}
@@ -7,31 +7,36 @@ use Rattle.cob_copybook_tree.specs.Items.{IsNumberItem}
 use Rattle.cob_copybook_tree.specs.Lengths.{item_size}
 use Rattle.cob_lanes.specs.Texts.{AreShown}
 use Rattle.cob_lanes.specs.declared.text.LaneText.{LaneText}
-use Rattle.cob_move_receive.specs.Characters.{Arranged, numerals_to_point, placement_by}
+use Rattle.cob_move_receive.specs.Characters.{numerals_to_point}
 use Rattle.cob_move_receive.specs.Copying.{is_of_characters}
 use Rattle.cob_move_prepared.specs.Ends.{IsNumberReaderFor, IsShortNumber, item_digits}
 use Rattle.cob_move_prepared.specs.Running.{ReceivedWhereRead}
 use Rattle.cob_move_prepared.specs.Texts.{AreLed}
 use Rattle.cob_move_prepared.specs.declared.numerals_step.NumeralsStep.{NumeralsStep}
 
+-- how many characters the digits of the item's number are, with a zero for each P at the right
+abbrev pub numeral_count : Item → ℕ
+numeral_count i = item_digits i + zeros_of (scale i.picture.positions)
+
 -- The number of the item has at most sixteen digits, with a zero for each P at the right.
 pub record HasFewNumerals (i : Item) : Type 0 where
   pub number : IsNumberItem i
-  pub few : item_digits i + zeros_of (scale i.picture.positions) ≤ 16
+  pub few : numeral_count i ≤ 16
 
--- The text makes m bytes of the digits of the item's number: from the left or from the right, padded with spaces and cut.
-abbrev pub MakesNumerals : Item → (right : Bool) → (m : ℕ) → LaneText → Type 0
-MakesNumerals from right m t =
+-- The text makes the characters of the digits of the item's number.
+abbrev pub MakesNumerals : Item → LaneText → Type 0
+MakesNumerals from t =
     (lanes bytes : List ℕ) → AreLed (item_digits from) lanes → AreShown t false lanes bytes
-    → Arranged (placement_by right) m (numerals_to_point (take (item_digits from) lanes) (scale from.picture.positions)) (take m bytes)
+    → take (numeral_count from) bytes ≡ numerals_to_point (take (item_digits from) lanes) (scale from.picture.positions)
 
 -- The step moves the digits of the first item's number to the second, which takes characters without insertions.
 pub record IsNumeralsStep (from to : Item) (step : NumeralsStep) : Type 0 where
   pub sends : HasFewNumerals from
   pub receives : is_of_characters to.picture.category ≡ true
   pub reader : IsNumberReaderFor from from step.reader
+  pub count : step.count ≡ numeral_count from
   pub side : step.right ≡ to.justified
-  pub text : MakesNumerals from to.justified (min (item_size to) 16) step.text
+  pub text : MakesNumerals from step.text
 
 -- What a receiver of n bytes holds after the move of the item that ends these bytes, or none: for each two items whose step this is, where the
 -- bytes have the sender at their end and n is the receiver's size.

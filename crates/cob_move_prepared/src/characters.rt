@@ -64,7 +64,7 @@ fn put_right(text: &[u8], to: &mut [u8])
 
 /// Writes characters from the right or from the left.
 #[inline(always)]
-fn put(text: &[u8], right: bool, to: &mut [u8])
+pub(crate) fn put(text: &[u8], right: bool, to: &mut [u8])
     ensures left { right ≡ false → to.new ≡ padded (length to.old) text.now }
     ensures right { right ≡ true → to.new ≡ padded_left (length to.old) text.now }
 {

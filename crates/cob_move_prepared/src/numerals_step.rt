@@ -1,3 +1,5 @@
+ghost use Rattle.std.specs.Prelude.{◌≤◌};
+
 use crate::number_ends::NumberReader;
 use cob_lanes::LaneText;
 
@@ -5,8 +7,11 @@ use cob_lanes::LaneText;
 #[derive(Drop)]
 pub struct NumeralsStep {
     pub reader: NumberReader,
-    /// What makes the bytes of a receiver, or sixteen of more: its first ones, or its last ones where the digits stand from the right.
+    /// What makes the characters of the digits.
     pub text: LaneText,
-    /// Whether the digits stand from the right: the receiver is JUSTIFIED.
+    /// How many characters they are: a zero stands for each P at the right.
+    pub count: u8,
+    /// Whether they stand from the right: the receiver is JUSTIFIED.
     pub right: bool,
+    pub ghost most: { count ≤ 16 },
 }
