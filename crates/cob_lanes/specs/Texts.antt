@@ -37,6 +37,10 @@ all_lanes text = text.front ++ text.back
 abbrev pub digit_shown : ℕ → ℕ
 digit_shown byte = if nat_lt 240 byte && nat_le byte 249 then byte - 240 else 0
 
+-- The lane of a byte in sixteen that start at one, if it is one of them; else none.
+abbrev pub place_from : (start byte : ℕ) → ℕ
+place_from start byte = if nat_le start byte && nat_lt (byte - start) 16 then byte - start else 128
+
 -- The digits are looked for at these bytes of a text, at most sixteen.
 pub record ArePlacesAt (at : List ℕ) (places : DigitPlaces) : Type 0 where
   pub few : length at ≤ 16

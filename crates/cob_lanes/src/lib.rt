@@ -43,7 +43,7 @@ pub use lanes::{Bounds, NO_LANE, Picks, keeps_minus, keeps_minus_of_both, zeros_
 pub use reader::LaneReader;
 pub use reading::LanesRead;
 pub use signs::SignByte;
-pub use text::LaneText;
+pub use text::{DigitPlaces, KeptDigits, LaneText, TextLanes, WideText};
 pub use wanted::Wanted;
 pub use wide_writer::WideWriter;
 pub use width::Width;
