@@ -5,7 +5,7 @@ use Rattle.cob_lanes.specs.Windows.{ArePowerPicks}
 use Rattle.cob_lanes.specs.declared.text.DigitPlaces.{DigitPlaces}
 use Rattle.cob_lanes.specs.declared.text.KeptDigits.{KeptDigits}
 use Rattle.cob_lanes.specs.declared.text.LaneText.{LaneText}
-use Rattle.cob_lanes.specs.declared.text.TextLanes.{TextLanes}
+use Rattle.cob_lanes.specs.declared.text_lanes.TextLanes.{TextLanes}
 use Rattle.cob_lanes.specs.declared.text.WideText.{WideText}
 
 -- ---- texts that are made

@@ -8,6 +8,7 @@ ghost use Rattle.cob_lanes.specs.Texts.{all_lanes, AreDigitsAt, ArePlacesAt, Are
 
 use crate::lanes::{NO_LANE, Picks, are_same, picked, sums};
 use crate::picks::{Spread, power_picks};
+use crate::text_lanes::TextLanes;
 use crate::wanted::Wanted;
 use crate::writer::{chosen, put_front};
 use std::simd::prelude::*;
@@ -33,15 +34,6 @@ pub struct WideText {
     pub front: LaneText,
     /// What makes those behind them.
     pub back: LaneText,
-}
-
-/// A text of at most thirty-two bytes in two vectors, with zeros behind it.
-#[derive(Clone, Copy)]
-pub struct TextLanes {
-    pub front: u8x16,
-    pub back: u8x16,
-    pub ghost first: { length front ≡ 16 },
-    pub ghost last: { length back ≡ 16 },
 }
 
 /// Where the digits stand in texts of at most thirty-two bytes.
@@ -131,13 +123,22 @@ fn bytes_at(front: u8x16, back: u8x16, places: &DigitPlaces) -> u8x16
     sums(picked(front, &places.front), picked(back, &places.back))
 }
 
+/// How far each byte is above the character of the digit 0; 0 for those that are not above it.
+#[inline(always)]
+fn above_zero(v: u8x16) -> u8x16
+    ensures long { length result ≡ 16 }
+    ensures lanes { (i : ℕ) → i < 16 → slice_index result i ≡ slice_index v i - 240 }
+{
+    v.saturating_sub(u8x16::splat(0xF0))
+}
+
 /// The digit that each byte shows, and 0 for a byte that shows none.
 #[inline(always)]
 fn digits_shown(v: u8x16) -> u8x16
     ensures long { length result ≡ 16 }
     ensures lanes { (i : ℕ) → i < 16 → slice_index result i ≡ digit_shown (slice_index v i) }
 {
-    u8x16::from_array(DIGITS).swizzle_dyn(v.saturating_sub(u8x16::splat(0xF0)))
+    u8x16::from_array(DIGITS).swizzle_dyn(above_zero(v))
 }
 
 impl LaneText {
