@@ -5,7 +5,7 @@ ghost use Rattle.cob_copybook_tree.specs.Items.{IsStorable};
 ghost use Rattle.cob_move_receive.specs.Sent.{Occupies};
 
 use crate::draws::Draws;
-use crate::numbers::UNWRITTEN;
+use crate::moves::UNWRITTEN;
 use crate::tally::Tally;
 use cob_copybook_tree::{Figurative, Item, Kind, Value, is_number, is_number_item};
 use cob_entry::Usage;
@@ -15,7 +15,7 @@ use std::alloc::{AllocError, Global};
 use std::fmt::Write;
 
 /// No item of characters here is longer.
-const LONGEST: u32 = 40;
+pub const LONGEST: u32 = 40;
 
 /// Entries between which characters are moved.
 #[derive(Clone, Copy)]
@@ -45,10 +45,19 @@ fn item_of(picture: &str, justified: bool) -> Option<Item> {
 }
 
 /// An item of so many characters.
-fn characters(alloc: Global, count: u32, justified: bool) -> Result<Option<Kind>, AllocError> {
+pub fn characters_item(
+    alloc: Global,
+    count: u32,
+    justified: bool,
+) -> Result<Option<Item>, AllocError> {
     let mut picture = String::new(alloc);
     write!(picture, "X({count})")?;
-    match item_of(picture.as_str(), justified) {
+    Ok(item_of(picture.as_str(), justified))
+}
+
+/// The same as what may be a group.
+fn characters(alloc: Global, count: u32, justified: bool) -> Result<Option<Kind>, AllocError> {
+    match characters_item(alloc, count, justified)? {
         Some(item) => Ok(Some(Kind::Item(item))),
         None => Ok(None),
     }

@@ -1,15 +1,15 @@
-//! Moves of numbers to edited items.
+//! Edited items, and moves of numbers to them.
 
 ghost use Rattle.std.specs.Prelude.{◌<◌, ◌≤◌};
 
 use crate::draws::Draws;
-use crate::kinds::ItemKind;
-use crate::numbers::{TRIES, UNWRITTEN, drawn_item};
+use crate::kinds::{ItemKind, all_kinds};
+use crate::moves::tally_move;
+use crate::numbers::{TRIES, drawn_item};
 use crate::senders::drawn_record;
 use crate::tally::Tally;
 use cob_copybook_tree::Item;
 use cob_entry::Usage;
-use cob_move_prepared::EditStep;
 use cob_picture::Picture;
 use std::alloc::{AllocError, Global};
 
@@ -60,8 +60,32 @@ pub fn edited_kinds() -> [EditedKind; 18] {
     ]
 }
 
+/// Kinds of more than sixteen bytes, behind two of digits that aren't kept.
+pub fn long_kinds() -> [EditedKind; 18] {
+    [
+        blank_when_zero("9(5)P(3)"),
+        blank_when_zero("VP(2)9(6)"),
+        edited("$$$,$$$,$$$,$$9.99CR"),
+        edited("ZZZ,ZZZ,ZZZ,ZZ9.99-"),
+        edited("+(12)9.9(3)BBBBBBB"),
+        edited("9(2)/9(2)/9(4)B9(2)B9(2)0000"),
+        edited("***,***,***,***.**DB"),
+        edited("-(4),-(3),-(3),-(3).--"),
+        edited("+$Z(3),Z(3),Z(3),Z(3).99"),
+        edited("$B*(3)B*(3)B*(3)B9(3)V99-"),
+        blank_when_zero("Z(8)/(4)B(4)9(8)0(8)"),
+        edited("Z(8)B(8)Z(8)0(8)"),
+        edited("9(16)-"),
+        edited("-(17)"),
+        blank_when_zero("BB$(12)9.99"),
+        edited(".Z(16)"),
+        blank_when_zero("$(5),$(3),$(3)V9(5)/DB"),
+        edited("-0(2)BZ(6)/Z(5)9(4)"),
+    ]
+}
+
 /// An item of a kind.
-fn item_of(kind: &EditedKind) -> Option<Item> {
+pub fn item_of(kind: &EditedKind) -> Option<Item> {
     match Picture::read(kind.picture.as_bytes()) {
         Ok(picture) => Some(Item {
             picture,
@@ -74,16 +98,6 @@ fn item_of(kind: &EditedKind) -> Option<Item> {
     }
 }
 
-/// Moves the number at the end of a record to a receiver, and counts what came of it.
-fn tally_move(step: &EditStep, record: &[u8], size: usize, tally: &mut Tally) {
-    if size > 16 {
-        return;
-    }
-    let mut bytes = [UNWRITTEN; 16];
-    let moved = step.run(record, &mut bytes[..size]);
-    tally.count(moved, &bytes[..size]);
-}
-
 /// Tries a move of an item of so many digits.
 fn try_move(
     alloc: Global,
@@ -94,23 +108,17 @@ fn try_move(
     tally: &mut Tally,
 ) -> Result<(), AllocError>
     requires some { 0 < sent }
-    requires most { sent ≤ 16 }
+    requires most { sent ≤ 31 }
 {
     let sender = drawn_item(alloc, from, sent, draws)?;
     let record = drawn_record(alloc, from, sent as usize, draws)?;
-    if let Some(sender) = &sender {
-        if let Some(step) = EditStep::prepare(alloc, sender, receiver)? {
-            tally_move(
-                &step,
-                record.as_slice(),
-                usize::from(receiver.size()),
-                tally,
-            );
-            return Ok(());
+    match &sender {
+        Some(sender) => tally_move(alloc, sender, receiver, record.as_slice(), tally),
+        None => {
+            tally.count_none();
+            Ok(())
         }
     }
-    tally.count_none();
-    Ok(())
 }
 
 /// Tries the moves of items of a kind to edited items of a kind.
@@ -125,6 +133,25 @@ pub fn try_edited(
         for sent in 1..from.most_digits() + 1 {
             for _ in 0..TRIES {
                 try_move(alloc, from, &receiver, sent, draws, &mut tally)?;
+            }
+        }
+    }
+    Ok(tally)
+}
+
+/// Tries the moves of items of all kinds to edited items of a kind; packed ones have up to thirty-one digits.
+pub fn try_all_edited(
+    alloc: Global,
+    to: &EditedKind,
+    draws: &mut Draws,
+) -> Result<Tally, AllocError> {
+    let mut tally = Tally::new();
+    if let Some(receiver) = item_of(to) {
+        for from in &all_kinds() {
+            for sent in 1..from.most_wide_digits() + 1 {
+                for _ in 0..TRIES {
+                    try_move(alloc, from, &receiver, sent, draws, &mut tally)?;
+                }
             }
         }
     }

@@ -134,6 +134,20 @@ pub fn drawn_scale(draws: &mut Draws, digits: u32) -> i32
     }
 }
 
+/// A scale at which at most sixteen of so many digits, and of those that P stands for at the right, are left of the point.
+pub fn drawn_short_scale(draws: &mut Draws, digits: u32) -> i32
+    requires some { 0 < digits }
+    requires most { digits ≤ 16 }
+{
+    let places = 16 - digits;
+    match draws.below(4) {
+        0 => 0,
+        1 => digits as i32,
+        2 => -(places as i32),
+        _ => draws.below(places + 32) as i32 - places as i32,
+    }
+}
+
 /// Writes a symbol so many times, if at all.
 fn push_symbol(text: &mut String, symbol: &str, times: u32) -> Result<(), AllocError> {
     if times > 0 {

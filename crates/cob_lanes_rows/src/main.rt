@@ -1,25 +1,36 @@
 //! Makes single moves by prepared steps, and prints sums of what the receivers hold.
 //!
-//! Numbers are moved between each two kinds of items, of each number of digits, and to edited items; at the end those of which an item has more
-//! than sixteen digits; characters between entries of each
-//! length; figurative constants to entries of each length. Scales, bytes and signs are drawn, the same in each run. A line tells how many
-//! moves were made, how many senders represented no number, how many moves had no step, and the sum. `tools/lane_sums` works the same out
-//! from the rules alone.
+//! Numbers are moved between each two kinds of items, of each number of digits, and to edited items; characters between entries of each length;
+//! figurative constants to entries of each length; numbers of which an item has more than sixteen digits. At the end numbers are moved to edited
+//! items of more than sixteen bytes, from characters, from edited items and from bytes that are near their texts, and to characters. Scales, bytes
+//! and signs are drawn, the same in each run. A line tells how many moves were made, how many senders represented no number, how many moves had no
+//! step, and the sum. `tools/lane_sums` works the same out from the rules alone.
 #![tactic(auto)]
 
 mod characters;
+mod converted;
 mod draws;
 mod edited;
 mod kinds;
+mod moves;
+mod near;
 mod numbers;
 mod senders;
+mod shown;
 mod tally;
+mod texts;
 
 use crate::characters::{CharacterMove, figuratives, try_characters, try_figurative};
+use crate::converted::{
+    try_characters_to_edited, try_characters_to_numbers, try_edited_to_edited,
+    try_edited_to_numbers,
+};
 use crate::draws::Draws;
-use crate::edited::{edited_kinds, try_edited};
+use crate::edited::{EditedKind, edited_kinds, long_kinds, try_all_edited, try_edited};
 use crate::kinds::{all_kinds, kinds};
+use crate::near::try_near;
 use crate::numbers::{try_kinds, try_wide_kinds};
+use crate::shown::try_shown;
 use crate::tally::Tally;
 use std::io;
 
@@ -106,6 +117,72 @@ fn print_constants(rt: HostRuntime) -> io::Result<()> {
     Ok(())
 }
 
+/// Numbers edited in more than sixteen bytes.
+fn print_long(rt: HostRuntime, draws: &mut Draws) -> io::Result<()> {
+    for to in &long_kinds() {
+        let tally = try_all_edited(rt.alloc(), to, draws)?;
+        print_tally(rt, "numbers", to.picture, &tally)?;
+    }
+    Ok(())
+}
+
+/// Characters that are numbers.
+fn print_numerals(rt: HostRuntime, draws: &mut Draws) -> io::Result<()> {
+    for to in &all_kinds() {
+        let tally = try_characters_to_numbers(rt.alloc(), to, draws)?;
+        print_tally(rt, "characters", to.name, &tally)?;
+    }
+    Ok(())
+}
+
+/// The same, edited.
+fn print_edited_numerals(
+    rt: HostRuntime,
+    kinds: &[EditedKind],
+    draws: &mut Draws,
+) -> io::Result<()> {
+    for to in kinds {
+        let tally = try_characters_to_edited(rt.alloc(), to, draws)?;
+        print_tally(rt, "characters", to.picture, &tally)?;
+    }
+    Ok(())
+}
+
+/// Numbers that were edited.
+fn print_deedited(rt: HostRuntime, kinds: &[EditedKind], draws: &mut Draws) -> io::Result<()> {
+    for from in kinds {
+        let tally = try_edited_to_numbers(rt.alloc(), from, draws)?;
+        print_tally(rt, from.picture, "numbers", &tally)?;
+        let tally = try_edited_to_edited(rt.alloc(), from, draws)?;
+        print_tally(rt, from.picture, "edited", &tally)?;
+        let tally = try_near(rt.alloc(), from, draws)?;
+        print_tally(rt, from.picture, "zoned trailing, one byte another", &tally)?;
+    }
+    Ok(())
+}
+
+/// Numbers as characters.
+fn print_shown(rt: HostRuntime, draws: &mut Draws) -> io::Result<()> {
+    for from in &all_kinds() {
+        let tally = try_shown(rt.alloc(), from, false, draws)?;
+        print_tally(rt, from.name, "characters", &tally)?;
+        let tally = try_shown(rt.alloc(), from, true, draws)?;
+        print_tally(rt, from.name, "JUSTIFIED", &tally)?;
+    }
+    Ok(())
+}
+
+/// Numbers from and to texts.
+fn print_texts(rt: HostRuntime, draws: &mut Draws) -> io::Result<()> {
+    print_long(rt, draws)?;
+    print_numerals(rt, draws)?;
+    print_edited_numerals(rt, &edited_kinds(), draws)?;
+    print_edited_numerals(rt, &long_kinds(), draws)?;
+    print_deedited(rt, &edited_kinds(), draws)?;
+    print_deedited(rt, &long_kinds(), draws)?;
+    print_shown(rt, draws)
+}
+
 fn main(rt: HostRuntime) -> io::Result<()> {
     let mut draws = Draws::new(1985);
     print_numbers(rt, &mut draws)?;
@@ -113,5 +190,6 @@ fn main(rt: HostRuntime) -> io::Result<()> {
     print_characters(rt, &mut draws)?;
     print_constants(rt)?;
     print_binary(rt, &mut draws)?;
-    print_wide(rt, &mut draws)
+    print_wide(rt, &mut draws)?;
+    print_texts(rt, &mut draws)
 }

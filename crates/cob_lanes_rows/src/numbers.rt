@@ -1,33 +1,28 @@
 //! Moves of numbers between items.
 
-ghost use Rattle.std.specs.Prelude.{◌<◌, ◌≤◌, length};
+ghost use Rattle.std.specs.Prelude.{◌<◌, ◌≤◌};
 
 use crate::draws::Draws;
 use crate::kinds::{ItemKind, drawn_scale, push_picture};
+use crate::moves::tally_move;
 use crate::senders::drawn_record;
 use crate::tally::Tally;
 use cob_copybook_tree::Item;
-use cob_move_prepared::{BinaryStep, NumberStep, WideStep};
 use cob_picture::Picture;
 use std::alloc::{AllocError, Global};
 
 /// How often a move is tried between items of the same kinds and numbers of digits.
 pub const TRIES: u32 = 2;
 
-/// What stands in a receiver's bytes before the move.
-pub const UNWRITTEN: u8 = 0xAA;
-
-/// An item of a kind, of so many digits and a drawn scale.
-pub fn drawn_item(
+/// An item of a kind, of so many digits at a scale.
+pub fn item_at(
     alloc: Global,
     kind: &ItemKind,
     digits: u32,
-    draws: &mut Draws,
+    scale: i32,
 ) -> Result<Option<Item>, AllocError>
-    requires some { 0 < digits }
-    requires most { digits ≤ 31 }
+    requires { digits ≤ 31 }
 {
-    let scale = drawn_scale(draws, digits);
     let mut text = String::new(alloc);
     push_picture(&mut text, kind.signed, digits, scale)?;
     match Picture::read(text.as_bytes()) {
@@ -42,32 +37,18 @@ pub fn drawn_item(
     }
 }
 
-/// Moves the number at the end of a record to a receiver's bytes, where there is a step.
-fn moved(sender: &Item, receiver: &Item, record: &[u8], to: &mut [u8]) -> Option<bool>
-    requires { length to.old ≤ 16 }
+/// An item of a kind, of so many digits and a drawn scale.
+pub fn drawn_item(
+    alloc: Global,
+    kind: &ItemKind,
+    digits: u32,
+    draws: &mut Draws,
+) -> Result<Option<Item>, AllocError>
+    requires some { 0 < digits }
+    requires most { digits ≤ 31 }
 {
-    if let Some(step) = NumberStep::prepare(sender, receiver) {
-        return Some(step.run(record, to));
-    }
-    if let Some(step) = WideStep::prepare(sender, receiver) {
-        return Some(step.run(record, to));
-    }
-    let step = BinaryStep::prepare(sender, receiver)?;
-    Some(step.run(record, to))
-}
-
-/// Moves the number at the end of a record to a receiver, and counts what came of it.
-fn tally_move(sender: &Item, receiver: &Item, record: &[u8], tally: &mut Tally) {
-    let size = usize::from(receiver.size());
-    if size > 16 {
-        tally.count_none();
-        return;
-    }
-    let mut bytes = [UNWRITTEN; 16];
-    match moved(sender, receiver, record, &mut bytes[..size]) {
-        Some(moved) => tally.count(moved, &bytes[..size]),
-        None => tally.count_none(),
-    }
+    let scale = drawn_scale(draws, digits);
+    item_at(alloc, kind, digits, scale)
 }
 
 /// Tries a move between items of two kinds and numbers of digits.
@@ -89,10 +70,14 @@ fn try_move(
     let receiver = drawn_item(alloc, to, received, draws)?;
     let record = drawn_record(alloc, from, sent as usize, draws)?;
     match (&sender, &receiver) {
-        (Some(sender), Some(receiver)) => tally_move(sender, receiver, record.as_slice(), tally),
-        _ => tally.count_none(),
+        (Some(sender), Some(receiver)) => {
+            tally_move(alloc, sender, receiver, record.as_slice(), tally)
+        }
+        _ => {
+            tally.count_none();
+            Ok(())
+        }
     }
-    Ok(())
 }
 
 /// Tries the moves between items of two kinds.

@@ -7,13 +7,21 @@ use crate::kinds::ItemKind;
 use cob_entry::Usage;
 use std::alloc::{AllocError, Global};
 
-/// The digits of an item and the code of its sign.
+/// The digits of an item, and the code and the byte of its sign.
 #[derive(Clone, Copy)]
-struct Drawn {
-    digits: [u8; 31],
-    count: usize,
+pub struct Drawn {
+    pub digits: [u8; 31],
+    pub count: usize,
     code: u8,
-    ghost most: { count ≤ 31 },
+    sign: u8,
+    pub ghost most: { count ≤ 31 },
+}
+
+impl Drawn {
+    /// Whether the code is that of a minus.
+    pub fn is_minus(&self) -> bool {
+        matches!(self.code, 0xB | 0xD)
+    }
 }
 
 /// Digits: zeros alone, zeros before others, or any.
@@ -58,6 +66,21 @@ fn drawn_sign_byte(draws: &mut Draws) -> u8 {
     }
 }
 
+/// Digits and a sign.
+pub fn drawn_parts(draws: &mut Draws, count: usize, signed: bool) -> Drawn
+    requires { count ≤ 31 }
+{
+    let digits = drawn_digits(draws, count);
+    let code = drawn_code(draws, signed);
+    let sign = drawn_sign_byte(draws);
+    Drawn {
+        digits,
+        count,
+        code,
+        sign,
+    }
+}
+
 /// Adds the bytes of a zoned item.
 fn push_zoned(bytes: &mut Vec<u8>, drawn: &Drawn, leads: bool) -> Result<(), AllocError> {
     let place = if leads {
@@ -73,20 +96,15 @@ fn push_zoned(bytes: &mut Vec<u8>, drawn: &Drawn, leads: bool) -> Result<(), All
 }
 
 /// Adds the bytes of an item with a separate sign.
-fn push_separate(
-    bytes: &mut Vec<u8>,
-    drawn: &Drawn,
-    leads: bool,
-    sign: u8,
-) -> Result<(), AllocError> {
+fn push_separate(bytes: &mut Vec<u8>, drawn: &Drawn, leads: bool) -> Result<(), AllocError> {
     if leads {
-        bytes.push(sign)?;
+        bytes.push(drawn.sign)?;
     }
     for k in 0..drawn.count {
         bytes.push(0xF0 | drawn.digits[k])?;
     }
     if !leads {
-        bytes.push(sign)?;
+        bytes.push(drawn.sign)?;
     }
     Ok(())
 }
@@ -137,7 +155,7 @@ fn binary_length(count: usize) -> usize
 /// Adds the bytes of a binary item, in two's complement where the sign is a minus.
 fn push_binary(bytes: &mut Vec<u8>, drawn: &Drawn, signed: bool) -> Result<(), AllocError> {
     let number = number_of(drawn);
-    let word = if signed && matches!(drawn.code, 0xB | 0xD) {
+    let word = if signed && drawn.is_minus() {
         0u64.wrapping_sub(number)
     } else {
         number
@@ -151,29 +169,15 @@ fn push_binary(bytes: &mut Vec<u8>, drawn: &Drawn, signed: bool) -> Result<(), A
 }
 
 /// Adds the bytes of an item.
-fn push_item(
-    bytes: &mut Vec<u8>,
-    kind: &ItemKind,
-    count: usize,
-    draws: &mut Draws,
-) -> Result<(), AllocError>
-    requires { count ≤ 31 }
-{
-    let digits = drawn_digits(draws, count);
-    let drawn = Drawn {
-        digits,
-        count,
-        code: drawn_code(draws, kind.signed),
-    };
-    let sign = drawn_sign_byte(draws);
+fn push_item(bytes: &mut Vec<u8>, kind: &ItemKind, drawn: &Drawn) -> Result<(), AllocError> {
     match kind.usage {
-        Usage::Packed => push_packed(bytes, &drawn),
-        Usage::Binary => push_binary(bytes, &drawn, kind.signed),
+        Usage::Packed => push_packed(bytes, drawn),
+        Usage::Binary => push_binary(bytes, drawn, kind.signed),
         Usage::Display => {
             if kind.is_separate() {
-                push_separate(bytes, &drawn, kind.leads(), sign)
+                push_separate(bytes, drawn, kind.leads())
             } else {
-                push_zoned(bytes, &drawn, kind.leads())
+                push_zoned(bytes, drawn, kind.leads())
             }
         }
     }
@@ -181,13 +185,35 @@ fn push_item(
 
 /// Makes one of an item's bytes any, now and then.
 fn spoil(item: &mut [u8], draws: &mut Draws) {
-    if item.is_empty() || item.len() > 16 {
+    if item.is_empty() || item.len() > 32 {
         return;
     }
     if draws.below(8) == 0 {
         let place = draws.below(item.len() as u32) as usize;
         item[place] = draws.byte();
     }
+}
+
+/// Adds the bytes of an item to a record, one of them any, now and then.
+pub fn push_spoiled(
+    record: &mut Vec<u8>,
+    item: &mut [u8],
+    draws: &mut Draws,
+) -> Result<(), AllocError> {
+    spoil(item, draws);
+    for place in 0..item.len() {
+        record.push(item[place])?;
+    }
+    Ok(())
+}
+
+/// The bytes of a record before those of an item.
+pub fn front(alloc: Global, draws: &mut Draws) -> Result<Vec<u8>, AllocError> {
+    let mut bytes = Vec::new(alloc);
+    for place in 0..draws.below(24) {
+        bytes.push(draws.byte())?;
+    }
+    Ok(bytes)
 }
 
 /// The bytes of a record up to those of an item at its end.
@@ -199,15 +225,10 @@ pub fn drawn_record(
 ) -> Result<Vec<u8>, AllocError>
     requires { count ≤ 31 }
 {
-    let mut bytes = Vec::new(alloc);
-    for place in 0..draws.below(24) {
-        bytes.push(draws.byte())?;
-    }
+    let mut bytes = front(alloc, draws)?;
+    let drawn = drawn_parts(draws, count, kind.signed);
     let mut item = Vec::new(alloc);
-    push_item(&mut item, kind, count, draws)?;
-    spoil(item.as_mut_slice(), draws);
-    for byte in item.as_slice() {
-        bytes.push(*byte)?;
-    }
+    push_item(&mut item, kind, &drawn)?;
+    push_spoiled(&mut bytes, item.as_mut_slice(), draws)?;
     Ok(bytes)
 }
