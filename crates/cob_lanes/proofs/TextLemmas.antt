@@ -14,12 +14,8 @@ use Rattle.cob_decimal.specs.Decimal.{IsDigits, number_of, digit_at}
 use Rattle.cob_decimal.proofs.DecimalLemmas.{digit_in, digit_beyond}
 use Rattle.cob_lanes.specs.Lanes.{AreTens, is_pick, picked_at}
 use Rattle.cob_lanes.specs.Readers.{AreWanted}
-<<<<<<< HEAD
-use Rattle.cob_lanes.specs.Texts.{digit_shown}
-=======
 use Rattle.cob_lanes.specs.Texts.{ArePlacesAt, digit_shown}
 use Rattle.cob_lanes.specs.declared.text.DigitPlaces.{DigitPlaces}
->>>>>>> f5c3f6686487e6039249bf919438f06aebd7c8cc
 use Rattle.cob_lanes.specs.Windows.{ArePowerPicks, half_lane, power_pick}
 use Rattle.cob_lanes.proofs.HalfLemmas.{all_digits}
 use Rattle.cob_lanes.proofs.WindowLemmas.{nothing_more}
@@ -181,8 +177,6 @@ kept_wanted count wanted shift lanes picks kept long few room tens are kept_long
       each = λ j lt. each j (omega arith) ∙ ap (picked_at lanes) (are.each j lt) ∙ digit_placed count lanes (pos (wanted - 1 - j) -ℤ shift) long few valid;
       rest = λ j ge lt. each j lt ∙ ap (picked_at lanes) (are.rest j ge lt);
     }
-<<<<<<< HEAD
-=======
 
 -- ---- bytes at given places
 
@@ -235,4 +229,3 @@ none_picked at front back places k are ge lt =
     let first : get_or places.front.lanes k 0 ≡ 128 = are.front k lt ∙ ap (λ t. cond (t && ltb j 16) j 128) outside in
     let last : get_or places.back.lanes k 0 ≡ 128 = are.back k lt ∙ ap (λ t. cond (t && leb 16 j) (j - 16) 128) outside in
     ap (λ p. (picked_at front p + picked_at back (get_or places.back.lanes k 0)) % 256) first ∙ ap (λ q. (picked_at front 128 + picked_at back q) % 256) last
->>>>>>> f5c3f6686487e6039249bf919438f06aebd7c8cc
