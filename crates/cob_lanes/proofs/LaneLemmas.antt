@@ -1,5 +1,5 @@
 -- The vector operations, lane by lane.
-use Rattle.std.proofs.Common.{◌≡◌, ℕ, zero, suc, ◌+◌, ◌*◌, ◌/◌, ◌%◌, ◌^◌, ◌<◌, ◌↔◌, Bool, true, false, not, cond, eqb, ltb, leb, T, ◌||◌, List, [], ◌∷◌, map, length, get_or, replicate, bit_or, refl, sym, ap, ◌∙◌, inl, inr, arith, w8, Fits, eqb-true, ltb-true, eq-eqb, leb-true}
+use Rattle.std.proofs.Common.{◌≡◌, ℕ, zero, suc, ◌+◌, ◌*◌, ◌/◌, ◌%◌, ◌^◌, ◌<◌, ◌↔◌, Bool, true, false, not, cond, eqb, ltb, leb, T, ◌||◌, List, [], ◌∷◌, map, length, get_or, drop, replicate, bit_or, refl, sym, ap, ◌∙◌, inl, inr, arith, w8, Fits, eqb-true, ltb-true, eq-eqb, leb-true}
 use Rattle.std.proofs.lemmas.Bool.{cases_lt, eqb-false}
 use Rattle.std.proofs.lemmas.List.{get_or_past, length-map}
 use Rattle.std.proofs.lemmas.Nat.{and_le_l, and_le_r}
@@ -74,6 +74,31 @@ pub zero_of_mask : (xs : List ℕ) → length xs ≡ 16 → (eqb (mask_l (map (t
 zero_of_mask xs long =
     let e = mask_small differs xs (replicate 16 0) long refl ∙ ap (λ n. mask_l (map (top 7) (zip2 differs xs (replicate n 0)))) (sym long) in
     (λ t i h. (none_differ xs).0 (sym e ∙ eqb-true _ _ t) i, λ z. eq-eqb _ _ (e ∙ (none_differ xs).1 (all_zero xs long z)))
+
+flag_of : (x y : ℕ) → (◌≡◌ {A = ℕ} (cond (top 7 (differs x y)) 1 0) 0) ↔ (x ≡ y)
+flag_of x y = go (eqb x y) refl
+  where
+    go : (t : Bool) → eqb x y ≡ t → (◌≡◌ {A = ℕ} (cond (top 7 (cond (not t) 255 0)) 1 0) 0) ↔ (x ≡ y)
+    go true e = (λ _. eqb-true _ _ e, λ _. refl)
+    go false e = (λ q. absurd (omega arith), λ z. absurd (eqb-false _ _ e z))
+
+-- no lane of two differs
+all_same : (xs ys : List ℕ) → length xs ≡ length ys → (mask_l (map (top 7) (zip2 differs xs ys)) ≡ 0) ↔ (xs ≡ ys)
+all_same [] [] e = (λ _. refl, λ _. refl)
+all_same [] (y ∷ ys) e = absurd (omega arith)
+all_same (x ∷ xs) [] e = absurd (omega arith)
+all_same (x ∷ xs) (y ∷ ys) e =
+    let r = all_same xs ys (omega arith) in
+    (
+      λ m. (let first : x ≡ y = (flag_of x y).0 (omega arith) in let rest : xs ≡ ys = r.0 (omega arith) in ap (λ z. z ∷ xs) first ∙ ap (λ zs. y ∷ zs) rest),
+      λ h. omega (arith, (flag_of x y).1 (ap (λ l. get_or l 0 0) h), r.1 (ap (drop 1) h)),
+    )
+
+pub same_of_mask : (xs ys : List ℕ) → length xs ≡ 16 → length ys ≡ 16 → (eqb (mask_l (map (top 7) (zip2 differs xs ys)) % 2 ^ 64) 0 ≡ true) ↔ (xs ≡ ys)
+same_of_mask xs ys p q =
+    let e = mask_small differs xs ys p q in
+    let r = all_same xs ys (p ∙ sym q) in
+    (λ t. r.0 (sym e ∙ eqb-true _ _ t), λ z. eq-eqb _ _ (e ∙ r.1 z))
 
 or_zero : (a b : ℕ) → a < 256 → b < 256 → (bit_or a b ≡ 0) ↔ ((a ≡ 0) × (b ≡ 0))
 or_zero a b A B = (

@@ -14,3 +14,5 @@ pub mod WideLemmas
 pub mod WideWriting
 pub mod SignLemmas
 pub mod FourLemmas
+pub mod NumeralReading
+pub mod TextLemmas

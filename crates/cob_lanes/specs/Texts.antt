@@ -5,7 +5,7 @@ use Rattle.cob_lanes.specs.Windows.{ArePowerPicks}
 use Rattle.cob_lanes.specs.declared.text.DigitPlaces.{DigitPlaces}
 use Rattle.cob_lanes.specs.declared.text.KeptDigits.{KeptDigits}
 use Rattle.cob_lanes.specs.declared.text.LaneText.{LaneText}
-use Rattle.cob_lanes.specs.declared.text.TextLanes.{TextLanes}
+use Rattle.cob_lanes.specs.declared.text_lanes.TextLanes.{TextLanes}
 use Rattle.cob_lanes.specs.declared.text.WideText.{WideText}
 
 -- ---- texts that are made
@@ -36,6 +36,10 @@ all_lanes text = text.front ++ text.back
 -- The digit that a byte shows, and 0 for a byte that shows none.
 abbrev pub digit_shown : ℕ → ℕ
 digit_shown byte = if nat_lt 240 byte && nat_le byte 249 then byte - 240 else 0
+
+-- The lane of a byte in sixteen that start at one, if it is one of them; else none.
+abbrev pub place_from : (start byte : ℕ) → ℕ
+place_from start byte = if nat_le start byte && nat_lt (byte - start) 16 then byte - start else 128
 
 -- The digits are looked for at these bytes of a text, at most sixteen.
 pub record ArePlacesAt (at : List ℕ) (places : DigitPlaces) : Type 0 where

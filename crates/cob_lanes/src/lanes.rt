@@ -70,6 +70,14 @@ pub(crate) fn are_zero(v: u8x16) -> bool
     v.simd_ne(u8x16::splat(0)).to_bitmask() == 0
 }
 
+/// Whether two vectors hold the same lanes.
+#[inline(always)]
+pub(crate) fn are_same(a: u8x16, b: u8x16) -> bool
+    ensures { IsTrue result ↔ (a ≡ b) }
+{
+    a.simd_ne(b).to_bitmask() == 0
+}
+
 /// Whether a minus stays with a number that is zero or not.
 #[inline(always)]
 fn stays(minus: bool, zero: bool) -> bool

@@ -31,6 +31,7 @@ mod readers;
 mod reading;
 mod signs;
 mod text;
+mod text_lanes;
 mod wanted;
 mod wide_writer;
 mod width;
@@ -43,7 +44,8 @@ pub use lanes::{Bounds, NO_LANE, Picks, keeps_minus, keeps_minus_of_both, zeros_
 pub use reader::LaneReader;
 pub use reading::LanesRead;
 pub use signs::SignByte;
-pub use text::LaneText;
+pub use text::{DigitPlaces, KeptDigits, LaneText, WideText};
+pub use text_lanes::TextLanes;
 pub use wanted::Wanted;
 pub use wide_writer::WideWriter;
 pub use width::Width;

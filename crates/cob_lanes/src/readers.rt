@@ -5,7 +5,7 @@ ghost use Rattle.cob_codec.specs.Packed.{IsPacked};
 ghost use Rattle.cob_codec.specs.Separate.{IsSignedSeparately};
 ghost use Rattle.cob_codec.specs.Sign.{sign_place};
 ghost use Rattle.cob_codec.specs.Zoned.{IsZoned};
-ghost use Rattle.cob_lanes.specs.Readers.{IsReaderOf};
+ghost use Rattle.cob_lanes.specs.Readers.{AreNumeralsOf, IsReaderOf};
 ghost use Rattle.cob_lanes.specs.Windows.{first_lane, pad_bound, sign_lane};
 
 use crate::bounds::ANY;
@@ -81,6 +81,32 @@ impl LaneReader {
             signed: shape.signed,
             table: table_start(SignByte::Zone, shape.signed),
             place: place as u8,
+        }
+    }
+
+    /// What reads items of so many characters, each a digit, as whole numbers that aren't negative.
+    pub fn numerals(count: u8, wanted: Wanted) -> LaneReader
+        requires some { 0 < count }
+        requires most { count ≤ 16 }
+        ensures { IsReaderOf (AreNumeralsOf count) count wanted.digits wanted.shift result }
+    {
+        let count = usize::from(count);
+        let front = 16 - count;
+        let least_high = lanes_between(front, 16, ANY, 0);
+        let bounds = Bounds::above(least_high, lanes_between(front, 16, NINE, ANY));
+        let spread = Spread {
+            start: 2 * front + 1,
+            apart: 2,
+            count,
+        };
+        LaneReader {
+            bounds,
+            high: power_picks(true, &spread, wanted),
+            low: power_picks(false, &spread, wanted),
+            sign: SignByte::Zone,
+            signed: false,
+            table: table_start(SignByte::Zone, false),
+            place: 15,
         }
     }
 
