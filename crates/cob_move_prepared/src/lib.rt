@@ -40,6 +40,8 @@ mod edit_step;
 mod ends_preparing;
 mod ends_running;
 mod number_ends;
+mod numerals_preparing;
+mod numerals_running;
 mod numerals_step;
 mod pictured;
 mod pool;
