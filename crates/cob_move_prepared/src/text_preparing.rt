@@ -18,3 +18,6 @@ pub(crate) fn text_reader(
     requires { digits receiver.now.picture.positions ≤ 16 }
     ensures reader { IfOk result (λ reader. IfSome reader (IsTextReaderFor sender.now receiver.now)) }
     ensures must { IsWideEditedItem sender.now → IfOk result IsSome }
+{
+    Ok(None)
+}

@@ -10,4 +10,7 @@ impl TextReader {
     #[inline(never)]
     pub(crate) fn read(&self, bytes: &[u8]) -> LanesRead
         ensures { IsTextRead self.now bytes.now result.is_number result.minus result.digits }
+    {
+        LanesRead { is_number: false, minus: false, digits: std::simd::u8x16::splat(0) }
+    }
 }
