@@ -98,9 +98,8 @@ IsTextRead r bytes is_number minus kept =
 
 -- The reader is one for the item's kind of storage.
 abbrev pub IsOwnReader : Item → Item → NumberReader → Type 0
-IsOwnReader from to (reader.Lanes r) = IsLaneReaderFor from to r
+IsOwnReader from to (reader.Lanes r) = IsLaneReaderFor from to r ⊎ IsNumeralReaderFor from to r
 IsOwnReader from to (reader.Binary r) = IsWordReaderFor from to r
-IsOwnReader from to (reader.Numerals r) = IsNumeralReaderFor from to r
 IsOwnReader from to (reader.Text r) = IsTextReaderFor from to r
 
 -- The writer is one for the item's kind of storage.
