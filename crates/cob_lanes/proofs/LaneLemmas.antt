@@ -47,10 +47,10 @@ picked_lane v js m long ok lt = get_or-swz_l w8 16 v 0 js m (omega arith) ∙ pi
 abbrev pub differs : ℕ → ℕ → ℕ
 differs a b = cond (not (eqb a b)) 255 0
 
-flag : (x : ℕ) → (◌≡◌ {A = ℕ} (cond (top 7 (differs x 0)) 1 0) 0) ↔ (x ≡ 0)
-flag x = go (eqb x 0) refl
+flag_of : (x y : ℕ) → (◌≡◌ {A = ℕ} (cond (top 7 (differs x y)) 1 0) 0) ↔ (x ≡ y)
+flag_of x y = go (eqb x y) refl
   where
-    go : (t : Bool) → eqb x 0 ≡ t → (◌≡◌ {A = ℕ} (cond (top 7 (cond (not t) 255 0)) 1 0) 0) ↔ (x ≡ 0)
+    go : (t : Bool) → eqb x y ≡ t → (◌≡◌ {A = ℕ} (cond (top 7 (cond (not t) 255 0)) 1 0) 0) ↔ (x ≡ y)
     go true e = (λ _. eqb-true _ _ e, λ _. refl)
     go false e = (λ q. absurd (omega arith), λ z. absurd (eqb-false _ _ e z))
 
@@ -62,7 +62,7 @@ none_differ : (xs : List ℕ) → (mask_l (map (top 7) (zip2 differs xs (replica
 none_differ [] = (λ _ i. refl, λ _. refl)
 none_differ (x ∷ xs) =
     let r = none_differ xs in
-    (λ e. elim [ zero ↦ (flag x).0 (omega arith) | suc i ↦ r.0 (omega arith) i ], λ h. omega (arith, (flag x).1 (h 0), r.1 (λ i. h (suc i))))
+    (λ e. elim [ zero ↦ (flag_of x 0).0 (omega arith) | suc i ↦ r.0 (omega arith) i ], λ h. omega (arith, (flag_of x 0).1 (h 0), r.1 (λ i. h (suc i))))
 
 all_zero : (v : List ℕ) → length v ≡ 16 → AreZero v → AllZero v
 all_zero v long h i = elim (cases_lt i 16) [ inl l ↦ h i l | inr g ↦ get_or_past v i 0 (omega arith) ]
@@ -75,21 +75,13 @@ zero_of_mask xs long =
     let e = mask_small differs xs (replicate 16 0) long refl ∙ ap (λ n. mask_l (map (top 7) (zip2 differs xs (replicate n 0)))) (sym long) in
     (λ t i h. (none_differ xs).0 (sym e ∙ eqb-true _ _ t) i, λ z. eq-eqb _ _ (e ∙ (none_differ xs).1 (all_zero xs long z)))
 
-flag_of : (x y : ℕ) → (◌≡◌ {A = ℕ} (cond (top 7 (differs x y)) 1 0) 0) ↔ (x ≡ y)
-flag_of x y = go (eqb x y) refl
-  where
-    go : (t : Bool) → eqb x y ≡ t → (◌≡◌ {A = ℕ} (cond (top 7 (cond (not t) 255 0)) 1 0) 0) ↔ (x ≡ y)
-    go true e = (λ _. eqb-true _ _ e, λ _. refl)
-    go false e = (λ q. absurd (omega arith), λ z. absurd (eqb-false _ _ e z))
-
 -- no lane of two differs
 all_same : (xs ys : List ℕ) → length xs ≡ length ys → (mask_l (map (top 7) (zip2 differs xs ys)) ≡ 0) ↔ (xs ≡ ys)
 all_same [] [] e = (λ _. refl, λ _. refl)
 all_same [] (y ∷ ys) e = absurd (omega arith)
 all_same (x ∷ xs) [] e = absurd (omega arith)
 all_same (x ∷ xs) (y ∷ ys) e =
-    let r = all_same xs ys (omega arith) in
-    (
+    let r = all_same xs ys (omega arith) in (
       λ m. (let first : x ≡ y = (flag_of x y).0 (omega arith) in let rest : xs ≡ ys = r.0 (omega arith) in ap (λ z. z ∷ xs) first ∙ ap (λ zs. y ∷ zs) rest),
       λ h. omega (arith, (flag_of x y).1 (ap (λ l. get_or l 0 0) h), r.1 (ap (drop 1) h)),
     )

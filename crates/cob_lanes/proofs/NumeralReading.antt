@@ -2,7 +2,7 @@
 use Rattle.std.proofs.Common.{◌≡◌, ℕ, ◌+◌, ◌-◌, ◌*◌, ◌/◌, ◌%◌, ◌<◌, ◌≤◌, ℤ, Bool, true, false, Some, List, map, length, get_or, refl, sym, ap, subst, ◌∙◌, inl, inr, arith}
 use Rattle.std.proofs.lemmas.Bool.{cases_lt}
 use Rattle.std.proofs.lemmas.List.{get_or-map, length-map}
-use Rattle.cob_decimal.specs.Decimal.{IsDigits, number_of}
+use Rattle.cob_decimal.specs.Decimal.{IsDigits}
 use Rattle.cob_codec.specs.Sign.{IsSigned, sign_meaning}
 use Rattle.cob_codec.proofs.SignLemmas.{digit_small, same_some}
 use Rattle.cob_codec.specs.Zoned.{low_digit}

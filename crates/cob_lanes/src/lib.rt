@@ -12,8 +12,14 @@
 //! made ready these are the stored form (`IsWriterOf`). A number of more digits stands in two vectors, its last sixteen digits and those in
 //! front of them: of two readers of such items one reads, and the other takes the digits of what passed ([`LaneReader::take`], `AreLanesTaken`); a
 //! [`WideWriter`] writes them (`IsWideWriterOf`). [`LaneText::write`] leaves a text of digits (`AreShown` of specs/Texts.antt): what each byte
-//! shows of them, and what is added to it. [`keeps_minus`] and [`keeps_minus_of_both`] say whether a minus stays with digits, and
+//! shows of them, and what is added to it; [`WideText::write`] leaves one of up to thirty-two bytes likewise (`AreWidelyShown`). [`keeps_minus`] and [`keeps_minus_of_both`] say whether a minus stays with digits, and
 //! [`zeros_before`] how many of them are zeros in front.
+//!
+//! Texts are read by lanes too. [`LaneReader::numerals`] is a reader of items whose bytes are all characters of digits, as whole numbers
+//! (`AreNumeralsOf`). A text of at most thirty-two bytes stands in [`TextLanes`], with zeros behind it. [`DigitPlaces::digits`] takes the digits
+//! that stand at given bytes of it, and 0 of a byte that shows none (`AreDigitsAt`); [`KeptDigits::keep`] keeps of them, as a number, the
+//! digits that are wanted when it is moved by the point (`AreWanted`); and [`WideText::is`] says whether the text that digits and a sign make
+//! is just this one.
 //!
 //! It stands on cob_codec for what bytes represent and what is stored, on cob_decimal for digits and alignment, and on `std::simd`. It
 //! knows no record and no move, and nothing here takes memory.
