@@ -95,7 +95,7 @@ text_bytes row t count negative lanes bytes fits few is led shown =
     ∙ one_cell c count negative lanes few led (is.small i negative inside)
     ∙ sym (get_or-map (cell_byte (take count lanes) negative) row i (Same 0) 0 inside))
 
-led_digits : (count : ℕ) (lanes : List ℕ) → count ≤ 16 → AreLed count lanes → IsDigits (take count lanes)
+pub led_digits : (count : ℕ) (lanes : List ℕ) → count ≤ 16 → AreLed count lanes → IsDigits (take count lanes)
 led_digits count lanes few led =
     let long : length (take count lanes) ≡ count = length-take-le count lanes (omega (arith, led.long)) in
     all_digits (take count lanes) (λ i lt. omega (arith, get_or-take count lanes i 0 (omega arith), led.tens i (omega arith)))

@@ -11,7 +11,7 @@ use std::simd::prelude::*;
 
 /// How many of so many digits are zeros in front.
 #[inline(always)]
-fn zeros_in_front(digits: u8x16, count: u8) -> usize
+pub(crate) fn zeros_in_front(digits: u8x16, count: u8) -> usize
     ensures value { count ≤ length digits → result ≡ prefix_len (λ d. d == 0) (take count digits) }
     ensures within { result ≤ count }
 {
