@@ -1,5 +1,5 @@
 -- Numbers of edited items, read by prepared texts: the digits are taken out, their text is made again, and compared.
-use Rattle.std.proofs.Common.{◌≡◌, ◌≢◌, ◌↔◌, ◌⊎◌, ℕ, zero, suc, ◌+◌, ◌-◌, ◌<◌, ◌≤◌, ◌==◌, ℤ, ◌-ℤ◌, Bool, true, false, not, cond, IsTrue, List, [], ◌∷◌, ◌++◌, length, take, drop, replicate, count_by, get_or, refl, sym, ap, subst, ◌∙◌, inl, inr, arith, length-take-le, get_or-take}
+use Rattle.std.proofs.Common.{◌≡◌, ◌↔◌, ◌⊎◌, ℕ, zero, suc, ◌+◌, ◌-◌, ◌<◌, ◌≤◌, ◌==◌, ℤ, ◌-ℤ◌, Bool, true, false, not, cond, IsTrue, List, [], ◌∷◌, ◌++◌, length, take, drop, replicate, count_by, get_or, refl, sym, ap, subst, ◌∙◌, inl, inr, arith, length-take-le, get_or-take}
 use Rattle.std.specs.Bool.{IsFalse}
 use Rattle.std.specs.List.{prefix_len}
 use Rattle.std.specs.Prelude.{if◌then◌else◌}
@@ -16,6 +16,7 @@ use Rattle.cob_codec.specs.declared.reading.Reading.{Reading}
 use Rattle.cob_copybook_tree.specs.declared.node.Item.{Item}
 use Rattle.cob_copybook_tree.specs.Lengths.{item_size}
 use Rattle.cob_edit.specs.declared.place.Place.{Place}
+use Rattle.cob_edit.specs.declared.place.Place.TheVariants.{Inserted, Point, Digit, Suppressed, Floating, First, Fixed, AssumedPoint}
 use Rattle.cob_edit.specs.Editing.{extract, FitsPlaces, IsText, shown_digit, shows_sign}
 use Rattle.cob_edit.specs.Pictured.{IsEdited, IsInRange, places}
 use Rattle.cob_edit.specs.Places.{bytes_of, has_byte, is_digit}
@@ -76,6 +77,34 @@ extract_at (p ∷ ps) n bytes k lt =
     let m : ℕ = if has_byte p then n + 1 else n in
     ap (λ ys. get_or ((if is_digit p then shown_digit (get_or (drop n bytes) 0 0) ∷ [] else []) ++ extract ps ys) k 0) (behind_place (has_byte p) n bytes)
     ∙ digit_step (is_digit p) n bytes (extract ps (drop m bytes)) (digit_bytes_from m ps) (extract_at ps m bytes) k lt
+
+-- a place of a digit has a byte
+digits_bytes : (p : Place) → is_digit p ≡ true → has_byte p ≡ true
+digits_bytes (Inserted b) h = refl
+digits_bytes Point h = refl
+digits_bytes Digit h = refl
+digits_bytes (Suppressed f) h = refl
+digits_bytes Floating h = refl
+digits_bytes (First m) h = refl
+digits_bytes (Fixed m) h = refl
+digits_bytes AssumedPoint h = h
+
+within_step : (d h : Bool) (n c : ℕ) (ats : List ℕ) → (d ≡ true → h ≡ true) → ((k : ℕ) → k < length ats → get_or ats k 0 < (if h then n + 1 else n) + c) → (k : ℕ) → k < length ((if d then n ∷ [] else []) ++ ats)
+    → get_or ((if d then n ∷ [] else []) ++ ats) k 0 < n + (cond h 1 0 + c)
+within_step true true n c ats has rest zero lt = omega arith
+within_step true true n c ats has rest (suc k) lt = let behind : get_or ats k 0 < n + 1 + c = rest k (omega arith) in omega (arith, behind)
+within_step true false n c ats has rest k lt = absurd (true≢false (sym (has refl)))
+within_step false true n c ats has rest k lt = let behind : get_or ats k 0 < n + 1 + c = rest k lt in omega (arith, behind)
+within_step false false n c ats has rest k lt = let behind : get_or ats k 0 < n + c = rest k lt in omega (arith, behind)
+
+-- each is one of the bytes that the places have
+pub bytes_within : (n : ℕ) (ps : List Place) (k : ℕ) → k < length (digit_bytes_from n ps) → get_or (digit_bytes_from n ps) k 0 < n + bytes_of ps
+bytes_within n [] k lt = absurd (omega arith)
+bytes_within n (p ∷ ps) k lt =
+    let m : ℕ = if has_byte p then n + 1 else n in
+    let own : get_or (digit_bytes_from n (p ∷ ps)) k 0 < n + (cond (has_byte p) 1 0 + bytes_of ps) =
+    within_step (is_digit p) (has_byte p) n (bytes_of ps) (digit_bytes_from m ps) (digits_bytes p) (bytes_within m ps) k lt in
+    omega (arith, own, sum_by-cons (λ x. cond (has_byte x) 1 0) p ps)
 
 -- zeros behind bytes
 zeros_at : (n i : ℕ) → get_or (replicate {A = ℕ} n 0) i 0 ≡ 0

@@ -21,7 +21,7 @@ fn shows_digits(item: &Item) -> bool
 }
 
 /// Whether an item is edited, and has a byte for each place of its picture that has one.
-fn is_edited(item: &Item) -> bool
+pub(crate) fn is_edited(item: &Item) -> bool
     ensures { IsTrue result ↔ IsPlainlyEdited item.now }
 {
     shows_digits(item) && !is_number(item) && item.size() == item.picture.size()
