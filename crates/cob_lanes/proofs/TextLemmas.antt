@@ -14,7 +14,8 @@ use Rattle.cob_decimal.specs.Decimal.{IsDigits, number_of, digit_at}
 use Rattle.cob_decimal.proofs.DecimalLemmas.{digit_in, digit_beyond}
 use Rattle.cob_lanes.specs.Lanes.{AreTens, is_pick, picked_at}
 use Rattle.cob_lanes.specs.Readers.{AreWanted}
-use Rattle.cob_lanes.specs.Texts.{digit_shown}
+use Rattle.cob_lanes.specs.Texts.{ArePlacesAt, digit_shown}
+use Rattle.cob_lanes.specs.declared.text.DigitPlaces.{DigitPlaces}
 use Rattle.cob_lanes.specs.Windows.{ArePowerPicks, half_lane, power_pick}
 use Rattle.cob_lanes.proofs.HalfLemmas.{all_digits}
 use Rattle.cob_lanes.proofs.WindowLemmas.{nothing_more}
@@ -176,3 +177,55 @@ kept_wanted count wanted shift lanes picks kept long few room tens are kept_long
       each = λ j lt. each j (omega arith) ∙ ap (picked_at lanes) (are.each j lt) ∙ digit_placed count lanes (pos (wanted - 1 - j) -ℤ shift) long few valid;
       rest = λ j ge lt. each j lt ∙ ap (picked_at lanes) (are.rest j ge lt);
     }
+
+-- ---- bytes at given places
+
+-- a lane picked of one half, and none of the other
+front_alone : (front back : List ℕ) (p q j : ℕ) → length front ≡ 16 → get_or front j 0 < 256 → j < 16 → p ≡ j → q ≡ 128 → (picked_at front p + picked_at back q) % 256 ≡ get_or (front ++ back) j 0
+front_alone front back p q j long byte lt first last =
+    ap (λ k. (picked_at front k + picked_at back q) % 256) first
+    ∙ ap (λ k. (picked_at front j + picked_at back k) % 256) last
+    ∙ ap (λ t. (cond t (get_or front j 0) 0 + 0) % 256) (lt-ltb _ _ lt)
+    ∙ cut (get_or front j 0) byte
+    ∙ sym (get_or_append_left front back 0 j (omega arith))
+  where
+    cut : (x : ℕ) → x < 256 → (x + 0) % 256 ≡ x
+    cut x small = omega arith
+
+back_alone : (front back : List ℕ) (p q j : ℕ) → length front ≡ 16 → get_or back (j - 16) 0 < 256 → 16 ≤ j → j < 32 → p ≡ 128 → q ≡ j - 16 → (picked_at front p + picked_at back q) % 256 ≡ get_or (front ++ back) j 0
+back_alone front back p q j long byte ge lt first last =
+    ap (λ k. (picked_at front k + picked_at back q) % 256) first
+    ∙ ap (λ k. (picked_at front 128 + picked_at back k) % 256) last
+    ∙ ap (λ t. (0 + cond t (get_or back (j - 16) 0) 0) % 256) (lt-ltb _ _ (omega arith))
+    ∙ cut (get_or back (j - 16) 0) byte
+    ∙ sym (get_or-append_right front back 16 j 0 long ge)
+  where
+    cut : (x : ℕ) → x < 256 → (0 + x) % 256 ≡ x
+    cut x small = omega arith
+
+-- what is picked at the place of a digit
+pub place_picked : (at front back : List ℕ) (places : DigitPlaces) (k : ℕ) → ArePlacesAt at places → length front ≡ 16 → ((i : ℕ) → get_or front i 0 < 256) → ((i : ℕ) → get_or back i 0 < 256) → k < length at
+    → (picked_at front (get_or places.front.lanes k 0) + picked_at back (get_or places.back.lanes k 0)) % 256 ≡ get_or (front ++ back) (get_or at k 0) 0
+place_picked at front back places k are long small_front small_back lt =
+    let j : ℕ = get_or at k 0 in
+    let few : length at ≤ 16 = are.few in
+    let here : k < 16 = omega arith in
+    let inside : ltb k (length at) ≡ true = lt-ltb _ _ lt in
+    let first : get_or places.front.lanes k 0 ≡ cond (ltb j 16) j 128 = are.front k here ∙ ap (λ t. cond (t && ltb j 16) j 128) inside in
+    let last : get_or places.back.lanes k 0 ≡ cond (leb 16 j) (j - 16) 128 = are.back k here ∙ ap (λ t. cond (t && leb 16 j) (j - 16) 128) inside in
+    elim (cases_lt j 16) [
+      | inl before ↦
+          front_alone front back _ _ j long (small_front j) before (first ∙ ap (λ t. cond t j 128) (lt-ltb _ _ before)) (last ∙ ap (λ t. cond t (j - 16) 128) (lt-leb _ _ before))
+      | inr from ↦
+          back_alone front back _ _ j long (small_back (j - 16)) from (are.within k lt) (first ∙ ap (λ t. cond t j 128) (le-ltb _ _ from)) (last ∙ ap (λ t. cond t (j - 16) 128) (le-leb _ _ from))
+    ]
+
+-- nothing is picked behind the digits
+pub none_picked : (at front back : List ℕ) (places : DigitPlaces) (k : ℕ) → ArePlacesAt at places → length at ≤ k → k < 16
+    → (picked_at front (get_or places.front.lanes k 0) + picked_at back (get_or places.back.lanes k 0)) % 256 ≡ 0
+none_picked at front back places k are ge lt =
+    let j : ℕ = get_or at k 0 in
+    let outside : ltb k (length at) ≡ false = le-ltb _ _ ge in
+    let first : get_or places.front.lanes k 0 ≡ 128 = are.front k lt ∙ ap (λ t. cond (t && ltb j 16) j 128) outside in
+    let last : get_or places.back.lanes k 0 ≡ 128 = are.back k lt ∙ ap (λ t. cond (t && leb 16 j) (j - 16) 128) outside in
+    ap (λ p. (picked_at front p + picked_at back (get_or places.back.lanes k 0)) % 256) first ∙ ap (λ q. (picked_at front 128 + picked_at back q) % 256) last

@@ -12,8 +12,8 @@
 //! made ready these are the stored form (`IsWriterOf`). A number of more digits stands in two vectors, its last sixteen digits and those in
 //! front of them: of two readers of such items one reads, and the other takes the digits of what passed ([`LaneReader::take`], `AreLanesTaken`); a
 //! [`WideWriter`] writes them (`IsWideWriterOf`). [`LaneText::write`] leaves a text of digits (`AreShown` of specs/Texts.antt): what each byte
-//! shows of them, and what is added to it; [`WideText::write`] leaves one of up to thirty-two bytes likewise (`AreWidelyShown`). [`keeps_minus`] and [`keeps_minus_of_both`] say whether a minus stays with digits, and
-//! [`zeros_before`] how many of them are zeros in front.
+//! shows of them, and what is added to it; [`WideText::write`] leaves one of up to thirty-two bytes likewise (`AreWidelyShown`).
+//! [`keeps_minus`] and [`keeps_minus_of_both`] say whether a minus stays with digits, and [`zeros_before`] how many of them are zeros in front.
 //!
 //! Texts are read by lanes too. [`LaneReader::numerals`] is a reader of items whose bytes are all characters of digits, as whole numbers
 //! (`AreNumeralsOf`). A text of at most thirty-two bytes stands in [`TextLanes`], with zeros behind it. [`DigitPlaces::digits`] takes the digits

@@ -250,8 +250,8 @@ impl KeptDigits {
     /// The digits that are kept.
     #[inline(always)]
     pub fn keep(&self, digits: u8x16) -> u8x16
-        ensures { (count wanted : ℕ) (shift : ℤ) → IsKeeperOf count wanted shift self.now → AreTens digits
-            → ((k : ℕ) → count ≤ k → k < 16 → slice_index digits k ≡ 0)
+        ensures { (count wanted : ℕ) (shift : ℤ) → IsKeeperOf count wanted shift self.now
+            → AreTens digits
             → AreWanted wanted shift (number_of (take count digits)) result }
     {
         picked(digits, &self.picks)

@@ -1,18 +1,22 @@
 -- The number that an item gives.
-use Rattle.std.proofs.Common.{◌≡◌, ◌&&◌, ℕ, ℤ, pos, Bool, true, false, not, List, MatchBool, refl, sym, ap, subst, ◌∙◌, inl, inr}
+use Rattle.std.proofs.Common.{◌≡◌, ◌&&◌, ℕ, zero, suc, ◌-◌, ◌/◌, ◌%◌, ◌<◌, ◌≤◌, ℤ, pos, Bool, true, false, not, leb, List, [], ◌∷◌, length, map, get_or, MatchBool, refl, sym, ap, subst, ◌∙◌, inl, inr, arith, le-leb, leb-true}
+use Rattle.std.proofs.lemmas.Bool.{and_parts}
 use Rattle.cob_picture.specs.Counts.{scale}
 use Rattle.cob_picture.specs.Positions.{shows_number}
 use Rattle.cob_picture.specs.declared.category.Category.{Category}
 use Rattle.cob_picture.specs.declared.category.Category.TheVariants.{Alphabetic, Numeric, Alphanumeric, AlphanumericEdited, NumericEdited}
+use Rattle.cob_codec.specs.Zoned.{low_digit}
 use Rattle.cob_codec.specs.declared.reading.Reading.{Reading}
 use Rattle.cob_copybook_tree.specs.declared.node.Item.{Item}
 use Rattle.cob_copybook_tree.specs.Resolving.{is_numeric, is_number}
 use Rattle.cob_copybook_tree.specs.Items.{IsNumberItem, IsSentBy}
+use Rattle.cob_copybook_tree.specs.Lengths.{item_size}
+use Rattle.cob_decimal.specs.Decimal.{IsDigits}
 use Rattle.cob_edit.specs.Pictured.{IsEdited}
-use Rattle.cob_lanes.specs.Readers.{AreRead}
+use Rattle.cob_lanes.specs.Readers.{AreNumeralsOf, AreRead}
 use Rattle.cob_lanes.specs.Words.{IsNumberRead}
 use Rattle.cob_move_receive.specs.Sent.{Amount}
-use Rattle.cob_move_receive.specs.Numbers.{digits_of, GivesUnder, IsNumberIn, IsReadAs, IsUnedited, ItemGives, whole_number}
+use Rattle.cob_move_receive.specs.Numbers.{AreNumerals, digits_of, is_numeral, GivesUnder, IsNumberIn, IsReadAs, IsUnedited, ItemGives, whole_number}
 use Rattle.cob_move_prepared.specs.Ends.{Gives, IsNumeralItem, SendsNumber}
 use Rattle.cob_move_prepared.specs.Texts.{IsPlainlyEdited}
 use Rattle.cob_move_prepared.proofs.StepLemmas.{from_match, match_true, number_item}
@@ -118,3 +122,78 @@ gives_scaled reading i bytes v sends g =
             text = subst (λ (z : ℤ). IsEdited i.picture i.blank v.negative v.digits z bytes) u.point u.text;
           })
     ]
+
+-- ---- characters that were read by lanes
+
+-- the byte of a digit in zone F
+numeral_byte : (b : ℕ) → b / 16 ≡ 15 → b % 16 < 10 → is_numeral b ≡ true
+numeral_byte b zone digit =
+    let least : 240 ≤ b = omega arith in
+    let most : b ≤ 249 = omega arith in
+    ap (λ t. t && leb b 249) (le-leb _ _ least) ∙ ap (λ t. true && t) (le-leb _ _ most)
+
+numerals_are : (bytes : List ℕ) → IsDigits (map low_digit bytes) → ((k : ℕ) → k < length bytes → get_or bytes k 0 / 16 ≡ 15) → AreNumerals bytes
+numerals_are [] valid zones = tt
+numerals_are (b ∷ bs) valid zones = (numeral_byte b (zones 0 (omega arith)) valid.0, numerals_are bs valid.1 (λ k lt. zones (suc k) (omega arith)))
+
+numeral_within : (b : ℕ) → is_numeral b ≡ true → (240 ≤ b) × (b ≤ 249)
+numeral_within b e = let both = and_parts _ _ e in (leb-true _ _ both.0, leb-true _ _ both.1)
+
+low_digits : (bytes : List ℕ) → AreNumerals bytes → map low_digit bytes ≡ digits_of bytes
+low_digits [] are = refl
+low_digits (b ∷ bs) are =
+    let within : (240 ≤ b) × (b ≤ 249) = numeral_within b are.0 in
+    let here : b % 16 ≡ b - 240 = omega (arith, within.0, within.1) in
+    ap (λ d. d ∷ map low_digit bs) here ∙ ap (λ ds. b - 240 ∷ ds) (low_digits bs are.1)
+
+numeral_zones : (bytes : List ℕ) → AreNumerals bytes → (k : ℕ) → k < length bytes → get_or bytes k 0 / 16 ≡ 15
+numeral_zones [] are k lt = absurd (omega arith)
+numeral_zones (b ∷ bs) are zero lt = let within : (240 ≤ b) × (b ≤ 249) = numeral_within b are.0 in omega (arith, within.0, within.1)
+numeral_zones (b ∷ bs) are (suc k) lt = numeral_zones bs are.1 k (omega arith)
+
+numeral_digits : (bytes : List ℕ) → AreNumerals bytes → IsDigits (map low_digit bytes)
+numeral_digits [] are = tt
+numeral_digits (b ∷ bs) are =
+    let within : (240 ≤ b) × (b ≤ 249) = numeral_within b are.0 in
+    let small : b % 16 < 10 = omega (arith, within.0, within.1) in
+    (small, numeral_digits bs are.1)
+
+numerals_give : (reading : Reading) (i : Item) (bytes : List ℕ) (negative : Bool) (ds : List ℕ) → IsNumeralItem i → AreNumeralsOf (item_size i) bytes negative ds → Gives reading i bytes negative ds
+numerals_give reading i bytes negative ds n are =
+    let valid : IsDigits (map low_digit bytes) = subst (λ xs. IsDigits xs) are.low_halves are.valid in
+    let each : AreNumerals bytes = numerals_are bytes valid (λ k lt. are.zones k (omega (arith, are.long))) in
+    numeral_gives reading i bytes (at_scale i negative ds) n (record {
+      some = omega (arith, are.long, n.some);
+      most = omega (arith, are.long, n.fits);
+      numerals = each;
+      value = ap (λ b. at_scale i b ds) are.plus ∙ ap (λ xs. at_scale i false xs) (are.low_halves ∙ low_digits bytes each)
+          ∙ ap (λ z. record { negative = false; digits = digits_of bytes; scale = z }) n.whole;
+    })
+
+numerals_of : (reading : Reading) (i : Item) (bytes : List ℕ) (negative : Bool) (ds : List ℕ) → IsNumeralItem i → length bytes ≡ item_size i → Gives reading i bytes negative ds → AreNumeralsOf (item_size i) bytes negative ds
+numerals_of reading i bytes negative ds n long gives =
+    let r : IsReadAs bytes (at_scale i negative ds) = numeral_given reading i bytes (at_scale i negative ds) n gives in
+    record {
+      long = long;
+      zones = λ k lt. numeral_zones bytes r.numerals k (omega (arith, long));
+      low_halves = ap (λ (a : Amount). a.digits) r.value ∙ sym (low_digits bytes r.numerals);
+      valid = subst (λ xs. IsDigits xs) (low_digits bytes r.numerals ∙ sym (ap (λ (a : Amount). a.digits) r.value)) (numeral_digits bytes r.numerals);
+      plus = ap (λ (a : Amount). a.negative) r.value;
+    }
+
+-- what was read of characters is what they give
+pub numerals_given : (reading : Reading) (i : Item) (bytes kept : List ℕ) (wanted : ℕ) (shift : ℤ) (told minus : Bool) → IsNumeralItem i → length bytes ≡ item_size i
+    → IsNumberRead (AreNumeralsOf (item_size i) bytes) wanted shift told minus kept → IsNumberRead (Gives reading i bytes) wanted shift told minus kept
+numerals_given reading i bytes kept wanted shift told minus n long read = record {
+  number = λ e.
+      let a : AreRead (AreNumeralsOf (item_size i) bytes) wanted shift minus kept = read.number e in
+      record {
+        negative = a.negative;
+        digits = a.digits;
+        represented = numerals_give reading i bytes a.negative a.digits n a.represented;
+        valid = a.valid;
+        sign = a.sign;
+        held = a.held;
+      };
+  nothing = λ e negative ds gives. read.nothing e negative ds (numerals_of reading i bytes negative ds n long gives);
+}

@@ -12,8 +12,9 @@ use Rattle.cob_move_receive.specs.Received.{Received}
 use Rattle.cob_move_receive.specs.Sent.{Entry, Occupies}
 use Rattle.cob_move_prepared.specs.Copies.{AreCharactersCarriedOut, IsCharactersStep}
 use Rattle.cob_move_prepared.specs.Ends.{IsOwnWriter, SuitsReading, item_digits}
-use Rattle.cob_move_prepared.specs.Pool.{AreOccupied, BetweenItems, IsReceived, IsStepAt, IsStepBetween, KeepsSteps, MoveKinds, MovesNumber, MovesToBinary, MovesToEdited, MovesWide}
-use Rattle.cob_move_prepared.specs.Running.{IsBinaryCarriedOut, IsCarriedOut, IsEditCarriedOut}
+use Rattle.cob_move_prepared.specs.Numerals.{IsNumeralsCarriedOut}
+use Rattle.cob_move_prepared.specs.Pool.{AreOccupied, BetweenItems, IsReceived, IsStepAt, IsStepBetween, KeepsSteps, MoveKinds, MovesNumber, MovesToBinary, MovesToEdited, MovesToNumerals, MovesToWideEdited, MovesWide}
+use Rattle.cob_move_prepared.specs.Running.{IsBinaryCarriedOut, IsCarriedOut, IsEditCarriedOut, IsWideEditCarriedOut}
 use Rattle.cob_move_prepared.specs.Steps.{is_binary}
 use Rattle.cob_move_prepared.specs.Wide.{IsWideCarriedOut}
 use Rattle.cob_move_prepared.specs.declared.binary_step.BinaryStep.{BinaryStep}
@@ -21,10 +22,12 @@ use Rattle.cob_move_prepared.specs.declared.characters_step.CharactersStep.{Char
 use Rattle.cob_move_prepared.specs.declared.edit_step.EditStep.{EditStep}
 use Rattle.cob_move_prepared.specs.declared.number_ends.NumberWriter.{NumberWriter}
 use Rattle.cob_move_prepared.specs.declared.number_ends.NumberWriter.TheVariants as writer
+use Rattle.cob_move_prepared.specs.declared.numerals_step.NumeralsStep.{NumeralsStep}
 use Rattle.cob_move_prepared.specs.declared.pool.MoveStep.{MoveStep}
 use Rattle.cob_move_prepared.specs.declared.pool.MoveStep.TheVariants as move_step
 use Rattle.cob_move_prepared.specs.declared.pool.MoveSteps.{MoveSteps}
 use Rattle.cob_move_prepared.specs.declared.step.NumberStep.{NumberStep}
+use Rattle.cob_move_prepared.specs.declared.wide_edit_step.WideEditStep.{WideEditStep}
 use Rattle.cob_move_prepared.specs.declared.wide_step.WideStep.{WideStep}
 use Rattle.cob_move_prepared.proofs.BinaryStepLemmas.{size_is}
 
@@ -58,23 +61,28 @@ pub read_at : (T : Type 0) (moves : T → Type 0) (steps : List T) (n : ℕ) (st
 read_at T moves steps n step is at = subst moves (is.at ∙ sym (get_or_read steps n step is.below at is.step)) is.is
 
 between_kept : (before now : MoveSteps) (k : MoveKinds) (step : MoveStep) → Grows NumberStep before.numbers.items now.numbers.items → Grows WideStep before.wides.items now.wides.items → Grows BinaryStep before.binaries.items now.binaries.items
-    → Grows EditStep before.edits.items now.edits.items → IsStepBetween before k step → IsStepBetween now k step
-between_kept before now k (move_step.Number n) numbers wides binaries edits is = kept_at NumberStep (λ step. BetweenItems (MovesNumber step) k.sender k.receiver) before.numbers.items now.numbers.items n numbers is
-between_kept before now k (move_step.Wide n) numbers wides binaries edits is = kept_at WideStep (λ step. BetweenItems (MovesWide step) k.sender k.receiver) before.wides.items now.wides.items n wides is
-between_kept before now k (move_step.Binary n) numbers wides binaries edits is = kept_at BinaryStep (λ step. BetweenItems (MovesToBinary step) k.sender k.receiver) before.binaries.items now.binaries.items n binaries is
-between_kept before now k (move_step.Edited n) numbers wides binaries edits is = kept_at EditStep (λ step. BetweenItems (MovesToEdited step) k.sender k.receiver) before.edits.items now.edits.items n edits is
-between_kept before now k (move_step.Characters step) numbers wides binaries edits is = is
+    → Grows EditStep before.edits.items now.edits.items → Grows WideEditStep before.wide_edits.items now.wide_edits.items → Grows NumeralsStep before.numerals.items now.numerals.items → IsStepBetween before k step → IsStepBetween now k step
+between_kept before now k (move_step.Number n) numbers wides binaries edits wide_edits numerals is = kept_at NumberStep (λ step. BetweenItems (MovesNumber step) k.sender k.receiver) before.numbers.items now.numbers.items n numbers is
+between_kept before now k (move_step.Wide n) numbers wides binaries edits wide_edits numerals is = kept_at WideStep (λ step. BetweenItems (MovesWide step) k.sender k.receiver) before.wides.items now.wides.items n wides is
+between_kept before now k (move_step.Binary n) numbers wides binaries edits wide_edits numerals is = kept_at BinaryStep (λ step. BetweenItems (MovesToBinary step) k.sender k.receiver) before.binaries.items now.binaries.items n binaries is
+between_kept before now k (move_step.Edited n) numbers wides binaries edits wide_edits numerals is = kept_at EditStep (λ step. BetweenItems (MovesToEdited step) k.sender k.receiver) before.edits.items now.edits.items n edits is
+between_kept before now k (move_step.WideEdited n) numbers wides binaries edits wide_edits numerals is = kept_at WideEditStep (λ step. BetweenItems (MovesToWideEdited step) k.sender k.receiver) before.wide_edits.items now.wide_edits.items n wide_edits is
+between_kept before now k (move_step.Numerals n) numbers wides binaries edits wide_edits numerals is = kept_at NumeralsStep (λ step. BetweenItems (MovesToNumerals step) k.sender k.receiver) before.numerals.items now.numerals.items n numerals is
+between_kept before now k (move_step.Characters step) numbers wides binaries edits wide_edits numerals is = is
 
 pub steps_kept : (before now : MoveSteps) → Grows NumberStep before.numbers.items now.numbers.items → Grows WideStep before.wides.items now.wides.items → Grows BinaryStep before.binaries.items now.binaries.items
-    → Grows EditStep before.edits.items now.edits.items → KeepsSteps before now
-steps_kept before now numbers wides binaries edits k step is = record { occupied = is.occupied; between = between_kept before now k step numbers wides binaries edits is.between }
+    → Grows EditStep before.edits.items now.edits.items → Grows WideEditStep before.wide_edits.items now.wide_edits.items → Grows NumeralsStep before.numerals.items now.numerals.items → KeepsSteps before now
+steps_kept before now numbers wides binaries edits wide_edits numerals k step is = record { occupied = is.occupied; between = between_kept before now k step numbers wides binaries edits wide_edits numerals is.between }
 
 -- ---- a step carried out
 
+pub fits_between : (most : ℕ) (holds : Item → Item → Type 0) (s r : Kind) (received : ℕ) → ((from to : Item) → holds from to → item_size to ≤ most) → Occupies r received → BetweenItems holds s r → received ≤ most
+fits_between most holds Group r received fits occupied between = absurd between
+fits_between most holds (ItemKind i) Group received fits occupied between = absurd between
+fits_between most holds (ItemKind i) (ItemKind j) received fits occupied between = omega (arith, occupied.0, fits i j between)
+
 pub few_between : (holds : Item → Item → Type 0) (s r : Kind) (received : ℕ) → ((from to : Item) → holds from to → item_size to ≤ 16) → Occupies r received → BetweenItems holds s r → received ≤ 16
-few_between holds Group r received fits occupied between = absurd between
-few_between holds (ItemKind i) Group received fits occupied between = absurd between
-few_between holds (ItemKind i) (ItemKind j) received fits occupied between = omega (arith, occupied.0, fits i j between)
+few_between holds s r received fits occupied between = fits_between 16 holds s r received fits occupied between
 
 word_length : (n : ℕ) → binary_length n ≤ 16
 word_length n = grind arith
@@ -95,6 +103,9 @@ few_binaries k step size occupied between same =
 
 pub few_edited : (k : MoveKinds) (step : EditStep) (size : ℕ) → AreOccupied k → BetweenItems (MovesToEdited step) k.sender k.receiver → size ≡ k.received → size ≤ 16
 few_edited k step size occupied between same = omega (arith, same, few_between (MovesToEdited step) k.sender k.receiver k.received (λ from to is. is.1.fits) occupied.receiver between)
+
+pub few_wide_edited : (k : MoveKinds) (step : WideEditStep) (size : ℕ) → AreOccupied k → BetweenItems (MovesToWideEdited step) k.sender k.receiver → size ≡ k.received → size ≤ 32
+few_wide_edited k step size occupied between same = omega (arith, same, fits_between 32 (MovesToWideEdited step) k.sender k.receiver k.received (λ from to is. is.1.fits) occupied.receiver between)
 
 -- what two items get of one another is what their kinds get, where these have just their bytes
 abbrev pub ItemsReceive : (Item → Item → Type 0) → List ℕ → ℕ → Option (List ℕ) → Reading → Type 0
@@ -139,6 +150,16 @@ pub edited_received : (k : MoveKinds) (step : EditStep) (size : ℕ) (bytes : Li
     → size ≡ k.received → IsEditCarriedOut step bytes size outcome → IsReceived k bytes outcome
 edited_received k step size bytes outcome occupied between within same h =
     received_by (MovesToEdited step) k size bytes outcome occupied between within same (λ reading from to is fits long. h from to is.1 fits long reading (suits from reading is.0))
+
+pub wide_edited_received : (k : MoveKinds) (step : WideEditStep) (size : ℕ) (bytes : List ℕ) (outcome : Option (List ℕ)) → AreOccupied k → BetweenItems (MovesToWideEdited step) k.sender k.receiver → k.sent ≤ length bytes
+    → size ≡ k.received → IsWideEditCarriedOut step bytes size outcome → IsReceived k bytes outcome
+wide_edited_received k step size bytes outcome occupied between within same h =
+    received_by (MovesToWideEdited step) k size bytes outcome occupied between within same (λ reading from to is fits long. h from to is.1 fits long reading (suits from reading is.0))
+
+pub numerals_received : (k : MoveKinds) (step : NumeralsStep) (size : ℕ) (bytes : List ℕ) (outcome : Option (List ℕ)) → AreOccupied k → BetweenItems (MovesToNumerals step) k.sender k.receiver → k.sent ≤ length bytes
+    → size ≡ k.received → IsNumeralsCarriedOut step bytes size outcome → IsReceived k bytes outcome
+numerals_received k step size bytes outcome occupied between within same h =
+    received_by (MovesToNumerals step) k size bytes outcome occupied between within same (λ reading from to is fits long. h from to is.1 fits long reading (suits from reading is.0))
 
 pub characters_received : (k : MoveKinds) (step : CharactersStep) (size : ℕ) (bytes written : List ℕ) → IsCharactersStep k.sender k.sent k.receiver step → size ≡ k.received
     → AreCharactersCarriedOut step bytes size written → IsReceived k bytes (Some written)

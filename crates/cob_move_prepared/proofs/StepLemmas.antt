@@ -1,5 +1,5 @@
 -- Steps carried out: what the receiver gets.
-use Rattle.std.proofs.Common.{◌≡◌, ◌↔◌, ◌≤◌, ℕ, ◌&&◌, ◌-ℤ◌, ℤ, Bool, true, false, not, IsTrue, List, length, take, Some, None, MatchBool, refl, sym, ap, subst, ◌∙◌, arith, length-take-le}
+use Rattle.std.proofs.Common.{◌≡◌, ◌↔◌, ◌≤◌, ℕ, ◌-◌, ◌&&◌, ◌-ℤ◌, ℤ, Bool, true, false, not, IsTrue, List, length, take, Some, None, MatchBool, refl, sym, ap, subst, ◌∙◌, arith, length-take-le, length-drop}
 use Rattle.cob_decimal.specs.Decimal.{IsDigits, number_of, aligned}
 use Rattle.cob_codec.specs.Sign.{IsSigned}
 use Rattle.cob_picture.specs.Counts.{digits, scale, signed}
@@ -88,6 +88,10 @@ holds s r represents minus zero_is kept new room a zero stored =
     let nothing : IsTrue zero_is ↔ (number_of ds ≡ 0) = (λ t. both.0 (zero.0 t), λ e. zero.1 (both.1 e)) in
     let valid : IsDigits ds = wanted_valid count shift (number_of a.digits) kept room a.held in
     holds_digits s r minus a.negative zero_is a.digits ds new a.sign valid (length-take-le count kept (omega (arith, a.held.long))) value nothing stored
+
+-- as many bytes stand at the end of bytes as are there
+pub last_size : (size : ℕ) (bytes : List ℕ) → size ≤ length bytes → length (last_bytes size bytes) ≡ size
+last_size size bytes within = omega (arith, length-drop (length bytes - size) bytes)
 
 -- what a reader of items of so many bytes read at the end of bytes
 pub lanes_read : (represents : List ℕ → Bool → List ℕ → Type 0) (size wanted : ℕ) (shift : ℤ) (r : LaneReader) (bytes kept : List ℕ) (told minus : Bool) → IsReaderOf represents size wanted shift r → size ≤ length bytes

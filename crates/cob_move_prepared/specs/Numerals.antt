@@ -1,5 +1,5 @@
 -- Single moves of numbers to characters that are made ready: the digits of a number are written as characters.
-use Rattle.std.specs.Prelude.{◌≡◌, ℕ, ◌+◌, ◌≤◌, true, false, List, length, take, Option}
+use Rattle.std.specs.Prelude.{◌≡◌, ◌⊎◌, ℕ, ◌+◌, ◌≤◌, true, false, List, length, take, Option}
 use Rattle.cob_decimal.specs.Parts.{zeros_of}
 use Rattle.cob_picture.specs.Counts.{scale}
 use Rattle.cob_copybook_tree.specs.declared.node.Item.{Item}
@@ -9,9 +9,9 @@ use Rattle.cob_lanes.specs.Texts.{AreShown}
 use Rattle.cob_lanes.specs.declared.text.LaneText.{LaneText}
 use Rattle.cob_move_receive.specs.Characters.{numerals_to_point}
 use Rattle.cob_move_receive.specs.Copying.{is_of_characters}
-use Rattle.cob_move_prepared.specs.Ends.{IsNumberReaderFor, IsShortNumber, item_digits}
+use Rattle.cob_move_prepared.specs.Ends.{IsNumberReaderFor, IsShortNumber, IsShortSender, item_digits}
 use Rattle.cob_move_prepared.specs.Running.{ReceivedWhereRead}
-use Rattle.cob_move_prepared.specs.Texts.{AreLed}
+use Rattle.cob_move_prepared.specs.Texts.{AreLed, IsWideEditedItem}
 use Rattle.cob_move_prepared.specs.declared.numerals_step.NumeralsStep.{NumeralsStep}
 
 -- how many characters the digits of the item's number are, with a zero for each P at the right
@@ -49,3 +49,12 @@ pub record HaveNumerals (from to : Item) : Type 0 where
   pub sends : IsShortNumber from
   pub few : HasFewNumerals from
   pub receives : is_of_characters to.picture.category ≡ true
+
+-- The sender gives a short number, and the receiver is a short one of any kind of storage, or edits one.
+pub record HaveNumbers (from to : Item) : Type 0 where
+  pub sends : IsShortSender from
+  pub receives : IsShortNumber to ⊎ IsWideEditedItem to
+
+-- There is a step: the sender gives a short number, and the receiver is one, edits one, or takes its digits as characters.
+abbrev pub HaveAnyShortNumbers : Item → Item → Type 0
+HaveAnyShortNumbers from to = HaveNumbers from to ⊎ HaveNumerals from to

@@ -8,17 +8,19 @@ use Rattle.cob_lanes.specs.Windows.{last_bytes}
 use Rattle.cob_move_receive.specs.Received.{Received}
 use Rattle.cob_move_receive.specs.Sent.{Entry, Occupies}
 use Rattle.cob_move_prepared.specs.Copies.{IsCharactersStep, gives_bytes}
-use Rattle.cob_move_prepared.specs.Edits.{IsEditStep}
-use Rattle.cob_move_prepared.specs.Texts.{IsEditedItem}
-use Rattle.cob_move_prepared.specs.Ends.{IsBinaryStep, IsShortNumber}
-use Rattle.cob_move_prepared.specs.Steps.{IsLaneItem, IsNumberStep, is_binary}
+use Rattle.cob_move_prepared.specs.Edits.{IsEditStep, IsWideEditStep}
+use Rattle.cob_move_prepared.specs.Ends.{IsBinaryStep}
+use Rattle.cob_move_prepared.specs.Numerals.{HaveAnyShortNumbers, IsNumeralsStep}
+use Rattle.cob_move_prepared.specs.Steps.{IsNumberStep, is_binary}
 use Rattle.cob_move_prepared.specs.Wide.{IsWideStep}
 use Rattle.cob_move_prepared.specs.declared.binary_step.BinaryStep.{BinaryStep}
 use Rattle.cob_move_prepared.specs.declared.edit_step.EditStep.{EditStep}
+use Rattle.cob_move_prepared.specs.declared.numerals_step.NumeralsStep.{NumeralsStep}
 use Rattle.cob_move_prepared.specs.declared.pool.MoveStep.{MoveStep}
 use Rattle.cob_move_prepared.specs.declared.pool.MoveStep.TheVariants as move_step
 use Rattle.cob_move_prepared.specs.declared.pool.MoveSteps.{MoveSteps}
 use Rattle.cob_move_prepared.specs.declared.step.NumberStep.{NumberStep}
+use Rattle.cob_move_prepared.specs.declared.wide_edit_step.WideEditStep.{WideEditStep}
 use Rattle.cob_move_prepared.specs.declared.wide_step.WideStep.{WideStep}
 
 -- what a single move is between: what sender and receiver describe, and how many bytes they have
@@ -59,6 +61,14 @@ MovesToBinary step from to = (is_binary from.usage ≡ false) × IsBinaryStep fr
 abbrev pub MovesToEdited : EditStep → Item → Item → Type 0
 MovesToEdited step from to = (is_binary from.usage ≡ false) × IsEditStep from to step
 
+-- the step moves the number of an item that isn't binary to an edited one, of more bytes
+abbrev pub MovesToWideEdited : WideEditStep → Item → Item → Type 0
+MovesToWideEdited step from to = (is_binary from.usage ≡ false) × IsWideEditStep from to step
+
+-- the step moves the number of an item that isn't binary to characters
+abbrev pub MovesToNumerals : NumeralsStep → Item → Item → Type 0
+MovesToNumerals step from to = (is_binary from.usage ≡ false) × IsNumeralsStep from to step
+
 -- the step with this number among these is one that is meant
 pub record IsStepAt (T : Type 0) (moves : T → Type 0) (steps : List T) (number : ℕ) : Type 0 where
   pub step : T
@@ -72,6 +82,8 @@ IsStepBetween steps k (move_step.Number number) = IsStepAt NumberStep (λ step. 
 IsStepBetween steps k (move_step.Wide number) = IsStepAt WideStep (λ step. BetweenItems (MovesWide step) k.sender k.receiver) steps.wides.items number
 IsStepBetween steps k (move_step.Binary number) = IsStepAt BinaryStep (λ step. BetweenItems (MovesToBinary step) k.sender k.receiver) steps.binaries.items number
 IsStepBetween steps k (move_step.Edited number) = IsStepAt EditStep (λ step. BetweenItems (MovesToEdited step) k.sender k.receiver) steps.edits.items number
+IsStepBetween steps k (move_step.WideEdited number) = IsStepAt WideEditStep (λ step. BetweenItems (MovesToWideEdited step) k.sender k.receiver) steps.wide_edits.items number
+IsStepBetween steps k (move_step.Numerals number) = IsStepAt NumeralsStep (λ step. BetweenItems (MovesToNumerals step) k.sender k.receiver) steps.numerals.items number
 IsStepBetween steps k (move_step.Characters step) = IsCharactersStep k.sender k.sent k.receiver step
 
 -- The step, one of these, carries out the move of the sender to the receiver.
@@ -79,10 +91,10 @@ pub record IsMoveStep (steps : MoveSteps) (k : MoveKinds) (step : MoveStep) : Ty
   pub occupied : AreOccupied k
   pub between : IsStepBetween steps k step
 
--- the sender is a short number that isn't binary, and the receiver one of any kind of storage, or edits one
+-- the sender gives a short number and isn't binary, and the receiver is a number of any kind of storage, edits one, or takes its digits as characters
 pub record HaveShortNumbers (from to : Item) : Type 0 where
-  pub sends : IsLaneItem from
-  pub receives : IsShortNumber to ⊎ IsEditedItem to
+  pub steady : is_binary from.usage ≡ false
+  pub numbers : HaveAnyShortNumbers from to
 
 -- there is a step between these kinds: the sender gives its bytes as characters, or both are items with short numbers
 abbrev pub HaveStep : Kind → Kind → Type 0
@@ -95,3 +107,4 @@ KeepsSteps before now = (k : MoveKinds) (step : MoveStep) → IsMoveStep before 
 -- there is no step of a number
 abbrev pub HasNoSteps : MoveSteps → Type 0
 HasNoSteps steps = (length steps.numbers.items ≡ 0) × (length steps.wides.items ≡ 0) × (length steps.binaries.items ≡ 0) × (length steps.edits.items ≡ 0)
+    × (length steps.wide_edits.items ≡ 0) × (length steps.numerals.items ≡ 0)

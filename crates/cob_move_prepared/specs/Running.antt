@@ -8,11 +8,12 @@ use Rattle.cob_lanes.specs.Windows.{last_bytes}
 use Rattle.cob_move_receive.specs.Received.{Received}
 use Rattle.cob_move_receive.specs.Sent.{Entry}
 use Rattle.cob_move_prepared.specs.Steps.{IsNumberStep}
-use Rattle.cob_move_prepared.specs.Edits.{IsEditStep}
+use Rattle.cob_move_prepared.specs.Edits.{IsEditStep, IsWideEditStep}
 use Rattle.cob_move_prepared.specs.Ends.{IsBinaryStep, SuitsReading}
 use Rattle.cob_move_prepared.specs.declared.binary_step.BinaryStep.{BinaryStep}
 use Rattle.cob_move_prepared.specs.declared.step.NumberStep.{NumberStep}
 use Rattle.cob_move_prepared.specs.declared.edit_step.EditStep.{EditStep}
+use Rattle.cob_move_prepared.specs.declared.wide_edit_step.WideEditStep.{WideEditStep}
 
 -- What a receiver of n bytes holds after the move of the item that ends these bytes, whatever the reading; or none.
 abbrev pub ReceivedAtEnd : Item → Item → List ℕ → ℕ → Option (List ℕ) → Type 0
@@ -38,3 +39,8 @@ IsBinaryCarriedOut step bytes n outcome =
 abbrev pub IsEditCarriedOut : EditStep → List ℕ → ℕ → Option (List ℕ) → Type 0
 IsEditCarriedOut step bytes n outcome =
     (from to : Item) → IsEditStep from to step → item_size from ≤ length bytes → n ≡ item_size to → ReceivedWhereRead from to bytes n outcome
+
+-- The same of a step to an edited item of more than sixteen bytes.
+abbrev pub IsWideEditCarriedOut : WideEditStep → List ℕ → ℕ → Option (List ℕ) → Type 0
+IsWideEditCarriedOut step bytes n outcome =
+    (from to : Item) → IsWideEditStep from to step → item_size from ≤ length bytes → n ≡ item_size to → ReceivedWhereRead from to bytes n outcome

@@ -32,7 +32,7 @@ fn is_word_item(item: &Item) -> bool
 fn is_numeral_item(item: &Item) -> bool
     ensures { IsTrue result ↔ IsNumeralItem item.now }
 {
-    item.picture.category() == Category::Alphanumeric
+    matches!(item.picture.category(), Category::Alphanumeric)
         && item.picture.scale() == 0
         && item.size() > 0
         && item.size() <= 16

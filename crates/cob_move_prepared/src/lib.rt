@@ -48,6 +48,7 @@ mod running;
 mod short;
 mod step;
 mod storage;
+mod stubs;
 mod text_preparing;
 mod text_reader;
 mod text_running;

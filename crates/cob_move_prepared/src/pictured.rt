@@ -1,13 +1,16 @@
 //! Steps of single moves whose senders are read as their pictures say.
 
 ghost use Rattle.std.specs.Prelude.{◌≡◌, ◌≤◌, false, length, IfOk, IfSome, IsSome};
-ghost use Rattle.cob_move_prepared.specs.Pictured.{HaveAnyShortNumbers, HasNoPictured, HavePicturedStep, IsPicturedStep, IsReceivedPictured, KeepsPictured, MovesPictured, MovesPicturedToEdited};
+ghost use Rattle.cob_move_prepared.specs.Pictured.{HasNoPictured, HavePicturedStep, IsPicturedStep, IsReceivedPictured, KeepsPictured, MovesPictured, MovesPicturedToEdited, MovesPicturedToNumerals, MovesPicturedToWideEdited};
+ghost use Rattle.cob_move_prepared.specs.Numerals.{HaveAnyShortNumbers};
 ghost use Rattle.cob_move_prepared.specs.Pool.{AreOccupied, BetweenItems, MoveKinds};
 ghost use Rattle.cob_copybook_tree.specs.declared.node.Kind.TheVariants.{Item as ItemKind};
 ghost use Rattle.cob_move_receive.specs.Received.{outcome};
 
 use crate::binary_step::BinaryStep;
 use crate::edit_step::EditStep;
+use crate::numerals_step::NumeralsStep;
+use crate::wide_edit_step::WideEditStep;
 use cob_copybook_tree::{Item, Kind};
 use std::alloc::{AllocError, Global};
 use std::fmt;
@@ -19,6 +22,10 @@ pub enum PicturedStep {
     Number(usize),
     /// That of a number to an edited item.
     Edited(usize),
+    /// That of a number to an edited item of more than sixteen bytes.
+    WideEdited(usize),
+    /// That of a number to characters.
+    Numerals(usize),
 }
 
 /// Steps of single moves whose senders are read as their pictures say. They become more, and none of them changes.
@@ -27,13 +34,19 @@ pub struct PicturedSteps {
     alloc: Global,
     pub(crate) numbers: Vec<BinaryStep>,
     pub(crate) edits: Vec<EditStep>,
+    pub(crate) wide_edits: Vec<WideEditStep>,
+    pub(crate) numerals: Vec<NumeralsStep>,
 }
 
 impl fmt::Debug for PicturedSteps {
     fn fmt<W: fmt::Write>(&self, f: &mut fmt::Formatter<W>) -> fmt::Result {
         let numbers = self.numbers.len();
-        let edits = self.edits.len();
-        write!(f, "PicturedSteps {{ numbers: {numbers}, edits: {edits} }}")
+        let edits = self.edits.len() + self.wide_edits.len();
+        let numerals = self.numerals.len();
+        write!(
+            f,
+            "PicturedSteps {{ numbers: {numbers}, edits: {edits}, numerals: {numerals} }}"
+        )
     }
 }
 
@@ -46,6 +59,8 @@ impl PicturedSteps {
             alloc,
             numbers: Vec::new(alloc),
             edits: Vec::new(alloc),
+            wide_edits: Vec::new(alloc),
+            numerals: Vec::new(alloc),
         }
     }
 
@@ -81,6 +96,36 @@ impl PicturedSteps {
         Ok(PicturedStep::Edited(number))
     }
 
+    /// Puts the step of a number to an edited item of more than sixteen bytes behind those so far.
+    ///
+    /// # Errors
+    ///
+    /// Where no memory is left.
+    fn put_wide_edited(&mut self, step: WideEditStep) -> Result<PicturedStep, AllocError>
+        ensures step { IfOk result (λ put. (k : MoveKinds) → AreOccupied k
+            → BetweenItems (MovesPicturedToWideEdited step) k.sender k.receiver → IsPicturedStep self.new k put) }
+        ensures kept { KeepsPictured self.old self.new }
+    {
+        let number = self.wide_edits.len();
+        self.wide_edits.push(step)?;
+        Ok(PicturedStep::WideEdited(number))
+    }
+
+    /// Puts the step of a number to characters behind those so far.
+    ///
+    /// # Errors
+    ///
+    /// Where no memory is left.
+    fn put_numerals(&mut self, step: NumeralsStep) -> Result<PicturedStep, AllocError>
+        ensures step { IfOk result (λ put. (k : MoveKinds) → AreOccupied k
+            → BetweenItems (MovesPicturedToNumerals step) k.sender k.receiver → IsPicturedStep self.new k put) }
+        ensures kept { KeepsPictured self.old self.new }
+    {
+        let number = self.numerals.len();
+        self.numerals.push(step)?;
+        Ok(PicturedStep::Numerals(number))
+    }
+
     /// Makes the step of the move of one item to another ready.
     ///
     /// # Errors
@@ -96,15 +141,21 @@ impl PicturedSteps {
         if let Some(step) = BinaryStep::prepare(self.alloc, from, to)? {
             return Ok(Some(self.put_number(step)?));
         }
-        match EditStep::prepare(self.alloc, from, to)? {
-            Some(step) => Ok(Some(self.put_edited(step)?)),
+        if let Some(step) = EditStep::prepare(self.alloc, from, to)? {
+            return Ok(Some(self.put_edited(step)?));
+        }
+        if let Some(step) = WideEditStep::prepare(self.alloc, from, to)? {
+            return Ok(Some(self.put_wide_edited(step)?));
+        }
+        match NumeralsStep::prepare(from, to) {
+            Some(step) => Ok(Some(self.put_numerals(step)?)),
             None => Ok(None),
         }
     }
 
     /// Makes the step of the move of an entry, read as its picture says, to another ready, by what they describe and how many bytes they have.
-    /// There is one where the sender is a number of at most sixteen digits, and of at most sixteen bytes if it isn't binary, and the receiver is
-    /// another, or edits one in at most sixteen digits and bytes. The steps so far stay.
+    /// There is one where the sender gives a number of at most sixteen digits, and the receiver is one, edits one in at most thirty-two bytes, or
+    /// takes the digits of a number as characters. The steps so far stay.
     ///
     /// # Errors
     ///
@@ -156,6 +207,8 @@ impl PicturedSteps {
         match step {
             PicturedStep::Number(number) => self.numbers[number].run(from, to),
             PicturedStep::Edited(number) => self.edits[number].run(from, to),
+            PicturedStep::WideEdited(number) => self.wide_edits[number].run(from, to),
+            PicturedStep::Numerals(number) => self.numerals[number].run(from, to),
         }
     }
 }

@@ -1,7 +1,7 @@
 //! Steps of single moves, one for each move that has one.
 
 ghost use Rattle.std.specs.Prelude.{◌≡◌, ◌≤◌, false, length, Some, IfOk, IfSome, IsSome};
-ghost use Rattle.cob_move_prepared.specs.Pool.{AreOccupied, BetweenItems, HasNoSteps, HaveShortNumbers, HaveStep, IsMoveStep, IsReceived, KeepsSteps, MoveKinds, MovesNumber, MovesToBinary, MovesToEdited, MovesWide};
+ghost use Rattle.cob_move_prepared.specs.Pool.{AreOccupied, BetweenItems, HasNoSteps, HaveShortNumbers, HaveStep, IsMoveStep, IsReceived, KeepsSteps, MoveKinds, MovesNumber, MovesToBinary, MovesToEdited, MovesToNumerals, MovesToWideEdited, MovesWide};
 ghost use Rattle.cob_copybook_tree.specs.declared.node.Kind.TheVariants.{Item as ItemKind};
 ghost use Rattle.cob_move_prepared.specs.declared.pool.MoveStep.TheVariants.{Characters};
 ghost use Rattle.cob_move_receive.specs.Received.{outcome};
@@ -9,7 +9,9 @@ ghost use Rattle.cob_move_receive.specs.Received.{outcome};
 use crate::binary_step::BinaryStep;
 use crate::characters_step::CharactersStep;
 use crate::edit_step::EditStep;
+use crate::numerals_step::NumeralsStep;
 use crate::step::NumberStep;
+use crate::wide_edit_step::WideEditStep;
 use crate::ends_preparing::is_binary;
 use crate::wide_step::WideStep;
 use cob_copybook_tree::{Item, Kind};
@@ -27,6 +29,10 @@ pub enum MoveStep {
     Binary(usize),
     /// That of a number to an edited item.
     Edited(usize),
+    /// That of a number to an edited item of more than sixteen bytes.
+    WideEdited(usize),
+    /// That of a number to characters.
+    Numerals(usize),
     /// The step of characters, as it is.
     Characters(CharactersStep),
 }
@@ -39,6 +45,8 @@ pub struct MoveSteps {
     pub(crate) wides: Vec<WideStep>,
     pub(crate) binaries: Vec<BinaryStep>,
     pub(crate) edits: Vec<EditStep>,
+    pub(crate) wide_edits: Vec<WideEditStep>,
+    pub(crate) numerals: Vec<NumeralsStep>,
 }
 
 impl fmt::Debug for MoveSteps {
@@ -46,10 +54,11 @@ impl fmt::Debug for MoveSteps {
         let numbers = self.numbers.len();
         let wides = self.wides.len();
         let binaries = self.binaries.len();
-        let edits = self.edits.len();
+        let edits = self.edits.len() + self.wide_edits.len();
+        let numerals = self.numerals.len();
         write!(
             f,
-            "MoveSteps {{ numbers: {numbers}, wides: {wides}, binaries: {binaries}, edits: {edits} }}"
+            "MoveSteps {{ numbers: {numbers}, wides: {wides}, binaries: {binaries}, edits: {edits}, numerals: {numerals} }}"
         )
     }
 }
@@ -65,6 +74,8 @@ impl MoveSteps {
             wides: Vec::new(alloc),
             binaries: Vec::new(alloc),
             edits: Vec::new(alloc),
+            wide_edits: Vec::new(alloc),
+            numerals: Vec::new(alloc),
         }
     }
 
@@ -128,6 +139,36 @@ impl MoveSteps {
         Ok(MoveStep::Edited(number))
     }
 
+    /// Puts the step of a number to an edited item of more than sixteen bytes behind those so far.
+    ///
+    /// # Errors
+    ///
+    /// Where no memory is left.
+    fn put_wide_edited(&mut self, step: WideEditStep) -> Result<MoveStep, AllocError>
+        ensures step { IfOk result (λ put. (k : MoveKinds) → AreOccupied k
+            → BetweenItems (MovesToWideEdited step) k.sender k.receiver → IsMoveStep self.new k put) }
+        ensures kept { KeepsSteps self.old self.new }
+    {
+        let number = self.wide_edits.len();
+        self.wide_edits.push(step)?;
+        Ok(MoveStep::WideEdited(number))
+    }
+
+    /// Puts the step of a number to characters behind those so far.
+    ///
+    /// # Errors
+    ///
+    /// Where no memory is left.
+    fn put_numerals(&mut self, step: NumeralsStep) -> Result<MoveStep, AllocError>
+        ensures step { IfOk result (λ put. (k : MoveKinds) → AreOccupied k
+            → BetweenItems (MovesToNumerals step) k.sender k.receiver → IsMoveStep self.new k put) }
+        ensures kept { KeepsSteps self.old self.new }
+    {
+        let number = self.numerals.len();
+        self.numerals.push(step)?;
+        Ok(MoveStep::Numerals(number))
+    }
+
     /// Makes the step of the move of one item to another ready.
     ///
     /// # Errors
@@ -153,16 +194,23 @@ impl MoveSteps {
         if let Some(step) = BinaryStep::prepare(self.alloc, from, to)? {
             return Ok(Some(self.put_binary(step)?));
         }
-        match EditStep::prepare(self.alloc, from, to)? {
-            Some(step) => Ok(Some(self.put_edited(step)?)),
+        if let Some(step) = EditStep::prepare(self.alloc, from, to)? {
+            return Ok(Some(self.put_edited(step)?));
+        }
+        if let Some(step) = WideEditStep::prepare(self.alloc, from, to)? {
+            return Ok(Some(self.put_wide_edited(step)?));
+        }
+        match NumeralsStep::prepare(from, to) {
+            Some(step) => Ok(Some(self.put_numerals(step)?)),
             None => Ok(None),
         }
     }
 
     /// Makes the step of the move of an entry to another ready, by what they describe and how many bytes they have. There is one where the sender
-    /// gives its bytes as characters, and the receiver takes them without insertions; and where the sender is a number of at most sixteen digits
-    /// and bytes that isn't binary, and the receiver is one of any kind of storage or edits one in at most sixteen digits and bytes. The steps so
-    /// far stay.
+    /// gives its bytes as characters, and the receiver takes them without insertions; and where the sender isn't binary and gives a number of at
+    /// most sixteen digits, as a number or characters of at most sixteen bytes or an edited item of at most thirty-two, and the receiver is a
+    /// number of at most sixteen digits of any kind of storage, edits one in at most thirty-two bytes, or takes the digits of a number as
+    /// characters. The steps so far stay.
     ///
     /// # Errors
     ///
@@ -217,6 +265,8 @@ impl MoveSteps {
             MoveStep::Wide(number) => self.wides[number].run(from, to),
             MoveStep::Binary(number) => self.binaries[number].run(from, to),
             MoveStep::Edited(number) => self.edits[number].run(from, to),
+            MoveStep::WideEdited(number) => self.wide_edits[number].run(from, to),
+            MoveStep::Numerals(number) => self.numerals[number].run(from, to),
             MoveStep::Characters(step) => {
                 self.put_characters(step, from, to);
                 true

@@ -2,7 +2,9 @@ use Rattle.std.proofs.Common.{[], ◌∷◌, arith}
 use Rattle.cob_move_prepared.specs.Pool.{BetweenItems, MovesToBinary}
 use Rattle.cob_move_prepared.specs.declared.binary_step.BinaryStep.{BinaryStep}
 use Rattle.cob_move_prepared.specs.declared.edit_step.EditStep.{EditStep}
+use Rattle.cob_move_prepared.specs.declared.numerals_step.NumeralsStep.{NumeralsStep}
 use Rattle.cob_move_prepared.specs.declared.step.NumberStep.{NumberStep}
+use Rattle.cob_move_prepared.specs.declared.wide_edit_step.WideEditStep.{WideEditStep}
 use Rattle.cob_move_prepared.specs.declared.wide_step.WideStep.{WideStep}
 use Rattle.cob_move_prepared.proofs.PoolLemmas.{as_before, put_at, steps_kept}
 use Rattle.cob_move_prepared.proofs.pool.MoveSteps.put_binary.Goals as goal
@@ -16,4 +18,4 @@ returns-clause-step c = λ k occupied moves. record {
 
 pub returns-clause-kept : goal.returns-clause-kept
 returns-clause-kept c =
-    steps_kept c.args.self.now (record { alloc = c.args.self.now.alloc; numbers = c.args.self.now.numbers; wides = c.args.self.now.wides; binaries = c.push.new.self; edits = c.args.self.now.edits }) (as_before NumberStep c.args.self.now.numbers.items) (as_before WideStep c.args.self.now.wides.items) (c.args.step ∷ [], c.in_ok-push.ensures.items) (as_before EditStep c.args.self.now.edits.items)
+    steps_kept c.args.self.now (record { alloc = c.args.self.now.alloc; numbers = c.args.self.now.numbers; wides = c.args.self.now.wides; binaries = c.push.new.self; edits = c.args.self.now.edits; wide_edits = c.args.self.now.wide_edits; numerals = c.args.self.now.numerals }) (as_before NumberStep c.args.self.now.numbers.items) (as_before WideStep c.args.self.now.wides.items) (c.args.step ∷ [], c.in_ok-push.ensures.items) (as_before EditStep c.args.self.now.edits.items) (as_before WideEditStep c.args.self.now.wide_edits.items) (as_before NumeralsStep c.args.self.now.numerals.items)
