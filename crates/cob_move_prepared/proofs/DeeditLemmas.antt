@@ -29,7 +29,7 @@ use Rattle.cob_lanes.specs.Words.{IsNumberRead}
 use Rattle.cob_lanes.specs.declared.text.WideText.{WideText}
 use Rattle.cob_move_receive.specs.Numbers.{IsUnedited}
 use Rattle.cob_move_prepared.specs.Ends.{Gives, item_digits}
-use Rattle.cob_move_prepared.specs.Texts.{AreLed, AreWideTextsFor, digit_bytes_from, IsWideEditedItem, IsWideTextFor}
+use Rattle.cob_move_prepared.specs.Texts.{AreLed, digit_bytes_from, IsWideEditedItem, IsWideTextFor}
 use Rattle.cob_move_prepared.proofs.GivenLemmas.{at_scale, edited_given, edited_gives}
 use Rattle.cob_move_prepared.proofs.TextLemmas.{led_digits}
 
@@ -274,15 +274,3 @@ text_read from to reading item lanes kept plain zeros t false told c shown is_pl
         let minus = other refl in
         true≢false (sym (minus.2.1 (found_again from item lanes zeros t c true ds minus.0 u minus.1)) ∙ e)
     none e false ds u = true≢false (sym (is_plus.1 (found_again from item lanes zeros t c false ds plain u shown)))
-
--- ---- the texts by zeros in front
-
-wide_texts_at : (to : Item) (front : ℕ) (ts : List WideText) (i : ℕ) (d : WideText) → AreWideTextsFor to front ts → i < length ts → IsWideTextFor to (front + i) (get_or ts i d)
-wide_texts_at to front [] i d all lt = absurd (omega arith)
-wide_texts_at to front (t ∷ ts) zero d all lt = let none : front ≡ front + 0 = omega arith in subst (λ k. IsWideTextFor to k t) none all.0
-wide_texts_at to front (t ∷ ts) (suc i) d all lt =
-    let next : front + 1 + i ≡ front + suc i = omega arith in
-    subst (λ k. IsWideTextFor to k (get_or ts i d)) next (wide_texts_at to (front + 1) ts i d all.1 (omega arith))
-
-pub wide_text_at : (to : Item) (ts : List WideText) (i : ℕ) (d : WideText) → AreWideTextsFor to 0 ts → i < length ts → IsWideTextFor to i (get_or ts i d)
-wide_text_at to ts i d all lt = let none : 0 + i ≡ i = omega arith in subst (λ k. IsWideTextFor to k (get_or ts i d)) none (wide_texts_at to 0 ts i d all lt)

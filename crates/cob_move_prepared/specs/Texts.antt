@@ -44,7 +44,7 @@ digit_bytes_from at (p ∷ ps) = (if is_digit p then at ∷ [] else []) ++ digit
 
 -- ---- texts
 
--- the cell with this number of a row
+-- the cell with this number of a row; behind the row stands the byte 0
 abbrev pub cell_in : List Cell → ℕ → Cell
 cell_in row i = slice_index_or row i (Same 0)
 
@@ -60,12 +60,17 @@ added_to negative (Same byte) = byte
 added_to negative (Signed plus minus) = if negative then minus else plus
 added_to negative (Taken number) = zero_byte
 
--- The bytes of the text are made as the cells of the row say.
-pub record IsTextOf (row : List Cell) (t : LaneText) : Type 0 where
-  pub lanes : (i : ℕ) → i < length row → slice_index t.picks.lanes i ≡ shown_lane (cell_in row i)
-  pub plus : (i : ℕ) → i < length row → slice_index t.plus i ≡ added_to false (cell_in row i)
-  pub minus : (i : ℕ) → i < length row → slice_index t.minus i ≡ added_to true (cell_in row i)
-  pub small : (i : ℕ) (negative : Bool) → i < length row → added_to negative (cell_in row i) < 256
+-- Sixteen bytes of a text, from this one on, are made as the cells of the row say; behind the row they are 0.
+pub record IsTextOf (row : List Cell) (start : ℕ) (t : LaneText) : Type 0 where
+  pub lanes : (i : ℕ) → i < 16 → slice_index t.picks.lanes i ≡ shown_lane (cell_in row (start + i))
+  pub plus : (i : ℕ) → i < 16 → slice_index t.plus i ≡ added_to false (cell_in row (start + i))
+  pub minus : (i : ℕ) → i < 16 → slice_index t.minus i ≡ added_to true (cell_in row (start + i))
+  pub small : (i : ℕ) (negative : Bool) → i < 16 → added_to negative (cell_in row (start + i)) < 256
+
+-- So are thirty-two bytes.
+pub record IsWideTextOf (row : List Cell) (t : WideText) : Type 0 where
+  pub front : IsTextOf row 0 t.front
+  pub back : IsTextOf row 16 t.back
 
 -- Sixteen lanes that hold so many digits, and 0 behind them.
 pub record AreLed (count : ℕ) (lanes : List ℕ) : Type 0 where
@@ -92,12 +97,15 @@ pub record IsWideTextFor (to : Item) (zeros : ℕ) (t : WideText) : Type 0 where
   pub text : MakesTextsFor to zeros (AreWidelyShown t)
   pub rest : (negative : Bool) (lanes bytes : List ℕ) → AreWidelyShown t negative lanes bytes → drop (item_size to) bytes ≡ replicate (32 - item_size to) 0
 
+-- What is first in a list is right for this number, what is next for the number behind it, and so on.
+abbrev pub AreNumbered : {A : Type 0} → (ℕ → A → Type 0) → (first : ℕ) → List A → Type 0
+AreNumbered IsRight first [] = Unit {0}
+AreNumbered IsRight first (x ∷ xs) = IsRight first x × AreNumbered IsRight (first + 1) xs
+
 -- These texts are those of numbers with so many zeros in front, with one more, and so on.
 abbrev pub AreTextsFor : Item → (front : ℕ) → List LaneText → Type 0
-AreTextsFor to front [] = Unit {0}
-AreTextsFor to front (t ∷ ts) = IsTextFor to front t × AreTextsFor to (front + 1) ts
+AreTextsFor to front texts = AreNumbered (IsTextFor to) front texts
 
 -- The same of texts of at most thirty-two bytes.
 abbrev pub AreWideTextsFor : Item → (front : ℕ) → List WideText → Type 0
-AreWideTextsFor to front [] = Unit {0}
-AreWideTextsFor to front (t ∷ ts) = IsWideTextFor to front t × AreWideTextsFor to (front + 1) ts
+AreWideTextsFor to front texts = AreNumbered (IsWideTextFor to) front texts

@@ -53,10 +53,13 @@ mod text_preparing;
 mod text_reader;
 mod text_running;
 mod texts;
+mod wide_edit_preparing;
+mod wide_edit_running;
 mod wide_edit_step;
 mod wide_preparing;
 mod wide_running;
 mod wide_step;
+mod wide_texts;
 
 pub use binary_step::BinaryStep;
 pub use characters_step::CharactersStep;

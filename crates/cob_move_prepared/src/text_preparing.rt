@@ -1,6 +1,6 @@
 //! What reads the numbers of edited items, made ready.
 
-ghost use Rattle.std.specs.Prelude.{◌≤◌, ◌↔◌, ◌-ℤ◌, count_by, IfOk, IfSome, IsSome, IsTrue};
+ghost use Rattle.std.specs.Prelude.{◌≤◌, ◌-ℤ◌, count_by, IfOk, IfSome, IsSome};
 ghost use Rattle.cob_edit.specs.Pictured.{places};
 ghost use Rattle.cob_edit.specs.Places.{bytes_of, is_digit};
 ghost use Rattle.cob_lanes.specs.Texts.{ArePlacesAt, IsKeeperOf};
@@ -8,21 +8,14 @@ ghost use Rattle.cob_picture.specs.Counts.{digits, scale};
 ghost use Rattle.cob_move_prepared.specs.Ends.{IsTextReaderFor};
 ghost use Rattle.cob_move_prepared.specs.Texts.{digit_bytes_from, IsWideEditedItem};
 
-use crate::edit_preparing::is_edited;
 use crate::preparing::wanted_of;
 use crate::text_reader::TextReader;
+use crate::wide_edit_preparing::is_wide_edited_item;
 use crate::wide_texts::wide_texts_for;
 use cob_copybook_tree::Item;
 use cob_edit::{Place, places_of};
 use cob_lanes::{DigitPlaces, KeptDigits};
 use std::alloc::{AllocError, Global};
-
-/// Whether an item edits numbers of at most sixteen digits in at most thirty-two bytes.
-fn is_wide_edited_item(item: &Item) -> bool
-    ensures { IsTrue result ↔ IsWideEditedItem item.now }
-{
-    is_edited(item) && item.picture.digits() <= 16 && item.size() <= 32
-}
 
 /// Where the digits of these places stand in a text.
 fn digits_of(places: &[Place]) -> DigitPlaces

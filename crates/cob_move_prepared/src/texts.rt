@@ -1,6 +1,6 @@
 //! Texts of edited items, made ready.
 
-ghost use Rattle.std.specs.Prelude.{◌≡◌, ◌+◌, ◌<◌, ◌≤◌, ℕ, true, length, slice_index, vec_len, IfOk};
+ghost use Rattle.std.specs.Prelude.{◌≡◌, ◌+◌, ◌<◌, ◌≤◌, ℕ, true, slice_index, vec_len, IfOk};
 ghost use Rattle.cob_picture.specs.Counts.{digits};
 ghost use Rattle.cob_edit.specs.Rows.{ArePlacesOf};
 ghost use Rattle.cob_lanes.specs.Lanes.{is_pick};
@@ -35,42 +35,53 @@ fn added_to(negative: bool, cell: Cell) -> u8
     }
 }
 
-/// The lanes of the digits that bytes show.
-fn picks_of(row: &[Cell]) -> Picks
-    requires { length row.now ≤ 16 }
-    ensures { (i : ℕ) → i < length row.now
-        → slice_index result.lanes i ≡ shown_lane (cell_in row.now i) }
+/// The cell with this number of a row; behind the row stands the byte 0.
+fn cell_in(row: &[Cell], at: usize) -> Cell
+    ensures { result ≡ cell_in row.now at }
+{
+    if at < row.len() {
+        row[at]
+    } else {
+        Cell::Same(0)
+    }
+}
+
+/// The lanes of the digits that sixteen bytes of a text show, from this one on.
+fn picks_of(row: &[Cell], start: usize) -> Picks
+    requires { start ≤ 16 }
+    ensures { (i : ℕ) → i < 16
+        → slice_index result.lanes i ≡ shown_lane (cell_in row.now (start + i)) }
 {
     let mut lanes = [NO_LANE; 16];
-    for at in 0..row.len() {
-        lanes[at] = shown_lane(row[at]);
+    for at in 0..16 {
+        lanes[at] = shown_lane(cell_in(row, start + at));
     }
     Picks { lanes }
 }
 
 /// What is added to them in the text of a number that is negative or not.
-fn added_in(negative: bool, row: &[Cell]) -> [u8; 16]
-    requires { length row.now ≤ 16 }
-    ensures each { (i : ℕ) → i < length row.now
-        → slice_index result i ≡ added_to negative (cell_in row.now i) }
-    ensures small { (i : ℕ) → i < length row.now → added_to negative (cell_in row.now i) < 256 }
+fn added_in(negative: bool, row: &[Cell], start: usize) -> [u8; 16]
+    requires { start ≤ 16 }
+    ensures each { (i : ℕ) → i < 16
+        → slice_index result i ≡ added_to negative (cell_in row.now (start + i)) }
+    ensures small { (i : ℕ) → i < 16 → added_to negative (cell_in row.now (start + i)) < 256 }
 {
     let mut added = [0; 16];
-    for at in 0..row.len() {
-        added[at] = added_to(negative, row[at]);
+    for at in 0..16 {
+        added[at] = added_to(negative, cell_in(row, start + at));
     }
     added
 }
 
-/// What makes a text whose bytes are these.
-fn text_of(row: &[Cell]) -> LaneText
-    requires { length row.now ≤ 16 }
-    ensures { IsTextOf row.now result }
+/// What makes sixteen bytes of a text, from this one on.
+pub(crate) fn text_of(row: &[Cell], start: usize) -> LaneText
+    requires { start ≤ 16 }
+    ensures { IsTextOf row.now start result }
 {
     LaneText {
-        picks: picks_of(row),
-        plus: added_in(false, row),
-        minus: added_in(true, row),
+        picks: picks_of(row, start),
+        plus: added_in(false, row, start),
+        minus: added_in(true, row, start),
     }
 }
 
@@ -81,7 +92,7 @@ fn text_for(item: &Item, places: &Places, zeros: usize) -> LaneText
     ensures { IsTextFor item.now zeros result }
 {
     let row = row_of(&item.picture, places, item.blank, zeros);
-    text_of(row.as_slice())
+    text_of(row.as_slice(), 0)
 }
 
 /// What makes the texts of numbers, by how many of their digits are zeros in front: none, one, and so on up to all.

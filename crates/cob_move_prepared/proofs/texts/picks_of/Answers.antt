@@ -1,4 +1,4 @@
-use Rattle.std.proofs.Common.{◌≡◌, ◌≢◌, ℕ, ◌<◌, List, length, get_or, sym, ap, ◌∙◌, inl, inr, arith, get_or-set_other, get_or-set_same}
+use Rattle.std.proofs.Common.{◌≡◌, ◌≢◌, ℕ, ◌+◌, ◌<◌, List, length, get_or, sym, ap, ◌∙◌, inl, inr, arith, get_or-set_other, get_or-set_same}
 use Rattle.std.proofs.Math.ListN.{set, length-set}
 use Rattle.std.proofs.lemmas.Bool.{cases_lt, cases_eq}
 use Rattle.cob_lanes.specs.Lanes.{is_pick}
@@ -19,7 +19,8 @@ loop-at-preserved c =
             | inr ge ↦
                 let same : i ≡ at = omega arith in
                 ap (λ k. get_or (set lanes at r) k 0) same ∙ get_or-set_same lanes at r 0 inside ∙ c.shown_lane.ensures.lane
-                ∙ ap (λ k. shown_lane (cell_in c.args.row.now k)) (sym same)
+                ∙ ap shown_lane c.cell_in.ensures
+                ∙ ap (λ k. shown_lane (cell_in c.args.row.now (c.args.start + k))) (sym same)
           ];
       valid = λ i lt.
           elim (cases_eq i at) [

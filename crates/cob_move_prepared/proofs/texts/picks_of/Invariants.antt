@@ -1,4 +1,4 @@
-use Rattle.std.proofs.Common.{◌≡◌, ℕ, ◌<◌, true, length, get_or}
+use Rattle.std.proofs.Common.{◌≡◌, ℕ, ◌+◌, ◌<◌, true, length, get_or}
 use Rattle.cob_lanes.specs.Lanes.{is_pick}
 use Rattle.cob_move_prepared.specs.Texts.{cell_in, shown_lane}
 use Rattle.cob_move_prepared.proofs.texts.picks_of.Given as goal
@@ -6,6 +6,6 @@ use Rattle.cob_move_prepared.proofs.texts.picks_of.Given as goal
 abbrev pub invariant-loop-at : goal.invariant-loop-at
 invariant-loop-at l = record {
   long : length l.lanes ≡ 16;
-  each : (i : ℕ) → i < l.at → get_or l.lanes i 0 ≡ shown_lane (cell_in l.row i);
+  each : (i : ℕ) → i < l.at → get_or l.lanes i 0 ≡ shown_lane (cell_in l.row (l.start + i));
   valid : (i : ℕ) → i < 16 → is_pick (get_or l.lanes i 0) ≡ true;
 }

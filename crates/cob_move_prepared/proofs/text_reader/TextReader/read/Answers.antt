@@ -9,7 +9,8 @@ use Rattle.cob_lanes.specs.Windows.{last_bytes}
 use Rattle.cob_lanes.specs.declared.text.WideText.{WideText}
 use Rattle.cob_move_prepared.specs.Ends.{item_digits}
 use Rattle.cob_move_prepared.specs.Texts.{AreLed, digit_bytes_from, IsWideTextFor}
-use Rattle.cob_move_prepared.proofs.DeeditLemmas.{AreCompared, led, text_read, wide_text_at}
+use Rattle.cob_move_prepared.proofs.DeeditLemmas.{AreCompared, led, text_read}
+use Rattle.cob_move_prepared.proofs.TextLemmas.{wide_text_at}
 use Rattle.cob_move_prepared.proofs.text_reader.TextReader.read.Goals as goal
 
 pub returns : goal.returns
@@ -42,4 +43,4 @@ returns c = λ from to reading is within.
     (subst (λ xs. IsTrue c.is-plus.result ↔ (plain.0 ≡ xs)) text plain.2)
     c.is_either.ensures.plus
     (λ e. let made = c.is_either.ensures.minus e in (made.0, made.1, subst (λ xs. IsTrue told ↔ (made.0 ≡ xs)) text made.2))
-    (c.keep.ensures (item_digits from) (item_digits to) shift is.kept ours.tens ours.rest)
+    (c.keep.ensures (item_digits from) (item_digits to) shift is.kept ours.tens)
