@@ -53,18 +53,18 @@ is_not : (b : Bool) → not b ≡ true → b ≡ false
 is_not true e = sym e
 is_not false e = refl
 
-unless : (b : Bool) (P Q : Type 0) → b ≡ false → Q → MatchBool b P Q
+pub unless : (b : Bool) (P Q : Type 0) → b ≡ false → Q → MatchBool b P Q
 unless false P Q e q = q
 unless true P Q e q = absurd (cc)
 
-no_number : (c : Category) → is_of_characters c ≡ true → shows_number c ≡ false
+pub no_number : (c : Category) → is_of_characters c ≡ true → shows_number c ≡ false
 no_number Alphabetic e = refl
 no_number Alphanumeric e = refl
 no_number Numeric e = absurd (cc)
 no_number AlphanumericEdited e = absurd (cc)
 no_number NumericEdited e = absurd (cc)
 
-placed : (c : Category) (i : Item) → is_of_characters c ≡ true → placement_under c i ≡ placement_by i.justified
+pub placed : (c : Category) (i : Item) → is_of_characters c ≡ true → placement_under c i ≡ placement_by i.justified
 placed Alphabetic i e = refl
 placed Alphanumeric i e = refl
 placed Numeric i e = absurd (cc)
@@ -72,7 +72,7 @@ placed AlphanumericEdited i e = absurd (cc)
 placed NumericEdited i e = absurd (cc)
 
 -- characters stand from the left or from the right, as JUSTIFIED says
-by_side : (justified right : Bool) (n : ℕ) (text written : List ℕ) → right ≡ justified → (right ≡ false → written ≡ padded n text) → (right ≡ true → written ≡ padded_left n text) → Arranged (placement_by justified) n text written
+pub by_side : (justified right : Bool) (n : ℕ) (text written : List ℕ) → right ≡ justified → (right ≡ false → written ≡ padded n text) → (right ≡ true → written ≡ padded_left n text) → Arranged (placement_by justified) n text written
 by_side false right n text written side left other = left side
 by_side true right n text written side left other = other side
 

@@ -144,7 +144,7 @@ low_digits [] are = refl
 low_digits (b ∷ bs) are =
     let within : (240 ≤ b) × (b ≤ 249) = numeral_within b are.0 in
     let here : b % 16 ≡ b - 240 = omega (arith, within.0, within.1) in
-    ap (λ d. d ∷ map low_digit bs) here ∙ ap (λ ds. b - 240 ∷ ds) (low_digits bs are.1)
+    ap (λ d. d ∷ map low_digit bs) here ∙ ap (λ ds. (b - 240) ∷ ds) (low_digits bs are.1)
 
 numeral_zones : (bytes : List ℕ) → AreNumerals bytes → (k : ℕ) → k < length bytes → get_or bytes k 0 / 16 ≡ 15
 numeral_zones [] are k lt = absurd (omega arith)

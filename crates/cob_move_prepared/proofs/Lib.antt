@@ -9,3 +9,4 @@ pub mod PoolLemmas
 pub mod BinaryStepLemmas
 pub mod PicturedLemmas
 pub mod WideStepLemmas
+pub mod NumeralLemmas

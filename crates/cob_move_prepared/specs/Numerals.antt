@@ -1,5 +1,6 @@
 -- Single moves of numbers to characters that are made ready: the digits of a number are written as characters.
-use Rattle.std.specs.Prelude.{◌≡◌, ◌⊎◌, ℕ, ◌+◌, ◌≤◌, true, false, List, length, take, Option}
+use Rattle.std.specs.Prelude.{◌≡◌, ◌⊎◌, ℕ, ◌+◌, ◌≤◌, nat_lt, true, false, if◌then◌else◌, List, length, take, Option}
+use Rattle.cob_cp037.specs.Named.{zero_byte}
 use Rattle.cob_decimal.specs.Parts.{zeros_of}
 use Rattle.cob_picture.specs.Counts.{scale}
 use Rattle.cob_copybook_tree.specs.declared.node.Item.{Item}
@@ -22,6 +23,14 @@ numeral_count i = item_digits i + zeros_of (scale i.picture.positions)
 pub record HasFewNumerals (i : Item) : Type 0 where
   pub number : IsNumberItem i
   pub few : numeral_count i ≤ 16
+
+-- The lane of the digit that a character shows, or none for one behind so many digits.
+abbrev pub numeral_lane : (digits : ℕ) → ℕ → ℕ
+numeral_lane digits at = if nat_lt at digits then at else 128
+
+-- What is added to that digit: nothing behind so many characters.
+abbrev pub numeral_zone : (count : ℕ) → ℕ → ℕ
+numeral_zone count at = if nat_lt at count then zero_byte else 0
 
 -- The text makes the characters of the digits of the item's number.
 abbrev pub MakesNumerals : Item → LaneText → Type 0

@@ -39,7 +39,7 @@ fn is_numeral_item(item: &Item) -> bool
 }
 
 /// What reads the number of a sender that is stored as one, if lanes hold its bytes, or its number where it is binary.
-fn stored_reader(sender: &Item, receiver: &Item) -> Option<NumberReader>
+pub(crate) fn stored_reader(sender: &Item, receiver: &Item) -> Option<NumberReader>
     requires { digits receiver.now.picture.positions ≤ 16 }
     ensures reader { IfSome result (IsNumberReaderFor sender.now receiver.now) }
     ensures must { IsShortNumber sender.now → IsSome result }

@@ -14,9 +14,9 @@ pub returns-in-Lanes : goal.returns-in-Lanes
 returns-in-Lanes c = λ from to reading is suits within.
     let own : IsLaneReaderFor from to c.in-Lanes.reader = subst (λ r. IsOwnReader from to r) c.in-Lanes.is is.own in
     let shift = scale to.picture.positions -ℤ scale from.picture.positions in
-    let r = c.read-in-Lanes.result in
+    let r = c.read.result in
     number_given reading from (last_bytes (item_size from) c.args.bytes.now) r.digits (item_digits to) shift r.is_number r.minus own.number
-    (item_read from reading (item_digits to) shift c.in-Lanes.reader c.args.bytes.now r.digits r.is_number r.minus own.reads within c.read-in-Lanes.ensures)
+    (item_read from reading (item_digits to) shift c.in-Lanes.reader c.args.bytes.now r.digits r.is_number r.minus own.reads within c.read.ensures)
 
 pub returns-in-Binary : goal.returns-in-Binary
 returns-in-Binary c = λ from to reading is suits within.
