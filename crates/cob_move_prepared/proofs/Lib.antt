@@ -1,6 +1,7 @@
 pub mod KindLemmas
 pub mod StepLemmas
 pub mod TextLemmas
+pub mod DeeditLemmas
 pub mod GivenLemmas
 pub mod EditLemmas
 pub mod CopyLemmas
