@@ -7,7 +7,7 @@ use crate::kinds::{ItemKind, drawn_scale, push_picture};
 use crate::senders::drawn_record;
 use crate::tally::Tally;
 use cob_copybook_tree::Item;
-use cob_move_prepared::{BinaryStep, NumberStep, WideStep};
+use cob_move_prepared::{AnyNumberStep, NumberStep, WideStep};
 use cob_picture::Picture;
 use std::alloc::{AllocError, Global};
 
@@ -52,7 +52,7 @@ fn moved(sender: &Item, receiver: &Item, record: &[u8], to: &mut [u8]) -> Option
     if let Some(step) = WideStep::prepare(sender, receiver) {
         return Some(step.run(record, to));
     }
-    let step = BinaryStep::prepare(sender, receiver)?;
+    let step = AnyNumberStep::prepare(sender, receiver)?;
     Some(step.run(record, to))
 }
 

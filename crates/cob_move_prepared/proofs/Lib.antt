@@ -6,7 +6,7 @@ pub mod GivenLemmas
 pub mod EditLemmas
 pub mod CopyLemmas
 pub mod PoolLemmas
-pub mod BinaryStepLemmas
+pub mod AnyNumberLemmas
 pub mod PicturedLemmas
 pub mod WideStepLemmas
 pub mod NumeralLemmas

@@ -5,7 +5,7 @@ use Rattle.cob_copybook_tree.specs.Lengths.{item_size}
 use Rattle.cob_lanes.specs.Readers.{AreNumeralsOf}
 use Rattle.cob_lanes.specs.Windows.{last_bytes}
 use Rattle.cob_move_prepared.specs.Ends.{IsLaneReaderFor, IsNumeralReaderFor, IsOwnReader, IsTextReaderFor, IsWordReaderFor, item_digits}
-use Rattle.cob_move_prepared.proofs.BinaryStepLemmas.{size_is, word_read}
+use Rattle.cob_move_prepared.proofs.AnyNumberLemmas.{size_is, word_read}
 use Rattle.cob_move_prepared.proofs.GivenLemmas.{number_given, numerals_given}
 use Rattle.cob_move_prepared.proofs.StepLemmas.{item_read, lanes_read, last_size}
 use Rattle.cob_move_prepared.proofs.number_ends.NumberReader.read.Goals as goal
