@@ -92,7 +92,7 @@ step_still x r given a b (step.Part p) own more (m, is, part) =
     (m, is, subst (λ (bs : List Basis). IsMoveOfPart x r given bs p m) (sym more.bases) (part_still x r given a.bases more.more p m part))
 step_still x r given a b (step.Number p) own more (k, is, fixed) = (k, more.prepared k (move_step.Number p.number) is, fixed)
 step_still x r given a b (step.Wide p) own more (k, is, fixed) = (k, more.prepared k (move_step.Wide p.number) is, fixed)
-step_still x r given a b (step.Binary p) own more (k, is, fixed) = (k, more.prepared k (move_step.Binary p.number) is, fixed)
+step_still x r given a b (step.AnyNumber p) own more (k, is, fixed) = (k, more.prepared k (move_step.AnyNumber p.number) is, fixed)
 step_still x r given a b (step.Edited p) own more (k, is, fixed) = (k, more.prepared k (move_step.Edited p.number) is, fixed)
 step_still x r given a b (step.Characters p) own more (k, is, fixed) = (k, more.prepared k (move_step.Characters p.step) is, fixed)
 step_still x r given a b (step.Pictured q p) own more (m, is, (part, so)) = (

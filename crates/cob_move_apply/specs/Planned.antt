@@ -74,7 +74,7 @@ abbrev pub step_count : Step → ℕ
 step_count (step.Part p) = p.count
 step_count (step.Number p) = 1
 step_count (step.Wide p) = 1
-step_count (step.Binary p) = 1
+step_count (step.AnyNumber p) = 1
 step_count (step.Edited p) = 1
 step_count (step.Characters p) = 1
 step_count (step.Pictured q p) = 1
@@ -92,7 +92,7 @@ abbrev pub step_ends : Step → Option CopyEnds
 step_ends (step.Part p) = None
 step_ends (step.Number p) = None
 step_ends (step.Wide p) = None
-step_ends (step.Binary p) = None
+step_ends (step.AnyNumber p) = None
 step_ends (step.Edited p) = None
 step_ends (step.Characters p) = None
 step_ends (step.Pictured q p) = None

@@ -160,7 +160,7 @@ abbrev pub IsStep : Reading → Records → List StatementMoves → Support → 
 IsStep reading r given on (step.Part p) own = (m : Move) × (own ≡ m ∷ []) × IsMoveOfPart reading r given on.bases p m
 IsStep reading r given on (step.Number p) own = IsPreparedMove reading r on.prepared (numbered move_step.Number p) own
 IsStep reading r given on (step.Wide p) own = IsPreparedMove reading r on.prepared (numbered move_step.Wide p) own
-IsStep reading r given on (step.Binary p) own = IsPreparedMove reading r on.prepared (numbered move_step.Binary p) own
+IsStep reading r given on (step.AnyNumber p) own = IsPreparedMove reading r on.prepared (numbered move_step.AnyNumber p) own
 IsStep reading r given on (step.Edited p) own = IsPreparedMove reading r on.prepared (numbered move_step.Edited p) own
 IsStep reading r given on (step.Characters p) own = IsPreparedMove reading r on.prepared (record { places = p.places; step = move_step.Characters p.step }) own
 IsStep reading r given on (step.Pictured q p) own = (m : Move) × (own ≡ m ∷ []) × IsPicturedPart reading r given on.bases on.pictured q p m

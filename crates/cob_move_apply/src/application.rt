@@ -241,8 +241,8 @@ fn make_step(
             let step = MoveStep::Wide(one.number);
             make_one(plan, &one.places, step, layouts, input, output, space)
         }
-        Step::Binary(one) => {
-            let step = MoveStep::Binary(one.number);
+        Step::AnyNumber(one) => {
+            let step = MoveStep::AnyNumber(one.number);
             make_one(plan, &one.places, step, layouts, input, output, space)
         }
         Step::Edited(one) => {

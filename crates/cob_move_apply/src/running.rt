@@ -132,8 +132,8 @@ pub(crate) fn run_step(
             let step = MoveStep::Wide(one.number);
             run_single(plan, &one.places, step, layouts, input, output, space)
         }
-        Step::Binary(one) => {
-            let step = MoveStep::Binary(one.number);
+        Step::AnyNumber(one) => {
+            let step = MoveStep::AnyNumber(one.number);
             run_single(plan, &one.places, step, layouts, input, output, space)
         }
         Step::Edited(one) => {

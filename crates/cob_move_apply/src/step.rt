@@ -118,8 +118,8 @@ pub(crate) enum Step {
     Number(NumberedMove),
     /// The same to an item of more than sixteen digits.
     Wide(NumberedMove),
-    /// The same to a binary item.
-    Binary(NumberedMove),
+    /// The same of a number that an item of any kind gives to one of any kind.
+    AnyNumber(NumberedMove),
     /// The same to an edited item.
     Edited(NumberedMove),
     /// A single move of characters was made ready.
@@ -239,7 +239,7 @@ pub(crate) fn prepared_step(one: PreparedMove) -> Step
     match one.step {
         MoveStep::Number(number) => Step::Number(NumberedMove { places, number }),
         MoveStep::Wide(number) => Step::Wide(NumberedMove { places, number }),
-        MoveStep::Binary(number) => Step::Binary(NumberedMove { places, number }),
+        MoveStep::AnyNumber(number) => Step::AnyNumber(NumberedMove { places, number }),
         MoveStep::Edited(number) => Step::Edited(NumberedMove { places, number }),
         MoveStep::Characters(step) => Step::Characters(CharactersMove { places, step }),
     }
@@ -251,7 +251,7 @@ fn step_count(step: Step) -> usize
 {
     match step {
         Step::Part(part) => part.count as usize,
-        Step::Number(_) | Step::Wide(_) | Step::Binary(_) | Step::Edited(_) => 1,
+        Step::Number(_) | Step::Wide(_) | Step::AnyNumber(_) | Step::Edited(_) => 1,
         Step::Characters(_) | Step::Pictured(_, _) | Step::Constant(_) => 1,
         Step::Located(_) | Step::Copy(_) => 1,
     }

@@ -1,11 +1,12 @@
 pub mod KindLemmas
 pub mod StepLemmas
 pub mod TextLemmas
+pub mod DeeditLemmas
 pub mod GivenLemmas
 pub mod EditLemmas
 pub mod CopyLemmas
 pub mod PoolLemmas
-pub mod BinaryStepLemmas
+pub mod AnyNumberLemmas
 pub mod PicturedLemmas
 pub mod WideStepLemmas
 pub mod NumeralLemmas

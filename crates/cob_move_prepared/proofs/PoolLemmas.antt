@@ -13,11 +13,11 @@ use Rattle.cob_move_receive.specs.Sent.{Entry, Occupies}
 use Rattle.cob_move_prepared.specs.Copies.{AreCharactersCarriedOut, IsCharactersStep}
 use Rattle.cob_move_prepared.specs.Ends.{IsOwnWriter, SuitsReading, item_digits}
 use Rattle.cob_move_prepared.specs.Numerals.{IsNumeralsCarriedOut}
-use Rattle.cob_move_prepared.specs.Pool.{AreOccupied, BetweenItems, IsReceived, IsStepAt, IsStepBetween, KeepsSteps, MoveKinds, MovesNumber, MovesToBinary, MovesToEdited, MovesToNumerals, MovesToWideEdited, MovesWide}
-use Rattle.cob_move_prepared.specs.Running.{IsBinaryCarriedOut, IsCarriedOut, IsEditCarriedOut, IsWideEditCarriedOut}
+use Rattle.cob_move_prepared.specs.Pool.{AreOccupied, BetweenItems, IsReceived, IsStepAt, IsStepBetween, KeepsSteps, MoveKinds, MovesNumber, MovesAnyNumber, MovesToEdited, MovesToNumerals, MovesToWideEdited, MovesWide}
+use Rattle.cob_move_prepared.specs.Running.{IsAnyNumberCarriedOut, IsCarriedOut, IsEditCarriedOut, IsWideEditCarriedOut}
 use Rattle.cob_move_prepared.specs.Steps.{is_binary}
 use Rattle.cob_move_prepared.specs.Wide.{IsWideCarriedOut}
-use Rattle.cob_move_prepared.specs.declared.binary_step.BinaryStep.{BinaryStep}
+use Rattle.cob_move_prepared.specs.declared.any_number_step.AnyNumberStep.{AnyNumberStep}
 use Rattle.cob_move_prepared.specs.declared.characters_step.CharactersStep.{CharactersStep}
 use Rattle.cob_move_prepared.specs.declared.edit_step.EditStep.{EditStep}
 use Rattle.cob_move_prepared.specs.declared.number_ends.NumberWriter.{NumberWriter}
@@ -29,7 +29,7 @@ use Rattle.cob_move_prepared.specs.declared.pool.MoveSteps.{MoveSteps}
 use Rattle.cob_move_prepared.specs.declared.step.NumberStep.{NumberStep}
 use Rattle.cob_move_prepared.specs.declared.wide_edit_step.WideEditStep.{WideEditStep}
 use Rattle.cob_move_prepared.specs.declared.wide_step.WideStep.{WideStep}
-use Rattle.cob_move_prepared.proofs.BinaryStepLemmas.{size_is}
+use Rattle.cob_move_prepared.proofs.AnyNumberLemmas.{size_is}
 
 -- ---- more steps
 
@@ -60,19 +60,19 @@ put_at T moves before now step n grown here meant = record {
 pub read_at : (T : Type 0) (moves : T → Type 0) (steps : List T) (n : ℕ) (step : T) → IsStepAt T moves steps n → step ≡ get_or steps n step → moves step
 read_at T moves steps n step is at = subst moves (is.at ∙ sym (get_or_read steps n step is.below at is.step)) is.is
 
-between_kept : (before now : MoveSteps) (k : MoveKinds) (step : MoveStep) → Grows NumberStep before.numbers.items now.numbers.items → Grows WideStep before.wides.items now.wides.items → Grows BinaryStep before.binaries.items now.binaries.items
+between_kept : (before now : MoveSteps) (k : MoveKinds) (step : MoveStep) → Grows NumberStep before.numbers.items now.numbers.items → Grows WideStep before.wides.items now.wides.items → Grows AnyNumberStep before.any_numbers.items now.any_numbers.items
     → Grows EditStep before.edits.items now.edits.items → Grows WideEditStep before.wide_edits.items now.wide_edits.items → Grows NumeralsStep before.numerals.items now.numerals.items → IsStepBetween before k step → IsStepBetween now k step
-between_kept before now k (move_step.Number n) numbers wides binaries edits wide_edits numerals is = kept_at NumberStep (λ step. BetweenItems (MovesNumber step) k.sender k.receiver) before.numbers.items now.numbers.items n numbers is
-between_kept before now k (move_step.Wide n) numbers wides binaries edits wide_edits numerals is = kept_at WideStep (λ step. BetweenItems (MovesWide step) k.sender k.receiver) before.wides.items now.wides.items n wides is
-between_kept before now k (move_step.Binary n) numbers wides binaries edits wide_edits numerals is = kept_at BinaryStep (λ step. BetweenItems (MovesToBinary step) k.sender k.receiver) before.binaries.items now.binaries.items n binaries is
-between_kept before now k (move_step.Edited n) numbers wides binaries edits wide_edits numerals is = kept_at EditStep (λ step. BetweenItems (MovesToEdited step) k.sender k.receiver) before.edits.items now.edits.items n edits is
-between_kept before now k (move_step.WideEdited n) numbers wides binaries edits wide_edits numerals is = kept_at WideEditStep (λ step. BetweenItems (MovesToWideEdited step) k.sender k.receiver) before.wide_edits.items now.wide_edits.items n wide_edits is
-between_kept before now k (move_step.Numerals n) numbers wides binaries edits wide_edits numerals is = kept_at NumeralsStep (λ step. BetweenItems (MovesToNumerals step) k.sender k.receiver) before.numerals.items now.numerals.items n numerals is
-between_kept before now k (move_step.Characters step) numbers wides binaries edits wide_edits numerals is = is
+between_kept before now k (move_step.Number n) numbers wides any_numbers edits wide_edits numerals is = kept_at NumberStep (λ step. BetweenItems (MovesNumber step) k.sender k.receiver) before.numbers.items now.numbers.items n numbers is
+between_kept before now k (move_step.Wide n) numbers wides any_numbers edits wide_edits numerals is = kept_at WideStep (λ step. BetweenItems (MovesWide step) k.sender k.receiver) before.wides.items now.wides.items n wides is
+between_kept before now k (move_step.AnyNumber n) numbers wides any_numbers edits wide_edits numerals is = kept_at AnyNumberStep (λ step. BetweenItems (MovesAnyNumber step) k.sender k.receiver) before.any_numbers.items now.any_numbers.items n any_numbers is
+between_kept before now k (move_step.Edited n) numbers wides any_numbers edits wide_edits numerals is = kept_at EditStep (λ step. BetweenItems (MovesToEdited step) k.sender k.receiver) before.edits.items now.edits.items n edits is
+between_kept before now k (move_step.WideEdited n) numbers wides any_numbers edits wide_edits numerals is = kept_at WideEditStep (λ step. BetweenItems (MovesToWideEdited step) k.sender k.receiver) before.wide_edits.items now.wide_edits.items n wide_edits is
+between_kept before now k (move_step.Numerals n) numbers wides any_numbers edits wide_edits numerals is = kept_at NumeralsStep (λ step. BetweenItems (MovesToNumerals step) k.sender k.receiver) before.numerals.items now.numerals.items n numerals is
+between_kept before now k (move_step.Characters step) numbers wides any_numbers edits wide_edits numerals is = is
 
-pub steps_kept : (before now : MoveSteps) → Grows NumberStep before.numbers.items now.numbers.items → Grows WideStep before.wides.items now.wides.items → Grows BinaryStep before.binaries.items now.binaries.items
+pub steps_kept : (before now : MoveSteps) → Grows NumberStep before.numbers.items now.numbers.items → Grows WideStep before.wides.items now.wides.items → Grows AnyNumberStep before.any_numbers.items now.any_numbers.items
     → Grows EditStep before.edits.items now.edits.items → Grows WideEditStep before.wide_edits.items now.wide_edits.items → Grows NumeralsStep before.numerals.items now.numerals.items → KeepsSteps before now
-steps_kept before now numbers wides binaries edits wide_edits numerals k step is = record { occupied = is.occupied; between = between_kept before now k step numbers wides binaries edits wide_edits numerals is.between }
+steps_kept before now numbers wides any_numbers edits wide_edits numerals k step is = record { occupied = is.occupied; between = between_kept before now k step numbers wides any_numbers edits wide_edits numerals is.between }
 
 -- ---- a step carried out
 
@@ -97,9 +97,9 @@ few_numbers k step size occupied between same = omega (arith, same, few_between 
 pub few_wides : (k : MoveKinds) (step : WideStep) (size : ℕ) → AreOccupied k → BetweenItems (MovesWide step) k.sender k.receiver → size ≡ k.received → size ≤ 16
 few_wides k step size occupied between same = omega (arith, same, few_between (MovesWide step) k.sender k.receiver k.received (λ from to is. is.writer.fits) occupied.receiver between)
 
-pub few_binaries : (k : MoveKinds) (step : BinaryStep) (size : ℕ) → AreOccupied k → BetweenItems (MovesToBinary step) k.sender k.receiver → size ≡ k.received → size ≤ 16
-few_binaries k step size occupied between same =
-    omega (arith, same, few_between (MovesToBinary step) k.sender k.receiver k.received (λ from to is. writer_fits to step.writer is.1.writer.own) occupied.receiver between)
+pub few_any_numbers : (k : MoveKinds) (step : AnyNumberStep) (size : ℕ) → AreOccupied k → BetweenItems (MovesAnyNumber step) k.sender k.receiver → size ≡ k.received → size ≤ 16
+few_any_numbers k step size occupied between same =
+    omega (arith, same, few_between (MovesAnyNumber step) k.sender k.receiver k.received (λ from to is. writer_fits to step.writer is.1.writer.own) occupied.receiver between)
 
 pub few_edited : (k : MoveKinds) (step : EditStep) (size : ℕ) → AreOccupied k → BetweenItems (MovesToEdited step) k.sender k.receiver → size ≡ k.received → size ≤ 16
 few_edited k step size occupied between same = omega (arith, same, few_between (MovesToEdited step) k.sender k.receiver k.received (λ from to is. is.1.fits) occupied.receiver between)
@@ -141,10 +141,10 @@ wide_received k step size bytes outcome occupied between within same h =
 suits : (from : Item) (reading : Reading) → is_binary from.usage ≡ false → SuitsReading from reading
 suits from reading other is = absurd (cc)
 
-pub binary_received : (k : MoveKinds) (step : BinaryStep) (size : ℕ) (bytes : List ℕ) (outcome : Option (List ℕ)) → AreOccupied k → BetweenItems (MovesToBinary step) k.sender k.receiver → k.sent ≤ length bytes
-    → size ≡ k.received → IsBinaryCarriedOut step bytes size outcome → IsReceived k bytes outcome
-binary_received k step size bytes outcome occupied between within same h =
-    received_by (MovesToBinary step) k size bytes outcome occupied between within same (λ reading from to is fits long. h from to is.1 fits long reading (suits from reading is.0))
+pub any_number_received : (k : MoveKinds) (step : AnyNumberStep) (size : ℕ) (bytes : List ℕ) (outcome : Option (List ℕ)) → AreOccupied k → BetweenItems (MovesAnyNumber step) k.sender k.receiver → k.sent ≤ length bytes
+    → size ≡ k.received → IsAnyNumberCarriedOut step bytes size outcome → IsReceived k bytes outcome
+any_number_received k step size bytes outcome occupied between within same h =
+    received_by (MovesAnyNumber step) k size bytes outcome occupied between within same (λ reading from to is fits long. h from to is.1 fits long reading (suits from reading is.0))
 
 pub edited_received : (k : MoveKinds) (step : EditStep) (size : ℕ) (bytes : List ℕ) (outcome : Option (List ℕ)) → AreOccupied k → BetweenItems (MovesToEdited step) k.sender k.receiver → k.sent ≤ length bytes
     → size ≡ k.received → IsEditCarriedOut step bytes size outcome → IsReceived k bytes outcome

@@ -149,7 +149,7 @@ zeros_shown row n negative lanes bytes fits shown =
     ∙ ap (shown_byte negative lanes) (get_or_past row (length row + i) (Same 0) (omega arith))
     ∙ sym (get_or-replicate (n - length row) i 0 0 (omega arith)))
 
-led_digits : (count : ℕ) (lanes : List ℕ) → count ≤ 16 → AreLed count lanes → IsDigits (take count lanes)
+pub led_digits : (count : ℕ) (lanes : List ℕ) → count ≤ 16 → AreLed count lanes → IsDigits (take count lanes)
 led_digits count lanes few led =
     let long : length (take count lanes) ≡ count = length-take-le count lanes (omega (arith, led.long)) in
     all_digits (take count lanes) (λ i lt. omega (arith, get_or-take count lanes i 0 (omega arith), led.tens i (omega arith)))

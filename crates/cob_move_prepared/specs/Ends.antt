@@ -20,7 +20,7 @@ use Rattle.cob_lanes.specs.declared.reader.LaneReader.{LaneReader}
 use Rattle.cob_move_receive.specs.Numbers.{ItemGives}
 use Rattle.cob_move_prepared.specs.Steps.{is_binary, IsLaneItem, IsReaderFor, IsWriterFor, received_form}
 use Rattle.cob_move_prepared.specs.Texts.{AreWideTextsFor, digit_bytes_from, IsPlainlyEdited, IsWideEditedItem}
-use Rattle.cob_move_prepared.specs.declared.binary_step.BinaryStep.{BinaryStep}
+use Rattle.cob_move_prepared.specs.declared.any_number_step.AnyNumberStep.{AnyNumberStep}
 use Rattle.cob_move_prepared.specs.declared.number_ends.NumberReader.{NumberReader}
 use Rattle.cob_move_prepared.specs.declared.text_reader.TextReader.{TextReader}
 use Rattle.cob_move_prepared.specs.declared.number_ends.NumberReader.TheVariants as reader
@@ -98,9 +98,8 @@ IsTextRead r bytes is_number minus kept =
 
 -- The reader is one for the item's kind of storage.
 abbrev pub IsOwnReader : Item → Item → NumberReader → Type 0
-IsOwnReader from to (reader.Lanes r) = IsLaneReaderFor from to r
+IsOwnReader from to (reader.Lanes r) = IsLaneReaderFor from to r ⊎ IsNumeralReaderFor from to r
 IsOwnReader from to (reader.Binary r) = IsWordReaderFor from to r
-IsOwnReader from to (reader.Numerals r) = IsNumeralReaderFor from to r
 IsOwnReader from to (reader.Text r) = IsTextReaderFor from to r
 
 -- The writer is one for the item's kind of storage.
@@ -136,6 +135,6 @@ IsItemWritten w digits minus n bytes =
     → bytes ≡ received_form item minus (take (item_digits item) digits)
 
 -- The step moves the number of one item to another.
-pub record IsBinaryStep (from to : Item) (step : BinaryStep) : Type 0 where
+pub record IsAnyNumberStep (from to : Item) (step : AnyNumberStep) : Type 0 where
   pub reader : IsNumberReaderFor from to step.reader
   pub writer : IsNumberWriterFor to step.writer

@@ -7,10 +7,10 @@ use Rattle.cob_lanes.specs.Windows.{last_bytes}
 use Rattle.cob_move_receive.specs.Received.{Received}
 use Rattle.cob_move_receive.specs.Sent.{Entry}
 use Rattle.cob_move_prepared.specs.Edits.{IsEditStep, IsWideEditStep}
-use Rattle.cob_move_prepared.specs.Ends.{IsBinaryStep}
+use Rattle.cob_move_prepared.specs.Ends.{IsAnyNumberStep}
 use Rattle.cob_move_prepared.specs.Numerals.{HaveAnyShortNumbers, IsNumeralsStep}
 use Rattle.cob_move_prepared.specs.Pool.{AreOccupied, BetweenItems, IsStepAt, MoveKinds}
-use Rattle.cob_move_prepared.specs.declared.binary_step.BinaryStep.{BinaryStep}
+use Rattle.cob_move_prepared.specs.declared.any_number_step.AnyNumberStep.{AnyNumberStep}
 use Rattle.cob_move_prepared.specs.declared.edit_step.EditStep.{EditStep}
 use Rattle.cob_move_prepared.specs.declared.numerals_step.NumeralsStep.{NumeralsStep}
 use Rattle.cob_move_prepared.specs.declared.pictured.PicturedStep.{PicturedStep}
@@ -23,8 +23,8 @@ abbrev pub IsReceivedPictured : MoveKinds → List ℕ → Option (List ℕ) →
 IsReceivedPictured k bytes outcome = Received (Entry k.sender (last_bytes k.sent bytes) Pictured) k.receiver k.received outcome
 
 -- the step moves the number of one item to another
-abbrev pub MovesPictured : BinaryStep → Item → Item → Type 0
-MovesPictured step from to = IsBinaryStep from to step
+abbrev pub MovesPictured : AnyNumberStep → Item → Item → Type 0
+MovesPictured step from to = IsAnyNumberStep from to step
 
 -- the step moves the number of one item to another, which is edited
 abbrev pub MovesPicturedToEdited : EditStep → Item → Item → Type 0
@@ -40,7 +40,7 @@ MovesPicturedToNumerals step from to = IsNumeralsStep from to step
 
 -- the step, one of these, is one between these kinds
 abbrev pub IsPicturedBetween : PicturedSteps → MoveKinds → PicturedStep → Type 0
-IsPicturedBetween steps k (pictured.Number number) = IsStepAt BinaryStep (λ step. BetweenItems (MovesPictured step) k.sender k.receiver) steps.numbers.items number
+IsPicturedBetween steps k (pictured.Number number) = IsStepAt AnyNumberStep (λ step. BetweenItems (MovesPictured step) k.sender k.receiver) steps.numbers.items number
 IsPicturedBetween steps k (pictured.Edited number) = IsStepAt EditStep (λ step. BetweenItems (MovesPicturedToEdited step) k.sender k.receiver) steps.edits.items number
 IsPicturedBetween steps k (pictured.WideEdited number) = IsStepAt WideEditStep (λ step. BetweenItems (MovesPicturedToWideEdited step) k.sender k.receiver) steps.wide_edits.items number
 IsPicturedBetween steps k (pictured.Numerals number) = IsStepAt NumeralsStep (λ step. BetweenItems (MovesPicturedToNumerals step) k.sender k.receiver) steps.numerals.items number

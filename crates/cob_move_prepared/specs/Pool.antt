@@ -9,11 +9,11 @@ use Rattle.cob_move_receive.specs.Received.{Received}
 use Rattle.cob_move_receive.specs.Sent.{Entry, Occupies}
 use Rattle.cob_move_prepared.specs.Copies.{IsCharactersStep, gives_bytes}
 use Rattle.cob_move_prepared.specs.Edits.{IsEditStep, IsWideEditStep}
-use Rattle.cob_move_prepared.specs.Ends.{IsBinaryStep}
+use Rattle.cob_move_prepared.specs.Ends.{IsAnyNumberStep}
 use Rattle.cob_move_prepared.specs.Numerals.{HaveAnyShortNumbers, IsNumeralsStep}
 use Rattle.cob_move_prepared.specs.Steps.{IsNumberStep, is_binary}
 use Rattle.cob_move_prepared.specs.Wide.{IsWideStep}
-use Rattle.cob_move_prepared.specs.declared.binary_step.BinaryStep.{BinaryStep}
+use Rattle.cob_move_prepared.specs.declared.any_number_step.AnyNumberStep.{AnyNumberStep}
 use Rattle.cob_move_prepared.specs.declared.edit_step.EditStep.{EditStep}
 use Rattle.cob_move_prepared.specs.declared.numerals_step.NumeralsStep.{NumeralsStep}
 use Rattle.cob_move_prepared.specs.declared.pool.MoveStep.{MoveStep}
@@ -53,15 +53,15 @@ MovesNumber step from to = IsNumberStep from to step
 abbrev pub MovesWide : WideStep → Item → Item → Type 0
 MovesWide step from to = IsWideStep from to step
 
--- the step moves the number of an item that isn't binary to another
-abbrev pub MovesToBinary : BinaryStep → Item → Item → Type 0
-MovesToBinary step from to = (is_binary from.usage ≡ false) × IsBinaryStep from to step
+-- the step moves the number that an item gives that isn't binary to another
+abbrev pub MovesAnyNumber : AnyNumberStep → Item → Item → Type 0
+MovesAnyNumber step from to = (is_binary from.usage ≡ false) × IsAnyNumberStep from to step
 
--- the step moves the number of an item that isn't binary to an edited one
+-- the step moves the number that an item gives that isn't binary to an edited one
 abbrev pub MovesToEdited : EditStep → Item → Item → Type 0
 MovesToEdited step from to = (is_binary from.usage ≡ false) × IsEditStep from to step
 
--- the step moves the number of an item that isn't binary to an edited one, of more bytes
+-- the step moves the number that an item gives that isn't binary to an edited one of more bytes
 abbrev pub MovesToWideEdited : WideEditStep → Item → Item → Type 0
 MovesToWideEdited step from to = (is_binary from.usage ≡ false) × IsWideEditStep from to step
 
@@ -80,7 +80,7 @@ pub record IsStepAt (T : Type 0) (moves : T → Type 0) (steps : List T) (number
 abbrev pub IsStepBetween : MoveSteps → MoveKinds → MoveStep → Type 0
 IsStepBetween steps k (move_step.Number number) = IsStepAt NumberStep (λ step. BetweenItems (MovesNumber step) k.sender k.receiver) steps.numbers.items number
 IsStepBetween steps k (move_step.Wide number) = IsStepAt WideStep (λ step. BetweenItems (MovesWide step) k.sender k.receiver) steps.wides.items number
-IsStepBetween steps k (move_step.Binary number) = IsStepAt BinaryStep (λ step. BetweenItems (MovesToBinary step) k.sender k.receiver) steps.binaries.items number
+IsStepBetween steps k (move_step.AnyNumber number) = IsStepAt AnyNumberStep (λ step. BetweenItems (MovesAnyNumber step) k.sender k.receiver) steps.any_numbers.items number
 IsStepBetween steps k (move_step.Edited number) = IsStepAt EditStep (λ step. BetweenItems (MovesToEdited step) k.sender k.receiver) steps.edits.items number
 IsStepBetween steps k (move_step.WideEdited number) = IsStepAt WideEditStep (λ step. BetweenItems (MovesToWideEdited step) k.sender k.receiver) steps.wide_edits.items number
 IsStepBetween steps k (move_step.Numerals number) = IsStepAt NumeralsStep (λ step. BetweenItems (MovesToNumerals step) k.sender k.receiver) steps.numerals.items number
@@ -106,5 +106,5 @@ KeepsSteps before now = (k : MoveKinds) (step : MoveStep) → IsMoveStep before 
 
 -- there is no step of a number
 abbrev pub HasNoSteps : MoveSteps → Type 0
-HasNoSteps steps = (length steps.numbers.items ≡ 0) × (length steps.wides.items ≡ 0) × (length steps.binaries.items ≡ 0) × (length steps.edits.items ≡ 0)
+HasNoSteps steps = (length steps.numbers.items ≡ 0) × (length steps.wides.items ≡ 0) × (length steps.any_numbers.items ≡ 0) × (length steps.edits.items ≡ 0)
     × (length steps.wide_edits.items ≡ 0) × (length steps.numerals.items ≡ 0)

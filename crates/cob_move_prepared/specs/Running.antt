@@ -9,8 +9,8 @@ use Rattle.cob_move_receive.specs.Received.{Received}
 use Rattle.cob_move_receive.specs.Sent.{Entry}
 use Rattle.cob_move_prepared.specs.Steps.{IsNumberStep}
 use Rattle.cob_move_prepared.specs.Edits.{IsEditStep, IsWideEditStep}
-use Rattle.cob_move_prepared.specs.Ends.{IsBinaryStep, SuitsReading}
-use Rattle.cob_move_prepared.specs.declared.binary_step.BinaryStep.{BinaryStep}
+use Rattle.cob_move_prepared.specs.Ends.{IsAnyNumberStep, SuitsReading}
+use Rattle.cob_move_prepared.specs.declared.any_number_step.AnyNumberStep.{AnyNumberStep}
 use Rattle.cob_move_prepared.specs.declared.step.NumberStep.{NumberStep}
 use Rattle.cob_move_prepared.specs.declared.edit_step.EditStep.{EditStep}
 use Rattle.cob_move_prepared.specs.declared.wide_edit_step.WideEditStep.{WideEditStep}
@@ -30,10 +30,10 @@ abbrev pub ReceivedWhereRead : Item → Item → List ℕ → ℕ → Option (Li
 ReceivedWhereRead from to bytes n outcome =
     (reading : Reading) → SuitsReading from reading → Received (Entry (ItemKind from) (last_bytes (item_size from) bytes) reading) (ItemKind to) n outcome
 
--- The same of a step from or to a binary item.
-abbrev pub IsBinaryCarriedOut : BinaryStep → List ℕ → ℕ → Option (List ℕ) → Type 0
-IsBinaryCarriedOut step bytes n outcome =
-    (from to : Item) → IsBinaryStep from to step → item_size from ≤ length bytes → n ≡ item_size to → ReceivedWhereRead from to bytes n outcome
+-- The same of a step of a number between items of any kind.
+abbrev pub IsAnyNumberCarriedOut : AnyNumberStep → List ℕ → ℕ → Option (List ℕ) → Type 0
+IsAnyNumberCarriedOut step bytes n outcome =
+    (from to : Item) → IsAnyNumberStep from to step → item_size from ≤ length bytes → n ≡ item_size to → ReceivedWhereRead from to bytes n outcome
 
 -- The same of a step to an edited item.
 abbrev pub IsEditCarriedOut : EditStep → List ℕ → ℕ → Option (List ℕ) → Type 0

@@ -66,7 +66,8 @@ fn numeral_reader(sender: &Item, receiver: &Item) -> Option<NumberReader>
         return None;
     }
     let wanted = wanted_of(sender, receiver);
-    Some(NumberReader::Numerals(LaneReader::numerals(sender.size() as u8, wanted)))
+    let reader = LaneReader::numerals(sender.size() as u8, wanted);
+    Some(NumberReader::Lanes(reader))
 }
 
 /// What reads the number that a sender gives, if lanes hold it.

@@ -10,27 +10,29 @@
 //!
 //! - a number from one item to another: [`NumberStep::prepare`] gives one wherever both are zoned, separate or packed numbers of at most sixteen
 //!   digits and bytes. A packed sender may have more digits;
-//! - a number of at most sixteen bytes that isn't binary to a packed item of more than sixteen digits: [`WideStep::prepare`] gives one.
+//! - a number of at most sixteen bytes that isn't binary to a packed item of more than sixteen digits: [`WideStep::prepare`] gives one;
+//! - any other number of at most sixteen digits: [`AnyNumberStep::prepare`] gives one wherever the sender gives one and the receiver is one. A
+//!   sender gives one as a number of any kind of storage, as an item of at most sixteen characters, each a digit, or as an edited item of at most
+//!   sixteen digits and thirty-two bytes, whose digits are taken out, written again and compared (`SendsNumber`, `Gives` of specs/Ends.antt);
+//! - such a number to an edited item of at most sixteen digits: [`EditStep::prepare`] gives one for at most sixteen bytes, and
+//!   [`WideEditStep::prepare`] for at most thirty-two. It makes the receiver's texts ready, one for each number of zeros that may be in front, as
+//!   rows of cob_edit;
+//! - a number of at most sixteen digits to characters: [`NumeralsStep::prepare`] gives one wherever the receiver takes characters without
+//!   insertions, and writes the digits without the sign, with a zero for each P at the right;
+//! - characters without insertions, of a sender that gives its bytes as they are: [`CharactersStep::prepare`] gives one, and
+//!   [`ConstantStep::prepare`] that of a constant, whose bytes `receive` makes once. [`copy_all`] copies bytes.
 //!
-//! [`EditStep::prepare`] gives the step of the move of such a number to an item that edits numbers in at most sixteen digits and bytes (`step`,
-//! `must`): it makes the receiver's texts ready, one for each number of zeros that may be in front, as rows of cob_edit. `EditStep::run` leaves
-//! in the receiver's bytes what the rule says, in the same words.
-//!
-//! [`BinaryStep::prepare`] gives that of a number from or to a binary item of at most sixteen digits. What it and a step to an edited item leave
-//! of a binary sender is what the rule says where its bytes are read as its picture says (`IsBinaryCarriedOut`, `IsEditCarriedOut`): where they
-//! are sent whole, the move is that of `receive`. [`PicturedSteps`] are the steps of such moves, in the words of [`MoveSteps`] but for that reading.
-//!
-//! [`CharactersStep::prepare`] gives the step of the move of characters without insertions, of a sender that gives its bytes as they are (`step`,
-//! `must`), and [`ConstantStep::prepare`] that of a constant, whose bytes `receive` makes once. What they write is what the rule says. [`copy_all`] copies
-//! bytes.
+//! What each of them leaves in the receiver's bytes is what the rule says, in the same words. What is left of a binary sender is so where its
+//! bytes are read as its picture says (`SuitsReading`): where they are sent whole, the move is that of `receive`. [`PicturedSteps`] are the steps of
+//! moves of such senders, in the words of [`MoveSteps`] but for that reading.
 //!
 //! It stands on cob_lanes, which reads and writes the numbers, on cob_copybook_tree and cob_codec for items and their storage, and on
 //! cob_move_receive for the rule. Only to make steps ready takes memory.
 #![tactic(auto)]
 
-mod binary_preparing;
-mod binary_running;
-mod binary_step;
+mod any_number_preparing;
+mod any_number_running;
+mod any_number_step;
 mod characters;
 mod characters_step;
 mod constant_step;
@@ -62,7 +64,7 @@ mod wide_running;
 mod wide_step;
 mod wide_texts;
 
-pub use binary_step::BinaryStep;
+pub use any_number_step::AnyNumberStep;
 pub use characters_step::CharactersStep;
 pub use constant_step::ConstantStep;
 pub use edit_step::EditStep;

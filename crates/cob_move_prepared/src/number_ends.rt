@@ -4,12 +4,10 @@ use cob_lanes::{BinaryReader, BinaryWriter, LaneReader, LaneWriter};
 /// What reads the number that items of one kind give.
 #[derive(Drop)]
 pub enum NumberReader {
-    /// Zoned, separate or packed ones.
+    /// Zoned, separate or packed ones, or characters, each a digit.
     Lanes(LaneReader),
     /// Binary ones.
     Binary(BinaryReader),
-    /// Characters, each a digit.
-    Numerals(LaneReader),
     /// Edited ones.
     Text(TextReader),
 }

@@ -7,7 +7,7 @@ ghost use Rattle.cob_move_prepared.specs.Pool.{AreOccupied, BetweenItems, MoveKi
 ghost use Rattle.cob_copybook_tree.specs.declared.node.Kind.TheVariants.{Item as ItemKind};
 ghost use Rattle.cob_move_receive.specs.Received.{outcome};
 
-use crate::binary_step::BinaryStep;
+use crate::any_number_step::AnyNumberStep;
 use crate::edit_step::EditStep;
 use crate::numerals_step::NumeralsStep;
 use crate::wide_edit_step::WideEditStep;
@@ -32,7 +32,7 @@ pub enum PicturedStep {
 #[derive(Drop)]
 pub struct PicturedSteps {
     alloc: Global,
-    pub(crate) numbers: Vec<BinaryStep>,
+    pub(crate) numbers: Vec<AnyNumberStep>,
     pub(crate) edits: Vec<EditStep>,
     pub(crate) wide_edits: Vec<WideEditStep>,
     pub(crate) numerals: Vec<NumeralsStep>,
@@ -69,7 +69,7 @@ impl PicturedSteps {
     /// # Errors
     ///
     /// Where no memory is left.
-    fn put_number(&mut self, step: BinaryStep) -> Result<PicturedStep, AllocError>
+    fn put_number(&mut self, step: AnyNumberStep) -> Result<PicturedStep, AllocError>
         ensures step { IfOk result (λ put. (k : MoveKinds) → AreOccupied k
             → BetweenItems (MovesPictured step) k.sender k.receiver
             → IsPicturedStep self.new k put) }
@@ -138,7 +138,7 @@ impl PicturedSteps {
         ensures must { HaveAnyShortNumbers from.now to.now → IfOk result (λ found. IsSome found) }
         ensures kept { KeepsPictured self.old self.new }
     {
-        if let Some(step) = BinaryStep::prepare(self.alloc, from, to)? {
+        if let Some(step) = AnyNumberStep::prepare(self.alloc, from, to)? {
             return Ok(Some(self.put_number(step)?));
         }
         if let Some(step) = EditStep::prepare(self.alloc, from, to)? {

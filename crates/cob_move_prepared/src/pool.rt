@@ -1,18 +1,18 @@
 //! Steps of single moves, one for each move that has one.
 
 ghost use Rattle.std.specs.Prelude.{◌≡◌, ◌≤◌, false, length, Some, IfOk, IfSome, IsSome};
-ghost use Rattle.cob_move_prepared.specs.Pool.{AreOccupied, BetweenItems, HasNoSteps, HaveShortNumbers, HaveStep, IsMoveStep, IsReceived, KeepsSteps, MoveKinds, MovesNumber, MovesToBinary, MovesToEdited, MovesToNumerals, MovesToWideEdited, MovesWide};
+ghost use Rattle.cob_move_prepared.specs.Pool.{AreOccupied, BetweenItems, HasNoSteps, HaveShortNumbers, HaveStep, IsMoveStep, IsReceived, KeepsSteps, MoveKinds, MovesNumber, MovesAnyNumber, MovesToEdited, MovesToNumerals, MovesToWideEdited, MovesWide};
 ghost use Rattle.cob_copybook_tree.specs.declared.node.Kind.TheVariants.{Item as ItemKind};
 ghost use Rattle.cob_move_prepared.specs.declared.pool.MoveStep.TheVariants.{Characters};
 ghost use Rattle.cob_move_receive.specs.Received.{outcome};
 
-use crate::binary_step::BinaryStep;
+use crate::any_number_step::AnyNumberStep;
 use crate::characters_step::CharactersStep;
 use crate::edit_step::EditStep;
+use crate::ends_preparing::is_binary;
 use crate::numerals_step::NumeralsStep;
 use crate::step::NumberStep;
 use crate::wide_edit_step::WideEditStep;
-use crate::ends_preparing::is_binary;
 use crate::wide_step::WideStep;
 use cob_copybook_tree::{Item, Kind};
 use std::alloc::{AllocError, Global};
@@ -25,8 +25,8 @@ pub enum MoveStep {
     Number(usize),
     /// That of a number to an item of more than sixteen digits.
     Wide(usize),
-    /// That of a number to a binary item.
-    Binary(usize),
+    /// That of a number that an item of any kind gives to one of any kind.
+    AnyNumber(usize),
     /// That of a number to an edited item.
     Edited(usize),
     /// That of a number to an edited item of more than sixteen bytes.
@@ -43,7 +43,7 @@ pub struct MoveSteps {
     alloc: Global,
     pub(crate) numbers: Vec<NumberStep>,
     pub(crate) wides: Vec<WideStep>,
-    pub(crate) binaries: Vec<BinaryStep>,
+    pub(crate) any_numbers: Vec<AnyNumberStep>,
     pub(crate) edits: Vec<EditStep>,
     pub(crate) wide_edits: Vec<WideEditStep>,
     pub(crate) numerals: Vec<NumeralsStep>,
@@ -53,12 +53,12 @@ impl fmt::Debug for MoveSteps {
     fn fmt<W: fmt::Write>(&self, f: &mut fmt::Formatter<W>) -> fmt::Result {
         let numbers = self.numbers.len();
         let wides = self.wides.len();
-        let binaries = self.binaries.len();
+        let any_numbers = self.any_numbers.len();
         let edits = self.edits.len() + self.wide_edits.len();
         let numerals = self.numerals.len();
         write!(
             f,
-            "MoveSteps {{ numbers: {numbers}, wides: {wides}, binaries: {binaries}, edits: {edits}, numerals: {numerals} }}"
+            "MoveSteps {{ numbers: {numbers}, wides: {wides}, any_numbers: {any_numbers}, edits: {edits}, numerals: {numerals} }}"
         )
     }
 }
@@ -72,7 +72,7 @@ impl MoveSteps {
             alloc,
             numbers: Vec::new(alloc),
             wides: Vec::new(alloc),
-            binaries: Vec::new(alloc),
+            any_numbers: Vec::new(alloc),
             edits: Vec::new(alloc),
             wide_edits: Vec::new(alloc),
             numerals: Vec::new(alloc),
@@ -109,19 +109,19 @@ impl MoveSteps {
         Ok(MoveStep::Wide(number))
     }
 
-    /// Puts the step of a number to a binary item behind those so far.
+    /// Puts the step of a number of any kind behind those so far.
     ///
     /// # Errors
     ///
     /// Where no memory is left.
-    fn put_binary(&mut self, step: BinaryStep) -> Result<MoveStep, AllocError>
+    fn put_any_number(&mut self, step: AnyNumberStep) -> Result<MoveStep, AllocError>
         ensures step { IfOk result (λ put. (k : MoveKinds) → AreOccupied k
-            → BetweenItems (MovesToBinary step) k.sender k.receiver → IsMoveStep self.new k put) }
+            → BetweenItems (MovesAnyNumber step) k.sender k.receiver → IsMoveStep self.new k put) }
         ensures kept { KeepsSteps self.old self.new }
     {
-        let number = self.binaries.len();
-        self.binaries.push(step)?;
-        Ok(MoveStep::Binary(number))
+        let number = self.any_numbers.len();
+        self.any_numbers.push(step)?;
+        Ok(MoveStep::AnyNumber(number))
     }
 
     /// Puts the step of a number to an edited item behind those so far.
@@ -191,8 +191,8 @@ impl MoveSteps {
         if let Some(step) = WideStep::prepare(from, to) {
             return Ok(Some(self.put_wide(step)?));
         }
-        if let Some(step) = BinaryStep::prepare(self.alloc, from, to)? {
-            return Ok(Some(self.put_binary(step)?));
+        if let Some(step) = AnyNumberStep::prepare(self.alloc, from, to)? {
+            return Ok(Some(self.put_any_number(step)?));
         }
         if let Some(step) = EditStep::prepare(self.alloc, from, to)? {
             return Ok(Some(self.put_edited(step)?));
@@ -263,7 +263,7 @@ impl MoveSteps {
         match step {
             MoveStep::Number(number) => self.numbers[number].run(from, to),
             MoveStep::Wide(number) => self.wides[number].run(from, to),
-            MoveStep::Binary(number) => self.binaries[number].run(from, to),
+            MoveStep::AnyNumber(number) => self.any_numbers[number].run(from, to),
             MoveStep::Edited(number) => self.edits[number].run(from, to),
             MoveStep::WideEdited(number) => self.wide_edits[number].run(from, to),
             MoveStep::Numerals(number) => self.numerals[number].run(from, to),

@@ -1,4 +1,4 @@
-ghost use Rattle.std.specs.Prelude.{◌≡◌, ◌+◌, vec_len};
+ghost use Rattle.std.specs.Prelude.{◌≡◌, ◌+◌, ◌≤◌, vec_len};
 
 use cob_lanes::{DigitPlaces, KeptDigits, WideText};
 
@@ -15,5 +15,6 @@ pub struct TextReader {
     pub kept: KeptDigits,
     /// What makes its text, by how many of the digits are zeros in front.
     pub texts: Vec<WideText>,
+    pub ghost fits: { size ≤ 32 },
     pub ghost each: { vec_len texts ≡ digits + 1 },
 }

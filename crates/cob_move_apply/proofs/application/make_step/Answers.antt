@@ -66,20 +66,20 @@ returns-in-Wide-clause-applied c = λ own is.
     let this = subst (λ (s : Step). IsStep x r c.args.given.now on s own) c.in-Wide.is is in
     c.make_one-in-Wide.ensures.applied own this
 
-pub make_one-requires-in-Binary-clause-step : goal.make_one-requires-in-Binary-clause-step
-make_one-requires-in-Binary-clause-step c =
+pub make_one-requires-in-AnyNumber-clause-step : goal.make_one-requires-in-AnyNumber-clause-step
+make_one-requires-in-AnyNumber-clause-step c =
     let x = c.args.layouts.now.reading in
     let r = records c.args.layouts.now in
     let on : Support = support_of c.args.plan.now in
-    (c.requires.step.0, subst (λ (s : Step). IsStep x r c.args.given.now on s c.requires.step.0) c.in-Binary.is c.requires.step.1)
+    (c.requires.step.0, subst (λ (s : Step). IsStep x r c.args.given.now on s c.requires.step.0) c.in-AnyNumber.is c.requires.step.1)
 
-pub returns-in-Binary-clause-applied : goal.returns-in-Binary-clause-applied
-returns-in-Binary-clause-applied c = λ own is.
+pub returns-in-AnyNumber-clause-applied : goal.returns-in-AnyNumber-clause-applied
+returns-in-AnyNumber-clause-applied c = λ own is.
     let x = c.args.layouts.now.reading in
     let r = records c.args.layouts.now in
     let on : Support = support_of c.args.plan.now in
-    let this = subst (λ (s : Step). IsStep x r c.args.given.now on s own) c.in-Binary.is is in
-    c.make_one-in-Binary.ensures.applied own this
+    let this = subst (λ (s : Step). IsStep x r c.args.given.now on s own) c.in-AnyNumber.is is in
+    c.make_one-in-AnyNumber.ensures.applied own this
 
 pub make_one-requires-in-Edited-clause-step : goal.make_one-requires-in-Edited-clause-step
 make_one-requires-in-Edited-clause-step c =
@@ -215,13 +215,13 @@ returns-in-Wide-clause-spends c = λ own is.
     let this = subst (λ (s : Step). IsStep x r c.args.given.now on s own) c.in-Wide.is is in
     c.make_one-in-Wide.ensures.spends own this
 
-pub returns-in-Binary-clause-spends : goal.returns-in-Binary-clause-spends
-returns-in-Binary-clause-spends c = λ own is.
+pub returns-in-AnyNumber-clause-spends : goal.returns-in-AnyNumber-clause-spends
+returns-in-AnyNumber-clause-spends c = λ own is.
     let x = c.args.layouts.now.reading in
     let r = records c.args.layouts.now in
     let on : Support = support_of c.args.plan.now in
-    let this = subst (λ (s : Step). IsStep x r c.args.given.now on s own) c.in-Binary.is is in
-    c.make_one-in-Binary.ensures.spends own this
+    let this = subst (λ (s : Step). IsStep x r c.args.given.now on s own) c.in-AnyNumber.is is in
+    c.make_one-in-AnyNumber.ensures.spends own this
 
 pub returns-in-Edited-clause-spends : goal.returns-in-Edited-clause-spends
 returns-in-Edited-clause-spends c = λ own is.

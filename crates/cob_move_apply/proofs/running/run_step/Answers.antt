@@ -59,30 +59,30 @@ returns-in-Wide-clause-spends c = λ yes given own is.
     let this = subst (λ (s : Step). IsStep x r given on s own) c.in-Wide.is is in
     c.run_single-in-Wide.ensures.spends yes own this
 
-pub run_single-requires-in-Binary-clause-step : goal.run_single-requires-in-Binary-clause-step
-run_single-requires-in-Binary-clause-step c =
+pub run_single-requires-in-AnyNumber-clause-step : goal.run_single-requires-in-AnyNumber-clause-step
+run_single-requires-in-AnyNumber-clause-step c =
     let x = c.args.layouts.now.reading in
     let r = records c.args.layouts.now in
     let on : Support = support_of c.args.plan.now in
     let (given, own, at) = c.requires.step in
-    let is = subst (λ (s : Step). IsStep x r given on s own) c.in-Binary.is at in
+    let is = subst (λ (s : Step). IsStep x r given on s own) c.in-AnyNumber.is at in
     (own, is)
 
-pub returns-in-Binary-clause-applied : goal.returns-in-Binary-clause-applied
-returns-in-Binary-clause-applied c = λ yes given own is.
+pub returns-in-AnyNumber-clause-applied : goal.returns-in-AnyNumber-clause-applied
+returns-in-AnyNumber-clause-applied c = λ yes given own is.
     let x = c.args.layouts.now.reading in
     let r = records c.args.layouts.now in
     let on : Support = support_of c.args.plan.now in
-    let this = subst (λ (s : Step). IsStep x r given on s own) c.in-Binary.is is in
-    c.run_single-in-Binary.ensures.applied yes own this
+    let this = subst (λ (s : Step). IsStep x r given on s own) c.in-AnyNumber.is is in
+    c.run_single-in-AnyNumber.ensures.applied yes own this
 
-pub returns-in-Binary-clause-spends : goal.returns-in-Binary-clause-spends
-returns-in-Binary-clause-spends c = λ yes given own is.
+pub returns-in-AnyNumber-clause-spends : goal.returns-in-AnyNumber-clause-spends
+returns-in-AnyNumber-clause-spends c = λ yes given own is.
     let x = c.args.layouts.now.reading in
     let r = records c.args.layouts.now in
     let on : Support = support_of c.args.plan.now in
-    let this = subst (λ (s : Step). IsStep x r given on s own) c.in-Binary.is is in
-    c.run_single-in-Binary.ensures.spends yes own this
+    let this = subst (λ (s : Step). IsStep x r given on s own) c.in-AnyNumber.is is in
+    c.run_single-in-AnyNumber.ensures.spends yes own this
 
 pub run_single-requires-in-Edited-clause-step : goal.run_single-requires-in-Edited-clause-step
 run_single-requires-in-Edited-clause-step c =

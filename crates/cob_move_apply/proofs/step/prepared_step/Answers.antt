@@ -9,8 +9,8 @@ returns-in-Number-clause-stands c = λ x r given on own is. subst (λ (s : MoveS
 pub returns-in-Wide-clause-stands : goal.returns-in-Wide-clause-stands
 returns-in-Wide-clause-stands c = λ x r given on own is. subst (λ (s : MoveStep). IsPreparedMove x r on.prepared (record { places = c.args.one.places; step = s }) own) c.in-Wide.is is
 
-pub returns-in-Binary-clause-stands : goal.returns-in-Binary-clause-stands
-returns-in-Binary-clause-stands c = λ x r given on own is. subst (λ (s : MoveStep). IsPreparedMove x r on.prepared (record { places = c.args.one.places; step = s }) own) c.in-Binary.is is
+pub returns-in-AnyNumber-clause-stands : goal.returns-in-AnyNumber-clause-stands
+returns-in-AnyNumber-clause-stands c = λ x r given on own is. subst (λ (s : MoveStep). IsPreparedMove x r on.prepared (record { places = c.args.one.places; step = s }) own) c.in-AnyNumber.is is
 
 pub returns-in-Edited-clause-stands : goal.returns-in-Edited-clause-stands
 returns-in-Edited-clause-stands c = λ x r given on own is. subst (λ (s : MoveStep). IsPreparedMove x r on.prepared (record { places = c.args.one.places; step = s }) own) c.in-Edited.is is

@@ -2,7 +2,7 @@ use Rattle.std.proofs.Common.{ap, subst, take, ◌∙◌}
 use Rattle.cob_picture.specs.Counts.{signed}
 use Rattle.cob_move_prepared.specs.Steps.{IsWriterFor}
 use Rattle.cob_move_prepared.specs.Ends.{IsOwnWriter, IsWordWriterFor, item_digits}
-use Rattle.cob_move_prepared.proofs.BinaryStepLemmas.{size_is, word_written}
+use Rattle.cob_move_prepared.proofs.AnyNumberLemmas.{size_is, word_written}
 use Rattle.cob_move_prepared.proofs.number_ends.NumberWriter.write.Goals as goal
 
 pub returns-in-Lanes : goal.returns-in-Lanes

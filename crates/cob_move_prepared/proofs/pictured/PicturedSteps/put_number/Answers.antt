@@ -1,7 +1,7 @@
 use Rattle.std.proofs.Common.{[], ◌∷◌, arith}
 use Rattle.cob_move_prepared.specs.Pictured.{MovesPictured}
 use Rattle.cob_move_prepared.specs.Pool.{BetweenItems}
-use Rattle.cob_move_prepared.specs.declared.binary_step.BinaryStep.{BinaryStep}
+use Rattle.cob_move_prepared.specs.declared.any_number_step.AnyNumberStep.{AnyNumberStep}
 use Rattle.cob_move_prepared.specs.declared.edit_step.EditStep.{EditStep}
 use Rattle.cob_move_prepared.specs.declared.numerals_step.NumeralsStep.{NumeralsStep}
 use Rattle.cob_move_prepared.specs.declared.wide_edit_step.WideEditStep.{WideEditStep}
@@ -12,7 +12,7 @@ use Rattle.cob_move_prepared.proofs.pictured.PicturedSteps.put_number.Goals as g
 pub returns-clause-step : goal.returns-clause-step
 returns-clause-step c = λ k occupied moves. record {
   occupied = occupied;
-  between = put_at BinaryStep (λ (step : BinaryStep). BetweenItems (MovesPictured step) k.sender k.receiver) c.args.self.now.numbers.items c.push.new.self.items c.args.step c.len-number.result c.in_ok-push.ensures.items
+  between = put_at AnyNumberStep (λ (step : AnyNumberStep). BetweenItems (MovesPictured step) k.sender k.receiver) c.args.self.now.numbers.items c.push.new.self.items c.args.step c.len-number.result c.in_ok-push.ensures.items
       (omega (arith, c.len-number.ensures, c.args.self.now.numbers.ok.0)) moves;
 }
 

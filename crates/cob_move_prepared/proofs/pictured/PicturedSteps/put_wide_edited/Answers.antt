@@ -1,7 +1,7 @@
 use Rattle.std.proofs.Common.{[], ◌∷◌, arith}
 use Rattle.cob_move_prepared.specs.Pictured.{MovesPicturedToWideEdited}
 use Rattle.cob_move_prepared.specs.Pool.{BetweenItems}
-use Rattle.cob_move_prepared.specs.declared.binary_step.BinaryStep.{BinaryStep}
+use Rattle.cob_move_prepared.specs.declared.any_number_step.AnyNumberStep.{AnyNumberStep}
 use Rattle.cob_move_prepared.specs.declared.edit_step.EditStep.{EditStep}
 use Rattle.cob_move_prepared.specs.declared.numerals_step.NumeralsStep.{NumeralsStep}
 use Rattle.cob_move_prepared.specs.declared.wide_edit_step.WideEditStep.{WideEditStep}
@@ -18,4 +18,4 @@ returns-clause-step c = λ k occupied moves. record {
 
 pub returns-clause-kept : goal.returns-clause-kept
 returns-clause-kept c =
-    pictured_kept c.args.self.now (record { alloc = c.args.self.now.alloc; numbers = c.args.self.now.numbers; edits = c.args.self.now.edits; wide_edits = c.push.new.self; numerals = c.args.self.now.numerals }) (as_before BinaryStep c.args.self.now.numbers.items) (as_before EditStep c.args.self.now.edits.items) (c.args.step ∷ [], c.in_ok-push.ensures.items) (as_before NumeralsStep c.args.self.now.numerals.items)
+    pictured_kept c.args.self.now (record { alloc = c.args.self.now.alloc; numbers = c.args.self.now.numbers; edits = c.args.self.now.edits; wide_edits = c.push.new.self; numerals = c.args.self.now.numerals }) (as_before AnyNumberStep c.args.self.now.numbers.items) (as_before EditStep c.args.self.now.edits.items) (c.args.step ∷ [], c.in_ok-push.ensures.items) (as_before NumeralsStep c.args.self.now.numerals.items)

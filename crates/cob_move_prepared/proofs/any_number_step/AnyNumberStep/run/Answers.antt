@@ -1,6 +1,6 @@
 use Rattle.std.proofs.Common.{length}
-use Rattle.cob_move_prepared.proofs.BinaryStepLemmas.{moved_number, no_number_moved}
-use Rattle.cob_move_prepared.proofs.binary_step.BinaryStep.run.Goals as goal
+use Rattle.cob_move_prepared.proofs.AnyNumberLemmas.{moved_number, no_number_moved}
+use Rattle.cob_move_prepared.proofs.any_number_step.AnyNumberStep.run.Goals as goal
 
 pub returns-then-not-read-clause-gets : goal.returns-then-not-read-clause-gets
 returns-then-not-read-clause-gets c = λ s r is within size reading suits.

@@ -1,13 +1,13 @@
-//! Steps from and to binary items, carried out.
+//! Steps of numbers between items of any kind, carried out.
 
 ghost use Rattle.std.specs.Prelude.{◌≡◌, ◌≤◌, false, length};
-ghost use Rattle.cob_move_prepared.specs.Running.{IsBinaryCarriedOut};
+ghost use Rattle.cob_move_prepared.specs.Running.{IsAnyNumberCarriedOut};
 ghost use Rattle.cob_move_receive.specs.Received.{outcome};
 
-use crate::binary_step::BinaryStep;
+use crate::any_number_step::AnyNumberStep;
 use cob_lanes::keeps_minus;
 
-impl BinaryStep {
+impl AnyNumberStep {
     /// Moves the number of the sender that ends bytes to a receiver's bytes, as a step of two numbers does. A binary sender is read as its
     /// picture says.
     ///
@@ -17,7 +17,7 @@ impl BinaryStep {
     #[inline(never)]
     pub fn run(&self, from: &[u8], to: &mut [u8]) -> bool
         requires { length to.old ≤ 16 }
-        ensures gets { IsBinaryCarriedOut
+        ensures gets { IsAnyNumberCarriedOut
             self.now from.now (length to.old) (outcome result to.new) }
         ensures same { result ≡ false → to.new ≡ to.old }
     {

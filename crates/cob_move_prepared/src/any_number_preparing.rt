@@ -1,14 +1,14 @@
-//! Steps from and to binary items, made ready.
+//! Steps of numbers between items of any kind, made ready.
 
 ghost use Rattle.std.specs.Prelude.{IfOk, IfSome, IsSome};
-ghost use Rattle.cob_move_prepared.specs.Ends.{IsBinaryStep, IsShortNumber, IsShortSender};
+ghost use Rattle.cob_move_prepared.specs.Ends.{IsAnyNumberStep, IsShortNumber, IsShortSender};
 
-use crate::binary_step::BinaryStep;
+use crate::any_number_step::AnyNumberStep;
 use crate::ends_preparing::{number_reader, number_writer};
 use cob_copybook_tree::Item;
 use std::alloc::{AllocError, Global};
 
-impl BinaryStep {
+impl AnyNumberStep {
     /// The step of the move of one item to another. There is one where the receiver is a number of at most sixteen digits, and of at most sixteen
     /// bytes if it isn't binary, and the sender is another, or holds at most sixteen characters, or is edited, of at most sixteen digits and
     /// thirty-two bytes.
@@ -20,8 +20,8 @@ impl BinaryStep {
         alloc: Global,
         sender: &Item,
         receiver: &Item,
-    ) -> Result<Option<BinaryStep>, AllocError>
-        ensures step { IfOk result (λ step. IfSome step (IsBinaryStep sender.now receiver.now)) }
+    ) -> Result<Option<AnyNumberStep>, AllocError>
+        ensures step { IfOk result (λ step. IfSome step (IsAnyNumberStep sender.now receiver.now)) }
         ensures must { IsShortSender sender.now → IsShortNumber receiver.now → IfOk result IsSome }
     {
         let Some(writer) = number_writer(receiver) else {
@@ -30,6 +30,6 @@ impl BinaryStep {
         let Some(reader) = number_reader(alloc, sender, receiver)? else {
             return Ok(None);
         };
-        Ok(Some(BinaryStep { reader, writer }))
+        Ok(Some(AnyNumberStep { reader, writer }))
     }
 }

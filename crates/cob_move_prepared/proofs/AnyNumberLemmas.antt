@@ -26,8 +26,8 @@ use Rattle.cob_move_receive.specs.Sent.{Amount, Entry}
 use Rattle.cob_move_receive.specs.Numbers.{HoldsAligned}
 use Rattle.cob_move_receive.specs.Received.{Received, GetsNumber, GetsCharacters, outcome}
 use Rattle.cob_move_prepared.specs.Steps.{is_binary, received_form}
-use Rattle.cob_move_prepared.specs.Ends.{Gives, IsBinaryStep, item_digits}
-use Rattle.cob_move_prepared.specs.declared.binary_step.BinaryStep.{BinaryStep}
+use Rattle.cob_move_prepared.specs.Ends.{Gives, IsAnyNumberStep, item_digits}
+use Rattle.cob_move_prepared.specs.declared.any_number_step.AnyNumberStep.{AnyNumberStep}
 use Rattle.cob_move_prepared.proofs.GivenLemmas.{gives_scaled}
 use Rattle.cob_move_prepared.proofs.StepLemmas.{holds, match_true, not_false, not_true, number_item, number_shows}
 
@@ -69,7 +69,7 @@ left_nonzero true true n h e = absurd (cc)
 left_nonzero false zero_is n h e = absurd (cc)
 left_nonzero true false n h e = elim (cases_eq n 0) [ inl z ↦ (let no : IsTrue false = h z in absurd (cc)) | inr p ↦ omega arith ]
 
-pub moved_number : (s r : Item) (step : BinaryStep) (reading : Reading) (bytes : List ℕ) (told minus left zero_is : Bool) (kept new : List ℕ) (n : ℕ) → IsBinaryStep s r step → n ≡ item_size r → not told ≡ false
+pub moved_number : (s r : Item) (step : AnyNumberStep) (reading : Reading) (bytes : List ℕ) (told minus left zero_is : Bool) (kept new : List ℕ) (n : ℕ) → IsAnyNumberStep s r step → n ≡ item_size r → not told ≡ false
     → IsNumberRead (Gives reading s (last_bytes (item_size s) bytes)) (item_digits r) (scale r.picture.positions -ℤ scale s.picture.positions) told minus kept
     → IsTrue zero_is ↔ AreZero kept → left ≡ (minus && not zero_is)
     → (AreTens kept → (IsTrue left → 0 < number_of (take (item_digits r) kept)) → new ≡ received_form r left (take (item_digits r) kept))
@@ -92,7 +92,7 @@ moved_number s r step reading bytes told minus left zero_is kept new n is size n
       match_true (is_number r) (HoldsAligned r v new) (IsEdited r.picture r.blank v.negative v.digits v.scale new) (number_item r is.writer.number) h,
     )
 
-pub no_number_moved : (s r : Item) (step : BinaryStep) (reading : Reading) (bytes : List ℕ) (told minus : Bool) (kept new : List ℕ) (n : ℕ) → IsBinaryStep s r step → not told ≡ true
+pub no_number_moved : (s r : Item) (step : AnyNumberStep) (reading : Reading) (bytes : List ℕ) (told minus : Bool) (kept new : List ℕ) (n : ℕ) → IsAnyNumberStep s r step → not told ≡ true
     → IsNumberRead (Gives reading s (last_bytes (item_size s) bytes)) (item_digits r) (scale r.picture.positions -ℤ scale s.picture.positions) told minus kept
     → Received (Entry (ItemKind s) (last_bytes (item_size s) bytes) reading) (ItemKind r) n (outcome false new)
 no_number_moved s r step reading bytes told minus kept new n is none read =
