@@ -4,7 +4,7 @@ ghost use Rattle.std.specs.Prelude.{◌≤◌, length};
 
 use crate::tally::Tally;
 use cob_copybook_tree::Item;
-use cob_move_prepared::{BinaryStep, EditStep, NumberStep, WideEditStep, WideStep};
+use cob_move_prepared::{AnyNumberStep, EditStep, NumberStep, WideEditStep, WideStep};
 use std::alloc::{AllocError, Global};
 
 /// What stands in a receiver's bytes before the move.
@@ -26,7 +26,7 @@ fn stored(
     if let Some(step) = WideStep::prepare(sender, receiver) {
         return Ok(Some(step.run(record, to)));
     }
-    match BinaryStep::prepare(alloc, sender, receiver)? {
+    match AnyNumberStep::prepare(alloc, sender, receiver)? {
         Some(step) => Ok(Some(step.run(record, to))),
         None => Ok(None),
     }
