@@ -59,9 +59,7 @@ fn try_to_edited(
 ) -> Result<(), AllocError> {
     for to in kinds {
         if let Some(receiver) = item_of(to) {
-            for _ in 0..TRIES {
-                try_move(alloc, sender, &receiver, draws, tally)?;
-            }
+            try_move(alloc, sender, &receiver, draws, tally)?;
         }
     }
     Ok(())
@@ -93,16 +91,17 @@ pub fn try_characters_to_edited(
     draws: &mut Draws,
 ) -> Result<Tally, AllocError> {
     let mut tally = Tally::new();
-    let kinds = [*to];
-    for sent in 1..MOST + 1 {
-        if let Some(sender) = characters_item(alloc, sent, false)? {
-            try_to_edited(alloc, &sender, &kinds, draws, &mut tally)?;
+    if let Some(receiver) = item_of(to) {
+        for sent in 1..MOST + 1 {
+            if let Some(sender) = characters_item(alloc, sent, false)? {
+                try_move(alloc, &sender, &receiver, draws, &mut tally)?;
+            }
         }
     }
     Ok(tally)
 }
 
-/// Tries the moves of edited items of a kind to numbers of all kinds.
+/// Tries the moves of edited items of a kind to numbers of all kinds, of about half of the lengths.
 pub fn try_edited_to_numbers(
     alloc: Global,
     from: &EditedKind,
@@ -112,7 +111,9 @@ pub fn try_edited_to_numbers(
     if let Some(sender) = item_of(from) {
         for to in &all_kinds() {
             for received in 1..to.most_digits() + 1 {
-                try_to_number(alloc, &sender, to, received, draws, &mut tally)?;
+                if draws.below(2) == 0 {
+                    try_to_number(alloc, &sender, to, received, draws, &mut tally)?;
+                }
             }
         }
     }

@@ -149,9 +149,7 @@ pub fn try_all_edited(
     if let Some(receiver) = item_of(to) {
         for from in &all_kinds() {
             for sent in 1..from.most_wide_digits() + 1 {
-                for _ in 0..TRIES {
-                    try_move(alloc, from, &receiver, sent, draws, &mut tally)?;
-                }
+                try_move(alloc, from, &receiver, sent, draws, &mut tally)?;
             }
         }
     }
