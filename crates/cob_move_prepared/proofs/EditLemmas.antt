@@ -1,5 +1,5 @@
 -- Steps to edited items, carried out: what the receiver gets.
-use Rattle.std.proofs.Common.{◌≡◌, ◌↔◌, ◌<◌, ◌≤◌, ◌==◌, ℕ, ◌-ℤ◌, ℤ, Bool, true, false, not, IsTrue, List, length, take, Some, None, MatchBool, refl, sym, ap, subst, ◌∙◌, inl, inr, arith, length-take-le}
+use Rattle.std.proofs.Common.{◌≡◌, ◌↔◌, ◌<◌, ◌≤◌, ◌==◌, ℕ, ◌-ℤ◌, ℤ, Bool, true, false, not, IsTrue, List, length, take, Some, None, sym, ap, subst, ◌∙◌, inl, inr, arith, length-take-le}
 use Rattle.std.proofs.lemmas.Bool.{cases_eq}
 use Rattle.std.specs.List.{prefix_len}
 use Rattle.cob_decimal.specs.Decimal.{IsDigits, number_of, aligned}

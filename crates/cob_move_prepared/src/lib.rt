@@ -24,10 +24,10 @@
 //! - characters without insertions, of a sender that gives its bytes as they are: [`CharactersStep::prepare`] gives one, and
 //!   [`ConstantStep::prepare`] that of a constant, whose bytes `receive` makes once. [`copy_all`] copies bytes.
 //!
-//! What each of them leaves in the receiver's bytes is what the rule says, in the same words; which number a sender gives, `Gives` of specs/Ends.antt
-//! says. What is left of a binary sender is so where its
-//! bytes are read as its picture says (`SuitsReading`): where they are sent whole, the move is that of `receive`. [`PicturedSteps`] are the steps of
-//! moves of such senders, in the words of [`MoveSteps`] but for that reading.
+//! What each of them leaves in the receiver's bytes is what the rule says, in the same words; which number a sender gives, `Gives` of
+//! specs/Ends.antt says. What is left of a binary sender is so where its bytes are read as its picture says (`SuitsReading`): where they are sent
+//! whole, the move is that of `receive`. [`PicturedSteps`] are the steps of moves of such senders, in the words of [`MoveSteps`] but for that
+//! reading.
 //!
 //! It stands on cob_lanes, which reads and writes the numbers, on cob_copybook_tree and cob_codec for items and their storage, and on
 //! cob_move_receive for the rule. Only to make steps ready takes memory.

@@ -5,7 +5,7 @@ use Rattle.cob_lanes.specs.Windows.{last_bytes}
 use Rattle.cob_move_prepared.specs.Deedits.{IsReceiverWriterFor}
 use Rattle.cob_move_prepared.specs.Edits.{IsTextWriterFor}
 use Rattle.cob_move_prepared.specs.Ends.{Gives, IsNumberWriterFor}
-use Rattle.cob_move_prepared.proofs.AnyNumberLemmas.{moved_number, no_number_moved}
+use Rattle.cob_move_prepared.proofs.AnyNumberLemmas.{moved_number}
 use Rattle.cob_move_prepared.proofs.TextStepLemmas.{no_text_moved}
 use Rattle.cob_move_prepared.proofs.EditLemmas.{edited_as, led_by}
 use Rattle.cob_move_prepared.proofs.text_step.TextStep.run.Goals as goal

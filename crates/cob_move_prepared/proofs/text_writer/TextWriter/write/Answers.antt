@@ -1,7 +1,6 @@
 use Rattle.std.proofs.Common.{◌≡◌, ◌==◌, ◌<◌, ◌≤◌, ℕ, List, length, take, sym, ap, subst, ◌∙◌, arith}
 use Rattle.std.specs.List.{prefix_len}
 use Rattle.cob_picture.specs.Counts.{digits, scale}
-use Rattle.cob_copybook_tree.specs.Lengths.{item_size}
 use Rattle.cob_edit.specs.Pictured.{IsEdited}
 use Rattle.cob_lanes.specs.declared.text.WideText.{WideText}
 use Rattle.cob_move_prepared.specs.Texts.{IsWideTextFor}
