@@ -1,5 +1,5 @@
 -- Numbers of edited items, read by prepared texts: the digits are taken out, their text is made again, and compared.
-use Rattle.std.proofs.Common.{◌≡◌, ◌↔◌, ◌⊎◌, ℕ, zero, suc, ◌+◌, ◌-◌, ◌<◌, ◌≤◌, ◌==◌, ℤ, ◌-ℤ◌, Bool, true, false, not, cond, IsTrue, List, [], ◌∷◌, ◌++◌, length, take, drop, replicate, count_by, get_or, refl, sym, ap, subst, ◌∙◌, inl, inr, arith, length-take-le, get_or-take}
+use Rattle.std.proofs.Common.{◌≡◌, ◌↔◌, ◌⊎◌, ℕ, zero, suc, ◌+◌, ◌-◌, ◌<◌, ◌≤◌, ◌==◌, ◌-ℤ◌, Bool, true, false, not, cond, IsTrue, List, [], ◌∷◌, ◌++◌, length, take, drop, replicate, count_by, get_or, refl, sym, ap, subst, ◌∙◌, inl, inr, arith, length-take-le, get_or-take}
 use Rattle.std.specs.Bool.{IsFalse}
 use Rattle.std.specs.List.{prefix_len}
 use Rattle.std.specs.Prelude.{if◌then◌else◌}

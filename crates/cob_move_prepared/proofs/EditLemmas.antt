@@ -1,5 +1,5 @@
 -- Steps to edited items, carried out: what the receiver gets.
-use Rattle.std.proofs.Common.{◌≡◌, ◌↔◌, ◌<◌, ◌≤◌, ◌==◌, ℕ, ◌-ℤ◌, ℤ, Bool, true, false, not, IsTrue, List, length, take, Some, None, MatchBool, refl, sym, ap, subst, ◌∙◌, inl, inr, arith, length-take-le}
+use Rattle.std.proofs.Common.{◌≡◌, ◌↔◌, ◌<◌, ◌≤◌, ◌==◌, ℕ, ◌-ℤ◌, ℤ, Bool, true, false, not, IsTrue, List, length, take, Some, None, sym, ap, subst, ◌∙◌, inl, inr, arith, length-take-le}
 use Rattle.std.proofs.lemmas.Bool.{cases_eq}
 use Rattle.std.specs.List.{prefix_len}
 use Rattle.cob_decimal.specs.Decimal.{IsDigits, number_of, aligned}
@@ -52,22 +52,23 @@ edited_of_sent p blank minus negative kept sent bytes from valid count value sig
       text = e.text;
     }
 
--- what an edited receiver gets of a number that was read
-pub edited : (s r : Item) (reading : Reading) (bytes : List ℕ) (told minus : Bool) (kept made new : List ℕ) (is_made : Bool → List ℕ → List ℕ → Type 0) (n front : ℕ) → IsPlainlyEdited r → digits r.picture.positions ≤ 16
-    → n ≡ item_size r → not told ≡ false
+-- what was read of a number leads sixteen lanes
+pub led_by : (represents : Bool → List ℕ → Type 0) (count : ℕ) (shift : ℤ) (told minus : Bool) (kept : List ℕ) → not told ≡ false → IsNumberRead represents count shift told minus kept → AreLed count kept
+led_by represents count shift told minus kept number read =
+    let a : AreRead represents count shift minus kept = read.number (not_false told number) in
+    record { long = a.held.long; tens = wanted_tens count shift (number_of a.digits) kept a.held; rest = a.held.rest }
+
+-- what an edited receiver gets of a number that was read, where the text of what is kept was written
+pub edited_as : (s r : Item) (reading : Reading) (bytes : List ℕ) (told minus : Bool) (kept new : List ℕ) (n : ℕ) → IsPlainlyEdited r → digits r.picture.positions ≤ 16 → not told ≡ false
     → IsNumberRead (Gives reading s (last_bytes (item_size s) bytes)) (digits r.picture.positions) (scale r.picture.positions -ℤ scale s.picture.positions) told minus kept
-    → MakesTextsFor r front is_made → front ≡ prefix_len (λ d. d == 0) (take (digits r.picture.positions) kept) → is_made minus kept made → new ≡ take n made
+    → IsEdited r.picture r.blank minus (take (digits r.picture.positions) kept) (scale r.picture.positions) new
     → Received (Entry (ItemKind s) (last_bytes (item_size s) bytes) reading) (ItemKind r) n (outcome true new)
-edited s r reading bytes told minus kept made new is_made n front receives few size number read text zeros_are shown cut =
+edited_as s r reading bytes told minus kept new n receives few number read there =
     let item : List ℕ = last_bytes (item_size s) bytes in
     let count : ℕ = digits r.picture.positions in
     let shift : ℤ = scale r.picture.positions -ℤ scale s.picture.positions in
     let a : AreRead (Gives reading s item) count shift minus kept = read.number (not_false told number) in
     let v : Amount = record { negative = a.negative; digits = a.digits; scale = scale s.picture.positions } in
-    let led : AreLed count kept = record { long = a.held.long; tens = wanted_tens count shift (number_of a.digits) kept a.held; rest = a.held.rest } in
-    let own : IsEdited r.picture r.blank minus (take count kept) (scale r.picture.positions) (take (item_size r) made) = text minus kept made led (sym zeros_are) shown in
-    let there : IsEdited r.picture r.blank minus (take count kept) (scale r.picture.positions) new =
-    subst (λ xs. IsEdited r.picture r.blank minus (take count kept) (scale r.picture.positions) xs) (ap (λ m. take m made) (sym size) ∙ sym cut) own in
     let h : IsEdited r.picture r.blank a.negative a.digits (scale s.picture.positions) new =
     edited_of_sent r.picture r.blank minus a.negative (take count kept) a.digits new (scale s.picture.positions)
     (wanted_valid count shift (number_of a.digits) kept few a.held) (length-take-le count kept (omega (arith, a.held.long, few)))
@@ -77,6 +78,19 @@ edited s r reading bytes told minus kept made new is_made n front receives few s
       a.represented,
       match_false (is_number r) (HoldsAligned r v new) (IsEdited r.picture r.blank v.negative v.digits v.scale new) receives.edited h,
     )
+
+-- the same, where it was made of what is kept
+pub edited : (s r : Item) (reading : Reading) (bytes : List ℕ) (told minus : Bool) (kept made new : List ℕ) (is_made : Bool → List ℕ → List ℕ → Type 0) (n front : ℕ) → IsPlainlyEdited r → digits r.picture.positions ≤ 16
+    → n ≡ item_size r → not told ≡ false
+    → IsNumberRead (Gives reading s (last_bytes (item_size s) bytes)) (digits r.picture.positions) (scale r.picture.positions -ℤ scale s.picture.positions) told minus kept
+    → MakesTextsFor r front is_made → front ≡ prefix_len (λ d. d == 0) (take (digits r.picture.positions) kept) → is_made minus kept made → new ≡ take n made
+    → Received (Entry (ItemKind s) (last_bytes (item_size s) bytes) reading) (ItemKind r) n (outcome true new)
+edited s r reading bytes told minus kept made new is_made n front receives few size number read text zeros_are shown cut =
+    let count : ℕ = digits r.picture.positions in
+    let led : AreLed count kept = led_by (Gives reading s (last_bytes (item_size s) bytes)) count (scale r.picture.positions -ℤ scale s.picture.positions) told minus kept number read in
+    let own : IsEdited r.picture r.blank minus (take count kept) (scale r.picture.positions) (take (item_size r) made) = text minus kept made led (sym zeros_are) shown in
+    edited_as s r reading bytes told minus kept new n receives few number read
+    (subst (λ xs. IsEdited r.picture r.blank minus (take count kept) (scale r.picture.positions) xs) (ap (λ m. take m made) (sym size) ∙ sym cut) own)
 
 -- what it gets where no number was read
 pub not_edited : (s r : Item) (reading : Reading) (bytes : List ℕ) (told minus : Bool) (kept new : List ℕ) (n : ℕ) → IsPlainlyEdited r → SendsNumber s → not told ≡ true

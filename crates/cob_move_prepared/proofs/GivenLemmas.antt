@@ -1,5 +1,5 @@
 -- The number that an item gives.
-use Rattle.std.proofs.Common.{◌≡◌, ◌&&◌, ℕ, zero, suc, ◌-◌, ◌/◌, ◌%◌, ◌<◌, ◌≤◌, ℤ, pos, Bool, true, false, not, leb, List, [], ◌∷◌, length, map, get_or, MatchBool, refl, sym, ap, subst, ◌∙◌, inl, inr, arith, le-leb, leb-true}
+use Rattle.std.proofs.Common.{◌≡◌, ◌&&◌, ℕ, zero, suc, ◌-◌, ◌/◌, ◌%◌, ◌<◌, ◌≤◌, ℤ, Bool, true, false, not, leb, List, [], ◌∷◌, length, map, get_or, MatchBool, refl, sym, ap, subst, ◌∙◌, inl, inr, arith, le-leb, leb-true}
 use Rattle.std.proofs.lemmas.Bool.{and_parts}
 use Rattle.cob_picture.specs.Counts.{scale}
 use Rattle.cob_picture.specs.Positions.{shows_number}
@@ -16,7 +16,7 @@ use Rattle.cob_edit.specs.Pictured.{IsEdited}
 use Rattle.cob_lanes.specs.Readers.{AreNumeralsOf, AreRead}
 use Rattle.cob_lanes.specs.Words.{IsNumberRead}
 use Rattle.cob_move_receive.specs.Sent.{Amount}
-use Rattle.cob_move_receive.specs.Numbers.{AreNumerals, digits_of, is_numeral, GivesUnder, IsNumberIn, IsReadAs, IsUnedited, ItemGives, whole_number}
+use Rattle.cob_move_receive.specs.Numbers.{AreNumerals, digits_of, is_numeral, GivesUnder, IsNumberIn, IsReadAs, IsUnedited, ItemGives}
 use Rattle.cob_move_prepared.specs.Ends.{Gives, IsNumeralItem, SendsNumber}
 use Rattle.cob_move_prepared.specs.Texts.{IsPlainlyEdited}
 use Rattle.cob_move_prepared.proofs.StepLemmas.{from_match, match_true, number_item}

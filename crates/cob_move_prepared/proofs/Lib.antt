@@ -10,3 +10,4 @@ pub mod AnyNumberLemmas
 pub mod PicturedLemmas
 pub mod WideStepLemmas
 pub mod NumeralLemmas
+pub mod TextStepLemmas

@@ -54,7 +54,7 @@ pictured_edited_received k step size bytes outcome occupied between within same 
 
 pub few_pictured_wide_edited : (k : MoveKinds) (step : WideEditStep) (size : ℕ) → AreOccupied k → BetweenItems (MovesPicturedToWideEdited step) k.sender k.receiver → size ≡ k.received → size ≤ 32
 few_pictured_wide_edited k step size occupied between same =
-    omega (arith, same, fits_between 32 (MovesPicturedToWideEdited step) k.sender k.receiver k.received (λ from to is. is.fits) occupied.receiver between)
+    omega (arith, same, fits_between 32 (MovesPicturedToWideEdited step) k.sender k.receiver k.received (λ from to is. is.writer.fits) occupied.receiver between)
 
 pub pictured_wide_edited_received : (k : MoveKinds) (step : WideEditStep) (size : ℕ) (bytes : List ℕ) (outcome : Option (List ℕ)) → AreOccupied k → BetweenItems (MovesPicturedToWideEdited step) k.sender k.receiver
     → k.sent ≤ length bytes → size ≡ k.received → IsWideEditCarriedOut step bytes size outcome → IsReceivedPictured k bytes outcome

@@ -12,8 +12,9 @@ use Rattle.cob_move_receive.specs.Received.{Received}
 use Rattle.cob_move_receive.specs.Sent.{Entry, Occupies}
 use Rattle.cob_move_prepared.specs.Copies.{AreCharactersCarriedOut, IsCharactersStep}
 use Rattle.cob_move_prepared.specs.Ends.{IsOwnWriter, SuitsReading, item_digits}
+use Rattle.cob_move_prepared.specs.Deedits.{IsReceiverWriterFor, IsTextCarriedOut}
 use Rattle.cob_move_prepared.specs.Numerals.{IsNumeralsCarriedOut}
-use Rattle.cob_move_prepared.specs.Pool.{AreOccupied, BetweenItems, IsReceived, IsStepAt, IsStepBetween, KeepsSteps, MoveKinds, MovesNumber, MovesAnyNumber, MovesToEdited, MovesToNumerals, MovesToWideEdited, MovesWide}
+use Rattle.cob_move_prepared.specs.Pool.{AreOccupied, BetweenItems, IsReceived, IsStepAt, IsStepBetween, KeepsSteps, MoveKinds, MovesNumber, MovesAnyNumber, MovesToEdited, MovesText, MovesToNumerals, MovesToWideEdited, MovesWide}
 use Rattle.cob_move_prepared.specs.Running.{IsAnyNumberCarriedOut, IsCarriedOut, IsEditCarriedOut, IsWideEditCarriedOut}
 use Rattle.cob_move_prepared.specs.Steps.{is_binary}
 use Rattle.cob_move_prepared.specs.Wide.{IsWideCarriedOut}
@@ -22,11 +23,14 @@ use Rattle.cob_move_prepared.specs.declared.characters_step.CharactersStep.{Char
 use Rattle.cob_move_prepared.specs.declared.edit_step.EditStep.{EditStep}
 use Rattle.cob_move_prepared.specs.declared.number_ends.NumberWriter.{NumberWriter}
 use Rattle.cob_move_prepared.specs.declared.number_ends.NumberWriter.TheVariants as writer
+use Rattle.cob_move_prepared.specs.declared.number_ends.ReceiverWriter.{ReceiverWriter}
+use Rattle.cob_move_prepared.specs.declared.number_ends.ReceiverWriter.TheVariants as receiver
 use Rattle.cob_move_prepared.specs.declared.numerals_step.NumeralsStep.{NumeralsStep}
 use Rattle.cob_move_prepared.specs.declared.pool.MoveStep.{MoveStep}
 use Rattle.cob_move_prepared.specs.declared.pool.MoveStep.TheVariants as move_step
 use Rattle.cob_move_prepared.specs.declared.pool.MoveSteps.{MoveSteps}
 use Rattle.cob_move_prepared.specs.declared.step.NumberStep.{NumberStep}
+use Rattle.cob_move_prepared.specs.declared.text_step.TextStep.{TextStep}
 use Rattle.cob_move_prepared.specs.declared.wide_edit_step.WideEditStep.{WideEditStep}
 use Rattle.cob_move_prepared.specs.declared.wide_step.WideStep.{WideStep}
 use Rattle.cob_move_prepared.proofs.AnyNumberLemmas.{size_is}
@@ -61,18 +65,21 @@ pub read_at : (T : Type 0) (moves : T → Type 0) (steps : List T) (n : ℕ) (st
 read_at T moves steps n step is at = subst moves (is.at ∙ sym (get_or_read steps n step is.below at is.step)) is.is
 
 between_kept : (before now : MoveSteps) (k : MoveKinds) (step : MoveStep) → Grows NumberStep before.numbers.items now.numbers.items → Grows WideStep before.wides.items now.wides.items → Grows AnyNumberStep before.any_numbers.items now.any_numbers.items
-    → Grows EditStep before.edits.items now.edits.items → Grows WideEditStep before.wide_edits.items now.wide_edits.items → Grows NumeralsStep before.numerals.items now.numerals.items → IsStepBetween before k step → IsStepBetween now k step
-between_kept before now k (move_step.Number n) numbers wides any_numbers edits wide_edits numerals is = kept_at NumberStep (λ step. BetweenItems (MovesNumber step) k.sender k.receiver) before.numbers.items now.numbers.items n numbers is
-between_kept before now k (move_step.Wide n) numbers wides any_numbers edits wide_edits numerals is = kept_at WideStep (λ step. BetweenItems (MovesWide step) k.sender k.receiver) before.wides.items now.wides.items n wides is
-between_kept before now k (move_step.AnyNumber n) numbers wides any_numbers edits wide_edits numerals is = kept_at AnyNumberStep (λ step. BetweenItems (MovesAnyNumber step) k.sender k.receiver) before.any_numbers.items now.any_numbers.items n any_numbers is
-between_kept before now k (move_step.Edited n) numbers wides any_numbers edits wide_edits numerals is = kept_at EditStep (λ step. BetweenItems (MovesToEdited step) k.sender k.receiver) before.edits.items now.edits.items n edits is
-between_kept before now k (move_step.WideEdited n) numbers wides any_numbers edits wide_edits numerals is = kept_at WideEditStep (λ step. BetweenItems (MovesToWideEdited step) k.sender k.receiver) before.wide_edits.items now.wide_edits.items n wide_edits is
-between_kept before now k (move_step.Numerals n) numbers wides any_numbers edits wide_edits numerals is = kept_at NumeralsStep (λ step. BetweenItems (MovesToNumerals step) k.sender k.receiver) before.numerals.items now.numerals.items n numerals is
-between_kept before now k (move_step.Characters step) numbers wides any_numbers edits wide_edits numerals is = is
+    → Grows EditStep before.edits.items now.edits.items → Grows WideEditStep before.wide_edits.items now.wide_edits.items → Grows NumeralsStep before.numerals.items now.numerals.items
+    → Grows TextStep before.texts.items now.texts.items → IsStepBetween before k step → IsStepBetween now k step
+between_kept before now k (move_step.Number n) numbers wides any_numbers edits wide_edits numerals texts is = kept_at NumberStep (λ step. BetweenItems (MovesNumber step) k.sender k.receiver) before.numbers.items now.numbers.items n numbers is
+between_kept before now k (move_step.Wide n) numbers wides any_numbers edits wide_edits numerals texts is = kept_at WideStep (λ step. BetweenItems (MovesWide step) k.sender k.receiver) before.wides.items now.wides.items n wides is
+between_kept before now k (move_step.AnyNumber n) numbers wides any_numbers edits wide_edits numerals texts is = kept_at AnyNumberStep (λ step. BetweenItems (MovesAnyNumber step) k.sender k.receiver) before.any_numbers.items now.any_numbers.items n any_numbers is
+between_kept before now k (move_step.Edited n) numbers wides any_numbers edits wide_edits numerals texts is = kept_at EditStep (λ step. BetweenItems (MovesToEdited step) k.sender k.receiver) before.edits.items now.edits.items n edits is
+between_kept before now k (move_step.WideEdited n) numbers wides any_numbers edits wide_edits numerals texts is = kept_at WideEditStep (λ step. BetweenItems (MovesToWideEdited step) k.sender k.receiver) before.wide_edits.items now.wide_edits.items n wide_edits is
+between_kept before now k (move_step.Numerals n) numbers wides any_numbers edits wide_edits numerals texts is = kept_at NumeralsStep (λ step. BetweenItems (MovesToNumerals step) k.sender k.receiver) before.numerals.items now.numerals.items n numerals is
+between_kept before now k (move_step.Text n) numbers wides any_numbers edits wide_edits numerals texts is = kept_at TextStep (λ step. BetweenItems (MovesText step) k.sender k.receiver) before.texts.items now.texts.items n texts is
+between_kept before now k (move_step.Characters step) numbers wides any_numbers edits wide_edits numerals texts is = is
 
 pub steps_kept : (before now : MoveSteps) → Grows NumberStep before.numbers.items now.numbers.items → Grows WideStep before.wides.items now.wides.items → Grows AnyNumberStep before.any_numbers.items now.any_numbers.items
-    → Grows EditStep before.edits.items now.edits.items → Grows WideEditStep before.wide_edits.items now.wide_edits.items → Grows NumeralsStep before.numerals.items now.numerals.items → KeepsSteps before now
-steps_kept before now numbers wides any_numbers edits wide_edits numerals k step is = record { occupied = is.occupied; between = between_kept before now k step numbers wides any_numbers edits wide_edits numerals is.between }
+    → Grows EditStep before.edits.items now.edits.items → Grows WideEditStep before.wide_edits.items now.wide_edits.items → Grows NumeralsStep before.numerals.items now.numerals.items
+    → Grows TextStep before.texts.items now.texts.items → KeepsSteps before now
+steps_kept before now numbers wides any_numbers edits wide_edits numerals texts k step is = record { occupied = is.occupied; between = between_kept before now k step numbers wides any_numbers edits wide_edits numerals texts is.between }
 
 -- ---- a step carried out
 
@@ -105,7 +112,15 @@ pub few_edited : (k : MoveKinds) (step : EditStep) (size : ℕ) → AreOccupied 
 few_edited k step size occupied between same = omega (arith, same, few_between (MovesToEdited step) k.sender k.receiver k.received (λ from to is. is.1.fits) occupied.receiver between)
 
 pub few_wide_edited : (k : MoveKinds) (step : WideEditStep) (size : ℕ) → AreOccupied k → BetweenItems (MovesToWideEdited step) k.sender k.receiver → size ≡ k.received → size ≤ 32
-few_wide_edited k step size occupied between same = omega (arith, same, fits_between 32 (MovesToWideEdited step) k.sender k.receiver k.received (λ from to is. is.1.fits) occupied.receiver between)
+few_wide_edited k step size occupied between same = omega (arith, same, fits_between 32 (MovesToWideEdited step) k.sender k.receiver k.received (λ from to is. is.1.writer.fits) occupied.receiver between)
+
+receiver_fits : (to : Item) (w : ReceiverWriter) → IsReceiverWriterFor to w → item_size to ≤ 32
+receiver_fits to (receiver.Number w) is = omega (arith, writer_fits to w is.own)
+receiver_fits to (receiver.Text w) is = is.fits
+
+pub few_texts : (k : MoveKinds) (step : TextStep) (size : ℕ) → AreOccupied k → BetweenItems (MovesText step) k.sender k.receiver → size ≡ k.received → size ≤ 32
+few_texts k step size occupied between same =
+    omega (arith, same, fits_between 32 (MovesText step) k.sender k.receiver k.received (λ from to is. receiver_fits to step.writer is.writer) occupied.receiver between)
 
 -- what two items get of one another is what their kinds get, where these have just their bytes
 abbrev pub ItemsReceive : (Item → Item → Type 0) → List ℕ → ℕ → Option (List ℕ) → Reading → Type 0
@@ -160,6 +175,11 @@ pub numerals_received : (k : MoveKinds) (step : NumeralsStep) (size : ℕ) (byte
     → size ≡ k.received → IsNumeralsCarriedOut step bytes size outcome → IsReceived k bytes outcome
 numerals_received k step size bytes outcome occupied between within same h =
     received_by (MovesToNumerals step) k size bytes outcome occupied between within same (λ reading from to is fits long. h from to is.1 fits long reading (suits from reading is.0))
+
+pub text_received : (k : MoveKinds) (step : TextStep) (size : ℕ) (bytes : List ℕ) (outcome : Option (List ℕ)) → AreOccupied k → BetweenItems (MovesText step) k.sender k.receiver → k.sent ≤ length bytes
+    → size ≡ k.received → IsTextCarriedOut step bytes size outcome → IsReceived k bytes outcome
+text_received k step size bytes outcome occupied between within same h =
+    received_by (MovesText step) k size bytes outcome occupied between within same (λ reading from to is fits long. h from to is fits long reading)
 
 pub characters_received : (k : MoveKinds) (step : CharactersStep) (size : ℕ) (bytes written : List ℕ) → IsCharactersStep k.sender k.sent k.receiver step → size ≡ k.received
     → AreCharactersCarriedOut step bytes size written → IsReceived k bytes (Some written)

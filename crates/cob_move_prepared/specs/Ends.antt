@@ -8,10 +8,8 @@ use Rattle.cob_codec.specs.declared.reading.Reading.TheVariants.{Pictured}
 use Rattle.cob_copybook_tree.specs.declared.node.Item.{Item}
 use Rattle.cob_copybook_tree.specs.Items.{IsNumberItem}
 use Rattle.cob_copybook_tree.specs.Lengths.{item_size}
-use Rattle.cob_edit.specs.Pictured.{places}
 use Rattle.cob_lanes.specs.Lanes.{AreTens}
 use Rattle.cob_lanes.specs.Readers.{AreNumeralsOf, IsReaderOf}
-use Rattle.cob_lanes.specs.Texts.{ArePlacesAt, IsKeeperOf}
 use Rattle.cob_lanes.specs.Windows.{last_bytes}
 use Rattle.cob_lanes.specs.Words.{IsBinaryReaderOf, IsBinaryWriterOf, IsNumberRead}
 use Rattle.cob_lanes.specs.declared.binary.BinaryReader.{BinaryReader}
@@ -19,10 +17,9 @@ use Rattle.cob_lanes.specs.declared.binary.BinaryWriter.{BinaryWriter}
 use Rattle.cob_lanes.specs.declared.reader.LaneReader.{LaneReader}
 use Rattle.cob_move_receive.specs.Numbers.{ItemGives}
 use Rattle.cob_move_prepared.specs.Steps.{is_binary, IsLaneItem, IsReaderFor, IsWriterFor, received_form}
-use Rattle.cob_move_prepared.specs.Texts.{AreWideTextsFor, digit_bytes_from, IsPlainlyEdited, IsWideEditedItem}
+use Rattle.cob_move_prepared.specs.Texts.{IsPlainlyEdited}
 use Rattle.cob_move_prepared.specs.declared.any_number_step.AnyNumberStep.{AnyNumberStep}
 use Rattle.cob_move_prepared.specs.declared.number_ends.NumberReader.{NumberReader}
-use Rattle.cob_move_prepared.specs.declared.text_reader.TextReader.{TextReader}
 use Rattle.cob_move_prepared.specs.declared.number_ends.NumberReader.TheVariants as reader
 use Rattle.cob_move_prepared.specs.declared.number_ends.NumberWriter.{NumberWriter}
 use Rattle.cob_move_prepared.specs.declared.number_ends.NumberWriter.TheVariants as writer
@@ -48,9 +45,9 @@ pub record IsNumeralItem (i : Item) : Type 0 where
   pub some : 0 < item_size i
   pub fits : item_size i ≤ 16
 
--- The item gives a number whose digits sixteen lanes hold.
+-- The item is a number, or characters that may be one, whose digits sixteen lanes hold.
 abbrev pub IsShortSender : Item → Type 0
-IsShortSender i = IsShortNumber i ⊎ IsNumeralItem i ⊎ IsWideEditedItem i
+IsShortSender i = IsShortNumber i ⊎ IsNumeralItem i
 
 -- The item is one that gives a number: it is a number, an edited one, or characters.
 abbrev pub SendsNumber : Item → Type 0
@@ -76,31 +73,15 @@ pub record IsNumeralReaderFor (from to : Item) (r : LaneReader) : Type 0 where
   pub characters : IsNumeralItem from
   pub reads : IsReaderOf (AreNumeralsOf (item_size from)) (item_size from) (item_digits to) (scale to.picture.positions -ℤ scale from.picture.positions) r
 
--- The reader reads the numbers of an edited item, and keeps the digits that another item has places for.
-pub record IsTextReaderFor (from to : Item) (r : TextReader) : Type 0 where
-  pub edited : IsWideEditedItem from
-  pub size : r.size ≡ item_size from
-  pub count : r.digits ≡ item_digits from
-  pub places : ArePlacesAt (digit_bytes_from 0 (places from.picture.positions)) r.places
-  pub kept : IsKeeperOf (item_digits from) (item_digits to) (scale to.picture.positions -ℤ scale from.picture.positions) r.kept
-  pub texts : AreWideTextsFor from 0 r.texts.items
-
 -- The writer writes the binary numbers of an item.
 pub record IsWordWriterFor (to : Item) (w : BinaryWriter) : Type 0 where
   pub binary : is_binary to.usage ≡ true
   pub writes : IsBinaryWriterOf (item_digits to) (signed to.picture.positions) w
 
--- What was read of the edited item at the end of bytes, for each two items whose reader this is.
-abbrev pub IsTextRead : TextReader → List ℕ → (is_number minus : Bool) → List ℕ → Type 0
-IsTextRead r bytes is_number minus kept =
-    (from to : Item) (reading : Reading) → IsTextReaderFor from to r → item_size from ≤ length bytes
-    → IsNumberRead (Gives reading from (last_bytes (item_size from) bytes)) (item_digits to) (scale to.picture.positions -ℤ scale from.picture.positions) is_number minus kept
-
 -- The reader is one for the item's kind of storage.
 abbrev pub IsOwnReader : Item → Item → NumberReader → Type 0
 IsOwnReader from to (reader.Lanes r) = IsLaneReaderFor from to r ⊎ IsNumeralReaderFor from to r
 IsOwnReader from to (reader.Binary r) = IsWordReaderFor from to r
-IsOwnReader from to (reader.Text r) = IsTextReaderFor from to r
 
 -- The writer is one for the item's kind of storage.
 abbrev pub IsOwnWriter : Item → NumberWriter → Type 0

@@ -8,10 +8,12 @@ use Rattle.cob_lanes.specs.Windows.{last_bytes}
 use Rattle.cob_move_receive.specs.Received.{Received}
 use Rattle.cob_move_receive.specs.Sent.{Entry, Occupies}
 use Rattle.cob_move_prepared.specs.Copies.{IsCharactersStep, gives_bytes}
+use Rattle.cob_move_prepared.specs.Deedits.{IsTextStep, ReceivesNumber}
 use Rattle.cob_move_prepared.specs.Edits.{IsEditStep, IsWideEditStep}
 use Rattle.cob_move_prepared.specs.Ends.{IsAnyNumberStep}
 use Rattle.cob_move_prepared.specs.Numerals.{HaveAnyShortNumbers, IsNumeralsStep}
 use Rattle.cob_move_prepared.specs.Steps.{IsNumberStep, is_binary}
+use Rattle.cob_move_prepared.specs.Texts.{IsWideEditedItem}
 use Rattle.cob_move_prepared.specs.Wide.{IsWideStep}
 use Rattle.cob_move_prepared.specs.declared.any_number_step.AnyNumberStep.{AnyNumberStep}
 use Rattle.cob_move_prepared.specs.declared.edit_step.EditStep.{EditStep}
@@ -20,6 +22,7 @@ use Rattle.cob_move_prepared.specs.declared.pool.MoveStep.{MoveStep}
 use Rattle.cob_move_prepared.specs.declared.pool.MoveStep.TheVariants as move_step
 use Rattle.cob_move_prepared.specs.declared.pool.MoveSteps.{MoveSteps}
 use Rattle.cob_move_prepared.specs.declared.step.NumberStep.{NumberStep}
+use Rattle.cob_move_prepared.specs.declared.text_step.TextStep.{TextStep}
 use Rattle.cob_move_prepared.specs.declared.wide_edit_step.WideEditStep.{WideEditStep}
 use Rattle.cob_move_prepared.specs.declared.wide_step.WideStep.{WideStep}
 
@@ -69,6 +72,10 @@ MovesToWideEdited step from to = (is_binary from.usage ≡ false) × IsWideEditS
 abbrev pub MovesToNumerals : NumeralsStep → Item → Item → Type 0
 MovesToNumerals step from to = (is_binary from.usage ≡ false) × IsNumeralsStep from to step
 
+-- the step moves the number of an edited item to another item
+abbrev pub MovesText : TextStep → Item → Item → Type 0
+MovesText step from to = IsTextStep from to step
+
 -- the step with this number among these is one that is meant
 pub record IsStepAt (T : Type 0) (moves : T → Type 0) (steps : List T) (number : ℕ) : Type 0 where
   pub step : T
@@ -84,6 +91,7 @@ IsStepBetween steps k (move_step.AnyNumber number) = IsStepAt AnyNumberStep (λ 
 IsStepBetween steps k (move_step.Edited number) = IsStepAt EditStep (λ step. BetweenItems (MovesToEdited step) k.sender k.receiver) steps.edits.items number
 IsStepBetween steps k (move_step.WideEdited number) = IsStepAt WideEditStep (λ step. BetweenItems (MovesToWideEdited step) k.sender k.receiver) steps.wide_edits.items number
 IsStepBetween steps k (move_step.Numerals number) = IsStepAt NumeralsStep (λ step. BetweenItems (MovesToNumerals step) k.sender k.receiver) steps.numerals.items number
+IsStepBetween steps k (move_step.Text number) = IsStepAt TextStep (λ step. BetweenItems (MovesText step) k.sender k.receiver) steps.texts.items number
 IsStepBetween steps k (move_step.Characters step) = IsCharactersStep k.sender k.sent k.receiver step
 
 -- The step, one of these, carries out the move of the sender to the receiver.
@@ -92,9 +100,19 @@ pub record IsMoveStep (steps : MoveSteps) (k : MoveKinds) (step : MoveStep) : Ty
   pub between : IsStepBetween steps k step
 
 -- the sender gives a short number and isn't binary, and the receiver is a number of any kind of storage, edits one, or takes its digits as characters
-pub record HaveShortNumbers (from to : Item) : Type 0 where
+pub record HaveSteadyNumbers (from to : Item) : Type 0 where
   pub steady : is_binary from.usage ≡ false
   pub numbers : HaveAnyShortNumbers from to
+
+-- the sender is edited, and the receiver is a short number, or edits one
+pub record HaveTexts (from to : Item) : Type 0 where
+  pub steady : is_binary from.usage ≡ false
+  pub sends : IsWideEditedItem from
+  pub receives : ReceivesNumber to
+
+-- the items have a step: the sender isn't binary, and gives a short number that the receiver takes
+abbrev pub HaveShortNumbers : Item → Item → Type 0
+HaveShortNumbers from to = HaveSteadyNumbers from to ⊎ HaveTexts from to
 
 -- there is a step between these kinds: the sender gives its bytes as characters, or both are items with short numbers
 abbrev pub HaveStep : Kind → Kind → Type 0
@@ -107,4 +125,4 @@ KeepsSteps before now = (k : MoveKinds) (step : MoveStep) → IsMoveStep before 
 -- there is no step of a number
 abbrev pub HasNoSteps : MoveSteps → Type 0
 HasNoSteps steps = (length steps.numbers.items ≡ 0) × (length steps.wides.items ≡ 0) × (length steps.any_numbers.items ≡ 0) × (length steps.edits.items ≡ 0)
-    × (length steps.wide_edits.items ≡ 0) × (length steps.numerals.items ≡ 0)
+    × (length steps.wide_edits.items ≡ 0) × (length steps.numerals.items ≡ 0) × (length steps.texts.items ≡ 0)

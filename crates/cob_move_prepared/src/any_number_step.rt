@@ -1,7 +1,7 @@
 use crate::number_ends::{NumberReader, NumberWriter};
 
-/// The single move of a number that an item gives, of whatever kind, to one of any kind of storage, made ready.
-#[derive(Drop)]
+/// The single move of a number, or of characters that are one, to a number of any kind of storage, made ready.
+#[derive(Clone, Copy)]
 pub struct AnyNumberStep {
     pub reader: NumberReader,
     pub writer: NumberWriter,

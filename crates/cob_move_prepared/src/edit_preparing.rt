@@ -36,8 +36,7 @@ fn is_edited_item(item: &Item) -> bool
 
 impl EditStep {
     /// The step of the move of one item to another. There is one where the receiver edits numbers in at most sixteen digits and bytes, and the
-    /// sender is a number of at most sixteen digits, and of at most sixteen bytes if it isn't binary, or holds at most sixteen characters, or is
-    /// edited, of at most sixteen digits and thirty-two bytes.
+    /// sender is a number of at most sixteen digits, and of at most sixteen bytes if it isn't binary, or holds at most sixteen characters.
     ///
     /// # Errors
     ///
@@ -53,7 +52,7 @@ impl EditStep {
         if !is_edited_item(receiver) {
             return Ok(None);
         }
-        let Some(reader) = number_reader(alloc, sender, receiver)? else {
+        let Some(reader) = number_reader(sender, receiver) else {
             return Ok(None);
         };
         let texts = texts_for(alloc, receiver)?;

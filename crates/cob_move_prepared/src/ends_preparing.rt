@@ -1,6 +1,6 @@
 //! What reads and writes numbers of items, made ready.
 
-ghost use Rattle.std.specs.Prelude.{◌≡◌, ◌↔◌, ◌≤◌, IfOk, IfSome, IsSome, IsTrue};
+ghost use Rattle.std.specs.Prelude.{◌≡◌, ◌↔◌, ◌≤◌, IfSome, IsSome, IsTrue};
 ghost use Rattle.cob_picture.specs.Counts.{digits};
 ghost use Rattle.cob_move_prepared.specs.Steps.{is_binary};
 ghost use Rattle.cob_move_prepared.specs.Ends.{IsNumberReaderFor, IsNumberWriterFor, IsNumeralItem, IsShortNumber, IsShortSender, IsWordItem};
@@ -8,11 +8,9 @@ ghost use Rattle.cob_move_prepared.specs.Ends.{IsNumberReaderFor, IsNumberWriter
 use crate::number_ends::{NumberReader, NumberWriter};
 use crate::preparing::{reader_for, wanted_of, writer_for};
 use crate::storage::{lane_storage, number_shape, window_storage};
-use crate::text_preparing::text_reader;
 use cob_copybook_tree::{Item, Usage, is_number_item};
 use cob_lanes::{BinaryReader, BinaryWriter, LaneReader};
 use cob_picture::Category;
-use std::alloc::{AllocError, Global};
 
 /// Whether a usage is binary.
 pub(crate) fn is_binary(usage: Usage) -> bool
@@ -71,28 +69,14 @@ fn numeral_reader(sender: &Item, receiver: &Item) -> Option<NumberReader>
 }
 
 /// What reads the number that a sender gives, if lanes hold it.
-///
-/// # Errors
-///
-/// There is not enough memory.
-pub(crate) fn number_reader(
-    alloc: Global,
-    sender: &Item,
-    receiver: &Item,
-) -> Result<Option<NumberReader>, AllocError>
+pub(crate) fn number_reader(sender: &Item, receiver: &Item) -> Option<NumberReader>
     requires { digits receiver.now.picture.positions ≤ 16 }
-    ensures reader { IfOk result (λ reader. IfSome reader (IsNumberReaderFor sender.now receiver.now)) }
-    ensures must { IsShortSender sender.now → IfOk result IsSome }
+    ensures reader { IfSome result (IsNumberReaderFor sender.now receiver.now) }
+    ensures must { IsShortSender sender.now → IsSome result }
 {
-    if let Some(reader) = stored_reader(sender, receiver) {
-        return Ok(Some(reader));
-    }
-    if let Some(reader) = numeral_reader(sender, receiver) {
-        return Ok(Some(reader));
-    }
-    match text_reader(alloc, sender, receiver)? {
-        Some(reader) => Ok(Some(NumberReader::Text(reader))),
-        None => Ok(None),
+    match stored_reader(sender, receiver) {
+        Some(reader) => Some(reader),
+        None => numeral_reader(sender, receiver),
     }
 }
 

@@ -32,7 +32,6 @@ impl NumberReader {
         match self {
             NumberReader::Lanes(reader) => reader.read(bytes),
             NumberReader::Binary(reader) => read_word(reader, bytes),
-            NumberReader::Text(reader) => reader.read(bytes),
         }
     }
 }

@@ -1,15 +1,13 @@
-use crate::text_reader::TextReader;
+use crate::text_writer::TextWriter;
 use cob_lanes::{BinaryReader, BinaryWriter, LaneReader, LaneWriter};
 
 /// What reads the number that items of one kind give.
-#[derive(Drop)]
+#[derive(Clone, Copy)]
 pub enum NumberReader {
     /// Zoned, separate or packed ones, or characters, each a digit.
     Lanes(LaneReader),
     /// Binary ones.
     Binary(BinaryReader),
-    /// Edited ones.
-    Text(TextReader),
 }
 
 /// What writes the number of items of one kind of storage.
@@ -19,4 +17,13 @@ pub enum NumberWriter {
     Lanes(LaneWriter),
     /// Binary ones.
     Binary(BinaryWriter),
+}
+
+/// What writes the number that items of one kind receive.
+#[derive(Drop)]
+pub enum ReceiverWriter {
+    /// Those that are stored as numbers.
+    Number(NumberWriter),
+    /// Edited ones.
+    Text(TextWriter),
 }

@@ -138,7 +138,7 @@ impl PicturedSteps {
         ensures must { HaveAnyShortNumbers from.now to.now → IfOk result (λ found. IsSome found) }
         ensures kept { KeepsPictured self.old self.new }
     {
-        if let Some(step) = AnyNumberStep::prepare(self.alloc, from, to)? {
+        if let Some(step) = AnyNumberStep::prepare(from, to) {
             return Ok(Some(self.put_number(step)?));
         }
         if let Some(step) = EditStep::prepare(self.alloc, from, to)? {

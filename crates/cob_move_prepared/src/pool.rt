@@ -1,7 +1,9 @@
 //! Steps of single moves, one for each move that has one.
 
 ghost use Rattle.std.specs.Prelude.{◌≡◌, ◌≤◌, false, length, Some, IfOk, IfSome, IsSome};
-ghost use Rattle.cob_move_prepared.specs.Pool.{AreOccupied, BetweenItems, HasNoSteps, HaveShortNumbers, HaveStep, IsMoveStep, IsReceived, KeepsSteps, MoveKinds, MovesNumber, MovesAnyNumber, MovesToEdited, MovesToNumerals, MovesToWideEdited, MovesWide};
+ghost use Rattle.cob_move_prepared.specs.Numerals.{HaveAnyShortNumbers};
+ghost use Rattle.cob_move_prepared.specs.Steps.{is_binary};
+ghost use Rattle.cob_move_prepared.specs.Pool.{AreOccupied, BetweenItems, HasNoSteps, HaveShortNumbers, HaveStep, IsMoveStep, IsReceived, KeepsSteps, MoveKinds, MovesNumber, MovesAnyNumber, MovesToEdited, MovesText, MovesToNumerals, MovesToWideEdited, MovesWide};
 ghost use Rattle.cob_copybook_tree.specs.declared.node.Kind.TheVariants.{Item as ItemKind};
 ghost use Rattle.cob_move_prepared.specs.declared.pool.MoveStep.TheVariants.{Characters};
 ghost use Rattle.cob_move_receive.specs.Received.{outcome};
@@ -12,6 +14,7 @@ use crate::edit_step::EditStep;
 use crate::ends_preparing::is_binary;
 use crate::numerals_step::NumeralsStep;
 use crate::step::NumberStep;
+use crate::text_step::TextStep;
 use crate::wide_edit_step::WideEditStep;
 use crate::wide_step::WideStep;
 use cob_copybook_tree::{Item, Kind};
@@ -33,6 +36,8 @@ pub enum MoveStep {
     WideEdited(usize),
     /// That of a number to characters.
     Numerals(usize),
+    /// That of the number of an edited item.
+    Text(usize),
     /// The step of characters, as it is.
     Characters(CharactersStep),
 }
@@ -47,6 +52,7 @@ pub struct MoveSteps {
     pub(crate) edits: Vec<EditStep>,
     pub(crate) wide_edits: Vec<WideEditStep>,
     pub(crate) numerals: Vec<NumeralsStep>,
+    pub(crate) texts: Vec<TextStep>,
 }
 
 impl fmt::Debug for MoveSteps {
@@ -56,9 +62,10 @@ impl fmt::Debug for MoveSteps {
         let any_numbers = self.any_numbers.len();
         let edits = self.edits.len() + self.wide_edits.len();
         let numerals = self.numerals.len();
+        let texts = self.texts.len();
         write!(
             f,
-            "MoveSteps {{ numbers: {numbers}, wides: {wides}, any_numbers: {any_numbers}, edits: {edits}, numerals: {numerals} }}"
+            "MoveSteps {{ numbers: {numbers}, wides: {wides}, any_numbers: {any_numbers}, edits: {edits}, numerals: {numerals}, texts: {texts} }}"
         )
     }
 }
@@ -76,6 +83,7 @@ impl MoveSteps {
             edits: Vec::new(alloc),
             wide_edits: Vec::new(alloc),
             numerals: Vec::new(alloc),
+            texts: Vec::new(alloc),
         }
     }
 
@@ -169,6 +177,55 @@ impl MoveSteps {
         Ok(MoveStep::Numerals(number))
     }
 
+    /// Puts the step of the number of an edited item behind those so far.
+    ///
+    /// # Errors
+    ///
+    /// Where no memory is left.
+    fn put_text(&mut self, step: TextStep) -> Result<MoveStep, AllocError>
+        ensures step { IfOk result (λ put. (k : MoveKinds) → AreOccupied k
+            → BetweenItems (MovesText step) k.sender k.receiver → IsMoveStep self.new k put) }
+        ensures kept { KeepsSteps self.old self.new }
+    {
+        let number = self.texts.len();
+        self.texts.push(step)?;
+        Ok(MoveStep::Text(number))
+    }
+
+    /// Makes the step of the move of one item to another ready, where the sender gives its number as one, or as characters.
+    ///
+    /// # Errors
+    ///
+    /// Where no memory is left.
+    fn prepare_numbers(&mut self, from: &Item, to: &Item) -> Result<Option<MoveStep>, AllocError>
+        requires { is_binary from.now.usage ≡ false }
+        ensures step { IfOk result (λ found. IfSome found (λ put. (k : MoveKinds) → AreOccupied k
+            → k.sender ≡ ItemKind from.now → k.receiver ≡ ItemKind to.now
+            → IsMoveStep self.new k put)) }
+        ensures must { HaveAnyShortNumbers from.now to.now → IfOk result (λ found. IsSome found) }
+        ensures kept { KeepsSteps self.old self.new }
+    {
+        if let Some(step) = NumberStep::prepare(from, to) {
+            return Ok(Some(self.put_number(step)?));
+        }
+        if let Some(step) = WideStep::prepare(from, to) {
+            return Ok(Some(self.put_wide(step)?));
+        }
+        if let Some(step) = AnyNumberStep::prepare(from, to) {
+            return Ok(Some(self.put_any_number(step)?));
+        }
+        if let Some(step) = EditStep::prepare(self.alloc, from, to)? {
+            return Ok(Some(self.put_edited(step)?));
+        }
+        if let Some(step) = WideEditStep::prepare(self.alloc, from, to)? {
+            return Ok(Some(self.put_wide_edited(step)?));
+        }
+        match NumeralsStep::prepare(from, to) {
+            Some(step) => Ok(Some(self.put_numerals(step)?)),
+            None => Ok(None),
+        }
+    }
+
     /// Makes the step of the move of one item to another ready.
     ///
     /// # Errors
@@ -185,25 +242,10 @@ impl MoveSteps {
         if is_binary(from.usage) {
             return Ok(None);
         }
-        if let Some(step) = NumberStep::prepare(from, to) {
-            return Ok(Some(self.put_number(step)?));
+        if let Some(step) = TextStep::prepare(self.alloc, from, to)? {
+            return Ok(Some(self.put_text(step)?));
         }
-        if let Some(step) = WideStep::prepare(from, to) {
-            return Ok(Some(self.put_wide(step)?));
-        }
-        if let Some(step) = AnyNumberStep::prepare(self.alloc, from, to)? {
-            return Ok(Some(self.put_any_number(step)?));
-        }
-        if let Some(step) = EditStep::prepare(self.alloc, from, to)? {
-            return Ok(Some(self.put_edited(step)?));
-        }
-        if let Some(step) = WideEditStep::prepare(self.alloc, from, to)? {
-            return Ok(Some(self.put_wide_edited(step)?));
-        }
-        match NumeralsStep::prepare(from, to) {
-            Some(step) => Ok(Some(self.put_numerals(step)?)),
-            None => Ok(None),
-        }
+        self.prepare_numbers(from, to)
     }
 
     /// Makes the step of the move of an entry to another ready, by what they describe and how many bytes they have. There is one where the sender
@@ -267,6 +309,7 @@ impl MoveSteps {
             MoveStep::Edited(number) => self.edits[number].run(from, to),
             MoveStep::WideEdited(number) => self.wide_edits[number].run(from, to),
             MoveStep::Numerals(number) => self.numerals[number].run(from, to),
+            MoveStep::Text(number) => self.texts[number].run(from, to),
             MoveStep::Characters(step) => {
                 self.put_characters(step, from, to);
                 true

@@ -1,16 +1,19 @@
-//! What reads the numbers of edited items, made ready.
+//! Steps of numbers of edited items, made ready.
 
 ghost use Rattle.std.specs.Prelude.{◌≤◌, ◌-ℤ◌, count_by, IfOk, IfSome, IsSome};
 ghost use Rattle.cob_edit.specs.Pictured.{places};
 ghost use Rattle.cob_edit.specs.Places.{bytes_of, is_digit};
 ghost use Rattle.cob_lanes.specs.Texts.{ArePlacesAt, IsKeeperOf};
 ghost use Rattle.cob_picture.specs.Counts.{digits, scale};
-ghost use Rattle.cob_move_prepared.specs.Ends.{IsTextReaderFor};
+ghost use Rattle.cob_move_prepared.specs.Deedits.{IsReceiverWriterFor, IsTextReaderFor, IsTextStep, ReceivesNumber};
 ghost use Rattle.cob_move_prepared.specs.Texts.{digit_bytes_from, IsWideEditedItem};
 
+use crate::ends_preparing::number_writer;
+use crate::number_ends::ReceiverWriter;
 use crate::preparing::wanted_of;
 use crate::text_reader::TextReader;
-use crate::wide_edit_preparing::is_wide_edited_item;
+use crate::text_step::TextStep;
+use crate::wide_edit_preparing::{is_wide_edited_item, text_writer};
 use crate::wide_texts::wide_texts_for;
 use cob_copybook_tree::Item;
 use cob_edit::{Place, places_of};
@@ -58,7 +61,7 @@ fn kept_digits(sender: &Item, receiver: &Item) -> KeptDigits
 }
 
 /// What reads the number of an edited sender, and keeps the digits that a receiver has places for.
-pub(crate) fn text_reader(
+fn text_reader(
     alloc: Global,
     sender: &Item,
     receiver: &Item,
@@ -78,4 +81,47 @@ pub(crate) fn text_reader(
         kept: kept_digits(sender, receiver),
         texts,
     }))
+}
+
+/// What writes the number that a receiver gets of an edited sender.
+///
+/// # Errors
+///
+/// There is not enough memory.
+fn receiver_writer(alloc: Global, receiver: &Item) -> Result<Option<ReceiverWriter>, AllocError>
+    ensures writer { IfOk result (λ writer. IfSome writer (IsReceiverWriterFor receiver.now)) }
+    ensures must { ReceivesNumber receiver.now → IfOk result IsSome }
+{
+    if let Some(writer) = number_writer(receiver) {
+        return Ok(Some(ReceiverWriter::Number(writer)));
+    }
+    match text_writer(alloc, receiver)? {
+        Some(writer) => Ok(Some(ReceiverWriter::Text(writer))),
+        None => Ok(None),
+    }
+}
+
+impl TextStep {
+    /// The step of the move of one item to another. There is one where the sender is edited, of at most sixteen digits and thirty-two bytes, and
+    /// the receiver is a number of at most sixteen digits, and of at most sixteen bytes if it isn't binary, or is such an edited item too.
+    ///
+    /// # Errors
+    ///
+    /// There is not enough memory.
+    pub fn prepare(
+        alloc: Global,
+        sender: &Item,
+        receiver: &Item,
+    ) -> Result<Option<TextStep>, AllocError>
+        ensures step { IfOk result (λ step. IfSome step (IsTextStep sender.now receiver.now)) }
+        ensures must { IsWideEditedItem sender.now → ReceivesNumber receiver.now → IfOk result IsSome }
+    {
+        let Some(writer) = receiver_writer(alloc, receiver)? else {
+            return Ok(None);
+        };
+        match text_reader(alloc, sender, receiver)? {
+            Some(reader) => Ok(Some(TextStep { reader, writer })),
+            None => Ok(None),
+        }
+    }
 }

@@ -1,11 +1,26 @@
 //! Steps to edited items of at most thirty-two bytes, carried out.
 
 ghost use Rattle.std.specs.Prelude.{◌≡◌, ◌≤◌, false, length};
+ghost use Rattle.cob_move_prepared.specs.Edits.{IsTextWritten};
 ghost use Rattle.cob_move_prepared.specs.Running.{IsWideEditCarriedOut};
 ghost use Rattle.cob_move_receive.specs.Received.{outcome};
 
 use crate::edit_running::zeros_in_front;
+use crate::text_writer::TextWriter;
 use crate::wide_edit_step::WideEditStep;
+use std::simd::prelude::*;
+
+impl TextWriter {
+    /// Writes the text of a number into all bytes of an item.
+    #[inline(always)]
+    pub(crate) fn write(&self, digits: u8x16, minus: bool, to: &mut [u8])
+        requires { length to.old ≤ 32 }
+        ensures { IsTextWritten self.now digits minus (length to.old) to.new }
+    {
+        let zeros = zeros_in_front(digits, self.digits);
+        self.texts[zeros].write(digits, minus, to);
+    }
+}
 
 impl WideEditStep {
     /// Moves the number of the sender that ends bytes to a receiver's bytes, as a step to a shorter item does.
@@ -23,9 +38,7 @@ impl WideEditStep {
         if !read.is_number {
             return false;
         }
-        let digits = read.digits;
-        let zeros = zeros_in_front(digits, self.digits);
-        self.texts[zeros].write(digits, read.minus, to);
+        self.writer.write(read.digits, read.minus, to);
         true
     }
 }

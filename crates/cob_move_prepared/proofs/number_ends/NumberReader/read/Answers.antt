@@ -4,7 +4,7 @@ use Rattle.cob_codec.specs.Binary.{binary_length}
 use Rattle.cob_copybook_tree.specs.Lengths.{item_size}
 use Rattle.cob_lanes.specs.Readers.{AreNumeralsOf}
 use Rattle.cob_lanes.specs.Windows.{last_bytes}
-use Rattle.cob_move_prepared.specs.Ends.{IsLaneReaderFor, IsNumeralReaderFor, IsOwnReader, IsTextReaderFor, IsWordReaderFor, item_digits}
+use Rattle.cob_move_prepared.specs.Ends.{IsLaneReaderFor, IsNumeralReaderFor, IsOwnReader, IsWordReaderFor, item_digits}
 use Rattle.cob_move_prepared.proofs.AnyNumberLemmas.{size_is, word_read}
 use Rattle.cob_move_prepared.proofs.GivenLemmas.{number_given, numerals_given}
 use Rattle.cob_move_prepared.proofs.StepLemmas.{item_read, lanes_read, last_size}
@@ -34,8 +34,3 @@ returns-in-Binary c = λ from to reading is suits within.
     number_given reading from (last_bytes (item_size from) c.args.bytes.now) r.digits (item_digits to) shift r.is_number r.minus own.number
     (word_read from to reading c.args.bytes.now r.digits r.is_number r.minus own.binary (suits own.binary)
     (c.read_word.ensures (item_digits from) (signed from.picture.positions) (item_digits to) shift own.reads long))
-
-pub returns-in-Text : goal.returns-in-Text
-returns-in-Text c = λ from to reading is suits within.
-    let own : IsTextReaderFor from to c.in-Text.reader = subst (λ r. IsOwnReader from to r) c.in-Text.is is.own in
-    c.read-in-Text.ensures from to reading own within
