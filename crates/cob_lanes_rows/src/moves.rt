@@ -4,35 +4,29 @@ ghost use Rattle.std.specs.Prelude.{◌≤◌, length};
 
 use crate::tally::Tally;
 use cob_copybook_tree::Item;
-use cob_move_prepared::{AnyNumberStep, EditStep, NumberStep, WideEditStep, WideStep};
+use cob_move_prepared::{AnyNumberStep, EditStep, NumberStep, TextStep, WideEditStep, WideStep};
 use std::alloc::{AllocError, Global};
 
 /// What stands in a receiver's bytes before the move.
 pub const UNWRITTEN: u8 = 0xAA;
 
-/// Moves the number at the end of a record to a receiver's bytes, where there is a step to a number.
-fn stored(
+/// Moves the number of the edited item at the end of a record to a receiver's bytes, where there is a step.
+fn deedited(
     alloc: Global,
     sender: &Item,
     receiver: &Item,
     record: &[u8],
     to: &mut [u8],
 ) -> Result<Option<bool>, AllocError>
-    requires { length to.old ≤ 16 }
+    requires { length to.old ≤ 32 }
 {
-    if let Some(step) = NumberStep::prepare(sender, receiver) {
-        return Ok(Some(step.run(record, to)));
-    }
-    if let Some(step) = WideStep::prepare(sender, receiver) {
-        return Ok(Some(step.run(record, to)));
-    }
-    match AnyNumberStep::prepare(alloc, sender, receiver)? {
+    match TextStep::prepare(alloc, sender, receiver)? {
         Some(step) => Ok(Some(step.run(record, to))),
         None => Ok(None),
     }
 }
 
-/// The same where there is a step to an edited item of more than sixteen bytes.
+/// The same of any item, to an edited one of more than sixteen bytes.
 fn widely_edited(
     alloc: Global,
     sender: &Item,
@@ -44,11 +38,11 @@ fn widely_edited(
 {
     match WideEditStep::prepare(alloc, sender, receiver)? {
         Some(step) => Ok(Some(step.run(record, to))),
-        None => Ok(None),
+        None => deedited(alloc, sender, receiver, record, to),
     }
 }
 
-/// The same where there is any step.
+/// The same to any item.
 fn moved(
     alloc: Global,
     sender: &Item,
@@ -61,9 +55,18 @@ fn moved(
     if to.len() > 16 {
         return widely_edited(alloc, sender, receiver, record, to);
     }
+    if let Some(step) = NumberStep::prepare(sender, receiver) {
+        return Ok(Some(step.run(record, to)));
+    }
+    if let Some(step) = WideStep::prepare(sender, receiver) {
+        return Ok(Some(step.run(record, to)));
+    }
+    if let Some(step) = AnyNumberStep::prepare(sender, receiver) {
+        return Ok(Some(step.run(record, to)));
+    }
     match EditStep::prepare(alloc, sender, receiver)? {
         Some(step) => Ok(Some(step.run(record, to))),
-        None => stored(alloc, sender, receiver, record, to),
+        None => deedited(alloc, sender, receiver, record, to),
     }
 }
 

@@ -10,7 +10,7 @@ use crate::numbers::{TRIES, item_at};
 use crate::tally::Tally;
 use crate::texts::{drawn_text, text_of};
 use cob_copybook_tree::Item;
-use cob_move_prepared::AnyNumberStep;
+use cob_move_prepared::TextStep;
 use std::alloc::{AllocError, Global};
 
 /// What is put in the place of each byte: a space, 0, 1, and the bytes of symbols.
@@ -26,7 +26,7 @@ fn put(record: &mut [u8], place: usize, byte: u8) {
 }
 
 /// Moves a text in which one byte is each of those, and counts what came of it.
-fn tally_place(step: &AnyNumberStep, record: &mut [u8], place: usize, tally: &mut Tally) {
+fn tally_place(step: &TextStep, record: &mut [u8], place: usize, tally: &mut Tally) {
     for byte in NEAR {
         put(record, place, byte);
         let mut bytes = [UNWRITTEN; 16];
@@ -36,7 +36,7 @@ fn tally_place(step: &AnyNumberStep, record: &mut [u8], place: usize, tally: &mu
 }
 
 /// Moves the text of so many bytes that ends a record, with each byte another in turn.
-fn tally_near(step: &AnyNumberStep, record: &mut [u8], size: usize, tally: &mut Tally) {
+fn tally_near(step: &TextStep, record: &mut [u8], size: usize, tally: &mut Tally) {
     let first = record.len().saturating_sub(size);
     for number in 0..size {
         let place = first.saturating_add(number);
@@ -52,7 +52,7 @@ fn tally_near(step: &AnyNumberStep, record: &mut [u8], size: usize, tally: &mut 
 fn try_step(
     alloc: Global,
     sender: &Item,
-    step: &AnyNumberStep,
+    step: &TextStep,
     draws: &mut Draws,
     tally: &mut Tally,
 ) -> Result<(), AllocError> {
@@ -76,7 +76,7 @@ pub fn try_near(alloc: Global, from: &EditedKind, draws: &mut Draws) -> Result<T
     if let Some(sender) = item_of(from) {
         let scale = i32::from(sender.picture.scale());
         if let Some(receiver) = item_at(alloc, &zoned, 16, scale)? {
-            if let Some(step) = AnyNumberStep::prepare(alloc, &sender, &receiver)? {
+            if let Some(step) = TextStep::prepare(alloc, &sender, &receiver)? {
                 try_step(alloc, &sender, &step, draws, &mut tally)?;
             }
         }
