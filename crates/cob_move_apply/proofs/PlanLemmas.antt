@@ -95,6 +95,7 @@ step_still x r given a b (step.Wide p) own more (k, is, fixed) = (k, more.prepar
 step_still x r given a b (step.AnyNumber p) own more (k, is, fixed) = (k, more.prepared k (move_step.AnyNumber p.number) is, fixed)
 step_still x r given a b (step.Edited p) own more (k, is, fixed) = (k, more.prepared k (move_step.Edited p.number) is, fixed)
 step_still x r given a b (step.Characters p) own more (k, is, fixed) = (k, more.prepared k (move_step.Characters p.step) is, fixed)
+step_still x r given a b (step.Prepared p) own more (k, is, fixed) = (k, more.prepared k p.step is, fixed)
 step_still x r given a b (step.Pictured q p) own more (m, is, (part, so)) = (
   m,
   is,

@@ -163,6 +163,7 @@ IsStep reading r given on (step.Wide p) own = IsPreparedMove reading r on.prepar
 IsStep reading r given on (step.AnyNumber p) own = IsPreparedMove reading r on.prepared (numbered move_step.AnyNumber p) own
 IsStep reading r given on (step.Edited p) own = IsPreparedMove reading r on.prepared (numbered move_step.Edited p) own
 IsStep reading r given on (step.Characters p) own = IsPreparedMove reading r on.prepared (record { places = p.places; step = move_step.Characters p.step }) own
+IsStep reading r given on (step.Prepared p) own = IsPreparedMove reading r on.prepared p own
 IsStep reading r given on (step.Pictured q p) own = (m : Move) × (own ≡ m ∷ []) × IsPicturedPart reading r given on.bases on.pictured q p m
 IsStep reading r given on (step.Constant c) own = IsConstantMove r on.constants c own
 IsStep reading r given on (step.Located number) own = IsLocatedMove reading r on.prepared on.pictured on.located number own

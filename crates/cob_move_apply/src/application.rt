@@ -253,6 +253,9 @@ fn make_step(
             let step = MoveStep::Characters(one.step);
             make_one(plan, &one.places, step, layouts, input, output, space)
         }
+        Step::Prepared(one) => {
+            make_one(plan, &one.places, one.step, layouts, input, output, space)
+        }
         Step::Pictured(one, part) => {
             make_pictured(given, plan, *one, part, layouts, input, output, space)
         }

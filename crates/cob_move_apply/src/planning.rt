@@ -148,7 +148,7 @@ fn joined(last: Step, places: MovePlaces) -> Option<Step>
     match last {
         Step::Part(_) | Step::Pictured(_, _) | Step::Constant(_) | Step::Located(_) => None,
         Step::Number(_) | Step::Wide(_) | Step::AnyNumber(_) => None,
-        Step::Edited(_) | Step::Characters(_) => None,
+        Step::Edited(_) | Step::Characters(_) | Step::Prepared(_) => None,
         Step::Copy(front) => Some(Step::Copy(both_copies(front, places)?)),
     }
 }

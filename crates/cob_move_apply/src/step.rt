@@ -109,7 +109,8 @@ pub(crate) struct LocatedMove {
     pub(crate) step: LocatedStep,
 }
 
-/// What is carried out at once. Single moves that were made ready stand here by their kinds, so that one jump finds what carries them out.
+/// What is carried out at once. Single moves that were made ready stand here by their kinds, so that one jump finds what carries them out; those of rarer
+/// kinds stand together.
 #[derive(Clone, Copy, Debug)]
 pub(crate) enum Step {
     /// Places and categories are looked at as the step is carried out.
@@ -124,6 +125,8 @@ pub(crate) enum Step {
     Edited(NumberedMove),
     /// A single move of characters was made ready.
     Characters(CharactersMove),
+    /// A single move of another kind was made ready.
+    Prepared(PreparedMove),
     /// A single move was made ready where senders are read as their pictures say; else it is this part.
     Pictured(PicturedMove, Part),
     /// A single move of a constant was made ready.
@@ -241,6 +244,8 @@ pub(crate) fn prepared_step(one: PreparedMove) -> Step
         MoveStep::Wide(number) => Step::Wide(NumberedMove { places, number }),
         MoveStep::AnyNumber(number) => Step::AnyNumber(NumberedMove { places, number }),
         MoveStep::Edited(number) => Step::Edited(NumberedMove { places, number }),
+        MoveStep::WideEdited(_) => Step::Prepared(one),
+        MoveStep::Numerals(_) => Step::Prepared(one),
         MoveStep::Characters(step) => Step::Characters(CharactersMove { places, step }),
     }
 }
@@ -252,7 +257,8 @@ fn step_count(step: Step) -> usize
     match step {
         Step::Part(part) => part.count as usize,
         Step::Number(_) | Step::Wide(_) | Step::AnyNumber(_) | Step::Edited(_) => 1,
-        Step::Characters(_) | Step::Pictured(_, _) | Step::Constant(_) => 1,
+        Step::Characters(_) | Step::Prepared(_) => 1,
+        Step::Pictured(_, _) | Step::Constant(_) => 1,
         Step::Located(_) | Step::Copy(_) => 1,
     }
 }
