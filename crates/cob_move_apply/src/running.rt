@@ -197,5 +197,6 @@ pub(crate) fn run_step(
         }
         Step::Part(_) => false,
         Step::Located(_) => false,
+        Step::LocatedConstant(_) => false,
     }
 }

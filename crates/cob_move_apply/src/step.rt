@@ -109,6 +109,16 @@ pub(crate) struct LocatedMove {
     pub(crate) step: LocatedStep,
 }
 
+/// A single move of a constant to an item of the output record, made ready wherever this stands: it has as many bytes everywhere.
+#[derive(Debug, Drop)]
+pub(crate) struct LocatedConstant {
+    pub(crate) receiver: Ref,
+    /// What the place of the receiver rests on.
+    pub(crate) to: Basis,
+    /// The number of what writes its bytes.
+    pub(crate) number: usize,
+}
+
 /// What is carried out at once. Single moves that were made ready stand here by their kinds, so that one jump finds what carries them out; those of rarer
 /// kinds stand together.
 #[derive(Clone, Copy, Debug)]
@@ -133,6 +143,8 @@ pub(crate) enum Step {
     Constant(ConstantMove),
     /// A single move between items was made ready, and where they stand is found as the step is carried out: the one that has this number.
     Located(usize),
+    /// The same of a constant: the one that has this number.
+    LocatedConstant(usize),
     /// Bytes of the input record are copied: one single move, or several, each of which begins on both sides where the one before ends.
     Copy(MovePlaces),
 }
@@ -151,6 +163,8 @@ pub(crate) struct Plan {
     pub(crate) constants: Vec<ConstantStep>,
     /// The single moves that were made ready wherever their items stand.
     pub(crate) located: Vec<LocatedMove>,
+    /// Those of constants that were.
+    pub(crate) located_constants: Vec<LocatedConstant>,
 }
 
 /// A number of 32 bits.
@@ -259,7 +273,7 @@ fn step_count(step: Step) -> usize
         Step::Number(_) | Step::Wide(_) | Step::AnyNumber(_) | Step::Edited(_) => 1,
         Step::Characters(_) | Step::Prepared(_) => 1,
         Step::Pictured(_, _) | Step::Constant(_) => 1,
-        Step::Located(_) | Step::Copy(_) => 1,
+        Step::Located(_) | Step::LocatedConstant(_) | Step::Copy(_) => 1,
     }
 }
 

@@ -294,3 +294,26 @@ returns-in-Copy-clause-spends c = λ own is.
     let this = subst (λ (s : Step). IsStep x r c.args.given.now on s own) c.in-Copy.is is in
     copy_spends r own c.args.input.now c.args.output.now c.copy_across.new.output c.args.space.now.output
     (made_copy x r c.args.given.now on c.in-Copy.places own c.args.input.now c.args.output.now c.copy_across.new.output c.requires.input c.requires.output c.copy_across.ensures this)
+
+pub make_located_constant-requires-clause-step : goal.make_located_constant-requires-clause-step
+make_located_constant-requires-clause-step c =
+    let x = c.args.layouts.now.reading in
+    let r = records c.args.layouts.now in
+    let on : Support = support_of c.args.plan.now in
+    (c.requires.step.0, subst (λ (s : Step). IsStep x r c.args.given.now on s c.requires.step.0) c.in-LocatedConstant.is c.requires.step.1)
+
+pub returns-in-LocatedConstant-clause-applied : goal.returns-in-LocatedConstant-clause-applied
+returns-in-LocatedConstant-clause-applied c = λ own is.
+    let x = c.args.layouts.now.reading in
+    let r = records c.args.layouts.now in
+    let on : Support = support_of c.args.plan.now in
+    let this = subst (λ (s : Step). IsStep x r c.args.given.now on s own) c.in-LocatedConstant.is is in
+    c.make_located_constant.ensures.applied own this
+
+pub returns-in-LocatedConstant-clause-spends : goal.returns-in-LocatedConstant-clause-spends
+returns-in-LocatedConstant-clause-spends c = λ own is.
+    let x = c.args.layouts.now.reading in
+    let r = records c.args.layouts.now in
+    let on : Support = support_of c.args.plan.now in
+    let this = subst (λ (s : Step). IsStep x r c.args.given.now on s own) c.in-LocatedConstant.is is in
+    c.make_located_constant.ensures.spends own this
