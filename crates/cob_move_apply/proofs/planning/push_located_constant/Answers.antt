@@ -1,4 +1,4 @@
-use Rattle.std.proofs.Common.{arith, refl}
+use Rattle.std.proofs.Common.{arith}
 use Rattle.cob_move_apply.specs.declared.step.LocatedConstant.{LocatedConstant}
 use Rattle.cob_move_apply.proofs.PlanLemmas.{by_located_constant}
 use Rattle.cob_move_apply.proofs.planning.push_located_constant.Goals as goal
