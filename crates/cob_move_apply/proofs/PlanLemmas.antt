@@ -1,5 +1,5 @@
 -- Steps and the moves that they stand for, one behind another.
-use Rattle.std.proofs.Common.{◌≡◌, ℕ, zero, suc, ◌+◌, ◌<◌, ◌≤◌, List, [], ◌∷◌, ◌++◌, length, get_or, take, drop, map, refl, sym, ap, subst, ◌∙◌, arith, append_assoc, append-nil}
+use Rattle.std.proofs.Common.{◌≡◌, ℕ, zero, suc, ◌+◌, ◌<◌, ◌≤◌, true, List, [], ◌∷◌, ◌++◌, length, get_or, take, drop, map, refl, sym, ap, subst, ◌∙◌, arith, append_assoc, append-nil}
 use Rattle.std.proofs.lemmas.List.{take_all, take_more, map-append, length-append}
 use Rattle.std.proofs.Math.Seq.{drop-append_seam}
 use Rattle.cob_codec.specs.declared.reading.Reading.{Reading}
@@ -8,8 +8,8 @@ use Rattle.cob_layout_places.specs.declared.operands.Operand.{Operand}
 use Rattle.cob_layout_places.specs.declared.operands.PairMoves.{PairMoves}
 use Rattle.cob_layout_places.specs.declared.operands.StatementMoves.{StatementMoves}
 use Rattle.cob_layout_places.specs.Moves.{Move, Records, Sender, moves_by, numbered_move_by, operand_in, statement_moves_by}
-use Rattle.cob_move_apply.specs.Placed.{IsPlacedMove}
-use Rattle.cob_move_apply.specs.Steps.{AreMovesCut, AreSteps, BeginsWith, CarriesLocated, Gains, GainsCut, IsMoveOfPart, IsPicturedMove, IsReadyAnywhere, IsStep, StandFor, Support, alone, copied_move, pair_at, singles, support_of}
+use Rattle.cob_move_apply.specs.Placed.{IsPlaced, IsPlacedMove}
+use Rattle.cob_move_apply.specs.Steps.{AreMovesCut, AreSteps, BeginsWith, CarriesLocated, Gains, GainsCut, IsMoveOfPart, IsOfConstant, IsPicturedMove, IsReadyAnywhere, IsReadyConstant, IsStep, StandFor, Support, WritesFor, alone, constant_move, copied_move, pair_at, singles, support_of}
 use Rattle.cob_copybook_tree.specs.declared.node.Kind.{Kind}
 use Rattle.cob_entry.specs.Described.{PlainValue}
 use Rattle.cob_move_prepared.specs.Copies.{IsConstantStep}
@@ -23,6 +23,7 @@ use Rattle.cob_move_prepared.specs.declared.pool.MoveSteps.{MoveSteps}
 use Rattle.cob_move_apply.specs.Written.{IsFixedConstant}
 use Rattle.cob_move_apply.specs.declared.basis.Basis.{Basis}
 use Rattle.cob_move_apply.specs.declared.step.ConstantMove.{ConstantMove}
+use Rattle.cob_move_apply.specs.declared.step.LocatedConstant.{LocatedConstant}
 use Rattle.cob_move_apply.specs.declared.step.LocatedMove.{LocatedMove}
 use Rattle.cob_move_apply.specs.declared.step.LocatedStep.{LocatedStep}
 use Rattle.cob_move_apply.specs.declared.step.LocatedStep.TheVariants as located_step
@@ -66,6 +67,7 @@ pub record Grows (a b : Support) : Type 0 where
   pub pictured : KeepsPictured a.pictured b.pictured
   pub constants : IsLonger ConstantStep a.constants b.constants
   pub located : IsLonger LocatedMove a.located b.located
+  pub located_constants : IsLonger LocatedConstant a.located_constants b.located_constants
 
 -- what is meant of a step is more
 step_as : (T : Type 0) (holds also : T → Type 0) (steps : List T) (n : ℕ) → ((s : T) → holds s → also s) → IsStepAt T holds steps n → IsStepAt T also steps n
@@ -87,6 +89,13 @@ ready_still r a b p more ready = record {
   carries = carries_still a.prepared b.prepared a.pictured b.pictured (operand_in r.input p.sent).kind (operand_in r.output p.receiver).kind p.step more.prepared more.pictured ready.carries;
 }
 
+-- the move of a constant that was, where what writes constants became more
+constant_still : (r : Records) (a b : Support) (constant : PlainValue) (p : LocatedConstant) → Grows a b → IsReadyConstant r a.constants constant p → IsReadyConstant r b.constants constant p
+constant_still r a b constant p more ready = record {
+  receives = ready.receives;
+  writes = kept_at ConstantStep (WritesFor constant (operand_in r.output p.receiver).kind) a.constants b.constants p.number more.constants ready.writes;
+}
+
 step_still : (x : Reading) (r : Records) (given : List StatementMoves) (a b : Support) (s : Step) (own : List Move) → Grows a b → IsStep x r given a s own → IsStep x r given b s own
 step_still x r given a b (step.Part p) own more (m, is, part) =
     (m, is, subst (λ (bs : List Basis). IsMoveOfPart x r given bs p m) (sym more.bases) (part_still x r given a.bases more.more p m part))
@@ -95,6 +104,7 @@ step_still x r given a b (step.Wide p) own more (k, is, fixed) = (k, more.prepar
 step_still x r given a b (step.AnyNumber p) own more (k, is, fixed) = (k, more.prepared k (move_step.AnyNumber p.number) is, fixed)
 step_still x r given a b (step.Edited p) own more (k, is, fixed) = (k, more.prepared k (move_step.Edited p.number) is, fixed)
 step_still x r given a b (step.Characters p) own more (k, is, fixed) = (k, more.prepared k (move_step.Characters p.step) is, fixed)
+step_still x r given a b (step.Prepared p) own more (k, is, fixed) = (k, more.prepared k p.step is, fixed)
 step_still x r given a b (step.Pictured q p) own more (m, is, (part, so)) = (
   m,
   is,
@@ -109,6 +119,10 @@ step_still x r given a b (step.Located number) own more is =
     step_as LocatedMove (λ p. IsReadyAnywhere r a.prepared a.pictured p × (own ≡ copied_move x r p.sent p.receiver ∷ [])) (λ p. IsReadyAnywhere r b.prepared b.pictured p × (own ≡ copied_move x r p.sent p.receiver ∷ [])) b.located number
     (λ p (ready, same). (ready_still r a b p more ready, same))
     (kept_at LocatedMove (λ p. IsReadyAnywhere r a.prepared a.pictured p × (own ≡ copied_move x r p.sent p.receiver ∷ [])) a.located b.located number more.located is)
+step_still x r given a b (step.LocatedConstant number) own more is =
+    step_as LocatedConstant (IsOfConstant r a.constants own) (IsOfConstant r b.constants own) b.located_constants number
+    (λ p (constant, ready, same). (constant, constant_still r a b constant p more ready, same))
+    (kept_at LocatedConstant (IsOfConstant r a.constants own) a.located_constants b.located_constants number more.located_constants is)
 step_still x r given a b (step.Copy places) own more h = h
 
 steps_still : (x : Reading) (r : Records) (given : List StatementMoves) (a b : Support) (ss : List Step) (parts : List Move) → Grows a b
@@ -160,43 +174,55 @@ by_more x r given a b old new s parts own more is one are =
     (step_behind x r given b old s parts own (steps_still x r given a b old parts more are) one)
 
 -- a part behind steps, whose bases are put behind the bases
-pub by_part : (x : Reading) (r : Records) (given : List StatementMoves) (prepared : MoveSteps) (pictured : PicturedSteps) (constants : List ConstantStep) (located : List LocatedMove) (old_bases new_bases own : List Basis) (old new : List Step) (p : Part) (m : Move) (parts : List Move)
+pub by_part : (x : Reading) (r : Records) (given : List StatementMoves) (prepared : MoveSteps) (pictured : PicturedSteps) (constants : List ConstantStep) (located : List LocatedMove) (located_constants : List LocatedConstant) (old_bases new_bases own : List Basis) (old new : List Step) (p : Part) (m : Move) (parts : List Move)
     → new_bases ≡ old_bases ++ own → new ≡ old ++ step.Part p ∷ [] → IsMoveOfPart x r given (old_bases ++ own) p m
-    → AreSteps x r given (record { bases = old_bases; prepared = prepared; pictured = pictured; constants = constants; located = located }) old parts
-    → AreSteps x r given (record { bases = new_bases; prepared = prepared; pictured = pictured; constants = constants; located = located }) new (parts ++ m ∷ [])
-by_part x r given prepared pictured constants located old_bases new_bases own old new p m parts grown is part are =
-    by_more x r given (record { bases = old_bases; prepared = prepared; pictured = pictured; constants = constants; located = located }) (record { bases = new_bases; prepared = prepared; pictured = pictured; constants = constants; located = located }) old new (step.Part p) parts (m ∷ [])
-    (record { more = own; bases = grown; prepared = λ k t h. h; pictured = λ k t h. h; constants = as_before ConstantStep constants; located = as_before LocatedMove located }) is (m, refl, subst (λ (bs : List Basis). IsMoveOfPart x r given bs p m) (sym grown) part) are
+    → AreSteps x r given (record { bases = old_bases; prepared = prepared; pictured = pictured; constants = constants; located = located; located_constants = located_constants }) old parts
+    → AreSteps x r given (record { bases = new_bases; prepared = prepared; pictured = pictured; constants = constants; located = located; located_constants = located_constants }) new (parts ++ m ∷ [])
+by_part x r given prepared pictured constants located located_constants old_bases new_bases own old new p m parts grown is part are =
+    by_more x r given (record { bases = old_bases; prepared = prepared; pictured = pictured; constants = constants; located = located; located_constants = located_constants }) (record { bases = new_bases; prepared = prepared; pictured = pictured; constants = constants; located = located; located_constants = located_constants }) old new (step.Part p) parts (m ∷ [])
+    (record { more = own; bases = grown; prepared = λ k t h. h; pictured = λ k t h. h; constants = as_before ConstantStep constants; located = as_before LocatedMove located; located_constants = as_before LocatedConstant located_constants }) is (m, refl, subst (λ (bs : List Basis). IsMoveOfPart x r given bs p m) (sym grown) part) are
 
 -- the same, where the part was made ready for senders that are read as their pictures say
-pub by_pictured : (x : Reading) (r : Records) (given : List StatementMoves) (prepared : MoveSteps) (pictured : PicturedSteps) (constants : List ConstantStep) (located : List LocatedMove) (old_bases new_bases own : List Basis) (old new : List Step) (q : PicturedMove) (p : Part) (m : Move)
+pub by_pictured : (x : Reading) (r : Records) (given : List StatementMoves) (prepared : MoveSteps) (pictured : PicturedSteps) (constants : List ConstantStep) (located : List LocatedMove) (located_constants : List LocatedConstant) (old_bases new_bases own : List Basis) (old new : List Step) (q : PicturedMove) (p : Part) (m : Move)
     (parts : List Move) → new_bases ≡ old_bases ++ own → new ≡ old ++ step.Pictured q p ∷ [] → IsMoveOfPart x r given (old_bases ++ own) p m → (x ≡ Pictured → IsPicturedMove r pictured q (m ∷ []))
-    → AreSteps x r given (record { bases = old_bases; prepared = prepared; pictured = pictured; constants = constants; located = located }) old parts
-    → AreSteps x r given (record { bases = new_bases; prepared = prepared; pictured = pictured; constants = constants; located = located }) new (parts ++ m ∷ [])
-by_pictured x r given prepared pictured constants located old_bases new_bases own old new q p m parts grown is part so are =
-    by_more x r given (record { bases = old_bases; prepared = prepared; pictured = pictured; constants = constants; located = located }) (record { bases = new_bases; prepared = prepared; pictured = pictured; constants = constants; located = located }) old new (step.Pictured q p) parts (m ∷ [])
-    (record { more = own; bases = grown; prepared = λ k t h. h; pictured = λ k t h. h; constants = as_before ConstantStep constants; located = as_before LocatedMove located }) is
+    → AreSteps x r given (record { bases = old_bases; prepared = prepared; pictured = pictured; constants = constants; located = located; located_constants = located_constants }) old parts
+    → AreSteps x r given (record { bases = new_bases; prepared = prepared; pictured = pictured; constants = constants; located = located; located_constants = located_constants }) new (parts ++ m ∷ [])
+by_pictured x r given prepared pictured constants located located_constants old_bases new_bases own old new q p m parts grown is part so are =
+    by_more x r given (record { bases = old_bases; prepared = prepared; pictured = pictured; constants = constants; located = located; located_constants = located_constants }) (record { bases = new_bases; prepared = prepared; pictured = pictured; constants = constants; located = located; located_constants = located_constants }) old new (step.Pictured q p) parts (m ∷ [])
+    (record { more = own; bases = grown; prepared = λ k t h. h; pictured = λ k t h. h; constants = as_before ConstantStep constants; located = as_before LocatedMove located; located_constants = as_before LocatedConstant located_constants }) is
     (m, refl, (subst (λ (bs : List Basis). IsMoveOfPart x r given bs p m) (sym grown) part, so)) are
 
 -- the move of a constant that was made ready behind steps
-pub by_constant : (x : Reading) (r : Records) (given : List StatementMoves) (bases : List Basis) (prepared : MoveSteps) (pictured : PicturedSteps) (located : List LocatedMove) (before now : List ConstantStep) (written : ConstantStep) (old new : List Step)
+pub by_constant : (x : Reading) (r : Records) (given : List StatementMoves) (bases : List Basis) (prepared : MoveSteps) (pictured : PicturedSteps) (located : List LocatedMove) (located_constants : List LocatedConstant) (before now : List ConstantStep) (written : ConstantStep) (old new : List Step)
     (c : ConstantMove) (constant : PlainValue) (to : Kind) (parts own : List Move) → now ≡ before ++ written ∷ [] → c.number ≡ length before → IsConstantStep constant to c.to.length written → IsFixedConstant r c.to constant to own
-    → new ≡ old ++ step.Constant c ∷ [] → AreSteps x r given (record { bases = bases; prepared = prepared; pictured = pictured; constants = before; located = located }) old parts
-    → AreSteps x r given (record { bases = bases; prepared = prepared; pictured = pictured; constants = now; located = located }) new (parts ++ own)
-by_constant x r given bases prepared pictured located before now written old new c constant to parts own grown here writes fixed is are =
-    by_more x r given (record { bases = bases; prepared = prepared; pictured = pictured; constants = before; located = located }) (record { bases = bases; prepared = prepared; pictured = pictured; constants = now; located = located }) old new (step.Constant c) parts own
-    (record { more = []; bases = sym (append-nil bases); prepared = λ k t h. h; pictured = λ k t h. h; constants = (written ∷ [], grown); located = as_before LocatedMove located }) is
+    → new ≡ old ++ step.Constant c ∷ [] → AreSteps x r given (record { bases = bases; prepared = prepared; pictured = pictured; constants = before; located = located; located_constants = located_constants }) old parts
+    → AreSteps x r given (record { bases = bases; prepared = prepared; pictured = pictured; constants = now; located = located; located_constants = located_constants }) new (parts ++ own)
+by_constant x r given bases prepared pictured located located_constants before now written old new c constant to parts own grown here writes fixed is are =
+    by_more x r given (record { bases = bases; prepared = prepared; pictured = pictured; constants = before; located = located; located_constants = located_constants }) (record { bases = bases; prepared = prepared; pictured = pictured; constants = now; located = located; located_constants = located_constants }) old new (step.Constant c) parts own
+    (record { more = []; bases = sym (append-nil bases); prepared = λ k t h. h; pictured = λ k t h. h; constants = (written ∷ [], grown); located = as_before LocatedMove located; located_constants = as_before LocatedConstant located_constants }) is
     (constant, to, put_at ConstantStep (λ step. IsConstantStep constant to c.to.length step) before now written c.number grown here writes, fixed) are
 
 -- a move that was made ready wherever its items stand behind steps
-pub by_located : (x : Reading) (r : Records) (given : List StatementMoves) (bases : List Basis) (prepared : MoveSteps) (pictured : PicturedSteps) (constants : List ConstantStep) (before now : List LocatedMove) (one : LocatedMove) (old new : List Step)
+pub by_located : (x : Reading) (r : Records) (given : List StatementMoves) (bases : List Basis) (prepared : MoveSteps) (pictured : PicturedSteps) (constants : List ConstantStep) (located_constants : List LocatedConstant) (before now : List LocatedMove) (one : LocatedMove) (old new : List Step)
     (number : ℕ) (parts own : List Move) → now ≡ before ++ one ∷ [] → number ≡ length before → IsReadyAnywhere r prepared pictured one → own ≡ copied_move x r one.sent one.receiver ∷ []
-    → new ≡ old ++ step.Located number ∷ [] → AreSteps x r given (record { bases = bases; prepared = prepared; pictured = pictured; constants = constants; located = before }) old parts
-    → AreSteps x r given (record { bases = bases; prepared = prepared; pictured = pictured; constants = constants; located = now }) new (parts ++ own)
-by_located x r given bases prepared pictured constants before now one old new number parts own grown here ready same is are =
-    by_more x r given (record { bases = bases; prepared = prepared; pictured = pictured; constants = constants; located = before }) (record { bases = bases; prepared = prepared; pictured = pictured; constants = constants; located = now }) old new (step.Located number) parts own
-    (record { more = []; bases = sym (append-nil bases); prepared = λ k t h. h; pictured = λ k t h. h; constants = as_before ConstantStep constants; located = (one ∷ [], grown) }) is
+    → new ≡ old ++ step.Located number ∷ [] → AreSteps x r given (record { bases = bases; prepared = prepared; pictured = pictured; constants = constants; located = before; located_constants = located_constants }) old parts
+    → AreSteps x r given (record { bases = bases; prepared = prepared; pictured = pictured; constants = constants; located = now; located_constants = located_constants }) new (parts ++ own)
+by_located x r given bases prepared pictured constants located_constants before now one old new number parts own grown here ready same is are =
+    by_more x r given (record { bases = bases; prepared = prepared; pictured = pictured; constants = constants; located = before; located_constants = located_constants }) (record { bases = bases; prepared = prepared; pictured = pictured; constants = constants; located = now; located_constants = located_constants }) old new (step.Located number) parts own
+    (record { more = []; bases = sym (append-nil bases); prepared = λ k t h. h; pictured = λ k t h. h; constants = as_before ConstantStep constants; located = (one ∷ [], grown); located_constants = as_before LocatedConstant located_constants }) is
     (put_at LocatedMove (λ p. IsReadyAnywhere r prepared pictured p × (own ≡ copied_move x r p.sent p.receiver ∷ [])) before now one number grown here (ready, same)) are
+
+-- the move of a constant that was made ready wherever its receiver stands behind steps
+pub by_located_constant : (x : Reading) (r : Records) (given : List StatementMoves) (bases : List Basis) (prepared : MoveSteps) (pictured : PicturedSteps) (located : List LocatedMove) (few many : List ConstantStep) (written : ConstantStep)
+    (before now : List LocatedConstant) (one : LocatedConstant) (constant : PlainValue) (old new : List Step) (number : ℕ) (parts own : List Move) → many ≡ few ++ written ∷ [] → one.number ≡ length few → now ≡ before ++ one ∷ [] → number ≡ length before
+    → IsPlaced r.output true (operand_in r.output one.receiver) one.to → WritesFor constant (operand_in r.output one.receiver).kind written → own ≡ constant_move r constant one.receiver ∷ []
+    → new ≡ old ++ step.LocatedConstant number ∷ [] → AreSteps x r given (record { bases = bases; prepared = prepared; pictured = pictured; constants = few; located = located; located_constants = before }) old parts
+    → AreSteps x r given (record { bases = bases; prepared = prepared; pictured = pictured; constants = many; located = located; located_constants = now }) new (parts ++ own)
+by_located_constant x r given bases prepared pictured located few many written before now one constant old new number parts own longer there grown here placed writes same is are =
+    by_more x r given (record { bases = bases; prepared = prepared; pictured = pictured; constants = few; located = located; located_constants = before }) (record { bases = bases; prepared = prepared; pictured = pictured; constants = many; located = located; located_constants = now }) old new (step.LocatedConstant number) parts own
+    (record { more = []; bases = sym (append-nil bases); prepared = λ k t h. h; pictured = λ k t h. h; constants = (written ∷ [], longer); located = as_before LocatedMove located; located_constants = (one ∷ [], grown) }) is
+    (put_at LocatedConstant (IsOfConstant r many own) before now one number grown here
+    (constant, record { receives = placed; writes = put_at ConstantStep (WritesFor constant (operand_in r.output one.receiver).kind) few many written one.number longer there writes }, same)) are
 
 -- the bases that were put behind others begin there
 pub begin_there : (r : Records) (m : Move) (old own : List Basis) (n : ℕ) → n ≡ length old → IsPlacedMove r m own → BeginsWith r m (drop n (old ++ own))
@@ -217,18 +243,18 @@ gains_as x r given ms ns a b is f = subst (λ (xs : List Move). Gains x r given 
 
 -- steps that were made ready came to what steps rest on
 pub gains_more : (x : Reading) (r : Records) (given : List StatementMoves) (ms : List Move) (a b c : Plan) → b.steps.items ≡ a.steps.items → b.bases.items ≡ a.bases.items → KeepsSteps a.prepared b.prepared
-    → KeepsPictured a.pictured b.pictured → b.constants.items ≡ a.constants.items → b.located.items ≡ a.located.items → Gains x r given ms b c → Gains x r given ms a c
-gains_more x r given ms a b c same bases kept pictured constants located g parts are =
+    → KeepsPictured a.pictured b.pictured → b.constants.items ≡ a.constants.items → b.located.items ≡ a.located.items → b.located_constants.items ≡ a.located_constants.items → Gains x r given ms b c → Gains x r given ms a c
+gains_more x r given ms a b c same bases kept pictured constants located located_constants g parts are =
     g parts (subst (λ (ss : List Step). AreSteps x r given (support_of b) ss parts) (sym same)
-    (steps_still x r given (support_of a) (support_of b) a.steps.items parts (record { more = []; bases = bases ∙ sym (append-nil a.bases.items); prepared = kept; pictured = pictured; constants = ([], constants ∙ sym (append-nil a.constants.items)); located = ([], located ∙ sym (append-nil a.located.items)) }) are))
+    (steps_still x r given (support_of a) (support_of b) a.steps.items parts (record { more = []; bases = bases ∙ sym (append-nil a.bases.items); prepared = kept; pictured = pictured; constants = ([], constants ∙ sym (append-nil a.constants.items)); located = ([], located ∙ sym (append-nil a.located.items)); located_constants = ([], located_constants ∙ sym (append-nil a.located_constants.items)) }) are))
 
 -- a single move that was made ready behind steps
-pub by_prepared : (x : Reading) (r : Records) (given : List StatementMoves) (bases : List Basis) (pictured : PicturedSteps) (constants : List ConstantStep) (located : List LocatedMove) (before now : MoveSteps) (old new : List Step) (s : Step) (parts own : List Move)
-    → KeepsSteps before now → new ≡ old ++ s ∷ [] → IsStep x r given (record { bases = bases; prepared = now; pictured = pictured; constants = constants; located = located }) s own
-    → AreSteps x r given (record { bases = bases; prepared = before; pictured = pictured; constants = constants; located = located }) old parts → AreSteps x r given (record { bases = bases; prepared = now; pictured = pictured; constants = constants; located = located }) new (parts ++ own)
-by_prepared x r given bases pictured constants located before now old new s parts own kept is made are =
-    by_more x r given (record { bases = bases; prepared = before; pictured = pictured; constants = constants; located = located }) (record { bases = bases; prepared = now; pictured = pictured; constants = constants; located = located }) old new s parts own
-    (record { more = []; bases = sym (append-nil bases); prepared = kept; pictured = λ k t h. h; constants = as_before ConstantStep constants; located = as_before LocatedMove located }) is made are
+pub by_prepared : (x : Reading) (r : Records) (given : List StatementMoves) (bases : List Basis) (pictured : PicturedSteps) (constants : List ConstantStep) (located : List LocatedMove) (located_constants : List LocatedConstant) (before now : MoveSteps) (old new : List Step) (s : Step) (parts own : List Move)
+    → KeepsSteps before now → new ≡ old ++ s ∷ [] → IsStep x r given (record { bases = bases; prepared = now; pictured = pictured; constants = constants; located = located; located_constants = located_constants }) s own
+    → AreSteps x r given (record { bases = bases; prepared = before; pictured = pictured; constants = constants; located = located; located_constants = located_constants }) old parts → AreSteps x r given (record { bases = bases; prepared = now; pictured = pictured; constants = constants; located = located; located_constants = located_constants }) new (parts ++ own)
+by_prepared x r given bases pictured constants located located_constants before now old new s parts own kept is made are =
+    by_more x r given (record { bases = bases; prepared = before; pictured = pictured; constants = constants; located = located; located_constants = located_constants }) (record { bases = bases; prepared = now; pictured = pictured; constants = constants; located = located; located_constants = located_constants }) old new s parts own
+    (record { more = []; bases = sym (append-nil bases); prepared = kept; pictured = λ k t h. h; constants = as_before ConstantStep constants; located = as_before LocatedMove located; located_constants = as_before LocatedConstant located_constants }) is made are
 
 singles_next : (s : Sender) (os : List Operand) (i : ℕ) (o : Operand) → i < length os → o ≡ get_or os i o → singles s (take i os) ++ alone s o ∷ [] ≡ singles s (take (i + 1) os)
 singles_next s os i o lt is =

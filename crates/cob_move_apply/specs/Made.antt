@@ -2,6 +2,7 @@
 use Rattle.std.specs.Prelude.{◌≡◌, ℕ, ◌+◌, ◌≤◌, false, true, List, length, Ok, Option, Some}
 use Rattle.cob_copybook_tree.specs.declared.node.Kind.{Kind}
 use Rattle.cob_entry.specs.Described.{PlainValue}
+use Rattle.cob_layout.specs.declared.fields.Place.{Place}
 use Rattle.cob_layout.specs.Fields.{with_field}
 use Rattle.cob_layout.specs.Storage.{greatest_length}
 use Rattle.cob_layout_places.specs.declared.operands.Side.TheVariants.{In, Out}
@@ -19,6 +20,7 @@ use Rattle.cob_move_apply.specs.Located.{Located}
 use Rattle.cob_move_apply.specs.Steps.{IsConstantAt}
 use Rattle.cob_move_apply.specs.Written.{HasPlaces, IsReceivedFrom, IsReceivedPicturedFrom, received_at}
 use Rattle.cob_move_apply.specs.declared.step.ConstantMove.{ConstantMove}
+use Rattle.cob_move_apply.specs.declared.step.LocatedConstant.{LocatedConstant}
 use Rattle.cob_move_apply.specs.declared.step.LocatedMove.{LocatedMove}
 use Rattle.cob_move_apply.specs.declared.step.MovePlaces.{MovePlaces}
 use Rattle.cob_move_apply.specs.declared.step.PicturedMove.{PicturedMove}
@@ -50,3 +52,9 @@ pub record StandAt (r : Records) (one : LocatedMove) (input before : List ℕ) (
   pub receives : Located Out r.output true (operand_in r.output one.receiver) before (Ok p.to)
   pub within : p.to.offset + p.to.length ≤ greatest_length r.output
   pub received : Occupies (operand_in r.output one.receiver).kind p.to.length
+
+-- The receiver of a constant stands there: within the output record's storage, with all its bytes.
+pub record ReceivesAt (r : Records) (one : LocatedConstant) (before : List ℕ) (to : Place) : Type 0 where
+  pub receives : Located Out r.output true (operand_in r.output one.receiver) before (Ok to)
+  pub within : to.offset + to.length ≤ greatest_length r.output
+  pub received : Occupies (operand_in r.output one.receiver).kind to.length

@@ -15,7 +15,8 @@ use Rattle.cob_layout_places.specs.declared.operands.StatementMoves.{StatementMo
 use Rattle.cob_layout_places.specs.declared.reference.Ref.{Ref}
 use Rattle.cob_layout_places.specs.Moves.{Literal, IsMove, Move, Records, numbered_move_by, operand_in, sender, sender_by}
 use Rattle.cob_move_apply.specs.Joined.{CopyEnds, copies_of, copy_ends, last_end, neither_varies, steps_behind}
-use Rattle.cob_move_apply.specs.Steps.{Gains, GainsCut, HasPart, IsPicturedMove, IsPreparedMove, IsReadyAnywhere, alone, copied_move, pair_at, part_of}
+use Rattle.cob_move_apply.specs.Steps.{Gains, GainsCut, HasPart, IsPicturedMove, IsPreparedMove, IsReadyAnywhere, WritesFor, alone, constant_move, copied_move, pair_at, part_of}
+use Rattle.cob_move_apply.specs.Placed.{IsPlaced}
 use Rattle.cob_move_apply.specs.Written.{AreCopied, IsFixedConstant}
 use Rattle.cob_move_prepared.specs.Copies.{IsConstantStep}
 use Rattle.cob_move_apply.specs.declared.step.Plan.{Plan}
@@ -29,6 +30,7 @@ use Rattle.cob_move_apply.specs.declared.step.Step.{Step}
 use Rattle.cob_move_apply.specs.declared.step.Step.TheVariants as step
 use Rattle.cob_move_apply.specs.declared.planning.Between.{Between}
 use Rattle.cob_move_apply.specs.declared.ready.ReadyConstant.{ReadyConstant}
+use Rattle.cob_move_apply.specs.declared.ready.ReadyLocatedConstant.{ReadyLocatedConstant}
 use Rattle.cob_move_apply.specs.declared.planning.StatementPart.{StatementPart}
 
 -- the records that a plan is made between
@@ -77,9 +79,11 @@ step_count (step.Wide p) = 1
 step_count (step.AnyNumber p) = 1
 step_count (step.Edited p) = 1
 step_count (step.Characters p) = 1
+step_count (step.Prepared p) = 1
 step_count (step.Pictured q p) = 1
 step_count (step.Constant c) = 1
 step_count (step.Located number) = 1
+step_count (step.LocatedConstant number) = 1
 step_count (step.Copy c) = 1
 
 -- for how many these are
@@ -95,9 +99,11 @@ step_ends (step.Wide p) = None
 step_ends (step.AnyNumber p) = None
 step_ends (step.Edited p) = None
 step_ends (step.Characters p) = None
+step_ends (step.Prepared p) = None
 step_ends (step.Pictured q p) = None
 step_ends (step.Constant c) = None
 step_ends (step.Located number) = None
+step_ends (step.LocatedConstant number) = None
 step_ends (step.Copy c) = Some (copy_ends c)
 
 -- where the last of these steps ends, if it is a copy
@@ -174,3 +180,8 @@ AlwaysLocated r steps pictured p ms = IsReadyAnywhere r steps pictured p × ((re
 abbrev pub IsReady : Records → ReadyConstant → (Reading → List Move) → Type 0
 IsReady r one ms = (constant : PlainValue) × (to : Kind) × IsConstantStep constant to one.to.length one.step
     × ((reading : Reading) → IsFixedConstant r one.to constant to (ms reading))
+
+-- Whatever the reading, moves are a single one of a constant that was made ready so wherever its receiver stands.
+abbrev pub AlwaysLocatedConstant : Records → ReadyLocatedConstant → (Reading → List Move) → Type 0
+AlwaysLocatedConstant r one ms = (constant : PlainValue) × IsPlaced r.output true (operand_in r.output one.receiver) one.to
+    × WritesFor constant (operand_in r.output one.receiver).kind one.step × ((reading : Reading) → ms reading ≡ constant_move r constant one.receiver ∷ [])

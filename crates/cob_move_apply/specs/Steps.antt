@@ -27,6 +27,7 @@ use Rattle.cob_move_prepared.specs.declared.pool.MoveStep.TheVariants as move_st
 use Rattle.cob_move_prepared.specs.declared.pool.MoveSteps.{MoveSteps}
 use Rattle.cob_move_apply.specs.declared.basis.Basis.{Basis}
 use Rattle.cob_move_apply.specs.declared.step.ConstantMove.{ConstantMove}
+use Rattle.cob_move_apply.specs.declared.step.LocatedConstant.{LocatedConstant}
 use Rattle.cob_move_apply.specs.declared.step.LocatedMove.{LocatedMove}
 use Rattle.cob_move_apply.specs.declared.step.LocatedStep.{LocatedStep}
 use Rattle.cob_move_apply.specs.declared.step.LocatedStep.TheVariants as located_step
@@ -45,6 +46,10 @@ alone s o = record { sender = s; receivers = o ∷ [] }
 -- the move of an entry of the input record to one of the output record
 abbrev pub copied_move : Reading → Records → Ref → Ref → Move
 copied_move reading r sent receiver = alone (Entry In reading (operand_in r.input sent)) (operand_in r.output receiver)
+
+-- the move of a constant to an entry of the output record
+abbrev pub constant_move : Records → PlainValue → Ref → Move
+constant_move r constant receiver = alone (Literal constant) (operand_in r.output receiver)
 
 -- the pair of two groups with this number
 abbrev pub pair_at : PairMoves → ℕ → NumberedPair
@@ -80,17 +85,18 @@ pub record IsMoveOfPart (reading : Reading) (r : Records) (given : List Statemen
   pub placed : BeginsWith r m (drop p.base bases)
 
 -- what steps rest on: the bases of the operands of parts, and the single moves that were made ready, whatever the reading or as pictures say, and the
--- constants, and those that were made ready wherever their items stand
+-- constants, and those that were made ready wherever their items stand, of entries and of constants
 pub record Support : Type 0 where
   pub bases : List Basis
   pub prepared : MoveSteps
   pub pictured : PicturedSteps
   pub constants : List ConstantStep
   pub located : List LocatedMove
+  pub located_constants : List LocatedConstant
 
 -- what the steps of a plan rest on
 abbrev pub support_of : Plan → Support
-support_of plan = record { bases = plan.bases.items; prepared = plan.prepared; pictured = plan.pictured; constants = plan.constants.items; located = plan.located.items }
+support_of plan = record { bases = plan.bases.items; prepared = plan.prepared; pictured = plan.pictured; constants = plan.constants.items; located = plan.located.items; located_constants = plan.located_constants.items }
 
 -- these are a single move that was made ready so, by one of these steps
 abbrev pub IsPreparedMove : Reading → Records → MoveSteps → PreparedMove → List Move → Type 0
@@ -150,12 +156,33 @@ abbrev pub IsLocatedMove : Reading → Records → MoveSteps → PicturedSteps �
 IsLocatedMove reading r steps pictured located number own =
     IsStepAt LocatedMove (λ p. IsReadyAnywhere r steps pictured p × (own ≡ copied_move reading r p.sent p.receiver ∷ [])) located number
 
+-- the step writes the constant to such a receiver, whatever place it fills
+abbrev pub WritesFor : PlainValue → Kind → ConstantStep → Type 0
+WritesFor constant to step = (size : ℕ) → Occupies to size → IsConstantStep constant to size step
+
+-- what writes the constants of moves has one that does so at this number
+abbrev pub WritesAnywhere : List ConstantStep → ℕ → PlainValue → Kind → Type 0
+WritesAnywhere steps number constant to = IsStepAt ConstantStep (WritesFor constant to) steps number
+
+-- the move of a constant was made ready so: what is noted of its receiver's place is what this may rest on, and one of these writes it wherever that stands
+pub record IsReadyConstant (r : Records) (steps : List ConstantStep) (constant : PlainValue) (p : LocatedConstant) : Type 0 where
+  pub receives : IsPlaced r.output true (operand_in r.output p.receiver) p.to
+  pub writes : WritesAnywhere steps p.number constant (operand_in r.output p.receiver).kind
+
+-- a move is one of a constant that was made ready so
+abbrev pub IsOfConstant : Records → List ConstantStep → List Move → LocatedConstant → Type 0
+IsOfConstant r steps own p = (constant : PlainValue) × IsReadyConstant r steps constant p × (own ≡ constant_move r constant p.receiver ∷ [])
+
+-- these are the single move of a constant with this number among some that were made ready wherever their receivers stand, written by one of these
+abbrev pub IsLocatedConstant : Records → List ConstantStep → List LocatedConstant → ℕ → List Move → Type 0
+IsLocatedConstant r steps located number own = IsStepAt LocatedConstant (IsOfConstant r steps own) located number
+
 -- the move that the step of this number, of a kind, carries out
 abbrev pub numbered : (ℕ → MoveStep) → NumberedMove → PreparedMove
 numbered kind p = record { places = p.places; step = kind p.number }
 
--- a step stands for these moves: for one part, for a single move that was made ready, whatever the reading or as pictures say, or of a constant, or
--- wherever its items stand, or for those that are a copy
+-- a step stands for these moves: for one part, for a single move that was made ready, of one of the kinds that have a step of their own or of another kind,
+-- whatever the reading or as pictures say, or of a constant, or wherever its items stand, of an entry or of a constant, or for those that are a copy
 abbrev pub IsStep : Reading → Records → List StatementMoves → Support → Step → List Move → Type 0
 IsStep reading r given on (step.Part p) own = (m : Move) × (own ≡ m ∷ []) × IsMoveOfPart reading r given on.bases p m
 IsStep reading r given on (step.Number p) own = IsPreparedMove reading r on.prepared (numbered move_step.Number p) own
@@ -163,9 +190,11 @@ IsStep reading r given on (step.Wide p) own = IsPreparedMove reading r on.prepar
 IsStep reading r given on (step.AnyNumber p) own = IsPreparedMove reading r on.prepared (numbered move_step.AnyNumber p) own
 IsStep reading r given on (step.Edited p) own = IsPreparedMove reading r on.prepared (numbered move_step.Edited p) own
 IsStep reading r given on (step.Characters p) own = IsPreparedMove reading r on.prepared (record { places = p.places; step = move_step.Characters p.step }) own
+IsStep reading r given on (step.Prepared p) own = IsPreparedMove reading r on.prepared p own
 IsStep reading r given on (step.Pictured q p) own = (m : Move) × (own ≡ m ∷ []) × IsPicturedPart reading r given on.bases on.pictured q p m
 IsStep reading r given on (step.Constant c) own = IsConstantMove r on.constants c own
 IsStep reading r given on (step.Located number) own = IsLocatedMove reading r on.prepared on.pictured on.located number own
+IsStep reading r given on (step.LocatedConstant number) own = IsLocatedConstant r on.constants on.located_constants number own
 IsStep reading r given on (step.Copy places) own = AreCopied r places.from places.to own
 
 -- steps stand for these moves, one step's behind another's

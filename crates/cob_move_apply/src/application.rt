@@ -15,7 +15,7 @@ ghost use Rattle.cob_move_apply.specs.Steps.{IsMoveOfPart, IsPicturedPart, IsPre
 ghost use Rattle.cob_move_apply.specs.Surveyed.{HasSpace, IsWorkspace, records};
 
 use crate::basis::{Basis, PlacedReceivers};
-use crate::constant::make_constant;
+use crate::constant::{make_constant, make_located_constant, run_located_constant};
 use crate::layouts::Layouts;
 use crate::located::{make_located, run_located};
 use crate::pairs::make_pair_move;
@@ -253,6 +253,9 @@ fn make_step(
             let step = MoveStep::Characters(one.step);
             make_one(plan, &one.places, step, layouts, input, output, space)
         }
+        Step::Prepared(one) => {
+            make_one(plan, &one.places, one.step, layouts, input, output, space)
+        }
         Step::Pictured(one, part) => {
             make_pictured(given, plan, *one, part, layouts, input, output, space)
         }
@@ -261,6 +264,9 @@ fn make_step(
             Ok(())
         }
         Step::Located(number) => make_located(plan, *number, layouts, input, output, space),
+        Step::LocatedConstant(number) => {
+            make_located_constant(plan, *number, layouts, input, output, space)
+        }
         Step::Copy(places) => {
             copy_across(*places, input, output);
             Ok(())
@@ -298,10 +304,13 @@ fn run_at_once(
     ensures same { result ≡ false → (output.new ≡ output.old)
         × IsSpent layouts.now.output.now 0 space.old.output space.new.output }
 {
-    if let Step::Located(number) = step {
-        return run_located(plan, *number, layouts, input, output, space);
+    match step {
+        Step::Located(number) => run_located(plan, *number, layouts, input, output, space),
+        Step::LocatedConstant(number) => {
+            run_located_constant(plan, *number, layouts, input, output, space)
+        }
+        _ => run_step(plan, step, layouts, input, output, space),
     }
-    run_step(plan, step, layouts, input, output, space)
 }
 
 /// Carries out the steps that were made ready, one after another, as far as they go at once. The answer are the steps that are left: the first of them is

@@ -18,8 +18,10 @@
 //! places that no count decides is made ready, where cob_move_prepared has a step for it (`IsFixedMove`), whatever the reading of binary senders or where they
 //! are read as their pictures say; so is a single move of a constant to such a place (`IsFixedConstant`), and one of an entry to another where a count
 //! decides a place: an item has as many bytes wherever it stands, and characters are as many as there are, so only the two places are found as the move is
-//! carried out (`IsLocatedMove`); a part of a statement's moves is looked at as it is carried out. Only moves whose sender no receiver changes are cut into their single moves (`IsMoveCut`), so that
-//! what the steps make of a storage is what the moves make.
+//! carried out (`IsLocatedMove`), and only that of the receiver where a constant is moved to an item behind a table (`IsLocatedConstant`); a part of a
+//! statement's moves is looked at as it is carried out. Only moves whose sender no receiver changes are cut into their single moves (`IsMoveCut`), so that
+//! what the steps make of a storage is what the moves make. One jump finds what carries out a step of one of the commoner kinds; the prepared moves of all
+//! other kinds (`Prepared` of step.rt) are found by one more.
 //!
 //! A place that depends on counts is found by those that the operand needs. A count that was read is kept from move to move, and is read again only
 //! behind a receiver whose place meets the item of a kept one; [`Scratch::reads`] tells how many count items of the output record were read: at most one

@@ -25,7 +25,7 @@ ghost use Rattle.cob_layout_places.specs.declared.operands.Side.TheVariants.{In}
 ghost use Rattle.cob_layout_places.specs.declared.operands.StatementMoves.{StatementMoves as Said};
 ghost use Rattle.cob_layout_places.specs.declared.operands.StatementMoves.TheVariants.{Pairs, Single};
 ghost use Rattle.cob_move_apply.specs.Joined.{begun, copy_ends, neither_varies, plain_copy, steps_in};
-ghost use Rattle.cob_move_apply.specs.Planned.{AlwaysCopied, AlwaysGains, AlwaysGainsCut, AlwaysLocated, AlwaysMore, AreBetween, AreMore, AreWithinLongest, HasOneMore, IsPartIn, IsPictured, IsReady, IsStatementAt, records_between, counted_steps, entry_alone, last_step_ends, pair_alone, part_alone, single_alone, step_count, step_ends};
+ghost use Rattle.cob_move_apply.specs.Planned.{AlwaysCopied, AlwaysGains, AlwaysGainsCut, AlwaysLocated, AlwaysLocatedConstant, AlwaysMore, AreBetween, AreMore, AreWithinLongest, HasOneMore, IsPartIn, IsPictured, IsReady, IsStatementAt, records_between, counted_steps, entry_alone, last_step_ends, pair_alone, part_alone, single_alone, step_count, step_ends};
 ghost use Rattle.cob_move_apply.specs.Steps.{AreSteps, Gains, GainsCut, IsSteady, IsStep, StandFor, Support, alone, pair_at, singles_of, support_of};
 ghost use Rattle.cob_move_apply.specs.Written.{AreCopied};
 ghost use Rattle.cob_move_apply.specs.declared.step.Part as code_part;
@@ -34,10 +34,13 @@ ghost use Rattle.cob_move_apply.specs.declared.step.Step.TheVariants.{Part as St
 use crate::basis::entry_kind;
 use crate::pairs::entry_below;
 use crate::preparation::push_bases;
-use crate::ready::{ReadyConstant, constant_of, located_of, pictured_of, prepared_of};
+use crate::ready::{
+    ReadyConstant, ReadyLocatedConstant, constant_of, located_constant_of, located_of, pictured_of,
+    prepared_of,
+};
 use crate::step::{
-    ConstantMove, LocatedMove, MovePlaces, PicturedMove, Plan, Step, both_copies, part_of,
-    prepared_step,
+    ConstantMove, LocatedConstant, LocatedMove, MovePlaces, PicturedMove, Plan, Step, both_copies,
+    part_of, prepared_step,
 };
 use cob_layout::{Layout, Ref, places_lie_in_storage, records_are_sound, tables};
 use cob_layout_places::{Move, PairMoves, Sender, Side, StatementMoves};
@@ -146,9 +149,10 @@ fn joined(last: Step, places: MovePlaces) -> Option<Step>
     ensures none { IfNone result (begun (step_ends last) (Some places) ≡ 1) }
 {
     match last {
-        Step::Part(_) | Step::Pictured(_, _) | Step::Constant(_) | Step::Located(_) => None,
+        Step::Part(_) | Step::Pictured(_, _) | Step::Constant(_) => None,
+        Step::Located(_) | Step::LocatedConstant(_) => None,
         Step::Number(_) | Step::Wide(_) | Step::AnyNumber(_) => None,
-        Step::Edited(_) | Step::Characters(_) => None,
+        Step::Edited(_) | Step::Characters(_) | Step::Prepared(_) => None,
         Step::Copy(front) => Some(Step::Copy(both_copies(front, places)?)),
     }
 }
@@ -249,6 +253,54 @@ fn push_located(one: LocatedMove, plan: &mut Plan) -> Result<(), AllocError>
     Ok(())
 }
 
+/// Puts the step of the move of a constant that was made ready wherever its receiver stands behind those so far.
+///
+/// # Errors
+///
+/// Where no memory is left.
+fn push_located_constant(one: ReadyLocatedConstant, plan: &mut Plan) -> Result<(), AllocError>
+    ensures gains { OnOk result ((reading : Reading) (r : Records) (given : List Said)
+        (ms : Reading → List Meant) → AlwaysLocatedConstant r one ms
+        → Gains reading r given (ms reading) plan.old plan.new) }
+    ensures added { OnOk result (HasOneMore plan.old.steps.items plan.new.steps.items) }
+{
+    let written = plan.constants.len();
+    let number = plan.located_constants.len();
+    plan.constants.push(one.step)?;
+    plan.located_constants.push(LocatedConstant {
+        receiver: one.receiver,
+        to: one.to,
+        number: written,
+    })?;
+    plan.steps.push(Step::LocatedConstant(number))?;
+    Ok(())
+}
+
+/// Puts the step of a single move of which no entry is sent that was made ready behind those so far: of a constant made ready wherever its receiver stands,
+/// if something carries it out then, and else as a part.
+///
+/// # Errors
+///
+/// Where no memory is left.
+fn push_last(
+    given: &[StatementMoves],
+    part: &StatementPart<'_>,
+    both: &Between<'_>,
+    plan: &mut Plan,
+) -> Result<(), AllocError>
+    requires part { IsPartIn (records_between both.now) given.now part.now }
+    requires one { length part.now.receivers.now ≡ 1 }
+    ensures gains { OnOk result (AlwaysGains both.now given.now
+        (part_alone both.now part.now) plan.old plan.new) }
+    ensures added { OnOk result (HasOneMore plan.old.steps.items plan.new.steps.items) }
+{
+    let receiver = &part.receivers[0];
+    match located_constant_of(part.sender, receiver, both)? {
+        Some(one) => push_located_constant(one, plan),
+        None => push_part(given, part, both, plan),
+    }
+}
+
 /// Puts the step of a single move whose operands have no fixed places behind those so far: made ready wherever these stand, if something carries it out
 /// then, and else as a part.
 ///
@@ -271,7 +323,7 @@ fn push_anywhere(
     let prepared = &mut plan.prepared;
     match located_of(part.sender, receiver, both, prepared, &mut plan.pictured)? {
         Some(one) => push_located(one, plan),
-        None => push_part(given, part, both, plan),
+        None => push_last(given, part, both, plan),
     }
 }
 
@@ -624,6 +676,7 @@ pub(crate) fn plan_of(
         pictured: PicturedSteps::new(alloc),
         constants: Vec::new(alloc),
         located: Vec::new(alloc),
+        located_constants: Vec::new(alloc),
     };
     for number in 0..given.len() {
         push_statement(given, number, &both, &mut plan)?;

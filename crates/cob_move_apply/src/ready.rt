@@ -1,14 +1,15 @@
 //! Single moves made ready, before a record comes.
 
 ghost use Rattle.std.specs.Prelude.{IfOk, IfSome};
+ghost use Rattle.cob_entry.specs.Described.{plain_value};
 ghost use Rattle.cob_layout.specs.Sound.{IsStorableKind};
 ghost use Rattle.cob_layout_places.specs.Moves.{IsMove, IsOperand, operand_in, sender};
-ghost use Rattle.cob_move_apply.specs.Planned.{AlwaysLocated, AlwaysPrepared, AreFixedPlaces, IsPictured, IsReady, constant_alone, entry_alone, records_between, single_alone};
-ghost use Rattle.cob_move_apply.specs.Steps.{CarriesLocated, alone};
+ghost use Rattle.cob_move_apply.specs.Planned.{AlwaysLocated, AlwaysLocatedConstant, AlwaysPrepared, AreFixedPlaces, IsPictured, IsReady, constant_alone, entry_alone, records_between, single_alone};
+ghost use Rattle.cob_move_apply.specs.Steps.{CarriesLocated, WritesFor, alone};
 ghost use Rattle.cob_move_prepared.specs.Pictured.{KeepsPictured};
 ghost use Rattle.cob_move_prepared.specs.Pool.{KeepsSteps};
 
-use crate::basis::entry_kind;
+use crate::basis::{Basis, entry_kind};
 use crate::pairs::same_entry;
 use crate::planning::Between;
 use crate::preparation::basis_of;
@@ -16,7 +17,7 @@ use crate::step::{LocatedMove, LocatedStep, MovePlaces, PicturedMove, PreparedMo
 use cob_layout::{Kind, Place, Ref, Value, places_lie_in_storage, records_are_sound};
 use cob_layout_places::{Sender, Side};
 use cob_move_prepared::{CharactersStep, ConstantStep, MoveSteps, PicturedSteps};
-use std::alloc::AllocError;
+use std::alloc::{AllocError, Global};
 
 /// To how many bytes a constant is made ready at most: of longer ones a paragraph could name more than there is memory for.
 const MOST_READY: u32 = 64;
@@ -25,6 +26,15 @@ const MOST_READY: u32 = 64;
 #[derive(Drop)]
 pub(crate) struct ReadyConstant {
     pub(crate) to: Place,
+    pub(crate) step: ConstantStep,
+}
+
+/// The single move of a constant to an item of the output record, made ready wherever this stands.
+#[derive(Drop)]
+pub(crate) struct ReadyLocatedConstant {
+    pub(crate) receiver: Ref,
+    /// What the place of the receiver rests on.
+    pub(crate) to: Basis,
     pub(crate) step: ConstantStep,
 }
 
@@ -327,5 +337,83 @@ pub(crate) fn constant_of(
     match given {
         Sender::Entry { .. } => Ok(None),
         Sender::Constant(value) => ready_constant(value, receiver, both),
+    }
+}
+
+/// What writes a constant to an item, whose bytes are as many wherever it stands; None for a group, which has those of its tables that vary, where the item
+/// is long, or where it asks for a value that the constant isn't.
+///
+/// # Errors
+///
+/// Where no memory is left.
+fn constant_anywhere(
+    value: &Value,
+    receives: &Kind,
+    alloc: Global,
+) -> Result<Option<ConstantStep>, AllocError>
+    requires receives { IsStorableKind receives.now }
+    ensures step { IfOk result (λ found. IfSome found
+        (WritesFor (plain_value value.now) receives.now)) }
+{
+    let Kind::Item(to) = receives else {
+        return Ok(None);
+    };
+    let received = u32::from(to.size());
+    if received > MOST_READY {
+        return Ok(None);
+    }
+    ConstantStep::prepare(alloc, value, receives, received as usize)
+}
+
+/// The single move of a constant to an entry of the output record, made ready wherever this stands; None where nothing carries it out.
+///
+/// # Errors
+///
+/// Where no memory is left.
+fn located_constant(
+    value: &Value,
+    receiver: &Ref,
+    both: &Between<'_>,
+) -> Result<Option<ReadyLocatedConstant>, AllocError>
+    requires receiver { IsOperand both.now.output.now
+        (operand_in both.now.output.now receiver.now) }
+    ensures ready { IfOk result (λ found. IfSome found
+        (λ one. AlwaysLocatedConstant (records_between both.now) one
+        (constant_alone both.now value.now receiver.now))) }
+{
+    records_are_sound();
+    let _ = both.output.greatest();
+    let receives = entry_kind(both.output, receiver);
+    let to = basis_of(both.output, receiver, true);
+    match constant_anywhere(value, receives, both.alloc)? {
+        Some(step) => Ok(Some(ReadyLocatedConstant {
+            receiver: same_entry(receiver),
+            to,
+            step,
+        })),
+        None => Ok(None),
+    }
+}
+
+/// A single move of a constant, made ready wherever its receiver stands; None where it is no such move, or nothing carries it out.
+///
+/// # Errors
+///
+/// Where no memory is left.
+pub(crate) fn located_constant_of(
+    given: &Sender,
+    receiver: &Ref,
+    both: &Between<'_>,
+) -> Result<Option<ReadyLocatedConstant>, AllocError>
+    requires legal { IsMove (records_between both.now)
+        (alone (sender (records_between both.now) given.now)
+        (operand_in both.now.output.now receiver.now)) }
+    ensures ready { IfOk result (λ found. IfSome found
+        (λ one. AlwaysLocatedConstant (records_between both.now) one
+        (single_alone both.now given.now receiver.now))) }
+{
+    match given {
+        Sender::Entry { .. } => Ok(None),
+        Sender::Constant(value) => located_constant(value, receiver, both),
     }
 }

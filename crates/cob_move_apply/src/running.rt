@@ -56,6 +56,38 @@ fn run_single(
     }
 }
 
+/// Carries out a single move that was made ready, as [`run_single`] does. It isn't inlined: moves of rarer kinds come here, and what carries out the others
+/// stays short.
+#[inline(never)]
+fn run_one(
+    plan: &Plan,
+    places: &MovePlaces,
+    step: MoveStep,
+    layouts: &Layouts<'_>,
+    input: &[u8],
+    output: &mut [u8],
+    space: &mut Workspace,
+) -> bool
+    requires step { (own : List Meant) × IsPreparedMove layouts.now.reading (records layouts.now)
+        plan.now.prepared (record { places = places.now; step = step }) own }
+    requires input { IsStorage layouts.now.input.now input.now }
+    requires output { length output.old ≡ greatest_length layouts.now.output.now }
+    requires space { IsWorkspace (records layouts.now) input.now output.old space.old }
+    ensures applied { IsTrue result → (own : List Meant)
+        → IsPreparedMove layouts.now.reading (records layouts.now)
+        plan.now.prepared (record { places = places.now; step = step }) own
+        → Applied (records layouts.now) own input.now output.old (done output.new) }
+    ensures space { IsWorkspace (records layouts.now) input.now output.new space.new }
+    ensures spends { IsTrue result → (own : List Meant)
+        → IsPreparedMove layouts.now.reading (records layouts.now)
+        plan.now.prepared (record { places = places.now; step = step }) own
+        → HaveSpent (records layouts.now) own input.now output.old output.new
+        space.old.output space.new.output }
+    ensures same { result ≡ false → (output.new ≡ output.old) × (space.new ≡ space.old) }
+{
+    run_single(plan, places, step, layouts, input, output, space)
+}
+
 /// Carries out a single move that was made ready where senders are read as their pictures say. False where they are read otherwise, or a value of the
 /// sender is missing: all is as it was then.
 #[inline(always)]
@@ -153,6 +185,7 @@ pub(crate) fn run_step(
             );
             true
         }
+        Step::Prepared(one) => run_one(plan, &one.places, one.step, layouts, input, output, space),
         Step::Pictured(one, _) => run_part(plan, *one, layouts, input, output, space),
         Step::Constant(one) => {
             make_constant(plan, *one, layouts, input, output, space);
@@ -164,5 +197,6 @@ pub(crate) fn run_step(
         }
         Step::Part(_) => false,
         Step::Located(_) => false,
+        Step::LocatedConstant(_) => false,
     }
 }

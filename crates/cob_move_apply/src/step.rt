@@ -109,7 +109,18 @@ pub(crate) struct LocatedMove {
     pub(crate) step: LocatedStep,
 }
 
-/// What is carried out at once. Single moves that were made ready stand here by their kinds, so that one jump finds what carries them out.
+/// A single move of a constant to an item of the output record, made ready wherever this stands: it has as many bytes everywhere.
+#[derive(Debug, Drop)]
+pub(crate) struct LocatedConstant {
+    pub(crate) receiver: Ref,
+    /// What the place of the receiver rests on.
+    pub(crate) to: Basis,
+    /// The number of what writes its bytes.
+    pub(crate) number: usize,
+}
+
+/// What is carried out at once. Single moves that were made ready stand here by their kinds, so that one jump finds what carries them out; those of rarer
+/// kinds stand together.
 #[derive(Clone, Copy, Debug)]
 pub(crate) enum Step {
     /// Places and categories are looked at as the step is carried out.
@@ -124,12 +135,16 @@ pub(crate) enum Step {
     Edited(NumberedMove),
     /// A single move of characters was made ready.
     Characters(CharactersMove),
+    /// A single move of another kind was made ready.
+    Prepared(PreparedMove),
     /// A single move was made ready where senders are read as their pictures say; else it is this part.
     Pictured(PicturedMove, Part),
     /// A single move of a constant was made ready.
     Constant(ConstantMove),
     /// A single move between items was made ready, and where they stand is found as the step is carried out: the one that has this number.
     Located(usize),
+    /// The same of a constant: the one that has this number.
+    LocatedConstant(usize),
     /// Bytes of the input record are copied: one single move, or several, each of which begins on both sides where the one before ends.
     Copy(MovePlaces),
 }
@@ -148,6 +163,8 @@ pub(crate) struct Plan {
     pub(crate) constants: Vec<ConstantStep>,
     /// The single moves that were made ready wherever their items stand.
     pub(crate) located: Vec<LocatedMove>,
+    /// Those of constants that were.
+    pub(crate) located_constants: Vec<LocatedConstant>,
 }
 
 /// A number of 32 bits.
@@ -241,6 +258,8 @@ pub(crate) fn prepared_step(one: PreparedMove) -> Step
         MoveStep::Wide(number) => Step::Wide(NumberedMove { places, number }),
         MoveStep::AnyNumber(number) => Step::AnyNumber(NumberedMove { places, number }),
         MoveStep::Edited(number) => Step::Edited(NumberedMove { places, number }),
+        MoveStep::WideEdited(_) => Step::Prepared(one),
+        MoveStep::Numerals(_) => Step::Prepared(one),
         MoveStep::Characters(step) => Step::Characters(CharactersMove { places, step }),
     }
 }
@@ -252,8 +271,9 @@ fn step_count(step: Step) -> usize
     match step {
         Step::Part(part) => part.count as usize,
         Step::Number(_) | Step::Wide(_) | Step::AnyNumber(_) | Step::Edited(_) => 1,
-        Step::Characters(_) | Step::Pictured(_, _) | Step::Constant(_) => 1,
-        Step::Located(_) | Step::Copy(_) => 1,
+        Step::Characters(_) | Step::Prepared(_) => 1,
+        Step::Pictured(_, _) | Step::Constant(_) => 1,
+        Step::Located(_) | Step::LocatedConstant(_) | Step::Copy(_) => 1,
     }
 }
 

@@ -111,6 +111,21 @@ returns-in-Characters-clause-applied c = λ own is.
     let this = subst (λ (s : Step). IsStep x r c.args.given.now on s own) c.in-Characters.is is in
     c.make_one-in-Characters.ensures.applied own this
 
+pub make_one-requires-in-Prepared-clause-step : goal.make_one-requires-in-Prepared-clause-step
+make_one-requires-in-Prepared-clause-step c =
+    let x = c.args.layouts.now.reading in
+    let r = records c.args.layouts.now in
+    let on : Support = support_of c.args.plan.now in
+    (c.requires.step.0, subst (λ (s : Step). IsStep x r c.args.given.now on s c.requires.step.0) c.in-Prepared.is c.requires.step.1)
+
+pub returns-in-Prepared-clause-applied : goal.returns-in-Prepared-clause-applied
+returns-in-Prepared-clause-applied c = λ own is.
+    let x = c.args.layouts.now.reading in
+    let r = records c.args.layouts.now in
+    let on : Support = support_of c.args.plan.now in
+    let this = subst (λ (s : Step). IsStep x r c.args.given.now on s own) c.in-Prepared.is is in
+    c.make_one-in-Prepared.ensures.applied own this
+
 pub make_pictured-requires-clause-part : goal.make_pictured-requires-clause-part
 make_pictured-requires-clause-part c =
     let x = c.args.layouts.now.reading in
@@ -239,6 +254,14 @@ returns-in-Characters-clause-spends c = λ own is.
     let this = subst (λ (s : Step). IsStep x r c.args.given.now on s own) c.in-Characters.is is in
     c.make_one-in-Characters.ensures.spends own this
 
+pub returns-in-Prepared-clause-spends : goal.returns-in-Prepared-clause-spends
+returns-in-Prepared-clause-spends c = λ own is.
+    let x = c.args.layouts.now.reading in
+    let r = records c.args.layouts.now in
+    let on : Support = support_of c.args.plan.now in
+    let this = subst (λ (s : Step). IsStep x r c.args.given.now on s own) c.in-Prepared.is is in
+    c.make_one-in-Prepared.ensures.spends own this
+
 pub returns-in-Located-clause-spends : goal.returns-in-Located-clause-spends
 returns-in-Located-clause-spends c = λ own is.
     let x = c.args.layouts.now.reading in
@@ -271,3 +294,26 @@ returns-in-Copy-clause-spends c = λ own is.
     let this = subst (λ (s : Step). IsStep x r c.args.given.now on s own) c.in-Copy.is is in
     copy_spends r own c.args.input.now c.args.output.now c.copy_across.new.output c.args.space.now.output
     (made_copy x r c.args.given.now on c.in-Copy.places own c.args.input.now c.args.output.now c.copy_across.new.output c.requires.input c.requires.output c.copy_across.ensures this)
+
+pub make_located_constant-requires-clause-step : goal.make_located_constant-requires-clause-step
+make_located_constant-requires-clause-step c =
+    let x = c.args.layouts.now.reading in
+    let r = records c.args.layouts.now in
+    let on : Support = support_of c.args.plan.now in
+    (c.requires.step.0, subst (λ (s : Step). IsStep x r c.args.given.now on s c.requires.step.0) c.in-LocatedConstant.is c.requires.step.1)
+
+pub returns-in-LocatedConstant-clause-applied : goal.returns-in-LocatedConstant-clause-applied
+returns-in-LocatedConstant-clause-applied c = λ own is.
+    let x = c.args.layouts.now.reading in
+    let r = records c.args.layouts.now in
+    let on : Support = support_of c.args.plan.now in
+    let this = subst (λ (s : Step). IsStep x r c.args.given.now on s own) c.in-LocatedConstant.is is in
+    c.make_located_constant.ensures.applied own this
+
+pub returns-in-LocatedConstant-clause-spends : goal.returns-in-LocatedConstant-clause-spends
+returns-in-LocatedConstant-clause-spends c = λ own is.
+    let x = c.args.layouts.now.reading in
+    let r = records c.args.layouts.now in
+    let on : Support = support_of c.args.plan.now in
+    let this = subst (λ (s : Step). IsStep x r c.args.given.now on s own) c.in-LocatedConstant.is is in
+    c.make_located_constant.ensures.spends own this

@@ -21,15 +21,15 @@ push_pictured-requires-clause-pictured c =
 pub returns-in-Some-clause-gains : goal.returns-in-Some-clause-gains
 returns-in-Some-clause-gains c =
     let r : Records = records_between c.args.both.now in
-    let mid : Plan = record { steps = c.args.plan.now.steps; bases = c.args.plan.now.bases; prepared = c.args.plan.now.prepared; pictured = c.pictured_of.new.pictured; constants = c.args.plan.now.constants; located = c.args.plan.now.located } in
+    let mid : Plan = record { steps = c.args.plan.now.steps; bases = c.args.plan.now.bases; prepared = c.args.plan.now.prepared; pictured = c.pictured_of.new.pictured; constants = c.args.plan.now.constants; located = c.args.plan.now.located; located_constants = c.args.plan.now.located_constants } in
     on_ok_weaker c.push_pictured.result
-    (λ so x. gains_more x r c.args.given.now (meant x r c.args.part.now ∷ []) c.args.plan.now mid c.push_pictured.new.plan refl refl (λ k t h. h) c.in_ok-one.ensures.kept refl refl (so x))
+    (λ so x. gains_more x r c.args.given.now (meant x r c.args.part.now ∷ []) c.args.plan.now mid c.push_pictured.new.plan refl refl (λ k t h. h) c.in_ok-one.ensures.kept refl refl refl (so x))
     c.push_pictured.ensures.gains
 
 pub returns-in-None-clause-gains : goal.returns-in-None-clause-gains
 returns-in-None-clause-gains c =
     let r : Records = records_between c.args.both.now in
-    let mid : Plan = record { steps = c.args.plan.now.steps; bases = c.args.plan.now.bases; prepared = c.args.plan.now.prepared; pictured = c.pictured_of.new.pictured; constants = c.args.plan.now.constants; located = c.args.plan.now.located } in
+    let mid : Plan = record { steps = c.args.plan.now.steps; bases = c.args.plan.now.bases; prepared = c.args.plan.now.prepared; pictured = c.pictured_of.new.pictured; constants = c.args.plan.now.constants; located = c.args.plan.now.located; located_constants = c.args.plan.now.located_constants } in
     on_ok_weaker c.push_rest.result
-    (λ so x. gains_more x r c.args.given.now (meant x r c.args.part.now ∷ []) c.args.plan.now mid c.push_rest.new.plan refl refl (λ k t h. h) c.in_ok-one.ensures.kept refl refl (so x))
+    (λ so x. gains_more x r c.args.given.now (meant x r c.args.part.now ∷ []) c.args.plan.now mid c.push_rest.new.plan refl refl (λ k t h. h) c.in_ok-one.ensures.kept refl refl refl (so x))
     c.push_rest.ensures.gains

@@ -109,6 +109,31 @@ returns-in-Edited-clause-spends c = λ yes given own is.
     let this = subst (λ (s : Step). IsStep x r given on s own) c.in-Edited.is is in
     c.run_single-in-Edited.ensures.spends yes own this
 
+pub run_one-requires-clause-step : goal.run_one-requires-clause-step
+run_one-requires-clause-step c =
+    let x = c.args.layouts.now.reading in
+    let r = records c.args.layouts.now in
+    let on : Support = support_of c.args.plan.now in
+    let (given, own, at) = c.requires.step in
+    let is = subst (λ (s : Step). IsStep x r given on s own) c.in-Prepared.is at in
+    (own, is)
+
+pub returns-in-Prepared-clause-applied : goal.returns-in-Prepared-clause-applied
+returns-in-Prepared-clause-applied c = λ yes given own is.
+    let x = c.args.layouts.now.reading in
+    let r = records c.args.layouts.now in
+    let on : Support = support_of c.args.plan.now in
+    let this = subst (λ (s : Step). IsStep x r given on s own) c.in-Prepared.is is in
+    c.run_one.ensures.applied yes own this
+
+pub returns-in-Prepared-clause-spends : goal.returns-in-Prepared-clause-spends
+returns-in-Prepared-clause-spends c = λ yes given own is.
+    let x = c.args.layouts.now.reading in
+    let r = records c.args.layouts.now in
+    let on : Support = support_of c.args.plan.now in
+    let this = subst (λ (s : Step). IsStep x r given on s own) c.in-Prepared.is is in
+    c.run_one.ensures.spends yes own this
+
 pub make_characters-requires-clause-step : goal.make_characters-requires-clause-step
 make_characters-requires-clause-step c =
     let x = c.args.layouts.now.reading in

@@ -17,3 +17,9 @@ returns-in-Edited-clause-stands c = λ x r given on own is. subst (λ (s : MoveS
 
 pub returns-in-Characters-clause-stands : goal.returns-in-Characters-clause-stands
 returns-in-Characters-clause-stands c = λ x r given on own is. subst (λ (s : MoveStep). IsPreparedMove x r on.prepared (record { places = c.args.one.places; step = s }) own) c.in-Characters.is is
+
+pub returns-in-WideEdited-clause-stands : goal.returns-in-WideEdited-clause-stands
+returns-in-WideEdited-clause-stands c = λ x r given on own is. is
+
+pub returns-in-Numerals-clause-stands : goal.returns-in-Numerals-clause-stands
+returns-in-Numerals-clause-stands c = λ x r given on own is. is

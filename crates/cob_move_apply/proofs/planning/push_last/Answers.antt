@@ -1,0 +1,18 @@
+use Rattle.std.proofs.Common.{◌≡◌, [], ◌∷◌, List, get_or, subst, sym}
+use Rattle.std.proofs.lemmas.Result.{on_ok_weaker}
+use Rattle.cob_layout_places.specs.declared.reference.Ref.{Ref}
+use Rattle.cob_layout_places.specs.Moves.{Records}
+use Rattle.cob_move_apply.specs.Planned.{AlwaysLocatedConstant, part_alone, records_between}
+use Rattle.cob_move_apply.specs.Steps.{constant_move}
+use Rattle.cob_move_apply.proofs.InLemmas.{move_with, one_of}
+use Rattle.cob_move_apply.proofs.planning.push_last.Goals as goal
+
+pub returns-in-Some-clause-gains : goal.returns-in-Some-clause-gains
+returns-in-Some-clause-gains c =
+    let r : Records = records_between c.args.both.now in
+    let q : Ref = get_or c.args.part.now.receivers.now 0 c.index-part-0.result in
+    let alone_is : c.args.part.now.receivers.now ≡ q ∷ [] = one_of c.args.part.now.receivers.now c.index-part-0.result c.requires.one in
+    let (constant, placed, writes, same) = rw c.in-Some.is at c.in_ok-one.ensures.ready in
+    let ready : AlwaysLocatedConstant r c.in-Some.one (part_alone c.args.both.now c.args.part.now) =
+    (constant, placed, writes, λ x. subst (λ (rs : List Ref). move_with x r c.args.part.now.sender.now rs ∷ [] ≡ constant_move r constant c.in-Some.one.receiver ∷ []) (sym alone_is) (same x)) in
+    on_ok_weaker c.push_located_constant.result (λ so x. so x r c.args.given.now (part_alone c.args.both.now c.args.part.now) ready) c.push_located_constant.ensures.gains
