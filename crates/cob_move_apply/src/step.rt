@@ -260,6 +260,7 @@ pub(crate) fn prepared_step(one: PreparedMove) -> Step
         MoveStep::Edited(number) => Step::Edited(NumberedMove { places, number }),
         MoveStep::WideEdited(_) => Step::Prepared(one),
         MoveStep::Numerals(_) => Step::Prepared(one),
+        MoveStep::Text(_) => Step::Prepared(one),
         MoveStep::Characters(step) => Step::Characters(CharactersMove { places, step }),
     }
 }

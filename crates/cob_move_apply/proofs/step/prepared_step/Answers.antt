@@ -23,3 +23,6 @@ returns-in-WideEdited-clause-stands c = λ x r given on own is. is
 
 pub returns-in-Numerals-clause-stands : goal.returns-in-Numerals-clause-stands
 returns-in-Numerals-clause-stands c = λ x r given on own is. is
+
+pub returns-in-Text-clause-stands : goal.returns-in-Text-clause-stands
+returns-in-Text-clause-stands c = λ x r given on own is. is
