@@ -17,7 +17,7 @@ use crate::constant::make_constant;
 use crate::layouts::Layouts;
 use crate::pictured::run_pictured;
 use crate::prepared::make_characters;
-use crate::step::{MovePlaces, PicturedMove, Plan, Step, copy_across};
+use crate::step::{MovePlaces, PicturedMove, Plan, PreparedMove, Step, copy_across};
 use crate::workspace::Workspace;
 use cob_codec::Reading;
 use cob_move_prepared::MoveStep;
@@ -61,31 +61,31 @@ fn run_single(
 #[inline(never)]
 fn run_one(
     plan: &Plan,
-    places: &MovePlaces,
-    step: MoveStep,
+    one: &PreparedMove,
     layouts: &Layouts<'_>,
     input: &[u8],
     output: &mut [u8],
     space: &mut Workspace,
 ) -> bool
     requires step { (own : List Meant) × IsPreparedMove layouts.now.reading (records layouts.now)
-        plan.now.prepared (record { places = places.now; step = step }) own }
+        plan.now.prepared one.now own }
     requires input { IsStorage layouts.now.input.now input.now }
     requires output { length output.old ≡ greatest_length layouts.now.output.now }
     requires space { IsWorkspace (records layouts.now) input.now output.old space.old }
     ensures applied { IsTrue result → (own : List Meant)
         → IsPreparedMove layouts.now.reading (records layouts.now)
-        plan.now.prepared (record { places = places.now; step = step }) own
+        plan.now.prepared one.now own
         → Applied (records layouts.now) own input.now output.old (done output.new) }
     ensures space { IsWorkspace (records layouts.now) input.now output.new space.new }
     ensures spends { IsTrue result → (own : List Meant)
         → IsPreparedMove layouts.now.reading (records layouts.now)
-        plan.now.prepared (record { places = places.now; step = step }) own
+        plan.now.prepared one.now own
         → HaveSpent (records layouts.now) own input.now output.old output.new
         space.old.output space.new.output }
     ensures same { result ≡ false → (output.new ≡ output.old) × (space.new ≡ space.old) }
 {
-    run_single(plan, places, step, layouts, input, output, space)
+    let places = &one.places;
+    run_single(plan, places, one.step, layouts, input, output, space)
 }
 
 /// Carries out a single move that was made ready where senders are read as their pictures say. False where they are read otherwise, or a value of the
@@ -185,7 +185,7 @@ pub(crate) fn run_step(
             );
             true
         }
-        Step::Prepared(one) => run_one(plan, &one.places, one.step, layouts, input, output, space),
+        Step::Prepared(one) => run_one(plan, one, layouts, input, output, space),
         Step::Pictured(one, _) => run_part(plan, *one, layouts, input, output, space),
         Step::Constant(one) => {
             make_constant(plan, *one, layouts, input, output, space);
