@@ -304,13 +304,10 @@ fn run_at_once(
     ensures same { result ≡ false → (output.new ≡ output.old)
         × IsSpent layouts.now.output.now 0 space.old.output space.new.output }
 {
-    match step {
-        Step::Located(number) => run_located(plan, *number, layouts, input, output, space),
-        Step::LocatedConstant(number) => {
-            run_located_constant(plan, *number, layouts, input, output, space)
-        }
-        _ => run_step(plan, step, layouts, input, output, space),
+    if let Step::Located(number) = step {
+        return run_located(plan, *number, layouts, input, output, space);
     }
+    run_step(plan, step, layouts, input, output, space)
 }
 
 /// Carries out the steps that were made ready, one after another, as far as they go at once. The answer are the steps that are left: the first of them is

@@ -3,17 +3,18 @@
 //! A step that stops is carried out once more, as all others are (`application`), to say why.
 
 ghost use Rattle.std.specs.Prelude.{◌≡◌, ◌∷◌, [], List, false, length, IsTrue};
+ghost use Rattle.cob_layout.specs.Sound.{IsSound};
 ghost use Rattle.cob_layout.specs.Storage.{greatest_length, IsStorage};
 ghost use Rattle.cob_layout_places.specs.declared.operands.StatementMoves.{StatementMoves as Said};
 ghost use Rattle.cob_layout_places.specs.Moves.{Move as Meant};
 ghost use Rattle.cob_move_apply.specs.Applied.{Applied, IsMoved, done};
-ghost use Rattle.cob_move_apply.specs.Spent.{HaveSpent};
+ghost use Rattle.cob_move_apply.specs.Spent.{HaveSpent, IsSpent};
 ghost use Rattle.cob_move_apply.specs.Steps.{IsPicturedPart, IsPreparedMove, IsStep, support_of};
 ghost use Rattle.cob_move_apply.specs.Surveyed.{IsWorkspace, records};
 ghost use Rattle.cob_move_apply.specs.declared.step.Part.{Part as PartOf};
 
 use crate::application::make_single;
-use crate::constant::make_constant;
+use crate::constant::{make_constant, run_located_constant};
 use crate::layouts::Layouts;
 use crate::pictured::run_pictured;
 use crate::prepared::make_characters;
@@ -128,8 +129,8 @@ fn run_part(
     }
 }
 
-/// Carries out a step that was made ready for places that are the same in every storage. False where it is another one, or a value of a sender is
-/// missing: all is as it was then.
+/// Carries out a step that was made ready, but for a move between two places that are found as it is carried out. False where it is another one, or
+/// where something is missing: the storage is as it was then.
 #[inline(always)]
 pub(crate) fn run_step(
     plan: &Plan,
@@ -139,6 +140,7 @@ pub(crate) fn run_step(
     output: &mut [u8],
     space: &mut Workspace,
 ) -> bool
+    requires out_sound { IsSound layouts.now.output.now }
     requires step { (given : List Said) × (own : List Meant)
         × IsStep layouts.now.reading (records layouts.now)
         given (support_of plan.now) step.now own }
@@ -153,7 +155,8 @@ pub(crate) fn run_step(
         → IsStep layouts.now.reading (records layouts.now) given (support_of plan.now) step.now own
         → HaveSpent (records layouts.now) own input.now output.old output.new
         space.old.output space.new.output }
-    ensures same { result ≡ false → (output.new ≡ output.old) × (space.new ≡ space.old) }
+    ensures same { result ≡ false → (output.new ≡ output.old)
+        × IsSpent layouts.now.output.now 0 space.old.output space.new.output }
 {
     match step {
         Step::Number(one) => {
@@ -197,6 +200,8 @@ pub(crate) fn run_step(
         }
         Step::Part(_) => false,
         Step::Located(_) => false,
-        Step::LocatedConstant(_) => false,
+        Step::LocatedConstant(number) => {
+            run_located_constant(plan, *number, layouts, input, output, space)
+        }
     }
 }
