@@ -97,6 +97,97 @@ pub(crate) fn reach_of(tables: &[Table], kept: &[Option<StoredCount>], counts: &
 }
 
 impl Layout {
+    /// Where a reference stands, as [`Layout::find`] says it, wherever the counts that it needs may be past the reach. It isn't inlined, so that what is
+    /// found at once stays short.
+    ///
+    /// # Errors
+    ///
+    /// Those of [`Layout::find`].
+    #[inline(never)]
+    fn find_past(
+        &self,
+        reference: &Ref,
+        receiving: bool,
+        bytes: &[u8],
+        counts: &mut Counts,
+        reads: &mut u64,
+    ) -> Result<Place, FindFault>
+        requires refers { Refers reference.now.node reference.now.subscripts.items self.now }
+        requires room { IsRoomFor self.now counts.old }
+        requires kept { KeepsOf self.now bytes.now counts.old }
+        ensures found { IsFound self.now reference.now receiving bytes.now result }
+        ensures current { IfOk result (λ p. (c : List ℕ)
+            × NeededOf self.now reference.now.node receiving bytes.now (Ok c)
+            × (p.offset + p.length ≤ sum_of (times c) self.now)) }
+        ensures fits { IfOk result (λ p. p.offset + p.length ≤ sum_of greatest_number self.now) }
+        ensures same { OnCountFault result (counts.new ≡ counts.old) }
+        ensures keeps { KeepsOf self.now bytes.now counts.new }
+        ensures kept { OnCounts result ((c : List ℕ)
+            × NeededOf self.now reference.now.node receiving bytes.now (Ok c)
+            × (numbers_of counts.new.kept
+            ≡ kept_after (is_read self.now reference.now.node receiving) c (tables_of self.now)
+            (numbers_of counts.old.kept))) }
+        ensures reads { (c : Result (List ℕ) CountFault) × (n : ℕ)
+            × TakenAnew self.now bytes.now (is_read self.now reference.now.node receiving)
+            (tables_of self.now) (numbers_of counts.old.kept) (greatest_counts self.now) c n
+            × (reads.new ≡ min (reads.old + n) most_reads) }
+        ensures room { IsRoomFor self.now counts.new }
+    {
+        // For `current`: an element that is there ends within the record's length,
+        places_end_in_length();
+        // and the layout is that of a record description.
+        let _ = self.greatest();
+        let found = match self.found_past(reference, receiving, bytes, counts, reads) {
+            Ok(found) => found,
+            Err(fault) => return Err(FindFault::Count(fault)),
+        };
+        match placed(found) {
+            Ok(place) => Ok(place),
+            Err(fault) => Err(FindFault::Subscript(fault)),
+        }
+    }
+
+    /// Where an element stands, as [`Layout::find`] says it. It isn't inlined, since few moves have subscripts.
+    ///
+    /// # Errors
+    ///
+    /// Those of [`Layout::find`].
+    #[inline(never)]
+    fn find_element(
+        &self,
+        reference: &Ref,
+        receiving: bool,
+        bytes: &[u8],
+        counts: &mut Counts,
+        reads: &mut u64,
+    ) -> Result<Place, FindFault>
+        requires refers { Refers reference.now.node reference.now.subscripts.items self.now }
+        requires room { IsRoomFor self.now counts.old }
+        requires kept { KeepsOf self.now bytes.now counts.old }
+        ensures found { IsFound self.now reference.now receiving bytes.now result }
+        ensures current { IfOk result (λ p. (c : List ℕ)
+            × NeededOf self.now reference.now.node receiving bytes.now (Ok c)
+            × (p.offset + p.length ≤ sum_of (times c) self.now)) }
+        ensures fits { IfOk result (λ p. p.offset + p.length ≤ sum_of greatest_number self.now) }
+        ensures same { OnCountFault result (counts.new ≡ counts.old) }
+        ensures keeps { KeepsOf self.now bytes.now counts.new }
+        ensures kept { OnCounts result ((c : List ℕ)
+            × NeededOf self.now reference.now.node receiving bytes.now (Ok c)
+            × (numbers_of counts.new.kept
+            ≡ kept_after (is_read self.now reference.now.node receiving) c (tables_of self.now)
+            (numbers_of counts.old.kept))) }
+        ensures reads { (c : Result (List ℕ) CountFault) × (n : ℕ)
+            × TakenAnew self.now bytes.now (is_read self.now reference.now.node receiving)
+            (tables_of self.now) (numbers_of counts.old.kept) (greatest_counts self.now) c n
+            × (reads.new ≡ min (reads.old + n) most_reads) }
+        ensures room { IsRoomFor self.now counts.new }
+    {
+        if let Some(place) = self.place_at_once(reference, receiving, bytes, counts, *reads) {
+            return Ok(place);
+        }
+        self.find_past(reference, receiving, bytes, counts, reads)
+    }
+
     /// Where a reference stands by the counts of these bytes that it needs. It reads only those of them that are not kept, and keeps those that it reads.
     /// Each count that is read adds one to `reads`, one that is refused too; `reads` stays at the greatest `u64`. The counts that are kept are those of
     /// these bytes. Its time doesn't grow with the number of the record's entries while all that it needs are kept, nor with that of the tables that vary
@@ -139,17 +230,12 @@ impl Layout {
             × (reads.new ≡ min (reads.old + n) most_reads) }
         ensures room { IsRoomFor self.now counts.new }
     {
-        // For `current`: an element that is there ends within the record's length,
-        places_end_in_length();
-        // and the layout is that of a record description.
-        let _ = self.greatest();
-        let found = match self.found(reference, receiving, bytes, counts, reads) {
-            Ok(found) => found,
-            Err(fault) => return Err(FindFault::Count(fault)),
-        };
-        match placed(found) {
-            Ok(place) => Ok(place),
-            Err(fault) => Err(FindFault::Subscript(fault)),
+        if !reference.subscripts.is_empty() {
+            return self.find_element(reference, receiving, bytes, counts, reads);
         }
+        if let Some(place) = self.place_at_once(reference, receiving, bytes, counts, *reads) {
+            return Ok(place);
+        }
+        self.find_past(reference, receiving, bytes, counts, reads)
     }
 }

@@ -6,13 +6,15 @@
 
 ghost use Rattle.std.specs.Prelude.{◌≡◌, ◌==◌, ◌&&◌, ◌+◌, ◌<◌, ◌≤◌, true, false, ℕ, List, Option, Result, length, min, take, Ok, Err, Some, OnOk, OnErr, IfErr, IfOk, IfSome, IsFalse, IsTrue};
 ghost use Rattle.cob_copybook_tree.specs.Forests.{entries_in};
+ghost use Rattle.cob_copybook_tree.specs.Lengths.{greatest_number, sum_of};
 ghost use Rattle.cob_layout_places.specs.declared.counts.CountFault.{CountFault};
 ghost use Rattle.cob_layout_places.specs.Counts.{tables_of};
+ghost use Rattle.cob_layout_places.specs.Lengths.{times};
 ghost use Rattle.cob_layout_places.specs.Needs.{is_read, number_behind};
 ghost use Rattle.cob_layout_places.specs.References.{Refers};
 ghost use Rattle.cob_layout.specs.declared.counts.StoredCount.{StoredCount};
 ghost use Rattle.cob_layout.specs.Counting.{greatest_counts, NeededOf};
-ghost use Rattle.cob_layout.specs.Finding.{are_met, IsFoundKept, ReachIn, SparesNone, StandsFor};
+ghost use Rattle.cob_layout.specs.Finding.{are_met, IsFound, IsFoundKept, ReachIn, SparesNone, StandsFor};
 ghost use Rattle.cob_layout.specs.Kept.{kept_after, most_reads, numbers_of, AreKeptOf, TakenAnew};
 ghost use Rattle.cob_layout.specs.Placed.{element_under};
 ghost use Rattle.cob_layout.specs.Shifts.{grow_in, sums_of};
@@ -20,10 +22,12 @@ ghost use Rattle.cob_layout.specs.Standing.{IsRoomFor, KeepsOf, LieWithin};
 
 use crate::by_sums::{element_by, first_by, keep_by};
 use crate::counts::{Counts, KeptRange, StoredCount};
+use crate::fields::Place;
 use crate::finding::{are_met, reach_of};
 use crate::footings::{footing_at, is_within};
 use crate::keeping::{Needed, range_of};
-use crate::layout::Layout;
+use crate::laws::places_end_in_length;
+use crate::layout::{Layout, placed};
 use crate::ways::tables_at;
 use cob_layout_places::{
     CountFault, Found, Ref, Table, needs_are_read, one_place, places_end_in_record,
@@ -260,8 +264,8 @@ impl Layout {
     /// # Errors
     ///
     /// The first count that is read and that gives no number within its table's bounds, or that ends past the bytes. The counts are as they were then.
-    #[inline(never)]
-    fn found_past(
+    #[inline(always)]
+    pub(crate) fn found_past(
         &self,
         reference: &Ref,
         receiving: bool,
@@ -302,60 +306,49 @@ impl Layout {
         Ok(self.element_in(reference, &counts.sums, &counts.next))
     }
 
-    /// The element of a reference under the counts that it needs.
-    ///
-    /// # Errors
-    ///
-    /// The first count that is read and that gives no number within its table's bounds, or that ends past the bytes. The counts are as they were then.
+    /// Where a reference stands under the counts that it needs, where these are kept and within reach, and it is there.
     #[inline(always)]
-    pub(crate) fn found(
+    pub(crate) fn place_at_once(
         &self,
         reference: &Ref,
         receiving: bool,
         bytes: &[u8],
-        counts: &mut Counts,
-        reads: &mut u64,
-    ) -> Result<Found, CountFault>
+        counts: &Counts,
+        reads: u64,
+    ) -> Option<Place>
         requires refers { Refers reference.now.node reference.now.subscripts.items self.now }
-        requires room { IsRoomFor self.now counts.old }
-        requires kept { KeepsOf self.now bytes.now counts.old }
-        ensures err { IfErr result
-            (λ e. NeededOf self.now reference.now.node receiving bytes.now (Err e)) }
-        ensures same { OnErr result (counts.new ≡ counts.old) }
-        ensures came { IfOk result (λ f. (c : List ℕ)
+        requires room { IsRoomFor self.now counts.now }
+        requires kept { KeepsOf self.now bytes.now counts.now }
+        ensures found { IfSome result
+            (λ p. IsFound self.now reference.now receiving bytes.now (Ok p)) }
+        ensures current { IfSome result (λ p. (c : List ℕ)
             × NeededOf self.now reference.now.node receiving bytes.now (Ok c)
-            × (element_under c self.now reference.now ≡ Some f)
-            × (numbers_of counts.new.kept
+            × (p.offset + p.length ≤ sum_of (times c) self.now)) }
+        ensures fits { IfSome result (λ p. p.offset + p.length ≤ sum_of greatest_number self.now) }
+        // All that it needs is kept, and none of it is read.
+        ensures kept { IfSome result (λ _. (c : List ℕ)
+            × NeededOf self.now reference.now.node receiving bytes.now (Ok c)
+            × (numbers_of counts.now.kept
             ≡ kept_after (is_read self.now reference.now.node receiving) c (tables_of self.now)
-            (numbers_of counts.old.kept))) }
-        ensures keeps { OnOk result (KeepsOf self.now bytes.now counts.new) }
-        ensures reads { (c : Result (List ℕ) CountFault) × (n : ℕ)
+            (numbers_of counts.now.kept))) }
+        ensures reads { IfSome result (λ _. (c : Result (List ℕ) CountFault) × (n : ℕ)
             × TakenAnew self.now bytes.now (is_read self.now reference.now.node receiving)
-            (tables_of self.now) (numbers_of counts.old.kept) (greatest_counts self.now) c n
-            × (reads.new ≡ min (reads.old + n) most_reads) }
-        ensures room { IsRoomFor self.now counts.new }
+            (tables_of self.now) (numbers_of counts.now.kept) (greatest_counts self.now) c n
+            × (reads ≡ min (reads + n) most_reads)) }
     {
-        // For `reads`: how many there were is a count of 64 bits.
-        let _before = *reads;
-        match self.element_within(
-            reference,
-            receiving,
-            counts.reach,
-            &counts.sums,
-            &counts.next,
-        ) {
-            Some(found) => Ok(found),
-            None => match self.found_past(reference, receiving, bytes, counts, reads) {
-                Ok(found) => Ok(Found {
-                    offset: found.offset,
-                    length: found.length,
-                    within: found.within,
-                }),
-                Err(fault) => Err(CountFault {
-                    offset: fault.offset,
-                    short: fault.short,
-                }),
+        // For `current`: an element that is there ends within the record's length,
+        places_end_in_length();
+        // and the layout is that of a record description.
+        let _ = self.greatest();
+        let reach = counts.reach;
+        let sums = &counts.sums;
+        let taken = &counts.next;
+        match self.element_within(reference, receiving, reach, sums, taken) {
+            Some(found) => match placed(found) {
+                Ok(place) => Some(place),
+                Err(_) => None,
             },
+            None => None,
         }
     }
 }

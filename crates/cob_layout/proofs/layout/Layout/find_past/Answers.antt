@@ -1,6 +1,6 @@
 use Rattle.std.proofs.Common.{refl}
 use Rattle.cob_layout.proofs.StandingLemmas.{answer_fits}
-use Rattle.cob_layout.proofs.layout.Layout.find.Goals as goal
+use Rattle.cob_layout.proofs.layout.Layout.find_past.Goals as goal
 
 pub returns-in-Ok-placed-clause-fits : goal.returns-in-Ok-placed-clause-fits
 returns-in-Ok-placed-clause-fits c =
