@@ -69,9 +69,8 @@ fn fill_ends<const N: usize>(to: &mut [u8])
     ensures { to.new ≡ replicate (length to.old) space_byte }
 {
     let count = to.len();
-    let spaces = [SPACE; N];
-    to[..N].copy_from_slice(&spaces);
-    to[count - N..].copy_from_slice(&spaces);
+    to[..N].fill(SPACE);
+    to[count - N..].fill(SPACE);
 }
 
 /// Writes fewer than eight spaces.
