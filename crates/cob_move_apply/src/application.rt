@@ -274,45 +274,148 @@ fn make_step(
     }
 }
 
-/// Carries out a step at once, whatever its places rest on. False where it is one that was not made ready, or where something is missing: the storage is
-/// as it was then.
-#[inline(always)]
-fn run_at_once(
+/// Carries out the moves in front whose places are found as they are carried out, one after another, as far as they go at once. The answer are the steps
+/// that are left: the first of them is another one, or something is missing. It isn't inlined, as [`run_placed_steps`] isn't.
+#[inline(never)]
+fn run_located_steps<'a>(
     plan: &Plan,
-    step: &Step,
+    steps: &'a [Step],
     layouts: &Layouts<'_>,
     input: &[u8],
     output: &mut [u8],
     space: &mut Workspace,
-) -> bool
+) -> &'a [Step]
     requires in_sound { IsSound layouts.now.input.now }
     requires out_sound { IsSound layouts.now.output.now }
-    requires step { (given : List Said) × (own : List Meant)
-        × IsStep layouts.now.reading (records layouts.now)
-        given (support_of plan.now) step.now own }
+    requires steps { (given : List Said) × (before : List ℕ)
+        × Left layouts.now.reading (records layouts.now) given
+        steps.now (support_of plan.now) 0 input.now before output.old }
     requires input { IsStorage layouts.now.input.now input.now }
     requires output { length output.old ≡ greatest_length layouts.now.output.now }
     requires space { IsWorkspace (records layouts.now) input.now output.old space.old }
-    ensures applied { IsTrue result → (given : List Said) (own : List Meant)
-        → IsStep layouts.now.reading (records layouts.now) given (support_of plan.now) step.now own
-        → Applied (records layouts.now) own input.now output.old (done output.new) }
+    ensures left { (given : List Said) (before : List ℕ)
+        → Left layouts.now.reading (records layouts.now) given
+        steps.now (support_of plan.now) 0 input.now before output.old
+        → Left layouts.now.reading (records layouts.now) given
+        result.now (support_of plan.now) 0 input.now before output.new }
     ensures space { IsWorkspace (records layouts.now) input.now output.new space.new }
-    ensures spends { IsTrue result → (given : List Said) (own : List Meant)
-        → IsStep layouts.now.reading (records layouts.now) given (support_of plan.now) step.now own
-        → HaveSpent (records layouts.now) own input.now output.old output.new
-        space.old.output space.new.output }
-    ensures same { result ≡ false → (output.new ≡ output.old)
-        × IsSpent layouts.now.output.now 0 space.old.output space.new.output }
+    ensures spends { (given : List Said) (before : List ℕ)
+        → SpentSteps layouts.now.reading (records layouts.now) given
+        steps.now (support_of plan.now) 0 input.now before output.old space.old.output
+        → SpentSteps layouts.now.reading (records layouts.now) given
+        result.now (support_of plan.now) 0 input.now before output.new space.new.output }
+    ensures fewer { length result.now ≤ length steps.now }
 {
-    if let Step::Located(number) = step {
-        return run_located(plan, *number, layouts, input, output, space);
+    let mut left = steps;
+    while let Some((step, next)) = left.split_first() {
+        let Step::Located(number) = step else {
+            return left;
+        };
+        if !run_located(plan, *number, layouts, input, output, space) {
+            return left;
+        }
+        left = next;
     }
-    run_step(plan, step, layouts, input, output, space)
+    left
+}
+
+/// Carries out the steps in front that were made ready and whose places are known, one after another, as far as they go at once. The answer are the steps
+/// that are left: the first of them is another one, or a value of a sender is missing. It isn't inlined, so that it stands once in a program for output
+/// records with a table that varies, and once for others, whose steps then ask nothing of kept counts.
+#[inline(never)]
+fn run_placed_steps<'a, const VARIES: bool>(
+    plan: &Plan,
+    steps: &'a [Step],
+    layouts: &Layouts<'_>,
+    input: &[u8],
+    output: &mut [u8],
+    space: &mut Workspace,
+) -> &'a [Step]
+    requires varies { layouts.now.varies ≡ VARIES }
+    requires in_sound { IsSound layouts.now.input.now }
+    requires out_sound { IsSound layouts.now.output.now }
+    requires steps { (given : List Said) × (before : List ℕ)
+        × Left layouts.now.reading (records layouts.now) given
+        steps.now (support_of plan.now) 0 input.now before output.old }
+    requires input { IsStorage layouts.now.input.now input.now }
+    requires output { length output.old ≡ greatest_length layouts.now.output.now }
+    requires space { IsWorkspace (records layouts.now) input.now output.old space.old }
+    ensures left { (given : List Said) (before : List ℕ)
+        → Left layouts.now.reading (records layouts.now) given
+        steps.now (support_of plan.now) 0 input.now before output.old
+        → Left layouts.now.reading (records layouts.now) given
+        result.now (support_of plan.now) 0 input.now before output.new }
+    ensures space { IsWorkspace (records layouts.now) input.now output.new space.new }
+    ensures spends { (given : List Said) (before : List ℕ)
+        → SpentSteps layouts.now.reading (records layouts.now) given
+        steps.now (support_of plan.now) 0 input.now before output.old space.old.output
+        → SpentSteps layouts.now.reading (records layouts.now) given
+        result.now (support_of plan.now) 0 input.now before output.new space.new.output }
+    ensures fewer { length result.now ≤ length steps.now }
+{
+    let mut rest = steps;
+    while let Some((step, behind)) = rest.split_first() {
+        if !run_step::<VARIES>(plan, step, layouts, input, output, space) {
+            return rest;
+        }
+        rest = behind;
+    }
+    rest
+}
+
+/// Does what [`run_placed_steps`] does, whether a table of the output record varies or not. Where no step is left it costs no call.
+#[inline(always)]
+fn run_placed<'a>(
+    plan: &Plan,
+    steps: &'a [Step],
+    layouts: &Layouts<'_>,
+    input: &[u8],
+    output: &mut [u8],
+    space: &mut Workspace,
+) -> &'a [Step]
+    requires in_sound { IsSound layouts.now.input.now }
+    requires out_sound { IsSound layouts.now.output.now }
+    requires steps { (given : List Said) × (before : List ℕ)
+        × Left layouts.now.reading (records layouts.now) given
+        steps.now (support_of plan.now) 0 input.now before output.old }
+    requires input { IsStorage layouts.now.input.now input.now }
+    requires output { length output.old ≡ greatest_length layouts.now.output.now }
+    requires space { IsWorkspace (records layouts.now) input.now output.old space.old }
+    ensures left { (given : List Said) (before : List ℕ)
+        → Left layouts.now.reading (records layouts.now) given
+        steps.now (support_of plan.now) 0 input.now before output.old
+        → Left layouts.now.reading (records layouts.now) given
+        result.now (support_of plan.now) 0 input.now before output.new }
+    ensures space { IsWorkspace (records layouts.now) input.now output.new space.new }
+    ensures spends { (given : List Said) (before : List ℕ)
+        → SpentSteps layouts.now.reading (records layouts.now) given
+        steps.now (support_of plan.now) 0 input.now before output.old space.old.output
+        → SpentSteps layouts.now.reading (records layouts.now) given
+        result.now (support_of plan.now) 0 input.now before output.new space.new.output }
+    ensures fewer { length result.now ≤ length steps.now }
+{
+    if steps.is_empty() {
+        return steps;
+    }
+    if layouts.varies {
+        run_placed_steps::<true>(plan, steps, layouts, input, output, space)
+    } else {
+        run_placed_steps::<false>(plan, steps, layouts, input, output, space)
+    }
+}
+
+/// Whether the first of these steps is a move whose places are found as it is carried out.
+#[inline(always)]
+fn first_is_located(steps: &[Step]) -> bool {
+    match steps.first() {
+        Some(Step::Located(_)) => true,
+        _ => false,
+    }
 }
 
 /// Carries out the steps that were made ready, one after another, as far as they go at once. The answer are the steps that are left: the first of them is
-/// another one, or a value of a sender is missing. It isn't inlined, so that it stands once in a program, whatever runs it.
-#[inline(never)]
+/// another one, or something is missing.
+#[inline(always)]
 fn run_ready<'a>(
     plan: &Plan,
     steps: &'a [Step],
@@ -342,12 +445,13 @@ fn run_ready<'a>(
         result.now (support_of plan.now) 0 input.now before output.new space.new.output }
     ensures fewer { length result.now ≤ length steps.now }
 {
-    let mut rest = steps;
-    while let Some((step, behind)) = rest.split_first() {
-        if !run_at_once(plan, step, layouts, input, output, space) {
-            return rest;
+    let mut rest = run_placed(plan, steps, layouts, input, output, space);
+    while first_is_located(rest) {
+        let left = run_located_steps(plan, rest, layouts, input, output, space);
+        if left.len() == rest.len() {
+            return left;
         }
-        rest = behind;
+        rest = run_placed(plan, left, layouts, input, output, space);
     }
     rest
 }

@@ -21,7 +21,8 @@
 //! carried out (`IsLocatedMove`), and only that of the receiver where a constant is moved to an item behind a table (`IsLocatedConstant`); a part of a
 //! statement's moves is looked at as it is carried out. Only moves whose sender no receiver changes are cut into their single moves (`IsMoveCut`), so that
 //! what the steps make of a storage is what the moves make. One jump finds what carries out a step of one of the commoner kinds; the prepared moves of all
-//! other kinds (`Prepared` of step.rt) are found by one more.
+//! other kinds (`Prepared` of step.rt) are found by one more, and the moves between items whose places are found as they are carried out have a loop of
+//! their own.
 //!
 //! A place that depends on counts is found by those that the operand needs. A count that was read is kept from move to move, and is read again only
 //! behind a receiver whose place meets the item of a kept one; [`Scratch::reads`] tells how many count items of the output record were read: at most one
@@ -67,5 +68,6 @@ pub use cob_layout::{
 pub use cob_layout_places::{Move, NumberedPair, Operand, PairMoves, Sender, Side, StatementMoves};
 pub use laws::one_ending;
 pub use moves::Moves;
+pub use places::stop_of;
 pub use scratch::Scratch;
 pub use stop::{Stop, StopCause};

@@ -143,9 +143,8 @@ fn run_between(
 }
 
 /// Carries out the single move with this number at once. False where senders are read otherwise than it was made ready for, where its sender or its
-/// receiver stands nowhere, or where a value of the sender is missing: the storage is as it was then. It isn't inlined, so that steps whose places are known
-/// stay short.
-#[inline(never)]
+/// receiver stands nowhere, or where a value of the sender is missing: the storage is as it was then.
+#[inline(always)]
 pub(crate) fn run_located(
     plan: &Plan,
     number: usize,

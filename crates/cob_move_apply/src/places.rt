@@ -26,7 +26,7 @@ pub(crate) struct Stored<'a> {
 }
 
 /// The stop where an operand stands nowhere: at the item of a count that isn't valid, or at an element past its table's count.
-fn stop_of(side: Side, fault: FindFault) -> Stop
+pub fn stop_of(side: Side, fault: FindFault) -> Stop
     ensures { result ≡ stop_of side fault }
 {
     match fault {

@@ -60,6 +60,19 @@ pub(crate) fn make_prepared(
     }
 }
 
+/// The step of characters that these places have. Its sender is said to have as many bytes as its place, so that the compiler finds the first of them at
+/// once.
+#[inline(always)]
+fn step_between(step: CharactersStep, places: &MovePlaces) -> CharactersStep
+    requires { step.sent ≡ places.now.from.length }
+    ensures { result ≡ step }
+{
+    CharactersStep {
+        sent: places.from.length as usize,
+        right: step.right,
+    }
+}
+
 /// Carries out a single move of characters that was made ready, which has no other outcome. It is inlined, so that it costs no call.
 #[inline(always)]
 pub(crate) fn make_characters(
@@ -87,6 +100,7 @@ pub(crate) fn make_characters(
     let sent = places.from.offset as usize + places.from.length as usize;
     let start = places.to.offset as usize;
     let end = start + places.to.length as usize;
+    let step = step_between(step, places);
     prepared.run_characters(step, &input[..sent], &mut output[start..end]);
     space.output.change_output(layouts, places.to);
 }

@@ -130,9 +130,10 @@ fn run_part(
 }
 
 /// Carries out a step that was made ready, but for a move between two places that are found as it is carried out. False where it is another one, or
-/// where something is missing: the storage is as it was then.
+/// where something is missing: the storage is as it was then. Whether a table of the output record varies is known from the type, so that a step of a
+/// record without one asks nothing of kept counts.
 #[inline(always)]
-pub(crate) fn run_step(
+pub(crate) fn run_step<const VARIES: bool>(
     plan: &Plan,
     step: &Step,
     layouts: &Layouts<'_>,
@@ -140,6 +141,7 @@ pub(crate) fn run_step(
     output: &mut [u8],
     space: &mut Workspace,
 ) -> bool
+    requires varies { layouts.now.varies ≡ VARIES }
     requires out_sound { IsSound layouts.now.output.now }
     requires step { (given : List Said) × (own : List Meant)
         × IsStep layouts.now.reading (records layouts.now)
@@ -158,40 +160,39 @@ pub(crate) fn run_step(
     ensures same { result ≡ false → (output.new ≡ output.old)
         × IsSpent layouts.now.output.now 0 space.old.output space.new.output }
 {
+    // Only what is inlined is handed this: the compiler looks up anew what a call has seen.
+    let told = Layouts {
+        input: layouts.input,
+        output: layouts.output,
+        reading: layouts.reading,
+        varies: VARIES,
+    };
     match step {
         Step::Number(one) => {
             let step = MoveStep::Number(one.number);
-            run_single(plan, &one.places, step, layouts, input, output, space)
+            run_single(plan, &one.places, step, &told, input, output, space)
         }
         Step::Wide(one) => {
             let step = MoveStep::Wide(one.number);
-            run_single(plan, &one.places, step, layouts, input, output, space)
+            run_single(plan, &one.places, step, &told, input, output, space)
         }
         Step::AnyNumber(one) => {
             let step = MoveStep::AnyNumber(one.number);
-            run_single(plan, &one.places, step, layouts, input, output, space)
+            run_single(plan, &one.places, step, &told, input, output, space)
         }
         Step::Edited(one) => {
             let step = MoveStep::Edited(one.number);
-            run_single(plan, &one.places, step, layouts, input, output, space)
+            run_single(plan, &one.places, step, &told, input, output, space)
         }
         Step::Characters(one) => {
             let prepared = &plan.prepared;
-            make_characters(
-                prepared,
-                &one.places,
-                one.step,
-                layouts,
-                input,
-                output,
-                space,
-            );
+            make_characters(prepared, &one.places, one.step, &told, input, output, space);
             true
         }
         Step::Prepared(one) => run_one(plan, one, layouts, input, output, space),
-        Step::Pictured(one, _) => run_part(plan, *one, layouts, input, output, space),
+        Step::Pictured(one, _) => run_part(plan, *one, &told, input, output, space),
         Step::Constant(one) => {
-            make_constant(plan, *one, layouts, input, output, space);
+            make_constant(plan, *one, &told, input, output, space);
             true
         }
         Step::Copy(places) => {

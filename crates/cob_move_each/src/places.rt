@@ -6,11 +6,11 @@ ghost use Rattle.cob_layout.specs.Storage.{greatest_length};
 ghost use Rattle.cob_layout.specs.Standing.{IsRoomFor};
 ghost use Rattle.cob_layout_places.specs.Moves.{IsOperand, operand_in};
 ghost use Rattle.cob_move_receive.specs.Sent.{Occupies};
-ghost use Rattle.cob_move_apply.specs.Located.{Located, stop_of};
+ghost use Rattle.cob_move_apply.specs.Located.{Located};
 
-use cob_layout::{Counts, FindFault, Kind, Layout, Place, Ref};
+use cob_layout::{Counts, Kind, Layout, Place, Ref};
 use cob_layout_places::Side;
-use cob_move_apply::{Stop, StopCause};
+use cob_move_apply::{Stop, stop_of};
 
 /// The storage of the record of one side.
 #[derive(Clone, Copy)]
@@ -18,24 +18,6 @@ pub(crate) struct Stored<'a> {
     pub(crate) side: Side,
     pub(crate) layout: &'a Layout,
     pub(crate) bytes: &'a [u8],
-}
-
-/// The stop where an entry stands nowhere: at the item of a count that isn't valid, or at an element past its table's count.
-fn stop_of(side: Side, fault: FindFault) -> Stop
-    ensures { result ≡ stop_of side fault }
-{
-    match fault {
-        FindFault::Count(count) => Stop {
-            side,
-            offset: count.offset,
-            cause: StopCause::Count,
-        },
-        FindFault::Subscript(element) => Stop {
-            side,
-            offset: element.offset,
-            cause: StopCause::Subscript,
-        },
-    }
 }
 
 /// What an entry of the record of a layout describes.

@@ -5,8 +5,8 @@ use Rattle.cob_move_apply.specs.Steps.{support_of}
 use Rattle.cob_move_apply.specs.Surveyed.{IsWorkspace, records}
 use Rattle.cob_move_apply.proofs.application.run_ready.Given as goal
 
-abbrev pub invariant-loop-step : goal.invariant-loop-step
-invariant-loop-step l = record {
+abbrev pub invariant-loop-output : goal.invariant-loop-output
+invariant-loop-output l = record {
   left : (given : List StatementMoves) (before : List ℕ)
       → Left l.layouts.reading (records l.layouts) given l.fn.steps (support_of l.plan) 0 l.input before l.fn.output
       → Left l.layouts.reading (records l.layouts) given l.rest (support_of l.plan) 0 l.input before l.output;
@@ -18,5 +18,5 @@ invariant-loop-step l = record {
   fewer : length l.rest ≤ length l.fn.steps;
 }
 
-abbrev pub decreases-loop-step : goal.decreases-loop-step
-decreases-loop-step l = length l.rest
+abbrev pub decreases-loop-output : goal.decreases-loop-output
+decreases-loop-output l = length l.rest

@@ -11,8 +11,9 @@ returns-clause-made c =
     let start : ℕ = c.args.places.now.to.offset in
     let end : ℕ = start + c.args.places.now.to.length in
     let back : end - start ≡ c.args.places.now.to.length = omega arith in
+    let ran = rw c.step_between-step.ensures at c.run_characters.ensures in
     made (record { places = c.args.places.now; step = Characters c.args.step }) c.args.prepared.now c.args.input.now c.args.output.now c.run_characters.new.to _ true c.requires.reads
-    (mid_len start end c.args.output.now (omega (arith, c.requires.writes, c.requires.output)) ∙ back) refl c.run_characters.ensures
+    (mid_len start end c.args.output.now (omega (arith, c.requires.writes, c.requires.output)) ∙ back) refl ran
 
 pub returns-clause-space : goal.returns-clause-space
 returns-clause-space c =

@@ -10,7 +10,7 @@ use Rattle.cob_move_apply.proofs.SpendingLemmas.{constant_spends, copy_spends, p
 use Rattle.cob_move_apply.proofs.running.run_step.Goals as goal
 
 pub run_single-requires-clause-step : goal.run_single-requires-clause-step
-run_single-requires-clause-step c =
+run_single-requires-clause-step g c =
     let x = c.args.layouts.now.reading in
     let r = records c.args.layouts.now in
     let on : Support = support_of c.args.plan.now in
@@ -19,7 +19,7 @@ run_single-requires-clause-step c =
     (own, is)
 
 pub returns-in-Number-clause-applied : goal.returns-in-Number-clause-applied
-returns-in-Number-clause-applied c = λ yes given own is.
+returns-in-Number-clause-applied g c = λ yes given own is.
     let x = c.args.layouts.now.reading in
     let r = records c.args.layouts.now in
     let on : Support = support_of c.args.plan.now in
@@ -27,7 +27,7 @@ returns-in-Number-clause-applied c = λ yes given own is.
     c.run_single.ensures.applied yes own this
 
 pub returns-in-Number-clause-spends : goal.returns-in-Number-clause-spends
-returns-in-Number-clause-spends c = λ yes given own is.
+returns-in-Number-clause-spends g c = λ yes given own is.
     let x = c.args.layouts.now.reading in
     let r = records c.args.layouts.now in
     let on : Support = support_of c.args.plan.now in
@@ -35,7 +35,7 @@ returns-in-Number-clause-spends c = λ yes given own is.
     c.run_single.ensures.spends yes own this
 
 pub run_single-requires-in-Wide-clause-step : goal.run_single-requires-in-Wide-clause-step
-run_single-requires-in-Wide-clause-step c =
+run_single-requires-in-Wide-clause-step g c =
     let x = c.args.layouts.now.reading in
     let r = records c.args.layouts.now in
     let on : Support = support_of c.args.plan.now in
@@ -44,7 +44,7 @@ run_single-requires-in-Wide-clause-step c =
     (own, is)
 
 pub returns-in-Wide-clause-applied : goal.returns-in-Wide-clause-applied
-returns-in-Wide-clause-applied c = λ yes given own is.
+returns-in-Wide-clause-applied g c = λ yes given own is.
     let x = c.args.layouts.now.reading in
     let r = records c.args.layouts.now in
     let on : Support = support_of c.args.plan.now in
@@ -52,7 +52,7 @@ returns-in-Wide-clause-applied c = λ yes given own is.
     c.run_single-in-Wide.ensures.applied yes own this
 
 pub returns-in-Wide-clause-spends : goal.returns-in-Wide-clause-spends
-returns-in-Wide-clause-spends c = λ yes given own is.
+returns-in-Wide-clause-spends g c = λ yes given own is.
     let x = c.args.layouts.now.reading in
     let r = records c.args.layouts.now in
     let on : Support = support_of c.args.plan.now in
@@ -60,7 +60,7 @@ returns-in-Wide-clause-spends c = λ yes given own is.
     c.run_single-in-Wide.ensures.spends yes own this
 
 pub run_single-requires-in-AnyNumber-clause-step : goal.run_single-requires-in-AnyNumber-clause-step
-run_single-requires-in-AnyNumber-clause-step c =
+run_single-requires-in-AnyNumber-clause-step g c =
     let x = c.args.layouts.now.reading in
     let r = records c.args.layouts.now in
     let on : Support = support_of c.args.plan.now in
@@ -69,7 +69,7 @@ run_single-requires-in-AnyNumber-clause-step c =
     (own, is)
 
 pub returns-in-AnyNumber-clause-applied : goal.returns-in-AnyNumber-clause-applied
-returns-in-AnyNumber-clause-applied c = λ yes given own is.
+returns-in-AnyNumber-clause-applied g c = λ yes given own is.
     let x = c.args.layouts.now.reading in
     let r = records c.args.layouts.now in
     let on : Support = support_of c.args.plan.now in
@@ -77,7 +77,7 @@ returns-in-AnyNumber-clause-applied c = λ yes given own is.
     c.run_single-in-AnyNumber.ensures.applied yes own this
 
 pub returns-in-AnyNumber-clause-spends : goal.returns-in-AnyNumber-clause-spends
-returns-in-AnyNumber-clause-spends c = λ yes given own is.
+returns-in-AnyNumber-clause-spends g c = λ yes given own is.
     let x = c.args.layouts.now.reading in
     let r = records c.args.layouts.now in
     let on : Support = support_of c.args.plan.now in
@@ -85,7 +85,7 @@ returns-in-AnyNumber-clause-spends c = λ yes given own is.
     c.run_single-in-AnyNumber.ensures.spends yes own this
 
 pub run_single-requires-in-Edited-clause-step : goal.run_single-requires-in-Edited-clause-step
-run_single-requires-in-Edited-clause-step c =
+run_single-requires-in-Edited-clause-step g c =
     let x = c.args.layouts.now.reading in
     let r = records c.args.layouts.now in
     let on : Support = support_of c.args.plan.now in
@@ -94,7 +94,7 @@ run_single-requires-in-Edited-clause-step c =
     (own, is)
 
 pub returns-in-Edited-clause-applied : goal.returns-in-Edited-clause-applied
-returns-in-Edited-clause-applied c = λ yes given own is.
+returns-in-Edited-clause-applied g c = λ yes given own is.
     let x = c.args.layouts.now.reading in
     let r = records c.args.layouts.now in
     let on : Support = support_of c.args.plan.now in
@@ -102,7 +102,7 @@ returns-in-Edited-clause-applied c = λ yes given own is.
     c.run_single-in-Edited.ensures.applied yes own this
 
 pub returns-in-Edited-clause-spends : goal.returns-in-Edited-clause-spends
-returns-in-Edited-clause-spends c = λ yes given own is.
+returns-in-Edited-clause-spends g c = λ yes given own is.
     let x = c.args.layouts.now.reading in
     let r = records c.args.layouts.now in
     let on : Support = support_of c.args.plan.now in
@@ -110,7 +110,7 @@ returns-in-Edited-clause-spends c = λ yes given own is.
     c.run_single-in-Edited.ensures.spends yes own this
 
 pub run_one-requires-clause-step : goal.run_one-requires-clause-step
-run_one-requires-clause-step c =
+run_one-requires-clause-step g c =
     let x = c.args.layouts.now.reading in
     let r = records c.args.layouts.now in
     let on : Support = support_of c.args.plan.now in
@@ -119,7 +119,7 @@ run_one-requires-clause-step c =
     (own, is)
 
 pub returns-in-Prepared-clause-applied : goal.returns-in-Prepared-clause-applied
-returns-in-Prepared-clause-applied c = λ yes given own is.
+returns-in-Prepared-clause-applied g c = λ yes given own is.
     let x = c.args.layouts.now.reading in
     let r = records c.args.layouts.now in
     let on : Support = support_of c.args.plan.now in
@@ -127,7 +127,7 @@ returns-in-Prepared-clause-applied c = λ yes given own is.
     c.run_one.ensures.applied yes own this
 
 pub returns-in-Prepared-clause-spends : goal.returns-in-Prepared-clause-spends
-returns-in-Prepared-clause-spends c = λ yes given own is.
+returns-in-Prepared-clause-spends g c = λ yes given own is.
     let x = c.args.layouts.now.reading in
     let r = records c.args.layouts.now in
     let on : Support = support_of c.args.plan.now in
@@ -135,7 +135,7 @@ returns-in-Prepared-clause-spends c = λ yes given own is.
     c.run_one.ensures.spends yes own this
 
 pub make_characters-requires-clause-step : goal.make_characters-requires-clause-step
-make_characters-requires-clause-step c =
+make_characters-requires-clause-step g c =
     let x = c.args.layouts.now.reading in
     let r = records c.args.layouts.now in
     let on : Support = support_of c.args.plan.now in
@@ -145,7 +145,7 @@ make_characters-requires-clause-step c =
     the_prepared x r on.prepared p own is
 
 pub make_characters-requires-clause-reads : goal.make_characters-requires-clause-reads
-make_characters-requires-clause-reads c =
+make_characters-requires-clause-reads g c =
     let x = c.args.layouts.now.reading in
     let r = records c.args.layouts.now in
     let on : Support = support_of c.args.plan.now in
@@ -155,7 +155,7 @@ make_characters-requires-clause-reads c =
     prepared_reads x r on.prepared p own c.args.input.now is c.requires.input
 
 pub make_characters-requires-clause-writes : goal.make_characters-requires-clause-writes
-make_characters-requires-clause-writes c =
+make_characters-requires-clause-writes g c =
     let x = c.args.layouts.now.reading in
     let r = records c.args.layouts.now in
     let on : Support = support_of c.args.plan.now in
@@ -165,7 +165,7 @@ make_characters-requires-clause-writes c =
     prepared_within x r on.prepared p own is
 
 pub returns-in-Characters-clause-applied : goal.returns-in-Characters-clause-applied
-returns-in-Characters-clause-applied c = λ yes given own is.
+returns-in-Characters-clause-applied g c = λ yes given own is.
     let x = c.args.layouts.now.reading in
     let r = records c.args.layouts.now in
     let on : Support = support_of c.args.plan.now in
@@ -174,7 +174,7 @@ returns-in-Characters-clause-applied c = λ yes given own is.
     made_prepared x r on.prepared p own c.args.input.now c.args.output.now (done c.make_characters.new.output) c.requires.input c.requires.output c.make_characters.ensures.made this
 
 pub returns-in-Characters-clause-spends : goal.returns-in-Characters-clause-spends
-returns-in-Characters-clause-spends c = λ yes given own is.
+returns-in-Characters-clause-spends g c = λ yes given own is.
     let x = c.args.layouts.now.reading in
     let r = records c.args.layouts.now in
     let on : Support = support_of c.args.plan.now in
@@ -183,7 +183,7 @@ returns-in-Characters-clause-spends c = λ yes given own is.
     prepared_spends {A = ℕ} x r on.prepared p own c.args.input.now c.args.output.now (Ok 0) c.make_characters.new.output _ _ c.make_characters.ensures.made c.make_characters.ensures.spends this
 
 pub run_part-requires-clause-part : goal.run_part-requires-clause-part
-run_part-requires-clause-part c =
+run_part-requires-clause-part g c =
     let x = c.args.layouts.now.reading in
     let r = records c.args.layouts.now in
     let on : Support = support_of c.args.plan.now in
@@ -193,7 +193,7 @@ run_part-requires-clause-part c =
     (given, c.in-Pictured.field-1, m, part)
 
 pub returns-in-Pictured-clause-applied : goal.returns-in-Pictured-clause-applied
-returns-in-Pictured-clause-applied c = λ yes given own is.
+returns-in-Pictured-clause-applied g c = λ yes given own is.
     let x = c.args.layouts.now.reading in
     let r = records c.args.layouts.now in
     let on : Support = support_of c.args.plan.now in
@@ -201,7 +201,7 @@ returns-in-Pictured-clause-applied c = λ yes given own is.
     made_pictured x r given on c.in-Pictured.one c.in-Pictured.field-1 own c.args.input.now c.args.output.now (done c.run_part.new.output) (c.run_part.ensures.moved yes given c.in-Pictured.field-1) this
 
 pub returns-in-Pictured-clause-spends : goal.returns-in-Pictured-clause-spends
-returns-in-Pictured-clause-spends c = λ yes given own is.
+returns-in-Pictured-clause-spends g c = λ yes given own is.
     let x = c.args.layouts.now.reading in
     let r = records c.args.layouts.now in
     let on : Support = support_of c.args.plan.now in
@@ -209,7 +209,7 @@ returns-in-Pictured-clause-spends c = λ yes given own is.
     pictured_step_has_spent x r given on c.in-Pictured.one c.in-Pictured.field-1 own c.args.input.now c.args.output.now c.run_part.new.output _ _ (c.run_part.ensures.spends yes given c.in-Pictured.field-1) this
 
 pub make_constant-requires-clause-step : goal.make_constant-requires-clause-step
-make_constant-requires-clause-step c =
+make_constant-requires-clause-step g c =
     let x = c.args.layouts.now.reading in
     let r = records c.args.layouts.now in
     let on : Support = support_of c.args.plan.now in
@@ -218,7 +218,7 @@ make_constant-requires-clause-step c =
     the_constant x r given on c.in-Constant.one own is
 
 pub make_constant-requires-clause-writes : goal.make_constant-requires-clause-writes
-make_constant-requires-clause-writes c =
+make_constant-requires-clause-writes g c =
     let x = c.args.layouts.now.reading in
     let r = records c.args.layouts.now in
     let on : Support = support_of c.args.plan.now in
@@ -227,7 +227,7 @@ make_constant-requires-clause-writes c =
     constant_within x r given on c.in-Constant.one own is
 
 pub returns-in-Constant-clause-applied : goal.returns-in-Constant-clause-applied
-returns-in-Constant-clause-applied c = λ yes given own is.
+returns-in-Constant-clause-applied g c = λ yes given own is.
     let x = c.args.layouts.now.reading in
     let r = records c.args.layouts.now in
     let on : Support = support_of c.args.plan.now in
@@ -235,7 +235,7 @@ returns-in-Constant-clause-applied c = λ yes given own is.
     made_constant x r given on c.in-Constant.one own c.args.input.now c.args.output.now c.make_constant.new.output c.make_constant.ensures.made this
 
 pub returns-in-Constant-clause-spends : goal.returns-in-Constant-clause-spends
-returns-in-Constant-clause-spends c = λ yes given own is.
+returns-in-Constant-clause-spends g c = λ yes given own is.
     let x = c.args.layouts.now.reading in
     let r = records c.args.layouts.now in
     let on : Support = support_of c.args.plan.now in
@@ -243,7 +243,7 @@ returns-in-Constant-clause-spends c = λ yes given own is.
     constant_spends x r given on c.in-Constant.one own c.args.input.now c.args.output.now c.make_constant.new.output _ _ c.make_constant.ensures.made c.make_constant.ensures.spends this
 
 pub copy_across-requires-clause-reads : goal.copy_across-requires-clause-reads
-copy_across-requires-clause-reads c =
+copy_across-requires-clause-reads g c =
     let x = c.args.layouts.now.reading in
     let r = records c.args.layouts.now in
     let on : Support = support_of c.args.plan.now in
@@ -252,7 +252,7 @@ copy_across-requires-clause-reads c =
     copy_reads x r given on c.in-Copy.places own c.args.input.now is c.requires.input
 
 pub returns-in-Copy-clause-applied : goal.returns-in-Copy-clause-applied
-returns-in-Copy-clause-applied c = λ yes given own is.
+returns-in-Copy-clause-applied g c = λ yes given own is.
     let x = c.args.layouts.now.reading in
     let r = records c.args.layouts.now in
     let on : Support = support_of c.args.plan.now in
@@ -260,7 +260,7 @@ returns-in-Copy-clause-applied c = λ yes given own is.
     made_copy x r given on c.in-Copy.places own c.args.input.now c.args.output.now c.copy_across.new.output c.requires.input c.requires.output c.copy_across.ensures this
 
 pub returns-in-Copy-clause-space : goal.returns-in-Copy-clause-space
-returns-in-Copy-clause-space c =
+returns-in-Copy-clause-space g c =
     let x = c.args.layouts.now.reading in
     let r = records c.args.layouts.now in
     let on : Support = support_of c.args.plan.now in
@@ -269,7 +269,7 @@ returns-in-Copy-clause-space c =
     space_copy x r given on c.in-Copy.places own c.args.input.now c.args.output.now c.copy_across.new.output c.args.space.now c.requires.input c.requires.output c.copy_across.ensures is c.requires.space
 
 pub returns-in-Copy-clause-spends : goal.returns-in-Copy-clause-spends
-returns-in-Copy-clause-spends c = λ yes given own is.
+returns-in-Copy-clause-spends g c = λ yes given own is.
     let x = c.args.layouts.now.reading in
     let r = records c.args.layouts.now in
     let on : Support = support_of c.args.plan.now in
