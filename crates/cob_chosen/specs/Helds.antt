@@ -1,5 +1,5 @@
 -- A record that is held, as it stands by itself in a stream.
-use Rattle.std.specs.Prelude.{◌≡◌, ℕ, ◌-◌, List, ◌++◌, take, drop}
+use Rattle.std.specs.Prelude.{◌≡◌, ℕ, ◌-◌, ◌==◌, ◌&&◌, Bool, List, ◌++◌, take, drop}
 use Rattle.cob_chosen.specs.declared.held.Held.{Held}
 
 -- what is held: the end of the descriptors, and then a part of the record
@@ -9,3 +9,7 @@ held_bytes held = drop held.at held.front ++ take (held.end - held.from) (drop h
 -- nothing is held: all was given
 abbrev pub IsSpent : Held → Type 0
 IsSpent held = (held.at ≡ 8) × (held.from ≡ held.end)
+
+-- the same as a test
+abbrev pub holds_none : Held → Bool
+holds_none held = held.at == 8 && held.from == held.end

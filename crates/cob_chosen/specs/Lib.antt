@@ -1,7 +1,9 @@
+pub mod Aheads
 pub mod Choices
 pub mod Fronts
 pub mod Gives
 pub mod Helds
 pub mod Incomings
 pub mod Parts
+pub mod Rests
 pub mod Walks

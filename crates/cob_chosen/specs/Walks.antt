@@ -1,5 +1,5 @@
 -- How far a stream of records has come, of which some are chosen, and one more.
-use Rattle.std.specs.Prelude.{◌≡◌, ◌⊎◌, ◌<◌, ◌≤◌, ℕ, List, [], ◌++◌, Option, Result, IfOk, IfSome}
+use Rattle.std.specs.Prelude.{◌≡◌, ◌⊎◌, ◌≤◌, ℕ, List, [], ◌++◌, Option, Result, IfOk, IfSome}
 use Rattle.cob_records.specs.Alone.{framed_alone}
 use Rattle.cob_records.specs.Device.{Told}
 use Rattle.cob_chosen.specs.Choices.{HasCome, HasStopped}

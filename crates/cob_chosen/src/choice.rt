@@ -6,7 +6,7 @@ ghost use Rattle.cob_chosen.specs.Choices.{chooses_all, last_chosen};
 use cob_records::RecordFault;
 
 /// Which records of a stream are chosen.
-#[derive(Clone, Copy, Debug, PartialEq, Eq)]
+#[derive(Clone, Copy, PartialEq, Eq)]
 pub struct Choice {
     /// How many are passed over.
     pub skip: u64,
@@ -15,14 +15,14 @@ pub struct Choice {
 }
 
 /// Where choosing stops: at which record, counted from 1 among all, and why its frame can't be read.
-#[derive(Clone, Copy, Debug, PartialEq, Eq)]
+#[derive(Clone, Copy, PartialEq, Eq)]
 pub struct Stopped {
     pub number: u64,
     pub fault: RecordFault,
 }
 
 /// Why the first record that is chosen does not come.
-#[derive(Clone, Copy, Debug, PartialEq, Eq)]
+#[derive(Clone, Copy, PartialEq, Eq)]
 pub enum ChoiceFault {
     /// The frame of a record that is passed over can't be read.
     Stopped(Stopped),

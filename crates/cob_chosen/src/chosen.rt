@@ -7,9 +7,11 @@ ghost use Rattle.cob_records.specs.Forms.{HasBlockSize};
 ghost use Rattle.cob_records.specs.Frame.{is_write_fault};
 ghost use Rattle.cob_chosen.specs.Choices.{stops_reading};
 
+use crate::ahead::{Ahead, ahead_of};
 use crate::choice::{Choice, ChoiceFault, Stopped};
 use crate::held::Held;
 use crate::refill::{pass_over, refill};
+use crate::rest::Rest;
 use crate::walk::Walk;
 use cob_records::{DeviceFault, Form, Source};
 use std::alloc::Global;
@@ -86,6 +88,17 @@ impl<R: Source + Drop> Chosen<R> {
 
 impl<R> Chosen<R> {
     ghost use Rattle.cob_chosen.specs.Gives.{chosen_stop};
+    ghost use Rattle.cob_chosen.specs.Rests.{chosen_ahead};
+
+    // How much of what is left of the source inside is still given, where it did not stop and holds no part of a record.
+    fn ahead(&self) -> Ahead
+        ensures { result ≡ chosen_ahead self.now }
+    {
+        if self.stopped.is_some() || !self.held.is_empty() {
+            return Ahead::Apart;
+        }
+        ahead_of(self.walk)
+    }
 
     /// At which record it stopped, and why, where a read of it failed.
     pub fn stopped(&self) -> Option<Stopped>
@@ -93,6 +106,31 @@ impl<R> Chosen<R> {
         ensures kind { IfSome result (λ stop. is_write_fault stop.fault ≡ false) }
     {
         self.stopped
+    }
+}
+
+impl<R: Drop> Chosen<R> {
+    ghost use Rattle.cob_chosen.specs.Rests.{rest_of};
+
+    /// What is still given of the source inside, where that is all that is left of it, or its first bytes: nothing need be between then.
+    ///
+    /// # Errors
+    ///
+    /// This source, where its records are given apart.
+    pub fn into_rest(self) -> Result<Rest<R>, Chosen<R>>
+        ensures { result ≡ rest_of self }
+    {
+        match self.ahead() {
+            Ahead::All => Ok(Rest {
+                inner: self.inner,
+                bytes: None,
+            }),
+            Ahead::Bytes(bytes) => Ok(Rest {
+                inner: self.inner,
+                bytes: Some(bytes),
+            }),
+            Ahead::Apart => Err(self),
+        }
     }
 }
 

@@ -75,7 +75,7 @@ fn give_some(bytes: &[u8], piece: &mut [u8]) -> usize
 
 impl Held {
     ghost use Rattle.cob_records.specs.Alone.{framed_alone};
-    ghost use Rattle.cob_chosen.specs.Helds.{IsSpent, held_bytes};
+    ghost use Rattle.cob_chosen.specs.Helds.{IsSpent, held_bytes, holds_none};
 
     /// Nothing is held, and there is room for a record of so many bytes.
     ///
@@ -97,6 +97,7 @@ impl Held {
 
     /// Whether nothing is held.
     pub(crate) fn is_empty(&self) -> bool
+        ensures is { result ≡ holds_none self.now }
         ensures none { IsTrue result → IsSpent self.now }
         ensures some { IsFalse result → 0 < length (held_bytes self.now) }
     {

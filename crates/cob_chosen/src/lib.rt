@@ -8,17 +8,23 @@
 //!   are passed over, of those that came whole; and where it says that nothing is left, the last one that is chosen has come, or the source inside is
 //!   at its end. A frame that can't be read, of a record that is passed over or taken, is a read that fails; [`Chosen::stopped`] tells then the number
 //!   of the record among all and why, as a reader of the whole stream would (`HasStopped`). A read of the source inside failed exactly where that is why.
+//! - [`Chosen::into_rest`] gives, where the chosen records are all that is left of the source inside, or its first bytes, just that ([`Rest`]), with nothing
+//!   between: in form f always, in form v where no number of records is asked for. These are the bytes behind the records that are passed over
+//!   ([`rest_is_behind`]).
 //! - [`whole_records`] says how many records of one length may be passed over by a seek: by arithmetic on the size of a file.
 //!
 //! One buffer is made for all records. It stands on `cob_records` for the frames and on `cob_limits`.
 #![tactic(auto)]
 
+mod ahead;
 mod choice;
 mod chosen;
 mod held;
 mod incoming;
+mod laws;
 mod part;
 mod refill;
+mod rest;
 mod step;
 mod walk;
 mod whole;
@@ -26,4 +32,6 @@ mod whole;
 pub use choice::{Choice, ChoiceFault, Stopped};
 pub use chosen::Chosen;
 pub use incoming::{Incoming, choose};
+pub use laws::rest_is_behind;
 pub use part::Part;
+pub use rest::Rest;

@@ -6,7 +6,7 @@ ghost use Rattle.cob_chosen.specs.Parts.{IsBehindWhole, less_by, piece_of};
 use crate::whole::whole_records;
 
 /// A part of a file of records.
-#[derive(Clone, Copy, Debug, PartialEq, Eq)]
+#[derive(Clone, Copy, PartialEq, Eq)]
 pub struct Part {
     /// How many bytes of the file stand before it.
     pub from: u64,
@@ -17,7 +17,7 @@ pub struct Part {
 }
 
 /// What is left of so many bytes, where they are bounded, behind the first ones.
-fn less_by(count: u64, bytes: Option<u64>) -> Option<u64>
+pub(crate) fn less_by(count: u64, bytes: Option<u64>) -> Option<u64>
     ensures { result ≡ less_by count bytes }
 {
     match bytes {

@@ -4,7 +4,7 @@ ghost use Rattle.std.specs.Prelude.{◌≡◌, ℕ, ◌+◌, ◌*◌, ◌<◌, �
 ghost use Rattle.cob_chosen.specs.Choices.{AreInFront};
 
 /// Whole records, and how many bytes they have.
-#[derive(Clone, Copy, Debug, PartialEq, Eq)]
+#[derive(Clone, Copy, PartialEq, Eq)]
 pub(crate) struct Whole {
     pub(crate) records: u64,
     pub(crate) bytes: u64,

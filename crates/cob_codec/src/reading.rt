@@ -1,5 +1,5 @@
 /// How a binary item is read that is sent.
-#[derive(Clone, Copy, Debug, PartialEq, Eq)]
+#[derive(Clone, Copy, PartialEq, Eq)]
 pub enum Reading {
     /// As the number that its picture's digits hold; bytes of another number represent none.
     Pictured,

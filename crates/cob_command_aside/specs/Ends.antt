@@ -2,7 +2,7 @@
 use Rattle.std.specs.Prelude.{◌⊎◌, ◌<◌, Bool}
 use Rattle.cob_command_faults.specs.declared.fault.CommandFault.{CommandFault}
 use Rattle.cob_command_faults.specs.declared.fault.CommandFault.TheVariants as fault
-use Rattle.cob_command_faults.specs.Texts.{LacksConverter}
+use Rattle.cob_command_faults.specs.Texts.{LacksConversion}
 use Rattle.cob_command_ends.specs.Aside.{LacksAsideEnds}
 use Rattle.cob_run_aside.specs.Ends.{LacksOutputs}
 
@@ -18,4 +18,4 @@ EndsRun atomic told = LacksOutputs atomic told ⊎ RejectsSome told
 -- The faults that `convert --rejects` can have: of its texts, of its ends, of its run, and that it rejected records; and, where what is there is kept
 -- until all is done, that one of the new files was not renamed.
 abbrev pub MayEndAside : Bool → CommandFault → Type 0
-MayEndAside atomic told = LacksConverter told ⊎ LacksAsideEnds told ⊎ EndsRun atomic told
+MayEndAside atomic told = LacksConversion told ⊎ LacksAsideEnds told ⊎ EndsRun atomic told

@@ -10,12 +10,12 @@ ghost use Rattle.cob_command_aside.specs.Told.{aside_counted_from, aside_told_fr
 use cob_command_ends::{
     AsideEnds, Parts, counted_from, first_of, is_standard_output, open_aside_ends, telling_piece,
 };
-use cob_command_faults::cob_status::Status;
-use cob_command_faults::{CommandFault, Texts, printed, tell_fault};
+use cob_command_faults::{CommandFault, Texts, printed, tell_fault, tell_uneven};
+use cob_convert::{Converter, Tally};
 use cob_convert_files::part_name;
 use cob_convert_line::ConvertLine;
-use cob_run_aside::cob_convert::{Converter, Tally};
 use cob_run_aside::{How, Names, Rejections, counted_on, placed_run, run_aside_to_end};
+use cob_status::Status;
 use std::io::{Eprint, Input, Print};
 use std::rt::{Clock, Files};
 
@@ -116,6 +116,14 @@ fn convert_into<R: AllocGlobal + Files + Input + Print + Eprint + Clock>(
                 mut aside,
             },
         ) => {
+            tell_uneven(
+                rt,
+                line.input,
+                line.in_form,
+                greatest,
+                line.from,
+                line.bytes,
+            );
             let how = how_of(rt, line);
             let mut notes = rejections_of(rt, line, how);
             let ending = run_aside_to_end(
@@ -177,7 +185,7 @@ pub fn convert_aside<R: AllocGlobal + Files + Input + Print + Eprint + Clock>(
         out_book: line.out_book,
         moves: line.moves,
     };
-    match texts.prepared(rt, line.in_form, line.out_form, line.reading) {
+    match texts.prepared(rt, line.in_form, line.out_form, line.reading, line.lrecl) {
         Ok(mut converter) => convert_by(rt, line, rejects, &mut converter),
         Err(fault) => Err(fault),
     }

@@ -3,15 +3,15 @@ ghost use Rattle.cob_command_faults.specs.Ends.{EndsAmong, EndsAs, status_of_out
 ghost use Rattle.cob_command_check.specs.Ends.{MayEndCheck};
 
 use crate::reading::read_texts;
-use cob_command_faults::cob_status::Status;
 use cob_command_faults::{CommandFault, printed, tell_fault};
 use cob_convert_line::CheckLine;
+use cob_status::Status;
 use std::fmt;
 use std::io::{Eprint, Print};
 use std::rt::Files;
 
 /// What the three texts of a conversion come to.
-#[derive(Clone, Copy, Debug, PartialEq, Eq)]
+#[derive(Clone, Copy, PartialEq, Eq)]
 pub struct Checked {
     /// The greatest length of an input record.
     pub input: u16,

@@ -3,8 +3,8 @@
 //!
 //! [`do_check`] and [`do_cover`] carry it out, print the line of what the texts come to, the second also the lists of `cob_cover` behind it, and answer
 //! how the program ends: by [`check`] and [`cover`], which only answer. What is promised: which faults a check can have (`MayEndCheck` of
-//! specs/Ends.antt), and that it ends with the status of what it came to, or as where a device failed if it was not printed (`EndsAmong` of
-//! `cob_command_faults`). What the lists hold is promised by `cob_cover`, and how they read is shown by the stored command lines of `cob_jobs`.
+//! specs/Ends.antt), and that it ends with the status of what it came to (`status_of_covered`), or as where a device failed if it was not printed: a strict
+//! one, where something is open, as a run that a record stopped (`EndsCheck`). What the lists hold is promised by `cob_cover`, and how they read is shown by the stored command lines of `cob_jobs`.
 //!
 //! It stands on `cob_convert_line` for the command line, on `cob_command_faults` for faults and texts, on `cob_convert` for the conversion, on
 //! `cob_lossless` for its moves, on `cob_lossless_words` for the lines of statements, on `cob_cover` for the lists, on `cob_records` for its forms, and on

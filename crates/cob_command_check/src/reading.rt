@@ -6,11 +6,11 @@ ghost use Rattle.cob_command_check.specs.Ends.{MayEndCheck};
 
 use crate::checking::Checked;
 use cob_command_faults::{CommandFault, FileName, text_of};
+use cob_convert::Converter;
 use cob_convert_line::CheckLine;
-use cob_cover::cob_lossless_words::{LinedMoves, lines_of};
-use cob_cover::cover_text;
+use cob_cover::{CoverText, cover_text};
 use cob_lossless::carried;
-use cob_lossless::cob_convert::Converter;
+use cob_lossless_words::{LinedMoves, lines_of};
 use cob_records::Form;
 use std::alloc::Global;
 use std::rt::Files;
@@ -25,7 +25,7 @@ fn checked_of(converter: &Converter) -> Checked {
 }
 
 /// The lists of a conversion, whose statements stand on these lines.
-fn lists_on(alloc: Global, converter: &Converter, lines: &[u32]) -> Result<String, CommandFault>
+fn lists_on(alloc: Global, converter: &Converter, lines: &[u32]) -> Result<CoverText, CommandFault>
     ensures { IfErr result (λ fault. fault ≡ Memory) }
 {
     let lined = LinedMoves {
@@ -41,11 +41,14 @@ fn lists_of(
     converter: &Converter,
     moves: &[u8],
     cover: bool,
-) -> Result<String, CommandFault>
+) -> Result<CoverText, CommandFault>
     ensures { IfErr result (λ fault. fault ≡ Memory) }
 {
     if !cover {
-        return Ok(String::new(alloc));
+        return Ok(CoverText {
+            text: String::new(alloc),
+            is_open: false,
+        });
     }
     match lines_of(alloc, moves) {
         Ok(lines) => lists_on(alloc, converter, &lines),
@@ -60,7 +63,7 @@ fn told_of(
     converter: &Converter,
     moves: &[u8],
     cover: bool,
-) -> Result<(Checked, String), CommandFault>
+) -> Result<(Checked, CoverText), CommandFault>
     ensures { IfErr result (λ fault. fault ≡ Memory) }
 {
     let lists = lists_of(alloc, converter, moves, cover)?;
@@ -74,7 +77,7 @@ fn prepared(
     out_book: &[u8],
     moves: &[u8],
     cover: bool,
-) -> Result<(Checked, String), CommandFault>
+) -> Result<(Checked, CoverText), CommandFault>
     ensures { IfErr result MayEndCheck }
 {
     match Converter::prepare(alloc, in_book, out_book, moves, Form::Fixed, Form::Fixed) {
@@ -92,7 +95,7 @@ pub(crate) fn read_texts<R: AllocGlobal + Files>(
     rt: &R,
     line: &CheckLine<'_>,
     cover: bool,
-) -> Result<(Checked, String), CommandFault>
+) -> Result<(Checked, CoverText), CommandFault>
     ensures { IfErr result MayEndCheck }
 {
     let in_book = text_of(rt, line.in_book, FileName::InBook)?;

@@ -2,7 +2,7 @@
 use Rattle.std.specs.Prelude.{◌≡◌, ◌⊎◌, Bool, true}
 use Rattle.cob_command_faults.specs.declared.fault.CommandFault.{CommandFault}
 use Rattle.cob_command_faults.specs.declared.fault.CommandFault.TheVariants as fault
-use Rattle.cob_command_faults.specs.Texts.{LacksConverter}
+use Rattle.cob_command_faults.specs.Texts.{LacksConversion}
 use Rattle.cob_command_ends.specs.Ends.{LacksEnds}
 use Rattle.cob_run_to_end.specs.Ends.{StopsRun}
 
@@ -13,4 +13,4 @@ EndsRun atomic told = StopsRun told ⊎ ((atomic ≡ true) × (told ≡ fault.No
 -- The faults that `convert` can have: of its texts, of its ends, of its run; and, where an output that is there is kept until all is done, that the
 -- new one was not renamed.
 abbrev pub MayEndConvert : Bool → CommandFault → Type 0
-MayEndConvert atomic told = LacksConverter told ⊎ LacksEnds told ⊎ StopsRun told ⊎ ((atomic ≡ true) × (told ≡ fault.NotRenamed))
+MayEndConvert atomic told = LacksConversion told ⊎ LacksEnds told ⊎ StopsRun told ⊎ ((atomic ≡ true) × (told ≡ fault.NotRenamed))

@@ -8,13 +8,13 @@ ghost use Rattle.cob_command_convert.specs.Told.{told_counted_from};
 use cob_command_ends::{
     Ends, counted_from, first_of, is_standard_output, open_ends, telling_piece,
 };
-use cob_command_faults::cob_convert::Converter;
-use cob_command_faults::cob_status::Status;
-use cob_command_faults::{CommandFault, Texts, printed, tell_fault};
+use cob_command_faults::{CommandFault, Texts, printed, tell_fault, tell_uneven};
+use cob_convert::Converter;
 use cob_convert_files::{part_name, put_in_place};
 use cob_convert_line::ConvertLine;
 use cob_records::FileSink;
 use cob_run_to_end::{placed, run_to_end};
+use cob_status::Status;
 use std::io::{Eprint, Input, Print, Printer};
 use std::rt::{Clock, Files};
 
@@ -65,8 +65,17 @@ fn convert_into<R: AllocGlobal + Files + Input + Print + Eprint + Clock>(
     requires { HasBlockSize line.now.in_form }
     ensures { IfErr result (MayEndConvert line.now.atomic) }
 {
-    match open_ends(rt, line, converter.in_length(), part_of(line, part)) {
+    let greatest = converter.in_length();
+    match open_ends(rt, line, greatest, part_of(line, part)) {
         Ok(Ends { source, mut sink }) => {
+            tell_uneven(
+                rt,
+                line.input,
+                line.in_form,
+                greatest,
+                line.from,
+                line.bytes,
+            );
             let telling = telling_piece(rt, line);
             let ending = run_to_end(rt, line.in_form, telling, converter, source, &mut sink);
             let run = ending.finished();
@@ -116,7 +125,7 @@ pub fn convert<R: AllocGlobal + Files + Input + Print + Eprint + Clock>(
         out_book: line.out_book,
         moves: line.moves,
     };
-    match texts.prepared(rt, line.in_form, line.out_form, line.reading) {
+    match texts.prepared(rt, line.in_form, line.out_form, line.reading, line.lrecl) {
         Ok(mut converter) => convert_by(rt, line, &mut converter),
         Err(fault) => Err(fault),
     }

@@ -3,8 +3,8 @@
 //! [`do_convert`] carries it out, prints what comes of it and answers how the program ends: by [`convert`], which does the work without printing,
 //! and by [`tell_converted`], which prints what a conversion came to. The files for texts are opened and read in the
 //! order of the options, and the texts are prepared before any file for records is opened; the output is made last, and not where it is one of the
-//! files that are read, by whatever name: so neither a text that is refused nor a record that is passed over and can't be read leaves an output, and
-//! nothing that is read is lost. With `--atomic` the output is as it was until all of the new one is on its device.
+//! files that are read, by whatever name: so neither a text that is refused, nor records that do not fit the record length that the input is said to
+//! have, nor a record that is passed over and can't be read leaves an output, and nothing that is read is lost. With `--atomic` the output is as it was until all of the new one is on its device.
 //!
 //! What is promised:
 //!
@@ -21,5 +21,4 @@
 
 mod converting;
 
-pub use cob_command_ends;
 pub use converting::{convert, do_convert, tell_converted};

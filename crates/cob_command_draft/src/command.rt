@@ -4,12 +4,12 @@ ghost use Rattle.cob_command_faults.specs.declared.fault.CommandFault.TheVariant
 ghost use Rattle.cob_command_faults.specs.cob_status.declared.status.Status.TheVariants.{Done};
 ghost use Rattle.cob_command_draft.specs.Ends.{MayEndDraft};
 
-use cob_command_faults::cob_convert::PrepareFault;
-use cob_command_faults::cob_status::Status;
 use cob_command_faults::{CommandFault, FileName, printed, tell_fault, text_of};
+use cob_convert::PrepareFault;
 use cob_convert_line::DraftLine;
 use cob_draft::{Draft, Lacking, draft_of};
 use cob_layout::{Book, BookFault, BookRule, Layout, Role};
+use cob_status::Status;
 use std::alloc::Global;
 use std::io::{Eprint, Print};
 use std::rt::Files;

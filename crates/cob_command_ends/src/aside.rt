@@ -8,7 +8,7 @@ ghost use Rattle.cob_command_ends.specs.Aside.{LacksAside, LacksAsideEnds, Loses
 use crate::ends::{Ends, open_ends};
 use crate::inputs::Inputs;
 use cob_chosen::Incoming;
-use cob_command_input::cob_command_faults::{CommandFault, FileName, opened};
+use cob_command_faults::{CommandFault, FileName, opened};
 use cob_convert_files::{FileIdentity, create_part, lead_to_one_file};
 use cob_convert_line::ConvertLine;
 use cob_pieces::PartSource;

@@ -4,7 +4,7 @@ ghost use Rattle.std.specs.Prelude.{◌≡◌, ◌+◌};
 ghost use Rattle.cob_records.specs.Progress.{kept_count};
 ghost use Rattle.cob_command_ends.specs.Counted.{counted_from};
 
-use cob_command_input::cob_command_faults::CommandFault;
+use cob_command_faults::CommandFault;
 use cob_convert_line::ConvertLine;
 use cob_stream::RunFault;
 

@@ -7,7 +7,7 @@ ghost use Rattle.cob_command_ends.specs.Ends.{LacksEnds};
 
 use crate::inputs::judge_output;
 use cob_chosen::{Choice, Incoming};
-use cob_command_input::cob_command_faults::{CommandFault, FileName, opened, telling};
+use cob_command_faults::{CommandFault, FileName, opened, telling};
 use cob_command_input::{Wanted, open_records};
 use cob_convert_files::create_part;
 use cob_convert_line::ConvertLine;

@@ -3,13 +3,13 @@ ghost use Rattle.cob_convert_files.specs.Identity.{Loses};
 ghost use Rattle.cob_command_ends.specs.Inputs.{LosesNone, input_named};
 ghost use Rattle.cob_command_ends.specs.Ends.{LosesInput, NamesInput};
 
-use cob_command_input::cob_command_faults::{CommandFault, FileName};
+use cob_command_faults::{CommandFault, FileName};
 use cob_convert_files::{FileIdentity, lead_to_one_file, loses};
 use cob_convert_line::ConvertLine;
 use std::rt::Files;
 
 /// Which files a conversion reads.
-#[derive(Clone, Copy, Debug)]
+#[derive(Clone, Copy)]
 pub struct Inputs {
     in_book: Option<FileIdentity>,
     out_book: Option<FileIdentity>,

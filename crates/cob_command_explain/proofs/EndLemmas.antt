@@ -10,6 +10,6 @@ use Rattle.cob_command_explain.specs.Ends.{EndsTold}
 
 pub ends_told : (t : Explanation) (end : Status) → IsExplanation t → EndsTold t end → EndsAtRecord end
 ends_told (told.Missing records) end is h = inr h
-ends_told (told.Converts moves) end is h = inl (AllDone h)
-ends_told (told.Stops moves stopped) end is h = inl (HasFault (fault.Stopped stopped.fault) (inr (inr is)) h)
+ends_told told.Converts end is h = inl (AllDone h)
+ends_told (told.Stops stopped) end is h = inl (HasFault (fault.Stopped stopped.fault) (inr (inr is)) h)
 ends_told (told.Refused stopped) end is h = inl (HasFault (fault.Stopped stopped.fault) (inr (inr is)) h)

@@ -11,6 +11,6 @@ use Rattle.cob_command_faults.specs.Faults.{status_of}
 -- status of the fault that stops a run at it.
 abbrev pub EndsTold : Explanation → Status → Type 0
 EndsTold (told.Missing records) end = EndsAs status.Malformed end
-EndsTold (told.Converts moves) end = EndsAs status.Done end
-EndsTold (told.Stops moves stopped) end = EndsAs (status_of (fault.Stopped stopped.fault)) end
+EndsTold told.Converts end = EndsAs status.Done end
+EndsTold (told.Stops stopped) end = EndsAs (status_of (fault.Stopped stopped.fault)) end
 EndsTold (told.Refused stopped) end = EndsAs (status_of (fault.Stopped stopped.fault)) end

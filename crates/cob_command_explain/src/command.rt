@@ -1,20 +1,24 @@
-ghost use Rattle.std.specs.Prelude.{IfErr, IfOk};
+ghost use Rattle.std.specs.Prelude.{◌≡◌, IfErr, IfOk};
 ghost use Rattle.cob_copybook.specs.Books.{IsBookOf};
 ghost use Rattle.cob_copybook.specs.declared.role.Role.TheVariants.{Out};
 ghost use Rattle.cob_records.specs.Forms.{HasBlockSize};
 ghost use Rattle.cob_command_faults.specs.Ends.{EndsAs, EndsAtRecord};
 ghost use Rattle.cob_command_faults.specs.Faults.{status_of};
-ghost use Rattle.cob_command_faults.specs.Texts.{LacksConverter, StopsAtRecord};
+ghost use Rattle.cob_command_faults.specs.Texts.{LacksConversion, StopsAtRecord};
 ghost use Rattle.cob_command_faults.specs.declared.fault.CommandFault.TheVariants.{Stopped as StoppedFault};
+ghost use Rattle.cob_command_faults.specs.cob_status.declared.status.Status.TheVariants.{Device, Done};
 ghost use Rattle.cob_convert_explain.specs.Explained.{IsExplanation};
 ghost use Rattle.cob_command_explain.specs.Ends.{EndsTold};
 
-use cob_command_faults::cob_convert::Converter;
-use cob_command_faults::cob_status::Status;
-use cob_command_faults::{CommandFault, FileName, opened, printed, tell_fault, text_of};
+use crate::printing::MovePrinter;
+use cob_command_faults::{CommandFault, FileName, fitting, opened, printed, tell_fault, text_of};
+use cob_convert::Converter;
 use cob_convert_explain::{Explanation, ReadAgain, Stopped, explain};
 use cob_convert_line::ExplainLine;
+use cob_explain_words::Teller;
 use cob_pieces::open_part;
+use cob_status::Status;
+use std::io;
 use std::io::{Eprint, Input, Print};
 use std::rt::Files;
 
@@ -30,7 +34,7 @@ fn converter_of<R: AllocGlobal>(
     requires out_block { HasBlockSize line.now.out_form }
     ensures book { IfOk result
         (λ made. IsBookOf Out out_book.now made.records.output) }
-    ensures lacks { IfErr result LacksConverter }
+    ensures lacks { IfErr result LacksConversion }
 {
     let (in_form, out_form) = (line.in_form, line.out_form);
     let alloc = rt.alloc();
@@ -43,7 +47,7 @@ fn converter_of<R: AllocGlobal>(
         out_form,
         line.reading,
     ) {
-        Ok(converter) => Ok(converter),
+        Ok(converter) => fitting(converter, in_form, line.lrecl),
         Err(fault) => Err(CommandFault::from(fault)),
     }
 }
@@ -56,12 +60,13 @@ pub struct Stretch {
 }
 
 /// Explains the record that the line names, of these bytes of the file that `--in` names.
-fn explained<R: AllocGlobal + Files + Input>(
+fn explained<R: AllocGlobal + Files + Input, T: Teller>(
     rt: &R,
     line: &ExplainLine<'_>,
     stretch: Stretch,
     converter: &Converter,
     texts: ReadAgain<'_>,
+    teller: &mut T,
 ) -> Result<Explanation, CommandFault>
     requires { IsBookOf Out texts.out_book.now converter.now.records.output }
     ensures told { IfOk result IsExplanation }
@@ -75,22 +80,25 @@ fn explained<R: AllocGlobal + Files + Input>(
         texts,
         &mut source,
         line.record,
+        teller,
     ) {
         Ok(explanation) => Ok(explanation),
         Err(_) => Err(CommandFault::Memory),
     }
 }
 
-/// Reads the three texts of a conversion and one record, and answers what is told of it. Records are counted from the first one of these bytes.
+/// Reads the three texts of a conversion and one record, has its single moves told, and answers what is told of it beside them. Records are counted from
+/// the first one of these bytes.
 ///
 /// # Errors
 ///
 /// A file that is not opened or not read, or has no places where not all of it is read; a text that is refused, blocks of the output that are too short,
 /// want of memory.
-pub fn explain_record_of<R: AllocGlobal + Files + Input>(
+pub fn explain_record_of<R: AllocGlobal + Files + Input, T: Teller>(
     rt: &R,
     line: &ExplainLine<'_>,
     stretch: Stretch,
+    teller: &mut T,
 ) -> Result<Explanation, CommandFault>
     requires in_block { HasBlockSize line.now.in_form }
     requires out_block { HasBlockSize line.now.out_form }
@@ -105,19 +113,20 @@ pub fn explain_record_of<R: AllocGlobal + Files + Input>(
         moves: &moves,
     };
     match converter_of(rt, line, &in_book, &out_book, &moves) {
-        Ok(converter) => explained(rt, line, stretch, &converter, texts),
+        Ok(converter) => explained(rt, line, stretch, &converter, texts, teller),
         Err(fault) => Err(fault),
     }
 }
 
-/// Reads the three texts of a conversion and one record of the whole file, and answers what is told of it.
+/// Reads the three texts of a conversion and one record of the whole file, has its single moves told, and answers what is told of it beside them.
 ///
 /// # Errors
 ///
 /// A file that is not opened or not read, a text that is refused, blocks of the output that are too short, want of memory.
-pub fn explain_record<R: AllocGlobal + Files + Input>(
+pub fn explain_record<R: AllocGlobal + Files + Input, T: Teller>(
     rt: &R,
     line: &ExplainLine<'_>,
+    teller: &mut T,
 ) -> Result<Explanation, CommandFault>
     requires in_block { HasBlockSize line.now.in_form }
     requires out_block { HasBlockSize line.now.out_form }
@@ -128,11 +137,11 @@ pub fn explain_record<R: AllocGlobal + Files + Input>(
         from: 0,
         bytes: None,
     };
-    explain_record_of(rt, line, all)
+    explain_record_of(rt, line, all, teller)
 }
 
 /// Prints the fault line of a record and what is wrong in words, and answers how the command ends.
-fn tell_stopped<R: Print + Eprint>(rt: &R, stopped: &Stopped) -> Status
+fn tell_stopped<R: Eprint>(rt: &R, stopped: &Stopped) -> Status
     ensures { EndsAs (status_of (StoppedFault stopped.now.fault)) result }
 {
     let status = CommandFault::Stopped(stopped.fault).status();
@@ -144,23 +153,35 @@ fn tell_stopped<R: Print + Eprint>(rt: &R, stopped: &Stopped) -> Status
     }
 }
 
-/// Prints what is told of a record that is a record of the layout and stops.
-fn tell_moves_to_stop<R: Print + Eprint>(
-    rt: &R,
-    number: u64,
-    moves: &str,
-    stopped: &Stopped,
-) -> Status
-    ensures { EndsAs (status_of (StoppedFault stopped.now.fault)) result }
+/// Prints that a record converts, behind its single moves, which were printed or were not.
+fn tell_converts<R: Print>(rt: &R, moves: io::Result<()>) -> Status
+    ensures ends { EndsAs Done result }
+    ensures unprinted { IfErr moves (λ error. result ≡ Device) }
 {
-    match print!(rt; "record {number}\n{moves}") {
+    match moves {
+        Ok(()) => printed(println!(rt; "ok"), Status::Done),
+        Err(_) => Status::Device,
+    }
+}
+
+/// Prints why a record stops, behind its single moves, which were printed or were not.
+fn tell_stops<R: Eprint>(rt: &R, moves: io::Result<()>, stopped: &Stopped) -> Status
+    ensures ends { EndsAs (status_of (StoppedFault stopped.now.fault)) result }
+    ensures unprinted { IfErr moves (λ error. result ≡ Device) }
+{
+    match moves {
         Ok(()) => tell_stopped(rt, stopped),
         Err(_) => Status::Device,
     }
 }
 
-/// Prints what is told of the record with this number, and answers how the command ends.
-fn tell_explanation<R: Print + Eprint>(rt: &R, number: u64, told: &Explanation) -> Status
+/// Prints what is told of the record with this number behind its single moves, and answers how the command ends.
+fn tell_explanation<R: Print + Eprint>(
+    rt: &R,
+    number: u64,
+    moves: MovePrinter<'_, R>,
+    told: &Explanation,
+) -> Status
     ensures { EndsTold told.now result }
 {
     match told {
@@ -168,10 +189,8 @@ fn tell_explanation<R: Print + Eprint>(rt: &R, number: u64, told: &Explanation) 
             eprintln!(rt; "no record {number}: in has {records}"),
             Status::Malformed,
         ),
-        Explanation::Converts { moves } => {
-            printed(println!(rt; "record {number}\n{moves}ok"), Status::Done)
-        }
-        Explanation::Stops { moves, stopped } => tell_moves_to_stop(rt, number, moves, stopped),
+        Explanation::Converts => tell_converts(rt, moves.printed()),
+        Explanation::Stops(stopped) => tell_stops(rt, moves.printed(), stopped),
         Explanation::Refused(stopped) => tell_stopped(rt, stopped),
     }
 }
@@ -185,8 +204,9 @@ pub fn do_explain<R: AllocGlobal + Files + Input + Print + Eprint>(
     requires out_block { HasBlockSize line.now.out_form }
     ensures { EndsAtRecord result }
 {
-    match explain_record(rt, line) {
-        Ok(told) => tell_explanation(rt, line.record, &told),
+    let mut moves = MovePrinter::new(rt, line.record);
+    match explain_record(rt, line, &mut moves) {
+        Ok(told) => tell_explanation(rt, line.record, moves, &told),
         Err(fault) => tell_fault(rt, fault),
     }
 }

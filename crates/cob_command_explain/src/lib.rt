@@ -5,17 +5,18 @@
 //! the records.
 //!
 //! A record that converts is told by a line with its number, the two lines of each single move and `ok`; one that does not by these lines up to the stop,
-//! and on standard error its fault line, as ever, and behind it what is wrong in words. A record that is not there is told on standard error, and ends
-//! as a malformed command line.
+//! and on standard error its fault line, as ever, and behind it what is wrong in words. The lines of a single move are printed as soon as it is done. A
+//! record that is not there is told on standard error, and ends as a malformed command line.
 //!
 //! What is promised: which faults the command can have (`StopsAtRecord` of `cob_command_faults`), and that it ends with the status of what it came to
-//! (`EndsTold` of specs/Ends.antt), or as where a device failed if its last line was not printed (`EndsAtRecord` of `cob_command_faults`).
+//! (`EndsTold` of specs/Ends.antt), or as where a device failed if something was not printed (`EndsAtRecord` of `cob_command_faults`).
 //!
-//! It stands on `cob_convert_line` for the command line, on `cob_convert_explain` for what is told, on `cob_command_faults` for faults and texts, on
-//! `cob_convert` for the conversion, on `cob_pieces` for the records that come, and on `cob_status` for statuses.
+//! It stands on `cob_convert_line` for the command line, on `cob_convert_explain` and `cob_explain_words` for what is told, on `cob_command_faults` for
+//! faults and texts, on `cob_convert` for the conversion, on `cob_pieces` for the records that come, and on `cob_status` for statuses.
 #![tactic(auto)]
 
 mod command;
+mod printing;
 
-pub use cob_convert_explain;
+pub use cob_explain_words::Silent;
 pub use command::{Stretch, do_explain, explain_record, explain_record_of};

@@ -9,11 +9,11 @@ ghost use Rattle.cob_records.specs.Forms.{HasBlockSize};
 
 use crate::stops::stop_words;
 use cob_command_aside::{convert_aside, tell_converted_aside};
-use cob_command_convert::cob_command_ends::is_standard_output;
 use cob_command_convert::{convert, tell_converted};
-use cob_command_faults::cob_status::Status;
+use cob_command_ends::is_standard_output;
 use cob_command_faults::{CommandFault, printed, tell_fault};
 use cob_convert_line::ConvertLine;
+use cob_status::Status;
 use cob_stream::RunFault;
 use std::io::{Eprint, Input, Print};
 use std::rt::{Clock, Files};

@@ -1,5 +1,6 @@
 //! The files that options name, and why the system did not open, read or write one.
 
+use cob_convert_files::folder_of;
 use cob_convert_line::{ConvertLine, Line, LosslessLine};
 use cob_noted::{FileError, NamedFile};
 use std::alloc::{AllocError, Global};
@@ -18,7 +19,7 @@ fn push_read<'a>(
     Ok(())
 }
 
-/// Adds a file that is written, and the part that may stand in for it.
+/// Adds a file that is written, the part that may stand in for it, and the folder of both.
 fn push_written<'a>(
     files: &mut Vec<NamedFile<'a>>,
     option: &'a str,
@@ -26,6 +27,7 @@ fn push_written<'a>(
 ) -> Result<(), AllocError> {
     files.push(NamedFile::written(option, path, ""))?;
     files.push(NamedFile::written(option, path, ".part"))?;
+    files.push(NamedFile::written(option, folder_of(path), ""))?;
     Ok(())
 }
 

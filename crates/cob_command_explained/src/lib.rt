@@ -20,8 +20,5 @@ mod conversions;
 mod files;
 mod stops;
 
-pub use cob_command_aside;
-pub use cob_command_convert;
-pub use cob_command_explain;
 pub use conversions::{do_convert_aside_explained, do_convert_explained};
 pub use files::{files_of, tell_file_error};

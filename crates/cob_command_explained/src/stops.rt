@@ -3,10 +3,10 @@
 ghost use Rattle.std.specs.Prelude.{◌≡◌, ◌-◌};
 ghost use Rattle.cob_records.specs.Forms.{HasBlockSize};
 
-use cob_command_explain::cob_convert_explain::{Explanation, Stopped};
-use cob_command_explain::{Stretch, explain_record_of};
-use cob_command_faults::cob_status::Status;
+use cob_command_explain::{Silent, Stretch, explain_record_of};
+use cob_convert_explain::{Explanation, Stopped};
 use cob_convert_line::{ConvertLine, ExplainLine};
+use cob_status::Status;
 use cob_stream::RunFault;
 use std::io::Input;
 use std::os::unix::fs::FileTypeExt;
@@ -36,6 +36,7 @@ fn explaining<'a>(line: &ConvertLine<'a>, number: u64) -> ExplainLine<'a>
         in_block: line.in_block,
         out_block: line.out_block,
         reading: line.reading,
+        lrecl: line.lrecl,
         record: number,
     }
 }
@@ -43,9 +44,8 @@ fn explaining<'a>(line: &ConvertLine<'a>, number: u64) -> ExplainLine<'a>
 /// What is told of a record that stops a run.
 fn stopped_in(explanation: Explanation) -> Option<Stopped> {
     match explanation {
-        Explanation::Stops { moves: _, stopped } => Some(stopped),
-        Explanation::Refused(stopped) => Some(stopped),
-        Explanation::Missing { .. } | Explanation::Converts { .. } => None,
+        Explanation::Stops(stopped) | Explanation::Refused(stopped) => Some(stopped),
+        Explanation::Missing { .. } | Explanation::Converts => None,
     }
 }
 
@@ -84,7 +84,7 @@ fn words_of<R: AllocGlobal + Files + Input>(
         from: line.from,
         bytes: line.bytes,
     };
-    match explain_record_of(rt, &explaining(line, number), stretch) {
+    match explain_record_of(rt, &explaining(line, number), stretch, &mut Silent) {
         Ok(explanation) => words_alike(stopped_in(explanation)?, number, fault),
         Err(_) => None,
     }

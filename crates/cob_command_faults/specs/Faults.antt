@@ -73,6 +73,7 @@ status_of (fault.Refused refused) = status_of_prepare_fault refused
 status_of (fault.Stopped stopped) = status_of_stop stopped.cause
 status_of (fault.Paragraph name refused) = status.Refused
 status_of (fault.Book refused) = status.Refused
+status_of (fault.OtherLength option least lrecl) = status.Refused
 status_of (fault.OneFile name) = status.Malformed
 status_of (fault.OneFileAside name) = status.Malformed
 status_of (fault.Unflushed last) = status.Device

@@ -27,6 +27,15 @@ RefusesText other = ⊥
 abbrev pub LacksConverter : CommandFault → Type 0
 LacksConverter told = LacksText name.InBook told ⊎ LacksText name.OutBook told ⊎ LacksText name.Moves told ⊎ RefusesText told
 
+-- the copybook that this option names has records that do not fit the record length that is said
+abbrev pub HasOtherLength : FileName → CommandFault → Type 0
+HasOtherLength option (fault.OtherLength named least lrecl) = named ≡ option
+HasOtherLength option other = ⊥
+
+-- The three texts of a conversion come to none of records of the length that is said: to no converter, or to one of other records.
+abbrev pub LacksConversion : CommandFault → Type 0
+LacksConversion told = LacksConverter told ⊎ HasOtherLength name.InBook told
+
 -- a rule of copybooks, which want of memory is not
 abbrev pub IsCopybookRule : BookRule → Type 0
 IsCopybookRule rule.Memory = ⊥
@@ -41,6 +50,10 @@ RefusesCopybook other = ⊥
 abbrev pub LacksLayout : CommandFault → Type 0
 LacksLayout told = LacksText name.Book told ⊎ RefusesCopybook told
 
+-- The copybook of a listing comes to no layout of records of the length that is said.
+abbrev pub LacksRecordLayout : CommandFault → Type 0
+LacksRecordLayout told = LacksLayout told ⊎ HasOtherLength name.Book told
+
 -- A listing of records is not done: a record stopped it, or a read of one failed; a line was not printed; or memory was refused.
 abbrev pub StopsListing : CommandFault → Type 0
 StopsListing (fault.Stopped stopped) = is_write_cause stopped.cause ≡ false
@@ -51,4 +64,4 @@ StopsListing other = ⊥
 -- The faults of a command that shows a record of a conversion: of its texts, of the file with the records, or what stops a run at a record up to the one that
 -- is asked for; what it prints is not printed, or memory was refused.
 abbrev pub StopsAtRecord : CommandFault → Type 0
-StopsAtRecord told = LacksConverter told ⊎ LacksFile name.In told ⊎ StopsListing told
+StopsAtRecord told = LacksConversion told ⊎ LacksFile name.In told ⊎ StopsListing told

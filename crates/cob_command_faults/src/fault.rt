@@ -3,13 +3,11 @@ ghost use Rattle.cob_command_faults.specs.Faults.{aside_fault, refused_book, sho
 ghost use Rattle.cob_command_faults.specs.Texts.{LacksConverter, LacksFile, LacksLayout, LacksText, StopsListing};
 ghost use Rattle.cob_command_faults.specs.declared.fault.CommandFault.TheVariants.{Memory, Stopped};
 
+use cob_convert::{AsideFault, BookFault, BookRule, Cause, MoveFault, PrepareFault, RunFault};
 use cob_convert_files::TextFault;
 use cob_convert_show::ShowFault;
 use cob_records::{OpenFault, RecordFault};
 use cob_status::Status;
-use cob_status::cob_convert::{
-    AsideFault, BookFault, BookRule, Cause, MoveFault, PrepareFault, RunFault,
-};
 use std::alloc::AllocError;
 use std::fmt;
 use thiserror::Error;
@@ -72,6 +70,13 @@ pub enum CommandFault {
     /// The copybook of a listing breaks a rule.
     #[error("book {0}")]
     Book(BookFault),
+    /// The records of this copybook need this record length, of their file, and another one is said.
+    #[error("{option} lrecl {least}, not {lrecl}")]
+    OtherLength {
+        option: FileName,
+        least: u32,
+        lrecl: u64,
+    },
     /// A file that is read and the output of a conversion are one file, whose bytes making the output would lose.
     #[error("{0} and out are one file")]
     OneFile(FileName),
@@ -83,16 +88,26 @@ pub enum CommandFault {
     Stopped(RunFault),
     /// The last bytes of the output could not be handed to the device, so that this record, the last one that was put, is not written whole.
     #[error("record {last} out offset 0 F6")]
-    Unflushed { last: u64 },
+    Unflushed {
+        last: u64,
+    },
     /// The record of this number is rejected, and it could not be set aside.
     #[error("record {number} rejects offset 0 {cause}")]
-    NotSetAside { number: u64, cause: RecordFault },
+    NotSetAside {
+        number: u64,
+        cause: RecordFault,
+    },
     /// The last bytes that were set aside could not be handed to the device, so that this record, the last rejected one, is not set aside whole.
     #[error("record {last} rejects offset 0 F6")]
-    UnflushedAside { last: u64 },
+    UnflushedAside {
+        last: u64,
+    },
     /// So many records were converted, and these were rejected and set aside.
     #[error("done {converted} rejected {rejected}")]
-    SetAside { converted: u64, rejected: u64 },
+    SetAside {
+        converted: u64,
+        rejected: u64,
+    },
     /// The system did not give the output, which is written whole under the name of its part, its own name.
     #[error("cannot rename out")]
     NotRenamed,
@@ -192,7 +207,9 @@ impl CommandFault {
             | CommandFault::NotRenamedAside
             | CommandFault::Unprinted => Status::Device,
             CommandFault::Refused(refused) => Status::of_prepare_fault(refused),
-            CommandFault::Paragraph(_, _) | CommandFault::Book(_) => Status::Refused,
+            CommandFault::Paragraph(_, _)
+            | CommandFault::Book(_)
+            | CommandFault::OtherLength { .. } => Status::Refused,
             CommandFault::OneFile(_) | CommandFault::OneFileAside(_) => Status::Malformed,
             CommandFault::Stopped(fault) => Status::of_stop(fault.cause),
             CommandFault::SetAside { .. } => Status::Stopped,

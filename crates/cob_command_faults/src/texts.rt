@@ -1,12 +1,15 @@
-ghost use Rattle.std.specs.Prelude.{IfErr};
+ghost use Rattle.std.specs.Prelude.{IfErr, IfOk};
+ghost use Rattle.cob_convert_record.specs.Conversion.{in_length};
 ghost use Rattle.cob_records.specs.Forms.{HasBlockSize};
-ghost use Rattle.cob_command_faults.specs.Texts.{LacksConverter, LacksText};
+ghost use Rattle.cob_command_faults.specs.Lengths.{FitsLrecl};
+ghost use Rattle.cob_command_faults.specs.Texts.{LacksConversion, LacksText};
 
 use crate::fault::{CommandFault, FileName};
+use crate::lengths::fitting;
 use cob_codec::Reading;
+use cob_convert::Converter;
 use cob_convert_files::read_text;
 use cob_records::Form;
-use cob_status::cob_convert::Converter;
 use std::rt::Files;
 
 /// The text in the file that an option names.
@@ -36,26 +39,29 @@ pub struct Texts<'a> {
 }
 
 impl Texts<'_> {
-    /// Reads the three texts of a conversion, and prepares it, its binary senders read so.
+    /// Reads the three texts of a conversion, and prepares it, its binary senders read so, its records fitting the record length of the input that is said.
     ///
     /// # Errors
     ///
-    /// A file that is not opened or not read, a text that is refused, blocks of the output that are too short, want of memory.
+    /// A file that is not opened or not read, a text that is refused, blocks of the output that are too short, records that do not fit that length, want of
+    /// memory.
     pub fn prepared<R: AllocGlobal + Files>(
         self,
         rt: &R,
         in_form: Form,
         out_form: Form,
         reading: Reading,
+        lrecl: Option<u64>,
     ) -> Result<Converter, CommandFault>
         requires in_block { HasBlockSize in_form }
         requires out_block { HasBlockSize out_form }
-        ensures { IfErr result LacksConverter }
+        ensures fits { IfOk result (λ made. FitsLrecl in_form lrecl (in_length made)) }
+        ensures lacks { IfErr result LacksConversion }
     {
         let in_book = text_of(rt, self.in_book, FileName::InBook)?;
         let out_book = text_of(rt, self.out_book, FileName::OutBook)?;
         let moves = text_of(rt, self.moves, FileName::Moves)?;
-        Ok(Converter::prepare_with(
+        match Converter::prepare_with(
             rt.alloc(),
             &in_book,
             &out_book,
@@ -63,6 +69,9 @@ impl Texts<'_> {
             in_form,
             out_form,
             reading,
-        )?)
+        ) {
+            Ok(converter) => fitting(converter, in_form, lrecl),
+            Err(refused) => Err(CommandFault::from(refused)),
+        }
     }
 }

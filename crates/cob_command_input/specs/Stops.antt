@@ -40,6 +40,10 @@ abbrev pub unchosen : (first jumped : ℕ) → ChoiceFault → CommandFault
 unchosen first jumped (choice.Stopped stop) = stop_told first jumped stop
 unchosen first jumped choice.Memory = fault.Memory
 
+-- what is told where the first read of the records fails
+abbrev pub unread : (first jumped : ℕ) → CommandFault
+unread first jumped = stop_told first jumped (record { number = 1; fault = ReadFailed })
+
 -- why a run over chosen records stopped: where its read failed because a frame can't be read, that is why
 abbrev pub cause_of_stop : Option Stopped → Cause → Cause
 cause_of_stop (Some stop) (cause.Record ReadFailed) = cause.Record stop.fault

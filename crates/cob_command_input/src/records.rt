@@ -1,22 +1,25 @@
 //! The records of a file that a command reads.
 
-ghost use Rattle.std.specs.Prelude.{◌≡◌, ◌<◌, ◌≤◌, None, IfErr, IfOk};
+ghost use Rattle.std.specs.Prelude.{◌≡◌, ◌<◌, ◌≤◌, None, IfErr, IfOk, is_err};
 ghost use Rattle.cob_limits.specs.Limits.{longest_record};
+ghost use Rattle.cob_records.specs.Device.{counted};
 ghost use Rattle.cob_records.specs.Forms.{HasBlockSize};
 ghost use Rattle.cob_command_input.specs.Jumps.{JumpsIn};
-ghost use Rattle.cob_command_input.specs.Records.{GivesWanted, JumpsOver, part_before};
-ghost use Rattle.cob_command_input.specs.Stops.{LacksRecords};
+ghost use Rattle.cob_command_input.specs.Records.{GivesWanted, JumpsOver, SkipsWanted, part_before};
+ghost use Rattle.cob_command_input.specs.Stops.{LacksRecords, unread};
 
 use crate::stops::not_chosen;
-use cob_chosen::{Choice, Incoming, Part, choose};
+use cob_chosen::{Choice, ChoiceFault, Incoming, Part, Stopped, choose};
 use cob_command_faults::{CommandFault, FileName, opened};
 use cob_pieces::{PartSource, open_part};
-use cob_records::{Form, size_of};
+use cob_records::{DeviceFault, Form, RecordFault, Source, size_of};
+use std::fs;
 use std::io::Input;
+use std::os::unix::fs::FileTypeExt;
 use std::rt::Files;
 
 /// Which records of which file a command reads.
-#[derive(Clone, Copy, Debug, PartialEq, Eq)]
+#[derive(Clone, Copy, PartialEq, Eq)]
 pub struct Wanted<'a> {
     /// The file; `-` is standard input.
     pub input: &'a str,
@@ -70,11 +73,47 @@ fn part_of<R: Files>(rt: &R, wanted: Wanted<'_>) -> Part
     )
 }
 
-/// Opens the file that `--in` names, moves to the piece that is wanted, and passes over its records before the chosen ones.
+/// Whether a read of the file of this name waits for no one: it is a regular file, a folder or a device of blocks, and no pipe or terminal. `-` is what
+/// standard input comes from.
+fn reads_at_once<R: Files>(rt: &R, name: &str) -> bool {
+    match fs::metadata(rt, if name == "-" { "/dev/stdin" } else { name }) {
+        Ok(metadata) => {
+            metadata.is_file() || metadata.is_dir() || metadata.file_type().is_block_device()
+        }
+        Err(_) => false,
+    }
+}
+
+/// Reads ahead into the buffer of a source, by a piece without room, which is given nothing. So many records were jumped over before, and the piece of the
+/// file that is read begins with the record of the number `first`.
 ///
 /// # Errors
 ///
-/// A file that is not opened, or has no places where a piece of it is wanted; the frame of a record that is passed over and can't be read; want of memory.
+/// That read failed: so it is told of the first record that comes.
+fn read_ahead<S: Source>(source: &mut S, first: u64, jumped: u64) -> Result<(), CommandFault>
+    ensures kept { S.coming source.new ≡ S.coming source.old }
+    ensures cause { S.failures source.new ≡ counted (is_err result) (S.failures source.old) }
+    ensures told { IfErr result (λ fault. fault ≡ unread first jumped) }
+    ensures lacks { IfErr result LacksRecords }
+{
+    match source.read(&mut []) {
+        Ok(_) => Ok(()),
+        Err(DeviceFault) => {
+            let stop = Stopped {
+                number: 1,
+                fault: RecordFault::ReadFailed,
+            };
+            Err(not_chosen(first, jumped, ChoiceFault::Stopped(stop)))
+        }
+    }
+}
+
+/// Opens the file that `--in` names, moves to the piece that is wanted, and passes over its records before the chosen ones. Where its first read waits for
+/// no one, it is done, so that what can't be read, as a folder, is found out before a command makes a file.
+///
+/// # Errors
+///
+/// A file that is not opened, or has no places where a piece of it is wanted; a first read that failed; the frame of a record that is passed over and can't be read; want of memory.
 pub fn open_records<R: AllocGlobal + Files + Input>(
     rt: &R,
     wanted: Wanted<'_>,
@@ -84,20 +123,23 @@ pub fn open_records<R: AllocGlobal + Files + Input>(
     requires high { wanted.greatest ≤ longest_record }
     // They are those of the part behind the records that are jumped over, and none but the chosen ones.
     ensures gives { IfOk result (GivesWanted wanted.entry.form wanted.entry.greatest wanted.entry.choice.records) }
+    // Those before the chosen ones are jumped over or passed over.
+    ensures skips { IfOk result (SkipsWanted wanted.entry) }
     ensures lacks { IfErr result LacksRecords }
 {
     let part = part_of(rt, wanted);
     let end = open_part(rt, wanted.input, part.from, part.bytes);
-    let source = opened(end, FileName::In)?;
+    let mut source = opened(end, FileName::In)?;
+    let jumped = wanted.choice.skip.saturating_sub(part.skip);
+    if reads_at_once(rt, wanted.input) {
+        read_ahead(&mut source, wanted.first, jumped)?;
+    }
     let choice = Choice {
         skip: part.skip,
         ..wanted.choice
     };
     match choose(rt.alloc(), source, wanted.form, wanted.greatest, choice) {
         Ok(incoming) => Ok(incoming),
-        Err(fault) => {
-            let jumped = wanted.choice.skip.saturating_sub(part.skip);
-            Err(not_chosen(wanted.first, jumped, fault))
-        }
+        Err(fault) => Err(not_chosen(wanted.first, jumped, fault)),
     }
 }

@@ -9,7 +9,7 @@ use Rattle.clap.specs.declared.error.Error.{Error}
 use Rattle.clap.specs.declared.error.kind.ErrorKind.{ErrorKind}
 use Rattle.clap.specs.declared.error.kind.ErrorKind.TheVariants as kind
 use Rattle.cob_convert_line.specs.declared.fault.LineFault.{LineFault}
-use Rattle.cob_convert_line.specs.declared.fault.LineFault.TheVariants.{Block, Form, Listing, Memory, NotText, Number, Piece, Pieces, Reading, Words}
+use Rattle.cob_convert_line.specs.declared.fault.LineFault.TheVariants.{Block, Form, Listing, Lrecl, Memory, NotText, Number, Piece, Pieces, Reading, Words}
 use Rattle.cob_convert_options.specs.Options.{Given, Options, found_at, taken}
 use Rattle.cob_convert_program.specs.Commands.{Spells, check_options, commands, convert_options, draft_options, explain_options, help_options, layout_options, lossless_options, map_options, pieces_options, show_options}
 use Rattle.cob_convert_options.specs.Looks.{Look}
@@ -39,6 +39,7 @@ option_fault words name rows fault f h = go fault (subst (λ (look : Look). IsFa
     go Piece h = (f.os, f.given, f.spells, h)
     go Number h = (f.os, f.given, f.spells, h)
     go Pieces h = (f.os, f.given, f.spells, h)
+    go Lrecl h = (f.os, f.given, f.spells, h)
     go NotText h = absurd h
     go Memory h = absurd h
 

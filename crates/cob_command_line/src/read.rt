@@ -66,7 +66,7 @@ fn whole_line<'a>(name: &str, options: &ArgMatches<'a>) -> Result<CommandLine<'a
 /// for a form names neither f nor v nor b ([`LineFault::Form`]), the one for binary items names neither reading ([`LineFault::Reading`]), one for
 /// the size of blocks says none beside the letter b ([`LineFault::Block`]), the one for a listing names none ([`LineFault::Listing`]), one for a
 /// piece of the input says no number ([`LineFault::Piece`]), one for a number of records says none ([`LineFault::Number`]), the one for a number of
-/// pieces says none from 1 on ([`LineFault::Pieces`]).
+/// pieces says none from 1 on ([`LineFault::Pieces`]), the one for a record length says none from 1 on ([`LineFault::Lrecl`]).
 pub fn line_of<'a, S: AsStr>(alloc: Global, words: &'a [S]) -> Result<CommandLine<'a>, LineFault>
     ensures options { IfOk result (IsCommandLineOf (map S.text words.entry.now)) }
     ensures refused { IfErr result (λ fault. (fault ≡ Memory)

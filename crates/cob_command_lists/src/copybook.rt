@@ -1,8 +1,11 @@
 ghost use Rattle.std.specs.Prelude.{◌≡◌, IfErr, IfOk};
-ghost use Rattle.cob_command_faults.specs.Texts.{LacksLayout};
+ghost use Rattle.cob_layout.specs.Storage.{greatest_length};
+ghost use Rattle.cob_command_faults.specs.Lengths.{FitsLrecl};
+ghost use Rattle.cob_command_faults.specs.Texts.{LacksLayout, LacksRecordLayout};
 
-use cob_command_faults::{CommandFault, FileName, text_of};
+use cob_command_faults::{CommandFault, FileName, judge_lrecl, text_of};
 use cob_convert_show::{Book, Layout, Role};
+use cob_records::Form;
 use std::rt::Files;
 
 /// A copybook, and the layout of its records.
@@ -25,4 +28,26 @@ pub fn read_book<R: AllocGlobal + Files>(rt: &R, path: &str) -> Result<Listed, C
     let book = Book::read(rt.alloc(), Role::In, &text)?;
     let layout = Layout::of(rt.alloc(), &book)?;
     Ok(Listed { book, layout })
+}
+
+/// Reads the copybook that `--book` names of records that stand in this form, and fit the record length that their file is said to have, where one is said.
+///
+/// # Errors
+///
+/// A file that is not opened or not read, a copybook that is refused, records that do not fit that length, want of memory.
+pub fn read_record_book<R: AllocGlobal + Files>(
+    rt: &R,
+    path: &str,
+    form: Form,
+    lrecl: Option<u64>,
+) -> Result<Listed, CommandFault>
+    ensures same { IfOk result (λ listed. listed.book ≡ listed.layout) }
+    ensures fits { IfOk result (λ listed. FitsLrecl form lrecl (greatest_length listed.layout)) }
+    ensures lacks { IfErr result LacksRecordLayout }
+{
+    let listed = read_book(rt, path)?;
+    match judge_lrecl(FileName::Book, form, lrecl, listed.layout.greatest()) {
+        Ok(()) => Ok(listed),
+        Err(fault) => Err(fault),
+    }
 }

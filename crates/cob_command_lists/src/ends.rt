@@ -1,7 +1,7 @@
 ghost use Rattle.cob_command_faults.specs.Ends.{EndsAs, status_of_outcome};
 
-use cob_command_faults::cob_status::Status;
 use cob_command_faults::{CommandFault, tell_fault};
+use cob_status::Status;
 use std::io::Eprint;
 
 /// Prints the fault of a list, whose lines are printed, and answers how it ends.

@@ -8,10 +8,10 @@ ghost use Rattle.cob_command_lists.specs.Listed.{listed_entries};
 use crate::copybook::{Listed, read_book};
 use crate::ends::tell_listed;
 use cob_command_faults::CommandFault;
-use cob_command_faults::cob_status::Status;
 use cob_convert_line::LayoutLine;
 use cob_convert_show::layout_text;
 use cob_records::{DeviceFault, WriteSink, create_sink};
+use cob_status::Status;
 use std::io::{BufWriter, Eprint, Print, Write};
 use std::rt::Files;
 

@@ -7,10 +7,11 @@
 //! What is promised: which faults each command can have (`MayEndLayout`, and `MayEndListing` of the other two, of specs/Ends.antt); that it ends with the
 //! status of what it came to, or as where a device failed if its last line was not printed (`EndsAmong` of `cob_command_faults`); and that where it
 //! ends otherwise than by a device that fails, nothing of what it prints is still held (`list_to_end`, `show_to_end`). What the lists hold is
-//! promised by `cob_convert_show`, and where pieces begin by `cob_pieces`.
+//! promised by `cob_convert_show`, and where pieces begin by `cob_pieces`. The copybook of `show` and `pieces` is refused where its records do not fit the
+//! record length that their file is said to have (`read_record_book`).
 //!
 //! It stands on `cob_convert_line` for the command line, on `cob_convert_show` for listings, on `cob_pieces` for pieces, on `cob_command_input` and `cob_chosen`
-//! for the records that `show` reads, on `cob_stream` for
+//! for the records that `show` reads, on `cob_layout` for their length, on `cob_stream` for
 //! the fault of a record, on `cob_command_faults` for faults and texts, on
 //! `cob_records` for the ends over files, and on `cob_status` for statuses.
 #![tactic(auto)]

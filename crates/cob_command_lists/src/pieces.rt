@@ -8,13 +8,13 @@ ghost use Rattle.cob_command_faults.specs.Ends.{EndsAmong};
 ghost use Rattle.cob_command_lists.specs.Ends.{MayEndListing};
 ghost use Rattle.cob_command_lists.specs.Listed.{uncut_at, uncut_fault};
 
-use crate::copybook::read_book;
+use crate::copybook::read_record_book;
 use crate::ends::tell_listed;
-use cob_command_faults::cob_status::Status;
 use cob_command_faults::{CommandFault, FileName, opened};
 use cob_convert_line::PiecesLine;
 use cob_pieces::{MOST_RECORDS_CUT, Piece, PiecesFault, pieces_in, pieces_of_size};
 use cob_records::{Form, open_source, size_of};
+use cob_status::Status;
 use cob_stream::{Cause, RunFault, Side};
 use std::io::{Eprint, Input, Print};
 use std::rt::Files;
@@ -58,7 +58,7 @@ pub fn cut<R: AllocGlobal + Files + Input>(
     requires pieces { 0 < line.now.pieces }
     ensures { IfErr result MayEndListing }
 {
-    let listed = read_book(rt, line.book)?;
+    let listed = read_record_book(rt, line.book, line.form, line.lrecl)?;
     let greatest = listed.layout.greatest();
     let Some(size) = size_of(rt, line.input) else {
         return Err(CommandFault::CannotOpen(FileName::In));

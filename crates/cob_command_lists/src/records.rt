@@ -8,15 +8,15 @@ ghost use Rattle.cob_command_faults.specs.Ends.{EndsAmong, EndsAs, status_of_out
 ghost use Rattle.cob_command_lists.specs.Ends.{MayEndListing};
 ghost use Rattle.cob_command_lists.specs.Listed.{ListsFrom, ListsOver, Lists, listed_records, show_fault_told, told_counted_behind};
 
-use crate::copybook::{Listed, read_book};
+use crate::copybook::{Listed, read_record_book};
 use cob_chosen::{Choice, Incoming, Stopped};
-use cob_command_faults::cob_status::Status;
-use cob_command_faults::{CommandFault, printed, tell_fault, telling};
+use cob_command_faults::{CommandFault, printed, tell_fault, tell_uneven, telling};
 use cob_command_input::{Wanted, open_records, with_cause};
 use cob_convert_line::{Listing, ShowLine};
 use cob_convert_show::{ShowFault, show};
 use cob_convert_values::{show_csv, show_json};
 use cob_records::{DeviceFault, Form, Progress, Sink, Source, Telling, WriteSink, create_sink};
+use cob_status::Status;
 use cob_stream::RunFault;
 use std::alloc::Global;
 use std::io::{BufWriter, Eprint, Input, Print, Write};
@@ -213,10 +213,12 @@ fn list_by<R: AllocGlobal + Files + Input + Print + Eprint + Clock>(
     requires block { HasBlockSize line.now.form }
     ensures { IfErr result MayEndListing }
 {
-    let incoming = open_records(rt, wanted_by(line, book.layout.greatest()))?;
+    let greatest = book.layout.greatest();
+    let incoming = open_records(rt, wanted_by(line, greatest))?;
     let Ok(mut sink) = create_sink(rt, "-") else {
         return Err(CommandFault::Memory);
     };
+    tell_uneven(rt, line.input, line.form, greatest, 0, None);
     let telling = telling_chosen(rt, line);
     let (form, listing) = (line.form, line.listing);
     let handed = show_to_end(rt, book, form, listing, telling, incoming, &mut sink);
@@ -236,7 +238,7 @@ pub fn list_records<R: AllocGlobal + Files + Input + Print + Eprint + Clock>(
     requires { HasBlockSize line.now.form }
     ensures { IfErr result MayEndListing }
 {
-    match read_book(rt, line.book) {
+    match read_record_book(rt, line.book, line.form, line.lrecl) {
         Ok(book) => list_by(rt, line, &book),
         Err(fault) => Err(fault),
     }

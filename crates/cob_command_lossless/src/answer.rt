@@ -70,7 +70,7 @@ fn converter_back(
 }
 
 /// What two copybooks and two paragraphs come to.
-#[derive(Debug, Drop)]
+#[derive(Drop)]
 pub enum Answer {
     /// The conversions lose nothing.
     Yes,

@@ -4,9 +4,9 @@ ghost use Rattle.cob_command_faults.specs.Ends.{EndsAmong, EndsAs, status_of_out
 ghost use Rattle.cob_command_lossless.specs.Ends.{MayEndLossless};
 
 use crate::answer::{Answer, answer_of};
-use cob_command_faults::cob_status::Status;
 use cob_command_faults::{CommandFault, FileName, printed, tell_fault, text_of};
 use cob_convert_line::LosslessLine;
+use cob_status::Status;
 use std::io::{Eprint, Print};
 use std::rt::Files;
 

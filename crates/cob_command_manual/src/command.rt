@@ -2,8 +2,8 @@ ghost use Rattle.cob_command_faults.specs.Ends.{EndsAmong};
 ghost use Rattle.cob_command_manual.specs.Ends.{MayEndPrinting};
 
 use crate::texts::{completion_of, page_of};
-use cob_command_faults::cob_status::Status;
 use cob_command_faults::{CommandFault, printed, tell_fault};
+use cob_status::Status;
 use std::alloc::AllocError;
 use std::io::{Eprint, Print};
 

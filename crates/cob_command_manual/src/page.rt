@@ -24,7 +24,7 @@ const TAIL: &str = ".SH EXIT STATUS
 All is done.
 .TP
 1
-A record stopped the run, or was set aside.
+A record stopped the run, or was set aside; or a strict check found something open.
 .TP
 2
 The command line or the job is malformed.

@@ -7,12 +7,12 @@ ghost use Rattle.cob_command_map.specs.Ends.{MayNotMap};
 
 use crate::ends::{Unmapped, tell_mapped};
 use crate::mapping::print_conversion;
-use cob_command_faults::{CommandFault, FileName, text_of};
+use cob_command_faults::{CommandFault, FileName, judge_lrecl, text_of};
+use cob_convert::Converter;
 use cob_convert_line::MapLine;
 use cob_convert_record::Conversion;
-use cob_cover::cob_lossless_words::lines_of;
+use cob_lossless_words::lines_of;
 use cob_status::Status;
-use cob_status::cob_convert::Converter;
 use std::io::{Eprint, Input, Print};
 use std::rt::Files;
 
@@ -31,6 +31,21 @@ fn print_lined<R: AllocGlobal + Files + Input + Print>(
         // The paragraph was read before, so that only memory can lack.
         Err(_) => Err(Unmapped::Fault(CommandFault::Memory)),
     }
+}
+
+/// Prints the page of a conversion, which this paragraph says, where its records fit the record length that the input is said to have.
+fn print_fitting<R: AllocGlobal + Files + Input + Print>(
+    rt: &R,
+    line: &MapLine<'_>,
+    converter: &Converter,
+    moves: &[u8],
+) -> Result<(), Unmapped>
+    requires { 0 < line.now.record }
+    ensures { IfErr result MayNotMap }
+{
+    let greatest = converter.in_length();
+    judge_lrecl(FileName::InBook, line.in_form, line.lrecl, greatest)?;
+    print_lined(rt, line, converter.conversion(), moves)
 }
 
 /// Prints the page of the conversion that three texts say.
@@ -55,7 +70,7 @@ fn print_texts<R: AllocGlobal + Files + Input + Print>(
         line.out_form,
         line.reading,
     ) {
-        Ok(converter) => print_lined(rt, line, converter.conversion(), moves),
+        Ok(converter) => print_fitting(rt, line, &converter, moves),
         Err(refused) => Err(Unmapped::Fault(CommandFault::from(refused))),
     }
 }

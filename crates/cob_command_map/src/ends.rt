@@ -10,7 +10,7 @@ use std::alloc::AllocError;
 use std::io::Eprint;
 
 /// Why there is no page.
-#[derive(Debug, Drop)]
+#[derive(Drop)]
 pub enum Unmapped {
     /// The fault of a text, of the file with the record, of the record or of the device.
     Fault(CommandFault),

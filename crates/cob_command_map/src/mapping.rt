@@ -3,6 +3,7 @@
 ghost use Rattle.std.specs.Prelude.{◌<◌, IfErr, IfOk};
 ghost use Rattle.cob_cover.specs.Covered.{AreMarks, IsByteCovered};
 ghost use Rattle.cob_map_losses.specs.Losing.{AreAllLosses};
+ghost use Rattle.cob_command_map.specs.Told.{AreAllTold};
 ghost use Rattle.cob_command_map.specs.Ends.{MayNotMap};
 
 use crate::ends::Unmapped;
@@ -15,18 +16,20 @@ use cob_lossless::{MovesBetween, carried};
 use cob_map::{Converted, Mapping, Page, TextNames};
 use cob_map_losses::losses_in;
 use cob_map_record::Shown;
+use cob_move_descriptions::{Unkept, descriptions_lost};
 use cob_move_losses::Losses;
 use std::alloc::{AllocError, Global};
 use std::io::{Input, Print};
 use std::rt::Files;
 
 /// What stands on the page beside both records and their moves: the lines of the statements, the bytes of the output record that are covered, what single
-/// moves may lose, and the record that is shown, where one is.
+/// moves may lose, by which bytes they may lose their description, and the record that is shown, where one is.
 #[derive(Drop)]
 struct Marks {
     lines: Vec<u32>,
     covered: Vec<bool>,
     losses: Vec<Losses>,
+    descriptions: Vec<Option<Unkept>>,
     shown: Option<Shown>,
 }
 
@@ -50,13 +53,17 @@ fn marks_of(
     ensures covered { IfOk result (λ marks. AreMarks (IsByteCovered moves.now) marks.covered.items) }
     ensures losses { IfOk result (λ marks.
         AreAllLosses moves.now.layouts moves.now.statements.now marks.losses.items) }
+    ensures descriptions { IfOk result (λ marks.
+        AreAllTold moves.now marks.descriptions.items) }
 {
     let covered = bytes_covered(alloc, moves)?;
     let losses = losses_in(alloc, moves)?;
+    let descriptions = descriptions_lost(alloc, moves)?;
     Ok(Marks {
         lines,
         covered,
         losses,
+        descriptions,
         shown,
     })
 }
@@ -75,6 +82,7 @@ fn mapping_of<'a>(moves: &MovesBetween<'a>, names: TextNames<'a>, marks: &'a Mar
     requires covered { AreMarks (IsByteCovered moves.now) marks.now.covered.items }
     requires losses { AreAllLosses moves.now.layouts moves.now.statements.now
         marks.now.losses.items }
+    requires descriptions { AreAllTold moves.now marks.now.descriptions.items }
 {
     Mapping {
         input: moves.layouts.input,
@@ -84,6 +92,7 @@ fn mapping_of<'a>(moves: &MovesBetween<'a>, names: TextNames<'a>, marks: &'a Mar
         names,
         covered: marks.covered.as_slice(),
         losses: marks.losses.as_slice(),
+        descriptions: marks.descriptions.as_slice(),
         converted: marks.converted(),
     }
 }
@@ -109,6 +118,7 @@ fn print_marked<R: AllocGlobal + Print>(
     requires covered { AreMarks (IsByteCovered moves.now) marks.now.covered.items }
     requires losses { AreAllLosses moves.now.layouts moves.now.statements.now
         marks.now.losses.items }
+    requires descriptions { AreAllTold moves.now marks.now.descriptions.items }
     ensures { IfErr result MayNotMap }
 {
     let mapping = mapping_of(moves, names_of(line), marks);

@@ -1,5 +1,6 @@
 -- Where none is rejected a run that sets records aside is a run; and a record that was set aside is rejected again.
-use Rattle.std.proofs.Common.{◌≡◌, ℕ, ◌+◌, false, List, [], ◌∷◌, ◌++◌, length, refl, sym, subst, ◌∙◌, ap, arith, inl, inr, Ok, Err, Result}
+use Rattle.std.proofs.Common.{◌≡◌, ℕ, ◌+◌, false, List, [], ◌∷◌, ◌++◌, length, refl, sym, subst, ◌∙◌, ap, arith, inl, inr, None, Some, Option, Ok, Err, Result}
+use Rattle.std.proofs.Math.ListN.{length-append}
 use Rattle.std.specs.List.{AllByRecursion}
 use Rattle.cob_records.specs.Alone.{AloneIsOneRecord, framed_alone}
 use Rattle.cob_records.specs.declared.records.Form.{Form}
@@ -7,13 +8,14 @@ use Rattle.cob_records.specs.declared.records.Form.TheVariants.{Fixed, Variable,
 use Rattle.cob_records.specs.Forms.{Come, written_of}
 use Rattle.cob_convert_record.specs.Conversion.{Conversion}
 use Rattle.cob_stream.specs.declared.fault.Reason.{Reason}
+use Rattle.cob_stream.specs.declared.fault.RunFault.{RunFault}
 use Rattle.cob_stream.specs.Input.{Remains, records_in}
 use Rattle.cob_convert.specs.declared.aside.AsideFault.{AsideFault}
 use Rattle.cob_convert.specs.declared.aside.Ending.{Ending}
 use Rattle.cob_convert.specs.declared.aside.Ending.TheVariants as ending
 use Rattle.cob_convert.specs.declared.aside.Tally.{Tally}
 use Rattle.cob_convert.specs.Run.{InRead, IsConverted, StopsFor, records_out}
-use Rattle.cob_convert.specs.Outcomes.{Became, HasItsOutcome, Outcome, WasRejected, converted_of, fault_at, inputs_of, rejected_of}
+use Rattle.cob_convert.specs.Outcomes.{Became, HasItsOutcome, Outcome, WasRejected, append_notes, converted_of, fault_at, inputs_of, notes_behind, notes_of, rejected_of}
 use Rattle.cob_convert.specs.Aside.{IsOverAside, Outputs, RanAside, StopsAside, answer_over, count_of, tally_of}
 use Rattle.cob_convert.specs.AsideLaws.{AsideIsRun, IsConversion, RejectedAgain, RejectsNone, is_device_fault, IsPlainAnswer}
 use Rattle.cob_convert.proofs.AsideOne.{IsWorking, not_unwritten, working}
@@ -138,10 +140,38 @@ of_none conversion most bytes rest before now (Ok tally) ran none =
       | inr ends ↦ absurd (not_unwritten conversion most ran.records ran.opened ran.left rest ran.written ran.aside_part (Ok tally) ends refl)
     ]) refl
 
+-- ---- a run that noted none
+
+none_behind : {X : Type 0} (xs ys : List X) → xs ≡ xs ++ ys → ys ≡ []
+none_behind xs [] e = refl
+none_behind xs (y ∷ ys) e = absurd (omega (arith, ap length e, length-append xs (y ∷ ys)))
+
+-- each record that is rejected is noted
+none_rejected : (conversion : Conversion) (before records : List (List ℕ × Outcome)) → notes_behind conversion before records ≡ [] → length (rejected_of records) ≡ 0
+none_rejected conversion before [] none = refl
+none_rejected conversion before ((input, Became written) ∷ records) none = none_rejected conversion (before ++ (input, Became written) ∷ []) records none
+none_rejected conversion before ((input, WasRejected why) ∷ records) none = absurd (cc)
+
+same_notes : (known : Option (List RunFault)) (notes more : List RunFault) → known ≡ Some notes → append_notes known more ≡ Some notes → notes ≡ notes ++ more
+same_notes None notes more known same = absurd (cc)
+same_notes (Some told) notes more known same =
+    let first : told ≡ notes = cc in
+    let all : told ++ more ≡ notes = cc in
+    sym all ∙ ap (λ (xs : List RunFault). xs ++ more) first
+
+of_unnoted : (conversion : Conversion) (most : ℕ) (bytes rest : List ℕ) (before now : Outputs) (answer : Result Tally AsideFault) (notes : List RunFault)
+    → RanAside conversion most answer bytes rest before now → before.notes ≡ Some notes → now.notes ≡ Some notes → is_device_fault answer ≡ false
+    → IsConversion conversion bytes rest before now answer
+of_unnoted conversion most bytes rest before now answer notes ran known still works =
+    let more : List RunFault = notes_of conversion ran.records in
+    let none : more ≡ [] = none_behind notes more (same_notes before.notes notes more known (sym ran.told ∙ still)) in
+    plain_of conversion most bytes rest before now answer ran (none_rejected conversion [] ran.records none) works
+
 pub aside_is_run : AsideIsRun
 aside_is_run = record {
   at_none = λ conversion bytes rest before now answer ran works. plain_of conversion 0 bytes rest before now answer ran (omega (arith, ran.within)) works;
   of_none = of_none;
+  of_unnoted = of_unnoted;
 }
 
 -- ---- a record that was set aside

@@ -1,5 +1,5 @@
 -- The bytes decide a run that sets rejected records aside; where none is rejected it is a run; and what was set aside is rejected again.
-use Rattle.std.specs.Prelude.{◌≡◌, ℕ, ◌++◌, Bool, false, ◌||◌, List, [], Ok, Err, Result}
+use Rattle.std.specs.Prelude.{◌≡◌, ℕ, ◌++◌, Bool, false, ◌||◌, List, [], Some, Ok, Err, Result}
 use Rattle.std.specs.Io.KnownBytes.{append_known}
 use Rattle.cob_records.specs.Alone.{HasRoomAlone, framed_alone}
 use Rattle.cob_records.specs.Forms.{HasBlockSize}
@@ -44,12 +44,16 @@ IsConversion conversion bytes rest before now answer =
     (written : List ℕ) × (second : Result ℕ RunFault) × (now.sink ≡ append_known before.sink written) × IsPlainAnswer answer second
     × Converted conversion bytes rest written second
 
--- A run that may set none aside, or that rejected none, is a conversion of the same bytes, with the same answer, unless a call failed.
+-- A run that may set none aside, that rejected none, or that noted none, whatever ended it, is a conversion of the same bytes, with the same answer,
+-- unless a call failed.
 pub record AsideIsRun : Type 0 where
   pub at_none : (conversion : Conversion) (bytes rest : List ℕ) (before now : Outputs) (answer : Result Tally AsideFault)
       → RanAside conversion 0 answer bytes rest before now → is_device_fault answer ≡ false → IsConversion conversion bytes rest before now answer
   pub of_none : (conversion : Conversion) (most : ℕ) (bytes rest : List ℕ) (before now : Outputs) (answer : Result Tally AsideFault)
       → RanAside conversion most answer bytes rest before now → RejectsNone answer → IsConversion conversion bytes rest before now answer
+  pub of_unnoted : (conversion : Conversion) (most : ℕ) (bytes rest : List ℕ) (before now : Outputs) (answer : Result Tally AsideFault) (notes : List RunFault)
+      → RanAside conversion most answer bytes rest before now → before.notes ≡ Some notes → now.notes ≡ Some notes → is_device_fault answer ≡ false
+      → IsConversion conversion bytes rest before now answer
 
 -- A record that was rejected and set aside is rejected again where it stands first, for the same reason: nothing is written, and what stands behind
 -- it isn't read.

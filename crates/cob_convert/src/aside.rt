@@ -23,14 +23,14 @@ use cob_stream::{Cause, Reason, RunFault, Side, write_pending, write_record};
 use std::fmt;
 
 /// How many records a run converted, and how many it rejected and set aside.
-#[derive(Clone, Copy, Debug, PartialEq, Eq)]
+#[derive(Clone, Copy, PartialEq, Eq)]
 pub struct Tally {
     pub converted: u64,
     pub rejected: u64,
 }
 
 /// Why a run that sets rejected records aside stopped.
-#[derive(Clone, Copy, Debug, PartialEq, Eq)]
+#[derive(Clone, Copy, PartialEq, Eq)]
 pub enum AsideFault {
     /// At a record, or at a device that gives records or takes what they become.
     Stopped(RunFault),

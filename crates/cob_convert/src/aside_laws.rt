@@ -11,7 +11,8 @@ pub fn aside_is_one()
     cob_convert_record::conversions_are_decided();
 }
 
-/// A run that may set none aside, or rejected none, is the conversion of the same bytes.
+/// A run that may set none aside, rejected none, or noted none, is the conversion of the same bytes, whatever ended it, unless a call of an end
+/// failed.
 #[tactic(auto, using(crate::proofs::AsideRun::aside_is_run))]
 pub fn aside_is_run()
     ensures { AsideIsRun }

@@ -18,10 +18,10 @@ use crate::run::run_over;
 use cob_codec::Reading;
 use cob_convert_record::{Conversion, Room, image_of};
 use cob_copybook::Book;
+use cob_layout::Layout;
 use cob_move::Paragraph;
 use cob_records::{Form, Outlet, Sink, Source};
 use cob_stream::RunFault;
-use cob_stream::cob_layout::Layout;
 use std::alloc::{AllocError, Global};
 use std::marker::Model;
 

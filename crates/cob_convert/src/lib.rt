@@ -43,7 +43,6 @@ pub use cob_codec::Reading;
 pub use cob_convert_record::Conversion;
 pub use cob_copybook::{BookFault, BookRule};
 pub use cob_move::{MoveFault, MoveRule};
-pub use cob_stream;
 pub use cob_stream::{Cause, RunFault, Side};
 pub use converter::Converter;
 pub use fault::PrepareFault;

@@ -12,7 +12,7 @@ use Rattle.cob_status.specs.declared.status.Status.{Status}
 use Rattle.cob_status.specs.declared.status.Status.TheVariants as status
 use Rattle.cob_command_faults.specs.Ends.{EndsAmong, EndsAs, EndsAtRecord}
 use Rattle.cob_command_explained.specs.cob_command_aside.Ends.{MayEndAside}
-use Rattle.cob_command_check.specs.Ends.{MayEndCheck}
+use Rattle.cob_command_check.specs.Ends.{EndsCheck}
 use Rattle.cob_command_explained.specs.cob_command_convert.Ends.{MayEndConvert}
 use Rattle.cob_command_draft.specs.Ends.{MayEndDraft}
 use Rattle.cob_command_lists.specs.Ends.{MayEndLayout, MayEndListing}
@@ -29,7 +29,7 @@ EndsConvert (Some rejects) atomic end = EndsAmong (MayEndAside atomic) end
 abbrev pub EndsLine : Line → Status → Type 0
 EndsLine line.Job end = ⊤
 EndsLine (line.Convert options) end = EndsConvert options.rejects options.atomic end
-EndsLine (line.Check options) end = EndsAmong MayEndCheck end
+EndsLine (line.Check options) end = EndsCheck options.strict end
 EndsLine (line.Layout options) end = EndsAmong MayEndLayout end
 EndsLine (line.Show options) end = EndsAmong MayEndListing end
 EndsLine (line.Pieces options) end = EndsAmong MayEndListing end
@@ -55,6 +55,7 @@ status_of_refusal refusal.Piece = status.Malformed
 status_of_refusal refusal.Number = status.Malformed
 status_of_refusal refusal.Pieces = status.Malformed
 status_of_refusal refusal.Listing = status.Malformed
+status_of_refusal refusal.Lrecl = status.Malformed
 status_of_refusal refusal.NotText = status.Malformed
 status_of_refusal refusal.Memory = status.Memory
 

@@ -1,15 +1,14 @@
 ghost use Rattle.std.specs.Prelude.{◌≡◌, map};
 ghost use Rattle.cob_convert_line.specs.Lines.{HasBlocks};
 ghost use Rattle.cob_records.specs.Forms.{HasBlockSize};
-ghost use Rattle.cob_command_faults.specs.Ends.{EndsAmong};
-ghost use Rattle.cob_command_check.specs.Ends.{MayEndCheck};
+ghost use Rattle.cob_command_check.specs.Ends.{EndsCheck};
 ghost use Rattle.cob_convert_commands.specs.Commands.{EndsConvert, IsEndOfLine, IsEndOfRefusal, IsEndOfWords, status_of_refusal};
 
+use cob_command_aside::do_convert_aside;
 use cob_command_check::{do_check, do_cover};
+use cob_command_convert::do_convert;
 use cob_command_draft::do_draft;
-use cob_command_explained::cob_command_aside::do_convert_aside;
-use cob_command_explained::cob_command_convert::do_convert;
-use cob_command_explained::cob_command_explain::do_explain;
+use cob_command_explain::do_explain;
 use cob_command_explained::{
     do_convert_aside_explained, do_convert_explained, files_of, tell_file_error,
 };
@@ -77,9 +76,9 @@ fn do_asked_conversion<R: AllocGlobal + Files + Input + Print + Eprint + Clock>(
 
 /// Checks the three texts of a conversion: alone, or with the lists of what the paragraph leaves open.
 fn do_checking<R: AllocGlobal + Files + Print + Eprint>(rt: &R, line: &CheckLine<'_>) -> Status
-    ensures { EndsAmong MayEndCheck result }
+    ensures { EndsCheck line.now.strict result }
 {
-    if line.cover {
+    if line.cover || line.strict {
         do_cover(rt, line)
     } else {
         do_check(rt, line)

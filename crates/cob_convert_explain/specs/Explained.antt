@@ -7,6 +7,6 @@ use Rattle.cob_convert_explain.specs.declared.explainer.Explanation.TheVariants 
 -- what stops a record that is told of is no fault of writing
 abbrev pub IsExplanation : Explanation → Type 0
 IsExplanation (told.Missing records) = Unit {0}
-IsExplanation (told.Converts moves) = Unit {0}
-IsExplanation (told.Stops moves stopped) = is_write_cause stopped.fault.cause ≡ false
+IsExplanation told.Converts = Unit {0}
+IsExplanation (told.Stops stopped) = is_write_cause stopped.fault.cause ≡ false
 IsExplanation (told.Refused stopped) = is_write_cause stopped.fault.cause ≡ false

@@ -14,7 +14,7 @@ use crate::reading::{Found, Refused, find_record};
 use crate::walk::{RecordStop, WalkRoom, walk_record};
 use cob_convert_record::{Cause, Conversion, Room, Side, Stop, StopCause};
 use cob_copybook::{Book, Role};
-use cob_explain_words::{Scene, Teller, count_words, move_words};
+use cob_explain_words::{Scene, Teller, Watching, count_words, move_words};
 use cob_fault_words::{Asker, Qualifying, frame_words};
 use cob_layout::Layout;
 use cob_lossless_words::lines_of;
@@ -24,22 +24,22 @@ use cob_stream::RunFault;
 use std::alloc::{AllocError, Global};
 
 /// What is told of a record that stops a run: its fault, and what is wrong in words, where there are some.
-#[derive(Debug, Drop)]
+#[derive(Drop)]
 pub struct Stopped {
     pub fault: RunFault,
     pub words: String,
 }
 
-/// What is told of a record.
-#[derive(Debug, Drop)]
+/// What is told of a record, beside its single moves.
+#[derive(Drop)]
 pub enum Explanation {
     /// It is not there: there are only so many.
     Missing { records: u64 },
-    /// The text of its single moves; it converts.
-    Converts { moves: String },
-    /// The text of its single moves up to the one where it stops, or of all where a count stops it behind them.
-    Stops { moves: String, stopped: Stopped },
-    /// It is none of the layout, or a frame up to its own can't be read.
+    /// It converts: all of its single moves were told.
+    Converts,
+    /// Its single moves were told up to the one where it stops, or all where a count stops it behind them.
+    Stops(Stopped),
+    /// It is none of the layout, or a frame up to its own can't be read: no single move was told.
     Refused(Stopped),
 }
 
@@ -104,34 +104,22 @@ fn records_of(conversion: &Conversion) -> Qualifying<'_> {
     }
 }
 
-/// The text of single moves, and where they stop.
-#[derive(Drop)]
-struct Walked {
-    moves: String,
-    stop: Option<RecordStop>,
-}
-
-/// Carries the single moves of a record out, and makes their text. The output holds the storage before the first move.
-fn tell_moves(
-    alloc: Global,
+/// Carries the single moves of a record out, has each told, and answers where they stop. The output holds the storage before the first move.
+fn tell_moves<T: Teller>(
     conversion: &Conversion,
     lines: &[u32],
     input: &[u8],
     output: &mut [u8],
     room: &mut WalkRoom,
-) -> Result<Walked, AllocError>
+    teller: &mut T,
+) -> Option<RecordStop>
     requires begins { IsInitial conversion.now.records.output output.old }
     requires input { IsStorage conversion.now.records.input input.now }
     requires output { length output.old ≡ out_length conversion.now }
     requires room { HasWalkRoom conversion.now.records room.old }
 {
-    let mut teller = Teller::new(alloc, records_of(conversion), lines);
-    let answer = walk_record(conversion, input, output, room, &mut teller);
-    let moves = teller.told()?;
-    Ok(Walked {
-        moves,
-        stop: answer.err(),
-    })
+    let mut watching = Watching::new(teller, records_of(conversion), lines);
+    walk_record(conversion, input, output, room, &mut watching).err()
 }
 
 /// Why a record does not convert, in words.
@@ -159,13 +147,14 @@ fn stopped_at(
 }
 
 /// Explains a record of the layout. The output holds the storage before the first move.
-fn explained(
+fn explained<T: Teller>(
     alloc: Global,
     conversion: &Conversion,
     lines: &[u32],
     number: u64,
     input: &[u8],
     output: &mut [u8],
+    teller: &mut T,
 ) -> Result<Explanation, AllocError>
     requires begins { IsInitial conversion.now.records.output output.old }
     requires input { IsStorage conversion.now.records.input input.now }
@@ -173,9 +162,8 @@ fn explained(
     ensures { IfOk result IsExplanation }
 {
     let mut room = WalkRoom::new(alloc, conversion)?;
-    let Walked { moves, stop } = tell_moves(alloc, conversion, lines, input, output, &mut room)?;
-    let Some(stop) = stop else {
-        return Ok(Explanation::Converts { moves });
+    let Some(stop) = tell_moves(conversion, lines, input, output, &mut room, teller) else {
+        return Ok(Explanation::Converts);
     };
     let scene = Scene {
         conversion,
@@ -186,7 +174,7 @@ fn explained(
         content: room.content(),
     };
     let stopped = stopped_at(alloc, &scene, number, stop)?;
-    Ok(Explanation::Stops { moves, stopped })
+    Ok(Explanation::Stops(stopped))
 }
 
 /// What is wrong with a record that is refused, in words. It stands at the front of these bytes.
@@ -238,7 +226,7 @@ fn refused_at(
 }
 
 /// Explains the record with this number of a source, which is read into the slot. The output holds the storage before the first move.
-fn explained_from<R: Source>(
+fn explained_from<R: Source, T: Teller>(
     alloc: Global,
     conversion: &Conversion,
     lines: &[u32],
@@ -246,6 +234,7 @@ fn explained_from<R: Source>(
     number: u64,
     slot: &mut [u8],
     output: &mut [u8],
+    teller: &mut T,
 ) -> Result<Explanation, AllocError>
     requires slot { length slot.old ≡ in_length conversion.now }
     requires begins { IsInitial conversion.now.records.output output.old }
@@ -255,26 +244,34 @@ fn explained_from<R: Source>(
     let mut room = Room::new(alloc, conversion)?;
     match find_record(conversion, source, number, slot, &mut room) {
         Ok(found) => match found {
-            Found::Record(count) => {
-                explained(alloc, conversion, lines, number, &slot[..count], output)
-            }
+            Found::Record(count) => explained(
+                alloc,
+                conversion,
+                lines,
+                number,
+                &slot[..count],
+                output,
+                teller,
+            ),
             Found::Only(records) => Ok(Explanation::Missing { records }),
         },
         Err(refused) => refused_at(alloc, conversion, refused, slot),
     }
 }
 
-/// Explains the record with this number of a source. Those before it are read by their frames alone.
+/// Explains the record with this number of a source, and has each of its single moves told as soon as it is done. The records before it are read by their
+/// frames alone.
 ///
 /// # Errors
 ///
 /// Where no memory is left.
-pub fn explain<R: Source>(
+pub fn explain<R: Source, T: Teller>(
     alloc: Global,
     conversion: &Conversion,
     texts: ReadAgain<'_>,
     source: &mut R,
     number: u64,
+    teller: &mut T,
 ) -> Result<Explanation, AllocError>
     requires { IsBookOf Out texts.out_book.now conversion.now.records.output }
     ensures { IfOk result IsExplanation }
@@ -285,5 +282,7 @@ pub fn explain<R: Source>(
     begin_output(alloc, texts.out_book, conversion, output)?;
     let mut slot = vec![in alloc; 0u8; usize::from(conversion.in_length())]?;
     let slot = slot.as_mut_slice();
-    explained_from(alloc, conversion, &lines, source, number, slot, output)
+    explained_from(
+        alloc, conversion, &lines, source, number, slot, output, teller,
+    )
 }

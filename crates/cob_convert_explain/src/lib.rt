@@ -1,7 +1,8 @@
 //! One record explained: what each single move sends and what its receiver holds then, and why the record does not convert, where it does not.
 //!
-//! [`explain`] reads the records before one by their frames alone, and of this one makes the text of its single moves in order, two lines each. Where the
-//! record does not convert, the answer has the fault that a run has, and what is wrong in words.
+//! [`explain`] reads the records before one by their frames alone, and has the single moves of this one told by a `Teller` of `cob_explain_words`, in order
+//! and each as soon as it is done, so that no text of them is kept. Where the record does not convert, the answer has the fault that a run has, and what is
+//! wrong in words.
 //!
 //! What is promised: what becomes of a record is what a run makes of it (`converts`, `stops` of [`walk_record`], by `Becomes` and `StopsAt` of
 //! `cob_convert_record`). Which words tell it is shown by `cob_jobs`.

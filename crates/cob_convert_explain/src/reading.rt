@@ -11,7 +11,7 @@ use cob_records::Source;
 use cob_stream::sized_are_storages;
 
 /// What is found where a record is looked for.
-#[derive(Clone, Copy, Debug, PartialEq, Eq)]
+#[derive(Clone, Copy, PartialEq, Eq)]
 pub(crate) enum Found {
     /// It has so many bytes.
     Record(usize),

@@ -19,7 +19,7 @@ use cob_stream::written_length;
 use std::alloc::{AllocError, Global};
 
 /// Where the conversion of a record stops.
-#[derive(Clone, Copy, Debug, PartialEq, Eq)]
+#[derive(Clone, Copy, PartialEq, Eq)]
 pub enum RecordStop {
     /// At a single move.
     AtMove(MoveStop),
@@ -40,7 +40,7 @@ impl RecordStop {
 }
 
 /// All the memory that the conversion of a record needs beside its bytes.
-#[derive(Debug, Drop)]
+#[derive(Drop)]
 pub struct WalkRoom {
     pub(crate) each: EachRoom,
     pub(crate) out_counts: Counts,

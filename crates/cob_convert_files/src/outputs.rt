@@ -2,13 +2,14 @@ ghost use Rattle.std.specs.Prelude.{◌≡◌, [], IfOk, OnOk, string_bytes};
 ghost use Rattle.std.specs.Io.Buffered.{writer_buffer, writer_capacity};
 ghost use Rattle.cob_records.specs.Files.{buffer_size};
 ghost use Rattle.cob_records.specs.Streams.{sink_writer, sink_failures, sink_errors};
-ghost use Rattle.cob_convert_files.specs.Names.{name_of_part};
+ghost use Rattle.cob_convert_files.specs.Names.{folder_name, name_of_part, or_here};
 
 use cob_records::{FileSink, OpenFault, Opened, WriteSink, create_sink};
 use std::alloc::{AllocError, Global};
-use std::fs::{OpenFile, OpenOptions};
+use std::fs::{File, OpenFile, OpenOptions};
 use std::io::{ErrorKind, Print, Printer};
 use std::os::unix::fs::{MetadataExt, OpenOptionsExt};
+use std::path::Path;
 use std::rt::Files;
 use std::{fs, io};
 
@@ -77,9 +78,9 @@ pub fn create_part<'a, R: AllocGlobal + Files + Print>(
 }
 
 /// Why an output that is written whole did not come into its place. Its part has it.
-#[derive(Clone, Copy, Debug, PartialEq, Eq)]
+#[derive(Clone, Copy, PartialEq, Eq)]
 pub enum PlaceFault {
-    /// The system could not bring the part to its device.
+    /// The system could not bring the part to its device, or the folder with the part's new name.
     NotSynced,
     /// The system did not rename the part, so that the output is as it was before.
     NotRenamed,
@@ -93,12 +94,35 @@ fn sync<F: OpenFile, S>(opened: &Opened<F, S>) -> io::Result<()> {
     }
 }
 
-/// Brings the part of an output to its device, and then gives it the output's name, in the place of what had that name. The sink was flushed, and
-/// all records are in it.
+/// This folder, or `.` where it has no name.
+fn or_here(folder: &str) -> &str
+    ensures { result.now ≡ or_here folder.now }
+{
+    if folder.is_empty() { "." } else { folder }
+}
+
+/// The folder that the file of this name stands in.
+pub fn folder_of(name: &str) -> &str
+    ensures { result.now ≡ folder_name name.now }
+{
+    match Path::new(name).parent() {
+        Some(folder) => or_here(folder.as_str()),
+        None => ".",
+    }
+}
+
+/// Brings the names of a folder's files to its device.
+fn sync_folder<R: Files>(rt: &R, folder: &str) -> io::Result<()> {
+    let folder = File::open(rt, folder)?;
+    folder.sync_all()
+}
+
+/// Brings the part of an output to its device, then gives it the output's name, in the place of what had that name, and then brings its folder to its
+/// device, so that the new name is there too. The sink was flushed, and all records are in it.
 ///
 /// # Errors
 ///
-/// Where one of the two fails: the output is as it was before.
+/// Where one of the first two fails: the output is as it was before. Where the last fails, it is the new one, which a power cut may take back.
 pub fn put_in_place<'a, R: AllocGlobal + Files + Print>(
     rt: &'a R,
     sink: FileSink<R::File, Printer<'a, R>>,
@@ -109,8 +133,11 @@ pub fn put_in_place<'a, R: AllocGlobal + Files + Print>(
     if sync(writer.get_ref()).is_err() {
         return Err(PlaceFault::NotSynced);
     }
-    match fs::rename(rt, part, name) {
+    if fs::rename(rt, part, name).is_err() {
+        return Err(PlaceFault::NotRenamed);
+    }
+    match sync_folder(rt, folder_of(name)) {
         Ok(()) => Ok(()),
-        Err(_) => Err(PlaceFault::NotRenamed),
+        Err(_) => Err(PlaceFault::NotSynced),
     }
 }

@@ -14,7 +14,7 @@ use std::rt::Files;
 const PIECE: usize = 65_536;
 
 /// Why a text was not read.
-#[derive(Clone, Copy, Debug, PartialEq, Eq)]
+#[derive(Clone, Copy, PartialEq, Eq)]
 pub enum TextFault {
     /// The system does not open the file.
     NotOpened,

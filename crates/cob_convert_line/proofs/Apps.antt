@@ -7,8 +7,8 @@ use Rattle.cob_convert_line.specs.Numbers.{SaysNumber}
 use Rattle.cob_convert_program.specs.Commands.{pieces_options, show_options}
 use Rattle.cob_convert_options.specs.Looks.{AreAll, Look}
 use Rattle.cob_convert_line.specs.Named.{NamesBlock, NamesBound, NamesNumber, form_by_letter, letter_of, listing_by_word, reading_by_word, sized_by, word_of, word_of_listing}
-use Rattle.cob_convert_line.specs.Faults.{HasCounts, HasForms, HasListing, HasPiece, HasSizes, IsFaultIn, LacksABlock, LacksBlock, LacksBound, LacksCount, LacksForm, LacksListing, LacksNumber, LacksPiece, LacksReading, LacksSize}
-use Rattle.cob_convert_line.specs.Lines.{NameForms, NamePiece}
+use Rattle.cob_convert_line.specs.Faults.{HasCounts, HasForms, HasListing, HasPiece, HasPieces, HasSizes, IsFaultIn, LacksABlock, LacksBlock, LacksBound, LacksCount, LacksForm, LacksListing, LacksNumber, LacksPiece, LacksPieces, LacksReading, LacksSize}
+use Rattle.cob_convert_line.specs.Lines.{NameChoice, NameForms, NamePiece}
 use Rattle.cob_convert_line.specs.declared.line.Listing.{Listing}
 use Rattle.cob_convert_line.specs.declared.line.Listing.TheVariants as listing
 use Rattle.cob_convert_line.specs.declared.fault.LineFault.{LineFault}
@@ -206,6 +206,41 @@ pieces_form look f all named = (
   ),
   no_count look (all (codes "skip") refl) (all (codes "records") refl) (all (codes "most-rejects") refl),
 )
+
+-- nothing is wrong before a record length where there is no number of pieces, nor where there are no numbers of records either
+no_pieces : (look : Look) → look (codes "pieces") ≡ None → HasCounts look → HasPieces look
+no_pieces look none before = (before, λ lacks. absent look (codes "pieces") lacks.0 none lacks.1)
+
+pub chosen : (look : Look) (skip : ℕ) (records most : Option ℕ) → NameChoice look skip records → NamesBound look (codes "most-rejects") most → look (codes "pieces") ≡ None
+    → HasPiece look → HasPieces look
+chosen look skip records most choice bound pieces before = no_pieces look pieces (before, has_counts)
+  where
+    has_counts : LacksCount look → ⊥
+    has_counts (inl lacks) = has_number look (codes "skip") 0 skip choice.passed lacks
+    has_counts (inr (inl lacks)) = has_bound look (codes "records") records choice.most lacks
+    has_counts (inr (inr lacks)) = has_bound look (codes "most-rejects") most bound lacks
+
+pub chosen_alone : (look : Look) (skip : ℕ) (records : Option ℕ) → NameChoice look skip records → look (codes "most-rejects") ≡ None → look (codes "pieces") ≡ None
+    → HasPiece look → HasPieces look
+chosen_alone look skip records choice most pieces before = no_pieces look pieces (before, has_counts)
+  where
+    has_counts : LacksCount look → ⊥
+    has_counts (inl lacks) = has_number look (codes "skip") 0 skip choice.passed lacks
+    has_counts (inr (inl lacks)) = has_bound look (codes "records") records choice.most lacks
+    has_counts (inr (inr lacks)) = absent look (codes "most-rejects") lacks.0 most lacks.1
+
+pub one_record : (look : Look) (number : ℕ) → NamesNumber look (codes "record") 1 number → look (codes "from") ≡ None → look (codes "bytes") ≡ None
+    → look (codes "skip") ≡ None → look (codes "records") ≡ None → look (codes "most-rejects") ≡ None → look (codes "pieces") ≡ None
+    → HasListing look → HasPieces look
+one_record look number named from bytes skip records most pieces before = no_pieces look pieces ((before, has_piece), no_count look skip records most)
+  where
+    has_piece : LacksPiece look → ⊥
+    has_piece (inl lacks) = absent look (codes "from") lacks.0 from lacks.1
+    has_piece (inr (inl lacks)) = absent look (codes "bytes") lacks.0 bytes lacks.1
+    has_piece (inr (inr lacks)) = has_number look (codes "record") 1 number named lacks
+
+pub cut_in : (look : Look) (pieces : ℕ) → NamesNumber look (codes "pieces") 1 pieces → HasCounts look → HasPieces look
+cut_in look pieces named before = (before, λ lacks. has_number look (codes "pieces") 1 pieces named lacks)
 
 -- a fault that is one of the options
 pub fault_is : (look : Look) (told kind : LineFault) → told ≡ kind → IsFaultIn look kind → IsFaultIn look told

@@ -90,6 +90,10 @@ LacksCount look = LacksNumber look (codes "skip") 0 ⊎ LacksBound look (codes "
 abbrev pub LacksPieces : Look → Type 0
 LacksPieces look = LacksNumber look (codes "pieces") 1
 
+-- the option for the record length of the input has a word that says none, or 0
+abbrev pub LacksLrecl : Look → Type 0
+LacksLrecl look = LacksNumber look (codes "lrecl") 1
+
 -- no option for a form names none
 abbrev pub HasForms : Look → Type 0
 HasForms look = LacksAForm look → ⊥
@@ -114,8 +118,12 @@ HasPiece look = HasListing look × (LacksPiece look → ⊥)
 abbrev pub HasCounts : Look → Type 0
 HasCounts look = HasPiece look × (LacksCount look → ⊥)
 
+-- and none a number of pieces
+abbrev pub HasPieces : Look → Type 0
+HasPieces look = HasCounts look × (LacksPieces look → ⊥)
+
 -- An option names what is none, and none names that which is told before: a form first, then a reading, a size of blocks, a listing, a piece of the
--- input, a number of records, and a number of pieces.
+-- input, a number of records, a number of pieces, and a record length.
 abbrev pub IsFaultIn : Look → LineFault → Type 0
 IsFaultIn look (fault.Words error) = ⊥
 IsFaultIn look fault.Form = LacksAForm look
@@ -125,6 +133,7 @@ IsFaultIn look fault.Listing = HasSizes look × LacksListing look
 IsFaultIn look fault.Piece = HasListing look × LacksPiece look
 IsFaultIn look fault.Number = HasPiece look × LacksCount look
 IsFaultIn look fault.Pieces = HasCounts look × LacksPieces look
+IsFaultIn look fault.Lrecl = HasPieces look × LacksLrecl look
 IsFaultIn look fault.NotText = ⊥
 IsFaultIn look fault.Memory = ⊥
 

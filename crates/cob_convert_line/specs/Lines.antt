@@ -8,7 +8,7 @@ use Rattle.cob_limits.specs.Limits.{longest_block}
 use Rattle.cob_convert_options.specs.Options.{AreOptions, Given, Options, found_at, taken}
 use Rattle.cob_convert_program.specs.Commands.{commands}
 use Rattle.cob_convert_options.specs.Looks.{Look, is_flagged}
-use Rattle.cob_convert_line.specs.Named.{NamesBlock, NamesBound, NamesNumber, letter_of, sized_by, word_of, word_of_listing}
+use Rattle.cob_convert_line.specs.Named.{NamesBlock, NamesBound, NamesLrecl, NamesNumber, letter_of, sized_by, word_of, word_of_listing}
 pub use Rattle.cob_convert_line.specs.Faults.{IsFaultOf, is_answer_kind}
 use Rattle.cob_convert_line.specs.declared.line.CommandLine.{CommandLine}
 use Rattle.cob_convert_line.specs.declared.line.Line.{Line}
@@ -48,7 +48,7 @@ pub record NameChoice (look : Look) (skip : ℕ) (records : Option ℕ) : Type 0
   pub passed : NamesNumber look (codes "skip") 0 skip
   pub most : NamesBound look (codes "records") records
 
--- The options of `convert` name the line's files, its forms, its reading, its flags, the piece of the input and the records of it that are converted,
+-- The options of `convert` name the line's files, its forms, its reading, the record length of its input, its flags, the piece of the input and the records of it that are converted,
 -- and the file for the records that are set aside with the bound for their number.
 pub record IsConvert (look : Look) (line : ConvertLine) : Type 0 where
   pub in_book : look (codes "in-book") ≡ Some line.in_book.now
@@ -57,6 +57,7 @@ pub record IsConvert (look : Look) (line : ConvertLine) : Type 0 where
   pub input : look (codes "in") ≡ Some line.input.now
   pub output : look (codes "out") ≡ Some line.output.now
   pub forms : NameForms look line.in_form line.out_form line.in_block line.out_block line.reading
+  pub lrecl : NamesLrecl look line.lrecl
   pub atomic : is_flagged (codes "atomic") look ≡ line.atomic
   pub progress : is_flagged (codes "progress") look ≡ line.progress
   pub piece : NamePiece look line.from line.bytes line.first
@@ -64,33 +65,36 @@ pub record IsConvert (look : Look) (line : ConvertLine) : Type 0 where
   pub rejects : look (codes "rejects") ≡ option_map (λ file. file.now) line.rejects
   pub most_rejects : NamesBound look (codes "most-rejects") line.most_rejects
 
--- The options of `check` name the line's files and its flag.
+-- The options of `check` name the line's files and its flags.
 pub record IsCheck (look : Look) (line : CheckLine) : Type 0 where
   pub in_book : look (codes "in-book") ≡ Some line.in_book.now
   pub out_book : look (codes "out-book") ≡ Some line.out_book.now
   pub moves : look (codes "moves") ≡ Some line.moves.now
   pub cover : is_flagged (codes "cover") look ≡ line.cover
+  pub strict : is_flagged (codes "strict") look ≡ line.strict
 
 -- The option of `layout` names the line's file.
 pub record IsLayout (look : Look) (line : LayoutLine) : Type 0 where
   pub book : look (codes "book") ≡ Some line.book.now
 
--- The options of `show` name the line's files, its form, whose blocks may be the longest, its listing, its flag, and the records that are listed.
+-- The options of `show` name the line's files, its form, whose blocks may be the longest, its record length, its listing, its flag, and the records that are listed.
 pub record IsShow (look : Look) (line : ShowLine) : Type 0 where
   pub book : look (codes "book") ≡ Some line.book.now
   pub input : look (codes "in") ≡ Some line.input.now
   pub form : look (codes "form") ≡ Some (letter_of line.form)
   pub sized : line.form ≡ sized_by longest_block line.form
+  pub lrecl : NamesLrecl look line.lrecl
   pub listed : look (codes "as") ≡ Some (word_of_listing line.listing)
   pub progress : is_flagged (codes "progress") look ≡ line.progress
   pub choice : NameChoice look line.skip line.records
 
--- The options of `pieces` name the line's files, its form, whose blocks may be the longest, and how many pieces there may be.
+-- The options of `pieces` name the line's files, its form, whose blocks may be the longest, its record length, and how many pieces there may be.
 pub record IsPieces (look : Look) (line : PiecesLine) : Type 0 where
   pub book : look (codes "book") ≡ Some line.book.now
   pub input : look (codes "in") ≡ Some line.input.now
   pub form : look (codes "form") ≡ Some (letter_of line.form)
   pub sized : line.form ≡ sized_by longest_block line.form
+  pub lrecl : NamesLrecl look line.lrecl
   pub pieces : NamesNumber look (codes "pieces") 1 line.pieces
 
 -- The options of `lossless` name the line's files.
@@ -100,13 +104,14 @@ pub record IsLosslessLine (look : Look) (line : LosslessLine) : Type 0 where
   pub there : look (codes "there") ≡ Some line.there.now
   pub back : look (codes "back") ≡ Some line.back.now
 
--- The options of `explain` name the line's files, its forms, its reading, and the number of the record.
+-- The options of `explain` name the line's files, its forms, its reading, the record length of its input, and the number of the record.
 pub record IsExplain (look : Look) (line : ExplainLine) : Type 0 where
   pub in_book : look (codes "in-book") ≡ Some line.in_book.now
   pub out_book : look (codes "out-book") ≡ Some line.out_book.now
   pub moves : look (codes "moves") ≡ Some line.moves.now
   pub input : look (codes "in") ≡ Some line.input.now
   pub forms : NameForms look line.in_form line.out_form line.in_block line.out_block line.reading
+  pub lrecl : NamesLrecl look line.lrecl
   pub number : NamesNumber look (codes "record") 1 line.record
 
 -- The options of `draft` name the line's files.
@@ -114,13 +119,14 @@ pub record IsDraft (look : Look) (line : DraftLine) : Type 0 where
   pub in_book : look (codes "in-book") ≡ Some line.in_book.now
   pub out_book : look (codes "out-book") ≡ Some line.out_book.now
 
--- The options of `map` name the line's files, its forms, its reading, and the number of the record.
+-- The options of `map` name the line's files, its forms, its reading, the record length of its input, and the number of the record.
 pub record IsMap (look : Look) (line : MapLine) : Type 0 where
   pub in_book : look (codes "in-book") ≡ Some line.in_book.now
   pub out_book : look (codes "out-book") ≡ Some line.out_book.now
   pub moves : look (codes "moves") ≡ Some line.moves.now
   pub input : look (codes "in") ≡ option_map (λ file. file.now) line.input
   pub forms : NameForms look line.in_form line.out_form line.in_block line.out_block line.reading
+  pub lrecl : NamesLrecl look line.lrecl
   pub number : NamesNumber look (codes "record") 1 line.record
 
 -- the command is that of the line, and its options name what the line says

@@ -67,3 +67,8 @@ NamesNumber look name least number = (word : Text) × (look name ≡ Some word) 
 abbrev pub NamesBound : Look → Text → Option ℕ → Type 0
 NamesBound look name None = look name ≡ Some (codes "all")
 NamesBound look name (Some number) = NamesNumber look name 0 number
+
+-- the option for the record length of the input names one from 1 on, or is not there
+abbrev pub NamesLrecl : Look → Option ℕ → Type 0
+NamesLrecl look None = look (codes "lrecl") ≡ None
+NamesLrecl look (Some lrecl) = NamesNumber look (codes "lrecl") 1 lrecl

@@ -35,6 +35,9 @@ pub enum LineFault {
     /// A listing of values that is none of text, json and csv.
     #[error("bad listing")]
     Listing,
+    /// A record length of the input that is none, or 0.
+    #[error("bad lrecl")]
+    Lrecl,
     /// A word is no text in UTF-8, so that no option can take it.
     #[error("a word is not text in UTF-8")]
     NotText,
@@ -76,6 +79,7 @@ impl LineFault {
             | LineFault::Number
             | LineFault::Pieces
             | LineFault::Listing
+            | LineFault::Lrecl
             | LineFault::NotText
             | LineFault::Memory => false,
         }

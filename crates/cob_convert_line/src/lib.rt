@@ -4,8 +4,8 @@
 //! parser found, as [`convert_line`]: each field is the value that its option names, by specs/Lines.antt over the tables of `cob_convert_program`
 //! (`options`). A form is f, v, or b with the greatest size of its blocks, a reading of binary items is pictured or whole, a listing of values text,
 //! json or csv. It refuses options exactly where there is no such line (`lacks`), and says which names what is none, of those that are told first: an
-//! option names no form, no reading, no size of blocks, no listing, no piece of the input, no number of records, or no number of pieces (`fault`, by
-//! `IsFaultIn` of specs/Faults.antt).
+//! option names no form, no reading, no size of blocks, no listing, no piece of the input, no number of records, no number of pieces, or no record length
+//! (`fault`, by `IsFaultIn` of specs/Faults.antt).
 //!
 //! What words say as a whole (`IsCommandLineOf`), and which fault they have (`IsFaultOf`), is defined here too; that they are read so, promises
 //! `line_of` of `cob_command_line`.

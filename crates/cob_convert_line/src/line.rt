@@ -73,6 +73,8 @@ pub struct ConvertLine<'a> {
     pub out_block: u16,
     /// How binary items are read that are sent.
     pub reading: Reading,
+    /// The record length that the input is said to have, where one is: in form f that of each record, else the greatest, the record descriptor word in it.
+    pub lrecl: Option<u64>,
     /// Whether the output is put in its place only when all is converted.
     pub atomic: bool,
     /// Whether it tells on standard error how far it is.
@@ -104,6 +106,8 @@ pub struct CheckLine<'a> {
     pub moves: &'a str,
     /// Whether it lists what no move fills, what none takes, and what may be lost.
     pub cover: bool,
+    /// Whether it lists these, and ends as where a record stopped a run if bytes are not filled or something may be lost.
+    pub strict: bool,
 }
 
 /// The option of `layout`.
@@ -122,6 +126,8 @@ pub struct ShowLine<'a> {
     pub input: &'a str,
     /// How the records stand.
     pub form: Form,
+    /// The record length that the input is said to have, where one is: in form f that of each record, else the greatest, the record descriptor word in it.
+    pub lrecl: Option<u64>,
     /// How their values are listed.
     pub listing: Listing,
     /// Whether it tells on standard error how far it is.
@@ -141,6 +147,8 @@ pub struct PiecesLine<'a> {
     pub input: &'a str,
     /// How the records stand.
     pub form: Form,
+    /// The record length that the input is said to have, where one is: in form f that of each record, else the greatest, the record descriptor word in it.
+    pub lrecl: Option<u64>,
     /// How many pieces there may be, one at least.
     pub pieces: u64,
 }
@@ -179,6 +187,8 @@ pub struct ExplainLine<'a> {
     pub out_block: u16,
     /// How binary items are read that are sent.
     pub reading: Reading,
+    /// The record length that the input is said to have, where one is: in form f that of each record, else the greatest, the record descriptor word in it.
+    pub lrecl: Option<u64>,
     /// The number of the record, from 1 on.
     pub record: u64,
 }
@@ -213,6 +223,8 @@ pub struct MapLine<'a> {
     pub out_block: u16,
     /// How binary items are read that are sent.
     pub reading: Reading,
+    /// The record length that the input is said to have, where one is: in form f that of each record, else the greatest, the record descriptor word in it.
+    pub lrecl: Option<u64>,
     /// The number of the record, from 1 on.
     pub record: u64,
 }

@@ -12,7 +12,9 @@ use crate::line::{
     CheckLine, ConvertLine, DraftLine, ExplainLine, LayoutLine, LosslessLine, MapLine, PiecesLine,
     ShowLine,
 };
-use crate::values::{bound, choice_of, form, forms_of, listing, number, piece_of, record_of};
+use crate::values::{
+    bound, choice_of, form, forms_of, listing, lrecl_of, number, piece_of, record_of,
+};
 use clap::ArgMatches;
 use cob_convert_options::{flag, named, named_if_there};
 
@@ -35,6 +37,7 @@ pub fn convert_line<'a>(options: &ArgMatches<'a>) -> Result<ConvertLine<'a>, Lin
     let piece = piece_of(options)?;
     let choice = choice_of(options)?;
     let most_rejects = bound(options, "most-rejects", LineFault::Number)?;
+    let lrecl = lrecl_of(options)?;
     Ok(ConvertLine {
         in_book: named(options, "in-book"),
         out_book: named(options, "out-book"),
@@ -46,6 +49,7 @@ pub fn convert_line<'a>(options: &ArgMatches<'a>) -> Result<ConvertLine<'a>, Lin
         in_block: forms.in_block,
         out_block: forms.out_block,
         reading: forms.reading,
+        lrecl,
         atomic: flag(options, "atomic"),
         progress: flag(options, "progress"),
         from: piece.from,
@@ -68,6 +72,7 @@ pub fn check_line<'a>(options: &ArgMatches<'a>) -> CheckLine<'a>
         out_book: named(options, "out-book"),
         moves: named(options, "moves"),
         cover: flag(options, "cover"),
+        strict: flag(options, "strict"),
     }
 }
 
@@ -98,10 +103,12 @@ pub fn show_line<'a>(options: &ArgMatches<'a>) -> Result<ShowLine<'a>, LineFault
     let form = form(options, "form")?;
     let listing = listing(options)?;
     let choice = choice_of(options)?;
+    let lrecl = lrecl_of(options)?;
     Ok(ShowLine {
         book: named(options, "book"),
         input: named(options, "in"),
         form,
+        lrecl,
         listing,
         progress: flag(options, "progress"),
         skip: choice.skip,
@@ -125,10 +132,12 @@ pub fn pieces_line<'a>(options: &ArgMatches<'a>) -> Result<PiecesLine<'a>, LineF
 {
     let form = form(options, "form")?;
     let pieces = number(options, "pieces", 1, LineFault::Pieces)?;
+    let lrecl = lrecl_of(options)?;
     Ok(PiecesLine {
         book: named(options, "book"),
         input: named(options, "in"),
         form,
+        lrecl,
         pieces,
     })
 }
@@ -163,6 +172,7 @@ pub fn explain_line<'a>(options: &ArgMatches<'a>) -> Result<ExplainLine<'a>, Lin
 {
     let forms = forms_of(options)?;
     let record = record_of(options)?;
+    let lrecl = lrecl_of(options)?;
     Ok(ExplainLine {
         in_book: named(options, "in-book"),
         out_book: named(options, "out-book"),
@@ -173,6 +183,7 @@ pub fn explain_line<'a>(options: &ArgMatches<'a>) -> Result<ExplainLine<'a>, Lin
         in_block: forms.in_block,
         out_block: forms.out_block,
         reading: forms.reading,
+        lrecl,
         record,
     })
 }
@@ -205,6 +216,7 @@ pub fn map_line<'a>(options: &ArgMatches<'a>) -> Result<MapLine<'a>, LineFault>
 {
     let forms = forms_of(options)?;
     let record = record_of(options)?;
+    let lrecl = lrecl_of(options)?;
     Ok(MapLine {
         in_book: named(options, "in-book"),
         out_book: named(options, "out-book"),
@@ -215,6 +227,7 @@ pub fn map_line<'a>(options: &ArgMatches<'a>) -> Result<MapLine<'a>, LineFault>
         in_block: forms.in_block,
         out_block: forms.out_block,
         reading: forms.reading,
+        lrecl,
         record,
     })
 }

@@ -2,10 +2,12 @@
 
 ghost use Rattle.std.specs.Prelude.{◌≡◌, ◌<◌, ◌≤◌, ℕ, IfErr, IfOk, None, Option, Some, codes, is_some, true};
 ghost use Rattle.cob_convert_program.specs.Commands.{choice_options, forms_options, piece_options};
-ghost use Rattle.cob_convert_line.specs.Faults.{HasListing, HasPiece, IsFaultIn, LacksBound, LacksForm, LacksListing, LacksNumber, LacksReading, LacksSize};
+ghost use Rattle.cob_convert_line.specs.Faults.{HasListing, HasPiece, HasPieces, IsFaultIn, LacksBound, LacksForm, LacksListing, LacksNumber, LacksReading, LacksSize};
 ghost use Rattle.cob_convert_line.specs.Lines.{NameChoice, NameForms, NameNoForms, NamePiece};
 ghost use Rattle.cob_convert_options.specs.Looks.{AreNamed, look_of};
-ghost use Rattle.cob_convert_line.specs.Named.{NamesBlock, NamesBound, NamesNumber, form_by_letter, letter_of, listing_by_word, reading_by_word, sized_by, word_of, word_of_listing};
+ghost use Rattle.cob_convert_line.specs.Named.{NamesBlock, NamesBound, NamesLrecl, NamesNumber, form_by_letter, letter_of, listing_by_word, reading_by_word, sized_by, word_of, word_of_listing};
+ghost use Rattle.cob_convert_line.specs.Numbers.{SaysNumber};
+ghost use Rattle.cob_convert_line.specs.declared.fault.LineFault.TheVariants.{Lrecl};
 ghost use Rattle.cob_limits.specs.Limits.{longest_block};
 ghost use Rattle.cob_records.specs.Blocks.{IsBlockSize};
 ghost use Rattle.cob_records.specs.Forms.{HasBlockSize};
@@ -15,7 +17,7 @@ use crate::line::Listing;
 use crate::number::number_of;
 use clap::ArgMatches;
 use cob_codec::Reading;
-use cob_convert_options::named;
+use cob_convert_options::{named, named_if_there};
 use cob_limits::MAX_BLOCK;
 use cob_records::{Form, block_size_of};
 
@@ -168,6 +170,35 @@ pub(crate) fn bound(
     match number_of(word.as_bytes()) {
         Some(number) => Ok(Some(number)),
         None => Err(fault),
+    }
+}
+
+// The record length of the input that a word says, from 1 on.
+fn lrecl_named(word: &str) -> Result<u64, LineFault>
+    ensures named { IfOk result (λ lrecl. SaysNumber word.now lrecl × (1 ≤ lrecl)) }
+    ensures lacks { IfErr result (λ fault. (fault ≡ Lrecl)
+        × ((lrecl : ℕ) → SaysNumber word.now lrecl → 1 ≤ lrecl → ⊥)) }
+{
+    match number_of(word.as_bytes()) {
+        Some(lrecl) if lrecl >= 1 => Ok(lrecl),
+        _ => Err(LineFault::Lrecl),
+    }
+}
+
+// The record length of the input that its option says, where the option is there.
+pub(crate) fn lrecl_of(options: &ArgMatches<'_>) -> Result<Option<u64>, LineFault>
+    requires { HasPieces (look_of options.now) }
+    ensures named { IfOk result (NamesLrecl (look_of options.now)) }
+    ensures lacks { IfErr result (λ _. (lrecl : Option ℕ)
+        → NamesLrecl (look_of options.now) lrecl → ⊥) }
+    ensures fault { IfErr result (IsFaultIn (look_of options.now)) }
+{
+    match named_if_there(options, "lrecl") {
+        None => Ok(None),
+        Some(word) => match lrecl_named(word) {
+            Ok(lrecl) => Ok(Some(lrecl)),
+            Err(fault) => Err(fault),
+        },
     }
 }
 

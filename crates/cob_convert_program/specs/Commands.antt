@@ -16,9 +16,13 @@ texts_options = books_options ++ (codes "moves", Required) ∷ []
 abbrev pub ends_options : Options
 ends_options = (codes "in", Required) ∷ (codes "out", Required) ∷ []
 
+-- the option for the record length of the input
+abbrev pub lrecl_options : Options
+lrecl_options = (codes "lrecl", Optional) ∷ []
+
 -- the options for records of one layout
 abbrev pub records_options : Options
-records_options = (codes "book", Required) ∷ (codes "in", Required) ∷ (codes "form", Default (codes "f")) ∷ []
+records_options = (codes "book", Required) ∷ (codes "in", Required) ∷ (codes "form", Default (codes "f")) ∷ lrecl_options
 
 -- the options for the forms of both files, the greatest sizes of their blocks, and the reading of binary items
 abbrev pub forms_options : Options
@@ -51,12 +55,12 @@ shared_options = (codes "explain", Alone) ∷ help_options
 
 -- the options of `convert`
 abbrev pub convert_options : Options
-convert_options = texts_options ++ ends_options ++ forms_options ++ ((codes "atomic", Alone) ∷ (codes "progress", Alone) ∷ [])
+convert_options = texts_options ++ ends_options ++ forms_options ++ lrecl_options ++ ((codes "atomic", Alone) ∷ (codes "progress", Alone) ∷ [])
     ++ piece_options ++ choice_options ++ rejects_options ++ shared_options
 
 -- the options of `check`
 abbrev pub check_options : Options
-check_options = texts_options ++ (codes "cover", Alone) ∷ shared_options
+check_options = texts_options ++ (codes "cover", Alone) ∷ (codes "strict", Alone) ∷ shared_options
 
 -- the option of `layout`
 abbrev pub layout_options : Options
@@ -76,7 +80,7 @@ lossless_options = (codes "in-book", Required) ∷ (codes "out-book", Required) 
 
 -- the options of `explain`
 abbrev pub explain_options : Options
-explain_options = texts_options ++ (codes "in", Required) ∷ forms_options ++ record_options ++ shared_options
+explain_options = texts_options ++ (codes "in", Required) ∷ forms_options ++ lrecl_options ++ record_options ++ shared_options
 
 -- the options of `draft`
 abbrev pub draft_options : Options
@@ -84,7 +88,7 @@ draft_options = books_options ++ shared_options
 
 -- the options of `map`
 abbrev pub map_options : Options
-map_options = texts_options ++ (codes "in", Optional) ∷ forms_options ++ record_options ++ shared_options
+map_options = texts_options ++ (codes "in", Optional) ∷ forms_options ++ lrecl_options ++ record_options ++ shared_options
 
 -- commands by their names, each with its options
 abbrev pub Commands : Type 0

@@ -15,7 +15,8 @@ use crate::help::{
 };
 use crate::options::{
     ATOMIC, BOOK, BOOKS, BOTH_WAYS, CHOICE, COVER, CUT, ENDS, EXPLAINED_RECORDS, FORM, FORMS,
-    LISTING, MAPPED_RECORDS, MOVES, PIECE, PIECES, PROGRESS, RECORD, REJECTS, SHARED, SHOWN,
+    LISTING, LRECL, MAPPED_RECORDS, MOVES, PIECE, PIECES, PROGRESS, RECORD, REJECTS, SHARED,
+    SHARED_RUN, SHOWN,
 };
 use clap::Command;
 use std::alloc::{AllocError, Global};
@@ -28,7 +29,17 @@ const COMMANDS: [CommandDefinition<'static>; 9] = [
         usage: Some(CONVERT_USAGE),
         notes: CONVERT_NOTES,
         groups: &[
-            &BOOKS, &MOVES, &ENDS, &FORMS, &ATOMIC, &PROGRESS, &PIECE, &CHOICE, &REJECTS, &SHARED,
+            &BOOKS,
+            &MOVES,
+            &ENDS,
+            &FORMS,
+            &LRECL,
+            &ATOMIC,
+            &PROGRESS,
+            &PIECE,
+            &CHOICE,
+            &REJECTS,
+            &SHARED_RUN,
         ],
     },
     CommandDefinition {
@@ -50,14 +61,14 @@ const COMMANDS: [CommandDefinition<'static>; 9] = [
         about: "Print the value of each named item of each record of a file",
         usage: None,
         notes: "Example: cobconv show --book old.cpy --in old.dat --form v",
-        groups: &[&SHOWN, &FORM, &LISTING, &PROGRESS, &CHOICE, &SHARED],
+        groups: &[&SHOWN, &FORM, &LRECL, &LISTING, &PROGRESS, &CHOICE, &SHARED],
     },
     CommandDefinition {
         name: "pieces",
         about: "Print where the pieces of a file of records begin",
         usage: None,
         notes: PIECES_NOTES,
-        groups: &[&CUT, &FORM, &PIECES, &SHARED],
+        groups: &[&CUT, &FORM, &LRECL, &PIECES, &SHARED],
     },
     CommandDefinition {
         name: "lossless",
@@ -71,7 +82,15 @@ const COMMANDS: [CommandDefinition<'static>; 9] = [
         about: "Print each single move of a record, with what it sends and receives",
         usage: Some(EXPLAIN_USAGE),
         notes: EXPLAIN_NOTES,
-        groups: &[&BOOKS, &MOVES, &EXPLAINED_RECORDS, &FORMS, &RECORD, &SHARED],
+        groups: &[
+            &BOOKS,
+            &MOVES,
+            &EXPLAINED_RECORDS,
+            &FORMS,
+            &LRECL,
+            &RECORD,
+            &SHARED,
+        ],
     },
     CommandDefinition {
         name: "draft",
@@ -85,7 +104,15 @@ const COMMANDS: [CommandDefinition<'static>; 9] = [
         about: "Print a page with both records and the moves between them",
         usage: None,
         notes: MAP_NOTES,
-        groups: &[&BOOKS, &MOVES, &MAPPED_RECORDS, &FORMS, &RECORD, &SHARED],
+        groups: &[
+            &BOOKS,
+            &MOVES,
+            &MAPPED_RECORDS,
+            &FORMS,
+            &LRECL,
+            &RECORD,
+            &SHARED,
+        ],
     },
 ];
 

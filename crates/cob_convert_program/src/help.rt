@@ -20,8 +20,21 @@ pub(crate) const ATOMIC_HELP: &str = "Write OUT.part first, and rename it when a
 
 pub(crate) const PROGRESS_HELP: &str = "Tell on standard error how far it is";
 
+// What `--lrecl` names.
+pub(crate) const LRECL_HELP: &str =
+    "The input's LRECL, which the copybook has to fit: f, its\nrecords' length; v and b, the greatest with its RDW";
+
+// What `--strict` does.
+pub(crate) const STRICT_HELP: &str =
+    "List these, and end with status 1 where bytes are not\nfilled or a move may lose something";
+
 // What `--explain` does, of each command with files.
-pub(crate) const EXPLAINED_HELP: &str = "Say behind a fault what is wrong, and why";
+pub(crate) const EXPLAINED_HELP: &str =
+    "Behind a file's fault, say why the system did not open,\nread or write it";
+
+// What it does of a conversion.
+pub(crate) const EXPLAINED_RUN_HELP: &str =
+    "Behind a file's fault, say why the system did not open,\nread or write it; and behind a record that ends the run\nwhat is wrong with it";
 
 // How the words of `convert` stand, in two lines.
 pub(crate) const CONVERT_USAGE: &str = "cobconv convert [OPTIONS] --in-book <FILE> --out-book <FILE>
@@ -69,8 +82,8 @@ In a paragraph:
   M9   CORRESPONDING in which an item is in two pairs
   M10  an alphanumeric sender of over 31 characters to a number
 
-The statuses: 0 done, 1 a record stopped the run, 2 the command line or the job
-is malformed, 3 a text is refused, 4 a device failed, 5 memory was refused";
+The statuses: 0 done, 1 something is open and --strict was given, 2 the command
+line is malformed, 3 a text is refused, 4 a device failed, 5 memory was refused";
 
 // What a line of `pieces` holds.
 pub(crate) const PIECES_NOTES: &str =

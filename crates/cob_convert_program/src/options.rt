@@ -2,7 +2,8 @@
 
 use crate::definition::{OptionDefinition, Standing};
 use crate::help::{
-    ATOMIC_HELP, BINARY_HELP, EXPLAINED_HELP, FORM_HELP, LISTING_HELP, PROGRESS_HELP,
+    ATOMIC_HELP, BINARY_HELP, EXPLAINED_HELP, EXPLAINED_RUN_HELP, FORM_HELP, LISTING_HELP,
+    LRECL_HELP, PROGRESS_HELP, STRICT_HELP,
 };
 
 // How an option stands for a form, which is f where it is not there, and for the greatest size of blocks.
@@ -74,6 +75,13 @@ pub(crate) const FORMS: [OptionDefinition<'static>; 5] = [
     },
 ];
 
+// The record length of the file that records come from.
+pub(crate) const LRECL: [OptionDefinition<'static>; 1] = [OptionDefinition {
+    name: "lrecl",
+    standing: Standing::Optional("N"),
+    help: LRECL_HELP,
+}];
+
 // The output in its place only when all is done.
 pub(crate) const ATOMIC: [OptionDefinition<'static>; 1] = [OptionDefinition {
     name: "atomic",
@@ -136,11 +144,18 @@ pub(crate) const REJECTS: [OptionDefinition<'static>; 2] = [
 ];
 
 // What no move fills, what none takes, and losses.
-pub(crate) const COVER: [OptionDefinition<'static>; 1] = [OptionDefinition {
-    name: "cover",
-    standing: Standing::Alone,
-    help: "List what no move fills, what none takes, and losses",
-}];
+pub(crate) const COVER: [OptionDefinition<'static>; 2] = [
+    OptionDefinition {
+        name: "cover",
+        standing: Standing::Alone,
+        help: "List what no move fills, what none takes, and losses",
+    },
+    OptionDefinition {
+        name: "strict",
+        standing: Standing::Alone,
+        help: STRICT_HELP,
+    },
+];
 
 // The copybook whose entries are listed.
 pub(crate) const BOOK: [OptionDefinition<'static>; 1] = [OptionDefinition {
@@ -248,4 +263,11 @@ pub(crate) const SHARED: [OptionDefinition<'static>; 1] = [OptionDefinition {
     name: "explain",
     standing: Standing::Alone,
     help: EXPLAINED_HELP,
+}];
+
+// The same of a conversion, which also tells of a record.
+pub(crate) const SHARED_RUN: [OptionDefinition<'static>; 1] = [OptionDefinition {
+    name: "explain",
+    standing: Standing::Alone,
+    help: EXPLAINED_RUN_HELP,
 }];

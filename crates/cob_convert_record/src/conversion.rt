@@ -18,7 +18,7 @@ use std::marker::Model;
 
 /// What is done to each record of a stream: the forms in which records come and go, the layouts of both records, the moves between them, and the
 /// storage that each output record begins from.
-#[derive(Debug, Drop)]
+#[derive(Drop)]
 pub struct Conversion {
     in_form: Form,
     out_form: Form,

@@ -4,7 +4,7 @@ use cob_move_apply::Stop;
 use cob_stream::Reason;
 
 /// Why an input record that came whole has no output record.
-#[derive(Clone, Copy, Debug, PartialEq, Eq)]
+#[derive(Clone, Copy, PartialEq, Eq)]
 pub enum Rejection {
     /// It isn't one of the input layout.
     Misfit(Reason),

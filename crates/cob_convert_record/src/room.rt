@@ -9,7 +9,7 @@ use std::alloc::{AllocError, Global};
 use std::marker::Model;
 
 /// All the memory that conversions need beside the bytes of the two records.
-#[derive(Debug, Drop)]
+#[derive(Drop)]
 pub struct Room {
     pub(crate) scratch: Scratch,
     pub(crate) in_counts: Counts,

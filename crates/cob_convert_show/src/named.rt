@@ -10,7 +10,7 @@ use cob_layout::{Item, Kind, Name, Node, Tables, with_own};
 use std::alloc::{AllocError, Global};
 
 /// A named elementary item.
-#[derive(Debug, Drop)]
+#[derive(Drop)]
 pub struct Named {
     /// The number of its entry.
     pub number: usize,

@@ -28,7 +28,7 @@ use itoa::Buffer;
 use std::alloc::{AllocError, Global};
 
 /// Why not all records were shown.
-#[derive(Clone, Copy, Debug, PartialEq, Eq)]
+#[derive(Clone, Copy, PartialEq, Eq)]
 pub enum ShowFault {
     /// Memory was refused, before a record was read.
     Memory,

@@ -95,7 +95,7 @@ pub fn number_text(item: &Item, bytes: &[u8]) -> Option<ArrayVec<u8, 64>>
 }
 
 /// How bytes are written.
-#[derive(Clone, Copy, Debug, PartialEq, Eq)]
+#[derive(Clone, Copy, PartialEq, Eq)]
 pub(crate) enum Notation {
     /// Among characters.
     Characters,

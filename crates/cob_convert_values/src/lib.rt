@@ -7,7 +7,7 @@
 //! judges it, says which number an item's bytes represent, and which character a byte shows. Where an element stands comes from the record's places,
 //! which `cob_layout` found under its counts.
 //!
-//! No clause says what is printed: rows show it. What is proved is safety, and that each call ends. Buffers are made before the first record, and
+//! No clause says what is printed: rows show it. What is proved is safety, that each call ends, and that a line that is written is taken whole. Buffers are made before the first record, and
 //! grow to the longest line; then no record asks for memory.
 //!
 //! It stands on `cob_convert_show` for records, values and names, on `cob_layout` for places, on `cob_cp037` for characters, on

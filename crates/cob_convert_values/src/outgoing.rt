@@ -1,5 +1,8 @@
 //! Texts of any length that go to a sink.
 
+ghost use Rattle.std.specs.Prelude.{◌≡◌, OnOk};
+ghost use Rattle.std.specs.Io.KnownBytes.{append_known};
+
 use cob_convert_show::put;
 use cob_records::{RecordFault, Sink};
 use std::io;
@@ -13,7 +16,9 @@ pub(crate) fn put_text<W: Sink>(
     sink: &mut W,
     sent: &mut u64,
     text: &[u8],
-) -> Result<(), RecordFault> {
+) -> Result<(), RecordFault>
+    ensures whole { OnOk result (W.taken sink.new ≡ append_known (W.taken sink.old) text.now) }
+{
     let mut rest = text;
     while !rest.is_empty() {
         let (piece, behind) = rest.split_at(rest.len().min(PIECE));

@@ -19,7 +19,7 @@ use std::marker::Model;
 /// A copybook: the well-formed description of a record.
 ///
 /// Contracts see its tree, the record with the entries beneath it.
-#[derive(Debug, Drop)]
+#[derive(Drop)]
 pub struct Book {
     root: Node,
     greatest: u16,

@@ -37,7 +37,7 @@ use cob_entry::{Sign, Usage};
 use cob_source::Token;
 
 /// The kind of a clause.
-#[derive(Clone, Copy, Debug, PartialEq, Eq)]
+#[derive(Clone, Copy, PartialEq, Eq)]
 pub enum ClauseKind {
     Redefines,
     Picture,
@@ -50,7 +50,7 @@ pub enum ClauseKind {
 }
 
 /// One clause as it is written.
-#[derive(Clone, Copy, Debug)]
+#[derive(Clone, Copy)]
 pub enum WrittenClause<'a> {
     Redefines(&'a [u8]),
     Picture(&'a [u8]),

@@ -5,7 +5,7 @@ ghost use Rattle.cob_source.specs.Tokens.{lexeme};
 use cob_source::{Kind, Token};
 
 /// What a word, a literal or a Stop is to the grammar of entries.
-#[derive(Clone, Copy, Debug, PartialEq, Eq)]
+#[derive(Clone, Copy, PartialEq, Eq)]
 pub enum WordClass {
     /// REDEFINES.
     Redefines,

@@ -6,7 +6,7 @@ use cob_copybook_tree::Name;
 use std::alloc::{AllocError, Global};
 
 /// An entry that may be named.
-#[derive(Debug, Drop)]
+#[derive(Drop)]
 pub struct Bearer<'a, E> {
     /// None for FILLER.
     pub name: Option<&'a [u8]>,

@@ -1,5 +1,5 @@
 /// Why a name with its qualifiers names no entry alone.
-#[derive(Clone, Copy, Debug, PartialEq, Eq)]
+#[derive(Clone, Copy, PartialEq, Eq)]
 pub enum NameFault {
     /// No entry has the name with these qualifiers.
     Unknown,

@@ -12,7 +12,7 @@ use cob_copybook_tree::{Branch, Entry};
 use std::alloc::{AllocError, Global};
 
 /// An entry of a record as written.
-#[derive(Debug, Drop)]
+#[derive(Drop)]
 pub struct NumberedEntry<'a> {
     /// Its place among all entries of the record.
     pub number: usize,

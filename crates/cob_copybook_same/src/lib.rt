@@ -13,3 +13,4 @@ mod parts;
 mod pictures;
 
 pub use entries::is_same_record;
+pub use parts::is_same_item;

@@ -90,7 +90,7 @@ fn is_same_sign(sign: Option<Sign>, other: Option<Sign>) -> bool
 }
 
 /// Whether two items are one.
-fn is_same_item(item: &Item, other: &Item) -> bool
+pub fn is_same_item(item: &Item, other: &Item) -> bool
     ensures { Decides result (item.now ≡ other.now) }
 {
     is_same_picture(&item.picture, &other.picture)

@@ -1,7 +1,7 @@
 use cob_entry::Entry;
 
 /// An entry with those beneath it, as they are written.
-#[derive(Debug, Drop)]
+#[derive(Drop)]
 pub struct Branch {
     pub entry: Entry,
     pub children: Vec<Branch>,

@@ -4,11 +4,11 @@ ghost use Rattle.cob_copybook_tree.specs.Resolving.{is_numeric};
 ghost use Rattle.cob_copybook_tree.specs.Items.{form_of, is_leading, is_separate, IsNumberItem, TakesPicture};
 
 use crate::{Item, Sign, Usage};
-use cob_entry::cob_picture::{Category, Picture};
 use cob_limits::MAX_BINARY_DIGITS;
+use cob_picture::{Category, Picture};
 
 /// The four kinds of storage of a number.
-#[derive(Clone, Copy, Debug, PartialEq, Eq)]
+#[derive(Clone, Copy, PartialEq, Eq)]
 pub enum Form {
     /// A byte for each digit, the sign in the zone of one of them.
     Zoned,

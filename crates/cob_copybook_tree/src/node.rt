@@ -2,11 +2,11 @@
 
 ghost use Rattle.std.specs.Prelude.{◌≡◌};
 
-use cob_entry::cob_picture::Picture;
 use cob_entry::{Name, Sign, Usage, Value};
+use cob_picture::Picture;
 
 /// How often an entry occurs.
-#[derive(Clone, Copy, Debug, PartialEq, Eq)]
+#[derive(Clone, Copy, PartialEq, Eq)]
 pub enum ResolvedOccurs {
     /// It has no OCCURS clause.
     Once,
@@ -17,7 +17,7 @@ pub enum ResolvedOccurs {
 }
 
 /// An elementary item.
-#[derive(Debug, Drop)]
+#[derive(Drop)]
 pub struct Item {
     pub picture: Picture,
     /// Its own USAGE, else that of the nearest group that has one, else DISPLAY.
@@ -46,7 +46,7 @@ impl Item {
 }
 
 /// What an entry describes.
-#[derive(Debug, Drop)]
+#[derive(Drop)]
 pub enum Kind {
     Group,
     Item(Item),
@@ -65,7 +65,7 @@ impl Kind {
 }
 
 /// An entry of a record with those beneath it.
-#[derive(Debug, Drop)]
+#[derive(Drop)]
 pub struct Node {
     /// Its place among all entries of the record, a parent before its children, from 0.
     pub number: usize,

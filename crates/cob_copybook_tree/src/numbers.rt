@@ -11,7 +11,7 @@ ghost use Rattle.cob_codec.specs.declared.reading.Reading.TheVariants.{Whole};
 use crate::Item;
 use crate::form::{Form, form_of, is_leading};
 use cob_codec::{Binary, Packed, Reading, Separate, Shape, Storage, Zoned};
-use cob_entry::cob_decimal::Number;
+use cob_decimal::Number;
 
 /// How the number of an item lies in its bytes.
 fn shape_of(item: &Item) -> Shape

@@ -8,8 +8,8 @@ ghost use Rattle.cob_copybook_tree.specs.Resolving.{count_at, inherited, is_numb
 
 use crate::branch::Branch;
 use crate::node::{Item, Kind, Node, ResolvedOccurs};
-use cob_entry::cob_picture::{Category, Picture};
 use cob_entry::{Entry, Name, Occurs, Sign, Usage, Value};
+use cob_picture::{Category, Picture};
 use std::alloc::{AllocError, Global};
 
 /// What an entry has by its own clauses or by those of the groups that it stands in.

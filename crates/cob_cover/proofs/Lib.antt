@@ -3,3 +3,4 @@ pub mod JoinLemmas
 pub mod PlaceLemmas
 pub mod StatementLemmas
 pub mod MeetLemmas
+pub mod SweepLemmas

@@ -2,12 +2,12 @@
 
 use crate::items::{marks_at, push_items, run_end};
 use crate::marks::{bytes_covered, bytes_taken};
-use crate::moves::told_losing;
 use crate::occurrences::{Occurrence, occurrences_of};
+use crate::open_moves::push_open_moves;
 use cob_copybook_tree::Node;
 use cob_item_words::Named;
 use cob_layout::{Layout, Place};
-use cob_lossless_words::{LinedMoves, singles_of};
+use cob_lossless_words::LinedMoves;
 use std::alloc::{AllocError, Global};
 use std::fmt;
 
@@ -26,10 +26,15 @@ impl fmt::Display for Bytes {
     }
 }
 
-/// A record, of whose bytes it is marked which are covered or taken, and the words for those that are not.
+/// What is said of bytes that are not covered and stand behind a table that varies.
+const SHIFTED: &str = ", behind a table that varies: it holds what the greatest counts put there";
+
+/// A record, of whose bytes it is marked which are covered or taken, the words for those that are not, and what is said of them behind a table that
+/// varies.
 #[derive(Clone, Copy)]
 struct Marked<'a> {
     words: &'static str,
+    shifted: &'static str,
     layout: &'a Layout,
     marks: &'a [bool],
 }
@@ -45,68 +50,94 @@ impl Marked<'_> {
         self.at(place).iter().all(|mark| !*mark)
     }
 
+    /// What is said of an occurrence that stands behind a table that varies; nothing of others.
+    fn tail(&self, occurrence: &Occurrence) -> &'static str {
+        if self.shifted.is_empty() || occurrence.is_steady(self.layout) {
+            ""
+        } else {
+            self.shifted
+        }
+    }
+
     /// How many bytes of a place are not marked.
     fn open_bytes(&self, place: Place) -> usize {
         self.at(place).iter().filter(|mark| !**mark).count()
     }
 }
 
+/// Bytes of an occurrence, from an offset of the record on.
+#[derive(Clone, Copy)]
+struct Run {
+    offset: usize,
+    count: usize,
+}
+
 /// Adds a line that tells bytes of an occurrence.
 fn push_bytes(
     alloc: Global,
-    words: &str,
-    named: &Named<'_>,
-    offset: usize,
-    count: usize,
+    record: &Marked<'_>,
+    occurrence: &Occurrence,
+    run: Run,
     text: &mut String,
 ) -> Result<(), AllocError> {
-    let bytes = Bytes { count };
-    let line = format!(in alloc; "{words} {named}: {bytes} at {offset}\n")?;
+    let words = record.words;
+    let named = occurrence.named(record.layout);
+    let bytes = Bytes { count: run.count };
+    let offset = run.offset;
+    let tail = record.tail(occurrence);
+    let line = format!(in alloc; "{words} {named}: {bytes} at {offset}{tail}\n")?;
     text.push_str(&line)?;
     Ok(())
 }
 
-/// Adds a line that tells the bytes of all elements of an item, of which this is the place of the first.
+/// The first and the last of several occurrences of which no byte is marked.
+#[derive(Clone, Copy)]
+struct WhollyOpen<'a> {
+    first: &'a Occurrence,
+    last: &'a Occurrence,
+}
+
+/// Adds a line that tells the bytes of all elements of an item.
 fn push_elements(
     alloc: Global,
     record: &Marked<'_>,
     item: &Node,
-    first: Place,
+    open: WhollyOpen<'_>,
     times: usize,
     text: &mut String,
 ) -> Result<(), AllocError> {
     let words = record.words;
     let named = Named::new(record.layout.root(), item.number, &[]);
+    let Place { offset, length } = open.first.place;
     let bytes = Bytes {
-        count: first.length as usize,
+        count: length as usize,
     };
-    let offset = first.offset;
+    // Where the elements do not stay, the last one does not.
+    let tail = record.tail(open.last);
     let line = format!(in alloc;
-        "{words} {named}: {bytes} at {offset}, and so each of {times} elements\n"
+        "{words} {named}: {bytes} at {offset}, and so each of {times} elements{tail}\n"
     )?;
     text.push_str(&line)?;
     Ok(())
 }
 
-/// The place of the first of several occurrences of which no byte is marked.
-fn wholly_open(record: &Marked<'_>, occurrences: &[Occurrence<'_>]) -> Option<Place> {
+/// Several occurrences, where no byte of them is marked.
+fn wholly_open<'a>(record: &Marked<'_>, occurrences: &'a [Occurrence]) -> Option<WhollyOpen<'a>> {
     let (first, others) = occurrences.split_first()?;
-    if others.is_empty() {
-        return None;
-    }
+    let last = others.last()?;
     for occurrence in occurrences {
         if !record.is_open(occurrence.place) {
             return None;
         }
     }
-    Some(first.place)
+    Some(WhollyOpen { first, last })
 }
 
 /// Adds a line for each run of bytes of an occurrence that are not marked.
 fn push_runs(
     alloc: Global,
     record: &Marked<'_>,
-    occurrence: &Occurrence<'_>,
+    occurrence: &Occurrence,
     text: &mut String,
 ) -> Result<(), AllocError> {
     let marks = record.at(occurrence.place);
@@ -118,15 +149,11 @@ fn push_runs(
             break;
         }
         from = run_end(marks, start, false);
-        let offset = front.saturating_add(start);
-        push_bytes(
-            alloc,
-            record.words,
-            &occurrence.named,
-            offset,
-            from - start,
-            text,
-        )?;
+        let run = Run {
+            offset: front.saturating_add(start),
+            count: from - start,
+        };
+        push_bytes(alloc, record, occurrence, run, text)?;
     }
     Ok(())
 }
@@ -136,11 +163,11 @@ fn push_open_item(
     alloc: Global,
     record: &Marked<'_>,
     item: &Node,
-    occurrences: &[Occurrence<'_>],
+    occurrences: &[Occurrence],
     text: &mut String,
 ) -> Result<(), AllocError> {
-    if let Some(first) = wholly_open(record, occurrences) {
-        return push_elements(alloc, record, item, first, occurrences.len(), text);
+    if let Some(open) = wholly_open(record, occurrences) {
+        return push_elements(alloc, record, item, open, occurrences.len(), text);
     }
     for occurrence in occurrences {
         push_runs(alloc, record, occurrence, text)?;
@@ -153,30 +180,27 @@ fn push_untaken_item(
     alloc: Global,
     record: &Marked<'_>,
     item: &Node,
-    occurrences: &[Occurrence<'_>],
+    occurrences: &[Occurrence],
     text: &mut String,
 ) -> Result<(), AllocError> {
-    if let Some(first) = wholly_open(record, occurrences) {
-        return push_elements(alloc, record, item, first, occurrences.len(), text);
+    if let Some(open) = wholly_open(record, occurrences) {
+        return push_elements(alloc, record, item, open, occurrences.len(), text);
     }
     for occurrence in occurrences {
         let Place { offset, length } = occurrence.place;
         if record.is_open(occurrence.place) {
-            push_bytes(
-                alloc,
-                record.words,
-                &occurrence.named,
-                offset as usize,
-                length as usize,
-                text,
-            )?;
+            let run = Run {
+                offset: offset as usize,
+                count: length as usize,
+            };
+            push_bytes(alloc, record, occurrence, run, text)?;
         }
     }
     Ok(())
 }
 
 /// How many bytes of these occurrences are not marked.
-fn open_in(record: &Marked<'_>, occurrences: &[Occurrence<'_>]) -> usize {
+fn open_in(record: &Marked<'_>, occurrences: &[Occurrence]) -> usize {
     let mut count: usize = 0;
     for occurrence in occurrences {
         count = count.saturating_add(record.open_bytes(occurrence.place));
@@ -237,6 +261,7 @@ fn push_covered(
     push_items(layout.root(), &mut items)?;
     let record = Marked {
         words: "not covered",
+        shifted: SHIFTED,
         layout,
         marks: &marks,
     };
@@ -251,34 +276,36 @@ fn push_taken(alloc: Global, moves: &LinedMoves<'_>, text: &mut String) -> Resul
     push_items(layout.root(), &mut items)?;
     let record = Marked {
         words: "not taken",
+        shifted: "",
         layout,
         marks: &marks,
     };
     push_untaken(alloc, &record, &items, text)
 }
 
-/// Adds a line for each single move that may lose something.
-fn push_losing(alloc: Global, moves: &LinedMoves<'_>, text: &mut String) -> Result<(), AllocError> {
-    let singles = singles_of(alloc, moves.moves.statements, moves.lines)?;
-    for single in singles.iter() {
-        if let Some(told) = told_losing(&moves.moves.layouts, single) {
-            let line = format!(in alloc; "{told}\n")?;
-            text.push_str(&line)?;
-        }
-    }
-    Ok(())
+/// What a paragraph leaves open, in lines.
+#[derive(Drop)]
+pub struct CoverText {
+    /// The lines: of the bytes of the output record that no receiver covers, of the items of the input record that no sender takes, and of the single moves
+    /// that may lose something or have no number.
+    pub text: String,
+    /// Whether some byte is not covered, or some single move may lose something or have no number: an item that no sender takes leaves nothing open.
+    pub is_open: bool,
 }
 
-/// The lines of what a paragraph leaves open: the bytes of the output record that no receiver covers, the items of the input record that no sender takes,
-/// and the single moves that may lose something.
+/// The lines of what a paragraph leaves open, and whether it leaves anything open.
 ///
 /// # Errors
 ///
 /// Where no memory is left.
-pub fn cover_text(alloc: Global, moves: &LinedMoves<'_>) -> Result<String, AllocError> {
+pub fn cover_text(alloc: Global, moves: &LinedMoves<'_>) -> Result<CoverText, AllocError> {
     let mut text = String::new(alloc);
     push_covered(alloc, moves, &mut text)?;
+    let is_covered = text.is_empty();
     push_taken(alloc, moves, &mut text)?;
-    push_losing(alloc, moves, &mut text)?;
-    Ok(text)
+    let loses = push_open_moves(alloc, moves, &mut text)?;
+    Ok(CoverText {
+        text,
+        is_open: loses || !is_covered,
+    })
 }

@@ -14,7 +14,7 @@ use std::marker::Model;
 ///
 /// Contracts see the list of the digits, each 0 to 9. A zero in front is a digit like another: `0 7` and `7` stand for one number,
 /// and are two lists.
-#[derive(Debug, Drop, PartialEq, Eq)]
+#[derive(Drop, PartialEq, Eq)]
 pub struct Digits {
     items: ArrayVec<u8, MAX_DIGITS>,
 }

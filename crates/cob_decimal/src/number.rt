@@ -14,7 +14,7 @@ use arrayvec::ArrayVec;
 ///
 /// The digits 3 4 5 6 with scale 1 are 345.6, and 3 with scale -2 is 300. Zero is never negative. Zeros in front are kept, so a
 /// number remembers how many digits it was given.
-#[derive(Debug, Drop)]
+#[derive(Drop)]
 pub struct Number {
     negative: bool,
     digits: Digits,

@@ -18,7 +18,7 @@ use std::alloc::{AllocError, Global};
 use std::fmt;
 
 /// What a draft lacks.
-#[derive(Clone, Copy, Debug, PartialEq, Eq)]
+#[derive(Clone, Copy, PartialEq, Eq)]
 pub enum Lacking {
     /// A statement.
     Statement,
@@ -46,7 +46,7 @@ pub struct Draft {
 }
 
 /// How much of an entry a draft moves.
-#[derive(Clone, Copy, Debug, PartialEq, Eq)]
+#[derive(Clone, Copy, PartialEq, Eq)]
 enum Share {
     Nothing,
     /// The elements that the other record has too.

@@ -18,7 +18,7 @@ const FURTHER: usize = 15;
 const REMARK: usize = 8;
 
 /// Whether a line is a comment.
-#[derive(Clone, Copy, Debug, PartialEq, Eq)]
+#[derive(Clone, Copy, PartialEq, Eq)]
 pub(crate) enum Mark {
     Statement,
     Comment,

@@ -31,7 +31,7 @@ use std::alloc::{AllocError, Global};
 pub type Tables = ArrayVec<u32, MAX_SUBSCRIPTS>;
 
 /// An entry of one of the two records.
-#[derive(Debug, Drop)]
+#[derive(Drop)]
 pub struct DraftEntry<'a> {
     pub side: Side,
     pub entry: &'a Node,

@@ -9,7 +9,7 @@ use cob_move_losses::{Losses, losses_of};
 use cob_move_receive::{Refusal, SenderKind, refusal_of};
 
 /// What is against the move of an entry to an item.
-#[derive(Clone, Copy, Debug, PartialEq, Eq)]
+#[derive(Clone, Copy, PartialEq, Eq)]
 pub enum Objection {
     /// They stand in tables that aren't as many.
     Tables,

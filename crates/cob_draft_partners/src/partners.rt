@@ -29,7 +29,7 @@ use cob_copybook_tree::Kind;
 use cob_layout_places::Side;
 
 /// How the qualifiers of two entries are to agree.
-#[derive(Clone, Copy, Debug, PartialEq, Eq)]
+#[derive(Clone, Copy, PartialEq, Eq)]
 pub enum Agreement {
     /// They are the same.
     Whole,

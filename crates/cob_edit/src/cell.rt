@@ -1,7 +1,7 @@
 //! The bytes of texts that are made ready.
 
 /// What a byte of a text is, whatever the number's other digits are.
-#[derive(Clone, Copy, Debug, PartialEq, Eq)]
+#[derive(Clone, Copy, PartialEq, Eq)]
 pub enum Cell {
     /// This byte.
     Same(u8),

@@ -6,7 +6,7 @@ ghost use Rattle.cob_edit.specs.Places.{mark_byte, tells, fill_byte, is_digit, i
 use cob_cp037::{ASTERISK, CURRENCY, LETTER_B, LETTER_C, LETTER_D, LETTER_R, MINUS, PLUS, SPACE};
 
 /// A byte that may depend on the sign of the value.
-#[derive(Clone, Copy, Debug, PartialEq, Eq)]
+#[derive(Clone, Copy, PartialEq, Eq)]
 pub enum Mark {
     /// `$`, whatever the sign.
     Currency,
@@ -25,7 +25,7 @@ pub enum Mark {
 }
 
 /// What stands for a suppressed zero.
-#[derive(Clone, Copy, Debug, PartialEq, Eq)]
+#[derive(Clone, Copy, PartialEq, Eq)]
 pub enum Fill {
     /// A space, for Z.
     Space,
@@ -34,7 +34,7 @@ pub enum Fill {
 }
 
 /// What a place of an edited item is for.
-#[derive(Clone, Copy, Debug, PartialEq, Eq)]
+#[derive(Clone, Copy, PartialEq, Eq)]
 pub enum Place {
     /// A byte that prints itself, for B, 0, the stroke and the comma.
     Inserted(u8),

@@ -8,7 +8,7 @@ ghost use Rattle.cob_edit.specs.Editing.{region_start, region_end, IsSuppressedT
 use crate::place::Place;
 
 /// Where the region of places stands.
-#[derive(Clone, Copy, Debug, PartialEq, Eq)]
+#[derive(Clone, Copy, PartialEq, Eq)]
 pub struct Region {
     /// The first place of it.
     pub start: usize,

@@ -6,14 +6,14 @@ use crate::value::Value;
 use cob_picture::Picture;
 
 /// A name with its qualifiers, the nearest first.
-#[derive(Debug, Drop)]
+#[derive(Drop)]
 pub struct Qualified {
     pub name: Name,
     pub qualifiers: Vec<Name>,
 }
 
 /// How often an entry occurs.
-#[derive(Debug, Drop)]
+#[derive(Drop)]
 pub enum Occurs {
     /// So many times, at least once.
     Fixed(u32),
@@ -26,7 +26,7 @@ pub enum Occurs {
 }
 
 /// A record description entry: its clauses, by themselves.
-#[derive(Debug, Drop)]
+#[derive(Drop)]
 pub struct Entry {
     /// The line of its first word, from 1; 0 for an entry that no text has.
     pub line: u32,

@@ -19,9 +19,7 @@ mod kinds;
 mod name;
 mod value;
 
-pub use cob_decimal;
 pub use cob_limits::MAX_LITERAL;
-pub use cob_picture;
 pub use entry::{Entry, Occurs, Qualified};
 pub use fault::{BookFault, BookRule, MAX_WORD};
 pub use kinds::{Figurative, Sign, Usage};

@@ -11,7 +11,7 @@ use std::marker::Model;
 /// The name of an entry: at most 30 characters, in capitals.
 ///
 /// Contracts see the list of the characters, in ASCII.
-#[derive(Debug, Drop, PartialEq, Eq)]
+#[derive(Drop, PartialEq, Eq)]
 pub struct Name {
     characters: ArrayVec<u8, MAX_NAME>,
 }

@@ -13,7 +13,7 @@ use std::marker::Model;
 /// The characters of a quoted literal: at most 160.
 ///
 /// Contracts see their list, in ASCII.
-#[derive(Debug, Drop, PartialEq, Eq)]
+#[derive(Drop, PartialEq, Eq)]
 pub struct Text {
     characters: ArrayVec<u8, MAX_LITERAL>,
 }
@@ -58,7 +58,7 @@ impl Text {
 }
 
 /// The constant of a VALUE clause.
-#[derive(Debug, Drop)]
+#[derive(Drop)]
 pub enum Value {
     /// A numeric literal, and whether a sign is written before it.
     Number { signed: bool, number: Number },

@@ -8,7 +8,6 @@ use cob_layout::Place;
 use cob_layout_places::Side;
 use cob_move_each::{SingleMove, Watcher};
 use cob_move_receive::Sent;
-use std::alloc::{AllocError, Global};
 use std::fmt;
 
 /// The line of the statement with this number, from 0.
@@ -35,11 +34,11 @@ fn bytes_of(storage: &[u8], place: Place) -> &[u8] {
 
 /// A single move, which prints in two lines: the line of its statement and what is sent, and what receives it.
 #[derive(Clone, Copy)]
-struct SingleText<'a> {
+pub struct SingleText<'a> {
     /// The line of its statement.
-    line: u32,
-    records: Qualifying<'a>,
-    one: &'a SingleMove<'a>,
+    pub line: u32,
+    pub records: Qualifying<'a>,
+    pub one: &'a SingleMove<'a>,
 }
 
 impl SingleText<'_> {
@@ -81,61 +80,45 @@ impl fmt::Display for SingleText<'_> {
     }
 }
 
-/// Who tells each single move in two lines.
+/// Who tells single moves.
+pub trait Teller {
+    /// Tells a single move between these records, which was carried out just now. Its statement stands on this line.
+    fn tell(&mut self, line: u32, records: Qualifying<'_>, one: &SingleMove<'_>);
+}
+
+/// A teller that tells nothing.
+#[derive(Clone, Copy)]
+pub struct Silent;
+
+impl Teller for Silent {
+    fn tell(&mut self, _line: u32, _records: Qualifying<'_>, _one: &SingleMove<'_>) {}
+}
+
+/// Who watches the single moves of a record, and has each of them told.
 #[derive(Drop)]
-pub struct Teller<'a> {
-    alloc: Global,
+pub struct Watching<'a, T> {
+    teller: &'a mut T,
     records: Qualifying<'a>,
     /// The lines of the statements.
     lines: &'a [u32],
-    text: String,
-    /// Whether memory lacked: then what follows is not told.
-    lacks: bool,
 }
 
-impl<'a> Teller<'a> {
-    /// A teller of the moves of statements on these lines.
-    pub fn new(alloc: Global, records: Qualifying<'a>, lines: &'a [u32]) -> Teller<'a> {
-        Teller {
-            alloc,
+impl<'a, T> Watching<'a, T> {
+    /// Has the moves of statements on these lines told by a teller.
+    pub fn new(teller: &'a mut T, records: Qualifying<'a>, lines: &'a [u32]) -> Watching<'a, T> {
+        Watching {
+            teller,
             records,
             lines,
-            text: String::new(alloc),
-            lacks: false,
         }
-    }
-
-    /// What was told.
-    ///
-    /// # Errors
-    ///
-    /// Where memory lacked.
-    pub fn told(self) -> Result<String, AllocError> {
-        if self.lacks {
-            return Err(AllocError);
-        }
-        Ok(self.text)
-    }
-
-    /// Tells a single move.
-    fn tell(&mut self, one: &SingleMove<'_>) -> Result<(), AllocError> {
-        let alloc = self.alloc;
-        let lines = SingleText {
-            line: line_at(self.lines, one.number.statement),
-            records: self.records,
-            one,
-        };
-        let text = format!(in alloc; "{lines}")?;
-        self.text.push_str(&text)
     }
 }
 
-impl Watcher for Teller<'_> {
-    ghost seen = { λ teller. None };
+impl<T: Teller> Watcher for Watching<'_, T> {
+    ghost seen = { λ watching. None };
 
     fn see(&mut self, one: &SingleMove<'_>) {
-        if !self.lacks && self.tell(one).is_err() {
-            self.lacks = true;
-        }
+        let line = line_at(self.lines, one.number.statement);
+        self.teller.tell(line, self.records, one);
     }
 }

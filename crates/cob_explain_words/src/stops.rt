@@ -150,6 +150,7 @@ fn value_text<'a>(scene: &Scene<'a>, stop: Stop, asked: AskingMove<'a>) -> Optio
         case: StopCase::NoValue {
             item,
             bytes,
+            record: scene.input,
             reading: scene.conversion.moves().reading(),
         },
         asked: Asker::Move(asked),

@@ -1,10 +1,52 @@
 //! Bytes and values, as they are told.
 
+ghost use Rattle.cob_explain_words.specs.Told.{AreToldOf};
+
 use cob_convert_show::{number_text, shown_byte};
 use cob_copybook_tree::{Item, Kind, is_number_item};
 use std::fmt;
 
-/// Bytes, which print as their hexadecimal digits.
+/// How many bytes are told in front, and how many at the end, where not all are told.
+const AT_EACH_END: usize = 64;
+
+/// The bytes of an entry that are told.
+#[derive(Clone, Copy)]
+pub(crate) enum Told<'a> {
+    /// All of them.
+    Whole(&'a [u8]),
+    /// The first and the last of so many.
+    Ends {
+        first: &'a [u8],
+        last: &'a [u8],
+        all: usize,
+    },
+}
+
+impl<'a> Told<'a> {
+    /// What is told of these bytes: all, or where they are many those at both ends.
+    pub(crate) fn of(bytes: &'a [u8]) -> Told<'a>
+        ensures { AreToldOf bytes.now result }
+    {
+        if bytes.len() <= 2 * AT_EACH_END {
+            return Told::Whole(bytes);
+        }
+        Told::Ends {
+            first: &bytes[..AT_EACH_END],
+            last: &bytes[bytes.len() - AT_EACH_END..],
+            all: bytes.len(),
+        }
+    }
+}
+
+/// Writes bytes in hexadecimal digits.
+fn write_digits<W: fmt::Write>(f: &mut fmt::Formatter<W>, bytes: &[u8]) -> fmt::Result {
+    for byte in bytes {
+        write!(f, "{byte:02X}")?;
+    }
+    Ok(())
+}
+
+/// Bytes, which print as their hexadecimal digits; where they are many, as those at both ends and their number.
 #[derive(Clone, Copy)]
 struct Digits<'a> {
     bytes: &'a [u8],
@@ -12,15 +54,20 @@ struct Digits<'a> {
 
 impl fmt::Display for Digits<'_> {
     fn fmt<W: fmt::Write>(&self, f: &mut fmt::Formatter<W>) -> fmt::Result {
-        for byte in self.bytes {
-            write!(f, "{byte:02X}")?;
+        match Told::of(self.bytes) {
+            Told::Whole(bytes) => write_digits(f, bytes),
+            Told::Ends { first, last, all } => {
+                write_digits(f, first)?;
+                write!(f, "..")?;
+                write_digits(f, last)?;
+                write!(f, " ({all} bytes)")
+            }
         }
-        Ok(())
     }
 }
 
 /// The value of an entry of these bytes, which prints as `show` prints it: a number, or `?` and the bytes of a number item that represent none, or
-/// characters in quotation marks; so those of a group.
+/// characters in quotation marks; so those of a group. Where the characters are many, those at both ends print so.
 #[derive(Clone, Copy)]
 struct ValueText<'a> {
     kind: &'a Kind,
@@ -44,10 +91,22 @@ fn write_quoted<W: fmt::Write>(f: &mut fmt::Formatter<W>, bytes: &[u8]) -> fmt::
     write!(f, "\"")
 }
 
+/// Writes the characters of bytes that are told.
+fn write_text<W: fmt::Write>(f: &mut fmt::Formatter<W>, bytes: &[u8]) -> fmt::Result {
+    match Told::of(bytes) {
+        Told::Whole(bytes) => write_quoted(f, bytes),
+        Told::Ends { first, last, .. } => {
+            write_quoted(f, first)?;
+            write!(f, "..")?;
+            write_quoted(f, last)
+        }
+    }
+}
+
 /// Writes the value of an item.
 fn write_item<W: fmt::Write>(f: &mut fmt::Formatter<W>, item: &Item, bytes: &[u8]) -> fmt::Result {
     if !is_number_item(item) || bytes.len() != usize::from(item.size()) {
-        return write_quoted(f, bytes);
+        return write_text(f, bytes);
     }
     match number_text(item, bytes) {
         Some(text) => write_characters(f, text.as_slice()),
@@ -59,7 +118,7 @@ impl fmt::Display for ValueText<'_> {
     fn fmt<W: fmt::Write>(&self, f: &mut fmt::Formatter<W>) -> fmt::Result {
         match self.kind {
             Kind::Item(item) => write_item(f, item, self.bytes),
-            Kind::Group => write_quoted(f, self.bytes),
+            Kind::Group => write_text(f, self.bytes),
         }
     }
 }

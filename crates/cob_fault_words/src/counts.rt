@@ -7,7 +7,7 @@ use cob_layout::{Counts, Layout, Place, tables};
 use std::alloc::{AllocError, Global};
 
 /// A table that varies, the item that counts it, and how often it may occur.
-#[derive(Clone, Copy, Debug, PartialEq, Eq)]
+#[derive(Clone, Copy, PartialEq, Eq)]
 pub struct CountTable {
     /// The number of the table's entry.
     pub table: usize,

@@ -14,7 +14,7 @@ use cob_copybook_tree::{Item, Sign, Usage, read_sent};
 use cob_number_flaws::{Flaw, packed_flaw, separate_flaw, zoned_flaw};
 
 /// Why the bytes of a number item represent none.
-#[derive(Clone, Copy, Debug, PartialEq, Eq)]
+#[derive(Clone, Copy, PartialEq, Eq)]
 pub enum NumberFlaw {
     /// The first part that isn't as its place asks.
     Part(Flaw),

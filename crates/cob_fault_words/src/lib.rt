@@ -6,8 +6,11 @@
 //! ```text
 //! BALANCE OF CUST-REC, PIC S9(7)V99 COMP-3, at offset 20: the bytes 40 40 40 40 40 are no packed number: the last half byte is 0, no sign
 //! asked by moves line 3: BALANCE OF CUST-REC to BALANCE OF NEW-REC
-//! look at these bytes; where the first record stops so, the transfer may have changed its code page
+//! spaces were left there: fill the item before, or describe it as X and move it to an item of characters
 //! ```
+//!
+//! What to do where a number has no value is told by what its bytes look like: spaces, low-values, high-values, digits of ASCII, another item's characters,
+//! or a record that begins with the end of a line.
 //!
 //! What is promised is what is decided: of the bytes of a number which part of them is to blame, and that they represent none ([`number_flaw`], by the
 //! flaws of `cob_number_flaws`). Which words tell it is shown by `cob_jobs`.
@@ -17,6 +20,7 @@
 //! `cob_records` for frames.
 #![tactic(auto)]
 
+mod advice;
 mod counts;
 mod flaws;
 mod frames;

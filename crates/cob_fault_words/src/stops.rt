@@ -1,5 +1,6 @@
 //! Why moves stop, in words.
 
+use crate::advice::value_advice;
 use crate::flaws::{NumberFlaw, number_flaw};
 use crate::numbers::write_number;
 use crate::occurrences::{Occurrence, SentText};
@@ -14,10 +15,11 @@ use std::fmt;
 /// What is wrong where moves stop.
 #[derive(Clone, Copy)]
 pub enum StopCase<'a> {
-    /// The bytes of this item represent no value that a receiver asks for.
+    /// The bytes of this item represent no value that a receiver asks for; this is the record that came.
     NoValue {
         item: &'a Item,
         bytes: &'a [u8],
+        record: &'a [u8],
         reading: Reading,
     },
     /// The bytes of this item, the count of a table that occurs from so often to so often, give no such number. There are none where the record ends
@@ -181,19 +183,6 @@ fn write_count_flaw<W: fmt::Write>(
     }
 }
 
-/// What to do where an item of this side has no value.
-fn value_advice(side: Side, item: &Item) -> &'static str {
-    match (side, item.usage) {
-        (Side::Out, _) => "give it such a value before this statement",
-        (Side::In, Usage::Binary) => {
-            "correct it, or read binary items as the numbers of all their bytes, by --binary whole"
-        }
-        (Side::In, _) => {
-            "look at these bytes; where the first record stops so, transfer the file in binary mode, which leaves its code page as it is"
-        }
-    }
-}
-
 /// What to do where the count of a table of this side is none.
 fn count_advice(side: Side) -> &'static str {
     match side {
@@ -213,6 +202,7 @@ impl StopText<'_> {
                 item,
                 bytes,
                 reading,
+                ..
             } => {
                 let what = ItemText { item };
                 write!(f, "{name}, {what}, at offset {}: ", self.offset)?;
@@ -259,7 +249,12 @@ impl StopText<'_> {
     /// What to do.
     fn advice(&self) -> &'static str {
         match self.case {
-            StopCase::NoValue { item, .. } => value_advice(self.subject.side, item),
+            StopCase::NoValue {
+                item,
+                bytes,
+                record,
+                ..
+            } => value_advice(self.subject.side, item, record, bytes),
             StopCase::Count { .. } => count_advice(self.subject.side),
             StopCase::Subscript => {
                 "put the table under a group of its own and move the group, which has as many elements as its count says"

@@ -4,7 +4,7 @@ use std::fmt;
 
 /// A straight line, which prints as an element of a drawing. Its ends stand so many hundredths of the drawing's width from the left, and so many units
 /// from above.
-#[derive(Clone, Copy, Debug, PartialEq, Eq)]
+#[derive(Clone, Copy, PartialEq, Eq)]
 pub struct Line {
     pub x1: u32,
     pub y1: u32,
@@ -28,7 +28,7 @@ impl fmt::Display for Line {
 }
 
 /// A rectangle, which prints as an element of a drawing, in the drawing's units.
-#[derive(Clone, Copy, Debug, PartialEq, Eq)]
+#[derive(Clone, Copy, PartialEq, Eq)]
 pub struct Rectangle {
     pub x: u32,
     pub y: u32,

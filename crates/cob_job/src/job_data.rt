@@ -10,7 +10,7 @@ use memchr::memchr;
 use std::alloc::{AllocError, Global};
 
 /// Why data are not read.
-#[derive(Clone, Copy, Debug, PartialEq, Eq)]
+#[derive(Clone, Copy, PartialEq, Eq)]
 pub enum DataFault {
     /// A bad line, with its number in the job.
     Line(u32),

@@ -28,5 +28,4 @@ mod job_data;
 mod job_text;
 mod jobs;
 
-pub use cob_convert;
 pub use jobs::{job, job_into};

@@ -10,7 +10,7 @@ use std::simd::prelude::*;
 pub const NO_LANE: u8 = 128;
 
 /// For each lane the number of the lane that it is taken from, or none.
-#[derive(Clone, Copy, Debug)]
+#[derive(Clone, Copy)]
 pub struct Picks {
     pub lanes: [u8; 16],
     pub ghost long: { length lanes ≡ 16 },
@@ -145,7 +145,7 @@ pub(crate) fn raised(v: u8x16) -> u8x16
 }
 
 /// The least and the greatest that the half bytes of sixteen bytes may be.
-#[derive(Clone, Copy, Debug)]
+#[derive(Clone, Copy)]
 pub struct Bounds {
     pub least_high: [u8; 16],
     pub most_high: [u8; 16],

@@ -7,7 +7,7 @@ use crate::lanes::{Bounds, Picks};
 use crate::signs::SignByte;
 
 /// What reads the number of items of one kind, each at the end of sixteen bytes, and keeps the digits that are wanted.
-#[derive(Clone, Copy, Debug)]
+#[derive(Clone, Copy)]
 pub struct LaneReader {
     pub bounds: Bounds,
     /// The high halves of bytes that are digits, for the lanes of the digits that are kept.

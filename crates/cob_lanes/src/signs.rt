@@ -4,7 +4,7 @@ ghost use Rattle.std.specs.Prelude.{◌≡◌, ◌≤◌, Bool, true, Some};
 ghost use Rattle.cob_lanes.specs.Signs.{byte_meaning, is_some, number_meaning, table_start};
 
 /// Where in its byte a sign is.
-#[derive(Clone, Copy, Debug)]
+#[derive(Clone, Copy)]
 pub enum SignByte {
     /// In the high half: the zone of a digit.
     Zone,

@@ -37,7 +37,7 @@ pub struct WideText {
 }
 
 /// Where the digits stand in texts of at most thirty-two bytes.
-#[derive(Clone, Copy, Debug)]
+#[derive(Clone, Copy)]
 pub struct DigitPlaces {
     /// For each digit its byte, where it is one of the first sixteen.
     pub front: Picks,
@@ -46,7 +46,7 @@ pub struct DigitPlaces {
 }
 
 /// Which digits of a number in the first lanes are kept.
-#[derive(Clone, Copy, Debug)]
+#[derive(Clone, Copy)]
 pub struct KeptDigits {
     pub picks: Picks,
 }

@@ -13,7 +13,7 @@ use cob_codec::Shape;
 use std::simd::prelude::*;
 
 /// What writes numbers of items of one kind that have more than sixteen digits: the last sixteen, and those in front of them.
-#[derive(Clone, Copy, Debug)]
+#[derive(Clone, Copy)]
 pub struct WideWriter {
     /// What makes the bytes of the digits in front.
     pub front: LaneWriter,

@@ -7,7 +7,7 @@ use crate::lanes::{Picks, picked, raised, sums};
 use std::simd::prelude::*;
 
 /// What writes numbers of items of one kind, from digits in lanes.
-#[derive(Clone, Copy, Debug)]
+#[derive(Clone, Copy)]
 pub struct LaneWriter {
     /// For each byte the digit that is its high half, if one is.
     pub high: Picks,

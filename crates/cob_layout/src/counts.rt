@@ -14,14 +14,14 @@ use std::alloc::{AllocError, Global};
 use std::marker::Model;
 
 /// A count of a storage: the number that its item gives, and where the item stands.
-#[derive(Clone, Copy, Debug)]
+#[derive(Clone, Copy)]
 pub struct StoredCount {
     pub number: u32,
     pub place: Place,
 }
 
 /// The bytes of a record, from one up to another, among which the items of all counts that are kept stand.
-#[derive(Clone, Copy, Debug)]
+#[derive(Clone, Copy)]
 pub(crate) struct KeptRange {
     pub(crate) from: u64,
     pub(crate) end: u64,
@@ -37,7 +37,7 @@ pub(crate) const NO_RANGE: KeptRange = KeptRange {
 /// are not read again.
 ///
 /// Contracts see the counts and the spots by the numbers of the entries, what is kept in the order of the tables, and the record's tables.
-#[derive(Debug, Drop)]
+#[derive(Drop)]
 pub struct Counts {
     pub(crate) taken: Vec<u32>,
     /// Where the first element of each entry stands, and how often the entry occurs.

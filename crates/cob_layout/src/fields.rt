@@ -16,7 +16,7 @@ ghost use Rattle.std.specs.Borrow.{sem};
 ghost use Rattle.cob_layout.specs.Fields.{field_of, LendsField};
 
 /// Where an entry stands in a record, and how long it is, in bytes.
-#[derive(Clone, Copy, Debug, PartialEq, Eq)]
+#[derive(Clone, Copy, PartialEq, Eq)]
 pub struct Place {
     /// The bytes of the record in front of the entry.
     pub offset: u32,

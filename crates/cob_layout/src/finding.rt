@@ -24,7 +24,7 @@ use crate::layout::{Layout, PlaceFault, placed};
 use cob_layout_places::{CountFault, Ref, Table, is_needed};
 
 /// Why a reference stands nowhere in a storage.
-#[derive(Clone, Copy, Debug, PartialEq, Eq)]
+#[derive(Clone, Copy, PartialEq, Eq)]
 pub enum FindFault {
     /// A count that it needs gives no number from its table's least to its greatest one, or ends past the bytes.
     Count(CountFault),

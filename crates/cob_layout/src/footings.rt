@@ -10,7 +10,7 @@ use cob_layout_places::Spot;
 use std::alloc::{AllocError, Global};
 
 /// What the place of an entry rests on.
-#[derive(Clone, Copy, Debug)]
+#[derive(Clone, Copy)]
 pub(crate) struct Footing {
     /// A reference to it needs the counts of the tables below this number,
     pub(crate) behind: usize,

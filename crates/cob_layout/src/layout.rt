@@ -34,7 +34,7 @@ use std::alloc::{AllocError, Global};
 use std::marker::Model;
 
 /// A subscript is past its table's count.
-#[derive(Clone, Copy, Debug, PartialEq, Eq)]
+#[derive(Clone, Copy, PartialEq, Eq)]
 pub struct PlaceFault {
     /// Where the element would begin, in bytes from the start of the record.
     pub offset: u32,
@@ -43,7 +43,7 @@ pub struct PlaceFault {
 /// The layout of a record: where its entries stand, and how long it is, whatever the counts of its tables.
 ///
 /// Contracts see its tree, the record with the entries beneath it.
-#[derive(Debug, Drop)]
+#[derive(Drop)]
 pub struct Layout {
     pub(crate) root: Node,
     pub(crate) tables: Vec<Table>,

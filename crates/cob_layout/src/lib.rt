@@ -87,7 +87,6 @@ mod summing;
 mod taking;
 mod ways;
 
-pub use cob_copybook;
 pub use cob_copybook::{
     Book, BookFault, BookRule, Figurative, Item, Kind, Name, Node, ResolvedOccurs, Role, Sign,
     Text, Usage, Value, ValueClause, element_length, is_number, value_of, whole_length,

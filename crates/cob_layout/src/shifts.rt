@@ -21,7 +21,7 @@ use cob_layout_places::Spot;
 use std::alloc::{AllocError, Global};
 
 /// How the spot of an entry follows from the counts.
-#[derive(Clone, Copy, Debug)]
+#[derive(Clone, Copy)]
 pub(crate) struct Shift {
     /// How many tables that grow end before the entry begins.
     pub(crate) before: usize,
@@ -34,7 +34,7 @@ pub(crate) struct Shift {
 }
 
 /// How a table grows with the counts.
-#[derive(Clone, Copy, Debug)]
+#[derive(Clone, Copy)]
 pub(crate) struct Growth {
     /// The number of its entry.
     pub(crate) number: usize,

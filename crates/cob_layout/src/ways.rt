@@ -18,7 +18,7 @@ use std::alloc::{AllocError, Global};
 pub type Tables = ArrayVec<usize, MAX_SUBSCRIPTS>;
 
 /// What is known of an entry whatever the counts.
-#[derive(Debug, Drop)]
+#[derive(Drop)]
 pub(crate) struct Way {
     /// The tables that hold the entry or that it is.
     pub(crate) tables: Tables,

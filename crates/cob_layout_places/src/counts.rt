@@ -14,7 +14,7 @@ use crate::varying::{Table, kind_with};
 use cob_copybook_tree::{Item, Kind, Node};
 
 /// A count that gives no number from its table's least to its greatest one.
-#[derive(Clone, Copy, Debug, PartialEq, Eq)]
+#[derive(Clone, Copy, PartialEq, Eq)]
 pub struct CountFault {
     /// Where the count's item begins, in bytes from the start of the storage.
     pub offset: u32,

@@ -13,14 +13,14 @@ pub enum Side {
 }
 
 /// An entry of a record, with its subscripts, and what it describes.
-#[derive(Debug, Drop)]
+#[derive(Drop)]
 pub struct Operand {
     pub entry: Ref,
     pub kind: Kind,
 }
 
 /// What is moved.
-#[derive(Debug, Drop)]
+#[derive(Drop)]
 pub enum Sender {
     /// An entry of one of the two records.
     Entry { side: Side, entry: Ref },
@@ -29,21 +29,21 @@ pub enum Sender {
 }
 
 /// A sender, and the entries of the output record that receive it, in their order.
-#[derive(Debug, Drop)]
+#[derive(Drop)]
 pub struct Move {
     pub sender: Sender,
     pub receivers: Vec<Ref>,
 }
 
 /// Two entries by their numbers: a sending one, and a receiving one.
-#[derive(Debug, Drop)]
+#[derive(Drop)]
 pub struct NumberedPair {
     pub from: usize,
     pub to: usize,
 }
 
 /// The moves of the pairs of two groups: each moves an entry below the one group to an entry below the other, with the subscripts of the groups.
-#[derive(Debug, Drop)]
+#[derive(Drop)]
 pub struct PairMoves {
     /// The record of the sending group.
     pub side: Side,
@@ -56,7 +56,7 @@ pub struct PairMoves {
 }
 
 /// The moves of one statement.
-#[derive(Debug, Drop)]
+#[derive(Drop)]
 pub enum StatementMoves {
     /// The one move of a sender and its receivers.
     Single(Move),

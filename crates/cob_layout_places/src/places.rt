@@ -9,7 +9,7 @@ use crate::lengths::{element_of, times_of};
 use cob_copybook_tree::{Kind, Name, Node, ResolvedOccurs};
 
 /// Where an element stands, in bytes from the start of the record, and whether it is one of those that are there.
-#[derive(Clone, Copy, Debug, PartialEq, Eq)]
+#[derive(Clone, Copy, PartialEq, Eq)]
 pub struct Found {
     pub offset: u32,
     pub length: u32,

@@ -4,7 +4,7 @@ use arrayvec::ArrayVec;
 use cob_limits::MAX_SUBSCRIPTS;
 
 /// A reference to an entry of a record.
-#[derive(Debug, Drop)]
+#[derive(Drop)]
 pub struct Ref {
     /// The number of the entry: its place among all entries of the record, a parent before its children, from 0.
     pub node: usize,

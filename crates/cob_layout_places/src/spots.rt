@@ -12,7 +12,7 @@ use crate::places::{begins_at, element_by, room_of};
 use cob_copybook_tree::Node;
 
 /// Where an entry stands: its first element, and how often it occurs.
-#[derive(Clone, Copy, Debug, PartialEq, Eq)]
+#[derive(Clone, Copy, PartialEq, Eq)]
 pub struct Spot {
     /// The bytes of the record in front of it.
     pub offset: u32,

@@ -6,7 +6,7 @@ use cob_copybook_tree::{Kind, Node, ResolvedOccurs};
 use std::alloc::{AllocError, Global};
 
 /// A table that varies.
-#[derive(Clone, Copy, Debug, PartialEq, Eq)]
+#[derive(Clone, Copy, PartialEq, Eq)]
 pub struct Table {
     /// The number of its entry.
     pub number: usize,

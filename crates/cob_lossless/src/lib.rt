@@ -24,7 +24,6 @@
 mod converters;
 mod laws;
 
-pub use cob_convert;
 pub use cob_move_lossless::{Loss, MovesBetween, Way};
 pub use converters::{carried, first_loss, lossless};
 pub use laws::{lossless_keep, lossless_runs};

@@ -12,7 +12,7 @@ use cob_move_receive::is_of_characters;
 use cob_picture::Picture;
 
 /// What the second of two items lacks to lose nothing of the first.
-#[derive(Clone, Copy, Debug, PartialEq, Eq)]
+#[derive(Clone, Copy, PartialEq, Eq)]
 pub enum Lack {
     /// The first one is alphanumeric edited, and no item keeps what it holds.
     Unedited,

@@ -6,8 +6,8 @@ use crate::singles::{Element, Sent, Single, singles_of, twice};
 use crate::storage::first_otherwise;
 use cob_copybook_tree::{Item, Kind, Name, Node, Usage, Value};
 use cob_item_words::{Named, entry_of};
+use cob_layout::Layout;
 use cob_layout_places::Side;
-use cob_move_lossless::cob_layout::Layout;
 use cob_move_lossless::{Loss, MovesBetween, Way};
 use std::alloc::{AllocError, Global};
 
@@ -67,7 +67,7 @@ pub enum Reason<'a> {
 }
 
 /// Where a point fails.
-#[derive(Clone, Copy, Debug, PartialEq, Eq)]
+#[derive(Clone, Copy, PartialEq, Eq)]
 pub enum Position {
     /// In neither text alone.
     Nowhere,

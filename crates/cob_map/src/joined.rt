@@ -5,6 +5,8 @@ ghost use Rattle.cob_map.specs.Joined.{ends_in, ends_with, pair_ends, sender_ori
 
 use cob_layout_places::{NumberedPair, Ref, Sender, Side, StatementMoves};
 use cob_map_places::{Ends, Origin};
+use cob_move_descriptions::Unkept;
+use indexmap::IndexMap;
 use std::alloc::{AllocError, Global};
 
 /// The entry with this number of a record.
@@ -82,4 +84,27 @@ pub fn ends_of(alloc: Global, statements: &[StatementMoves]) -> Result<Vec<Ends>
         push_statement(statement, place, &mut ends)?;
     }
     Ok(ends)
+}
+
+/// Of each single move, of which it is said what it joins and by which byte it may lose its description, whether one that joins the same may.
+///
+/// # Errors
+///
+/// Where no memory is left.
+pub(crate) fn marked_ends(
+    alloc: Global,
+    ends: &[Ends],
+    descriptions: &[Option<Unkept>],
+) -> Result<Vec<bool>, AllocError> {
+    let mut lost = IndexMap::new(alloc);
+    for (ends, unkept) in ends.iter().zip(descriptions.iter()) {
+        if unkept.is_some() {
+            lost.insert(*ends, true)?;
+        }
+    }
+    let mut marks = Vec::new(alloc);
+    for ends in ends {
+        marks.push(lost.get(ends).is_some())?;
+    }
+    Ok(marks)
 }

@@ -4,7 +4,7 @@ ghost use Rattle.std.specs.Prelude.{IfOk};
 ghost use Rattle.cob_map.specs.Joined.{ends_in};
 ghost use Rattle.cob_map_places.specs.Ends.{AreCountsAtFirsts};
 
-use crate::joined::ends_of;
+use crate::joined::{ends_of, marked_ends};
 use crate::style::{
     BARE_HEAD, DRAWING_END, HEAD, KEY, LINES_END, LINES_HEAD, LIST_END, MOVES_HEAD, PAGE_END,
     SIDE_HEAD, STYLE,
@@ -13,10 +13,11 @@ use cob_html::Escaped;
 use cob_item_words::Named;
 use cob_layout::{Layout, Spot};
 use cob_layout_places::StatementMoves;
-use cob_map_lines::cob_lossless_words::{Sent, Single, singles_of};
-use cob_map_lines::cob_map_boxes::{Contents, Drawn, draw, write_boxes};
-use cob_map_lines::{Sides, write_line, write_move, write_runs};
+use cob_lossless_words::{Sent, Single, singles_of};
+use cob_map_boxes::{Contents, Drawn, draw, write_boxes};
+use cob_map_lines::{Lost, Sides, write_line, write_move, write_runs};
 use cob_map_places::{SHEET, counts_of};
+use cob_move_descriptions::Unkept;
 use cob_move_losses::Losses;
 use std::alloc::{AllocError, Global};
 use std::fmt;
@@ -58,15 +59,19 @@ pub struct Mapping<'a> {
     pub covered: &'a [bool],
     /// What each single move may lose.
     pub losses: &'a [Losses],
+    /// Of each single move, the first byte by which it may lose its description.
+    pub descriptions: &'a [Option<Unkept>],
     /// A record that is given.
     pub converted: Option<Converted<'a>>,
 }
 
-/// The single moves, and of each how many join the same, where it is the first of them.
+/// The single moves, and of each how many join the same, where it is the first of them, and whether one of those that join the same may lose its
+/// description.
 #[derive(Drop)]
 struct Joins<'a> {
     singles: Vec<Single<'a>>,
     counts: Vec<Option<usize>>,
+    undescribed: Vec<bool>,
 }
 
 /// A mapping, which prints as a page.
@@ -85,14 +90,30 @@ fn contents_of<'a>(record: Record<'a>) -> Contents<'a> {
     }
 }
 
+/// Of each entry of the output record, whether it receives a single move that may lose its description.
+fn edged_in(alloc: Global, mapping: &Mapping<'_>) -> Result<Vec<bool>, AllocError> {
+    let singles = singles_of(alloc, mapping.statements, mapping.lines)?;
+    let mut edged = Vec::new(alloc);
+    for _ in mapping.output.greatest_spots() {
+        edged.push(false)?;
+    }
+    for (single, unkept) in singles.iter().zip(mapping.descriptions.iter()) {
+        if let (Some(_), Some(edge)) = (unkept, edged.get_mut(single.receiver.number)) {
+            *edge = true;
+        }
+    }
+    Ok(edged)
+}
+
 /// Both records as they are drawn.
 fn sides_of<'a>(alloc: Global, mapping: &Mapping<'a>) -> Result<Sides<'a>, AllocError> {
     let (from, to) = match mapping.converted {
         Some(one) => (Some(contents_of(one.input)), Some(contents_of(one.output))),
         None => (None, None),
     };
-    let input = draw(alloc, mapping.input, from, &[])?;
-    match draw(alloc, mapping.output, to, mapping.covered) {
+    let input = draw(alloc, mapping.input, from, &[], Vec::new(alloc))?;
+    let edged = edged_in(alloc, mapping)?;
+    match draw(alloc, mapping.output, to, mapping.covered, edged) {
         Ok(output) => Ok(Sides { input, output }),
         Err(refused) => Err(refused),
     }
@@ -106,11 +127,22 @@ fn counts_in(alloc: Global, statements: &[StatementMoves]) -> Result<Vec<Option<
     counts_of(alloc, &ends)
 }
 
+/// Of each single move of a mapping whether one of those that join the same may lose its description.
+fn undescribed_in(alloc: Global, mapping: &Mapping<'_>) -> Result<Vec<bool>, AllocError> {
+    let ends = ends_of(alloc, mapping.statements)?;
+    marked_ends(alloc, &ends, mapping.descriptions)
+}
+
 /// The single moves of a mapping, and how many join the same.
 fn joins_of<'a>(alloc: Global, mapping: &Mapping<'a>) -> Result<Joins<'a>, AllocError> {
     let singles = singles_of(alloc, mapping.statements, mapping.lines)?;
+    let undescribed = undescribed_in(alloc, mapping)?;
     match counts_in(alloc, mapping.statements) {
-        Ok(counts) => Ok(Joins { singles, counts }),
+        Ok(counts) => Ok(Joins {
+            singles,
+            counts,
+            undescribed,
+        }),
         Err(refused) => Err(refused),
     }
 }
@@ -150,12 +182,12 @@ fn write_one<'a, W: fmt::Write>(
     writing: Writing,
     single: Single<'a>,
     count: usize,
-    losses: Losses,
+    lost: Lost,
 ) -> fmt::Result {
     match (writing, single.sent) {
-        (Writing::Row, _) => write_move(f, &page.sides, single, count, losses),
+        (Writing::Row, _) => write_move(f, &page.sides, single, count, lost),
         (Writing::EntryLine, Sent::Entry { .. }) | (Writing::ConstantLine, Sent::Constant(_)) => {
-            write_line(f, &page.sides, single, count, losses)
+            write_line(f, &page.sides, single, count, lost)
         }
         _ => Ok(()),
     }
@@ -169,9 +201,19 @@ fn write_joined<W: fmt::Write>(
 ) -> fmt::Result {
     let joins = &page.joins;
     let losses = page.mapping.losses.iter();
-    for ((single, count), losses) in joins.singles.iter().zip(joins.counts.iter()).zip(losses) {
+    let marks = losses.zip(joins.undescribed.iter());
+    for ((single, count), (losses, undescribed)) in joins
+        .singles
+        .iter()
+        .zip(joins.counts.iter())
+        .zip(marks)
+    {
         if let Some(count) = count {
-            write_one(f, page, writing, *single, *count, *losses)?;
+            let lost = Lost {
+                losses: *losses,
+                description: *undescribed,
+            };
+            write_one(f, page, writing, *single, *count, lost)?;
         }
     }
     Ok(())
@@ -185,6 +227,14 @@ fn count_bare(covered: &[bool]) -> usize {
 /// How many single moves may lose something.
 fn count_losing(losses: &[Losses]) -> usize {
     losses.iter().filter(|losses| !losses.are_none()).count()
+}
+
+/// How many single moves may lose their description.
+fn count_undescribed(descriptions: &[Option<Unkept>]) -> usize {
+    descriptions
+        .iter()
+        .filter(|unkept| unkept.is_some())
+        .count()
 }
 
 /// The record of a layout, by its name.
@@ -230,9 +280,10 @@ fn write_summary<W: fmt::Write>(f: &mut fmt::Formatter<W>, mapping: &Mapping<'_>
         f,
         "<p>in {from} bytes, out {to} bytes, single moves {moves}; "
     )?;
+    let undescribed = count_undescribed(mapping.descriptions);
     writeln!(
         f,
-        "bytes that no receiver covers {bare}, single moves that may lose something {losing}</p>"
+        "bytes that no receiver covers {bare}, single moves that may lose something {losing}, moves of bytes that may lose a description {undescribed}</p>"
     )
 }
 

@@ -13,6 +13,7 @@ p{margin:4px 0}
 .k .k2{background:#e58b82;border-color:#b3261e}
 .k .k3{border:0;border-top:2px dashed #b3261e;height:0;background:none;vertical-align:middle}
 .k .k4{border-style:dashed;background:#fff}
+.k .k5{border:0;border-top:2px dotted #b26a00;height:0;background:none;vertical-align:middle}
 .scroll{overflow-x:auto}
 .map{position:relative;margin-top:8px}
 .side{position:absolute;top:0;width:40%}
@@ -25,6 +26,7 @@ p{margin:4px 0}
 .g{background:#dfe6ec}
 .r{border-style:dashed;background:#fff}
 .u{background:#fdf1ef;border-color:#b3261e}
+.e{border-left:4px solid #b26a00}
 .j{position:absolute;width:5px;border:1px dashed #456}
 .in .j{left:calc(var(--d)*8px - 5px);border-right:0}
 .out .j{right:calc(var(--d)*8px - 5px);border-left:0}
@@ -42,15 +44,18 @@ p{margin:4px 0}
 .lines{position:absolute;top:0;left:40%;width:20%;height:100%;overflow:visible}
 .lines line{stroke:#2f5f8a;stroke-width:1.2;marker-end:url(#a)}
 .lines .c line{stroke:#b3261e;stroke-dasharray:5 3;stroke-width:1.6;marker-end:url(#c)}
+.lines .d line{stroke:#b26a00;stroke-dasharray:2 3;stroke-width:1.6;marker-end:url(#d)}
 .lines .p line{marker-end:none}
 .lines g:hover line{stroke-width:3}
 text,#a{fill:#2f5f8a}
 #c{fill:#b3261e}
-text{paint-order:stroke;stroke:#fff;stroke-width:4px}
+#d{fill:#b26a00}
+text{paint-order:stroke;stroke:#fff;stroke-width:4px;white-space:pre}
 table{border-collapse:collapse}
 th{text-align:left;font-size:11px;padding:0 12px 0 0}
-td{padding:0 12px 0 0;vertical-align:top;border-top:1px solid #dde}
+td{padding:0 12px 0 0;vertical-align:top;border-top:1px solid #dde;white-space:pre-wrap}
 .c td,.v.c{color:#b3261e}
+.d td{color:#8a5200}
 @media(max-width:700px){
 body{margin:8px}
 .side{width:43%}
@@ -90,6 +95,7 @@ pub(crate) const HEAD: &str = "<!DOCTYPE html>
 pub(crate) const KEY: &str = "<p class=\"k\"><span><i></i>bytes of an item, in rows of 64</span>
 <span><i class=\"k2\"></i>bytes that no receiver covers</span>
 <span><i class=\"k3\"></i>a move that may lose something</span>
+<span><i class=\"k5\"></i>bytes as they are: the description may be lost</span>
 <span><i class=\"k4\"></i>a redefinition, joined to what it redefines</span></p>
 ";
 
@@ -102,6 +108,7 @@ pub(crate) const SIDE_HEAD: &str =
 pub(crate) const LINES_HEAD: &str = "<svg class=\"lines\"><defs>
 <marker id=\"a\" viewBox=\"0 0 8 8\" refX=\"8\" refY=\"4\" markerWidth=\"7\" markerHeight=\"7\" orient=\"auto\"><path d=\"M0 0L8 4L0 8z\"/></marker>
 <marker id=\"c\" viewBox=\"0 0 8 8\" refX=\"8\" refY=\"4\" markerWidth=\"7\" markerHeight=\"7\" orient=\"auto\"><path d=\"M0 0L8 4L0 8z\"/></marker>
+<marker id=\"d\" viewBox=\"0 0 8 8\" refX=\"8\" refY=\"4\" markerWidth=\"7\" markerHeight=\"7\" orient=\"auto\"><path d=\"M0 0L8 4L0 8z\"/></marker>
 </defs>
 ";
 

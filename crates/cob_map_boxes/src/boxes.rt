@@ -3,8 +3,11 @@
 use crate::occurrences::spot_of;
 use crate::records::{Drawn, STRIP, tables_with, told_length};
 use crate::values::write_values;
+use arrayvec::ArrayVec;
 use cob_html::Rectangle;
-use cob_layout::{Item, Kind, Node, Spot};
+use cob_layout::{Item, Kind, Layout, Node, Spot};
+use cob_layout_steady::is_steady;
+use cob_limits::MAX_SUBSCRIPTS;
 use cob_map_places::{ROW, bare_length, part_at, rows_of};
 use cob_map_words::{EntryText, KindText, TitleText};
 use std::fmt;
@@ -129,6 +132,7 @@ fn write_item<W: fmt::Write>(
 /// Writes the classes of the box of an entry whose first element has these bytes.
 fn write_classes<W: fmt::Write>(
     f: &mut fmt::Formatter<W>,
+    drawn: &Drawn<'_>,
     entry: &Node,
     covered: &[bool],
 ) -> fmt::Result {
@@ -140,6 +144,9 @@ fn write_classes<W: fmt::Write>(
     }
     if entry.redefines.is_some() {
         write!(f, " r")?;
+    }
+    if matches!(drawn.edged.get(entry.number), Some(true)) {
+        write!(f, " e")?;
     }
     Ok(())
 }
@@ -163,20 +170,38 @@ fn write_place<W: fmt::Write>(
     let (top, height) = (drawn.top(entry.number), drawn.height(entry));
     let title = TitleText { text, spot };
     write!(f, "<div class=\"")?;
-    write_classes(f, entry, covered_in(drawn.covered, spot))?;
+    write_classes(f, drawn, entry, covered_in(drawn.covered, spot))?;
     writeln!(
         f,
         "\" style=\"--d:{depth};top:{top}px;height:{height}px\" title=\"{title}\">"
     )
 }
 
-/// Writes that some bytes of an item are not covered, where that is so, or that none is.
+/// Whether the first element of an entry that stands in so many tables, or is one of them, begins elsewhere under other counts.
+fn is_shifted(layout: &Layout, number: usize, tables: usize) -> bool {
+    if !layout.varies() {
+        return false;
+    }
+    let mut first: ArrayVec<u32, MAX_SUBSCRIPTS> = ArrayVec::new();
+    for _ in 0..tables {
+        let _ = first.try_push(1);
+    }
+    match layout.reference(number, first.as_slice()) {
+        Some(reference) => !is_steady(layout, &reference),
+        None => false,
+    }
+}
+
+/// Writes that some bytes of an item, which stands in so many tables, are not covered, where that is so, or that none is, and whether it stands behind a
+/// table that varies.
 fn write_mark<W: fmt::Write>(
     f: &mut fmt::Formatter<W>,
-    kind: &Kind,
+    layout: &Layout,
+    entry: &Node,
+    tables: usize,
     covered: &[bool],
 ) -> fmt::Result {
-    if matches!(kind, Kind::Group) || !is_bare(covered) {
+    if matches!(entry.kind, Kind::Group) || !is_bare(covered) {
         return Ok(());
     }
     let words = if covered.contains(&true) {
@@ -184,20 +209,32 @@ fn write_mark<W: fmt::Write>(
     } else {
         "not covered"
     };
-    write!(f, "<span class=\"m\">{words}</span>")
+    let shifted = if is_shifted(layout, entry.number, tables) {
+        ", shifted"
+    } else {
+        ""
+    };
+    write!(f, "<span class=\"m\">{words}{shifted}</span>")
 }
 
-/// Writes the first line of the box of an entry.
+/// Writes the first line of the box of an entry that stands in so many tables, or is one of them.
 fn write_words<W: fmt::Write>(
     f: &mut fmt::Formatter<W>,
     drawn: &Drawn<'_>,
     placed: Placed<'_>,
+    tables: usize,
 ) -> fmt::Result {
     let Placed { text, spot } = placed;
-    let kind = &text.entry.kind;
+    let entry = text.entry;
     write!(f, "<div class=\"w\"><span class=\"n\">{text}</span>")?;
-    write_mark(f, kind, covered_in(drawn.covered, spot))?;
-    let kind = KindText { kind };
+    write_mark(
+        f,
+        drawn.layout,
+        entry,
+        tables,
+        covered_in(drawn.covered, spot),
+    )?;
+    let kind = KindText { kind: &entry.kind };
     let Spot { offset, length, .. } = spot;
     writeln!(
         f,
@@ -205,12 +242,13 @@ fn write_words<W: fmt::Write>(
     )
 }
 
-/// Writes the beginning of the box of an entry that stands in so many groups, and its first line.
+/// Writes the beginning of the box of an entry that stands in so many groups and tables, and its first line.
 fn write_front<W: fmt::Write>(
     f: &mut fmt::Formatter<W>,
     drawn: &Drawn<'_>,
     entry: &Node,
     depth: u32,
+    tables: usize,
 ) -> fmt::Result {
     let placed = Placed {
         text: EntryText {
@@ -220,7 +258,7 @@ fn write_front<W: fmt::Write>(
         spot: spot_of(drawn.layout.greatest_spots(), entry.number),
     };
     write_place(f, drawn, placed, depth)?;
-    write_words(f, drawn, placed)
+    write_words(f, drawn, placed, tables)
 }
 
 /// Writes a bracket from the box of an entry to that of one that redefines it. They stand in so many groups.
@@ -248,7 +286,7 @@ fn write_box<W: fmt::Write>(
     over: &[usize],
 ) -> fmt::Result {
     let tables = tables_with(over, entry);
-    write_front(f, drawn, entry, depth)?;
+    write_front(f, drawn, entry, depth, tables.len())?;
     if let Kind::Item(item) = &entry.kind {
         write_item(f, drawn, entry.number, item, tables.as_slice())?;
     }

@@ -29,6 +29,8 @@ pub struct Drawn<'a> {
     pub contents: Option<Contents<'a>>,
     /// Of each byte, whether a receiver covers it; of a byte behind these it isn't said.
     pub covered: &'a [bool],
+    /// Of each entry, by its number, whether its box has a mark at its edge: it receives a move of bytes that may lose their description.
+    pub edged: Vec<bool>,
     /// How high the boxes of its entries are, by their numbers, each without those beneath it and with the gap behind it.
     pub heights: Vec<u32>,
     /// Where these boxes begin, and where the last one ends.
@@ -107,6 +109,7 @@ pub fn draw<'a>(
     layout: &'a Layout,
     contents: Option<Contents<'a>>,
     covered: &'a [bool],
+    edged: Vec<bool>,
 ) -> Result<Drawn<'a>, AllocError> {
     let mut heights = Vec::new(alloc);
     push_heights(layout, contents, layout.root(), &[], &mut heights)?;
@@ -115,6 +118,7 @@ pub fn draw<'a>(
         layout,
         contents,
         covered,
+        edged,
         heights,
         tops,
     })

@@ -3,8 +3,8 @@
 use crate::occurrences::{Occurrence, occurrence_at, occurrences_in, spot_of};
 use crate::records::{Contents, MOST_SHOWN};
 use arrayvec::ArrayVec;
+use cob_convert_show::number_text;
 use cob_layout::{Item, Spot, is_number_item};
-use cob_map_words::cob_convert_show::number_text;
 use cob_map_words::{Characters, HexDigits, ShownBytes};
 use std::fmt;
 

@@ -1,12 +1,12 @@
 //! The lines between the boxes of senders and of receivers.
 
+use crate::lost::Lost;
 use cob_html::Line;
 use cob_item_words::Named;
 use cob_layout_places::Side;
 use cob_lossless_words::{Element, Sent, Single};
 use cob_map_boxes::Drawn;
-use cob_map_boxes::cob_map_words::EscapedConstant;
-use cob_move_losses::Losses;
+use cob_map_words::EscapedConstant;
 use std::fmt;
 
 /// Where the first of the lines of senders of the output record turns, in hundredths of the drawing's width; each next one turns further to the left.
@@ -59,11 +59,13 @@ pub(crate) fn receiver_of<'a>(sides: &'a Sides<'_>, single: Single<'_>) -> Named
 }
 
 /// The class of single moves that may lose these things.
-pub(crate) fn class_of(losses: Losses) -> &'static str {
-    if losses.are_none() {
-        ""
-    } else {
+pub(crate) fn class_of(lost: Lost) -> &'static str {
+    if !lost.losses.are_none() {
         " class=\"c\""
+    } else if lost.description {
+        " class=\"d\""
+    } else {
+        ""
     }
 }
 
@@ -77,11 +79,11 @@ fn write_more<W: fmt::Write>(f: &mut fmt::Formatter<W>, count: usize) -> fmt::Re
 }
 
 /// Writes what may be lost, where something may.
-fn write_losses<W: fmt::Write>(f: &mut fmt::Formatter<W>, losses: Losses) -> fmt::Result {
-    if losses.are_none() {
+fn write_losses<W: fmt::Write>(f: &mut fmt::Formatter<W>, lost: Lost) -> fmt::Result {
+    if lost.is_nothing() {
         return Ok(());
     }
-    write!(f, ", may lose {losses}")
+    write!(f, ", may lose {lost}")
 }
 
 /// Writes what single moves are, of which this is the first.
@@ -90,7 +92,7 @@ fn write_title<'a, W: fmt::Write>(
     sides: &Sides<'a>,
     single: Single<'a>,
     count: usize,
-    losses: Losses,
+    lost: Lost,
 ) -> fmt::Result {
     let sent = EscapedSent {
         sides,
@@ -99,7 +101,7 @@ fn write_title<'a, W: fmt::Write>(
     let receiver = receiver_of(sides, single);
     write!(f, "<title>line {}: {sent} to {receiver}", single.line)?;
     write_more(f, count)?;
-    write_losses(f, losses)?;
+    write_losses(f, lost)?;
     write!(f, "</title>")
 }
 
@@ -196,11 +198,11 @@ pub fn write_line<'a, W: fmt::Write>(
     sides: &Sides<'a>,
     single: Single<'a>,
     count: usize,
-    losses: Losses,
+    lost: Lost,
 ) -> fmt::Result {
-    let class = class_of(losses);
+    let class = class_of(lost);
     write!(f, "<g{class}>")?;
-    write_title(f, sides, single, count, losses)?;
+    write_title(f, sides, single, count, lost)?;
     write_shape(f, sides, single)?;
     writeln!(f, "</g>")
 }

@@ -1,12 +1,12 @@
 //! The lists below the drawing: the moves, and the bytes that no receiver covers.
 
 use crate::lines::{EscapedSent, Sides, class_of, receiver_of};
+use crate::lost::Lost;
 use cob_item_words::Named;
 use cob_layout::{Kind, Node};
 use cob_lossless_words::Single;
 use cob_map_boxes::{Drawn, spot_of, told_length};
 use cob_map_places::bare_length;
-use cob_move_losses::Losses;
 use std::fmt;
 
 /// Writes the row of single moves that join the same, of which this is the first.
@@ -15,9 +15,9 @@ pub fn write_move<'a, W: fmt::Write>(
     sides: &Sides<'a>,
     single: Single<'a>,
     count: usize,
-    losses: Losses,
+    lost: Lost,
 ) -> fmt::Result {
-    let class = class_of(losses);
+    let class = class_of(lost);
     let sent = EscapedSent {
         sides,
         sent: single.sent,
@@ -28,7 +28,7 @@ pub fn write_move<'a, W: fmt::Write>(
         "<tr{class}><td>{}</td><td>{sent}</td><td>{receiver}</td>",
         single.line
     )?;
-    writeln!(f, "<td>{count}</td><td>{losses}</td></tr>")
+    writeln!(f, "<td>{count}</td><td>{lost}</td></tr>")
 }
 
 /// The item in no redefinition in whose first element this byte is, of an entry and those beneath it.

@@ -10,7 +10,7 @@ use indexmap::IndexMap;
 use std::alloc::{AllocError, Global};
 
 /// What a single move sends: an entry of the input record or of the output record by its number, or the constant of the statement with this place.
-#[derive(Clone, Copy, Debug, PartialEq, Eq, Hash)]
+#[derive(Clone, Copy, PartialEq, Eq, Hash)]
 pub enum Origin {
     Input(usize),
     Output(usize),
@@ -18,7 +18,7 @@ pub enum Origin {
 }
 
 /// What a single move joins: what it sends, and the entry of the output record that receives it.
-#[derive(Clone, Copy, Debug, PartialEq, Eq, Hash)]
+#[derive(Clone, Copy, PartialEq, Eq, Hash)]
 pub struct Ends {
     pub from: Origin,
     pub to: usize,

@@ -7,7 +7,7 @@ ghost use Rattle.cob_map_places.specs.Rulers.{IsRowPart, AreRows};
 pub const ROW: u32 = 64;
 
 /// A part of a run of bytes that stands in one row of a ruler.
-#[derive(Clone, Copy, Debug, PartialEq, Eq)]
+#[derive(Clone, Copy, PartialEq, Eq)]
 pub struct Part {
     /// The row, from 0.
     pub row: u32,

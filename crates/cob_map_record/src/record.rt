@@ -15,7 +15,7 @@ use cob_records::Source;
 use cob_stream::{Cause, RunFault, sized_are_storages};
 
 /// How many bytes a record has, and how many of what it becomes are written.
-#[derive(Clone, Copy, Debug, PartialEq, Eq)]
+#[derive(Clone, Copy, PartialEq, Eq)]
 pub struct Lengths {
     pub input: usize,
     pub output: usize,
@@ -83,7 +83,7 @@ fn pass_over<S: Source>(
 }
 
 /// What is found where a record with a number is looked for.
-#[derive(Clone, Copy, Debug, PartialEq, Eq)]
+#[derive(Clone, Copy, PartialEq, Eq)]
 pub enum Found {
     /// The record, at the front of its buffer, and what it becomes, at the front of the other one.
     Record(Lengths),

@@ -15,7 +15,7 @@ use cob_stream::RunFault;
 use std::alloc::{AllocError, Global};
 
 /// A record and what it becomes, with its number, and the places of both.
-#[derive(Debug, Drop)]
+#[derive(Drop)]
 pub struct Shown {
     /// Its number in its source, counted from 1.
     pub number: u64,
@@ -30,7 +30,7 @@ pub struct Shown {
 }
 
 /// Why no record is shown.
-#[derive(Clone, Copy, Debug, PartialEq, Eq)]
+#[derive(Clone, Copy, PartialEq, Eq)]
 pub enum NotShown {
     /// Memory was refused.
     Memory,

@@ -13,7 +13,6 @@ mod constants;
 mod entries;
 mod texts;
 
-pub use cob_convert_show;
 pub use constants::EscapedConstant;
 pub use entries::{EntryText, KindText, TitleText};
 pub use texts::{Characters, HexDigits, ShownBytes};

@@ -23,8 +23,8 @@ ghost use Rattle.cob_move_statements.specs.Written.{written_reference};
 
 use crate::entries::Entries;
 use crate::single::judge;
+use cob_layout::records_are_sound;
 use cob_layout_places::{NumberedPair, Operand, PairMoves, Side};
-use cob_move_apply::cob_layout::records_are_sound;
 use cob_move_initial::SenderKind;
 use cob_move_pairs::{Correspondences, EntryPair, is_no_group, subordinates_are_operands};
 use cob_move_references::{Names, named_are_operands};

@@ -10,8 +10,8 @@ ghost use Rattle.cob_move.specs.Among.{NamesAmong};
 ghost use Rattle.cob_move.specs.Entries.{AllMayBeNamed, records_of};
 
 use cob_copybook_tree::Kind;
+use cob_layout::{Layout, records_are_sound};
 use cob_layout_places::{Ref, Side};
-use cob_move_apply::cob_layout::{Layout, records_are_sound};
 use cob_move_references::{Names, named_are_operands};
 use cob_move_statements::{MoveRule, Reference};
 

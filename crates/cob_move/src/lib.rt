@@ -50,10 +50,10 @@ mod senders;
 mod single;
 
 pub use cob_codec::Reading;
+pub use cob_copybook::Book;
 pub use cob_copybook_tree::Node;
+pub use cob_layout::Layout;
 pub use cob_layout_places::{Side, StatementMoves};
-pub use cob_move_apply::cob_copybook::Book;
-pub use cob_move_apply::cob_layout::Layout;
 pub use cob_move_apply::{Moves, Scratch, Stop, StopCause};
 pub use cob_move_initial::{initial, one_initial};
 pub use cob_move_pairs::pairs;

@@ -8,7 +8,7 @@ ghost use Rattle.cob_move.specs.MeaningLaws.{
   OneMeant,
 };
 
-use cob_move_apply::cob_layout::records_are_sound;
+use cob_layout::records_are_sound;
 use cob_move_pairs::subordinates_are_operands;
 use cob_move_references::{named_are_operands, named_break_no_rule, one_named};
 

@@ -19,15 +19,15 @@ use crate::meaning::all_meant;
 use crate::meaning_laws::meant_are_moves;
 use crate::pieces::meant_in_pieces;
 use cob_codec::Reading;
+use cob_layout::Layout;
 use cob_layout_places::StatementMoves;
-use cob_move_apply::cob_layout::Layout;
 use cob_move_apply::{Moves, Scratch, Stop};
 use cob_move_statements::{MoveFault, statements};
 use cob_source::paragraph_tokens;
 use std::alloc::Global;
 
 /// The moves that a paragraph says between two records, ready to be carried out.
-#[derive(Debug, Drop)]
+#[derive(Drop)]
 pub struct Paragraph {
     moves: Moves,
 }

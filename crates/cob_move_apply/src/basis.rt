@@ -9,7 +9,7 @@ use cob_layout::{Kind, Layout, Place, Ref};
 use cob_layout_places::Side;
 
 /// What the place of an operand rests on.
-#[derive(Clone, Copy, Debug)]
+#[derive(Clone, Copy)]
 pub(crate) enum Basis {
     /// On no count: it is the same in every storage.
     Fixed(Place),

@@ -58,12 +58,11 @@ mod survey;
 mod workspace;
 
 pub use cob_codec::Reading;
-pub use cob_layout;
 pub use cob_layout::{
     Book, BookFault, BookRule, CountFault, Counts, Figurative, Item, Kind, Layout, Name, Node,
-    Place, PlaceFault, Ref, ResolvedOccurs, Role, Sign, Text, Usage, Value, ValueClause,
-    cob_copybook, field, field_mut, is_number_item, is_table, one_outcome_of_counts, read_number,
-    records_are_sound, tables, times_of, value_of,
+    Place, PlaceFault, Ref, ResolvedOccurs, Role, Sign, Text, Usage, Value, ValueClause, field,
+    field_mut, is_number_item, is_table, one_outcome_of_counts, read_number, records_are_sound,
+    tables, times_of, value_of,
 };
 pub use cob_layout_places::{Move, NumberedPair, Operand, PairMoves, Sender, Side, StatementMoves};
 pub use laws::one_ending;

@@ -35,7 +35,7 @@ fn single_moves_in(one: &StatementMoves) -> usize
 }
 
 /// Moves between two records, ready to be carried out.
-#[derive(Debug, Drop)]
+#[derive(Drop)]
 pub struct Moves {
     pub(crate) statements: Vec<StatementMoves>,
     /// What is carried out in their place.

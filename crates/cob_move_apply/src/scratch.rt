@@ -19,7 +19,7 @@ use std::marker::Model;
 ///
 /// Contracts see how much of it there is, how many count items of the output record were read, and what is kept of the counts of either record's
 /// storage.
-#[derive(Debug, Drop)]
+#[derive(Drop)]
 pub struct Scratch {
     pub(crate) space: Workspace,
 }

@@ -20,7 +20,7 @@ use cob_move_prepared::{
 use std::alloc::AllocError;
 
 /// A part of the moves of a statement: its one move with so many of the receivers, or the move of one pair.
-#[derive(Clone, Copy, Debug)]
+#[derive(Clone, Copy)]
 pub(crate) struct Part {
     /// The number of the statement.
     pub(crate) statement: u32,
@@ -33,14 +33,14 @@ pub(crate) struct Part {
 }
 
 /// Where a move takes bytes from in the input record, and where it puts bytes in the output record.
-#[derive(Clone, Copy, Debug)]
+#[derive(Clone, Copy)]
 pub(crate) struct MovePlaces {
     pub(crate) from: Place,
     pub(crate) to: Place,
 }
 
 /// A single move between two places that are the same in every storage, made ready.
-#[derive(Clone, Copy, Debug)]
+#[derive(Clone, Copy)]
 pub(crate) struct PreparedMove {
     /// Where the sender and the receiver stand.
     pub(crate) places: MovePlaces,
@@ -49,7 +49,7 @@ pub(crate) struct PreparedMove {
 }
 
 /// A single move of a number between two such places, made ready.
-#[derive(Clone, Copy, Debug)]
+#[derive(Clone, Copy)]
 pub(crate) struct NumberedMove {
     /// Where the sender and the receiver stand.
     pub(crate) places: MovePlaces,
@@ -58,7 +58,7 @@ pub(crate) struct NumberedMove {
 }
 
 /// A single move of characters between two such places, made ready.
-#[derive(Clone, Copy, Debug)]
+#[derive(Clone, Copy)]
 pub(crate) struct CharactersMove {
     /// Where the sender and the receiver stand.
     pub(crate) places: MovePlaces,
@@ -67,7 +67,7 @@ pub(crate) struct CharactersMove {
 }
 
 /// A single move between two such places, made ready where its sender is read as its picture says.
-#[derive(Clone, Copy, Debug)]
+#[derive(Clone, Copy)]
 pub(crate) struct PicturedMove {
     /// Where the sender and the receiver stand.
     pub(crate) places: MovePlaces,
@@ -76,7 +76,7 @@ pub(crate) struct PicturedMove {
 }
 
 /// A single move of a constant to a place that is the same in every storage, made ready.
-#[derive(Clone, Copy, Debug)]
+#[derive(Clone, Copy)]
 pub(crate) struct ConstantMove {
     /// Where the receiver stands in the output record.
     pub(crate) to: Place,
@@ -85,7 +85,7 @@ pub(crate) struct ConstantMove {
 }
 
 /// What carries out the moves of one item to another, wherever they stand.
-#[derive(Clone, Copy, Debug)]
+#[derive(Clone, Copy)]
 pub(crate) enum LocatedStep {
     /// Characters, of as many bytes as the sender has where it stands; whether they stand from the right.
     Characters(bool),
@@ -97,7 +97,7 @@ pub(crate) enum LocatedStep {
 
 /// A single move of an entry of the input record to one of the output record, made ready wherever these stand. An item has as many bytes everywhere; a
 /// group, which has those of its tables that vary, gives and takes characters.
-#[derive(Debug, Drop)]
+#[derive(Drop)]
 pub(crate) struct LocatedMove {
     pub(crate) sent: Ref,
     /// What the place of the sender rests on.
@@ -110,7 +110,7 @@ pub(crate) struct LocatedMove {
 }
 
 /// A single move of a constant to an item of the output record, made ready wherever this stands: it has as many bytes everywhere.
-#[derive(Debug, Drop)]
+#[derive(Drop)]
 pub(crate) struct LocatedConstant {
     pub(crate) receiver: Ref,
     /// What the place of the receiver rests on.
@@ -121,7 +121,7 @@ pub(crate) struct LocatedConstant {
 
 /// What is carried out at once. Single moves that were made ready stand here by their kinds, so that one jump finds what carries them out; those of rarer
 /// kinds stand together.
-#[derive(Clone, Copy, Debug)]
+#[derive(Clone, Copy)]
 pub(crate) enum Step {
     /// Places and categories are looked at as the step is carried out.
     Part(Part),
@@ -150,7 +150,7 @@ pub(crate) enum Step {
 }
 
 /// Steps that stand for moves, and what these rest on.
-#[derive(Debug, Drop)]
+#[derive(Drop)]
 pub(crate) struct Plan {
     pub(crate) steps: Vec<Step>,
     /// What the places of the operands of parts rest on, one part's behind another's.

@@ -1,7 +1,7 @@
 use cob_layout_places::Side;
 
 /// Why the moves stop at a record.
-#[derive(Clone, Copy, Debug, PartialEq, Eq)]
+#[derive(Clone, Copy, PartialEq, Eq)]
 pub enum StopCause {
     /// The sender's bytes represent no value, and the receiver asks for one.
     NoValue,
@@ -12,7 +12,7 @@ pub enum StopCause {
 }
 
 /// Where and why the moves stop at a record: the record, and the offset of the bytes in it.
-#[derive(Clone, Copy, Debug, PartialEq, Eq)]
+#[derive(Clone, Copy, PartialEq, Eq)]
 pub struct Stop {
     pub side: Side,
     pub offset: u32,

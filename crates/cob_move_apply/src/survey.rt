@@ -13,7 +13,7 @@ use cob_layout::{Counts, Layout, Place};
 use std::alloc::{AllocError, Global};
 
 /// The counts of a storage, which are kept as they are read, and how many count items were read of it.
-#[derive(Debug, Drop)]
+#[derive(Drop)]
 pub(crate) struct Survey {
     pub(crate) counts: Counts,
     pub(crate) reads: u64,

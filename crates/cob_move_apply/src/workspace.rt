@@ -13,7 +13,7 @@ use cob_layout::Layout;
 use std::alloc::{AllocError, Global};
 
 /// What is kept of both records' storages, and room for the bytes of a sender that lies in the output record.
-#[derive(Debug, Drop)]
+#[derive(Drop)]
 pub(crate) struct Workspace {
     pub(crate) input: Survey,
     pub(crate) output: Survey,

@@ -16,7 +16,7 @@ pub struct RecordLayouts<'a> {
 }
 
 /// Room for the counts of both records, and for the bytes of a sender that lies in the output record.
-#[derive(Debug, Drop)]
+#[derive(Drop)]
 pub struct EachRoom {
     pub(crate) in_counts: Counts,
     pub(crate) out_counts: Counts,

@@ -11,7 +11,7 @@ use cob_move_apply::Stop;
 use cob_move_receive::Sent;
 
 /// Which single move of a paragraph it is.
-#[derive(Clone, Copy, Debug, PartialEq, Eq)]
+#[derive(Clone, Copy, PartialEq, Eq)]
 pub struct SingleNumber {
     /// The number of its statement, from 0.
     pub statement: usize,
@@ -22,7 +22,7 @@ pub struct SingleNumber {
 }
 
 /// What a single move asks for.
-#[derive(Clone, Copy, Debug, PartialEq, Eq)]
+#[derive(Clone, Copy, PartialEq, Eq)]
 pub enum Asked {
     /// The place of its sender.
     Sender,
@@ -40,7 +40,7 @@ pub(crate) struct AskedStop {
 }
 
 /// Why the moves stop at a record, and the single move that does, with what it asked for.
-#[derive(Clone, Copy, Debug, PartialEq, Eq)]
+#[derive(Clone, Copy, PartialEq, Eq)]
 pub struct MoveStop {
     pub number: SingleNumber,
     pub asked: Asked,

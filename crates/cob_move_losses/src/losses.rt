@@ -26,7 +26,7 @@ use cob_move_receive::SenderKind;
 use cob_picture::Picture;
 
 /// What a single move may lose.
-#[derive(Clone, Copy, Debug, PartialEq, Eq)]
+#[derive(Clone, Copy, PartialEq, Eq)]
 pub struct Losses {
     /// A digit before the point.
     pub before: bool,

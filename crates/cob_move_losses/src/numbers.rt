@@ -10,7 +10,7 @@ use cob_copybook_tree::Item;
 use cob_picture::{Category, Picture};
 
 /// The numbers that an item may give: of so many digits, so many of them behind the point, and with a minus or without.
-#[derive(Clone, Copy, Debug, PartialEq, Eq)]
+#[derive(Clone, Copy, PartialEq, Eq)]
 pub struct Extent {
     pub digits: u16,
     pub scale: i8,

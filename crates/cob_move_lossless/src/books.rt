@@ -3,9 +3,9 @@
 ghost use Rattle.std.specs.Bool.{Decides};
 ghost use Rattle.cob_copybook_same.specs.Same.{IsSameRecord};
 
+use cob_copybook::Book;
 use cob_copybook_same::is_same_record;
 use cob_layout::Layout;
-use cob_layout::cob_copybook::Book;
 
 /// Whether two copybooks describe one record, but for the record's own name: the same entries, with the same names and clauses. It takes no memory.
 pub fn is_same_book(book: &Book, other: &Book) -> bool

@@ -39,7 +39,6 @@ mod walk;
 mod wider;
 
 pub use books::{is_same_book, is_same_layout};
-pub use cob_layout;
 pub use each::{are_elementary, are_named, are_read_pictured};
 pub use lossless::{Loss, Way, first_loss, is_lossless, returns};
 pub use once::receive_once;

@@ -20,14 +20,14 @@ use crate::walk::first_lost;
 use cob_layout::Layout;
 
 /// The moves there, or the moves back.
-#[derive(Clone, Copy, Debug, PartialEq, Eq)]
+#[derive(Clone, Copy, PartialEq, Eq)]
 pub enum Way {
     There,
     Back,
 }
 
 /// A point in which moves there and back may lose something.
-#[derive(Clone, Copy, Debug, PartialEq, Eq)]
+#[derive(Clone, Copy, PartialEq, Eq)]
 pub enum Loss {
     /// The records of the moves back aren't those of the moves there with their sides exchanged.
     Records,

@@ -1,5 +1,5 @@
 /// The single move of characters from one entry to another, made ready.
-#[derive(Clone, Copy, Debug)]
+#[derive(Clone, Copy)]
 pub struct CharactersStep {
     /// How many bytes the sender has.
     pub sent: usize,

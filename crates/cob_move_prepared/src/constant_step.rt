@@ -1,5 +1,5 @@
 /// The single move of a constant, made ready.
-#[derive(Debug, Drop)]
+#[derive(Drop)]
 pub struct ConstantStep {
     /// What the receiver holds of it.
     pub bytes: Vec<u8>,

@@ -16,7 +16,7 @@ use std::alloc::{AllocError, Global};
 use std::fmt;
 
 /// Which step carries out a single move whose sender is read as its picture says.
-#[derive(Clone, Copy, Debug)]
+#[derive(Clone, Copy)]
 pub enum PicturedStep {
     /// The step of a number from one item to another that has this number among them.
     Number(usize),

@@ -22,7 +22,7 @@ use std::alloc::{AllocError, Global};
 use std::fmt;
 
 /// Which step carries out a single move.
-#[derive(Clone, Copy, Debug)]
+#[derive(Clone, Copy)]
 pub enum MoveStep {
     /// The step of a number from one item to another that has this number among them.
     Number(usize),

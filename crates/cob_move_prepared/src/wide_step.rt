@@ -1,7 +1,7 @@
 use cob_lanes::{LaneReader, WideWriter};
 
 /// The single move of a number from one item to another of more than sixteen digits, made ready: it moves the number of any bytes of the first.
-#[derive(Clone, Copy, Debug)]
+#[derive(Clone, Copy)]
 pub struct WideStep {
     /// What keeps the digits in front of the last sixteen.
     pub front: LaneReader,

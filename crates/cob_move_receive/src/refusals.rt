@@ -22,7 +22,7 @@ use cob_limits::MAX_DIGITS;
 use cob_picture::Category;
 
 /// Why the move of a sender to a receiver is refused.
-#[derive(Clone, Copy, Debug, PartialEq, Eq)]
+#[derive(Clone, Copy, PartialEq, Eq)]
 pub enum Refusal {
     /// The table of categories doesn't have the move (M6).
     NotAllowed,

@@ -29,7 +29,7 @@ pub enum SenderKind<'a> {
 }
 
 /// A line of the table: whether a sender may be moved to items of these categories.
-#[derive(Clone, Copy, Debug, PartialEq, Eq)]
+#[derive(Clone, Copy, PartialEq, Eq)]
 pub(crate) struct Receivers {
     alphabetic: bool,
     /// Alphanumeric, edited or not.

@@ -22,7 +22,7 @@ use std::alloc::{AllocError, Global};
 type Tables = ArrayVec<u32, MAX_SUBSCRIPTS>;
 
 /// An entry of one of the two records.
-#[derive(Debug, Drop)]
+#[derive(Drop)]
 pub(crate) struct RecordEntry<'a> {
     pub side: Side,
     pub entry: &'a Node,

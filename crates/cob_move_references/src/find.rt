@@ -22,7 +22,7 @@ use cob_source::Token;
 use std::alloc::{AllocError, Global};
 
 /// What a reference names: an operand, and the record that it is one of.
-#[derive(Debug, Drop)]
+#[derive(Drop)]
 pub struct Named {
     pub side: Side,
     pub operand: Operand,

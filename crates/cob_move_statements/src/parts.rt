@@ -2,7 +2,7 @@ use cob_copybook_clauses::ValueClause;
 use cob_source::Token;
 
 /// A reference to an entry as it is written.
-#[derive(Clone, Copy, Debug)]
+#[derive(Clone, Copy)]
 pub struct Reference<'a> {
     pub name: &'a [u8],
     /// The words behind the name: OF or IN and a name, as often as they stand.
@@ -12,14 +12,14 @@ pub struct Reference<'a> {
 }
 
 /// What is moved, as it is written.
-#[derive(Clone, Copy, Debug)]
+#[derive(Clone, Copy)]
 pub enum StatementSender<'a> {
     Reference(Reference<'a>),
     Constant(ValueClause<'a>),
 }
 
 /// What stands behind MOVE, as it is written.
-#[derive(Debug, Drop)]
+#[derive(Drop)]
 pub enum Action<'a> {
     /// A sender and its receivers.
     Move {
@@ -34,7 +34,7 @@ pub enum Action<'a> {
 }
 
 /// A statement as it is written.
-#[derive(Debug, Drop)]
+#[derive(Drop)]
 pub struct Statement<'a> {
     /// The line of its first word.
     pub line: u32,

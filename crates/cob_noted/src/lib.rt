@@ -3,8 +3,8 @@
 //!
 //! [`Noted`] does what the runtime inside does, in the same order, and answers what it answers; beside that [`Noted::last`] has the last error of opening,
 //! reading, writing, flushing, moving in, renaming or syncing one of the files that options name, and of writing to standard output where one names it so;
-//! and of looking at a file that is read. Looking whether an output is there notes nothing: that it is not is no failure. Neither does standard input. So
-//! a command that runs over it does what it does over the other, and behind its fault [`FileError::told`] has the option, its path and the system's words.
+//! and of looking at a file that is read. Looking whether an output is there notes an error, but for the one that it is not there, which is no failure.
+//! Standard input notes nothing. So a command that runs over it does what it does over the other, and behind its fault [`FileError::told`] has the option, its path and the system's words.
 //!
 //! What is promised: that a call answers what the call inside answers ([`noted`]). What a system answers is no part of any proof; rows and the built
 //! program show what is told.

@@ -8,7 +8,7 @@ use std::alloc::Allocator;
 use std::fmt::Display;
 use std::fs::{Metadata, OpenOptions};
 use std::io;
-use std::io::{Eprint, Input, Lines, Print};
+use std::io::{Eprint, ErrorKind, Input, Lines, Print};
 use std::rt::{Clock, Files};
 use std::time::Duration;
 
@@ -123,8 +123,13 @@ impl<'a, 'n, R: Files> Files for Noted<'a, 'n, R> {
         noted(self.last, read_at(self.files, path), self.rt.metadata(path))
     }
 
+    /// That nothing is there is no failure of a file that is written: any other error is.
     fn symlink_metadata(&self, path: &str) -> io::Result<Metadata> {
-        self.rt.symlink_metadata(path)
+        let answer = self.rt.symlink_metadata(path);
+        match &answer {
+            Err(error) if error.kind() == ErrorKind::NotFound => answer,
+            _ => noted(self.last, file_at(self.files, path), answer),
+        }
     }
 
     fn copy(&self, from: &str, to: &str) -> io::Result<u64> {

@@ -7,7 +7,7 @@ ghost use Rattle.cob_number_flaws.specs.Flaws.{is_either, suits};
 use cob_cp037::{MINUS, NINE, PLUS, ZERO};
 
 /// What a part of a number's bytes has to be.
-#[derive(Clone, Copy, Debug, PartialEq, Eq)]
+#[derive(Clone, Copy, PartialEq, Eq)]
 pub enum Wanted {
     /// A half byte 0, in front of an even number of packed digits.
     Zero,
@@ -24,7 +24,7 @@ pub enum Wanted {
 }
 
 /// The first part of bytes that isn't as its place asks.
-#[derive(Clone, Copy, Debug, PartialEq, Eq)]
+#[derive(Clone, Copy, PartialEq, Eq)]
 pub struct Flaw {
     /// The number of the part, from 0: of half bytes, the high one of each byte first; or of bytes, where these are wanted.
     pub at: usize,

@@ -8,7 +8,8 @@
 //! - A frame that can't be read is answered with the number of its record, as a conversion would tell it (`StopsCut`); a read failed exactly where
 //!   that is the answer.
 //!
-//! [`open_part`] makes an end over one piece of a file.
+//! [`open_part`] makes an end over one piece of a file: it reads just as many bytes as the piece has, or all that are left (`all`, `part`), over standard
+//! input just where the name is `-` (`which`), and none is opened where the system does not move to the offset.
 //!
 //! That the pieces are of nearly equal size is shown by tests. It stands on `cob_records` for the frames and on `cob_limits`.
 #![tactic(auto)]

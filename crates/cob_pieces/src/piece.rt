@@ -8,7 +8,7 @@ use std::alloc::AllocError;
 use std::fmt;
 
 /// A piece of a stream of records.
-#[derive(Clone, Copy, Debug, PartialEq, Eq)]
+#[derive(Clone, Copy, PartialEq, Eq)]
 pub struct Piece {
     /// How many bytes of the stream stand before it.
     pub offset: u64,
@@ -37,7 +37,7 @@ pub(crate) struct Start {
 }
 
 /// Why a stream is not cut in pieces.
-#[derive(Clone, Copy, Debug, PartialEq, Eq)]
+#[derive(Clone, Copy, PartialEq, Eq)]
 pub enum PiecesFault {
     /// The frame of the record with this number can't be read.
     Frame { number: u64, fault: RecordFault },

@@ -17,7 +17,7 @@ use std::time::Instant;
 const BLANK: &str = "            ";
 
 /// How a source tells how far it is.
-#[derive(Clone, Copy, Debug, PartialEq, Eq)]
+#[derive(Clone, Copy, PartialEq, Eq)]
 pub struct Telling {
     /// How many bytes it gives, where that is known: then it tells how many percent have passed, and how many seconds the rest takes.
     pub size: Option<u64>,

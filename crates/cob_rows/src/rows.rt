@@ -5,7 +5,7 @@ use std::str::FromStr;
 use std::{fs, io};
 
 /// Why a row has no answer.
-#[derive(Clone, Copy, Debug, PartialEq, Eq)]
+#[derive(Clone, Copy, PartialEq, Eq)]
 pub enum RowFault {
     /// What the row asks can't be understood.
     BadRow,

@@ -1,8 +1,11 @@
--- A run that sets rejected records aside, whose source is let go behind it.
-use Rattle.std.specs.Prelude.{ℕ, ⊤, List, Option, Result}
+-- A run that sets rejected records aside, whose source is let go behind it, over all records that come or over those that are chosen.
+use Rattle.std.specs.Prelude.{ℕ, ⊤, List, None, Option, Ok, Err, Result}
 use Rattle.cob_records.specs.Device.{Told}
+use Rattle.cob_chosen.specs.Rests.{rest_coming, rest_of}
+use Rattle.cob_chosen.specs.declared.chosen.Chosen.{Chosen}
 use Rattle.cob_chosen.specs.declared.incoming.Incoming.{Incoming}
 use Rattle.cob_chosen.specs.declared.incoming.Incoming.TheVariants as incoming
+use Rattle.cob_chosen.specs.declared.rest.Rest.{Rest}
 use Rattle.cob_convert.specs.cob_convert_record.Conversion.{Conversion}
 use Rattle.cob_convert.specs.declared.aside.AsideFault.{AsideFault}
 use Rattle.cob_convert.specs.declared.aside.Tally.{Tally}
@@ -13,7 +16,18 @@ abbrev pub RanAsideFrom : Conversion → ℕ → Result Tally AsideFault → Opt
 RanAsideFrom conversion most answer coming before now =
     (left : Option (List ℕ)) × Told coming left (λ bytes rest. RanAside conversion most answer bytes rest before now)
 
--- A converter was run over all records that come of a source, or over those that are chosen, whose source tells no bytes.
+-- A converter was run over what is left of a source, or over its first bytes. Nothing is said of records that are given apart, whose source tells no bytes.
+abbrev pub RanAsideOverRest : {S : Type 0} → (S → Option (List ℕ)) → Conversion → ℕ → Result Tally AsideFault → Result (Rest S) (Chosen S) → Outputs → Outputs
+    → Type 0
+RanAsideOverRest coming conversion most answer (Ok rest) before now = RanAsideFrom conversion most answer (rest_coming coming rest) before now
+RanAsideOverRest coming conversion most answer (Err chosen) before now = ⊤
+
+-- A converter was run over all records that come of a source, or over those that are chosen.
 abbrev pub RanAsideOver : {S : Type 0} → (S → Option (List ℕ)) → Conversion → ℕ → Result Tally AsideFault → Incoming S → Outputs → Outputs → Type 0
 RanAsideOver coming conversion most answer (incoming.All source) before now = RanAsideFrom conversion most answer (coming source) before now
-RanAsideOver coming conversion most answer (incoming.Some chosen) before now = ⊤
+RanAsideOver coming conversion most answer (incoming.Some chosen) before now =
+    RanAsideOverRest coming conversion most answer (rest_of chosen) before now
+
+-- ends of which none tells anything
+abbrev pub untold : Outputs
+untold = record { sink = None; aside = None; notes = None }

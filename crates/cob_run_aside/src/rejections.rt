@@ -1,6 +1,6 @@
 //! The end that tells why records were rejected.
 
-ghost use Rattle.std.specs.Prelude.{◌≡◌, true, None};
+ghost use Rattle.std.specs.Prelude.{◌≡◌, true, false, None};
 ghost use Rattle.cob_convert.specs.Outcomes.{append_notes};
 ghost use Rattle.cob_run_aside.specs.Finished.{number_from};
 ghost use Rattle.cob_run_aside.specs.Marks.{marks_behind};
@@ -33,8 +33,11 @@ pub struct Rejections<'a, T> {
 }
 
 impl<'a, T> Rejections<'a, T> {
+    ghost use Rattle.cob_run_aside.specs.Rejecting.{first_told};
+
     /// An end for a run whose first record has this number, and which writes over the lines that tell how far it is, or does not.
     pub fn new(rt: &'a T, first: u64, is_cleared: bool) -> Rejections<'a, T>
+        ensures first { first_told result ≡ first }
         ensures printed { result.are_printed ≡ true }
     {
         Rejections {
@@ -52,6 +55,8 @@ impl<T: Eprint> Notes for Rejections<'_, T> {
 
     fn note(&mut self, fault: RunFault)
         ensures marks { self.new.marks ≡ marks_behind self.old.marks fault.number }
+        // That one was not printed is never forgotten.
+        ensures printed { self.old.are_printed ≡ false → self.new.are_printed ≡ false }
     {
         let line = RunFault {
             number: counted_on(self.first, fault.number),

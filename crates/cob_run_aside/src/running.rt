@@ -5,16 +5,17 @@ ghost use Rattle.std.specs.Io.Buffered.{writer_buffer};
 ghost use Rattle.cob_records.specs.Device.{counted};
 ghost use Rattle.cob_records.specs.Forms.{HasBlockSize};
 ghost use Rattle.cob_records.specs.Streams.{sink_writer};
+ghost use Rattle.cob_chosen.specs.Rests.{rest_of};
 ghost use Rattle.cob_convert.specs.Aside.{CountsUnlessSink, is_aside_fault, is_sink_fault};
 ghost use Rattle.cob_run_aside.specs.Ends.{LacksOutputs, StopsRunAside};
 ghost use Rattle.cob_run_aside.specs.Finished.{aside_cause, fails_output, finished_aside, lacking, lacking_aside, lacking_output, placed_aside, placed_run, records_before};
-ghost use Rattle.cob_run_aside.specs.Ran.{RanAsideFrom, RanAsideOver};
+ghost use Rattle.cob_run_aside.specs.Ran.{RanAsideFrom, RanAsideOver, RanAsideOverRest, untold};
 
 use crate::marks::Marks;
 use crate::places::{Names, put_both_in_place};
 use crate::rejections::Rejections;
-use cob_chosen::{Incoming, Stopped};
-use cob_command_input::cob_command_faults::CommandFault;
+use cob_chosen::{Chosen, Incoming, Stopped};
+use cob_command_faults::CommandFault;
 use cob_command_input::with_cause;
 use cob_convert::{AsideFault, Cause, Converter, Notes, RunFault, Tally};
 use cob_convert_files::PlaceFault;
@@ -112,7 +113,7 @@ impl AsideEnding {
 }
 
 /// Which of the two outputs did not come into its place, and why. Its part has it.
-#[derive(Clone, Copy, Debug, PartialEq, Eq)]
+#[derive(Clone, Copy, PartialEq, Eq)]
 pub enum PlacesFault {
     Output(PlaceFault),
     Rejects(PlaceFault),
@@ -223,7 +224,46 @@ fn with_its_cause(stopped: Option<Stopped>, fault: AsideFault) -> AsideFault
     }
 }
 
-/// The answer of a run over all records that come, or over those that are chosen. Where one of these can't be read, that is why it stops.
+/// The answer of a run over chosen records that are given apart. Where one of these can't be read, that is why it stops.
+fn answer_apart<T: Eprint + Clock, S: Source + Drop, K: Sink, A: Sink, N: Notes>(
+    rt: &T,
+    how: How,
+    converter: &mut Converter,
+    mut chosen: Chosen<S>,
+    sink: &mut K,
+    aside: &mut A,
+    notes: &mut N,
+) -> Result<Tally, AsideFault>
+    requires { HasBlockSize how.form }
+{
+    match answer_of(rt, how, converter, &mut chosen, sink, aside, notes) {
+        Ok(tally) => Ok(tally),
+        Err(fault) => Err(with_its_cause(chosen.stopped(), fault)),
+    }
+}
+
+/// The answer of a run over chosen records: over what is left of their source, or its first bytes, where they are just that.
+fn answer_of_chosen<T: Eprint + Clock, S: Source + Drop, K: Sink, A: Sink, N: Notes>(
+    rt: &T,
+    how: How,
+    converter: &mut Converter,
+    chosen: Chosen<S>,
+    sink: &mut K,
+    aside: &mut A,
+    notes: &mut N,
+) -> Result<Tally, AsideFault>
+    requires { HasBlockSize how.form }
+    ensures ran { RanAsideOverRest S.coming converter.old how.most result (rest_of chosen)
+        (record { sink = K.taken sink.old; aside = A.taken aside.old; notes = N.told notes.old })
+        (record { sink = K.taken sink.new; aside = A.taken aside.new; notes = N.told notes.new }) }
+{
+    match chosen.into_rest() {
+        Ok(rest) => answer_of(rt, how, converter, rest, sink, aside, notes),
+        Err(chosen) => answer_apart(rt, how, converter, chosen, sink, aside, notes),
+    }
+}
+
+/// The answer of a run over all records that come, or over those that are chosen.
 fn answer_over<T: Eprint + Clock, S: Source + Drop, K: Sink, A: Sink, N: Notes>(
     rt: &T,
     how: How,
@@ -240,12 +280,7 @@ fn answer_over<T: Eprint + Clock, S: Source + Drop, K: Sink, A: Sink, N: Notes>(
 {
     match incoming {
         Incoming::All(source) => answer_of(rt, how, converter, source, sink, aside, notes),
-        Incoming::Some(mut chosen) => {
-            match answer_of(rt, how, converter, &mut chosen, sink, aside, notes) {
-                Ok(tally) => Ok(tally),
-                Err(fault) => Err(with_its_cause(chosen.stopped(), fault)),
-            }
-        }
+        Incoming::Some(chosen) => answer_of_chosen(rt, how, converter, chosen, sink, aside, notes),
     }
 }
 
@@ -261,6 +296,8 @@ pub fn run_aside_to_end<T: Eprint + Clock, S: Source + Drop, W: Write + Drop, V:
     notes: &mut Rejections<'_, T>,
 ) -> AsideEnding
     requires { HasBlockSize how.form }
+    // What the run came to; what the devices took is not told.
+    ensures ran { RanAsideOver S.coming converter.old how.most result.answer incoming untold untold }
     ensures output { OnOk result.flushed (writer_buffer (sink_writer sink.new) ≡ []) }
     ensures rejects { OnOk result.aside_flushed (writer_buffer (sink_writer aside.new) ≡ []) }
     ensures marks { result.marks ≡ notes.new.marks }

@@ -1,20 +1,21 @@
 //! A run that stops at the first record that does not convert, to its end and behind it.
 
-ghost use Rattle.std.specs.Prelude.{◌≡◌, [], IfErr, OnOk};
+ghost use Rattle.std.specs.Prelude.{◌≡◌, [], None, IfErr, OnOk};
 ghost use Rattle.std.specs.Io.Buffered.{writer_buffer};
 ghost use Rattle.cob_records.specs.Device.{counted};
 ghost use Rattle.cob_records.specs.Forms.{HasBlockSize};
 ghost use Rattle.cob_records.specs.Streams.{sink_writer};
+ghost use Rattle.cob_chosen.specs.Rests.{rest_of};
 ghost use Rattle.cob_stream.specs.Reasons.{is_write_cause};
 ghost use Rattle.cob_command_input.specs.cob_convert.Run.{is_write_stop};
 ghost use Rattle.cob_run_to_end.specs.Ends.{LacksPlace, StopsRun};
-ghost use Rattle.cob_run_to_end.specs.Ran.{RanFrom, RanOver};
+ghost use Rattle.cob_run_to_end.specs.Ran.{RanFrom, RanOver, RanOverRest};
 ghost use Rattle.cob_run_to_end.specs.Finished.{finished_run, placed_run, unflushed_fault};
 
-use cob_chosen::Incoming;
-use cob_command_input::cob_command_faults::CommandFault;
-use cob_command_input::cob_convert::{Cause, Converter, RunFault};
+use cob_chosen::{Chosen, Incoming};
+use cob_command_faults::CommandFault;
 use cob_command_input::with_cause;
+use cob_convert::{Cause, Converter, RunFault};
 use cob_convert_files::PlaceFault;
 use cob_records::{DeviceFault, Form, Progress, RecordFault, Sink, Source, Telling, WriteSink};
 use std::io::{BufWriter, Eprint, Write};
@@ -99,7 +100,43 @@ fn answer_of<T: Eprint + Clock, S: Source + Drop, K: Sink>(
     }
 }
 
-/// The answer of a run over all records that come, or over those that are chosen. Where one of these can't be read, that is why it stops.
+/// The answer of a run over chosen records that are given apart. Where one of these can't be read, that is why it stops.
+fn answer_apart<T: Eprint + Clock, S: Source + Drop, K: Sink>(
+    rt: &T,
+    form: Form,
+    telling: Option<Telling>,
+    converter: &mut Converter,
+    mut chosen: Chosen<S>,
+    sink: &mut K,
+) -> Result<u64, RunFault>
+    requires { HasBlockSize form }
+{
+    match answer_of(rt, form, telling, converter, &mut chosen, sink) {
+        Ok(done) => Ok(done),
+        Err(fault) => Err(with_cause(chosen.stopped(), fault)),
+    }
+}
+
+/// The answer of a run over chosen records: over what is left of their source, or its first bytes, where they are just that.
+fn answer_of_chosen<T: Eprint + Clock, S: Source + Drop, K: Sink>(
+    rt: &T,
+    form: Form,
+    telling: Option<Telling>,
+    converter: &mut Converter,
+    chosen: Chosen<S>,
+    sink: &mut K,
+) -> Result<u64, RunFault>
+    requires { HasBlockSize form }
+    ensures ran { RanOverRest S.coming converter.old result (rest_of chosen)
+        (K.taken sink.old) (K.taken sink.new) }
+{
+    match chosen.into_rest() {
+        Ok(rest) => answer_of(rt, form, telling, converter, rest, sink),
+        Err(chosen) => answer_apart(rt, form, telling, converter, chosen, sink),
+    }
+}
+
+/// The answer of a run over all records that come, or over those that are chosen.
 fn answer_over<T: Eprint + Clock, S: Source + Drop, K: Sink>(
     rt: &T,
     form: Form,
@@ -113,12 +150,7 @@ fn answer_over<T: Eprint + Clock, S: Source + Drop, K: Sink>(
 {
     match incoming {
         Incoming::All(source) => answer_of(rt, form, telling, converter, source, sink),
-        Incoming::Some(mut chosen) => {
-            match answer_of(rt, form, telling, converter, &mut chosen, sink) {
-                Ok(done) => Ok(done),
-                Err(fault) => Err(with_cause(chosen.stopped(), fault)),
-            }
-        }
+        Incoming::Some(chosen) => answer_of_chosen(rt, form, telling, converter, chosen, sink),
     }
 }
 
@@ -133,7 +165,9 @@ pub fn run_to_end<T: Eprint + Clock, S: Source + Drop, W: Write + Drop>(
     sink: &mut WriteSink<BufWriter<W>>,
 ) -> Ending
     requires { HasBlockSize form }
-    ensures { OnOk result.flushed (writer_buffer (sink_writer sink.new) ≡ []) }
+    // What the run came to; what a device took is not told.
+    ensures ran { RanOver S.coming converter.old result.answer incoming None None }
+    ensures flushed { OnOk result.flushed (writer_buffer (sink_writer sink.new) ≡ []) }
 {
     let answer = answer_over(rt, form, telling, converter, incoming, sink);
     let flushed = sink.flush();

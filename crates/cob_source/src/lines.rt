@@ -6,7 +6,7 @@ ghost use Rattle.std.specs.List.{AllByRecursion};
 use crate::fault::SourceRule;
 
 /// What a line adds to the text.
-#[derive(Clone, Copy, Debug, PartialEq, Eq)]
+#[derive(Clone, Copy, PartialEq, Eq)]
 pub enum LineKind {
     /// Nothing: a comment, a blank line, or a word that arranges a listing.
     Skipped,

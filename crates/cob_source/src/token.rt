@@ -1,5 +1,5 @@
 /// One character of a joined text, and where it stands.
-#[derive(Clone, Copy, Debug, PartialEq, Eq, Default)]
+#[derive(Clone, Copy, PartialEq, Eq, Default)]
 pub struct Cell {
     pub line: u32,
     pub column: u8,
@@ -7,7 +7,7 @@ pub struct Cell {
 }
 
 /// How far a text is cut.
-#[derive(Clone, Copy, Debug, PartialEq, Eq)]
+#[derive(Clone, Copy, PartialEq, Eq)]
 pub enum Cutting {
     /// Into words as they stand between spaces and quotes.
     Whole,
@@ -16,7 +16,7 @@ pub enum Cutting {
 }
 
 /// What a token is.
-#[derive(Clone, Copy, Debug, PartialEq, Eq)]
+#[derive(Clone, Copy, PartialEq, Eq)]
 pub enum Kind {
     /// A word, in capitals.
     Word,
@@ -27,7 +27,7 @@ pub enum Kind {
 }
 
 /// A word, a literal or a stop of a source text.
-#[derive(Debug, Drop)]
+#[derive(Drop)]
 pub struct Token {
     /// The characters, in ASCII: a word in capitals, a literal as it stands and without its quotes, a stop's period.
     pub text: Vec<u8>,

@@ -8,5 +8,4 @@
 
 mod status;
 
-pub use cob_convert;
 pub use status::Status;

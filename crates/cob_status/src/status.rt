@@ -2,11 +2,11 @@ ghost use Rattle.std.specs.Prelude.{◌≡◌};
 ghost use Rattle.cob_status.specs.Statuses.{code_of, status_of_prepare_fault, status_of_stop};
 
 use cob_convert::PrepareFault;
-use cob_convert::cob_stream::Cause;
 use cob_records::RecordFault;
+use cob_stream::Cause;
 
 /// How a program ends.
-#[derive(Clone, Copy, Debug, PartialEq, Eq)]
+#[derive(Clone, Copy, PartialEq, Eq)]
 pub enum Status {
     /// All records were converted.
     Done,

@@ -25,7 +25,7 @@ pub enum Cause {
 
 /// Where in a record a run stops: on which side, and at which byte of the record, its descriptor apart (0 where a frame
 /// is at fault); and why.
-#[derive(Clone, Copy, Debug, PartialEq, Eq)]
+#[derive(Clone, Copy, PartialEq, Eq)]
 pub struct Reason {
     pub side: Side,
     pub offset: u32,

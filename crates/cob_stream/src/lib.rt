@@ -38,7 +38,6 @@ mod reading;
 mod whole;
 mod writing;
 
-pub use cob_layout;
 pub use cob_layout::{Counts, Layout};
 pub use cob_layout_places::{CountFault, Side};
 pub use fault::{Cause, Reason, RunFault};

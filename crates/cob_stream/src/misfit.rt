@@ -15,7 +15,7 @@ use cob_layout_places::CountFault;
 use cob_records::Form;
 
 /// Why a record that came whole isn't one of the input layout.
-#[derive(Clone, Copy, Debug, PartialEq, Eq)]
+#[derive(Clone, Copy, PartialEq, Eq)]
 pub enum MeasureFault {
     /// A count that isn't valid, with the offset of its item.
     Count { offset: u32 },

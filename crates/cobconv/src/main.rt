@@ -3,6 +3,8 @@
 
 use cob_convert_commands::{answer, refuse};
 use cob_convert_line::LineFault;
+use cob_standard_streams::take_closed;
+use cob_status::Status;
 use std::env;
 use std::io::ErrorKind;
 use std::process::ExitCode;
@@ -24,6 +26,17 @@ fn run(rt: &HostRuntime) -> u8 {
     }
 }
 
+/// Does so with something in the place of each standard stream that is closed, so that no file that is opened is taken for it.
+fn run_among_streams(rt: &HostRuntime) -> u8 {
+    match take_closed(rt) {
+        Ok(_stand_ins) => run(rt),
+        Err(_) => {
+            let _ = eprintln!(rt; "cannot open /");
+            Status::Device.code()
+        }
+    }
+}
+
 fn main(rt: HostRuntime) -> ExitCode {
-    ExitCode::from(run(&rt))
+    ExitCode::from(run_among_streams(&rt))
 }

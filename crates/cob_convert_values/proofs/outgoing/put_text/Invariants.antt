@@ -1,6 +1,10 @@
--- Each piece is some of what is left.
+-- The sink took all but what is left, and each piece is some of that.
 use Rattle.std.proofs.Common.{length}
+use Rattle.cob_convert_values.proofs.WrittenLemmas.{WrittenSoFar}
 use Rattle.cob_convert_values.proofs.outgoing.put_text.Given as goal
+
+abbrev pub invariant-loop-rest : goal.invariant-loop-rest
+invariant-loop-rest g l = WrittenSoFar l.text l.rest (g.W.Sink.taken l.initial.sink) (g.W.Sink.taken l.sink)
 
 abbrev pub decreases-loop-rest : goal.decreases-loop-rest
 decreases-loop-rest g l = length l.rest

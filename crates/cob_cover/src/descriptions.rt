@@ -1,0 +1,92 @@
+//! The single moves of bytes that may lose their description, as they are told.
+
+use crate::elements::{layout_of, write_described, write_element, write_sent};
+use crate::gathered::place_of;
+use crate::occurrences::occurrence_with;
+use cob_copybook_tree::{Item, Value};
+use cob_item_words::{ConstantText, ItemText, Named};
+use cob_lossless_words::{Sent, Single};
+use cob_move_descriptions::{Gets, Unkept};
+use cob_move_lossless::Layouts;
+use std::fmt;
+
+/// A single move of bytes that may lose their description, and the first byte that does not keep it.
+#[derive(Clone, Copy)]
+pub(crate) struct Undescribed<'a> {
+    pub(crate) layouts: Layouts<'a>,
+    pub(crate) single: Single<'a>,
+    pub(crate) unkept: Unkept,
+}
+
+/// Writes whose bytes an item gets that get those of another one.
+fn write_bytes_of<W: fmt::Write>(
+    f: &mut fmt::Formatter<W>,
+    named: &Named<'_>,
+    item: &Item,
+) -> fmt::Result {
+    if item.picture.category().shows_number() {
+        return write!(f, "the bytes of {named}, {}", ItemText { item });
+    }
+    write!(f, "characters of {named}")
+}
+
+/// Writes what an item gets of a constant.
+fn write_characters_of<W: fmt::Write>(f: &mut fmt::Formatter<W>, value: &Value) -> fmt::Result {
+    match value {
+        Value::Figurative(_) => write!(f, "characters of {}", ConstantText { value }),
+        Value::Number { .. } | Value::Literal(_) | Value::All(_) => {
+            write!(f, "characters of a literal")
+        }
+    }
+}
+
+impl Undescribed<'_> {
+    /// Writes the item that has the byte, and where it stands.
+    fn write_item<W: fmt::Write>(&self, f: &mut fmt::Formatter<W>) -> fmt::Result {
+        let output = self.layouts.output;
+        let receiver = self.single.receiver;
+        let front = match place_of(output, receiver.number, receiver.subscripts) {
+            Some(place) => place.offset,
+            None => 0,
+        };
+        let at = u32::try_from(self.unkept.at).unwrap_or(u32::MAX);
+        let byte = front.saturating_add(at);
+        let occurrence = occurrence_with(output, self.unkept.item, byte);
+        write_described(f, &occurrence.named(output))?;
+        write!(f, ", at {}", occurrence.place.offset)
+    }
+
+    /// Writes what the byte gets.
+    fn write_gets<W: fmt::Write>(&self, f: &mut fmt::Formatter<W>) -> fmt::Result {
+        match (self.unkept.gets, self.single.sent) {
+            (Gets::Item(number), Sent::Entry { side, .. }) => {
+                let named = Named::new(layout_of(&self.layouts, side).root(), number, &[]);
+                match named.item() {
+                    Some(item) => write_bytes_of(f, &named, item),
+                    None => write!(f, "bytes of {named}"),
+                }
+            }
+            (Gets::Character, Sent::Constant(value)) => write_characters_of(f, value),
+            (_, Sent::Constant(_)) => write!(f, "spaces behind the literal's end"),
+            (_, Sent::Entry { .. }) => write!(f, "spaces behind the sender's end"),
+        }
+    }
+}
+
+impl fmt::Display for Undescribed<'_> {
+    fn fmt<W: fmt::Write>(&self, f: &mut fmt::Formatter<W>) -> fmt::Result {
+        let Single {
+            line,
+            sent,
+            receiver,
+        } = &self.single;
+        write!(f, "may lose the description, line {line}: ")?;
+        write_sent(f, &self.layouts, *sent)?;
+        write!(f, " to ")?;
+        write_element(f, self.layouts.output, *receiver)?;
+        write!(f, ": ")?;
+        self.write_item(f)?;
+        write!(f, " gets ")?;
+        self.write_gets(f)
+    }
+}

@@ -1,0 +1,4 @@
+pub mod Senses
+pub mod Bytes
+pub mod Keeping
+pub mod Numbers
