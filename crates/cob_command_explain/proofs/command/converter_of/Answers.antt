@@ -14,4 +14,4 @@ pub returns-in-Ok-clause-book : goal.returns-in-Ok-clause-book
 returns-in-Ok-clause-book g c =
     let (said, means, same) = c.in-Ok.ensures.means in
     kept_of (λ (made : Conversion). IsBookOf Out c.args.out_book.now made.records.output) c.in-Ok.converter c.fitting.result
-        (subst (λ (made : Conversion). IsBookOf Out c.args.out_book.now made.records.output) (sym same) means.output) c.fitting.ensures.kept
+    (subst (λ (made : Conversion). IsBookOf Out c.args.out_book.now made.records.output) (sym same) means.output) c.fitting.ensures.kept
