@@ -1,0 +1,4 @@
+           MOVE ORDER-DAY TO NEW-DAY.
+           MOVE ORDER-MONTH TO NEW-MONTH.
+           MOVE ORDER-YEAR TO NEW-YEAR.
+           MOVE ORDER-NO TO NEW-NO.

@@ -1,0 +1,1 @@
+           MOVE REC TO REC-NEW.
