@@ -1,0 +1,49 @@
+//! What is printed on a standard stream that may be a regular file.
+
+ghost use Rattle.std.specs.Prelude.{◌≡◌, ◌+◌, ◌-◌, ◌^◌, min, length, IfSome, OnOk, IfOk};
+
+use crate::extent::Extent;
+use std::fmt::{Display, Write};
+use std::rt::Files;
+use std::{fmt, io};
+
+/// Counts the bytes of a text that is written to it.
+#[derive(Drop)]
+struct Counter {
+    bytes: u64,
+}
+
+impl Write for Counter {
+    fn write_str(&mut self, text: &str) -> fmt::Result {
+        self.bytes = self.bytes.saturating_add(text.len() as u64);
+        Ok(())
+    }
+}
+
+/// How many bytes are printed of a value.
+pub(crate) fn length_of<D: Display>(value: &D) -> io::Result<u64> {
+    let mut counter = Counter { bytes: 0 };
+    counter.write(value)?;
+    Ok(counter.bytes)
+}
+
+/// Where what stands behind this path is written next and how far, where it is a regular file and there is a limit: behind its end.
+pub(crate) fn extent_behind<R: Files>(rt: &R, limit: Option<u64>, path: &str) -> Option<Extent> {
+    let limit = limit?;
+    match rt.metadata(path) {
+        Ok(metadata) if metadata.is_file() => Some(Extent::new(limit, metadata.len())),
+        _ => None,
+    }
+}
+
+/// Asks of a value that it fits with so many bytes behind it, where there is a limit.
+///
+/// # Errors
+///
+/// Where it does not.
+pub(crate) fn fits<D: Display>(extent: Option<Extent>, value: &D, more: u64) -> io::Result<()> {
+    match extent {
+        None => Ok(()),
+        Some(extent) => extent.fits(length_of(value)?.saturating_add(more)),
+    }
+}
